@@ -1,0 +1,20 @@
+//! Readers and sinks that count their faults.
+//!
+//! A contract can't say that a stream failed, since a failure is nothing that a value shows. A counted stream
+//! keeps a number that rises at each failure, so that a caller's contract can: an error of a call is told from an
+//! invented one by the count, which rose.
+//!
+//! ```text
+//! let mut input = Counted::new(file);
+//! let items = read_lines(alloc, &mut input, Encoding::UTF_8);
+//! let failed = input.faults() > 0;
+//! ```
+#![tactic(auto)]
+
+mod counted;
+mod read;
+mod write;
+
+pub use counted::Counted;
+pub use read::CountedRead;
+pub use write::CountedWrite;

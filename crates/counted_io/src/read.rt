@@ -1,0 +1,47 @@
+// Readers that count their faults.
+
+ghost use Rattle.std.specs.Prelude.{◌≡◌, ℕ, ◌==◌, Bool, length};
+ghost use Rattle.std.specs.Io.{ReadsAtMost};
+ghost use Rattle.std.specs.Io.KnownBytes.{ReadConsumes};
+ghost use Rattle.counted_io.specs.Faults.{CountsFault, ShowsEnd};
+
+use std::io::{self, Read};
+
+/// A reader whose failed reads are counted, and whose end is seen.
+///
+/// The bytes that it hands over are those of [`Read`].
+pub trait CountedRead: Read + Drop {
+    /// How many reads have failed. At `usize::MAX` it stays.
+    ghost faults: { Self → ℕ };
+
+    /// Whether the reader is at its end.
+    ghost at_end: { Self → Bool };
+
+    /// Does what `read` does.
+    fn read_counted(&mut self, buf: &mut [u8]) -> io::Result<usize>
+        ensures bound { ReadsAtMost result buf.new }
+        ensures bytes { ReadConsumes (Self.remaining self.old) (Self.remaining self.new) result buf.new }
+        ensures faults { CountsFault (faults self.old) (faults self.new) result }
+        ensures ended { ShowsEnd (at_end self.new) result buf.new };
+}
+
+/// A slice has no faults, and is at its end where it is empty.
+impl CountedRead for &[u8] {
+    ghost faults = { λ _. 0 };
+
+    ghost at_end = { λ s. length s.now == 0 };
+
+    fn read_counted(&mut self, buf: &mut [u8]) -> io::Result<usize> {
+        self.read(buf)
+    }
+}
+
+impl<R: CountedRead> CountedRead for &mut R {
+    ghost faults = { λ r. R.faults r.now };
+
+    ghost at_end = { λ r. R.at_end r.now };
+
+    fn read_counted(&mut self, buf: &mut [u8]) -> io::Result<usize> {
+        (**self).read_counted(buf)
+    }
+}

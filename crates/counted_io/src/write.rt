@@ -1,0 +1,47 @@
+// Sinks that count their faults.
+
+ghost use Rattle.std.specs.Prelude.{◌≡◌, ℕ, Bool};
+ghost use Rattle.std.specs.Io.{WritesAtMost};
+ghost use Rattle.std.specs.Io.KnownBytes.{WriteAppends, Keeps};
+ghost use Rattle.counted_io.specs.Faults.{CountsFault, CountsWrite, flushed_after_write, flushed_after_flush};
+
+use std::io::{self, Write};
+
+/// A sink whose faults are counted, and of which it is known whether it was flushed.
+///
+/// A fault is a call that fails, or a write that takes no byte of a slice that has some. The bytes that it takes
+/// are those of [`Write`].
+pub trait CountedWrite: Write + Drop {
+    /// How many faults there were. At `usize::MAX` it stays.
+    ghost faults: { Self → ℕ };
+
+    /// Whether no byte was taken since the last flush. A sink that was never flushed is not.
+    ghost is_flushed: { Self → Bool };
+
+    /// Does what `write` does.
+    fn write_counted(&mut self, bytes: &[u8]) -> io::Result<usize>
+        ensures bound { WritesAtMost result bytes.now }
+        ensures bytes { WriteAppends (Self.contents self.old) (Self.contents self.new) result bytes.now }
+        ensures faults { CountsWrite (faults self.old) (faults self.new) result bytes.now }
+        ensures flushed { is_flushed self.new ≡ flushed_after_write (is_flushed self.old) result };
+
+    /// Does what `flush` does.
+    fn flush_counted(&mut self) -> io::Result<()>
+        ensures bytes { Keeps (Self.contents self.old) (Self.contents self.new) }
+        ensures faults { CountsFault (faults self.old) (faults self.new) result }
+        ensures flushed { is_flushed self.new ≡ flushed_after_flush (is_flushed self.old) result };
+}
+
+impl<W: CountedWrite> CountedWrite for &mut W {
+    ghost faults = { λ w. W.faults w.now };
+
+    ghost is_flushed = { λ w. W.is_flushed w.now };
+
+    fn write_counted(&mut self, bytes: &[u8]) -> io::Result<usize> {
+        (**self).write_counted(bytes)
+    }
+
+    fn flush_counted(&mut self) -> io::Result<()> {
+        (**self).flush_counted()
+    }
+}
