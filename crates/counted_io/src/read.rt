@@ -17,12 +17,17 @@ pub trait CountedRead: Read + Drop {
     /// Whether the reader is at its end.
     ghost at_end: { Self → Bool };
 
+    /// Which reference the reader is, where it is one: a call leaves the reference itself in its place, so that its
+    /// owner finds what the calls left.
+    ghost identity: { Self → ℕ } = { λ _. 0 };
+
     /// Does what `read` does.
     fn read_counted(&mut self, buf: &mut [u8]) -> io::Result<usize>
         ensures bound { ReadsAtMost result buf.new }
         ensures bytes { ReadConsumes (Self.remaining self.old) (Self.remaining self.new) result buf.new }
         ensures faults { CountsFault (faults self.old) (faults self.new) result }
-        ensures ended { ShowsEnd (at_end self.new) result buf.new };
+        ensures ended { ShowsEnd (at_end self.new) result buf.new }
+        ensures same_reference { identity self.new ≡ identity self.old };
 }
 
 /// A slice has no faults, and is at its end where it is empty.
@@ -40,6 +45,8 @@ impl<R: CountedRead> CountedRead for &mut R {
     ghost faults = { λ r. R.faults r.now };
 
     ghost at_end = { λ r. R.at_end r.now };
+
+    ghost identity = { λ r. r.ghost_name };
 
     fn read_counted(&mut self, buf: &mut [u8]) -> io::Result<usize> {
         (**self).read_counted(buf)

@@ -18,24 +18,32 @@ pub trait CountedWrite: Write + Drop {
     /// Whether no byte was taken since the last flush. A sink that was never flushed is not.
     ghost is_flushed: { Self → Bool };
 
+    /// Which reference the sink is, where it is one: a call leaves the reference itself in its place, so that its
+    /// owner finds what the calls left.
+    ghost identity: { Self → ℕ } = { λ _. 0 };
+
     /// Does what `write` does.
     fn write_counted(&mut self, bytes: &[u8]) -> io::Result<usize>
         ensures bound { WritesAtMost result bytes.now }
         ensures bytes { WriteAppends (Self.contents self.old) (Self.contents self.new) result bytes.now }
         ensures faults { CountsWrite (faults self.old) (faults self.new) result bytes.now }
-        ensures flushed { is_flushed self.new ≡ flushed_after_write (is_flushed self.old) result };
+        ensures flushed { is_flushed self.new ≡ flushed_after_write (is_flushed self.old) result }
+        ensures same_reference { identity self.new ≡ identity self.old };
 
     /// Does what `flush` does.
     fn flush_counted(&mut self) -> io::Result<()>
         ensures bytes { Keeps (Self.contents self.old) (Self.contents self.new) }
         ensures faults { CountsFault (faults self.old) (faults self.new) result }
-        ensures flushed { is_flushed self.new ≡ flushed_after_flush (is_flushed self.old) result };
+        ensures flushed { is_flushed self.new ≡ flushed_after_flush (is_flushed self.old) result }
+        ensures same_reference { identity self.new ≡ identity self.old };
 }
 
 impl<W: CountedWrite> CountedWrite for &mut W {
     ghost faults = { λ w. W.faults w.now };
 
     ghost is_flushed = { λ w. W.is_flushed w.now };
+
+    ghost identity = { λ w. w.ghost_name };
 
     fn write_counted(&mut self, bytes: &[u8]) -> io::Result<usize> {
         (**self).write_counted(bytes)

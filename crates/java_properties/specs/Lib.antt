@@ -1,0 +1,9 @@
+pub mod Errors
+pub mod Encodings
+pub mod Streams
+pub mod Decoding
+pub mod Reading
+pub mod Cutting
+pub mod Iterating
+pub mod Lines
+pub mod Writing

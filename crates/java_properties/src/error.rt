@@ -1,0 +1,172 @@
+// Why a call fails.
+
+ghost use Rattle.std.specs.Prelude.{◌≡◌, Some, None};
+ghost use Rattle.java_properties.specs.Errors.{kind_of, line_of, cause_of, IsError, IsPlain, IsStreamError};
+ghost use Rattle.java_properties.specs.declared.error.ErrorKind.TheVariants.{Io, Memory, TooManyLines};
+
+use std::alloc::{AllocError, AllocFailed};
+use std::error::Error;
+use std::{fmt, io};
+
+/// What kind of error it is.
+#[derive(Clone, Copy, Debug, PartialEq, Eq)]
+pub enum ErrorKind {
+    /// A read, a write or a flush failed.
+    Io,
+    /// Fewer than four characters come after a `\u`.
+    NotEnoughDigits,
+    /// One of the four characters after a `\u` is no hexadecimal digit.
+    NotHex,
+    /// An escape stands for a surrogate that has no partner.
+    InvalidCharacter,
+    /// The prefix is none that makes a comment.
+    BadCommentPrefix,
+    /// The separator is none that ends a key.
+    BadKvSeparator,
+    /// A key is empty where the separator is blanks alone, so that the value would be read as the key.
+    EmptyKey,
+    /// A line has no number, since `usize::MAX` lines stand before it.
+    TooManyLines,
+    /// A write failed before, so that the sink ends in a part of a line.
+    Failed,
+    /// There was no memory.
+    Memory,
+    /// The encoding can't be edited.
+    Unsupported,
+}
+
+/// What an error came from.
+#[derive(Debug, Drop)]
+pub enum Cause {
+    /// Nothing else.
+    None,
+    /// A stream that failed.
+    Io(io::Error),
+    /// A character that is no hexadecimal digit.
+    NotHex,
+}
+
+/// Why a call failed, and in which line.
+///
+/// It prints its kind in words and its line, as `I/O error (line_number = 3)`.
+#[derive(Debug, Drop)]
+pub struct PropertiesError {
+    kind: ErrorKind,
+    line_number: Option<usize>,
+    cause: Cause,
+}
+
+impl PropertiesError {
+    /// The number of the line, where the error is one of a line. Lines are numbered from 1.
+    pub fn line_number(&self) -> Option<usize>
+        ensures { result ≡ line_of self.now }
+    {
+        self.line_number
+    }
+
+    /// What kind of error it is.
+    pub fn kind(&self) -> ErrorKind
+        ensures { result ≡ kind_of self.now }
+    {
+        self.kind
+    }
+
+    /// What it came from.
+    pub fn cause(&self) -> &Cause
+        ensures { result.now ≡ cause_of self.now }
+    {
+        &self.cause
+    }
+
+    /// A stream failed in the line of this number.
+    pub(crate) fn io(line_number: usize, cause: Cause) -> PropertiesError
+        ensures { IsError Io (Some line_number) cause result }
+    {
+        PropertiesError {
+            kind: ErrorKind::Io,
+            line_number: Some(line_number),
+            cause,
+        }
+    }
+
+    /// A read failed in the line of this number.
+    pub(crate) fn read_fault(line_number: usize, error: io::Error) -> PropertiesError
+        ensures { IsStreamError (Some line_number) error result }
+    {
+        PropertiesError::io(line_number, Cause::Io(error))
+    }
+
+    pub(crate) fn too_many_lines() -> PropertiesError
+        ensures { IsPlain TooManyLines result }
+    {
+        PropertiesError::plain(ErrorKind::TooManyLines)
+    }
+
+    fn plain(kind: ErrorKind) -> PropertiesError
+        ensures { IsPlain kind result }
+    {
+        PropertiesError {
+            kind,
+            line_number: None,
+            cause: Cause::None,
+        }
+    }
+}
+
+impl From<io::Error> for PropertiesError {
+    ghost from_gives = { λ error e. IsStreamError None error e };
+
+    fn from(error: io::Error) -> PropertiesError {
+        PropertiesError {
+            kind: ErrorKind::Io,
+            line_number: None,
+            cause: Cause::Io(error),
+        }
+    }
+}
+
+impl From<AllocError> for PropertiesError {
+    ghost from_gives = { λ _ e. IsPlain Memory e };
+
+    fn from(_: AllocError) -> PropertiesError {
+        PropertiesError::plain(ErrorKind::Memory)
+    }
+}
+
+impl<T: Drop> From<AllocFailed<T>> for PropertiesError {
+    ghost from_gives = { λ _ e. IsPlain Memory e };
+
+    fn from(_: AllocFailed<T>) -> PropertiesError {
+        PropertiesError::plain(ErrorKind::Memory)
+    }
+}
+
+impl fmt::Display for PropertiesError {
+    fn fmt<W: fmt::Write>(&self, f: &mut fmt::Formatter<W>) -> fmt::Result {
+        write!(f, "{}", self.kind.description())?;
+        match self.line_number {
+            Some(number) => write!(f, " (line_number = {number})"),
+            None => write!(f, " (line_number = unknown)"),
+        }
+    }
+}
+
+impl Error for PropertiesError {}
+
+impl ErrorKind {
+    fn description(self) -> &'static str {
+        match self {
+            ErrorKind::Io => "I/O error",
+            ErrorKind::NotEnoughDigits => "Malformed \\uxxxx encoding: not enough digits.",
+            ErrorKind::NotHex => "Malformed \\uxxxx encoding: not hex.",
+            ErrorKind::InvalidCharacter => "Malformed \\uxxxx encoding: invalid character.",
+            ErrorKind::BadCommentPrefix => "Bad comment prefix",
+            ErrorKind::BadKvSeparator => "Bad key/value separator",
+            ErrorKind::EmptyKey => "Empty key with a blank key/value separator.",
+            ErrorKind::TooManyLines => "Too many lines.",
+            ErrorKind::Failed => "The writer has failed.",
+            ErrorKind::Memory => "Out of memory.",
+            ErrorKind::Unsupported => "Encoding can't be edited.",
+        }
+    }
+}

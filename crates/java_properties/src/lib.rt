@@ -1,0 +1,31 @@
+//! Java properties files, read and written.
+//!
+//! [`PropertiesIter`] reads the comments and the pairs of a file, each under the number of its line.
+//! [`PropertiesWriter`] writes them.
+//!
+//! ```text
+//! for item in PropertiesIter::new(alloc, &mut input)? {
+//!     let line = item?;
+//!     println!(rt; "{}", line.line_number())?;
+//! }
+//!
+//! let mut writer = PropertiesWriter::new(alloc, &mut output)?;
+//! writer.write("greeting", "hello world")?;
+//! writer.finish()?;
+//! ```
+#![tactic(auto)]
+
+mod encoding;
+mod error;
+mod iter;
+mod line;
+mod lines;
+mod parse;
+mod window;
+mod writer;
+
+pub use encoding::Encoding;
+pub use error::{Cause, ErrorKind, PropertiesError};
+pub use iter::PropertiesIter;
+pub use line::{Line, LineContent};
+pub use writer::PropertiesWriter;

@@ -1,0 +1,34 @@
+//! Reads the pairs of a properties file from standard input, and prints them on standard output, one a line.
+#![tactic(auto)]
+
+mod filter;
+mod run;
+
+use counted_io::Counted;
+use run::run;
+use std::env;
+use std::io::{self, BufReader, BufWriter};
+use std::process::ExitCode;
+
+// How many bytes go through a standard stream at once.
+const BLOCK: usize = 1 << 16;
+
+fn main(rt: HostRuntime) -> ExitCode {
+    ExitCode::from(status(&rt).unwrap_or(1))
+}
+
+// What `run` answers of the words and the standard streams.
+fn status(rt: &HostRuntime) -> io::Result<u8> {
+    let alloc = rt.alloc();
+    let words: Vec<String> = env::args(rt)?.skip(1).collect(alloc)?;
+    let mut input = Counted::new(BufReader::with_capacity(alloc, BLOCK, rt.stdin())?);
+    let mut output = Counted::new(BufWriter::with_capacity(alloc, BLOCK, rt.stdout())?);
+    let mut errors = Counted::new(rt.stderr());
+    Ok(run(
+        alloc,
+        words.as_slice(),
+        &mut input,
+        &mut output,
+        &mut errors,
+    ))
+}
