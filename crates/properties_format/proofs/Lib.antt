@@ -1,2 +1,4 @@
 pub mod Examples
+pub mod FirstPieces
+pub mod Utf8Pieces
 pub mod Utf8Rows

@@ -167,13 +167,13 @@ row-fits low [] b rs h k = absurd (none-some rs k)
 row-fits low ([] ∷ more) b rs h k = absurd (cc)
 row-fits low ((r ∷ qs) ∷ more) b rs h k = elim (cases_Bool (is_in r b)) [
   | inl m ↦
-    let a = apart-parts low r qs more h in
-    let e : qs ≡ rs = same_Some qs rs (sym (cond-true (is_in r b) (Some qs) (ranges_after more b) m) ∙ k) in
-    rw (← e) (a.filled, λ bs q. inl (in-range r b m, q))
+      let a = apart-parts low r qs more h in
+      let e : qs ≡ rs = same_Some qs rs (sym (cond-true (is_in r b) (Some qs) (ranges_after more b) m) ∙ k) in
+      rw (← e) (a.filled, λ bs q. inl (in-range r b m, q))
   | inr m ↦
-    let a = apart-parts low r qs more h in
-    let f = row-fits (suc r.most) more b rs a.others (sym (cond-false (is_in r b) (Some qs) (ranges_after more b) m) ∙ k) in
-    (f.0, λ bs q. inr (f.1 bs q))
+      let a = apart-parts low r qs more h in
+      let f = row-fits (suc r.most) more b rs a.others (sym (cond-false (is_in r b) (Some qs) (ranges_after more b) m) ∙ k) in
+      (f.0, λ bs q. inr (f.1 bs q))
 ]
 
 pub sequence-row : (b : ℕ) (bs : List ℕ) → FitsSome rows (b ∷ bs) → (rs : List Range) × (ranges_after rows b ≡ Some rs) × FitsRow rs bs
@@ -181,3 +181,13 @@ sequence-row b bs h = row-of 0 rows b bs refl h
 
 pub row-sequence : (b : ℕ) (rs : List Range) → ranges_after rows b ≡ Some rs → (are_filled rs ≡ true) × ((bs : List ℕ) → FitsRow rs bs → FitsSome rows (b ∷ bs))
 row-sequence b rs h = row-fits 0 rows b rs refl h
+
+no-empty : (low : ℕ) (table : List (List Range)) → are_apart low table ≡ true → FitsSome table [] → ⊥
+no-empty low [] h k = k
+no-empty low ([] ∷ more) h k = cc
+no-empty low ((r ∷ rs) ∷ more) h (inl k) = k
+no-empty low ((r ∷ rs) ∷ more) h (inr k) = no-empty (suc r.most) more (apart-parts low r rs more h).others k
+
+-- a sequence has a byte
+pub sequence-nonempty : FitsSome rows [] → ⊥
+sequence-nonempty h = no-empty 0 rows refl h
