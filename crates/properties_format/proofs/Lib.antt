@@ -1,4 +1,6 @@
+pub mod EncodingPieces
 pub mod Examples
 pub mod FirstPieces
+pub mod Utf16Pieces
 pub mod Utf8Pieces
 pub mod Utf8Rows
