@@ -5,4 +5,5 @@ pub mod Utf16Pieces
 pub mod Utf8Characters
 pub mod Utf8Pieces
 pub mod Utf8Rows
+pub mod Utf8Sequences
 pub mod Windows1252Table

@@ -55,3 +55,46 @@ three-character c h = omega arith
 four-character : (c : ℕ) → c < 0x11_0000
     → c ≡ (((240 + c / 262144) % 2 ^ 3 * 2 ^ 6 + next (c / 4096) % 2 ^ 6) * 2 ^ 6 + next (c / 64) % 2 ^ 6) * 2 ^ 6 + next c % 2 ^ 6
 four-character c h = omega arith
+
+three-fits : (c : ℕ) → 0x800 ≤ c → c < 0xd800 ⊎ ((0xe000 ≤ c) × (c < 0x1_0000)) → IsSequence ((224 + c / 4096) ∷ next (c / 64) ∷ next c ∷ [])
+three-fits c l (inr h) = inr (inr (inr (inr (inr (inl ((omega arith, omega arith), (next-in (c / 64), (next-in c, tt))))))))
+three-fits c l (inl h) = elim (cases_lt c 0x1000) [
+  | inl k ↦ inr (inr (inl ((omega arith, omega arith), ((omega arith, omega arith), (next-in c, tt)))))
+  | inr k ↦ elim (cases_lt c 0xd000) [
+    | inl m ↦ inr (inr (inr (inl ((omega arith, omega arith), (next-in (c / 64), (next-in c, tt))))))
+    | inr m ↦ inr (inr (inr (inr (inl ((omega arith, omega arith), ((omega arith, omega arith), (next-in c, tt)))))))
+  ]
+]
+
+four-fits : (c : ℕ) → 0x1_0000 ≤ c → c < 0x11_0000 → IsSequence ((240 + c / 262144) ∷ next (c / 4096) ∷ next (c / 64) ∷ next c ∷ [])
+four-fits c l h = elim (cases_lt c 0x4_0000) [
+  | inl k ↦ inr (inr (inr (inr (inr (inr (inl ((omega arith, omega arith), ((omega arith, omega arith), (next-in (c / 64), (next-in c, tt))))))))))
+  | inr k ↦ elim (cases_lt c 0x10_0000) [
+    | inl m ↦ inr (inr (inr (inr (inr (inr (inr (inl ((omega arith, omega arith), (next-in (c / 4096), (next-in (c / 64), (next-in c, tt)))))))))))
+    | inr m ↦ inr (inr (inr (inr (inr (inr (inr (inr (inl ((omega arith, omega arith), ((omega arith, omega arith), (next-in (c / 64), (next-in c, tt))))))))))))
+  ]
+]
+
+says-long : (c : ℕ) → 0x800 ≤ c → scalar c → Says (encode_utf8 c) c
+says-long c l h = elim (cases_lt c 0x1_0000) [
+  | inl k ↦ rw (encode-three c l k) (three-fits c l (low k h), three-character c k)
+  | inr k ↦ rw (encode-four c k) (four-fits c k (high h), four-character c (high h))
+]
+  where
+    low : c < 0x1_0000 → scalar c → c < 0xd800 ⊎ ((0xe000 ≤ c) × (c < 0x1_0000))
+    low k (inl m) = inl m
+    low k (inr m) = inr (m.0, k)
+
+    high : scalar c → c < 0x11_0000
+    high (inl m) = omega arith
+    high (inr m) = m.1
+
+-- the bytes of a character are its sequence
+pub encode-says : (c : ℕ) → scalar c → Says (encode_utf8 c) c
+encode-says c h = elim (cases_lt c 0x80) [
+  | inl k ↦ rw (encode-one c k) (says-one c k)
+  | inr k ↦ elim (cases_lt c 0x800) [
+    | inl m ↦ rw (encode-two c k m) (says-two c k m)
+    | inr m ↦ says-long c m h
+  ]
+]
