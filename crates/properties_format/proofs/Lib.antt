@@ -1,3 +1,4 @@
+pub mod EncodingCharacters
 pub mod EncodingPieces
 pub mod Examples
 pub mod FirstPieces

@@ -98,3 +98,6 @@ encode-says c h = elim (cases_lt c 0x80) [
     | inr m ↦ says-long c m h
   ]
 ]
+
+pub encode-ascii : (c : ℕ) → c < 0x80 → encode_utf8 c ≡ c ∷ []
+encode-ascii c h = encode-one c h
