@@ -150,3 +150,20 @@ piece-scalar windows_1252 p rest (b, e) l = let m = rw e at l in character-at p 
 piece-scalar utf_8 p rest h l = utf_8-scalar p rest h
 piece-scalar utf_16le p rest h l = utf_16-scalar low_first (λ a b i j. omega arith) p rest h l
 piece-scalar utf_16be p rest h l = utf_16-scalar high_first (λ a b i j. omega arith) p rest h l
+
+front-bytes : (xs ys : List ℕ) → AllByRecursion byte (xs ++ ys) → AllByRecursion byte xs
+front-bytes [] ys h = tt
+front-bytes (x ∷ xs) ys h = (h.0, front-bytes xs ys h.1)
+
+back-bytes : (xs ys : List ℕ) → AllByRecursion byte (xs ++ ys) → AllByRecursion byte ys
+back-bytes [] ys h = h
+back-bytes (x ∷ xs) ys h = back-bytes xs ys h.1
+
+pieces-scalar : (e : Encoding) (d : List ℕ) (ps : List Piece) → IsPieces e d ps → AllByRecursion byte d → All scalar (characters ps)
+pieces-scalar e d [] h l = All-nil scalar
+pieces-scalar e d (p ∷ ps) (rest, s, h, k) l =
+    let m : AllByRecursion byte (p.bytes ++ rest) = rw s at l in
+    All-cons scalar p.character (characters ps) (piece-scalar e p rest h (front-bytes p.bytes rest m)) (pieces-scalar e rest ps k (back-bytes p.bytes rest m))
+
+pub pieces_of-scalar : (e : Encoding) (d : List ℕ) → All byte d → All scalar (characters (pieces_of e d))
+pieces_of-scalar e d h = pieces-scalar e d (pieces_of e d) (pieces_of-meets e d) (recursion_from_All byte d h)

@@ -2,6 +2,7 @@ pub mod EncodingCharacters
 pub mod EncodingPieces
 pub mod Examples
 pub mod FirstPieces
+pub mod Marks
 pub mod Utf16Pieces
 pub mod Utf8Characters
 pub mod Utf8Pieces
