@@ -3,6 +3,7 @@ pub mod EncodingPieces
 pub mod Examples
 pub mod FirstPieces
 pub mod Marks
+pub mod PieceEnds
 pub mod Utf16Pieces
 pub mod Utf8Characters
 pub mod Utf8Pieces
