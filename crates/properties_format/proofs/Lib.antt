@@ -1,4 +1,5 @@
 pub mod EncodingCharacters
+pub mod EncodingCuts
 pub mod EncodingPieces
 pub mod Examples
 pub mod FirstPieces
