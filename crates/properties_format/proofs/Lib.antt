@@ -7,6 +7,7 @@ pub mod Marks
 pub mod PieceEnds
 pub mod Utf16Pieces
 pub mod Utf8Characters
+pub mod Utf8Inverse
 pub mod Utf8Pieces
 pub mod Utf8Rows
 pub mod Utf8Sequences
