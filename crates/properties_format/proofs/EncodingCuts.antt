@@ -1,10 +1,10 @@
 -- Where bytes may be cut so that their pieces are those of their parts.
-use Rattle.std.proofs.Common.{◌≡◌, ℕ, suc, ◌+◌, ◌<◌, ◌≤◌, List, [], ◌∷◌, ◌++◌, length, drop, refl, sym, ap, ap₂, ◌∙◌, subst, arith, append_assoc, append-nil, length-append}
+use Rattle.std.proofs.Common.{◌≡◌, ℕ, ◌+◌, ◌<◌, ◌≤◌, List, [], ◌∷◌, ◌++◌, length, drop, refl, sym, ap, ap₂, ◌∙◌, subst, arith, append_assoc, append-nil, length-append}
 use Rattle.std.proofs.Math.Seq.{drop-append_seam}
 use Rattle.properties_format.specs.Pieces.{Piece, piece, characters}
 use Rattle.properties_format.specs.Encoding.{Encoding, IsPiece, IsPieces, IsAligned, first_piece, pieces_of, ascii_bytes}
 use Rattle.properties_format.proofs.EncodingPieces.{first-meets, piece-length, pieces_of-meets, pieces_of-only, pieces_of-piece}
-use Rattle.properties_format.proofs.EncodingCharacters.{ascii-piece, pieces_of-ascii, piece-ascii}
+use Rattle.properties_format.proofs.EncodingCharacters.{pieces_of-ascii, piece-ascii}
 use Rattle.properties_format.proofs.PieceEnds.{piece-more, piece-long, piece-less, piece-aligned, piece-anew, aligned-nil, aligned-append, aligned-back, BeginsAnew, ascii-anew}
 
 -- ---- Bytes added behind.
@@ -132,7 +132,7 @@ place-of (p ∷ ps) (b ∷ t) c s h =
     let k : p.character ≡ b = cc in
     let l : characters ps ≡ t ++ c ∷ s = cc in
     let m = place-of ps t c s l in
-    (p ∷ m.0, m.1, m.2, ap (λ v. p ∷ v) m.3, ap₂ (λ v w. v ∷ w) k m.4, m.5, m.6)
+    (p ∷ m.0, m.1, m.2, ap (λ v. p ∷ v) {y = m.0 ++ m.1 ∷ m.2} m.3, ap₂ (λ v w. v ∷ w) k m.4, m.5, m.6)
 
 -- the bytes around those of an ASCII character, and what they are decoded to
 pub record IsCutAt (e : Encoding) (d : List ℕ) (t : List ℕ) (c : ℕ) (s : List ℕ) (x y : List ℕ) : Type 0 where

@@ -1,8 +1,8 @@
 -- How far a piece depends on what stands behind it.
-use Rattle.std.proofs.Common.{◌≡◌, ℕ, suc, ◌+◌, ◌%◌, ◌<◌, ◌≤◌, Bool, true, false, List, [], ◌∷◌, ◌++◌, length, Some, refl, sym, ap, ◌∙◌, arith, length-append}
+use Rattle.std.proofs.Common.{◌≡◌, ℕ, suc, ◌%◌, ◌<◌, ◌≤◌, true, false, List, [], ◌∷◌, ◌++◌, length, refl, ap, arith, length-append}
 use Rattle.properties_format.specs.Text.{replacement}
 use Rattle.properties_format.specs.Pieces.{Piece, piece}
-use Rattle.properties_format.specs.Utf8.{Range, well_formed_rows, tail, IsIn, BeginsLonger, NextBreaks, IsUtf8Piece, whole, stray, broken}
+use Rattle.properties_format.specs.Utf8.{tail, IsIn, NextBreaks, IsUtf8Piece, whole, stray, broken}
 use Rattle.properties_format.specs.Utf16.{low_first, high_first, is_high, is_low, IsUtf16Piece, pair, plain, low_alone, high_alone, high_last, byte_last, both_last}
 use Rattle.properties_format.specs.Encoding.{Encoding, windows_1252, utf_8, utf_16le, utf_16be, IsPiece, IsAligned, ascii_bytes}
 use Rattle.properties_format.proofs.Utf8Rows.{sequence-row, shorter-than_row, next-tail, row-short}
