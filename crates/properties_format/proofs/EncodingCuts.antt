@@ -132,7 +132,7 @@ place-of (p ∷ ps) (b ∷ t) c s h =
     let k : p.character ≡ b = cc in
     let l : characters ps ≡ t ++ c ∷ s = cc in
     let m = place-of ps t c s l in
-    (p ∷ m.0, m.1, m.2, ap (λ v. p ∷ v) m.3, ap₂ (λ v w. v ∷ w) k m.4, m.5, m.6)
+    (p ∷ m.0, m.1, m.2, ap {y = m.0 ++ m.1 ∷ m.2} (λ v. p ∷ v) m.3, ap₂ (λ v w. v ∷ w) k m.4, m.5, m.6)
 
 -- the bytes around those of an ASCII character, and what they are decoded to
 pub record IsCutAt (e : Encoding) (d : List ℕ) (t : List ℕ) (c : ℕ) (s : List ℕ) (x y : List ℕ) : Type 0 where

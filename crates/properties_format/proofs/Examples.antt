@@ -1,2 +1,3 @@
--- Worked rows of the definitions, computed.
+-- Worked rows of each page, computed.
 pub mod Encodings
+pub mod Pieces
