@@ -12,3 +12,4 @@ pub mod Utf8Pieces
 pub mod Utf8Rows
 pub mod Utf8Sequences
 pub mod Windows1252Table
+pub mod Waiting

@@ -3,7 +3,8 @@ use Rattle.std.proofs.Common.{◌≡◌, ℕ, true, false, nat_le, nat_lt, List,
 use Rattle.std.proofs.lemmas.Bool.{cond-true, cond-false, cases_Bool, and_parts, leb-true, le-ltb, and_right}
 use Rattle.properties_format.specs.Text.{replacement}
 use Rattle.properties_format.specs.Pieces.{Piece, piece}
-use Rattle.properties_format.specs.Utf16.{is_high, is_low, pair_character, IsUtf16Piece, pair, plain, low_alone, high_alone, high_last, byte_last, both_last, high_piece, first_utf_16_piece}
+use Rattle.properties_format.specs.Surrogates.{is_high, is_low, pair_character}
+use Rattle.properties_format.specs.Utf16.{IsUtf16Piece, pair, plain, low_alone, high_alone, high_last, byte_last, both_last, high_piece, first_utf_16_piece}
 use Rattle.properties_format.proofs.FirstPieces.{Meets, IsRead}
 
 pub low-not_high : (u : ℕ) → is_low u ≡ true → is_high u ≡ false
