@@ -98,3 +98,7 @@ decoded_of-scalar e b h = pieces_of-scalar (mark e b).encoding (mark e b).body (
 -- bytes that don't begin like a mark are decoded whole
 pub decoded_of-unmarked : (e : Encoding) (b : List ℕ) → begins_like_mark b ≡ false → decoded_of e b ≡ characters (pieces_of e b)
 decoded_of-unmarked e b h = ap (λ v. characters (pieces_of v.encoding v.body)) (mark-none e b h)
+
+-- bytes that don't wait for a mark, and others behind them
+pub decoded_of-append : (e : Encoding) (b d : List ℕ) → awaits_mark b ≡ false → decoded_of e (b ++ d) ≡ characters (pieces_of (mark e b).encoding ((mark e b).body ++ d))
+decoded_of-append e b d h = ap (λ v. characters (pieces_of v.encoding v.body)) (mark-append e b d h)
