@@ -1,0 +1,4 @@
+-- Worked rows of each page, computed.
+pub mod Encodings
+pub mod Pieces
+pub mod Waiting

@@ -1,0 +1,15 @@
+pub mod EncodingCharacters
+pub mod EncodingCuts
+pub mod EncodingPieces
+pub mod Examples
+pub mod FirstPieces
+pub mod Marks
+pub mod PieceEnds
+pub mod Utf16Pieces
+pub mod Utf8Characters
+pub mod Utf8Inverse
+pub mod Utf8Pieces
+pub mod Utf8Rows
+pub mod Utf8Sequences
+pub mod Windows1252Table
+pub mod Waiting
