@@ -1,5 +1,5 @@
 -- The natural lines of a text.
--- Source: java.util.Properties of Java SE 7, load ("a natural line is a line of characters that is ended by a line terminator, \n or \r or \r\n, or by the end of the stream").
+-- Source: java.util.Properties of Java SE 7, load: a natural line is terminated by \n, by \r, by \r\n, or by the end of the stream.
 use Rattle.std.specs.Prelude.{◌≡◌, ℕ, ◌+◌, ◌==◌, Bool, true, false, if◌then◌else◌, List, [], ◌∷◌, ◌++◌, length}
 use Rattle.properties_format.specs.Text.{line_feed, carriage_return, is_line_end, LineEnd, lf, cr, crlf, line_end_text}
 
