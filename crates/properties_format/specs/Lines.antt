@@ -113,3 +113,15 @@ before c lines =
 abbrev pub lines_of : List ℕ → Lines
 lines_of [] = record { ended = []; last = [] }
 lines_of (c ∷ cs) = before c (lines_of cs)
+
+-- ---- the lines to come, where a text is read in parts
+
+-- what comes, less the LF that is of an end whose CR was the last character
+abbrev pub rest_of_end : Bool → List ℕ → List ℕ
+rest_of_end true y = without_leading_lf y
+rest_of_end false y = y
+
+-- the lines of what comes, behind n line ends, a CR perhaps, and the text of the line that is not yet ended
+abbrev pub lines_after : ℕ → Bool → List ℕ → List ℕ → Ending → List Line
+lines_after n after_cr held y ending =
+    let lines = lines_of (held ++ rest_of_end after_cr y) in numbered n lines.ended lines.last ending
