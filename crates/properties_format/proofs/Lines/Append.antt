@@ -18,10 +18,10 @@ goes-last : (last : List ℕ) → IsPlain last → Goes [] last
 unfolding Goes
 goes-last last h n y e = rw (plain-no_cr last h, add-zero n) refl
 
-one-more : (n m : ℕ) → n + 1 + m ≡ n + suc m
+pub one-more : (n m : ℕ) → n + 1 + m ≡ n + suc m
 one-more n m = omega arith
 
-regroup : (text : List ℕ) (by : LineEnd) (whole y : List ℕ) → (text ++ (line_end_text by ++ whole)) ++ y ≡ text ++ (line_end_text by ++ (whole ++ y))
+pub regroup : (text : List ℕ) (by : LineEnd) (whole y : List ℕ) → (text ++ (line_end_text by ++ whole)) ++ y ≡ text ++ (line_end_text by ++ (whole ++ y))
 regroup text by whole y = append_assoc text (line_end_text by ++ whole) y ∙ ap (λ v. text ++ v) (append_assoc (line_end_text by) whole y)
 
 -- a line with an end that needs no look at what comes
@@ -45,7 +45,7 @@ goes-cr text h n y e =
     ∙ ap (λ v. record { number = n + 1; text = text } ∷ lines_after (n + 1) v [] y e) (sym (ends_in_cr-append text carriage_return []))
 
 -- a text with a first character ends as it does behind a line end
-ends-behind : (text : List ℕ) (by : LineEnd) (c : ℕ) (x : List ℕ) → ends_in_cr (text ++ (line_end_text by ++ c ∷ x)) ≡ ends_in_cr (c ∷ x)
+pub ends-behind : (text : List ℕ) (by : LineEnd) (c : ℕ) (x : List ℕ) → ends_in_cr (text ++ (line_end_text by ++ c ∷ x)) ≡ ends_in_cr (c ∷ x)
 ends-behind text lf c x = ends_in_cr-append text line_feed (c ∷ x)
 ends-behind text cr c x = ends_in_cr-append text carriage_return (c ∷ x)
 ends-behind text crlf c x = ends_in_cr-append text carriage_return (line_feed ∷ c ∷ x)
