@@ -1,7 +1,7 @@
 -- The groups of lines to which more come: those that are closed stay, and the open one goes on.
-use Rattle.std.proofs.Common.{◌≡◌, ℕ, Bool, true, false, List, [], ◌∷◌, ◌++◌, refl, ap, sym, ◌∙◌, inl, inr, append_assoc, append-nil}
+use Rattle.std.proofs.Common.{◌≡◌, ℕ, List, [], ◌∷◌, ◌++◌, refl, ap, sym, ◌∙◌, inl, inr, append-nil}
 use Rattle.std.proofs.lemmas.Bool.{cases_Bool}
-use Rattle.properties_format.specs.Lines.{Line, Ending, end, fault, more, lines_of, line_ends, ends_in_cr, numbered_lines, lines_after}
+use Rattle.properties_format.specs.Lines.{Line, Ending, more, lines_of, line_ends, ends_in_cr, numbered_lines, lines_after}
 use Rattle.properties_format.specs.Groups.{IsUnfinished, last_group, closes, groups_after, groups_of, open_after}
 use Rattle.properties_format.proofs.Lines.Numbers.{numbered_lines-append}
 use Rattle.properties_format.proofs.Groups.Steps.{groups_after-close, groups_after-leave, open_after-close, open_after-leave, groups_after-more}

@@ -1,7 +1,7 @@
 -- The numbers of groups ascend.
-use Rattle.std.proofs.Common.{◌≡◌, ℕ, suc, ◌+◌, ◌<◌, ◌≤◌, List, [], ◌∷◌, ◌++◌, map, length, refl, ap, sym, ◌∙◌, subst, append_assoc, arith}
-use Rattle.properties_format.specs.Lines.{Lines, Line, Ending, end, fault, more, lines_of, numbered_lines}
-use Rattle.properties_format.specs.Groups.{IsWhole, AreWhole, IsUnfinished, IsGroups, lines_in, last_group, first_number, groups_of}
+use Rattle.std.proofs.Common.{ℕ, ◌+◌, ◌<◌, ◌≤◌, List, [], ◌∷◌, ◌++◌, map, length, subst, append_assoc, arith}
+use Rattle.properties_format.specs.Lines.{Lines, Line, Ending, end, fault, more, numbered_lines}
+use Rattle.properties_format.specs.Groups.{AreWhole, lines_in, last_group, first_number, groups_of}
 use Rattle.properties_format.proofs.Lines.Numbers.{AreNumbered, numbered-in_order, in_order-right}
 use Rattle.properties_format.proofs.Groups.Meets.{groups_of-meets}
 

@@ -1,11 +1,10 @@
 -- The lines of two texts together: where the second one comes after the first, the lines that the first ends stay.
-use Rattle.std.proofs.Common.{◌≡◌, ◌≢◌, ℕ, suc, ◌+◌, ◌==◌, Bool, true, false, List, [], ◌∷◌, ◌++◌, length, refl, ap, sym, ◌∙◌, append_assoc, append-nil, arith, length-append, add-zero}
+use Rattle.std.proofs.Common.{◌≡◌, ℕ, suc, ◌+◌, ◌==◌, false, List, [], ◌∷◌, ◌++◌, length, refl, ap, sym, ◌∙◌, append_assoc, arith, add-zero}
 use Rattle.properties_format.specs.Text.{line_feed, carriage_return, LineEnd, lf, cr, crlf, line_end_text}
-use Rattle.properties_format.specs.Lines.{Ended, Lines, put_together, IsPlain, IsNoLoneLf, AreLines, IsLines, Line, Ending, end, fault, more, line_ends, begins_with_lf, ends_in_cr, without_leading_lf, lines_of, numbered, numbered_lines, rest_of_end, lines_after}
+use Rattle.properties_format.specs.Lines.{Ended, put_together, IsPlain, IsNoLoneLf, AreLines, Ending, more, line_ends, begins_with_lf, ends_in_cr, lines_of, numbered, lines_after}
 use Rattle.properties_format.proofs.Lines.Meets.{lines_of-meets}
-use Rattle.properties_format.proofs.Lines.Only.{lines_of-together}
-use Rattle.properties_format.proofs.Lines.Plain.{plain-no_cr, no_lf_first, ends_in_cr-append, last-plain}
-use Rattle.properties_format.proofs.Lines.Steps.{lines_of-line, lines_after-lf, lines_after-cr, lines_after-line, lines_after-no_lf}
+use Rattle.properties_format.proofs.Lines.Plain.{plain-no_cr, no_lf_first, ends_in_cr-append}
+use Rattle.properties_format.proofs.Lines.Steps.{lines_after-cr, lines_after-line}
 
 -- ---- the numbered lines
 

@@ -1,7 +1,7 @@
 -- Where a text may be cut: the lines of the two parts are the lines of the whole, save that no CR and LF may be parted.
-use Rattle.std.proofs.Common.{◌≡◌, ℕ, suc, ◌+◌, ◌==◌, Bool, true, false, List, [], ◌∷◌, ◌++◌, length, refl, ap, sym, ◌∙◌, append_assoc, zero-add, length-append}
-use Rattle.properties_format.specs.Text.{line_feed, carriage_return, LineEnd, lf, cr, crlf, line_end_text}
-use Rattle.properties_format.specs.Lines.{Ended, Lines, put_together, AreLines, Line, Ending, end, fault, more, line_ends, begins_with_lf, ends_in_cr, lines_of, numbered, numbered_lines, rest_of_end, lines_after}
+use Rattle.std.proofs.Common.{◌≡◌, ℕ, suc, ◌+◌, true, false, List, [], ◌∷◌, ◌++◌, length, refl, ap, sym, ◌∙◌, length-append}
+use Rattle.properties_format.specs.Text.{carriage_return, LineEnd, lf, cr, crlf, line_end_text}
+use Rattle.properties_format.specs.Lines.{Ended, Lines, put_together, AreLines, more, line_ends, begins_with_lf, ends_in_cr, lines_of, numbered, rest_of_end}
 use Rattle.properties_format.proofs.Lines.Meets.{lines_of-meets}
 use Rattle.properties_format.proofs.Lines.Plain.{no_lf_first, ends_in_cr-append}
 use Rattle.properties_format.proofs.Lines.Steps.{lines_of-line}
