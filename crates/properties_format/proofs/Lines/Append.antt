@@ -50,11 +50,11 @@ ends-behind text cr c x = ends_in_cr-append text carriage_return (c ∷ x)
 ends-behind text crlf c x = ends_in_cr-append text carriage_return (line_feed ∷ c ∷ x)
 
 -- an LF at the end is no CR
-ends-lf : (text : List ℕ) (x : List ℕ) → ends_in_cr (text ++ line_feed ∷ x) ≡ ends_in_cr x
+pub ends-lf : (text : List ℕ) (x : List ℕ) → ends_in_cr (text ++ line_feed ∷ x) ≡ ends_in_cr x
 ends-lf text [] = ends_in_cr-append text line_feed []
 ends-lf text (c ∷ x) = ends_in_cr-append text line_feed (c ∷ x)
 
-ends-crlf : (text : List ℕ) (x : List ℕ) → ends_in_cr (text ++ carriage_return ∷ line_feed ∷ x) ≡ ends_in_cr x
+pub ends-crlf : (text : List ℕ) (x : List ℕ) → ends_in_cr (text ++ carriage_return ∷ line_feed ∷ x) ≡ ends_in_cr x
 ends-crlf text [] = ends_in_cr-append text carriage_return (line_feed ∷ [])
 ends-crlf text (c ∷ x) = ends_in_cr-append text carriage_return (line_feed ∷ c ∷ x)
 
