@@ -1,12 +1,13 @@
 -- How the logical lines go on with the next line.
-use Rattle.std.proofs.Common.{◌≡◌, ℕ, ◌+◌, ◌⊎◌, Bool, true, false, List, [], ◌∷◌, ◌++◌, refl, ap, sym, ◌∙◌, inl, inr}
+use Rattle.std.proofs.Common.{◌≡◌, ℕ, ◌+◌, ◌⊎◌, true, false, List, [], ◌∷◌, ◌++◌, refl, ap, sym, ◌∙◌, inl, inr}
 use Rattle.std.proofs.lemmas.Bool.{cases_Bool}
 use Rattle.properties_format.specs.Text.{LineEnd, cr, line_end_text}
-use Rattle.properties_format.specs.Lines.{IsPlain, Line, Ending, end, fault, more, begins_with_lf, lines_after}
-use Rattle.properties_format.specs.Groups.{is_open, is_marked, AreOpen, IsUnfinished, without_open_backslash, joined, first_number, last_group, groups_after, groups_of}
-use Rattle.properties_format.specs.Logical.{logical, logical_lines, addition, last_join, joins_after}
+use Rattle.properties_format.specs.Lines.{IsPlain, Line, Ending, end, fault, more, lines_of, line_ends, numbered_lines, begins_with_lf, ends_in_cr, lines_after}
+use Rattle.properties_format.specs.Groups.{is_open, is_marked, without_open_backslash, joined, first_number, addition, groups_after, groups_of, open_after}
+use Rattle.properties_format.specs.Logical.{logical, logical_lines, joins_after}
 use Rattle.properties_format.proofs.Lines.Steps.{lines_after-line}
 use Rattle.properties_format.proofs.Groups.Steps.{groups_of-marked, groups_of-closed, groups_of-open, groups_after-closed, groups_after-open}
+use Rattle.properties_format.proofs.Groups.Append.{groups-stay}
 use Rattle.properties_format.proofs.Groups.Joined.{joined-marked, joined-one, joined-closed, joined-push}
 
 -- a line more where lines are joined
@@ -52,6 +53,22 @@ pub logical_lines-open : (l : Line) (ls : List Line) (e : Ending) → is_marked 
 logical_lines-open l ls e h k =
     ap logical (groups_of-open l ls e h k) ∙ logical-after l [] ls e h ∙ ap (λ v. joins_after l.number v ls e) (joined-one l h)
 
+-- ---- lines one behind the other
+
+logical-append : (gs hs : List (List Line)) → logical (gs ++ hs) ≡ logical gs ++ logical hs
+logical-append [] hs = refl
+logical-append (g ∷ gs) hs = ap (λ v. record { number = first_number g; text = joined g } ∷ v) (logical-append gs hs)
+
+-- The logical lines of a text to which more may come are the first ones of every text that it begins, whatever its ending.
+pub logical_lines-stay : (x y : List ℕ) (e : Ending)
+    → logical_lines (numbered_lines (lines_of (x ++ y)) e) e
+    ≡ logical_lines (numbered_lines (lines_of x) more) more
+    ++ logical (groups_after (open_after [] (numbered_lines (lines_of x) more)) (lines_after (line_ends (lines_of x)) (ends_in_cr x) (lines_of x).last y e) e)
+logical_lines-stay x y e =
+    let gs = groups_of (numbered_lines (lines_of x) more) more in
+    let hs = groups_after (open_after [] (numbered_lines (lines_of x) more)) (lines_after (line_ends (lines_of x)) (ends_in_cr x) (lines_of x).last y e) e in
+    ap logical (groups-stay x y e) ∙ logical-append gs hs
+
 -- ---- a line of a text that no other is joined to
 
 -- such a line is marked, or not open
@@ -61,7 +78,7 @@ StandsAlone x = (is_marked x ≡ true) ⊎ (is_open x ≡ false)
 -- it is a group
 pub groups-line : (n : ℕ) (text : List ℕ) (by : LineEnd) (y : List ℕ) (e : Ending) → IsPlain text → (by ≡ cr → begins_with_lf y ≡ false) → StandsAlone text
     → groups_of (lines_after n false [] (text ++ (line_end_text by ++ y)) e) e
-      ≡ (record { number = n + 1; text = text } ∷ []) ∷ groups_of (lines_after (n + 1) false [] y e) e
+    ≡ (record { number = n + 1; text = text } ∷ []) ∷ groups_of (lines_after (n + 1) false [] y e) e
 groups-line n text by y e h k (inl m) =
     ap (λ v. groups_of v e) (lines_after-line n [] text by y e tt h k)
     ∙ groups_of-marked (record { number = n + 1; text = text }) (lines_after (n + 1) false [] y e) e m
@@ -72,7 +89,7 @@ groups-line n text by y e h k (inr m) =
 -- and a logical line
 pub logical-line : (n : ℕ) (text : List ℕ) (by : LineEnd) (y : List ℕ) (e : Ending) → IsPlain text → (by ≡ cr → begins_with_lf y ≡ false) → StandsAlone text
     → logical_lines (lines_after n false [] (text ++ (line_end_text by ++ y)) e) e
-      ≡ record { number = n + 1; text = text } ∷ logical_lines (lines_after (n + 1) false [] y e) e
+    ≡ record { number = n + 1; text = text } ∷ logical_lines (lines_after (n + 1) false [] y e) e
 logical-line n text by y e h k (inl m) =
     ap (λ v. logical_lines v e) (lines_after-line n [] text by y e tt h k)
     ∙ logical_lines-marked (record { number = n + 1; text = text }) (lines_after (n + 1) false [] y e) e m

@@ -5,7 +5,7 @@ use Rattle.std.proofs.lemmas.Bool.{cases_Bool}
 use Rattle.std.proofs.lemmas.Bool.Decides.{eqb_tells}
 use Rattle.std.proofs.lemmas.List.{reverse-append}
 use Rattle.properties_format.specs.Text.{backslash, is_blank}
-use Rattle.properties_format.specs.Groups.{leading_backslashes, ending_backslashes, is_open, without_leading_blanks, without_last, without_open_backslash}
+use Rattle.properties_format.specs.Groups.{leading_backslashes, ending_backslashes, is_open, without_leading_blanks, without_last, without_open_backslash, addition}
 
 -- one character more at the end
 pub ending_backslashes-push : (x : List ℕ) (c : ℕ) → ending_backslashes (x ++ c ∷ []) ≡ (if c == backslash then suc (ending_backslashes x) else 0)
@@ -120,3 +120,11 @@ without_open_backslash-closed x h = rw h refl
 
 pub without_open_backslash-open : (x : List ℕ) → is_open (x ++ backslash ∷ []) ≡ true → without_open_backslash (x ++ backslash ∷ []) ≡ x
 without_open_backslash-open x h = rw h (without_last-push x backslash)
+
+-- ---- what a line adds
+
+pub addition-closed : (x : List ℕ) → is_open x ≡ false → addition x ≡ without_leading_blanks x
+addition-closed x h = without_open_backslash-closed (without_leading_blanks x) (is_open-blanks x ∙ h)
+
+pub addition-open : (x : List ℕ) → is_open x ≡ true → addition x ≡ without_last (without_leading_blanks x)
+addition-open x h = let e : is_open (without_leading_blanks x) ≡ true = is_open-blanks x ∙ h in rw e refl

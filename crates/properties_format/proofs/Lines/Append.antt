@@ -1,7 +1,7 @@
 -- The lines of two texts together: where the second one comes after the first, the lines that the first ends stay.
 use Rattle.std.proofs.Common.{◌≡◌, ℕ, suc, ◌+◌, ◌==◌, false, List, [], ◌∷◌, ◌++◌, length, refl, ap, sym, ◌∙◌, append_assoc, arith, add-zero}
 use Rattle.properties_format.specs.Text.{line_feed, carriage_return, LineEnd, lf, cr, crlf, line_end_text}
-use Rattle.properties_format.specs.Lines.{Ended, put_together, IsPlain, IsNoLoneLf, AreLines, Ending, more, line_ends, begins_with_lf, ends_in_cr, lines_of, numbered, lines_after}
+use Rattle.properties_format.specs.Lines.{Ended, put_together, IsPlain, BeginsWithNoLoneLf, AreLines, Ending, more, line_ends, begins_with_lf, ends_in_cr, lines_of, numbered, lines_after}
 use Rattle.properties_format.proofs.Lines.Meets.{lines_of-meets}
 use Rattle.properties_format.proofs.Lines.Plain.{plain-no_cr, no_lf_first, ends_in_cr-append}
 use Rattle.properties_format.proofs.Lines.Steps.{lines_after-cr, lines_after-line}
@@ -65,7 +65,7 @@ goes-cr-on text ls last c x is_some no_lf h goes =
     goes-line text cr ls last h (λ y e. rw is_some no_lf) (rw is_some (ends-behind text cr c x)) goes
 
 -- whether or not the rest is empty
-goes-cr-rest : (text : List ℕ) (ls : List Ended) (last : List ℕ) → IsPlain text → AreLines ls last → IsNoLoneLf ls → Goes ls last → Goes (record { text = text; by = cr } ∷ ls) last
+goes-cr-rest : (text : List ℕ) (ls : List Ended) (last : List ℕ) → IsPlain text → AreLines ls last → BeginsWithNoLoneLf ls → Goes ls last → Goes (record { text = text; by = cr } ∷ ls) last
 goes-cr-rest text [] [] h are none goes = goes-cr text h
 goes-cr-rest text [] (c ∷ cs) h are none goes = goes-cr-on text [] (c ∷ cs) c cs refl (no_lf_first [] (c ∷ cs) are none) h goes
 goes-cr-rest text (l ∷ ls) last h are none goes = of_line l.text l.by refl
@@ -79,7 +79,7 @@ goes-cr-rest text (l ∷ ls) last h are none goes = of_line l.text l.by refl
     of_line [] cr e = goes-cr-on text (l ∷ ls) last carriage_return (put_together ls last) (ap (λ v. put_together (v ∷ ls) last) e) (rw e at k) h goes
     of_line [] crlf e = goes-cr-on text (l ∷ ls) last carriage_return (line_feed ∷ put_together ls last) (ap (λ v. put_together (v ∷ ls) last) e) (rw e at k) h goes
 
-goes-any : (text : List ℕ) (by : LineEnd) (ls : List Ended) (last : List ℕ) → IsPlain text → (by ≡ cr → IsNoLoneLf ls) → AreLines ls last → Goes ls last
+goes-any : (text : List ℕ) (by : LineEnd) (ls : List Ended) (last : List ℕ) → IsPlain text → (by ≡ cr → BeginsWithNoLoneLf ls) → AreLines ls last → Goes ls last
     → Goes (record { text = text; by = by } ∷ ls) last
 goes-any text lf ls last h k are goes = goes-line text lf ls last h (λ y e. absurd (cc)) (ends-lf text (put_together ls last)) goes
 goes-any text cr ls last h k are goes = goes-cr-rest text ls last h are (k refl) goes

@@ -1,9 +1,9 @@
 -- Where a text is cut between a CR and an LF, the LF is of the end that the CR began.
-use Rattle.std.proofs.Common.{◌≡◌, ℕ, ◌==◌, ◌⊎◌, Bool, true, false, List, [], ◌∷◌, ◌++◌, refl, ap, sym, ◌∙◌, inl, inr, append_assoc, append-nil}
+use Rattle.std.proofs.Common.{◌≡◌, ℕ, ◌⊎◌, true, false, List, [], ◌∷◌, ◌++◌, refl, ap, sym, ◌∙◌, inl, inr, append_assoc, append-nil}
 use Rattle.properties_format.specs.Text.{line_feed, carriage_return, LineEnd, lf, cr, crlf, line_end_text}
-use Rattle.properties_format.specs.Lines.{Ended, Lines, put_together, IsPlain, AreLines, begins_with_lf, ends_in_cr, lines_of}
+use Rattle.properties_format.specs.Lines.{Ended, put_together, IsPlain, AreLines, begins_with_lf, ends_in_cr, lines_of}
 use Rattle.properties_format.proofs.Lines.Meets.{lines_of-meets}
-use Rattle.properties_format.proofs.Lines.Plain.{no_lf_first, plain-no_cr, ends_in_cr-append}
+use Rattle.properties_format.proofs.Lines.Plain.{no_lf_first, plain-no_cr}
 use Rattle.properties_format.proofs.Lines.Steps.{lines_of-line}
 use Rattle.properties_format.proofs.Lines.Append.{ends-behind, ends-lf, ends-crlf, regroup}
 use Rattle.properties_format.proofs.Lines.Cut.{lines_on}
@@ -44,9 +44,9 @@ parted (l ∷ m ∷ ms) last y h k = elim (some-or-none (put_together (m ∷ ms)
   | inl none ↦ absurd (none-together m.text m.by (put_together ms last) none)
   | inr some ↦
       let e : ends_in_cr (put_together (m ∷ ms) last) ≡ true =
-        ap ends_in_cr some.2 ∙ sym (ends-behind l.text l.by some.0 some.1) ∙ ap (λ v. ends_in_cr (l.text ++ (line_end_text l.by ++ v))) (sym some.2) ∙ k in
+      ap ends_in_cr some.2 ∙ sym (ends-behind l.text l.by some.0 some.1) ∙ ap (λ v. ends_in_cr (l.text ++ (line_end_text l.by ++ v))) (sym some.2) ∙ k in
       let f : l.by ≡ cr → begins_with_lf (put_together (m ∷ ms) last ++ line_feed ∷ y) ≡ false =
-        λ q. ap (λ v. begins_with_lf (v ++ line_feed ∷ y)) some.2 ∙ ap begins_with_lf (sym some.2) ∙ no_lf_first (m ∷ ms) last h.2 (h.1 q) in
+      λ q. ap (λ v. begins_with_lf (v ++ line_feed ∷ y)) some.2 ∙ ap begins_with_lf (sym some.2) ∙ no_lf_first (m ∷ ms) last h.2 (h.1 q) in
       ap lines_of (regroup l.text l.by (put_together (m ∷ ms) last) (line_feed ∷ y))
       ∙ lines_of-line l.text l.by (put_together (m ∷ ms) last ++ line_feed ∷ y) h.0 f
       ∙ ap (lines_on (l ∷ [])) (parted (m ∷ ms) last y h.2 e)

@@ -2,7 +2,7 @@
 use Rattle.std.proofs.Common.{◌≡◌, ℕ, ◌==◌, false, List, [], ◌∷◌, ◌++◌, refl, ap, sym, ◌∙◌}
 use Rattle.std.proofs.lemmas.Bool.{or_parts}
 use Rattle.properties_format.specs.Text.{line_feed, carriage_return, LineEnd, lf, cr, crlf, line_end_text}
-use Rattle.properties_format.specs.Lines.{Ended, put_together, IsPlain, IsNoLoneLf, AreLines, begins_with_lf, ends_in_cr, without_leading_lf, lines_of}
+use Rattle.properties_format.specs.Lines.{Ended, put_together, IsPlain, BeginsWithNoLoneLf, AreLines, begins_with_lf, ends_in_cr, without_leading_lf, lines_of}
 use Rattle.properties_format.proofs.Lines.Meets.{lines_of-meets}
 
 pub plain-append : (x y : List ℕ) → IsPlain x → IsPlain y → IsPlain (x ++ y)
@@ -37,7 +37,7 @@ plain-no_cr (c ∷ []) h = (or_parts (c == line_feed) (c == carriage_return) h.0
 plain-no_cr (c ∷ d ∷ ds) h = plain-no_cr (d ∷ ds) h.1
 
 -- where no LF comes first, no lone LF is the first line
-pub no_lone_lf : (ls : List Ended) (last : List ℕ) → begins_with_lf (put_together ls last) ≡ false → IsNoLoneLf ls
+pub no_lone_lf : (ls : List Ended) (last : List ℕ) → begins_with_lf (put_together ls last) ≡ false → BeginsWithNoLoneLf ls
 no_lone_lf [] last h = tt
 no_lone_lf (l ∷ ls) last h = of_line l.text l.by (put_together ls last) h
   where
@@ -48,7 +48,7 @@ no_lone_lf (l ∷ ls) last h = of_line l.text l.by (put_together ls last) h
     of_line (c ∷ text) by y h = λ p. absurd (cc p.0)
 
 -- and the other way round
-pub no_lf_first : (ls : List Ended) (last : List ℕ) → AreLines ls last → IsNoLoneLf ls → begins_with_lf (put_together ls last) ≡ false
+pub no_lf_first : (ls : List Ended) (last : List ℕ) → AreLines ls last → BeginsWithNoLoneLf ls → begins_with_lf (put_together ls last) ≡ false
 no_lf_first [] last h k = plain-no_lf last h
 no_lf_first (l ∷ ls) last h k = of_line l.text l.by (put_together ls last) h.0 k
   where
@@ -58,7 +58,7 @@ no_lf_first (l ∷ ls) last h k = of_line l.text l.by (put_together ls last) h.0
     of_line [] crlf y h k = refl
     of_line (c ∷ text) by y h k = plain-no_lf (c ∷ text) h
 
-pub lines_of-no_lone_lf : (y : List ℕ) → begins_with_lf y ≡ false → IsNoLoneLf (lines_of y).ended
+pub lines_of-no_lone_lf : (y : List ℕ) → begins_with_lf y ≡ false → BeginsWithNoLoneLf (lines_of y).ended
 lines_of-no_lone_lf y h = no_lone_lf (lines_of y).ended (lines_of y).last (sym (ap begins_with_lf (lines_of-meets y).text) ∙ h)
 
 -- what does not begin with an LF has none to lose
