@@ -1,7 +1,8 @@
 -- The lines of two texts together: where the second one comes after the first, the lines that the first ends stay.
-use Rattle.std.proofs.Common.{◌≡◌, ℕ, suc, ◌+◌, ◌==◌, false, List, [], ◌∷◌, ◌++◌, length, refl, ap, sym, ◌∙◌, append_assoc, arith, add-zero}
+use Rattle.std.proofs.Common.{◌≡◌, ℕ, suc, ◌+◌, ◌==◌, false, List, [], ◌∷◌, ◌++◌, length, refl, ap, sym, ◌∙◌, append_assoc, arith, add-zero, Bool, true, inl, inr}
+use Rattle.std.proofs.lemmas.Bool.{cases_Bool}
 use Rattle.properties_format.specs.Text.{line_feed, carriage_return, LineEnd, lf, cr, crlf, line_end_text}
-use Rattle.properties_format.specs.Lines.{Ended, put_together, IsPlain, BeginsWithNoLoneLf, AreLines, Ending, more, line_ends, begins_with_lf, ends_in_cr, lines_of, numbered, lines_after}
+use Rattle.properties_format.specs.Lines.{Ended, put_together, IsPlain, BeginsWithNoLoneLf, AreLines, Ending, more, line_ends, begins_with_lf, ends_in_cr, lines_of, numbered, lines_after, rest_of_end}
 use Rattle.properties_format.proofs.Lines.Meets.{lines_of-meets}
 use Rattle.properties_format.proofs.Lines.Plain.{plain-no_cr, no_lf_first, ends_in_cr-append}
 use Rattle.properties_format.proofs.Lines.Steps.{lines_after-cr, lines_after-line}
@@ -99,3 +100,17 @@ lines_after-append n x y e =
     ap (λ v. lines_after n false [] (v ++ y) e) m.text
     ∙ goes (lines_of x).ended (lines_of x).last m.are_lines n y e
     ∙ ap (λ v. lines_after n false [] x more ++ lines_after (n + line_ends (lines_of x)) (ends_in_cr v) (lines_of x).last y e) (sym m.text)
+
+rest-append : (after_cr : Bool) (c : ℕ) (x y : List ℕ) → rest_of_end after_cr (c ∷ x ++ y) ≡ rest_of_end after_cr (c ∷ x) ++ y
+rest-append false c x y = refl
+rest-append true c x y = elim (cases_Bool (c == line_feed)) [ inl k ↦ rw k refl | inr k ↦ rw k refl ]
+
+-- The same anywhere in a text: what a part gives, and where the reading then stands.
+pub lines_after-part : (n : ℕ) (after_cr : Bool) (held : List ℕ) (c : ℕ) (x y : List ℕ) (e : Ending)
+    → let z = held ++ rest_of_end after_cr (c ∷ x) in
+    lines_after n after_cr held (c ∷ x ++ y) e
+    ≡ lines_after n after_cr held (c ∷ x) more ++ lines_after (n + line_ends (lines_of z)) (ends_in_cr z) (lines_of z).last y e
+lines_after-part n after_cr held c x y e =
+    ap (λ v. lines_after n false held v e) (rest-append after_cr c x y)
+    ∙ ap (λ v. lines_after n false [] v e) (sym (append_assoc held (rest_of_end after_cr (c ∷ x)) y))
+    ∙ lines_after-append n (held ++ rest_of_end after_cr (c ∷ x)) y e
