@@ -1,10 +1,10 @@
 -- The lines of two texts together: where the second one comes after the first, the lines that the first ends stay.
-use Rattle.std.proofs.Common.{◌≡◌, ℕ, suc, ◌+◌, ◌==◌, false, List, [], ◌∷◌, ◌++◌, length, refl, ap, sym, ◌∙◌, append_assoc, arith, add-zero, Bool, true, inl, inr}
+use Rattle.std.proofs.Common.{◌≡◌, ℕ, ◌+◌, ◌==◌, false, List, [], ◌∷◌, ◌++◌, length, refl, ap, sym, ◌∙◌, append_assoc, add-zero, Bool, true, inl, inr}
 use Rattle.std.proofs.lemmas.Bool.{cases_Bool}
 use Rattle.properties_format.specs.Text.{line_feed, carriage_return, LineEnd, lf, cr, crlf, line_end_text}
 use Rattle.properties_format.specs.Lines.{Ended, put_together, IsPlain, BeginsWithNoLoneLf, AreLines, Ending, more, line_ends, begins_with_lf, ends_in_cr, lines_of, numbered, lines_after, rest_of_end}
 use Rattle.properties_format.proofs.Lines.Meets.{lines_of-meets}
-use Rattle.properties_format.proofs.Lines.Plain.{plain-no_cr, no_lf_first, ends_in_cr-append}
+use Rattle.properties_format.proofs.Lines.Plain.{one-more, regroup, plain-no_cr, no_lf_first, ends_in_cr-append, ends-behind, ends-lf, ends-crlf}
 use Rattle.properties_format.proofs.Lines.Steps.{lines_after-cr, lines_after-line}
 
 -- ---- the numbered lines
@@ -17,12 +17,6 @@ Goes ls last = (n : ℕ) (y : List ℕ) (e : Ending)
 goes-last : (last : List ℕ) → IsPlain last → Goes [] last
 unfolding Goes
 goes-last last h n y e = rw (plain-no_cr last h, add-zero n) refl
-
-pub one-more : (n m : ℕ) → n + 1 + m ≡ n + suc m
-one-more n m = omega arith
-
-pub regroup : (text : List ℕ) (by : LineEnd) (whole y : List ℕ) → (text ++ (line_end_text by ++ whole)) ++ y ≡ text ++ (line_end_text by ++ (whole ++ y))
-regroup text by whole y = append_assoc text (line_end_text by ++ whole) y ∙ ap (λ v. text ++ v) (append_assoc (line_end_text by) whole y)
 
 -- a line with an end that needs no look at what comes
 goes-line : (text : List ℕ) (by : LineEnd) (ls : List Ended) (last : List ℕ) → IsPlain text
@@ -43,21 +37,6 @@ goes-cr text h n y e =
     ap (λ v. lines_after n false [] v e) (regroup text cr [] y)
     ∙ lines_after-cr n false text y e h
     ∙ ap (λ v. record { number = n + 1; text = text } ∷ lines_after (n + 1) v [] y e) (sym (ends_in_cr-append text carriage_return []))
-
--- a text with a first character ends as it does behind a line end
-pub ends-behind : (text : List ℕ) (by : LineEnd) (c : ℕ) (x : List ℕ) → ends_in_cr (text ++ (line_end_text by ++ c ∷ x)) ≡ ends_in_cr (c ∷ x)
-ends-behind text lf c x = ends_in_cr-append text line_feed (c ∷ x)
-ends-behind text cr c x = ends_in_cr-append text carriage_return (c ∷ x)
-ends-behind text crlf c x = ends_in_cr-append text carriage_return (line_feed ∷ c ∷ x)
-
--- an LF at the end is no CR
-pub ends-lf : (text : List ℕ) (x : List ℕ) → ends_in_cr (text ++ line_feed ∷ x) ≡ ends_in_cr x
-ends-lf text [] = ends_in_cr-append text line_feed []
-ends-lf text (c ∷ x) = ends_in_cr-append text line_feed (c ∷ x)
-
-pub ends-crlf : (text : List ℕ) (x : List ℕ) → ends_in_cr (text ++ carriage_return ∷ line_feed ∷ x) ≡ ends_in_cr x
-ends-crlf text [] = ends_in_cr-append text carriage_return (line_feed ∷ [])
-ends-crlf text (c ∷ x) = ends_in_cr-append text carriage_return (line_feed ∷ c ∷ x)
 
 -- the end by a CR that no LF comes after, before a text that is not empty
 goes-cr-on : (text : List ℕ) (ls : List Ended) (last : List ℕ) (c : ℕ) (x : List ℕ) → put_together ls last ≡ c ∷ x → (c == line_feed) ≡ false

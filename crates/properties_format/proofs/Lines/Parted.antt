@@ -3,9 +3,8 @@ use Rattle.std.proofs.Common.{◌≡◌, ℕ, ◌⊎◌, true, false, List, [], 
 use Rattle.properties_format.specs.Text.{line_feed, carriage_return, LineEnd, lf, cr, crlf, line_end_text}
 use Rattle.properties_format.specs.Lines.{Ended, put_together, IsPlain, AreLines, begins_with_lf, ends_in_cr, lines_of}
 use Rattle.properties_format.proofs.Lines.Meets.{lines_of-meets}
-use Rattle.properties_format.proofs.Lines.Plain.{no_lf_first, plain-no_cr}
+use Rattle.properties_format.proofs.Lines.Plain.{no_lf_first, plain-no_cr, ends-behind, ends-lf, ends-crlf, regroup}
 use Rattle.properties_format.proofs.Lines.Steps.{lines_of-line}
-use Rattle.properties_format.proofs.Lines.Append.{ends-behind, ends-lf, ends-crlf, regroup}
 use Rattle.properties_format.proofs.Lines.Cut.{lines_on}
 
 -- the lines, the last of them ended by a CR and an LF

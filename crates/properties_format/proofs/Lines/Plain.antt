@@ -1,5 +1,5 @@
--- Texts without line ends, and what the lines of a text say of its first character.
-use Rattle.std.proofs.Common.{◌≡◌, ℕ, ◌==◌, false, List, [], ◌∷◌, ◌++◌, refl, ap, sym, ◌∙◌}
+-- Texts without line ends, and what the lines of a text say of its first and its last character.
+use Rattle.std.proofs.Common.{◌≡◌, ℕ, ◌==◌, false, List, [], ◌∷◌, ◌++◌, refl, ap, sym, ◌∙◌, suc, ◌+◌, append_assoc, arith}
 use Rattle.std.proofs.lemmas.Bool.{or_parts}
 use Rattle.properties_format.specs.Text.{line_feed, carriage_return, LineEnd, lf, cr, crlf, line_end_text}
 use Rattle.properties_format.specs.Lines.{Ended, put_together, IsPlain, BeginsWithNoLoneLf, AreLines, begins_with_lf, ends_in_cr, without_leading_lf, lines_of}
@@ -71,3 +71,26 @@ pub ends_in_cr-append : (x : List ℕ) (c : ℕ) (y : List ℕ) → ends_in_cr (
 ends_in_cr-append [] c y = refl
 ends_in_cr-append (b ∷ []) c y = refl
 ends_in_cr-append (b ∷ d ∷ x) c y = ends_in_cr-append (d ∷ x) c y
+
+-- a text with a first character ends as it does behind a line end
+pub ends-behind : (text : List ℕ) (by : LineEnd) (c : ℕ) (x : List ℕ) → ends_in_cr (text ++ (line_end_text by ++ c ∷ x)) ≡ ends_in_cr (c ∷ x)
+ends-behind text lf c x = ends_in_cr-append text line_feed (c ∷ x)
+ends-behind text cr c x = ends_in_cr-append text carriage_return (c ∷ x)
+ends-behind text crlf c x = ends_in_cr-append text carriage_return (line_feed ∷ c ∷ x)
+
+-- an LF at the end is no CR
+pub ends-lf : (text : List ℕ) (x : List ℕ) → ends_in_cr (text ++ line_feed ∷ x) ≡ ends_in_cr x
+ends-lf text [] = ends_in_cr-append text line_feed []
+ends-lf text (c ∷ x) = ends_in_cr-append text line_feed (c ∷ x)
+
+pub ends-crlf : (text : List ℕ) (x : List ℕ) → ends_in_cr (text ++ carriage_return ∷ line_feed ∷ x) ≡ ends_in_cr x
+ends-crlf text [] = ends_in_cr-append text carriage_return (line_feed ∷ [])
+ends-crlf text (c ∷ x) = ends_in_cr-append text carriage_return (line_feed ∷ c ∷ x)
+
+-- ---- steps in sums and texts
+
+pub one-more : (n m : ℕ) → n + 1 + m ≡ n + suc m
+one-more n m = omega arith
+
+pub regroup : (text : List ℕ) (by : LineEnd) (whole y : List ℕ) → (text ++ (line_end_text by ++ whole)) ++ y ≡ text ++ (line_end_text by ++ (whole ++ y))
+regroup text by whole y = append_assoc text (line_end_text by ++ whole) y ∙ ap (λ v. text ++ v) (append_assoc (line_end_text by) whole y)
