@@ -2,3 +2,5 @@
 pub mod Encodings
 pub mod Pieces
 pub mod Waiting
+pub mod Lines
+pub mod Groups

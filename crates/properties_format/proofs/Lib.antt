@@ -13,3 +13,6 @@ pub mod Utf8Rows
 pub mod Utf8Sequences
 pub mod Windows1252Table
 pub mod Waiting
+pub mod Lines
+pub mod Groups
+pub mod Logical

@@ -6,3 +6,6 @@ pub mod Surrogates
 pub mod Utf16
 pub mod Encoding
 pub mod Waiting
+pub mod Lines
+pub mod Groups
+pub mod Logical

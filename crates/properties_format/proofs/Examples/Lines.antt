@@ -1,0 +1,53 @@
+-- Worked rows of lines.
+use Rattle.std.proofs.Common.{◌≡◌, ℕ, true, false, List, [], ◌∷◌, ◌++◌, refl}
+use Rattle.std.specs.Prelude.{codes}
+use Rattle.properties_format.specs.Text.{LineEnd, lf, cr, crlf, line_end_text}
+use Rattle.properties_format.specs.Lines.{lines_of, Line, numbered_lines, lines_after, end, more}
+
+abbrev line : ℕ → List ℕ → Line
+line n text = record { number = n; text = text }
+
+-- the numbered lines of a text that ends
+abbrev read : List ℕ → List Line
+read x = numbered_lines (lines_of x) end
+
+of_none : read [] ≡ line 1 [] ∷ []
+of_none = refl
+
+of_space : read (codes " ") ≡ line 1 (codes " ") ∷ []
+of_space = refl
+
+of_space_ended : (t : LineEnd) → read (codes " " ++ line_end_text t) ≡ line 1 (codes " ") ∷ line 2 [] ∷ []
+of_space_ended lf = refl
+of_space_ended cr = refl
+of_space_ended crlf = refl
+
+of_spaces : (t : LineEnd) → read (codes " " ++ (line_end_text t ++ codes " ")) ≡ line 1 (codes " ") ∷ line 2 (codes " ") ∷ []
+of_spaces lf = refl
+of_spaces cr = refl
+of_spaces crlf = refl
+
+of_end : (t : LineEnd) → read (line_end_text t) ≡ line 1 [] ∷ line 2 [] ∷ []
+of_end lf = refl
+of_end cr = refl
+of_end crlf = refl
+
+of_end_space : (t : LineEnd) → read (line_end_text t ++ codes " ") ≡ line 1 [] ∷ line 2 (codes " ") ∷ []
+of_end_space lf = refl
+of_end_space cr = refl
+of_end_space crlf = refl
+
+-- CR CR LF is two line ends, LF CR too
+of_cr_crlf : lines_of (13 ∷ 13 ∷ 10 ∷ []) ≡ record { ended = record { text = []; by = cr } ∷ record { text = []; by = crlf } ∷ []; last = [] }
+of_cr_crlf = refl
+
+of_lf_cr : lines_of (10 ∷ 13 ∷ []) ≡ record { ended = record { text = []; by = lf } ∷ record { text = []; by = cr } ∷ []; last = [] }
+of_lf_cr = refl
+
+-- an LF that comes in a later part is of the end whose CR came before
+of_parts : numbered_lines (lines_of (codes "a=1" ++ (13 ∷ []))) more ++ lines_after 1 true [] (10 ∷ codes "b=2") end ≡ line 1 (codes "a=1") ∷ line 2 (codes "b=2") ∷ []
+of_parts = refl
+
+-- a line that is held goes on
+of_held : lines_after 3 false (codes "ab") (codes "c" ++ (10 ∷ codes "d")) end ≡ line 4 (codes "abc") ∷ line 5 (codes "d") ∷ []
+of_held = refl

@@ -1,0 +1,8 @@
+pub mod Append
+pub mod Cut
+pub mod Meets
+pub mod Numbers
+pub mod Only
+pub mod Parted
+pub mod Plain
+pub mod Steps
