@@ -1,1 +1,3 @@
+pub mod Escapes
+pub mod Split
 pub mod Text

@@ -1,0 +1,3 @@
+-- Worked rows of each page, computed.
+pub mod Escapes
+pub mod Split
