@@ -1,1 +1,4 @@
 pub mod Examples
+pub mod Split
+pub mod SplitBlanks
+pub mod SplitKeys
