@@ -1,3 +1,5 @@
+pub mod Escapes
+pub mod EscapesFirst
 pub mod Examples
 pub mod Split
 pub mod SplitBlanks
