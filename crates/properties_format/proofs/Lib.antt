@@ -1,6 +1,9 @@
 pub mod Escapes
 pub mod EscapesFirst
+pub mod EscapesLaws
+pub mod EscapesScalars
 pub mod Examples
 pub mod Split
 pub mod SplitBlanks
 pub mod SplitKeys
+pub mod SplitLaws

@@ -1,0 +1,1 @@
+-- Lines of which the key is empty, and what else is told of a split line.
