@@ -1,4 +1,5 @@
 pub mod Escapes
+pub mod EscapesDigits
 pub mod EscapesFirst
 pub mod EscapesLaws
 pub mod EscapesScalars
