@@ -1,9 +1,9 @@
 -- The digits that write a UTF-16 unit, and what they are read as.
-use Rattle.std.proofs.Common.{◌≡◌, ℕ, ◌+◌, ◌-◌, ◌*◌, ◌/◌, ◌%◌, ◌<◌, ◌≤◌, true, false, List, ◌∷◌, ◌++◌, ap, sym, ◌∙◌, subst, ap₂, arith}
+use Rattle.std.proofs.Common.{◌≡◌, ◌==◌, ℕ, ◌+◌, ◌-◌, ◌*◌, ◌/◌, ◌%◌, ◌<◌, ◌≤◌, true, false, List, ◌∷◌, ◌++◌, ap, sym, ◌∙◌, subst, ap₂, arith}
 use Rattle.std.specs.Char.{digit_value, digit_char, is_digit}
 use Rattle.std.proofs.lemmas.Bool.{and_from, le-leb}
 use Rattle.std.proofs.lemmas.Bool.Decides.{nat_tests}
-use Rattle.properties_format.specs.Text.{backslash}
+use Rattle.properties_format.specs.Text.{backslash, is_blank, is_separator}
 use Rattle.properties_format.specs.Escapes.{letter_u, is_hexadecimal, hexadecimal_value, Four, four_text, are_hexadecimal, code_unit, is_high, is_low, is_surrogate, paired, in_front, meaning_of}
 use Rattle.properties_format.proofs.EscapesLaws.{meaning_of-unicode, meaning_of-surrogates}
 
@@ -19,6 +19,19 @@ is_hexadecimal-char n h = grind (arith, nat_tests)
 
 pub hexadecimal_value-char : (n : ℕ) → n < 16 → hexadecimal_value (digit_char n) ≡ n
 hexadecimal_value-char n h = grind (arith, nat_tests)
+
+-- a hexadecimal digit is no backslash, no blank and no separator
+pub hexadecimal-plain : (c : ℕ) → is_hexadecimal c ≡ true → ((c == backslash) ≡ false) × (is_blank c ≡ false) × (is_separator c ≡ false)
+hexadecimal-plain c h = (not_backslash c h, not_blank c h, not_separator c h)
+  where
+    not_backslash : (c : ℕ) → is_hexadecimal c ≡ true → (c == backslash) ≡ false
+    not_backslash c h = grind (arith, nat_tests)
+
+    not_blank : (c : ℕ) → is_hexadecimal c ≡ true → is_blank c ≡ false
+    not_blank c h = grind (arith, nat_tests)
+
+    not_separator : (c : ℕ) → is_hexadecimal c ≡ true → is_separator c ≡ false
+    not_separator c h = grind (arith, nat_tests)
 
 -- the four lowercase digits of a unit
 abbrev pub unit_digits : ℕ → Four

@@ -1,9 +1,9 @@
 -- How the meaning of a text goes on from what stands in front of it.
-use Rattle.std.proofs.Common.{◌≡◌, ℕ, ◌==◌, ◌<◌, length, true, false, List, [], ◌∷◌, ◌++◌, map, None, refl, ap, ◌∙◌, arith}
+use Rattle.std.proofs.Common.{◌≡◌, ℕ, ◌==◌, ◌<◌, length, true, false, List, [], ◌∷◌, ◌++◌, map, None, refl, ap, ◌∙◌, append-nil, arith}
 use Rattle.properties_format.specs.Text.{backslash}
 use Rattle.properties_format.specs.Escapes.{letter_u, escaped_character, Four, four_text, are_hexadecimal, code_unit, is_high, is_low, is_surrogate, paired, Spelling, itself, escaped, unicode, surrogates, last, spelt_character, IsSpelling, spelt_before, AreSpellings, not_enough_digits, not_hex, invalid_character, malformed_by, means, breaks, with_low, behind_u, in_front, meaning_of}
 use Rattle.properties_format.proofs.EscapesFirst.{spelling_of-none}
-use Rattle.properties_format.proofs.Escapes.{text_in_front, meaning_of-empty, meaning_of-spelling, meaning_of-spellings, meaning_of-fault}
+use Rattle.properties_format.proofs.Escapes.{text_in_front, text_in_front-means, meaning_of-empty, meaning_of-spelling, meaning_of-spellings, meaning_of-fault}
 
 -- ---- a spelling in front
 
@@ -69,6 +69,14 @@ AreWhole-spellings (p ∷ ps) rest h = (IsWhole-spelling p (spelt_before ps rest
 -- whole spellings in front of any text
 pub meaning_of-whole : (ps : List Spelling) (rest : List ℕ) → AreWhole ps → meaning_of (spelt_before ps rest) ≡ text_in_front (map spelt_character ps) (meaning_of rest)
 meaning_of-whole ps rest h = meaning_of-spellings ps rest (AreWhole-spellings ps rest h)
+
+-- whole spellings alone
+pub meaning_of-all : (ps : List Spelling) → AreWhole ps → meaning_of (spelt_before ps []) ≡ means (map spelt_character ps)
+meaning_of-all ps h =
+    meaning_of-whole ps [] h
+    ∙ ap (text_in_front (map spelt_character ps)) meaning_of-empty
+    ∙ text_in_front-means (map spelt_character ps) []
+    ∙ ap means (append-nil (map spelt_character ps))
 
 -- ---- a `\u` that begins no spelling
 

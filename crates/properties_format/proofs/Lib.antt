@@ -3,6 +3,7 @@ pub mod EscapesDigits
 pub mod EscapesFirst
 pub mod EscapesLaws
 pub mod EscapesScalars
+pub mod EscapesTrimmed
 pub mod Examples
 pub mod Split
 pub mod SplitBlanks
