@@ -1,7 +1,7 @@
 -- How the meaning of a text goes on from what stands in front of it.
 use Rattle.std.proofs.Common.{◌≡◌, ℕ, ◌==◌, ◌<◌, length, true, false, List, [], ◌∷◌, ◌++◌, map, None, refl, ap, ◌∙◌, append-nil, arith}
 use Rattle.properties_format.specs.Text.{backslash}
-use Rattle.properties_format.specs.Escapes.{letter_u, escaped_character, Four, four_text, are_hexadecimal, code_unit, is_high, is_low, is_surrogate, paired, Spelling, itself, escaped, unicode, surrogates, last, spelt_character, IsSpelling, spelt_before, AreSpellings, not_enough_digits, not_hex, invalid_character, malformed_by, means, breaks, with_low, behind_u, in_front, meaning_of}
+use Rattle.properties_format.specs.Escapes.{letter_u, escaped_character, Four, four_text, are_hexadecimal, code_unit, is_high, is_low, is_surrogate, pair_character, Spelling, itself, escaped, unicode, surrogates, last, spelt_character, IsSpelling, spelt_before, AreSpellings, not_enough_digits, not_hex, invalid_character, malformed_by, means, breaks, with_low, behind_u, in_front, meaning_of}
 use Rattle.properties_format.proofs.EscapesFirst.{spelling_of-none}
 use Rattle.properties_format.proofs.Escapes.{text_in_front, text_in_front-means, meaning_of-empty, meaning_of-spelling, meaning_of-spellings, meaning_of-fault}
 
@@ -19,7 +19,7 @@ meaning_of-unicode d rest h k = meaning_of-spelling (unicode d) rest (h, k)
 
 pub meaning_of-surrogates : (high low : Four) (rest : List ℕ) → are_hexadecimal high ≡ true → is_high (code_unit high) ≡ true
     → are_hexadecimal low ≡ true → is_low (code_unit low) ≡ true
-    → meaning_of (backslash ∷ letter_u ∷ four_text high ++ (backslash ∷ letter_u ∷ four_text low ++ rest)) ≡ in_front (paired (code_unit high) (code_unit low)) (meaning_of rest)
+    → meaning_of (backslash ∷ letter_u ∷ four_text high ++ (backslash ∷ letter_u ∷ four_text low ++ rest)) ≡ in_front (pair_character (code_unit high) (code_unit low)) (meaning_of rest)
 meaning_of-surrogates high low rest h k l m = meaning_of-spelling (surrogates high low) rest (h, k, l, m)
 
 -- a backslash that stands last

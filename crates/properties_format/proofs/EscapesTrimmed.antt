@@ -3,7 +3,7 @@ use Rattle.std.proofs.Common.{◌≡◌, ◌&&◌, ℕ, true, false, if◌then�
 use Rattle.std.proofs.lemmas.Bool.{cases_Bool, both_ways, and_parts}
 use Rattle.properties_format.specs.Text.{is_blank}
 use Rattle.properties_format.specs.Split.{begins, ends, past_blanks, before_blanks, unless_last_blank, trimmed}
-use Rattle.properties_format.specs.Escapes.{escaped_character, is_hexadecimal, Four, are_hexadecimal, code_unit, paired, Spelling, itself, escaped, unicode, surrogates, last, spelling_text, spelt_character, spelt_before, means, meaning_of}
+use Rattle.properties_format.specs.Escapes.{escaped_character, is_hexadecimal, Four, are_hexadecimal, code_unit, pair_character, Spelling, itself, escaped, unicode, surrogates, last, spelling_text, spelt_character, spelt_before, means, meaning_of}
 use Rattle.properties_format.proofs.SplitBlanks.{past_blanks-full}
 use Rattle.properties_format.proofs.Escapes.{spelling_tail}
 use Rattle.properties_format.proofs.EscapesDigits.{hexadecimal-plain}
@@ -172,5 +172,5 @@ fourth-full d h =
 pub KeepsBlanks-unicode : (d : Four) → are_hexadecimal d ≡ true → is_blank (code_unit d) ≡ false → KeepsBlanks (unicode d)
 KeepsBlanks-unicode d h f = record { at_front = sym f; at_end = fourth-full d h ∙ sym f }
 
-pub KeepsBlanks-surrogates : (high low : Four) → are_hexadecimal low ≡ true → is_blank (paired (code_unit high) (code_unit low)) ≡ false → KeepsBlanks (surrogates high low)
+pub KeepsBlanks-surrogates : (high low : Four) → are_hexadecimal low ≡ true → is_blank (pair_character (code_unit high) (code_unit low)) ≡ false → KeepsBlanks (surrogates high low)
 KeepsBlanks-surrogates high low h f = record { at_front = sym f; at_end = fourth-full low h ∙ sym f }
