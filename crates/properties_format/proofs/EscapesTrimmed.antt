@@ -14,9 +14,10 @@ pub record KeepsBlanks (p : Spelling) : Type 0 where
   pub at_front : begins is_blank (spelling_text p) ≡ is_blank (spelt_character p)
   pub at_end : ends is_blank (spelling_text p) ≡ is_blank (spelt_character p)
 
-abbrev pub KeepBlanks : List Spelling → Type 0
-KeepBlanks [] = Unit {0}
-KeepBlanks (p ∷ ps) = KeepsBlanks p × KeepBlanks ps
+-- each of them is such
+abbrev pub AllKeepBlanks : List Spelling → Type 0
+AllKeepBlanks [] = Unit {0}
+AllKeepBlanks (p ∷ ps) = KeepsBlanks p × AllKeepBlanks ps
 
 -- the spellings without those of blanks at the front
 abbrev past : List Spelling → List Spelling
@@ -57,7 +58,7 @@ begins-text (unicode d) y = refl
 begins-text (surrogates high low) y = refl
 begins-text last y = refl
 
-past_blanks-text : (ps : List Spelling) → KeepBlanks ps → past_blanks (spelt_before ps []) ≡ spelt_before (past ps) []
+past_blanks-text : (ps : List Spelling) → AllKeepBlanks ps → past_blanks (spelt_before ps []) ≡ spelt_before (past ps) []
 past_blanks-text [] k = refl
 past_blanks-text (p ∷ ps) k = elim (cases_Bool (is_blank (spelt_character p))) [
   | inl b ↦ rw b (rw (blank-text p k.0 b) (rw b (past_blanks-text ps k.1)))
@@ -78,7 +79,7 @@ past-whole (p ∷ ps) h = elim (cases_Bool (is_blank (spelt_character p))) [
   | inr b ↦ rw b h
 ]
 
-past-keep : (ps : List Spelling) → KeepBlanks ps → KeepBlanks (past ps)
+past-keep : (ps : List Spelling) → AllKeepBlanks ps → AllKeepBlanks (past ps)
 past-keep [] h = tt
 past-keep (p ∷ ps) h = elim (cases_Bool (is_blank (spelt_character p))) [
   | inl b ↦ rw b (past-keep ps h.1)
@@ -118,7 +119,7 @@ blank-front p (q ∷ qs) k b = go (spelling_text q ++ spelt_before qs []) (text-
     go : (x : List ℕ) → (c : ℕ) × (cs : List ℕ) × (x ≡ c ∷ cs) → unless_last_blank (spelt_character p) x ≡ spelling_text p ++ x
     go x (c, cs, e) = rw (e, blank-text p k b) refl
 
-before_blanks-text : (ps : List Spelling) → KeepBlanks ps → before_blanks (spelt_before ps []) ≡ spelt_before (before ps) []
+before_blanks-text : (ps : List Spelling) → AllKeepBlanks ps → before_blanks (spelt_before ps []) ≡ spelt_before (before ps) []
 before_blanks-text [] k = refl
 before_blanks-text (p ∷ ps) k = elim (cases_Bool (is_blank (spelt_character p))) [
   | inl b ↦ ap (λ t. before_blanks (t ++ spelt_before ps [])) (blank-text p k.0 b)
@@ -149,7 +150,7 @@ before-whole (p ∷ ps) h = unless-whole p (before ps) (h.0, before-whole ps h.1
 
 -- ---- at both ends
 
-pub meaning_of-trimmed : (ps : List Spelling) → AreWhole ps → KeepBlanks ps → meaning_of (trimmed (spelt_before ps [])) ≡ means (trimmed (map spelt_character ps))
+pub meaning_of-trimmed : (ps : List Spelling) → AreWhole ps → AllKeepBlanks ps → meaning_of (trimmed (spelt_before ps [])) ≡ means (trimmed (map spelt_character ps))
 meaning_of-trimmed ps h k =
     let e : trimmed (spelt_before ps []) ≡ spelt_before (before (past ps)) [] = ap before_blanks (past_blanks-text ps k) ∙ before_blanks-text (past ps) (past-keep ps k) in
     let f : trimmed (map spelt_character ps) ≡ map spelt_character (before (past ps)) = ap before_blanks (past_blanks-characters ps) ∙ before_blanks-characters (past ps) in
@@ -174,3 +175,11 @@ KeepsBlanks-unicode d h f = record { at_front = sym f; at_end = fourth-full d h 
 
 pub KeepsBlanks-surrogates : (high low : Four) → are_hexadecimal low ≡ true → is_blank (pair_character (code_unit high) (code_unit low)) ≡ false → KeepsBlanks (surrogates high low)
 KeepsBlanks-surrogates high low h f = record { at_front = sym f; at_end = fourth-full low h ∙ sym f }
+
+pub AllKeepBlanks-append : (ps qs : List Spelling) → AllKeepBlanks ps → AllKeepBlanks qs → AllKeepBlanks (ps ++ qs)
+AllKeepBlanks-append [] qs h k = k
+AllKeepBlanks-append (p ∷ ps) qs h k = (h.0, AllKeepBlanks-append ps qs h.1 k)
+
+pub AllKeepBlanks-itself : (x : List ℕ) → AllKeepBlanks (map itself x)
+AllKeepBlanks-itself [] = tt
+AllKeepBlanks-itself (c ∷ x) = (KeepsBlanks-itself c, AllKeepBlanks-itself x)

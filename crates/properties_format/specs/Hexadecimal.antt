@@ -17,6 +17,7 @@ pub record Four : Type 0 where
   pub third : ℕ
   pub fourth : ℕ
 
+-- their text
 abbrev pub four_text : Four → List ℕ
 four_text d = d.first ∷ d.second ∷ d.third ∷ d.fourth ∷ []
 
