@@ -4,3 +4,5 @@ pub mod Pieces
 pub mod Waiting
 pub mod Lines
 pub mod Groups
+pub mod Escapes
+pub mod Split

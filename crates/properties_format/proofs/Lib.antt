@@ -16,3 +16,13 @@ pub mod Waiting
 pub mod Lines
 pub mod Groups
 pub mod Logical
+pub mod Escapes
+pub mod EscapesDigits
+pub mod EscapesFirst
+pub mod EscapesLaws
+pub mod EscapesScalars
+pub mod EscapesTrimmed
+pub mod Split
+pub mod SplitBlanks
+pub mod SplitKeys
+pub mod SplitLaws
