@@ -173,3 +173,6 @@ impl<R: CountedRead> Iterator for NaturalLines<R> {
         self.cutter.next_line(&mut self.reader)
     }
 }
+
+#[cfg(test)]
+mod tests;

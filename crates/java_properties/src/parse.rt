@@ -53,3 +53,6 @@ fn key_length(text: &[u8]) -> usize
     }
     text.len()
 }
+
+#[cfg(test)]
+mod tests;

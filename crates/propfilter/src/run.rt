@@ -52,3 +52,6 @@ fn send<E: CountedWrite>(errors: &mut E, bytes: &[u8]) {
         }
     }
 }
+
+#[cfg(test)]
+mod tests;

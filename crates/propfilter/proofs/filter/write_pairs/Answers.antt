@@ -9,10 +9,10 @@ use Rattle.propfilter.proofs.filter.write_pairs.Goals.{in-KVPair+in_ok-write-in-
 
 pub loop-item-init : goal.loop-item-init
 loop-item-init g c = record {
-      pumped = pumped-none g.R.Read.remaining g.R.CountedRead.at_end g.R.CountedRead.faults g.W.Write.contents g.W.CountedWrite.faults g.W.CountedWrite.is_flushed (iter_reader c.args.items.now) (writer_sink c.args.lines.now) (iter_progress c.args.items.now) c.requires;
-      same_reader = refl;
-      same_sink = refl;
-    }
+  pumped = pumped-none g.R.Read.remaining g.R.CountedRead.at_end g.R.CountedRead.faults g.W.Write.contents g.W.CountedWrite.faults g.W.CountedWrite.is_flushed (iter_reader c.args.items.now) (writer_sink c.args.lines.now) (iter_progress c.args.items.now) c.requires;
+  same_reader = refl;
+  same_sink = refl;
+}
 
 pub returns-in_err-write-in-Ok-clause-leaves : goal.returns-in_err-write-in-Ok-clause-leaves
 returns-in_err-write-in-Ok-clause-leaves g c =

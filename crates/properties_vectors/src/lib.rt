@@ -1,0 +1,10 @@
+//! Rows of examples across the public surface, table by table, each table one test.
+//!
+//! The expected values come from the rules of the format, and from the tests of the Rust crate that this is a
+//! port of.
+#![tactic(auto)]
+
+#[cfg(test)]
+mod reading;
+#[cfg(test)]
+mod writing;

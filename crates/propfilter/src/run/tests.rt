@@ -1,0 +1,73 @@
+// Runs of the program over texts.
+
+use super::*;
+use counted_io::Counted;
+use std::io::{self, ErrorKind, Read};
+use std::test::Fail;
+
+// The status, the output and the errors.
+fn filtered(
+    alloc: Global,
+    words: &[String],
+    mut input: impl CountedRead,
+) -> (u8, Vec<u8>, Vec<u8>) {
+    let mut output = Counted::new(Vec::new(alloc));
+    let mut errors = Counted::new(Vec::new(alloc));
+    let status = run(alloc, words, &mut input, &mut output, &mut errors);
+    (status, output.into_inner(), errors.into_inner())
+}
+
+#[test]
+fn prints_the_pairs(rt: HostRuntime) {
+    let rows: [(&[u8], &[u8]); 5] = [
+        (b"b = 2\na", b"b=2\na=\n"),
+        (b"# x\nb = 2\na", b"b=2\na=\n"),
+        (b" a = b ", b"a=b\\ \n"),
+        (b"a=1\r\n!c\nb:2", b"a=1\nb=2\n"),
+        (b"", b""),
+    ];
+    for (input, wanted) in rows {
+        let (status, output, errors) = filtered(rt.alloc(), &[], input);
+        assert_eq!(rt; status, 0);
+        assert_eq!(rt; output.as_slice(), wanted);
+        assert_eq!(rt; errors.as_slice(), b"".as_slice());
+    }
+}
+
+#[test]
+fn refuses_words(rt: HostRuntime) -> Result<(), Fail> {
+    let words = vec![in rt.alloc(); String::from_str(rt.alloc(), "x")?]?;
+    let (status, output, errors) = filtered(rt.alloc(), words.as_slice(), b"a=1".as_slice());
+    assert_eq!(rt; status, 2);
+    assert_eq!(rt; output.as_slice(), b"".as_slice());
+    let usage = b"usage: propfilter [windows-1252|utf-8|utf-16le|utf-16be [ascii]]\n".as_slice();
+    assert_eq!(rt; errors.as_slice(), usage);
+    Ok(())
+}
+
+// Gives one text, and then fails.
+#[derive(Drop)]
+struct Broken<'a> {
+    text: &'a [u8],
+}
+
+impl Read for Broken<'_> {
+    fn read(&mut self, buf: &mut [u8]) -> io::Result<usize> {
+        if self.text.is_empty() {
+            return Err(io::Error::from(ErrorKind::Other));
+        }
+        self.text.read(buf)
+    }
+}
+
+#[test]
+fn tells_of_a_fault(rt: HostRuntime) {
+    let input = Counted::new(Broken { text: b"a=1\nb=2" });
+    let (status, output, errors) = filtered(rt.alloc(), &[], input);
+    assert_eq!(rt; status, 1);
+    assert_eq!(rt; output.as_slice(), b"a=1\n".as_slice());
+    assert_eq!(rt;
+        errors.as_slice(),
+        b"I/O error (line_number = 2)\n".as_slice()
+    );
+}
