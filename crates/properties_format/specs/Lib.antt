@@ -5,3 +5,8 @@ pub mod Settings
 pub mod Printing
 pub mod Writing
 pub mod Maps
+pub mod Pieces
+pub mod Windows1252
+pub mod Utf8
+pub mod Utf16
+pub mod Encoding

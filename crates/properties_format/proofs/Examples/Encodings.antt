@@ -1,0 +1,99 @@
+-- What some bytes are decoded to, and how some characters are encoded.
+use Rattle.std.proofs.Common.{◌≡◌, ℕ, List, [], ◌∷◌, refl, Some, None}
+use Rattle.std.specs.Char.{encode_utf8}
+use Rattle.properties_format.specs.Encoding.{windows_1252, utf_8, utf_16le, utf_16be, decoded_of, pieces_of, encoded, output_encoding}
+
+-- windows-1252
+table-row : decoded_of windows_1252 (0x80 ∷ 0x81 ∷ 0x9f ∷ 0xe9 ∷ []) ≡ 0x20ac ∷ 0x81 ∷ 0x178 ∷ 0xe9 ∷ []
+unfolding pieces_of
+table-row = refl
+
+-- UTF-8: a sequence of four bytes, and its beginning
+four-bytes : decoded_of utf_8 (0xf0 ∷ 0x9f ∷ 0x90 ∷ 0x9e ∷ []) ≡ 0x1_f41e ∷ []
+unfolding pieces_of
+four-bytes = refl
+
+cut-sequence : decoded_of utf_8 (0xf0 ∷ 0x9f ∷ 0x90 ∷ []) ≡ 0xfffd ∷ []
+unfolding pieces_of
+cut-sequence = refl
+
+-- a surrogate is no character
+surrogate-bytes : decoded_of utf_8 (0xed ∷ 0xa0 ∷ 0x80 ∷ []) ≡ 0xfffd ∷ 0xfffd ∷ 0xfffd ∷ []
+unfolding pieces_of
+surrogate-bytes = refl
+
+broken-second : decoded_of utf_8 (0xf0 ∷ 0x80 ∷ 0x41 ∷ []) ≡ 0xfffd ∷ 0xfffd ∷ 0x41 ∷ []
+unfolding pieces_of
+broken-second = refl
+
+overlong : decoded_of utf_8 (0xc0 ∷ 0xaf ∷ []) ≡ 0xfffd ∷ 0xfffd ∷ []
+unfolding pieces_of
+overlong = refl
+
+read-afresh : decoded_of utf_8 (0xe3 ∷ 0x81 ∷ 0xe3 ∷ 0x81 ∷ 0x82 ∷ []) ≡ 0xfffd ∷ 0x3042 ∷ []
+unfolding pieces_of
+read-afresh = refl
+
+-- UTF-16: pairs, and surrogates that have no partner
+pair-of-units : decoded_of utf_16be (0xd8 ∷ 0x3d ∷ 0xdc ∷ 0x1e ∷ []) ≡ 0x1_f41e ∷ []
+unfolding pieces_of
+pair-of-units = refl
+
+low-unit-alone : decoded_of utf_16be (0xdc ∷ 0x1e ∷ 0x00 ∷ 0x41 ∷ []) ≡ 0xfffd ∷ 0x41 ∷ []
+unfolding pieces_of
+low-unit-alone = refl
+
+high-unit-alone : decoded_of utf_16be (0xd8 ∷ 0x3d ∷ 0xd8 ∷ 0x3d ∷ 0xdc ∷ 0x1e ∷ []) ≡ 0xfffd ∷ 0x1_f41e ∷ []
+unfolding pieces_of
+high-unit-alone = refl
+
+odd-byte : decoded_of utf_16le (0x41 ∷ []) ≡ 0xfffd ∷ []
+unfolding pieces_of
+odd-byte = refl
+
+high-unit-and-byte : decoded_of utf_16le (0x3d ∷ 0xd8 ∷ 0x61 ∷ []) ≡ 0xfffd ∷ []
+unfolding pieces_of
+high-unit-and-byte = refl
+
+aligned-unit : decoded_of utf_16le (0x61 ∷ 0x00 ∷ 0x3d ∷ 0x00 ∷ 0x0a ∷ 0x0a ∷ []) ≡ 0x61 ∷ 0x3d ∷ 0x0a0a ∷ []
+unfolding pieces_of
+aligned-unit = refl
+
+-- marks
+second-mark : decoded_of utf_8 (0xef ∷ 0xbb ∷ 0xbf ∷ 0xef ∷ 0xbb ∷ 0xbf ∷ 0x61 ∷ []) ≡ 0xfeff ∷ 0x61 ∷ []
+unfolding pieces_of
+second-mark = refl
+
+mark-of-utf_8 : decoded_of utf_16le (0xef ∷ 0xbb ∷ 0xbf ∷ 0x61 ∷ []) ≡ 0x61 ∷ []
+unfolding pieces_of
+mark-of-utf_8 = refl
+
+mark-of-utf_16le : decoded_of utf_8 (0xff ∷ 0xfe ∷ 0x61 ∷ 0x00 ∷ []) ≡ 0x61 ∷ []
+unfolding pieces_of
+mark-of-utf_16le = refl
+
+mark-of-utf_16be : decoded_of windows_1252 (0xfe ∷ 0xff ∷ 0x00 ∷ 0x61 ∷ []) ≡ 0x61 ∷ []
+unfolding pieces_of
+mark-of-utf_16be = refl
+
+lone-mark-byte : decoded_of utf_8 (0xfe ∷ []) ≡ 0xfffd ∷ []
+unfolding pieces_of
+lone-mark-byte = refl
+
+cut-mark : decoded_of windows_1252 (0xef ∷ 0xbb ∷ []) ≡ 0xef ∷ 0xbb ∷ []
+unfolding pieces_of
+cut-mark = refl
+
+-- output
+euro : encoded windows_1252 0x20ac ≡ Some (0x80 ∷ [])
+euro = refl
+
+no-byte : encoded windows_1252 0x80 ≡ None
+no-byte = refl
+
+no-byte-either : encoded windows_1252 0x1_f41e ≡ None
+no-byte-either = refl
+
+e-acute : encoded utf_16le 0xe9 ≡ Some (0xc3 ∷ 0xa9 ∷ [])
+unfolding encode_utf8
+e-acute = refl

@@ -1,0 +1,109 @@
+-- The four encodings: which one a text is in, the pieces of its bytes, and what a writer's encoding can say.
+-- Source: WHATWG Encoding Standard, sections 4.3 (output encodings), 6 (byte order marks) and 8 to 14 (the decoders).
+use Rattle.std.specs.Prelude.{◌≡◌, ℕ, zero, suc, ◌==◌, ◌&&◌, ◌||◌, Bool, true, false, if◌then◌else◌, List, [], ◌∷◌, ◌++◌, length, drop, Option, Some, None, encode_utf8}
+use Rattle.properties_format.specs.Pieces.{Piece, piece, characters}
+use Rattle.properties_format.specs.Windows1252.{windows_1252_character, windows_1252_byte, IsWindows1252Piece}
+use Rattle.properties_format.specs.Utf8.{IsUtf8Piece, first_utf_8_piece}
+use Rattle.properties_format.specs.Utf16.{low_first, high_first, IsUtf16Piece, first_utf_16_piece}
+pub use Rattle.properties_format.specs.Pieces.{Piece, characters}
+
+pub data Encoding : Type 0 where
+  windows_1252 : Encoding
+  utf_8 : Encoding
+  utf_16le : Encoding
+  utf_16be : Encoding
+
+-- ---- What a writer writes.
+
+-- the encoding in which a writer writes: a UTF-16 encoding is written as UTF-8
+abbrev pub output_encoding : Encoding → Encoding
+output_encoding windows_1252 = windows_1252
+output_encoding utf_8 = utf_8
+output_encoding utf_16le = utf_8
+output_encoding utf_16be = utf_8
+
+-- one byte, if there is one
+abbrev pub one_byte : Option ℕ → Option (List ℕ)
+one_byte None = None
+one_byte (Some b) = Some (b ∷ [])
+
+-- the bytes of a character in the output encoding, if it can be encoded
+abbrev pub encoded : Encoding → ℕ → Option (List ℕ)
+encoded windows_1252 c = one_byte (windows_1252_byte c)
+encoded utf_8 c = Some (encode_utf8 c)
+encoded utf_16le c = Some (encode_utf8 c)
+encoded utf_16be c = Some (encode_utf8 c)
+
+-- ---- Marks.
+
+-- the byte order marks
+abbrev pub utf_8_mark : List ℕ
+utf_8_mark = 0xef ∷ 0xbb ∷ 0xbf ∷ []
+
+abbrev pub utf_16be_mark : List ℕ
+utf_16be_mark = 0xfe ∷ 0xff ∷ []
+
+abbrev pub utf_16le_mark : List ℕ
+utf_16le_mark = 0xff ∷ 0xfe ∷ []
+
+-- the list begins with these numbers
+abbrev pub begins_with : List ℕ → List ℕ → Bool
+begins_with [] d = true
+begins_with (m ∷ ms) [] = false
+begins_with (m ∷ ms) (b ∷ d) = m == b && begins_with ms d
+
+-- the bytes begin like a mark
+abbrev pub begins_like_mark : List ℕ → Bool
+begins_like_mark b = begins_with utf_8_mark b || (begins_with utf_16be_mark b || begins_with utf_16le_mark b)
+
+-- an encoding in force, and the bytes that are in it
+pub record Marked : Type 0 where
+  pub encoding : Encoding
+  pub body : List ℕ
+
+-- a mark at the front says the encoding and is dropped; without one it is the encoding asked for, and all bytes
+abbrev pub mark : Encoding → List ℕ → Marked
+mark e b =
+    if begins_with utf_8_mark b then record { encoding = utf_8; body = drop 3 b }
+    else (if begins_with utf_16be_mark b then record { encoding = utf_16be; body = drop 2 b }
+    else (if begins_with utf_16le_mark b then record { encoding = utf_16le; body = drop 2 b }
+    else record { encoding = e; body = b }))
+
+-- ---- Pieces.
+
+-- the piece stands before the rest
+abbrev pub IsPiece : Encoding → Piece → List ℕ → Type 0
+IsPiece windows_1252 p rest = IsWindows1252Piece p
+IsPiece utf_8 p rest = IsUtf8Piece p rest
+IsPiece utf_16le p rest = IsUtf16Piece low_first p rest
+IsPiece utf_16be p rest = IsUtf16Piece high_first p rest
+
+-- the bytes are those of these pieces in order, each a piece before what is behind it
+abbrev pub IsPieces : Encoding → List ℕ → List Piece → Type 0
+IsPieces e d [] = d ≡ []
+IsPieces e d (p ∷ ps) = (rest : List ℕ) × (d ≡ p.bytes ++ rest) × IsPiece e p rest × IsPieces e rest ps
+
+-- the bytes are decoded to this text: the characters of the pieces of what is behind the mark
+abbrev pub IsDecoded : Encoding → List ℕ → List ℕ → Type 0
+IsDecoded e b x = (ps : List Piece) × IsPieces (mark e b).encoding (mark e b).body ps × (x ≡ characters ps)
+
+-- ---- How it is read.
+
+-- the first piece of a first byte and those behind it
+abbrev pub first_piece : Encoding → ℕ → List ℕ → Piece
+first_piece windows_1252 b d = piece (b ∷ []) (windows_1252_character b)
+first_piece utf_8 b d = first_utf_8_piece b d
+first_piece utf_16le b d = first_utf_16_piece low_first b d
+first_piece utf_16be b d = first_utf_16_piece high_first b d
+
+-- the pieces, at most so many
+abbrev pub pieces_within : Encoding → ℕ → List ℕ → List Piece
+pieces_within e n [] = []
+pieces_within e zero (b ∷ d) = []
+pieces_within e (suc n) (b ∷ d) = let p = first_piece e b d in p ∷ pieces_within e n (drop (length p.bytes) (b ∷ d))
+
+unfoldable pub pieces_of : Encoding → List ℕ → List Piece
+pieces_of e d = pieces_within e (length d) d
+
+abbrev pub decoded_of : Encoding → List ℕ → List ℕ
+decoded_of e b = characters (pieces_of (mark e b).encoding (mark e b).body)

@@ -1,0 +1,14 @@
+-- The pieces of a decoded text: bytes, and the one character that they stand for.
+use Rattle.std.specs.Prelude.{ℕ, List, [], ◌∷◌}
+
+pub record Piece : Type 0 where
+  pub bytes : List ℕ
+  pub character : ℕ
+
+abbrev pub piece : List ℕ → ℕ → Piece
+piece bytes character = record { bytes = bytes; character = character }
+
+-- the characters of the pieces, in order
+abbrev pub characters : List Piece → List ℕ
+characters [] = []
+characters (p ∷ ps) = p.character ∷ characters ps

@@ -1,0 +1,54 @@
+-- UTF-16, in either order of bytes: units of two bytes, surrogates, and what stands for unpaired ones.
+-- Source: The Unicode Standard, section 3.8 (surrogates) and D91 (UTF-16); WHATWG Encoding Standard, section 14.2.
+use Rattle.std.specs.Prelude.{◌≡◌, ℕ, ◌+◌, ◌-◌, ◌*◌, ◌&&◌, Bool, true, false, nat_lt, nat_le, if◌then◌else◌, List, [], ◌∷◌}
+use Rattle.properties_format.specs.Pieces.{Piece, piece}
+use Rattle.properties_format.specs.Text.{replacement}
+
+-- the unit of two bytes, the low one first or the high one first
+abbrev pub low_first : ℕ → ℕ → ℕ
+low_first a b = b * 0x100 + a
+
+abbrev pub high_first : ℕ → ℕ → ℕ
+high_first a b = a * 0x100 + b
+
+-- a high surrogate, and a low one
+abbrev pub is_high : ℕ → Bool
+is_high u = nat_le 0xd800 u && nat_lt u 0xdc00
+
+abbrev pub is_low : ℕ → Bool
+is_low u = nat_le 0xdc00 u && nat_lt u 0xe000
+
+-- the character of a high surrogate and a low one
+abbrev pub pair_character : ℕ → ℕ → ℕ
+pair_character high low = 0x1_0000 + (high - 0xd800) * 0x400 + (low - 0xdc00)
+
+-- A piece before the rest: a high unit and a low one; a unit that is no surrogate; for U+FFFD a low unit, or a high
+-- unit before a whole unit that isn't low; and at the end, for U+FFFD, a high unit, one byte, or both.
+pub data IsUtf16Piece (unit : ℕ → ℕ → ℕ) (p : Piece) (rest : List ℕ) : Type 0 where
+  pair : (a b c d : ℕ) → p ≡ piece (a ∷ b ∷ c ∷ d ∷ []) (pair_character (unit a b) (unit c d))
+      → is_high (unit a b) ≡ true → is_low (unit c d) ≡ true → IsUtf16Piece unit p rest
+  plain : (a b : ℕ) → p ≡ piece (a ∷ b ∷ []) (unit a b)
+      → is_high (unit a b) ≡ false → is_low (unit a b) ≡ false → IsUtf16Piece unit p rest
+  low_alone : (a b : ℕ) → p ≡ piece (a ∷ b ∷ []) replacement → is_low (unit a b) ≡ true → IsUtf16Piece unit p rest
+  high_alone : (a b c d : ℕ) (more : List ℕ) → p ≡ piece (a ∷ b ∷ []) replacement → is_high (unit a b) ≡ true
+      → rest ≡ c ∷ d ∷ more → is_low (unit c d) ≡ false → IsUtf16Piece unit p rest
+  high_last : (a b : ℕ) → p ≡ piece (a ∷ b ∷ []) replacement → is_high (unit a b) ≡ true → rest ≡ [] → IsUtf16Piece unit p rest
+  byte_last : (a : ℕ) → p ≡ piece (a ∷ []) replacement → rest ≡ [] → IsUtf16Piece unit p rest
+  both_last : (a b c : ℕ) → p ≡ piece (a ∷ b ∷ c ∷ []) replacement → is_high (unit a b) ≡ true → rest ≡ [] → IsUtf16Piece unit p rest
+
+-- ---- How it is read.
+
+-- the piece of a high unit of these bytes and what is behind it
+abbrev pub high_piece : (ℕ → ℕ → ℕ) → ℕ → ℕ → List ℕ → Piece
+high_piece unit a b [] = piece (a ∷ b ∷ []) replacement
+high_piece unit a b (c ∷ []) = piece (a ∷ b ∷ c ∷ []) replacement
+high_piece unit a b (c ∷ d ∷ more) =
+    if is_low (unit c d) then piece (a ∷ b ∷ c ∷ d ∷ []) (pair_character (unit a b) (unit c d))
+    else piece (a ∷ b ∷ []) replacement
+
+-- the first piece of a first byte and those behind it
+abbrev pub first_utf_16_piece : (ℕ → ℕ → ℕ) → ℕ → List ℕ → Piece
+first_utf_16_piece unit a [] = piece (a ∷ []) replacement
+first_utf_16_piece unit a (b ∷ d) =
+    if is_high (unit a b) then high_piece unit a b d
+    else piece (a ∷ b ∷ []) (if is_low (unit a b) then replacement else unit a b)

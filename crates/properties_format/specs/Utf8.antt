@@ -1,0 +1,109 @@
+-- UTF-8: well-formed sequences, and what stands for broken ones.
+-- Source: The Unicode Standard, table 3-7 (well-formed byte sequences) and section 3.9 (U+FFFD for maximal subparts);
+-- WHATWG Encoding Standard, section 8.1.1.
+use Rattle.std.specs.Prelude.{◌≡◌, ℕ, ◌+◌, ◌*◌, ◌%◌, ◌^◌, ◌≤◌, ◌⊎◌, ◌&&◌, Bool, nat_le, if◌then◌else◌, List, [], ◌∷◌, ◌++◌, length, ◌==◌, Option, Some, None}
+use Rattle.properties_format.specs.Pieces.{Piece, piece}
+use Rattle.properties_format.specs.Text.{replacement}
+
+-- the bytes from the least to the most
+pub record Range : Type 0 where
+  pub least : ℕ
+  pub most : ℕ
+
+abbrev pub from_to : ℕ → ℕ → Range
+from_to least most = record { least = least; most = most }
+
+-- what most bytes after the first are
+abbrev pub tail : Range
+tail = from_to 0x80 0xbf
+
+-- the rows of the table: the first byte, and the bytes after it
+abbrev pub rows : List (List Range)
+rows =
+    (from_to 0x00 0x7f ∷ [])
+    ∷ (from_to 0xc2 0xdf ∷ tail ∷ [])
+    ∷ (from_to 0xe0 0xe0 ∷ from_to 0xa0 0xbf ∷ tail ∷ [])
+    ∷ (from_to 0xe1 0xec ∷ tail ∷ tail ∷ [])
+    ∷ (from_to 0xed 0xed ∷ from_to 0x80 0x9f ∷ tail ∷ [])
+    ∷ (from_to 0xee 0xef ∷ tail ∷ tail ∷ [])
+    ∷ (from_to 0xf0 0xf0 ∷ from_to 0x90 0xbf ∷ tail ∷ tail ∷ [])
+    ∷ (from_to 0xf1 0xf3 ∷ tail ∷ tail ∷ tail ∷ [])
+    ∷ (from_to 0xf4 0xf4 ∷ from_to 0x80 0x8f ∷ tail ∷ tail ∷ [])
+    ∷ []
+
+-- the byte is in the range
+abbrev pub IsIn : Range → ℕ → Type 0
+IsIn r b = (r.least ≤ b) × (b ≤ r.most)
+
+-- there are as many bytes as ranges, each byte in its range
+abbrev pub FitsRow : List Range → List ℕ → Type 0
+FitsRow [] [] = Unit {0}
+FitsRow [] (b ∷ bs) = ⊥
+FitsRow (r ∷ rs) [] = ⊥
+FitsRow (r ∷ rs) (b ∷ bs) = IsIn r b × FitsRow rs bs
+
+-- the bytes fit some row of the list
+abbrev pub FitsSome : List (List Range) → List ℕ → Type 0
+FitsSome [] bs = ⊥
+FitsSome (row ∷ more) bs = FitsRow row bs ⊎ FitsSome more bs
+
+-- the bytes are a well-formed sequence
+abbrev pub IsSequence : List ℕ → Type 0
+IsSequence bs = FitsSome rows bs
+
+-- the bytes begin a well-formed sequence, or are a whole one
+abbrev pub Begins : List ℕ → Type 0
+Begins bs = (more : List ℕ) × IsSequence (bs ++ more)
+
+-- the bytes begin a well-formed sequence that is longer
+abbrev pub BeginsLonger : List ℕ → Type 0
+BeginsLonger bs = (next : ℕ) × (more : List ℕ) × IsSequence (bs ++ next ∷ more)
+
+-- the character of a sequence, from its payload bits: 7; 5 and 6; 4, 6 and 6; 3, 6, 6 and 6
+abbrev pub sequence_character : List ℕ → ℕ
+sequence_character [] = 0
+sequence_character (a ∷ []) = a % 2 ^ 7
+sequence_character (a ∷ b ∷ []) = a % 2 ^ 5 * 2 ^ 6 + b % 2 ^ 6
+sequence_character (a ∷ b ∷ c ∷ []) = (a % 2 ^ 4 * 2 ^ 6 + b % 2 ^ 6) * 2 ^ 6 + c % 2 ^ 6
+sequence_character (a ∷ b ∷ c ∷ d ∷ more) = ((a % 2 ^ 3 * 2 ^ 6 + b % 2 ^ 6) * 2 ^ 6 + c % 2 ^ 6) * 2 ^ 6 + d % 2 ^ 6
+
+-- the next byte of the rest, added to these bytes, begins no sequence; or the rest is empty
+abbrev pub NextBreaks : List ℕ → List ℕ → Type 0
+NextBreaks bs [] = Unit {0}
+NextBreaks bs (next ∷ rest) = ¬ Begins (bs ++ next ∷ [])
+
+-- A piece before the rest: a well-formed sequence with its character; or, for U+FFFD, a byte that begins no sequence,
+-- or some bytes that begin a longer sequence which the rest doesn't go on with.
+pub data IsUtf8Piece (p : Piece) (rest : List ℕ) : Type 0 where
+  whole : IsSequence p.bytes → p.character ≡ sequence_character p.bytes → IsUtf8Piece p rest
+  stray : (b : ℕ) → p ≡ piece (b ∷ []) replacement → ¬ Begins (b ∷ []) → IsUtf8Piece p rest
+  broken : (b : ℕ) (bs : List ℕ) → p ≡ piece (b ∷ bs) replacement → BeginsLonger (b ∷ bs) → NextBreaks (b ∷ bs) rest → IsUtf8Piece p rest
+
+-- ---- How it is read: the row of the first byte, and then the bytes that fit its ranges.
+
+abbrev pub is_in : Range → ℕ → Bool
+is_in r b = nat_le r.least b && nat_le b r.most
+
+-- the ranges after the first, in the row for this first byte
+abbrev pub ranges_after : List (List Range) → ℕ → Option (List Range)
+ranges_after [] b = None
+ranges_after ([] ∷ more) b = ranges_after more b
+ranges_after ((r ∷ rs) ∷ more) b = if is_in r b then Some rs else ranges_after more b
+
+-- the bytes at the front that fit these ranges
+abbrev pub fitting : List Range → List ℕ → List ℕ
+fitting [] d = []
+fitting (r ∷ rs) [] = []
+fitting (r ∷ rs) (b ∷ d) = if is_in r b then b ∷ fitting rs d else []
+
+-- the piece of a first byte and the bytes taken after it, where the ranges ask for so many
+abbrev pub utf_8_piece : ℕ → List ℕ → ℕ → Piece
+utf_8_piece b bs asked = piece (b ∷ bs) (if length bs == asked then sequence_character (b ∷ bs) else replacement)
+
+abbrev pub utf_8_piece_by : Option (List Range) → ℕ → List ℕ → Piece
+utf_8_piece_by None b d = piece (b ∷ []) replacement
+utf_8_piece_by (Some rs) b d = utf_8_piece b (fitting rs d) (length rs)
+
+-- the first piece of a first byte and those behind it
+abbrev pub first_utf_8_piece : ℕ → List ℕ → Piece
+first_utf_8_piece b d = utf_8_piece_by (ranges_after rows b) b d
