@@ -1,2 +1,4 @@
 -- Worked rows of the definitions, computed.
 pub mod Encodings
+pub mod Lines
+pub mod Groups

@@ -10,3 +10,5 @@ pub mod Windows1252
 pub mod Utf8
 pub mod Utf16
 pub mod Encoding
+pub mod Lines
+pub mod Groups

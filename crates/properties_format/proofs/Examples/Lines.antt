@@ -1,0 +1,45 @@
+-- Worked rows of lines.
+use Rattle.std.proofs.Common.{◌≡◌, ℕ, List, [], ◌∷◌, ◌++◌, refl}
+use Rattle.std.specs.Prelude.{codes}
+use Rattle.properties_format.specs.Text.{LineEnd, lf, cr, crlf, line_end_text}
+use Rattle.properties_format.specs.Lines.{Ended, Lines, lines_of, line_ends, Line, numbered_lines, Ending, end, fault, more}
+
+abbrev line : ℕ → List ℕ → Line
+line n text = record { number = n; text = text }
+
+-- the numbered lines of a text that ends
+abbrev read : List ℕ → List Line
+read x = numbered_lines (lines_of x) end
+
+of_none : read [] ≡ line 1 [] ∷ []
+of_none = refl
+
+of_space : read (codes " ") ≡ line 1 (codes " ") ∷ []
+of_space = refl
+
+of_space_ended : (t : LineEnd) → read (codes " " ++ line_end_text t) ≡ line 1 (codes " ") ∷ line 2 [] ∷ []
+of_space_ended lf = refl
+of_space_ended cr = refl
+of_space_ended crlf = refl
+
+of_spaces : (t : LineEnd) → read (codes " " ++ (line_end_text t ++ codes " ")) ≡ line 1 (codes " ") ∷ line 2 (codes " ") ∷ []
+of_spaces lf = refl
+of_spaces cr = refl
+of_spaces crlf = refl
+
+of_end : (t : LineEnd) → read (line_end_text t) ≡ line 1 [] ∷ line 2 [] ∷ []
+of_end lf = refl
+of_end cr = refl
+of_end crlf = refl
+
+of_end_space : (t : LineEnd) → read (line_end_text t ++ codes " ") ≡ line 1 [] ∷ line 2 (codes " ") ∷ []
+of_end_space lf = refl
+of_end_space cr = refl
+of_end_space crlf = refl
+
+-- CR CR LF is two line ends, LF CR too
+of_cr_crlf : lines_of (13 ∷ 13 ∷ 10 ∷ []) ≡ record { ended = record { text = []; by = cr } ∷ record { text = []; by = crlf } ∷ []; last = [] }
+of_cr_crlf = refl
+
+of_lf_cr : lines_of (10 ∷ 13 ∷ []) ≡ record { ended = record { text = []; by = lf } ∷ record { text = []; by = cr } ∷ []; last = [] }
+of_lf_cr = refl
