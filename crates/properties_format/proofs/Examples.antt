@@ -2,3 +2,6 @@
 pub mod Encodings
 pub mod Lines
 pub mod Groups
+-- Worked rows of each page, computed.
+pub mod Escapes
+pub mod Split

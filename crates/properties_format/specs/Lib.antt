@@ -1,3 +1,5 @@
+pub mod Escapes
+pub mod Split
 pub mod Text
 pub mod Entries
 pub mod Items
