@@ -1,12 +1,4 @@
-pub mod Escapes
-pub mod Split
 pub mod Text
-pub mod Entries
-pub mod Items
-pub mod Settings
-pub mod Printing
-pub mod Writing
-pub mod Maps
 pub mod Pieces
 pub mod Windows1252
 pub mod Utf8
@@ -14,3 +6,11 @@ pub mod Utf16
 pub mod Encoding
 pub mod Lines
 pub mod Groups
+pub mod Split
+pub mod Escapes
+pub mod Entries
+pub mod Items
+pub mod Settings
+pub mod Printing
+pub mod Writing
+pub mod Maps
