@@ -1,7 +1,10 @@
 -- Worked rows of each page, computed.
--- Worked rows of the definitions, computed.
 pub mod Encodings
 pub mod Escapes
 pub mod Groups
+pub mod Items
 pub mod Lines
+pub mod Maps
+pub mod Settings
 pub mod Split
+pub mod Writing

@@ -1,7 +1,7 @@
 -- The map of an input: each key that a pair of it has, with the value of its last pair.
 -- Source: java.util.Properties of Java SE 7, load (a later pair with a key takes the place of an earlier one).
 use Rattle.std.specs.Prelude.{◌≡◌, ◌≢◌, ℕ, List, [], ◌∷◌, ◌++◌, Option, Some, None, if◌then◌else◌, bytes_eq}
-use Rattle.properties_format.specs.Entries.{Content, comment, pair, Entry, item, malformed, read_fault}
+use Rattle.properties_format.specs.Entries.{comment, pair, Entry, item, malformed, read_fault}
 
 -- no entry is a pair with this key
 abbrev pub HasNoPair : List ℕ → List Entry → Type 0

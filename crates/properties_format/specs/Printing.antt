@@ -1,6 +1,6 @@
 -- How a line is printed: each character by itself, and the line from its parts.
 -- Source: java.util.Properties of Java SE 7, store; a character that the encoding lacks is written as store writes it, by `\u` and four hexadecimal digits for each of its UTF-16 units (The Unicode Standard, section 3.9, D91).
-use Rattle.std.specs.Prelude.{◌≡◌, ℕ, ◌+◌, ◌-◌, ◌/◌, ◌%◌, ◌==◌, ◌&&◌, ◌||◌, nat_lt, Bool, true, false, if◌then◌else◌, List, [], ◌∷◌, ◌++◌, Option, Some, None, is_some, unwrap_or}
+use Rattle.std.specs.Prelude.{ℕ, ◌+◌, ◌-◌, ◌/◌, ◌%◌, ◌==◌, ◌&&◌, ◌||◌, nat_lt, Bool, if◌then◌else◌, List, [], ◌∷◌, ◌++◌, is_some, unwrap_or}
 use Rattle.std.specs.Char.{digit_char}
 use Rattle.properties_format.specs.Text.{line_end_text, tab, line_feed, form_feed, carriage_return, space, backslash, is_comment_mark, is_separator}
 use Rattle.properties_format.specs.Encoding.{Encoding, encoded, begins_like_mark}

@@ -1,7 +1,7 @@
 -- What a list of calls to a writer writes, and what it is to be read back as.
 -- Source: java.util.Properties of Java SE 7, store, which writes one comment or one pair a line.
 use Rattle.std.specs.Prelude.{ℕ, ◌+◌, ◌==◌, ◌&&◌, not, Bool, true, false, if◌then◌else◌, List, [], ◌∷◌, ◌++◌, Option, Some, None}
-use Rattle.properties_format.specs.Text.{LineEnd, is_blank, is_comment_mark}
+use Rattle.properties_format.specs.Text.{LineEnd, is_comment_mark}
 use Rattle.properties_format.specs.Encoding.{Encoding}
 use Rattle.properties_format.specs.Split.{trimmed}
 use Rattle.properties_format.specs.Entries.{Content, comment, pair, Entry, item}

@@ -1,9 +1,9 @@
 -- Worked rows of groups, of joined lines, and of the lines that a fault names.
-use Rattle.std.proofs.Common.{◌≡◌, ℕ, ◌+◌, List, [], ◌∷◌, ◌++◌, map, refl}
+use Rattle.std.proofs.Common.{◌≡◌, ℕ, ◌+◌, List, [], ◌∷◌, ◌++◌, refl}
 use Rattle.std.specs.Prelude.{codes}
-use Rattle.properties_format.specs.Text.{LineEnd, lf, cr, crlf, line_end_text}
-use Rattle.properties_format.specs.Lines.{Line, Lines, lines_of, line_ends, numbered_lines, Ending, end, fault, more}
-use Rattle.properties_format.specs.Groups.{ending_backslashes, is_marked, groups_of, joined, first_number}
+use Rattle.properties_format.specs.Text.{lf, cr, line_end_text}
+use Rattle.properties_format.specs.Lines.{Line, lines_of, line_ends, numbered_lines, Ending, end, fault, more}
+use Rattle.properties_format.specs.Groups.{ending_backslashes, groups_of, joined, first_number}
 
 -- logical lines with the number of their first line
 abbrev logical : List (List Line) → List Line

@@ -2,7 +2,7 @@
 use Rattle.std.proofs.Common.{◌≡◌, ℕ, List, [], ◌∷◌, ◌++◌, refl}
 use Rattle.std.specs.Prelude.{codes}
 use Rattle.properties_format.specs.Text.{LineEnd, lf, cr, crlf, line_end_text}
-use Rattle.properties_format.specs.Lines.{Ended, Lines, lines_of, line_ends, Line, numbered_lines, Ending, end, fault, more}
+use Rattle.properties_format.specs.Lines.{lines_of, Line, numbered_lines, end}
 
 abbrev line : ℕ → List ℕ → Line
 line n text = record { number = n; text = text }
