@@ -1,1 +1,4 @@
 pub mod Examples
+pub mod Settings
+pub mod Writing
+pub mod Maps
