@@ -1,4 +1,9 @@
+pub mod EncodingPieces
 pub mod Examples
 pub mod Settings
 pub mod Writing
 pub mod Maps
+pub mod FirstPieces
+pub mod Utf16Pieces
+pub mod Utf8Pieces
+pub mod Utf8Rows
