@@ -1,4 +1,6 @@
 pub mod EncodingPieces
+pub mod Lines
+pub mod Groups
 pub mod Examples
 pub mod Settings
 pub mod Writing

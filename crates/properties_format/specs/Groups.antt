@@ -1,5 +1,6 @@
 -- The groups of natural lines that make one logical line each.
--- Source: java.util.Properties of Java SE 7, load (a logical line "may be spread out across several adjacent natural lines by escaping the line terminator sequence with a backslash character \").
+-- Source: java.util.Properties of Java SE 7, load: a logical line may be spread out across several adjacent natural lines, where a backslash escapes the line terminator;
+-- a comment line can not be extended so.
 use Rattle.std.specs.Prelude.{◌≡◌, ℕ, suc, ◌%◌, ◌==◌, ◌⊎◌, Bool, true, false, not, ◌||◌, if◌then◌else◌, List, [], ◌∷◌, ◌++◌, reverse}
 use Rattle.properties_format.specs.Text.{backslash, is_blank, is_comment_mark}
 use Rattle.properties_format.specs.Lines.{Line, Ending, end, fault, more}

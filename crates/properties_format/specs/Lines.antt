@@ -1,5 +1,5 @@
 -- The natural lines of a text.
--- Source: java.util.Properties of Java SE 7, load ("a natural line is a line of characters that is ended by a line terminator, \n or \r or \r\n, or by the end of the stream").
+-- Source: java.util.Properties of Java SE 7, load: a natural line is terminated by \n, by \r, by \r\n, or by the end of the stream.
 use Rattle.std.specs.Prelude.{◌≡◌, ℕ, ◌+◌, ◌==◌, Bool, true, false, if◌then◌else◌, List, [], ◌∷◌, ◌++◌, length}
 use Rattle.properties_format.specs.Text.{line_feed, carriage_return, is_line_end, LineEnd, lf, cr, crlf, line_end_text}
 
@@ -113,3 +113,15 @@ before c lines =
 abbrev pub lines_of : List ℕ → Lines
 lines_of [] = record { ended = []; last = [] }
 lines_of (c ∷ cs) = before c (lines_of cs)
+
+-- ---- the lines to come, where a text is read in parts
+
+-- what comes, less the LF that is of an end whose CR was the last character
+abbrev pub rest_of_end : Bool → List ℕ → List ℕ
+rest_of_end true y = without_leading_lf y
+rest_of_end false y = y
+
+-- the lines of what comes, behind n line ends, a CR perhaps, and the text of the line that is not yet ended
+abbrev pub lines_after : ℕ → Bool → List ℕ → List ℕ → Ending → List Line
+lines_after n after_cr held y ending =
+    let lines = lines_of (held ++ rest_of_end after_cr y) in numbered n lines.ended lines.last ending

@@ -1,0 +1,87 @@
+-- How the groups go on with the next line, where a group begins and where one is open.
+use Rattle.std.proofs.Common.{◌≡◌, ℕ, Bool, true, false, List, [], ◌∷◌, ◌++◌, refl, ap, sym, ◌∙◌, append_assoc}
+use Rattle.std.specs.Prelude.{not, ◌||◌}
+use Rattle.properties_format.specs.Lines.{Line, Ending, end, fault, more}
+use Rattle.properties_format.specs.Groups.{is_open, is_marked, last_group, closes, groups_after, groups_of, open_after}
+
+-- a line that closes its group
+pub groups_after-close : (p : List Line) (l : Line) (ls : List Line) (e : Ending) → closes p l ≡ true
+    → groups_after p (l ∷ ls) e ≡ (p ++ l ∷ []) ∷ groups_after [] ls e
+groups_after-close p l ls e h = rw (h, groups_after) refl
+
+-- a line that leaves its group open
+pub groups_after-leave : (p : List Line) (l : Line) (ls : List Line) (e : Ending) → closes p l ≡ false
+    → groups_after p (l ∷ ls) e ≡ groups_after (p ++ l ∷ []) ls e
+groups_after-leave p l ls e h = rw (h, groups_after) refl
+
+pub open_after-close : (p : List Line) (l : Line) (ls : List Line) → closes p l ≡ true → open_after p (l ∷ ls) ≡ open_after [] ls
+open_after-close p l ls h = rw (h, open_after) refl
+
+pub open_after-leave : (p : List Line) (l : Line) (ls : List Line) → closes p l ≡ false → open_after p (l ∷ ls) ≡ open_after (p ++ l ∷ []) ls
+open_after-leave p l ls h = rw (h, open_after) refl
+
+-- ---- which line closes a group
+
+-- a marked line closes the group that it begins
+pub closes-marked : (l : Line) → is_marked l.text ≡ true → closes [] l ≡ true
+closes-marked l h = rw h refl
+
+-- a line that is not open closes every group
+pub closes-closed : (p : List Line) (l : Line) → is_open l.text ≡ false → closes p l ≡ true
+closes-closed [] l h = rw h (or-true (is_marked l.text))
+  where
+    or-true : (b : Bool) → (b || true) ≡ true
+    or-true true = refl
+    or-true false = refl
+closes-closed (m ∷ ms) l h = rw h refl
+
+-- an open line that is not marked leaves the group open that it begins
+pub closes-begins : (l : Line) → is_marked l.text ≡ false → is_open l.text ≡ true → closes [] l ≡ false
+closes-begins l h k = rw (h, k) refl
+
+-- an open line leaves a group open
+pub closes-goes_on : (m : Line) (ms : List Line) (l : Line) → is_open l.text ≡ true → closes (m ∷ ms) l ≡ false
+closes-goes_on m ms l h = rw h refl
+
+-- ---- the groups by the next line
+
+-- where a group begins: a marked line is a group
+pub groups_of-marked : (l : Line) (ls : List Line) (e : Ending) → is_marked l.text ≡ true
+    → groups_of (l ∷ ls) e ≡ (l ∷ []) ∷ groups_of ls e
+groups_of-marked l ls e h = groups_after-close [] l ls e (closes-marked l h)
+
+-- where a group begins: a line that is not open is a group
+pub groups_of-closed : (l : Line) (ls : List Line) (e : Ending) → is_open l.text ≡ false
+    → groups_of (l ∷ ls) e ≡ (l ∷ []) ∷ groups_of ls e
+groups_of-closed l ls e h = groups_after-close [] l ls e (closes-closed [] l h)
+
+-- where a group begins: an open line that is not marked begins one that goes on
+pub groups_of-open : (l : Line) (ls : List Line) (e : Ending) → is_marked l.text ≡ false → is_open l.text ≡ true
+    → groups_of (l ∷ ls) e ≡ groups_after (l ∷ []) ls e
+groups_of-open l ls e h k = groups_after-leave [] l ls e (closes-begins l h k)
+
+-- where a group is open: a line that is not open closes it
+pub groups_after-closed : (p : List Line) (l : Line) (ls : List Line) (e : Ending) → is_open l.text ≡ false
+    → groups_after p (l ∷ ls) e ≡ (p ++ l ∷ []) ∷ groups_of ls e
+groups_after-closed p l ls e h = groups_after-close p l ls e (closes-closed p l h)
+
+-- where a group is open: an open line is one more of it, marked or not
+pub groups_after-open : (m : Line) (ms : List Line) (l : Line) (ls : List Line) (e : Ending) → is_open l.text ≡ true
+    → groups_after (m ∷ ms) (l ∷ ls) e ≡ groups_after (m ∷ ms ++ l ∷ []) ls e
+groups_after-open m ms l ls e h = groups_after-leave (m ∷ ms) l ls e (closes-goes_on m ms l h)
+
+-- ---- no line comes
+
+-- at the end an open group is the last one
+pub groups_after-end : (m : Line) (ms : List Line) → groups_after (m ∷ ms) [] end ≡ (m ∷ ms) ∷ []
+groups_after-end m ms = refl
+
+-- at a fault it is lost
+pub groups_after-fault : (p : List Line) → groups_after p [] fault ≡ []
+groups_after-fault [] = refl
+groups_after-fault (m ∷ ms) = refl
+
+-- and where more may come it is no group yet
+pub groups_after-more : (p : List Line) → groups_after p [] more ≡ []
+groups_after-more [] = refl
+groups_after-more (m ∷ ms) = refl

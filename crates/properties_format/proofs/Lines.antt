@@ -1,0 +1,5 @@
+pub mod Append
+pub mod Meets
+pub mod Only
+pub mod Plain
+pub mod Steps

@@ -1,0 +1,41 @@
+-- A text has one list of lines, and a line in front of a text is in front of its lines.
+use Rattle.std.proofs.Common.{◌≡◌, ℕ, ◌==◌, Bool, true, false, List, [], ◌∷◌, ◌++◌, refl, ap, sym, ◌∙◌}
+use Rattle.properties_format.specs.Text.{line_feed, carriage_return, is_line_end, LineEnd, lf, cr, crlf, line_end_text}
+use Rattle.properties_format.specs.Lines.{Ended, Lines, put_together, IsPlain, IsNoLoneLf, AreLines, IsLines, end_before, cr_before, character_before, before, lines_of}
+use Rattle.properties_format.proofs.Lines.Meets.{before-plain}
+
+-- a text without line ends is one line
+pub lines_of-plain : (l : List ℕ) → IsPlain l → lines_of l ≡ record { ended = []; last = l }
+lines_of-plain [] h = refl
+lines_of-plain (c ∷ l) h = ap (before c) (lines_of-plain l h.1) ∙ before-plain c (record { ended = []; last = l }) h.0
+
+cr-before-line : (text : List ℕ) (by : LineEnd) (ls : List Ended) → ¬ ((text ≡ []) × (by ≡ lf))
+    → cr_before (record { text = text; by = by } ∷ ls) ≡ end_before cr (record { text = text; by = by } ∷ ls)
+cr-before-line [] lf ls h = absurd (h (refl, refl))
+cr-before-line [] cr ls h = refl
+cr-before-line [] crlf ls h = refl
+cr-before-line (c ∷ cs) by ls h = refl
+
+-- a CR takes nothing but a lone LF
+pub cr-before : (ls : List Ended) → IsNoLoneLf ls → cr_before ls ≡ end_before cr ls
+cr-before [] h = refl
+cr-before (l ∷ ls) h = cr-before-line l.text l.by ls h
+
+-- a line and its end, before a text whose lines are known
+pub lines_of-before : (text : List ℕ) (by : LineEnd) (y : List ℕ) (ls : List Ended) (last : List ℕ)
+    → IsPlain text → (by ≡ cr → IsNoLoneLf ls) → lines_of y ≡ record { ended = ls; last = last }
+    → lines_of (text ++ (line_end_text by ++ y)) ≡ record { ended = record { text = text; by = by } ∷ ls; last = last }
+lines_of-before [] lf y ls last h k e = ap (before line_feed) e
+lines_of-before [] cr y ls last h k e = ap (before carriage_return) e ∙ ap (λ v. let s : Lines = record { ended = v; last = last } in s) (cr-before ls (k refl))
+lines_of-before [] crlf y ls last h k e = ap (λ v. before carriage_return (before line_feed v)) e
+lines_of-before (c ∷ text) by y ls last h k e =
+    ap (before c) (lines_of-before text by y ls last h.1 k e) ∙ before-plain c (record { ended = record { text = text; by = by } ∷ ls; last = last }) h.0
+
+-- lines that are put together are the lines of that text
+pub lines_of-together : (ls : List Ended) (last : List ℕ) → AreLines ls last → lines_of (put_together ls last) ≡ record { ended = ls; last = last }
+lines_of-together [] last h = lines_of-plain last h
+lines_of-together (l ∷ ls) last h = lines_of-before l.text l.by (put_together ls last) ls last h.0 h.1 (lines_of-together ls last h.2)
+
+-- lines of the text are what is computed
+pub lines_of-only : (x : List ℕ) (lines : Lines) → IsLines x lines → lines ≡ lines_of x
+lines_of-only x lines h = sym (ap lines_of h.text ∙ lines_of-together lines.ended lines.last h.are_lines)

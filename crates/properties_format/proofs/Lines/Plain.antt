@@ -1,0 +1,74 @@
+-- Texts without line ends, and what the lines of a text say of its first character.
+use Rattle.std.proofs.Common.{◌≡◌, ℕ, ◌==◌, Bool, true, false, List, [], ◌∷◌, ◌++◌, refl, ap, sym, ◌∙◌}
+use Rattle.std.proofs.lemmas.Bool.{or_parts}
+use Rattle.std.proofs.lemmas.Bool.Decides.{eqb_tells}
+use Rattle.properties_format.specs.Text.{line_feed, carriage_return, is_line_end, LineEnd, lf, cr, crlf, line_end_text}
+use Rattle.properties_format.specs.Lines.{Ended, Lines, put_together, IsPlain, IsNoLoneLf, AreLines, IsLines, begins_with_lf, ends_in_cr, without_leading_lf, rest_of_end, lines_of}
+use Rattle.properties_format.proofs.Lines.Meets.{lines_of-meets}
+
+pub plain-append : (x y : List ℕ) → IsPlain x → IsPlain y → IsPlain (x ++ y)
+plain-append [] y h k = k
+plain-append (c ∷ x) y h k = (h.0, plain-append x y h.1 k)
+
+pub plain-left : (x y : List ℕ) → IsPlain (x ++ y) → IsPlain x
+plain-left [] y h = tt
+plain-left (c ∷ x) y h = (h.0, plain-left x y h.1)
+
+pub plain-right : (x y : List ℕ) → IsPlain (x ++ y) → IsPlain y
+plain-right [] y h = h
+plain-right (c ∷ x) y h = plain-right x y h.1
+
+-- the last line of a text is plain
+pub last-plain : (x : List ℕ) → IsPlain (lines_of x).last
+last-plain x = of_lines (lines_of x).ended (lines_of x).last (lines_of-meets x).are_lines
+  where
+    of_lines : (ls : List Ended) (last : List ℕ) → AreLines ls last → IsPlain last
+    of_lines [] last h = h
+    of_lines (l ∷ ls) last h = of_lines ls last h.2
+
+-- a plain text does not begin with an LF
+pub plain-no_lf : (x : List ℕ) → IsPlain x → begins_with_lf x ≡ false
+plain-no_lf [] h = refl
+plain-no_lf (c ∷ x) h = (or_parts (c == line_feed) (c == carriage_return) h.0).0
+
+-- and does not end in a CR
+pub plain-no_cr : (x : List ℕ) → IsPlain x → ends_in_cr x ≡ false
+plain-no_cr [] h = refl
+plain-no_cr (c ∷ []) h = (or_parts (c == line_feed) (c == carriage_return) h.0).1
+plain-no_cr (c ∷ d ∷ ds) h = plain-no_cr (d ∷ ds) h.1
+
+-- where no LF comes first, no lone LF is the first line
+pub no_lone_lf : (ls : List Ended) (last : List ℕ) → begins_with_lf (put_together ls last) ≡ false → IsNoLoneLf ls
+no_lone_lf [] last h = tt
+no_lone_lf (l ∷ ls) last h = of_line l.text l.by (put_together ls last) h
+  where
+    of_line : (text : List ℕ) (by : LineEnd) (y : List ℕ) → begins_with_lf (text ++ (line_end_text by ++ y)) ≡ false → ¬ ((text ≡ []) × (by ≡ lf))
+    of_line [] lf y h = absurd (cc)
+    of_line [] cr y h = λ p. absurd (cc p.1)
+    of_line [] crlf y h = λ p. absurd (cc p.1)
+    of_line (c ∷ text) by y h = λ p. absurd (cc p.0)
+
+-- and the other way round
+pub no_lf_first : (ls : List Ended) (last : List ℕ) → AreLines ls last → IsNoLoneLf ls → begins_with_lf (put_together ls last) ≡ false
+no_lf_first [] last h k = plain-no_lf last h
+no_lf_first (l ∷ ls) last h k = of_line l.text l.by (put_together ls last) h.0 k
+  where
+    of_line : (text : List ℕ) (by : LineEnd) (y : List ℕ) → IsPlain text → ¬ ((text ≡ []) × (by ≡ lf)) → begins_with_lf (text ++ (line_end_text by ++ y)) ≡ false
+    of_line [] lf y h k = absurd (k (refl, refl))
+    of_line [] cr y h k = refl
+    of_line [] crlf y h k = refl
+    of_line (c ∷ text) by y h k = plain-no_lf (c ∷ text) h
+
+pub lines_of-no_lone_lf : (y : List ℕ) → begins_with_lf y ≡ false → IsNoLoneLf (lines_of y).ended
+lines_of-no_lone_lf y h = no_lone_lf (lines_of y).ended (lines_of y).last (sym (ap begins_with_lf (lines_of-meets y).text) ∙ h)
+
+-- what does not begin with an LF has none to lose
+pub without_leading_lf-none : (y : List ℕ) → begins_with_lf y ≡ false → without_leading_lf y ≡ y
+without_leading_lf-none [] h = refl
+without_leading_lf-none (c ∷ cs) h = rw h refl
+
+-- how a text ends is how its last part ends
+pub ends_in_cr-append : (x : List ℕ) (c : ℕ) (y : List ℕ) → ends_in_cr (x ++ c ∷ y) ≡ ends_in_cr (c ∷ y)
+ends_in_cr-append [] c y = refl
+ends_in_cr-append (b ∷ []) c y = refl
+ends_in_cr-append (b ∷ d ∷ x) c y = ends_in_cr-append (d ∷ x) c y
