@@ -9,3 +9,9 @@ pub mod FirstPieces
 pub mod Utf16Pieces
 pub mod Utf8Pieces
 pub mod Utf8Rows
+pub mod Escapes
+pub mod EscapesFirst
+pub mod Examples
+pub mod Split
+pub mod SplitBlanks
+pub mod SplitKeys
