@@ -20,7 +20,7 @@ cr_end y = if begins_with_lf y then crlf else cr
 -- a line and a CR, before any text
 pub lines_of-cr : (text y : List ℕ) → IsPlain text
     → lines_of (text ++ carriage_return ∷ y)
-      ≡ record { ended = record { text = text; by = cr_end y } ∷ (lines_of (without_leading_lf y)).ended; last = (lines_of (without_leading_lf y)).last }
+    ≡ record { ended = record { text = text; by = cr_end y } ∷ (lines_of (without_leading_lf y)).ended; last = (lines_of (without_leading_lf y)).last }
 lines_of-cr text [] h = lines_of-line text cr [] h (λ e. refl)
 lines_of-cr text (c ∷ y) h = elim (eqb_tells c line_feed) [
   | inl k ↦ rw k.1 (lines_of-line text crlf y h (λ e. absurd (cc)))
