@@ -11,6 +11,7 @@ pub mod Split
 pub mod EscapesFirst
 pub mod Escapes
 pub mod Items
+pub mod Numbers
 pub mod Settings
 pub mod Writing
 pub mod Maps
