@@ -13,6 +13,7 @@ pub mod Escapes
 pub mod Items
 pub mod Numbers
 pub mod Settings
+pub mod Printing
 pub mod Writing
 pub mod Maps
 pub mod Examples

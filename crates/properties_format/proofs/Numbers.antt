@@ -3,7 +3,7 @@ use Rattle.std.proofs.Common.{◌≡◌, ◌⊎◌, ℕ, ◌+◌, ◌<◌, ◌�
 use Rattle.properties_format.specs.Encoding.{Encoding, decoded_of}
 use Rattle.properties_format.specs.Lines.{Ending, end, fault, more, Ended, Line, Lines, line_ends, lines_of, numbered, numbered_lines}
 use Rattle.properties_format.specs.Groups.{IsWhole, AreWhole, lines_in, last_group, IsGroups, joined, first_number, groups_of}
-use Rattle.properties_format.specs.Items.{Entry, AscendAbove, Outcome, ignored, given, broken, IsItems, outcome_of, last_entries, followed, entries_of, items_of}
+use Rattle.properties_format.specs.Items.{Entry, NumbersAscend, Outcome, ignored, given, broken, IsItems, outcome_of, last_entries, followed, entries_of, items_of}
 use Rattle.properties_format.proofs.Groups.Meets.{groups_of-meets}
 use Rattle.properties_format.proofs.Items.{items_of-only}
 
@@ -66,35 +66,35 @@ groups-within low high ls ending gs g h = rw g.are_groups (firsts-of low high g.
 
 -- ---- entries
 
-followed-ascend : (low high number : ℕ) (outcome : Outcome) (rest : List Entry) → low < number → AscendAbove number rest → AscendAbove low rest → AscendAbove low (followed number outcome rest)
+followed-ascend : (low high number : ℕ) (outcome : Outcome) (rest : List Entry) → low < number → NumbersAscend number rest → NumbersAscend low rest → NumbersAscend low (followed number outcome rest)
 followed-ascend low high number ignored rest h k m = m
 followed-ascend low high number (given content) rest h k m = (h, k)
 followed-ascend low high number (broken kind) rest h k m = (h, tt)
 
-ascend-lower : (low less : ℕ) (entries : List Entry) → less < low → AscendAbove low entries → AscendAbove less entries
+ascend-lower : (low less : ℕ) (entries : List Entry) → less < low → NumbersAscend low entries → NumbersAscend less entries
 ascend-lower low less [] k h = tt
 ascend-lower low less (x ∷ xs) k h = (let b = h.0 in omega arith, h.1)
 
-last-ascend : (low high n : ℕ) (ending : Ending) → high ≤ n + last_line ending → low ≤ high → AscendAbove low (last_entries n ending)
+last-ascend : (low high n : ℕ) (ending : Ending) → high ≤ n + last_line ending → low ≤ high → NumbersAscend low (last_entries n ending)
 last-ascend low high n end h k = tt
 last-ascend low high n fault h k = (omega arith, tt)
 last-ascend low high n more h k = tt
 
-entries-ascend : (low high n : ℕ) (ending : Ending) (gs : List (List Line)) → high ≤ n + last_line ending → FirstsWithin low high gs → AscendAbove low (entries_of n ending gs)
+entries-ascend : (low high n : ℕ) (ending : Ending) (gs : List (List Line)) → high ≤ n + last_line ending → FirstsWithin low high gs → NumbersAscend low (entries_of n ending gs)
 entries-ascend low high n ending [] h k = last-ascend low high n ending h k
 entries-ascend low high n ending (g ∷ gs) h k =
     let rest = entries-ascend (first_number g) high n ending gs h k.1 in
     followed-ascend low high (first_number g) (outcome_of (joined g)) (entries_of n ending gs) k.0 rest (ascend-lower (first_number g) low (entries_of n ending gs) k.0 rest)
 
-pub items_of-ascend : (e : Encoding) (bytes : List ℕ) (ending : Ending) → AscendAbove 0 (items_of e bytes ending)
+pub items_of-ascend : (e : Encoding) (bytes : List ℕ) (ending : Ending) → NumbersAscend 0 (items_of e bytes ending)
 unfolding items_of
 items_of-ascend e bytes ending =
     let lines = lines_of (decoded_of e bytes) in
     let numbers = numbered_lines lines ending in
     entries-ascend 0 (line_ends lines + last_line ending) (line_ends lines) ending (groups_of numbers ending) (omega arith)
-      (groups-within 0 (line_ends lines + last_line ending) numbers ending (groups_of numbers ending) (groups_of-meets numbers ending)
-        (numbered-within 0 lines.ended lines.last ending (line_ends lines + last_line ending) (omega arith)))
+    (groups-within 0 (line_ends lines + last_line ending) numbers ending (groups_of numbers ending) (groups_of-meets numbers ending)
+    (numbered-within 0 lines.ended lines.last ending (line_ends lines + last_line ending) (omega arith)))
 
 -- The numbers of the items strictly ascend, from 1 on.
-pub items-ascend : (e : Encoding) (bytes : List ℕ) (ending : Ending) (entries : List Entry) → IsItems e bytes ending entries → AscendAbove 0 entries
+pub items-ascend : (e : Encoding) (bytes : List ℕ) (ending : Ending) (entries : List Entry) → IsItems e bytes ending entries → NumbersAscend 0 entries
 items-ascend e bytes ending entries h = rw (items_of-only e bytes ending entries h) (items_of-ascend e bytes ending)

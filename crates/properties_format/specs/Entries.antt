@@ -21,6 +21,6 @@ number_of (malformed kind number) = number
 number_of (read_fault number) = number
 
 -- The numbers of the entries are above this one, and each is above the one before it.
-abbrev pub AscendAbove : ℕ → List Entry → Type 0
-AscendAbove n [] = Unit {0}
-AscendAbove n (entry ∷ entries) = (n < number_of entry) × AscendAbove (number_of entry) entries
+abbrev pub NumbersAscend : ℕ → List Entry → Type 0
+NumbersAscend n [] = Unit {0}
+NumbersAscend n (entry ∷ entries) = (n < number_of entry) × NumbersAscend (number_of entry) entries

@@ -6,7 +6,7 @@ use Rattle.properties_format.specs.Lines.{Ending, end, fault, more, Line, Lines,
 use Rattle.properties_format.specs.Groups.{IsGroups, joined, first_number, groups_of}
 use Rattle.properties_format.specs.Split.{Logical, IsSplit, split_of}
 use Rattle.properties_format.specs.Escapes.{Malformed, Means, Breaks, Meaning, means, breaks, meaning_of}
-pub use Rattle.properties_format.specs.Entries.{Content, comment, pair, Entry, item, malformed, read_fault, number_of, AscendAbove}
+pub use Rattle.properties_format.specs.Entries.{Content, comment, pair, Entry, item, malformed, read_fault, number_of, NumbersAscend}
 
 -- what a logical line comes to: nothing, a content, or malformed escapes
 pub data Outcome : Type 0 where
