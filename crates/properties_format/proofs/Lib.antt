@@ -1,6 +1,9 @@
+pub mod EncodingCharacters
 pub mod EncodingPieces
 pub mod FirstPieces
+pub mod Marks
 pub mod Utf16Pieces
+pub mod Utf8Characters
 pub mod Utf8Pieces
 pub mod Utf8Rows
 pub mod Lines
@@ -17,3 +20,5 @@ pub mod Printing
 pub mod Writing
 pub mod Maps
 pub mod Examples
+pub mod Utf8Sequences
+pub mod Windows1252Table

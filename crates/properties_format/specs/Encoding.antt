@@ -1,6 +1,6 @@
 -- The four encodings: which one a text is in, the pieces of its bytes, and what a writer's encoding can say.
 -- Source: WHATWG Encoding Standard, sections 4.3 (output encodings), 6 (byte order marks) and 8 to 14 (the decoders).
-use Rattle.std.specs.Prelude.{◌≡◌, ℕ, zero, suc, ◌==◌, ◌&&◌, ◌||◌, Bool, true, false, if◌then◌else◌, List, [], ◌∷◌, ◌++◌, length, drop, Option, Some, None, encode_utf8}
+use Rattle.std.specs.Prelude.{◌≡◌, ℕ, zero, suc, ◌%◌, ◌==◌, ◌&&◌, ◌||◌, Bool, true, false, if◌then◌else◌, List, [], ◌∷◌, ◌++◌, length, drop, Option, Some, None, encode_utf8}
 use Rattle.properties_format.specs.Pieces.{Piece, piece, characters}
 use Rattle.properties_format.specs.Windows1252.{windows_1252_character, windows_1252_byte, IsWindows1252Piece}
 use Rattle.properties_format.specs.Utf8.{IsUtf8Piece, first_utf_8_piece}
@@ -86,6 +86,20 @@ IsPieces e d (p ∷ ps) = (rest : List ℕ) × (d ≡ p.bytes ++ rest) × IsPiec
 -- the bytes are decoded to this text: the characters of the pieces of what is behind the mark
 abbrev pub IsDecoded : Encoding → List ℕ → List ℕ → Type 0
 IsDecoded e b x = (ps : List Piece) × IsPieces (mark e b).encoding (mark e b).body ps × (x ≡ characters ps)
+
+-- the bytes of an ASCII character
+abbrev pub ascii_bytes : Encoding → ℕ → List ℕ
+ascii_bytes windows_1252 c = c ∷ []
+ascii_bytes utf_8 c = c ∷ []
+ascii_bytes utf_16le c = c ∷ 0 ∷ []
+ascii_bytes utf_16be c = 0 ∷ c ∷ []
+
+-- the bytes end where a unit of the encoding may begin: in UTF-16 they are even in number
+abbrev pub IsAligned : Encoding → List ℕ → Type 0
+IsAligned windows_1252 d = Unit {0}
+IsAligned utf_8 d = Unit {0}
+IsAligned utf_16le d = length d % 2 ≡ 0
+IsAligned utf_16be d = length d % 2 ≡ 0
 
 -- ---- How it is read.
 

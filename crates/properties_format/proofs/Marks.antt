@@ -1,0 +1,105 @@
+-- Which bytes at the front decide the mark.
+use Rattle.std.proofs.Common.{◌≡◌, ℕ, suc, ◌<◌, ◌≤◌, ◌==◌, ◌&&◌, ◌||◌, Bool, true, false, cond, if◌then◌else◌, List, [], ◌∷◌, ◌++◌, length, drop, All, refl, sym, ap, ◌∙◌, inl, inr, arith}
+use Rattle.std.proofs.lemmas.List.{drop-append-le}
+use Rattle.std.proofs.lemmas.List.Elements.{All-drop}
+use Rattle.std.proofs.lemmas.Bool.{cases_Bool, cond-true, cond-false, or_parts, and_parts, and_left, or_from}
+use Rattle.properties_format.specs.Text.{byte, scalar}
+use Rattle.properties_format.specs.Pieces.{characters}
+use Rattle.properties_format.specs.Encoding.{Encoding, windows_1252, utf_8, utf_16le, utf_16be, Marked, mark, begins_with, begins_like_mark, utf_8_mark, utf_16be_mark, utf_16le_mark, pieces_of, decoded_of}
+use Rattle.properties_format.proofs.EncodingCharacters.{pieces_of-scalar}
+
+-- the list begins the other, which is longer
+abbrev pub begins_longer : List ℕ → List ℕ → Bool
+begins_longer b [] = false
+begins_longer [] (m ∷ ms) = true
+begins_longer (x ∷ b) (m ∷ ms) = m == x && begins_longer b ms
+
+-- the bytes may become a mark by those that follow
+abbrev pub is_undecided : List ℕ → Bool
+is_undecided b = begins_longer b utf_8_mark || (begins_longer b utf_16be_mark || begins_longer b utf_16le_mark)
+
+-- the same, with more bytes behind
+abbrev pub followed : Marked → List ℕ → Marked
+followed m d = record { encoding = m.encoding; body = m.body ++ d }
+
+begins-append : (m b d : List ℕ) → begins_longer b m ≡ false → begins_with m (b ++ d) ≡ begins_with m b
+begins-append [] b d h = refl
+begins-append (m ∷ ms) [] d h = absurd (cc)
+begins-append (m ∷ ms) (x ∷ b) d h = elim (cases_Bool (m == x)) [
+  | inl k ↦
+      let l : begins_longer b ms ≡ false = sym (ap (λ v. v && begins_longer b ms) k) ∙ h in
+      ap (λ v. m == x && v) (begins-append ms b d l)
+  | inr k ↦ and_left (m == x) (begins_with ms (b ++ d)) k ∙ sym (and_left (m == x) (begins_with ms b) k)
+]
+
+begins-length : (m b : List ℕ) → begins_with m b ≡ true → length m ≤ length b
+begins-length [] b h = omega arith
+begins-length (m ∷ ms) [] h = absurd (cc)
+begins-length (m ∷ ms) (x ∷ b) h = let k = begins-length ms b (and_parts (m == x) (begins_with ms b) h).1 in omega arith
+
+not-longer : (b m : List ℕ) → length m ≤ length b → begins_longer b m ≡ false
+not-longer b [] h = refl
+not-longer [] (m ∷ ms) h = absurd (omega arith)
+not-longer (x ∷ b) (m ∷ ms) h = elim (cases_Bool (m == x)) [
+  | inl k ↦ rw k (not-longer b ms (omega arith))
+  | inr k ↦ and_left (m == x) (begins_longer b ms) k
+]
+
+-- three bytes decide
+pub is_undecided-long : (b : List ℕ) → 3 ≤ length b → is_undecided b ≡ false
+is_undecided-long b h =
+    or_from (begins_longer b utf_8_mark) (begins_longer b utf_16be_mark || begins_longer b utf_16le_mark) (not-longer b utf_8_mark h)
+    (or_from (begins_longer b utf_16be_mark) (begins_longer b utf_16le_mark) (not-longer b utf_16be_mark (omega arith)) (not-longer b utf_16le_mark (omega arith)))
+
+-- one test of the three, over more bytes
+choose-append : (e : Encoding) (m b d : List ℕ) (x y : Marked) → begins_longer b m ≡ false → y ≡ followed x d
+    → (if begins_with m (b ++ d) then record { encoding = e; body = drop (length m) (b ++ d) } else y)
+    ≡ followed (if begins_with m b then record { encoding = e; body = drop (length m) b } else x) d
+choose-append e m b d x y h k = elim (cases_Bool (begins_with m b)) [
+  | inl t ↦ rw (begins-append m b d h) (rw t (ap (λ v. let r : Marked = record { encoding = e; body = v } in r) (drop-append-le (length m) b d (begins-length m b t))))
+  | inr t ↦ rw (begins-append m b d h) (rw t k)
+]
+
+-- Bytes that can't become a mark decide it: what follows them is in the body.
+pub mark-append : (e : Encoding) (b d : List ℕ) → is_undecided b ≡ false → mark e (b ++ d) ≡ followed (mark e b) d
+mark-append e b d h =
+    let k = or_parts (begins_longer b utf_8_mark) (begins_longer b utf_16be_mark || begins_longer b utf_16le_mark) h in
+    let l = or_parts (begins_longer b utf_16be_mark) (begins_longer b utf_16le_mark) k.1 in
+    choose-append utf_8 utf_8_mark b d _ _ k.0 (choose-append utf_16be utf_16be_mark b d _ _ l.0 (choose-append utf_16le utf_16le_mark b d _ _ l.1 refl))
+
+-- bytes that don't begin like a mark are in the encoding asked for
+pub mark-none : (e : Encoding) (b : List ℕ) → begins_like_mark b ≡ false → mark e b ≡ record { encoding = e; body = b }
+mark-none e b h =
+    let k = or_parts (begins_with utf_8_mark b) (begins_with utf_16be_mark b || begins_with utf_16le_mark b) h in
+    let l = or_parts (begins_with utf_16be_mark b) (begins_with utf_16le_mark b) k.1 in
+    rw (k.0, l.0, l.1) refl
+
+-- a mark in front
+pub mark-utf_8 : (e : Encoding) (d : List ℕ) → mark e (utf_8_mark ++ d) ≡ record { encoding = utf_8; body = d }
+mark-utf_8 e d = refl
+
+pub mark-utf_16be : (e : Encoding) (d : List ℕ) → mark e (utf_16be_mark ++ d) ≡ record { encoding = utf_16be; body = d }
+mark-utf_16be e d = refl
+
+pub mark-utf_16le : (e : Encoding) (d : List ℕ) → mark e (utf_16le_mark ++ d) ≡ record { encoding = utf_16le; body = d }
+mark-utf_16le e d = refl
+
+-- the body is an end of the bytes
+body-drop : (e : Encoding) (b : List ℕ) → (n : ℕ) × ((mark e b).body ≡ drop n b)
+body-drop e b = elim (cases_Bool (begins_with utf_8_mark b)) [
+  | inl h ↦ (3, rw h refl)
+  | inr h ↦ elim (cases_Bool (begins_with utf_16be_mark b)) [
+    | inl k ↦ (2, rw (h, k) refl)
+    | inr k ↦ elim (cases_Bool (begins_with utf_16le_mark b)) [
+      | inl l ↦ (2, rw (h, k, l) refl)
+      | inr l ↦ (0, rw (h, k, l) refl)
+    ]
+  ]
+]
+
+pub mark-bytes : (e : Encoding) (b : List ℕ) → All byte b → All byte (mark e b).body
+mark-bytes e b h = let d = body-drop e b in rw d.1 (All-drop byte d.0 b h)
+
+-- Each decoded character is a scalar value.
+pub decoded_of-scalar : (e : Encoding) (b : List ℕ) → All byte b → All scalar (decoded_of e b)
+decoded_of-scalar e b h = pieces_of-scalar (mark e b).encoding (mark e b).body (mark-bytes e b h)

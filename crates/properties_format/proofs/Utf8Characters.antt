@@ -1,0 +1,103 @@
+-- The characters of UTF-8 sequences.
+use Rattle.std.proofs.Common.{◌≡◌, ℕ, ◌+◌, ◌*◌, ◌/◌, ◌%◌, ◌^◌, ◌<◌, ◌≤◌, ◌⊎◌, Bool, true, false, cond, nat_lt, List, [], ◌∷◌, ◌++◌, refl, sym, ap, ◌∙◌, inl, inr, arith, ltb-true, ltb-false, lt-ltb}
+use Rattle.std.proofs.lemmas.Bool.{cond-true, cond-false, cases_lt, le-ltb}
+use Rattle.std.specs.Char.{encode_utf8}
+use Rattle.properties_format.specs.Text.{scalar}
+use Rattle.properties_format.specs.Utf8.{Range, rows, from_to, tail, IsIn, FitsRow, FitsSome, IsSequence, sequence_character}
+
+-- ---- How a character is encoded.
+
+abbrev next : ℕ → ℕ
+next c = 128 + c % 64
+
+encode-one : (c : ℕ) → c < 0x80 → encode_utf8 c ≡ c ∷ []
+unfolding encode_utf8
+encode-one c h = cond-true (nat_lt c 0x80) _ _ (lt-ltb c 0x80 h)
+
+encode-two : (c : ℕ) → 0x80 ≤ c → c < 0x800 → encode_utf8 c ≡ (192 + c / 64) ∷ next c ∷ []
+unfolding encode_utf8
+encode-two c l h = cond-false (nat_lt c 0x80) _ _ (le-ltb c 0x80 l) ∙ cond-true (nat_lt c 0x800) _ _ (lt-ltb c 0x800 h)
+
+encode-three : (c : ℕ) → 0x800 ≤ c → c < 0x1_0000 → encode_utf8 c ≡ (224 + c / 4096) ∷ next (c / 64) ∷ next c ∷ []
+unfolding encode_utf8
+encode-three c l h =
+    cond-false (nat_lt c 0x80) _ _ (le-ltb c 0x80 (omega arith))
+    ∙ cond-false (nat_lt c 0x800) _ _ (le-ltb c 0x800 l)
+    ∙ cond-true (nat_lt c 0x1_0000) _ _ (lt-ltb c 0x1_0000 h)
+
+encode-four : (c : ℕ) → 0x1_0000 ≤ c → encode_utf8 c ≡ (240 + c / 262144) ∷ next (c / 4096) ∷ next (c / 64) ∷ next c ∷ []
+unfolding encode_utf8
+encode-four c l =
+    cond-false (nat_lt c 0x80) _ _ (le-ltb c 0x80 (omega arith))
+    ∙ cond-false (nat_lt c 0x800) _ _ (le-ltb c 0x800 (omega arith))
+    ∙ cond-false (nat_lt c 0x1_0000) _ _ (le-ltb c 0x1_0000 l)
+
+-- a well-formed sequence, with its character
+abbrev pub Says : List ℕ → ℕ → Type 0
+Says bs c = IsSequence bs × (c ≡ sequence_character bs)
+
+-- a tail byte
+next-in : (c : ℕ) → IsIn tail (next c)
+next-in c = (omega arith, omega arith)
+
+says-one : (c : ℕ) → c < 0x80 → Says (c ∷ []) c
+says-one c h = (inl ((omega arith, omega arith), tt), omega arith)
+
+two-character : (c : ℕ) → c < 0x800 → c ≡ (192 + c / 64) % 2 ^ 5 * 2 ^ 6 + next c % 2 ^ 6
+two-character c h = omega arith
+
+says-two : (c : ℕ) → 0x80 ≤ c → c < 0x800 → Says ((192 + c / 64) ∷ next c ∷ []) c
+says-two c l h = (inr (inl ((omega arith, omega arith), (next-in c, tt))), two-character c h)
+
+three-character : (c : ℕ) → c < 0x1_0000 → c ≡ ((224 + c / 4096) % 2 ^ 4 * 2 ^ 6 + next (c / 64) % 2 ^ 6) * 2 ^ 6 + next c % 2 ^ 6
+three-character c h = omega arith
+
+four-character : (c : ℕ) → c < 0x11_0000
+    → c ≡ (((240 + c / 262144) % 2 ^ 3 * 2 ^ 6 + next (c / 4096) % 2 ^ 6) * 2 ^ 6 + next (c / 64) % 2 ^ 6) * 2 ^ 6 + next c % 2 ^ 6
+four-character c h = omega arith
+
+three-fits : (c : ℕ) → 0x800 ≤ c → c < 0xd800 ⊎ ((0xe000 ≤ c) × (c < 0x1_0000)) → IsSequence ((224 + c / 4096) ∷ next (c / 64) ∷ next c ∷ [])
+three-fits c l (inr h) = inr (inr (inr (inr (inr (inl ((omega arith, omega arith), (next-in (c / 64), (next-in c, tt))))))))
+three-fits c l (inl h) = elim (cases_lt c 0x1000) [
+  | inl k ↦ inr (inr (inl ((omega arith, omega arith), ((omega arith, omega arith), (next-in c, tt)))))
+  | inr k ↦ elim (cases_lt c 0xd000) [
+    | inl m ↦ inr (inr (inr (inl ((omega arith, omega arith), (next-in (c / 64), (next-in c, tt))))))
+    | inr m ↦ inr (inr (inr (inr (inl ((omega arith, omega arith), ((omega arith, omega arith), (next-in c, tt)))))))
+  ]
+]
+
+four-fits : (c : ℕ) → 0x1_0000 ≤ c → c < 0x11_0000 → IsSequence ((240 + c / 262144) ∷ next (c / 4096) ∷ next (c / 64) ∷ next c ∷ [])
+four-fits c l h = elim (cases_lt c 0x4_0000) [
+  | inl k ↦ inr (inr (inr (inr (inr (inr (inl ((omega arith, omega arith), ((omega arith, omega arith), (next-in (c / 64), (next-in c, tt))))))))))
+  | inr k ↦ elim (cases_lt c 0x10_0000) [
+    | inl m ↦ inr (inr (inr (inr (inr (inr (inr (inl ((omega arith, omega arith), (next-in (c / 4096), (next-in (c / 64), (next-in c, tt)))))))))))
+    | inr m ↦ inr (inr (inr (inr (inr (inr (inr (inr (inl ((omega arith, omega arith), ((omega arith, omega arith), (next-in (c / 64), (next-in c, tt))))))))))))
+  ]
+]
+
+says-long : (c : ℕ) → 0x800 ≤ c → scalar c → Says (encode_utf8 c) c
+says-long c l h = elim (cases_lt c 0x1_0000) [
+  | inl k ↦ rw (encode-three c l k) (three-fits c l (low k h), three-character c k)
+  | inr k ↦ rw (encode-four c k) (four-fits c k (high h), four-character c (high h))
+]
+  where
+    low : c < 0x1_0000 → scalar c → c < 0xd800 ⊎ ((0xe000 ≤ c) × (c < 0x1_0000))
+    low k (inl m) = inl m
+    low k (inr m) = inr (m.0, k)
+
+    high : scalar c → c < 0x11_0000
+    high (inl m) = omega arith
+    high (inr m) = m.1
+
+-- the bytes of a character are its sequence
+pub encode-says : (c : ℕ) → scalar c → Says (encode_utf8 c) c
+encode-says c h = elim (cases_lt c 0x80) [
+  | inl k ↦ rw (encode-one c k) (says-one c k)
+  | inr k ↦ elim (cases_lt c 0x800) [
+    | inl m ↦ rw (encode-two c k m) (says-two c k m)
+    | inr m ↦ says-long c m h
+  ]
+]
+
+pub encode-ascii : (c : ℕ) → c < 0x80 → encode_utf8 c ≡ c ∷ []
+encode-ascii c h = encode-one c h
