@@ -1,3 +1,7 @@
-pub mod Steps
+pub mod Append
+pub mod Joined
 pub mod Meets
+pub mod Numbers
 pub mod Only
+pub mod Open
+pub mod Steps

@@ -1,5 +1,7 @@
 pub mod Append
+pub mod Cut
 pub mod Meets
+pub mod Numbers
 pub mod Only
 pub mod Plain
 pub mod Steps

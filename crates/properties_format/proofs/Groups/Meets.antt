@@ -1,9 +1,9 @@
 -- What is computed from lines are their groups.
-use Rattle.std.proofs.Common.{◌≡◌, ℕ, Bool, true, false, List, [], ◌∷◌, ◌++◌, refl, ap, sym, ◌∙◌, inl, inr, append_assoc, append-nil}
-use Rattle.std.specs.Prelude.{not, ◌||◌}
-use Rattle.std.proofs.lemmas.Bool.{cases_Bool, or_parts, not-false, not-true, or_cases}
-use Rattle.properties_format.specs.Lines.{Line, Ending, end, fault, more}
-use Rattle.properties_format.specs.Groups.{is_open, is_marked, EndsClosed, AreOpen, IsWhole, AreWhole, IsUnfinished, lines_in, last_group, IsGroups, closes, groups_after, groups_of}
+use Rattle.std.proofs.Common.{◌≡◌, true, false, List, [], ◌∷◌, ◌++◌, refl, ap, sym, ◌∙◌, inl, inr, append_assoc, append-nil}
+use Rattle.std.specs.Prelude.{not}
+use Rattle.std.proofs.lemmas.Bool.{cases_Bool, or_parts, not-false, not-true}
+use Rattle.properties_format.specs.Lines.{Line, Ending}
+use Rattle.properties_format.specs.Groups.{is_open, is_marked, EndsClosed, AreOpen, IsWhole, IsUnfinished, lines_in, IsGroups, closes, groups_after, groups_of}
 use Rattle.properties_format.proofs.Groups.Steps.{groups_after-close, groups_after-leave}
 
 -- open lines and then one that is not

@@ -1,7 +1,7 @@
 -- Lines have one list of groups.
-use Rattle.std.proofs.Common.{◌≡◌, ℕ, Bool, true, false, List, [], ◌∷◌, ◌++◌, refl, ap, sym, ◌∙◌, inl, inr, append_assoc, append-nil}
-use Rattle.properties_format.specs.Lines.{Line, Ending, end, fault, more}
-use Rattle.properties_format.specs.Groups.{is_open, is_marked, EndsClosed, AreOpen, IsWhole, AreWhole, IsUnfinished, lines_in, last_group, IsGroups, closes, groups_after, groups_of}
+use Rattle.std.proofs.Common.{◌≡◌, false, List, [], ◌∷◌, ◌++◌, refl, ap, sym, ◌∙◌, inl, inr, append_assoc, append-nil}
+use Rattle.properties_format.specs.Lines.{Line, Ending}
+use Rattle.properties_format.specs.Groups.{is_marked, EndsClosed, AreOpen, IsWhole, AreWhole, IsUnfinished, lines_in, last_group, IsGroups, groups_after, groups_of}
 use Rattle.properties_format.proofs.Groups.Steps.{groups_of-marked, groups_of-closed, groups_of-open, groups_after-closed, groups_after-open}
 
 -- an open group, and the lines that close it

@@ -1,8 +1,8 @@
 -- How the groups go on with the next line, where a group begins and where one is open.
-use Rattle.std.proofs.Common.{◌≡◌, ℕ, Bool, true, false, List, [], ◌∷◌, ◌++◌, refl, ap, sym, ◌∙◌, append_assoc}
-use Rattle.std.specs.Prelude.{not, ◌||◌}
+use Rattle.std.proofs.Common.{◌≡◌, Bool, true, false, List, [], ◌∷◌, ◌++◌, refl}
+use Rattle.std.specs.Prelude.{◌||◌}
 use Rattle.properties_format.specs.Lines.{Line, Ending, end, fault, more}
-use Rattle.properties_format.specs.Groups.{is_open, is_marked, last_group, closes, groups_after, groups_of, open_after}
+use Rattle.properties_format.specs.Groups.{is_open, is_marked, closes, groups_after, groups_of, open_after}
 
 -- a line that closes its group
 pub groups_after-close : (p : List Line) (l : Line) (ls : List Line) (e : Ending) → closes p l ≡ true

@@ -1,11 +1,10 @@
 -- The lines of two texts together: where the second one comes after the first, the lines that the first ends stay.
-use Rattle.std.proofs.Common.{◌≡◌, ◌≢◌, ℕ, ◌+◌, ◌==◌, Bool, true, false, List, [], ◌∷◌, ◌++◌, length, refl, ap, sym, ◌∙◌, append_assoc, append-nil, arith, length-append}
+use Rattle.std.proofs.Common.{◌≡◌, ℕ, suc, ◌+◌, ◌==◌, false, List, [], ◌∷◌, ◌++◌, length, refl, ap, sym, ◌∙◌, append_assoc, arith, add-zero}
 use Rattle.properties_format.specs.Text.{line_feed, carriage_return, LineEnd, lf, cr, crlf, line_end_text}
-use Rattle.properties_format.specs.Lines.{Ended, Lines, put_together, IsPlain, IsNoLoneLf, AreLines, IsLines, Line, Ending, end, fault, more, line_ends, begins_with_lf, ends_in_cr, without_leading_lf, lines_of, numbered, numbered_lines, rest_of_end, lines_after}
+use Rattle.properties_format.specs.Lines.{Ended, put_together, IsPlain, IsNoLoneLf, AreLines, Ending, more, line_ends, begins_with_lf, ends_in_cr, lines_of, numbered, lines_after}
 use Rattle.properties_format.proofs.Lines.Meets.{lines_of-meets}
-use Rattle.properties_format.proofs.Lines.Only.{lines_of-together}
-use Rattle.properties_format.proofs.Lines.Plain.{plain-no_cr, no_lf_first, ends_in_cr-append, last-plain}
-use Rattle.properties_format.proofs.Lines.Steps.{lines_of-line, lines_after-lf, lines_after-cr, lines_after-line, lines_after-no_lf}
+use Rattle.properties_format.proofs.Lines.Plain.{plain-no_cr, no_lf_first, ends_in_cr-append}
+use Rattle.properties_format.proofs.Lines.Steps.{lines_after-cr, lines_after-line}
 
 -- ---- the numbered lines
 
@@ -18,7 +17,10 @@ goes-last : (last : List ℕ) → IsPlain last → Goes [] last
 unfolding Goes
 goes-last last h n y e = rw (plain-no_cr last h, add-zero n) refl
 
-regroup : (text : List ℕ) (by : LineEnd) (whole y : List ℕ) → (text ++ (line_end_text by ++ whole)) ++ y ≡ text ++ (line_end_text by ++ (whole ++ y))
+pub one-more : (n m : ℕ) → n + 1 + m ≡ n + suc m
+one-more n m = omega arith
+
+pub regroup : (text : List ℕ) (by : LineEnd) (whole y : List ℕ) → (text ++ (line_end_text by ++ whole)) ++ y ≡ text ++ (line_end_text by ++ (whole ++ y))
 regroup text by whole y = append_assoc text (line_end_text by ++ whole) y ∙ ap (λ v. text ++ v) (append_assoc (line_end_text by) whole y)
 
 -- a line with an end that needs no look at what comes
@@ -31,11 +33,69 @@ goes-line text by ls last h k m goes n y e =
     ap (λ v. lines_after n false [] v e) (regroup text by (put_together ls last) y)
     ∙ lines_after-line n [] text by (put_together ls last ++ y) e tt h (k y)
     ∙ ap (λ v. record { number = n + 1; text = text } ∷ v) (goes (n + 1) y e)
-    ∙ rw (m, add-suc-1 n (length ls)) refl
+    ∙ rw (m, one-more n (length ls)) refl
 
 -- a CR at the end of the text
 goes-cr : (text : List ℕ) → IsPlain text → Goes (record { text = text; by = cr } ∷ []) []
 unfolding Goes
 goes-cr text h n y e =
     ap (λ v. lines_after n false [] v e) (regroup text cr [] y)
-    ∙ ?
+    ∙ lines_after-cr n false text y e h
+    ∙ ap (λ v. record { number = n + 1; text = text } ∷ lines_after (n + 1) v [] y e) (sym (ends_in_cr-append text carriage_return []))
+
+-- a text with a first character ends as it does behind a line end
+pub ends-behind : (text : List ℕ) (by : LineEnd) (c : ℕ) (x : List ℕ) → ends_in_cr (text ++ (line_end_text by ++ c ∷ x)) ≡ ends_in_cr (c ∷ x)
+ends-behind text lf c x = ends_in_cr-append text line_feed (c ∷ x)
+ends-behind text cr c x = ends_in_cr-append text carriage_return (c ∷ x)
+ends-behind text crlf c x = ends_in_cr-append text carriage_return (line_feed ∷ c ∷ x)
+
+-- an LF at the end is no CR
+ends-lf : (text : List ℕ) (x : List ℕ) → ends_in_cr (text ++ line_feed ∷ x) ≡ ends_in_cr x
+ends-lf text [] = ends_in_cr-append text line_feed []
+ends-lf text (c ∷ x) = ends_in_cr-append text line_feed (c ∷ x)
+
+ends-crlf : (text : List ℕ) (x : List ℕ) → ends_in_cr (text ++ carriage_return ∷ line_feed ∷ x) ≡ ends_in_cr x
+ends-crlf text [] = ends_in_cr-append text carriage_return (line_feed ∷ [])
+ends-crlf text (c ∷ x) = ends_in_cr-append text carriage_return (line_feed ∷ c ∷ x)
+
+-- the end by a CR that no LF comes after, before a text that is not empty
+goes-cr-on : (text : List ℕ) (ls : List Ended) (last : List ℕ) (c : ℕ) (x : List ℕ) → put_together ls last ≡ c ∷ x → (c == line_feed) ≡ false
+    → IsPlain text → Goes ls last → Goes (record { text = text; by = cr } ∷ ls) last
+goes-cr-on text ls last c x is_some no_lf h goes =
+    goes-line text cr ls last h (λ y e. rw is_some no_lf) (rw is_some (ends-behind text cr c x)) goes
+
+-- whether or not the rest is empty
+goes-cr-rest : (text : List ℕ) (ls : List Ended) (last : List ℕ) → IsPlain text → AreLines ls last → IsNoLoneLf ls → Goes ls last → Goes (record { text = text; by = cr } ∷ ls) last
+goes-cr-rest text [] [] h are none goes = goes-cr text h
+goes-cr-rest text [] (c ∷ cs) h are none goes = goes-cr-on text [] (c ∷ cs) c cs refl (no_lf_first [] (c ∷ cs) are none) h goes
+goes-cr-rest text (l ∷ ls) last h are none goes = of_line l.text l.by refl
+  where
+    k : begins_with_lf (put_together (l ∷ ls) last) ≡ false
+    k = no_lf_first (l ∷ ls) last are none
+
+    of_line : (t : List ℕ) (by : LineEnd) → l ≡ record { text = t; by = by } → Goes (record { text = text; by = cr } ∷ l ∷ ls) last
+    of_line (c ∷ t) by e = goes-cr-on text (l ∷ ls) last c (t ++ (line_end_text by ++ put_together ls last)) (ap (λ v. put_together (v ∷ ls) last) e) (rw e at k) h goes
+    of_line [] lf e = goes-cr-on text (l ∷ ls) last line_feed (put_together ls last) (ap (λ v. put_together (v ∷ ls) last) e) (rw e at k) h goes
+    of_line [] cr e = goes-cr-on text (l ∷ ls) last carriage_return (put_together ls last) (ap (λ v. put_together (v ∷ ls) last) e) (rw e at k) h goes
+    of_line [] crlf e = goes-cr-on text (l ∷ ls) last carriage_return (line_feed ∷ put_together ls last) (ap (λ v. put_together (v ∷ ls) last) e) (rw e at k) h goes
+
+goes-any : (text : List ℕ) (by : LineEnd) (ls : List Ended) (last : List ℕ) → IsPlain text → (by ≡ cr → IsNoLoneLf ls) → AreLines ls last → Goes ls last
+    → Goes (record { text = text; by = by } ∷ ls) last
+goes-any text lf ls last h k are goes = goes-line text lf ls last h (λ y e. absurd (cc)) (ends-lf text (put_together ls last)) goes
+goes-any text cr ls last h k are goes = goes-cr-rest text ls last h are (k refl) goes
+goes-any text crlf ls last h k are goes = goes-line text crlf ls last h (λ y e. absurd (cc)) (ends-crlf text (put_together ls last)) goes
+
+goes : (ls : List Ended) (last : List ℕ) → AreLines ls last → Goes ls last
+goes [] last h = goes-last last h
+goes (l ∷ ls) last h = goes-any l.text l.by ls last h.0 h.1 h.2 (goes ls last h.2)
+
+-- The lines of a text to which more comes: those that the text ends, and then those of its last line and what comes.
+pub lines_after-append : (n : ℕ) (x y : List ℕ) (e : Ending)
+    → lines_after n false [] (x ++ y) e
+    ≡ lines_after n false [] x more ++ lines_after (n + line_ends (lines_of x)) (ends_in_cr x) (lines_of x).last y e
+unfolding Goes
+lines_after-append n x y e =
+    let m = lines_of-meets x in
+    ap (λ v. lines_after n false [] (v ++ y) e) m.text
+    ∙ goes (lines_of x).ended (lines_of x).last m.are_lines n y e
+    ∙ ap (λ v. lines_after n false [] x more ++ lines_after (n + line_ends (lines_of x)) (ends_in_cr v) (lines_of x).last y e) (sym m.text)

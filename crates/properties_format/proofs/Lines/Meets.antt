@@ -1,9 +1,9 @@
 -- What is computed from a text are its lines.
-use Rattle.std.proofs.Common.{◌≡◌, ℕ, ◌==◌, Bool, true, false, List, [], ◌∷◌, ◌++◌, refl, ap, inl, inr}
+use Rattle.std.proofs.Common.{◌≡◌, ℕ, ◌==◌, false, List, [], ◌∷◌, refl, ap, inl, inr}
 use Rattle.std.proofs.lemmas.Bool.{or_from, or_parts}
 use Rattle.std.proofs.lemmas.Bool.Decides.{eqb_tells}
 use Rattle.properties_format.specs.Text.{line_feed, carriage_return, is_line_end, LineEnd, lf, cr, crlf}
-use Rattle.properties_format.specs.Lines.{Ended, Lines, put_together, IsPlain, IsNoLoneLf, AreLines, IsLines, end_before, cr_before, character_before, before, lines_of}
+use Rattle.properties_format.specs.Lines.{Ended, Lines, IsLines, end_before, cr_before, character_before, before, lines_of}
 
 -- a character that ends no line is none of the two that do
 pub before-plain : (c : ℕ) (lines : Lines) → is_line_end c ≡ false → before c lines ≡ character_before c lines.ended lines.last

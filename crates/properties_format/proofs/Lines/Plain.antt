@@ -1,9 +1,8 @@
 -- Texts without line ends, and what the lines of a text say of its first character.
-use Rattle.std.proofs.Common.{◌≡◌, ℕ, ◌==◌, Bool, true, false, List, [], ◌∷◌, ◌++◌, refl, ap, sym, ◌∙◌}
+use Rattle.std.proofs.Common.{◌≡◌, ℕ, ◌==◌, false, List, [], ◌∷◌, ◌++◌, refl, ap, sym, ◌∙◌}
 use Rattle.std.proofs.lemmas.Bool.{or_parts}
-use Rattle.std.proofs.lemmas.Bool.Decides.{eqb_tells}
-use Rattle.properties_format.specs.Text.{line_feed, carriage_return, is_line_end, LineEnd, lf, cr, crlf, line_end_text}
-use Rattle.properties_format.specs.Lines.{Ended, Lines, put_together, IsPlain, IsNoLoneLf, AreLines, IsLines, begins_with_lf, ends_in_cr, without_leading_lf, rest_of_end, lines_of}
+use Rattle.properties_format.specs.Text.{line_feed, carriage_return, LineEnd, lf, cr, crlf, line_end_text}
+use Rattle.properties_format.specs.Lines.{Ended, put_together, IsPlain, IsNoLoneLf, AreLines, begins_with_lf, ends_in_cr, without_leading_lf, lines_of}
 use Rattle.properties_format.proofs.Lines.Meets.{lines_of-meets}
 
 pub plain-append : (x y : List ℕ) → IsPlain x → IsPlain y → IsPlain (x ++ y)

@@ -4,7 +4,7 @@ use Rattle.std.specs.Prelude.{if◌then◌else◌}
 use Rattle.std.proofs.lemmas.Bool.{or_parts}
 use Rattle.std.proofs.lemmas.Bool.Decides.{eqb_tells}
 use Rattle.properties_format.specs.Text.{line_feed, carriage_return, is_line_end, LineEnd, lf, cr, crlf, line_end_text}
-use Rattle.properties_format.specs.Lines.{Ended, Lines, IsPlain, IsNoLoneLf, IsLines, Line, Ending, end, fault, more, begins_with_lf, without_leading_lf, lines_of, numbered, numbered_lines, rest_of_end, lines_after}
+use Rattle.properties_format.specs.Lines.{Lines, IsPlain, Line, Ending, end, fault, more, begins_with_lf, without_leading_lf, lines_of, numbered, numbered_lines, lines_after}
 use Rattle.properties_format.proofs.Lines.Only.{lines_of-plain, lines_of-before}
 use Rattle.properties_format.proofs.Lines.Plain.{plain-append, lines_of-no_lone_lf, without_leading_lf-none}
 
