@@ -2,7 +2,7 @@
 use Rattle.std.proofs.Common.{◌≡◌, ℕ, ◌==◌, ◌&&◌, true, false, List, [], ◌∷◌, ◌++◌, Option, Some, None, refl, ap, ◌∙◌, inl, inr}
 use Rattle.std.proofs.lemmas.Bool.{cases_Bool, eqb-true, and_parts, or_parts, or_from}
 use Rattle.properties_format.specs.Text.{backslash}
-use Rattle.properties_format.specs.Escapes.{letter_u, Four, four_text, are_digits, code_unit, is_high, is_low, is_surrogate, Spelling, itself, escaped, unicode, surrogates, last, spelling_text, IsSpelling, NoSpelling, with_low, with_digits, behind_u, behind_backslash, first_spelling}
+use Rattle.properties_format.specs.Escapes.{letter_u, Four, four_text, are_hexadecimal, code_unit, is_high, is_low, is_surrogate, Spelling, itself, escaped, unicode, surrogates, last, spelling_text, IsSpelling, NoSpelling, with_low, with_digits, behind_u, behind_backslash, first_spelling}
 
 -- the spelling that the text begins with, if there is one
 abbrev pub spelling_of : List ℕ → Option Spelling
@@ -15,13 +15,13 @@ high-surrogate n e = (or_parts (is_high n) (is_low n) e).0
 low-surrogate : (n : ℕ) → is_surrogate n ≡ false → is_low n ≡ false
 low-surrogate n e = (or_parts (is_high n) (is_low n) e).1
 
-digits-unicode : (d : Four) (rest : List ℕ) → are_digits d ≡ true → is_surrogate (code_unit d) ≡ false → with_digits d rest ≡ Some (unicode d)
+digits-unicode : (d : Four) (rest : List ℕ) → are_hexadecimal d ≡ true → is_surrogate (code_unit d) ≡ false → with_digits d rest ≡ Some (unicode d)
 digits-unicode d rest h k = rw h (rw (high-surrogate (code_unit d) k) (rw (low-surrogate (code_unit d) k) refl))
 
-digits-high : (d : Four) (rest : List ℕ) → are_digits d ≡ true → is_high (code_unit d) ≡ true → with_digits d rest ≡ with_low d rest
+digits-high : (d : Four) (rest : List ℕ) → are_hexadecimal d ≡ true → is_high (code_unit d) ≡ true → with_digits d rest ≡ with_low d rest
 digits-high d rest h k = rw h (rw k refl)
 
-low-low : (high low : Four) (rest : List ℕ) → are_digits low ≡ true → is_low (code_unit low) ≡ true
+low-low : (high low : Four) (rest : List ℕ) → are_hexadecimal low ≡ true → is_low (code_unit low) ≡ true
     → with_low high (backslash ∷ letter_u ∷ four_text low ++ rest) ≡ Some (surrogates high low)
 low-low high low rest h k = rw h (rw k refl)
 
@@ -57,19 +57,19 @@ IsFound x (Some p) = IsFirst x p
 escape-found : (behind : List ℕ) → IsFound (backslash ∷ letter_u ∷ behind) None
 escape-found behind = record { behind = behind; whole = refl }
 
-low-parts : (x y : ℕ) (low : Four) → ((x == backslash && y == letter_u) && (are_digits low && is_low (code_unit low))) ≡ true
-    → (x ≡ backslash) × (y ≡ letter_u) × (are_digits low ≡ true) × (is_low (code_unit low) ≡ true)
+low-parts : (x y : ℕ) (low : Four) → ((x == backslash && y == letter_u) && (are_hexadecimal low && is_low (code_unit low))) ≡ true
+    → (x ≡ backslash) × (y ≡ letter_u) × (are_hexadecimal low ≡ true) × (is_low (code_unit low) ≡ true)
 low-parts x y low e =
-    let p = and_parts (x == backslash && y == letter_u) (are_digits low && is_low (code_unit low)) e in
+    let p = and_parts (x == backslash && y == letter_u) (are_hexadecimal low && is_low (code_unit low)) e in
     let q = and_parts (x == backslash) (y == letter_u) p.0 in
-    let r = and_parts (are_digits low) (is_low (code_unit low)) p.1 in
+    let r = and_parts (are_hexadecimal low) (is_low (code_unit low)) p.1 in
     (eqb-true x backslash q.0, eqb-true y letter_u q.1, r.0, r.1)
 
-low-found : (high : Four) (rest : List ℕ) → are_digits high ≡ true → is_high (code_unit high) ≡ true
+low-found : (high : Four) (rest : List ℕ) → are_hexadecimal high ≡ true → is_high (code_unit high) ≡ true
     → IsFound (backslash ∷ letter_u ∷ four_text high ++ rest) (with_low high rest)
 low-found high (x ∷ y ∷ a ∷ b ∷ c ∷ d ∷ rest) h k =
     let low : Four = record { first = a; second = b; third = c; fourth = d } in
-    elim (cases_Bool ((x == backslash && y == letter_u) && (are_digits low && is_low (code_unit low)))) [
+    elim (cases_Bool ((x == backslash && y == letter_u) && (are_hexadecimal low && is_low (code_unit low)))) [
       | inl e ↦ rw e (let p = low-parts x y low e in record {
         rest = rest;
         whole = ap (λ v. backslash ∷ letter_u ∷ four_text high ++ (v ∷ y ∷ four_text low ++ rest)) p.0
@@ -81,7 +81,7 @@ low-found high (x ∷ y ∷ a ∷ b ∷ c ∷ d ∷ rest) h k =
 low-found high rest h k = escape-found (four_text high ++ rest)
 
 digits-found : (d : Four) (rest : List ℕ) → IsFound (backslash ∷ letter_u ∷ four_text d ++ rest) (with_digits d rest)
-digits-found d rest = elim (cases_Bool (are_digits d)) [
+digits-found d rest = elim (cases_Bool (are_hexadecimal d)) [
   | inl e ↦ rw e (elim (cases_Bool (is_high (code_unit d))) [
     | inl h ↦ rw h (low-found d rest e h)
     | inr h ↦ rw h (elim (cases_Bool (is_low (code_unit d))) [

@@ -32,12 +32,12 @@ escaped_character c =
     else (if c == letter_n then line_feed else (if c == letter_f then form_feed else (if c == letter_r then carriage_return else c)))
 
 -- a hexadecimal digit: 0 to 9, A to F, or a to f
-abbrev pub is_digit : ℕ → Bool
-is_digit c = (nat_le 0x30 c && nat_le c 0x39) || ((nat_le 0x41 c && nat_le c 0x46) || (nat_le 0x61 c && nat_le c 0x66))
+abbrev pub is_hexadecimal : ℕ → Bool
+is_hexadecimal c = (nat_le 0x30 c && nat_le c 0x39) || ((nat_le 0x41 c && nat_le c 0x46) || (nat_le 0x61 c && nat_le c 0x66))
 
 -- what a hexadecimal digit counts
-abbrev pub digit_value : ℕ → ℕ
-digit_value c = if nat_le c 0x39 then c - 0x30 else (if nat_le c 0x46 then c - 0x37 else c - 0x57)
+abbrev pub hexadecimal_value : ℕ → ℕ
+hexadecimal_value c = if nat_le c 0x39 then c - 0x30 else (if nat_le c 0x46 then c - 0x37 else c - 0x57)
 
 -- the four characters behind a `\u`
 pub record Four : Type 0 where
@@ -50,12 +50,12 @@ abbrev pub four_text : Four → List ℕ
 four_text d = d.first ∷ d.second ∷ d.third ∷ d.fourth ∷ []
 
 -- all four are hexadecimal digits
-abbrev pub are_digits : Four → Bool
-are_digits d = (is_digit d.first && is_digit d.second) && (is_digit d.third && is_digit d.fourth)
+abbrev pub are_hexadecimal : Four → Bool
+are_hexadecimal d = (is_hexadecimal d.first && is_hexadecimal d.second) && (is_hexadecimal d.third && is_hexadecimal d.fourth)
 
 -- the number of four hexadecimal digits
 abbrev pub code_unit : Four → ℕ
-code_unit d = ((digit_value d.first * 16 + digit_value d.second) * 16 + digit_value d.third) * 16 + digit_value d.fourth
+code_unit d = ((hexadecimal_value d.first * 16 + hexadecimal_value d.second) * 16 + hexadecimal_value d.third) * 16 + hexadecimal_value d.fourth
 
 -- a high surrogate, a low one, and either
 abbrev pub is_high : ℕ → Bool
@@ -99,9 +99,9 @@ spelt_character last = 0
 abbrev pub IsSpelling : Spelling → List ℕ → Type 0
 IsSpelling (itself c) rest = (c == backslash) ≡ false
 IsSpelling (escaped c) rest = (c == letter_u) ≡ false
-IsSpelling (unicode d) rest = (are_digits d ≡ true) × (is_surrogate (code_unit d) ≡ false)
+IsSpelling (unicode d) rest = (are_hexadecimal d ≡ true) × (is_surrogate (code_unit d) ≡ false)
 IsSpelling (surrogates high low) rest =
-    (are_digits high ≡ true) × (is_high (code_unit high) ≡ true) × (are_digits low ≡ true) × (is_low (code_unit low) ≡ true)
+    (are_hexadecimal high ≡ true) × (is_high (code_unit high) ≡ true) × (are_hexadecimal low ≡ true) × (is_low (code_unit low) ≡ true)
 IsSpelling last rest = rest ≡ []
 
 -- the texts of the spellings put together, and then the rest of the text
@@ -127,7 +127,7 @@ NoSpelling text = (p : Spelling) (rest : List ℕ) → text ≡ spelling_text p 
 
 -- what is wrong with a text behind a `\u` that no spelling begins
 abbrev pub malformed_by : List ℕ → Malformed
-malformed_by (a ∷ b ∷ c ∷ d ∷ rest) = if are_digits record { first = a; second = b; third = c; fourth = d } then invalid_character else not_hex
+malformed_by (a ∷ b ∷ c ∷ d ∷ rest) = if are_hexadecimal record { first = a; second = b; third = c; fourth = d } then invalid_character else not_hex
 malformed_by _ = not_enough_digits
 
 -- The text is a concatenation of spellings, and then a `\u` which begins no spelling.
@@ -154,13 +154,13 @@ IsMeaning text (breaks kind) = Breaks text kind
 abbrev pub with_low : Four → List ℕ → Option Spelling
 with_low high (x ∷ y ∷ a ∷ b ∷ c ∷ d ∷ rest) =
     let low : Four = record { first = a; second = b; third = c; fourth = d } in
-    if (x == backslash && y == letter_u) && (are_digits low && is_low (code_unit low)) then Some (surrogates high low) else None
+    if (x == backslash && y == letter_u) && (are_hexadecimal low && is_low (code_unit low)) then Some (surrogates high low) else None
 with_low high _ = None
 
 -- the spelling of which these four are the first digits
 abbrev pub with_digits : Four → List ℕ → Option Spelling
 with_digits d rest =
-    if are_digits d then (if is_high (code_unit d) then with_low d rest else (if is_low (code_unit d) then None else Some (unicode d)))
+    if are_hexadecimal d then (if is_high (code_unit d) then with_low d rest else (if is_low (code_unit d) then None else Some (unicode d)))
     else None
 
 -- the spelling that a `\u` begins

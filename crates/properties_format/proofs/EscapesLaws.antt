@@ -1,0 +1,96 @@
+-- How the meaning of a text goes on from what stands in front of it.
+use Rattle.std.proofs.Common.{◌≡◌, ℕ, ◌==◌, ◌<◌, length, true, false, List, [], ◌∷◌, ◌++◌, map, None, refl, ap, ◌∙◌, arith}
+use Rattle.properties_format.specs.Text.{backslash}
+use Rattle.properties_format.specs.Escapes.{letter_u, escaped_character, Four, four_text, are_hexadecimal, code_unit, is_high, is_low, is_surrogate, paired, Spelling, itself, escaped, unicode, surrogates, last, spelt_character, IsSpelling, spelt_before, AreSpellings, not_enough_digits, not_hex, invalid_character, malformed_by, means, breaks, with_low, behind_u, in_front, meaning_of}
+use Rattle.properties_format.proofs.EscapesFirst.{spelling_of-none}
+use Rattle.properties_format.proofs.Escapes.{text_in_front, meaning_of-empty, meaning_of-spelling, meaning_of-spellings, meaning_of-fault}
+
+-- ---- a spelling in front
+
+pub meaning_of-itself : (c : ℕ) (rest : List ℕ) → (c == backslash) ≡ false → meaning_of (c ∷ rest) ≡ in_front c (meaning_of rest)
+meaning_of-itself c rest h = meaning_of-spelling (itself c) rest h
+
+pub meaning_of-escaped : (c : ℕ) (rest : List ℕ) → (c == letter_u) ≡ false → meaning_of (backslash ∷ c ∷ rest) ≡ in_front (escaped_character c) (meaning_of rest)
+meaning_of-escaped c rest h = meaning_of-spelling (escaped c) rest h
+
+pub meaning_of-unicode : (d : Four) (rest : List ℕ) → are_hexadecimal d ≡ true → is_surrogate (code_unit d) ≡ false
+    → meaning_of (backslash ∷ letter_u ∷ four_text d ++ rest) ≡ in_front (code_unit d) (meaning_of rest)
+meaning_of-unicode d rest h k = meaning_of-spelling (unicode d) rest (h, k)
+
+pub meaning_of-surrogates : (high low : Four) (rest : List ℕ) → are_hexadecimal high ≡ true → is_high (code_unit high) ≡ true
+    → are_hexadecimal low ≡ true → is_low (code_unit low) ≡ true
+    → meaning_of (backslash ∷ letter_u ∷ four_text high ++ (backslash ∷ letter_u ∷ four_text low ++ rest)) ≡ in_front (paired (code_unit high) (code_unit low)) (meaning_of rest)
+meaning_of-surrogates high low rest h k l m = meaning_of-spelling (surrogates high low) rest (h, k, l, m)
+
+-- a backslash that stands last
+pub meaning_of-last : meaning_of (backslash ∷ []) ≡ means (0 ∷ [])
+meaning_of-last = meaning_of-spelling last [] refl ∙ ap (in_front 0) meaning_of-empty
+
+-- ---- a text without a backslash means itself
+
+-- no backslash stands in the text
+abbrev pub HasNoBackslash : List ℕ → Type 0
+HasNoBackslash [] = Unit {0}
+HasNoBackslash (c ∷ cs) = ((c == backslash) ≡ false) × HasNoBackslash cs
+
+pub meaning_of-plain_front : (x rest : List ℕ) → HasNoBackslash x → meaning_of (x ++ rest) ≡ text_in_front x (meaning_of rest)
+meaning_of-plain_front [] rest h = refl
+meaning_of-plain_front (c ∷ x) rest h = meaning_of-itself c (x ++ rest) h.0 ∙ ap (in_front c) (meaning_of-plain_front x rest h.1)
+
+pub meaning_of-plain : (x : List ℕ) → HasNoBackslash x → meaning_of x ≡ means x
+meaning_of-plain [] h = meaning_of-empty
+meaning_of-plain (c ∷ x) h = meaning_of-itself c x h.0 ∙ ap (in_front c) (meaning_of-plain x h.1)
+
+-- ---- spellings whose end doesn't depend on what follows
+
+-- a spelling other than a backslash that stands last
+abbrev pub IsWhole : Spelling → Type 0
+IsWhole (itself c) = IsSpelling (itself c) []
+IsWhole (escaped c) = IsSpelling (escaped c) []
+IsWhole (unicode d) = IsSpelling (unicode d) []
+IsWhole (surrogates high low) = IsSpelling (surrogates high low) []
+IsWhole last = ⊥
+
+abbrev pub AreWhole : List Spelling → Type 0
+AreWhole [] = Unit {0}
+AreWhole (p ∷ ps) = IsWhole p × AreWhole ps
+
+pub IsWhole-spelling : (p : Spelling) (rest : List ℕ) → IsWhole p → IsSpelling p rest
+IsWhole-spelling (itself c) rest h = h
+IsWhole-spelling (escaped c) rest h = h
+IsWhole-spelling (unicode d) rest h = h
+IsWhole-spelling (surrogates high low) rest h = h
+IsWhole-spelling last rest h = absurd h
+
+pub AreWhole-spellings : (ps : List Spelling) (rest : List ℕ) → AreWhole ps → AreSpellings ps rest
+AreWhole-spellings [] rest h = tt
+AreWhole-spellings (p ∷ ps) rest h = (IsWhole-spelling p (spelt_before ps rest) h.0, AreWhole-spellings ps rest h.1)
+
+-- whole spellings in front of any text
+pub meaning_of-whole : (ps : List Spelling) (rest : List ℕ) → AreWhole ps → meaning_of (spelt_before ps rest) ≡ text_in_front (map spelt_character ps) (meaning_of rest)
+meaning_of-whole ps rest h = meaning_of-spellings ps rest (AreWhole-spellings ps rest h)
+
+-- ---- a `\u` that begins no spelling
+
+-- where the reading finds no spelling behind the `\u`
+pub meaning_of-none : (behind : List ℕ) → behind_u behind ≡ None → meaning_of (backslash ∷ letter_u ∷ behind) ≡ breaks (malformed_by behind)
+meaning_of-none behind e = meaning_of-fault behind (spelling_of-none (backslash ∷ letter_u ∷ behind) e)
+
+-- fewer than four characters
+pub meaning_of-short : (behind : List ℕ) → length behind < 4 → meaning_of (backslash ∷ letter_u ∷ behind) ≡ breaks not_enough_digits
+meaning_of-short (a ∷ b ∷ c ∷ d ∷ rest) h = absurd (omega arith)
+meaning_of-short behind h = meaning_of-none behind refl
+
+-- four characters, of which one is no digit
+pub meaning_of-not_hex : (d : Four) (rest : List ℕ) → are_hexadecimal d ≡ false → meaning_of (backslash ∷ letter_u ∷ four_text d ++ rest) ≡ breaks not_hex
+meaning_of-not_hex d rest h = meaning_of-none (four_text d ++ rest) (rw h refl) ∙ rw h refl
+
+-- a low surrogate
+pub meaning_of-lone_low : (d : Four) (rest : List ℕ) → are_hexadecimal d ≡ true → is_high (code_unit d) ≡ false → is_low (code_unit d) ≡ true
+    → meaning_of (backslash ∷ letter_u ∷ four_text d ++ rest) ≡ breaks invalid_character
+meaning_of-lone_low d rest h k l = meaning_of-none (four_text d ++ rest) (rw h (rw k (rw l refl))) ∙ rw h refl
+
+-- a high surrogate, behind which no `\u` escape of a low one is read
+pub meaning_of-lone_high : (d : Four) (rest : List ℕ) → are_hexadecimal d ≡ true → is_high (code_unit d) ≡ true → with_low d rest ≡ None
+    → meaning_of (backslash ∷ letter_u ∷ four_text d ++ rest) ≡ breaks invalid_character
+meaning_of-lone_high d rest h k l = meaning_of-none (four_text d ++ rest) (rw h (rw k l)) ∙ rw h refl
