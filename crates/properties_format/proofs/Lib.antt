@@ -22,13 +22,7 @@ pub mod Maps
 pub mod Examples
 pub mod Utf8Sequences
 pub mod Windows1252Table
-pub mod Escapes
 pub mod EscapesDigits
-pub mod EscapesFirst
 pub mod EscapesLaws
 pub mod EscapesScalars
-pub mod Examples
-pub mod Split
-pub mod SplitBlanks
-pub mod SplitKeys
 pub mod SplitLaws
