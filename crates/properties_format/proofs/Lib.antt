@@ -17,6 +17,7 @@ pub mod Items
 pub mod Numbers
 pub mod Settings
 pub mod Printing
+pub mod MarkLike
 pub mod Writing
 pub mod Maps
 pub mod Examples
