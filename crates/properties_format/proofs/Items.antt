@@ -1,11 +1,11 @@
 -- The items of an input exist, and they are the only ones.
-use Rattle.std.proofs.Common.{◌≡◌, ◌⊎◌, ℕ, List, [], ◌∷◌, refl, ap, sym, ◌∙◌, inl, inr}
+use Rattle.std.proofs.Common.{◌≡◌, ℕ, List, [], ◌∷◌, refl, ap, ◌∙◌, inl, inr}
 use Rattle.properties_format.specs.Encoding.{Encoding, decoded_of}
 use Rattle.properties_format.specs.Lines.{Ending, Line, line_ends, lines_of, numbered_lines}
 use Rattle.properties_format.specs.Groups.{joined, first_number, groups_of}
 use Rattle.properties_format.specs.Split.{Logical, IsSplit, split_of}
-use Rattle.properties_format.specs.Escapes.{Malformed, Meaning, means, breaks, IsMeaning, meaning_of}
-use Rattle.properties_format.specs.Items.{comment, pair, Entry, item, malformed, Outcome, ignored, given, broken, IsOutcome, IsFollowed, AreEntries, IsItems, comment_outcome, pair_outcome, split_outcome, outcome_of, followed, entries_of, items_of_lines, items_of}
+use Rattle.properties_format.specs.Escapes.{Meaning, means, breaks, IsMeaning, meaning_of}
+use Rattle.properties_format.specs.Items.{comment, pair, Entry, item, Outcome, ignored, given, broken, IsOutcome, IsFollowed, AreEntries, IsItems, comment_outcome, pair_outcome, split_outcome, outcome_of, followed, entries_of, items_of_lines, items_of}
 use Rattle.properties_format.proofs.EncodingPieces.{decoded_of-meets, decoded_of-only}
 use Rattle.properties_format.proofs.Lines.Meets.{lines_of-meets}
 use Rattle.properties_format.proofs.Lines.Only.{lines_of-only}

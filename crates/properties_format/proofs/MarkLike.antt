@@ -1,5 +1,5 @@
 -- Which keys begin like a byte order mark.
-use Rattle.std.proofs.Common.{◌≡◌, ◌≢◌, ◌⊎◌, ℕ, ◌<◌, ◌≤◌, ◌==◌, ◌||◌, ◌&&◌, Bool, true, false, cond, List, [], ◌∷◌, ◌++◌, get_or, refl, ap, sym, ◌∙◌, inl, inr, append_assoc, arith, lit≤, eqb-true, ne_eqb, ltb-true}
+use Rattle.std.proofs.Common.{◌≡◌, ◌≢◌, ◌⊎◌, ℕ, ◌<◌, ◌≤◌, ◌==◌, ◌||◌, ◌&&◌, true, false, cond, List, [], ◌∷◌, ◌++◌, get_or, refl, ap, sym, ◌∙◌, inl, inr, append_assoc, arith, lit≤, eqb-true, ne_eqb, ltb-true}
 use Rattle.std.specs.Prelude.{Option, Some, None, is_some, unwrap_or, nat_lt}
 use Rattle.std.specs.List.{All}
 use Rattle.std.specs.Char.{encode_utf8}
@@ -8,7 +8,7 @@ use Rattle.std.proofs.lemmas.Bool.Decides.{eqb_tells}
 use Rattle.std.proofs.lemmas.Str.{encode_same}
 use Rattle.properties_format.specs.Text.{scalar, space, backslash}
 use Rattle.properties_format.specs.Windows1252.{windows_1252_byte, windows_1252_character}
-use Rattle.properties_format.specs.Encoding.{Encoding, windows_1252, utf_8, utf_16le, utf_16be, encoded, one_byte, begins_with, begins_like_mark, utf_8_mark, utf_16be_mark, utf_16le_mark}
+use Rattle.properties_format.specs.Encoding.{Encoding, windows_1252, utf_8, encoded, one_byte, begins_with, begins_like_mark, utf_8_mark, utf_16be_mark, utf_16le_mark}
 use Rattle.properties_format.specs.Printing.{in_key_or_value, unit_escape, high_surrogate, low_surrogate, unicode_escape, literal, is_special, letter_escape, has_letter, spelt, spelt_text, encoded_text, is_mark_like}
 use Rattle.properties_format.proofs.Windows1252Table.{windows_1252_character-byte}
 use Rattle.properties_format.proofs.Printing.{encoded_text-append}

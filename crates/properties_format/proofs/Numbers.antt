@@ -1,8 +1,8 @@
 -- The numbers of the items strictly ascend.
-use Rattle.std.proofs.Common.{◌≡◌, ◌⊎◌, ℕ, ◌+◌, ◌<◌, ◌≤◌, List, [], ◌∷◌, ◌++◌, refl, ap, sym, ◌∙◌, inl, inr, length, arith, append_assoc, subst}
+use Rattle.std.proofs.Common.{ℕ, ◌+◌, ◌<◌, ◌≤◌, List, [], ◌∷◌, ◌++◌, length, arith, append_assoc, subst}
 use Rattle.properties_format.specs.Encoding.{Encoding, decoded_of}
-use Rattle.properties_format.specs.Lines.{Ending, end, fault, more, Ended, Line, Lines, line_ends, lines_of, numbered, numbered_lines}
-use Rattle.properties_format.specs.Groups.{IsWhole, AreWhole, lines_in, last_group, IsGroups, joined, first_number, groups_of}
+use Rattle.properties_format.specs.Lines.{Ending, end, fault, more, Ended, Line, line_ends, lines_of, numbered, numbered_lines}
+use Rattle.properties_format.specs.Groups.{AreWhole, lines_in, last_group, IsGroups, joined, first_number, groups_of}
 use Rattle.properties_format.specs.Items.{Entry, NumbersAscend, Outcome, ignored, given, broken, IsItems, outcome_of, last_entries, followed, entries_of, items_of}
 use Rattle.properties_format.proofs.Groups.Meets.{groups_of-meets}
 use Rattle.properties_format.proofs.Items.{items_of-only}

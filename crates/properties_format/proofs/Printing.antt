@@ -1,7 +1,7 @@
 -- How printed lines are put together, and that they hold only characters that the encoding can encode.
-use Rattle.std.proofs.Common.{◌≡◌, ◌⊎◌, ℕ, ◌+◌, ◌/◌, ◌%◌, ◌<◌, ◌==◌, ◌||◌, ◌&&◌, not, Bool, true, false, cond, List, [], ◌∷◌, ◌++◌, refl, ap, sym, ◌∙◌, inl, inr, append_assoc, arith, lit<, mod-lt, lt-ltb, eqb-true}
-use Rattle.std.specs.Prelude.{Option, Some, None, is_some, unwrap_or, nat_lt, nat_le}
-use Rattle.std.specs.Char.{encode_utf8, digit_char}
+use Rattle.std.proofs.Common.{◌≡◌, ℕ, ◌+◌, ◌/◌, ◌%◌, ◌<◌, ◌==◌, ◌||◌, ◌&&◌, not, Bool, true, false, cond, List, [], ◌∷◌, ◌++◌, refl, ap, sym, ◌∙◌, inl, inr, append_assoc, arith, lit<, lt-ltb, eqb-true}
+use Rattle.std.specs.Prelude.{Some, is_some, unwrap_or, nat_lt, nat_le}
+use Rattle.std.specs.Char.{digit_char}
 use Rattle.std.proofs.lemmas.Bool.{lt-leb, cond-true, cond_both, or_cases, and_from, and_left}
 use Rattle.std.proofs.lemmas.Str.{encode_ascii}
 use Rattle.properties_format.specs.Text.{line_end_text, LineEnd, lf, cr, crlf, is_blank, space, backslash, is_separator, is_comment_mark}

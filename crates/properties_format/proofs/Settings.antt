@@ -1,11 +1,11 @@
 -- The tests of settings answer true at good settings, and at no others.
-use Rattle.std.proofs.Common.{◌≡◌, ◌≢◌, ◌⊎◌, ℕ, ◌==◌, ◌&&◌, ◌||◌, not, Bool, true, false, List, [], ◌∷◌, ◌++◌, refl, ap, sym, ◌∙◌, inl, inr}
+use Rattle.std.proofs.Common.{◌≡◌, ℕ, ◌==◌, ◌&&◌, ◌||◌, not, true, false, List, [], ◌∷◌, ◌++◌, refl, ap, sym, ◌∙◌, inl, inr}
 use Rattle.std.specs.Bool.{Decides}
 use Rattle.std.proofs.lemmas.Bool.{cases_Bool, cond-true, cond-false, and_parts, and_from, or_cases, or_left, or_right, not-true, not_from_false, eqb-true}
 use Rattle.properties_format.specs.Text.{is_blank, is_line_end, is_comment_mark, is_separator}
 use Rattle.properties_format.specs.Lines.{IsPlain}
 use Rattle.properties_format.specs.Split.{AreBlanks}
-use Rattle.properties_format.specs.Settings.{IsGoodPrefix, IsSignedSeparator, IsBlankSeparator, IsGoodSeparator, is_blanks, is_plain, is_good_prefix, is_signed_separator, is_good_separator}
+use Rattle.properties_format.specs.Settings.{IsGoodPrefix, IsSignedSeparator, IsGoodSeparator, is_blanks, is_plain, is_good_prefix, is_signed_separator, is_good_separator}
 use Rattle.properties_format.specs.Writing.{tail_of}
 
 -- ---- blanks, and texts without a line end

@@ -2,7 +2,6 @@
 use Rattle.std.proofs.Common.{◌≡◌, ℕ, suc, List, [], ◌∷◌, ◌++◌, refl, ap, sym, ◌∙◌, append_assoc}
 use Rattle.std.specs.Prelude.{length}
 use Rattle.properties_format.specs.Encoding.{Encoding}
-use Rattle.properties_format.specs.Entries.{Entry}
 use Rattle.properties_format.specs.Settings.{Settings}
 use Rattle.properties_format.specs.Writing.{Call, is_accepted, settings_after_call, settings_after, answers, line_of, lines_with, lines_after, line_bytes, wrote, told_line, told}
 

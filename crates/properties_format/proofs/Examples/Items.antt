@@ -163,6 +163,15 @@ stored_backslash : items_of windows_1252 (codes "#\\\\uD83D\\uDC1E") end ≡ mal
 unfolding items_of pieces_of split_of meaning_of
 stored_backslash = refl
 
+-- comments and pairs, and a fault behind a pair
+a_comment_and_two_pairs : items_of windows_1252 (codes "# x\nb = 2\na") end ≡ item 1 (comment (codes "x")) ∷ item 2 (pair (codes "b") (codes "2")) ∷ item 3 (pair (codes "a") []) ∷ []
+unfolding items_of pieces_of split_of meaning_of
+a_comment_and_two_pairs = refl
+
+fault_behind_a_pair : items_of windows_1252 (codes "a=1\nk=\\u12") end ≡ item 1 (pair (codes "a") (codes "1")) ∷ malformed not_enough_digits 2 ∷ []
+unfolding items_of pieces_of split_of meaning_of
+fault_behind_a_pair = refl
+
 -- a read that fails
 fault_at_once : items_of windows_1252 [] fault ≡ read_fault 1 ∷ []
 unfolding items_of pieces_of split_of meaning_of

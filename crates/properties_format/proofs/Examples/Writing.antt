@@ -87,6 +87,14 @@ utf_16_asked : WritesAndReads (output_encoding utf_16le) (pair_call (codes "é")
 unfolding items_of pieces_of split_of meaning_of encode_utf8
 utf_16_asked = (refl, refl, refl)
 
+utf_8_beside_ascii : WritesAndReads (output_encoding utf_16le) (pair_call (codes "a") (codes "é") ∷ []) (0x61 ∷ 0x3d ∷ 0xc3 ∷ 0xa9 ∷ 0x0a ∷ []) (item 1 (pair (codes "a") (codes "é")) ∷ [])
+unfolding items_of pieces_of split_of meaning_of encode_utf8
+utf_8_beside_ascii = (refl, refl, refl)
+
+pairs_alone : WritesAndReads windows_1252 (pair_call (codes "b") (codes "2") ∷ pair_call (codes "a") [] ∷ []) (codes "b=2\na=\n") (item 1 (pair (codes "b") (codes "2")) ∷ item 2 (pair (codes "a") []) ∷ [])
+unfolding items_of pieces_of split_of meaning_of
+pairs_alone = (refl, refl, refl)
+
 -- comments
 empty_comment : WritesAndReads windows_1252 (comment_call [] ∷ []) (codes "# \n") (item 1 (comment []) ∷ [])
 unfolding items_of pieces_of split_of meaning_of
