@@ -1,16 +1,16 @@
 -- The characters of pieces: each is a scalar value, an ASCII character has its own bytes, and what is encoded is a piece.
-use Rattle.std.proofs.Common.{◌≡◌, ℕ, ◌+◌, ◌-◌, ◌*◌, ◌<◌, true, false, nat_lt, nat_le, List, [], ◌∷◌, ◌++◌, Option, Some, None, All, refl, sym, ap, ap₂, ◌∙◌, inl, inr, arith, ltb-true, ltb-false, leb-false}
+use Rattle.std.proofs.Common.{◌≡◌, ℕ, ◌+◌, ◌-◌, ◌*◌, ◌%◌, ◌<◌, ◌≤◌, ◌⊎◌, ◌&&◌, Bool, true, false, nat_lt, nat_le, List, [], ◌∷◌, ◌++◌, length, Option, Some, None, All, refl, sym, ap, ap₂, ◌∙◌, subst, inl, inr, arith, ltb-true, ltb-false, leb-true, leb-false}
 use Rattle.std.specs.Char.{encode_utf8}
 use Rattle.std.specs.List.{AllByRecursion}
-use Rattle.std.proofs.lemmas.List.Elements.{recursion_from_All, All-nil, All-cons}
+use Rattle.std.proofs.lemmas.List.Elements.{All-from_recursion, recursion_from_All, All-nil, All-cons}
 use Rattle.std.proofs.lemmas.Bool.{and_parts, and_cases, and_left, lt-leb}
 use Rattle.std.proofs.lemmas.Option.{none-some, same_Some}
 use Rattle.properties_format.specs.Text.{byte, scalar, replacement}
 use Rattle.properties_format.specs.Pieces.{Piece, piece, characters}
 use Rattle.properties_format.specs.Windows1252.{windows_1252_character, windows_1252_byte}
-use Rattle.properties_format.specs.Utf8.{IsUtf8Piece, whole, stray, broken}
+use Rattle.properties_format.specs.Utf8.{IsUtf8Piece, whole, stray, broken, IsSequence, sequence_character}
 use Rattle.properties_format.specs.Utf16.{low_first, high_first, is_high, is_low, pair_character, IsUtf16Piece, pair, plain, low_alone, high_alone, high_last, byte_last, both_last}
-use Rattle.properties_format.specs.Encoding.{Encoding, windows_1252, utf_8, utf_16le, utf_16be, output_encoding, one_byte, encoded, IsPiece, IsPieces, pieces_of, ascii_bytes}
+use Rattle.properties_format.specs.Encoding.{Encoding, windows_1252, utf_8, utf_16le, utf_16be, output_encoding, one_byte, encoded, mark, IsPiece, IsPieces, pieces_of, decoded_of, ascii_bytes}
 use Rattle.properties_format.proofs.Windows1252Table.{windows_1252_character-byte, windows_1252-scalar, windows_1252-ascii, windows_1252_character-ascii}
 use Rattle.properties_format.proofs.Utf8Characters.{encode-says, encode-ascii}
 use Rattle.properties_format.proofs.Utf8Sequences.{sequence-scalar, sequence-ascii}

@@ -1,10 +1,11 @@
 -- Which bytes at the front decide the mark.
-use Rattle.std.proofs.Common.{◌≡◌, ℕ, ◌≤◌, ◌==◌, ◌&&◌, ◌||◌, Bool, true, false, if◌then◌else◌, List, [], ◌∷◌, ◌++◌, length, drop, All, refl, sym, ap, ◌∙◌, inl, inr, arith}
+use Rattle.std.proofs.Common.{◌≡◌, ℕ, suc, ◌<◌, ◌≤◌, ◌==◌, ◌&&◌, ◌||◌, Bool, true, false, cond, if◌then◌else◌, List, [], ◌∷◌, ◌++◌, length, drop, All, refl, sym, ap, ◌∙◌, inl, inr, arith}
 use Rattle.std.proofs.lemmas.List.{drop-append-le}
 use Rattle.std.proofs.lemmas.List.Elements.{All-drop}
-use Rattle.std.proofs.lemmas.Bool.{cases_Bool, or_parts, and_parts, and_left, or_from}
+use Rattle.std.proofs.lemmas.Bool.{cases_Bool, cond-true, cond-false, or_parts, and_parts, and_left, or_from}
 use Rattle.properties_format.specs.Text.{byte, scalar}
-use Rattle.properties_format.specs.Encoding.{Encoding, utf_8, utf_16le, utf_16be, Marked, mark, begins_with, begins_like_mark, utf_8_mark, utf_16be_mark, utf_16le_mark, decoded_of}
+use Rattle.properties_format.specs.Pieces.{characters}
+use Rattle.properties_format.specs.Encoding.{Encoding, windows_1252, utf_8, utf_16le, utf_16be, Marked, mark, begins_with, begins_like_mark, utf_8_mark, utf_16be_mark, utf_16le_mark, pieces_of, decoded_of}
 use Rattle.properties_format.proofs.EncodingCharacters.{pieces_of-scalar}
 
 -- the list begins the other, which is longer

@@ -1,6 +1,6 @@
 -- The table of windows-1252: its characters are distinct, and the byte of a character is found by it.
-use Rattle.std.proofs.Common.{◌≡◌, ℕ, zero, suc, ◌+◌, ◌-◌, ◌<◌, ◌≤◌, ◌==◌, ◌&&◌, ◌||◌, not, Bool, true, false, nat_lt, nat_le, slice_index, List, [], ◌∷◌, length, Option, Some, None, refl, sym, ap, ◌∙◌, inl, inr, arith, ltb-true, le-leb, leb-true, lt-ltb, eqb-true}
-use Rattle.std.proofs.lemmas.Bool.{lt-leb, cond-true, cond-false, cases_Bool, and_parts, and_from, and_left, not-true, agree_below_at, or_cases}
+use Rattle.std.proofs.Common.{◌≡◌, ℕ, zero, suc, ◌+◌, ◌-◌, ◌<◌, ◌≤◌, ◌==◌, ◌&&◌, ◌||◌, ◌⊎◌, not, Bool, true, false, cond, if◌then◌else◌, nat_lt, nat_le, slice_index, List, [], ◌∷◌, length, Option, Some, None, refl, sym, ap, ◌∙◌, subst, inl, inr, arith, ltb-true, le-ltb, le-leb, leb-true, lt-ltb, eqb-true}
+use Rattle.std.proofs.lemmas.Bool.{lt-leb, cond-true, cond-false, cases_Bool, and_parts, and_from, and_left, and_right, not-true, agree_below, agree_below_at, or_cases, both_ways}
 use Rattle.std.proofs.lemmas.Option.{none-some, same_Some}
 use Rattle.properties_format.specs.Text.{byte, scalar}
 use Rattle.properties_format.specs.Windows1252.{windows_1252_table, is_in_table, windows_1252_character, place_from, windows_1252_byte}
