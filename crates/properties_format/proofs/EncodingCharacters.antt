@@ -8,7 +8,7 @@ use Rattle.std.proofs.lemmas.Option.{none-some, same_Some}
 use Rattle.properties_format.specs.Text.{byte, scalar, replacement}
 use Rattle.properties_format.specs.Pieces.{Piece, piece, characters}
 use Rattle.properties_format.specs.Windows1252.{windows_1252_character, windows_1252_byte}
-use Rattle.properties_format.specs.Utf8.{IsUtf8Piece, whole, stray, broken, IsSequence, sequence_character}
+use Rattle.properties_format.specs.Utf8.{IsUtf8Piece, whole, stray, broken, IsWellFormed, sequence_character}
 use Rattle.properties_format.specs.Utf16.{low_first, high_first, is_high, is_low, pair_character, IsUtf16Piece, pair, plain, low_alone, high_alone, high_last, byte_last, both_last}
 use Rattle.properties_format.specs.Encoding.{Encoding, windows_1252, utf_8, utf_16le, utf_16be, output_encoding, one_byte, encoded, mark, IsPiece, IsPieces, pieces_of, decoded_of, ascii_bytes}
 use Rattle.properties_format.proofs.Windows1252Table.{windows_1252_character-byte, windows_1252-scalar, windows_1252-ascii, windows_1252_character-ascii}

@@ -8,3 +8,4 @@ pub mod Maps
 pub mod Settings
 pub mod Split
 pub mod Writing
+pub mod Pieces

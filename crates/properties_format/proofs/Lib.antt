@@ -1,9 +1,12 @@
 pub mod EncodingCharacters
+pub mod EncodingCuts
 pub mod EncodingPieces
 pub mod FirstPieces
 pub mod Marks
+pub mod PieceEnds
 pub mod Utf16Pieces
 pub mod Utf8Characters
+pub mod Utf8Inverse
 pub mod Utf8Pieces
 pub mod Utf8Rows
 pub mod Lines

@@ -103,3 +103,7 @@ mark-bytes e b h = let d = body-drop e b in rw d.1 (All-drop byte d.0 b h)
 -- Each decoded character is a scalar value.
 pub decoded_of-scalar : (e : Encoding) (b : List ℕ) → All byte b → All scalar (decoded_of e b)
 decoded_of-scalar e b h = pieces_of-scalar (mark e b).encoding (mark e b).body (mark-bytes e b h)
+
+-- bytes that don't begin like a mark are decoded whole
+pub decoded_of-unmarked : (e : Encoding) (b : List ℕ) → begins_like_mark b ≡ false → decoded_of e b ≡ characters (pieces_of e b)
+decoded_of-unmarked e b h = ap (λ v. characters (pieces_of v.encoding v.body)) (mark-none e b h)

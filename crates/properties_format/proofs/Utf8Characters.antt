@@ -3,29 +3,29 @@ use Rattle.std.proofs.Common.{◌≡◌, ℕ, ◌+◌, ◌*◌, ◌/◌, ◌%◌
 use Rattle.std.proofs.lemmas.Bool.{cond-true, cond-false, cases_lt, le-ltb}
 use Rattle.std.specs.Char.{encode_utf8}
 use Rattle.properties_format.specs.Text.{scalar}
-use Rattle.properties_format.specs.Utf8.{Range, rows, from_to, tail, IsIn, FitsRow, FitsSome, IsSequence, sequence_character}
+use Rattle.properties_format.specs.Utf8.{Range, well_formed_rows, from_to, tail, IsIn, FitsRow, FitsSome, IsWellFormed, sequence_character}
 
 -- ---- How a character is encoded.
 
-abbrev next : ℕ → ℕ
+abbrev pub next : ℕ → ℕ
 next c = 128 + c % 64
 
-encode-one : (c : ℕ) → c < 0x80 → encode_utf8 c ≡ c ∷ []
+pub encode-one : (c : ℕ) → c < 0x80 → encode_utf8 c ≡ c ∷ []
 unfolding encode_utf8
 encode-one c h = cond-true (nat_lt c 0x80) _ _ (lt-ltb c 0x80 h)
 
-encode-two : (c : ℕ) → 0x80 ≤ c → c < 0x800 → encode_utf8 c ≡ (192 + c / 64) ∷ next c ∷ []
+pub encode-two : (c : ℕ) → 0x80 ≤ c → c < 0x800 → encode_utf8 c ≡ (192 + c / 64) ∷ next c ∷ []
 unfolding encode_utf8
 encode-two c l h = cond-false (nat_lt c 0x80) _ _ (le-ltb c 0x80 l) ∙ cond-true (nat_lt c 0x800) _ _ (lt-ltb c 0x800 h)
 
-encode-three : (c : ℕ) → 0x800 ≤ c → c < 0x1_0000 → encode_utf8 c ≡ (224 + c / 4096) ∷ next (c / 64) ∷ next c ∷ []
+pub encode-three : (c : ℕ) → 0x800 ≤ c → c < 0x1_0000 → encode_utf8 c ≡ (224 + c / 4096) ∷ next (c / 64) ∷ next c ∷ []
 unfolding encode_utf8
 encode-three c l h =
     cond-false (nat_lt c 0x80) _ _ (le-ltb c 0x80 (omega arith))
     ∙ cond-false (nat_lt c 0x800) _ _ (le-ltb c 0x800 l)
     ∙ cond-true (nat_lt c 0x1_0000) _ _ (lt-ltb c 0x1_0000 h)
 
-encode-four : (c : ℕ) → 0x1_0000 ≤ c → encode_utf8 c ≡ (240 + c / 262144) ∷ next (c / 4096) ∷ next (c / 64) ∷ next c ∷ []
+pub encode-four : (c : ℕ) → 0x1_0000 ≤ c → encode_utf8 c ≡ (240 + c / 262144) ∷ next (c / 4096) ∷ next (c / 64) ∷ next c ∷ []
 unfolding encode_utf8
 encode-four c l =
     cond-false (nat_lt c 0x80) _ _ (le-ltb c 0x80 (omega arith))
@@ -34,7 +34,7 @@ encode-four c l =
 
 -- a well-formed sequence, with its character
 abbrev pub Says : List ℕ → ℕ → Type 0
-Says bs c = IsSequence bs × (c ≡ sequence_character bs)
+Says bs c = IsWellFormed bs × (c ≡ sequence_character bs)
 
 -- a tail byte
 next-in : (c : ℕ) → IsIn tail (next c)
@@ -56,7 +56,7 @@ four-character : (c : ℕ) → c < 0x11_0000
     → c ≡ (((240 + c / 262144) % 2 ^ 3 * 2 ^ 6 + next (c / 4096) % 2 ^ 6) * 2 ^ 6 + next (c / 64) % 2 ^ 6) * 2 ^ 6 + next c % 2 ^ 6
 four-character c h = omega arith
 
-three-fits : (c : ℕ) → 0x800 ≤ c → c < 0xd800 ⊎ ((0xe000 ≤ c) × (c < 0x1_0000)) → IsSequence ((224 + c / 4096) ∷ next (c / 64) ∷ next c ∷ [])
+three-fits : (c : ℕ) → 0x800 ≤ c → c < 0xd800 ⊎ ((0xe000 ≤ c) × (c < 0x1_0000)) → IsWellFormed ((224 + c / 4096) ∷ next (c / 64) ∷ next c ∷ [])
 three-fits c l (inr h) = inr (inr (inr (inr (inr (inl ((omega arith, omega arith), (next-in (c / 64), (next-in c, tt))))))))
 three-fits c l (inl h) = elim (cases_lt c 0x1000) [
   | inl k ↦ inr (inr (inl ((omega arith, omega arith), ((omega arith, omega arith), (next-in c, tt)))))
@@ -66,7 +66,7 @@ three-fits c l (inl h) = elim (cases_lt c 0x1000) [
   ]
 ]
 
-four-fits : (c : ℕ) → 0x1_0000 ≤ c → c < 0x11_0000 → IsSequence ((240 + c / 262144) ∷ next (c / 4096) ∷ next (c / 64) ∷ next c ∷ [])
+four-fits : (c : ℕ) → 0x1_0000 ≤ c → c < 0x11_0000 → IsWellFormed ((240 + c / 262144) ∷ next (c / 4096) ∷ next (c / 64) ∷ next c ∷ [])
 four-fits c l h = elim (cases_lt c 0x4_0000) [
   | inl k ↦ inr (inr (inr (inr (inr (inr (inl ((omega arith, omega arith), ((omega arith, omega arith), (next-in (c / 64), (next-in c, tt))))))))))
   | inr k ↦ elim (cases_lt c 0x10_0000) [

@@ -4,24 +4,24 @@ use Rattle.std.proofs.lemmas.Bool.{cond-true, cond-false}
 use Rattle.std.proofs.lemmas.Option.{none-some, same_Some}
 use Rattle.properties_format.specs.Text.{replacement}
 use Rattle.properties_format.specs.Pieces.{Piece, piece}
-use Rattle.properties_format.specs.Utf8.{Range, rows, FitsRow, FitsSome, IsSequence, Begins, BeginsLonger, NextBreaks, sequence_character, IsUtf8Piece, whole, stray, broken, ranges_after, fitting, utf_8_piece, utf_8_piece_by, first_utf_8_piece}
+use Rattle.properties_format.specs.Utf8.{Range, well_formed_rows, FitsRow, FitsSome, IsWellFormed, Begins, BeginsLonger, NextBreaks, sequence_character, IsUtf8Piece, whole, stray, broken, ranges_after, fitting, utf_8_piece, utf_8_piece_by, first_utf_8_piece}
 use Rattle.properties_format.proofs.Utf8Rows.{FitsFront, Breaks, Fitted, front-of_row, length-row, shorter-than_row, row-of_front, longer-of_front, fitting-row, fitting-broken, fitting-fits, sequence-row, row-sequence, sequence-nonempty}
 use Rattle.properties_format.proofs.FirstPieces.{Meets, IsRead}
 
 -- ---- To begin a sequence is to fit the front of the row of the first byte.
 
-pub begins-front : (b : ℕ) (bs : List ℕ) → Begins (b ∷ bs) → (rs : List Range) × (ranges_after rows b ≡ Some rs) × FitsFront rs bs
+pub begins-front : (b : ℕ) (bs : List ℕ) → Begins (b ∷ bs) → (rs : List Range) × (ranges_after well_formed_rows b ≡ Some rs) × FitsFront rs bs
 begins-front b bs h =
     let r = sequence-row b (bs ++ h.0) h.1 in
     (r.0, r.1, front-of_row r.0 bs h.0 r.2)
 
-pub front-begins : (b : ℕ) (bs : List ℕ) (rs : List Range) → ranges_after rows b ≡ Some rs → FitsFront rs bs → Begins (b ∷ bs)
+pub front-begins : (b : ℕ) (bs : List ℕ) (rs : List Range) → ranges_after well_formed_rows b ≡ Some rs → FitsFront rs bs → Begins (b ∷ bs)
 front-begins b bs rs e h =
     let r = row-sequence b rs e in
     let m = row-of_front rs bs r.0 h in
     (m.0, r.1 (bs ++ m.0) m.1)
 
-front-of-begins : (b : ℕ) (bs : List ℕ) (rs : List Range) → ranges_after rows b ≡ Some rs → Begins (b ∷ bs) → FitsFront rs bs
+front-of-begins : (b : ℕ) (bs : List ℕ) (rs : List Range) → ranges_after well_formed_rows b ≡ Some rs → Begins (b ∷ bs) → FitsFront rs bs
 front-of-begins b bs rs e h =
     let f = begins-front b bs h in
     let P : List Range → Type 0 = λ v. FitsFront v bs in
@@ -29,15 +29,15 @@ front-of-begins b bs rs e h =
 
 -- ---- What is read is a piece.
 
-breaks-next : (b : ℕ) (bs rest : List ℕ) (rs : List Range) → ranges_after rows b ≡ Some rs → Breaks rs bs rest → NextBreaks (b ∷ bs) rest
+breaks-next : (b : ℕ) (bs rest : List ℕ) (rs : List Range) → ranges_after well_formed_rows b ≡ Some rs → Breaks rs bs rest → NextBreaks (b ∷ bs) rest
 breaks-next b bs [] rs e h = tt
 breaks-next b bs (next ∷ rest) rs e h = λ k. h (front-of-begins b (bs ++ next ∷ []) rs e k)
 
-next-breaks : (b : ℕ) (bs rest : List ℕ) (rs : List Range) → ranges_after rows b ≡ Some rs → NextBreaks (b ∷ bs) rest → Breaks rs bs rest
+next-breaks : (b : ℕ) (bs rest : List ℕ) (rs : List Range) → ranges_after well_formed_rows b ≡ Some rs → NextBreaks (b ∷ bs) rest → Breaks rs bs rest
 next-breaks b bs [] rs e h = tt
 next-breaks b bs (next ∷ rest) rs e h = λ k. h (front-begins b (bs ++ next ∷ []) rs e k)
 
-fitted-meets : (b : ℕ) (d bs : List ℕ) (rs : List Range) → ranges_after rows b ≡ Some rs → Fitted rs d bs → Meets IsUtf8Piece (utf_8_piece b bs (length rs)) (b ∷ d)
+fitted-meets : (b : ℕ) (d bs : List ℕ) (rs : List Range) → ranges_after well_formed_rows b ≡ Some rs → Fitted rs d bs → Meets IsUtf8Piece (utf_8_piece b bs (length rs)) (b ∷ d)
 fitted-meets b d bs rs e (rest, s, inl k) =
     (rest, ap (λ v. b ∷ v) s, whole ((row-sequence b rs e).1 bs k) (cond-true (length bs == length rs) (sequence_character (b ∷ bs)) replacement (eq-eqb (length bs) (length rs) (length-row rs bs k))))
 fitted-meets b d bs rs e (rest, s, inr k) =
@@ -49,16 +49,16 @@ fitted-meets b d bs rs e (rest, s, inr k) =
           (l.0, l.1, (row-sequence b rs e).1 (bs ++ l.0 ∷ l.1) l.2) (breaks-next b bs rest rs e k.2),
     )
 
-meets-by : (b : ℕ) (d : List ℕ) (o : Option (List Range)) → ranges_after rows b ≡ o → Meets IsUtf8Piece (utf_8_piece_by o b d) (b ∷ d)
+meets-by : (b : ℕ) (d : List ℕ) (o : Option (List Range)) → ranges_after well_formed_rows b ≡ o → Meets IsUtf8Piece (utf_8_piece_by o b d) (b ∷ d)
 meets-by b d None e = (d, refl, stray b refl (λ k. let f = begins-front b [] k in none-some f.0 (sym e ∙ f.1)))
 meets-by b d (Some rs) e = fitted-meets b d (fitting rs d) rs e (fitting-fits rs d)
 
 pub utf_8-meets : (b : ℕ) (d : List ℕ) → Meets IsUtf8Piece (first_utf_8_piece b d) (b ∷ d)
-utf_8-meets b d = meets-by b d (ranges_after rows b) refl
+utf_8-meets b d = meets-by b d (ranges_after well_formed_rows b) refl
 
 -- ---- A piece is what is read.
 
-whole-read : (bytes : List ℕ) (c : ℕ) (rest : List ℕ) → IsSequence bytes → c ≡ sequence_character bytes → IsRead first_utf_8_piece (piece bytes c) rest
+whole-read : (bytes : List ℕ) (c : ℕ) (rest : List ℕ) → IsWellFormed bytes → c ≡ sequence_character bytes → IsRead first_utf_8_piece (piece bytes c) rest
 whole-read [] c rest h e = absurd (sequence-nonempty h)
 whole-read (b ∷ bs) c rest h e =
     let r = sequence-row b bs h in
@@ -73,9 +73,9 @@ whole-read (b ∷ bs) c rest h e =
     }
 
 stray-read : (b : ℕ) (rest : List ℕ) → ¬ Begins (b ∷ []) → IsRead first_utf_8_piece (piece (b ∷ []) replacement) rest
-stray-read b rest h = record { byte = b; others = []; bytes = refl; reads = ap (λ v. utf_8_piece_by v b rest) (none (ranges_after rows b) refl) }
+stray-read b rest h = record { byte = b; others = []; bytes = refl; reads = ap (λ v. utf_8_piece_by v b rest) (none (ranges_after well_formed_rows b) refl) }
   where
-    none : (o : Option (List Range)) → ranges_after rows b ≡ o → ranges_after rows b ≡ None
+    none : (o : Option (List Range)) → ranges_after well_formed_rows b ≡ o → ranges_after well_formed_rows b ≡ None
     none None e = e
     none (Some rs) e = absurd (h (front-begins b [] rs e tt))
 

@@ -2,7 +2,7 @@
 use Rattle.std.proofs.Common.{◌≡◌, ℕ, zero, suc, ◌+◌, ◌<◌, ◌≤◌, ◌&&◌, ◌⊎◌, Bool, true, false, cond, if◌then◌else◌, nat_le, List, [], ◌∷◌, ◌++◌, length, Option, Some, None, refl, sym, ap, ◌∙◌, inl, inr, arith}
 use Rattle.std.proofs.lemmas.Bool.{and_parts, and_from, leb-true, le-leb, both_ways, false_from_ne_true, cases_Bool, cond-true, cond-false}
 use Rattle.std.proofs.lemmas.Option.{none-some, same_Some}
-use Rattle.properties_format.specs.Utf8.{Range, rows, IsIn, FitsRow, FitsSome, is_in, ranges_after, fitting}
+use Rattle.properties_format.specs.Utf8.{Range, well_formed_rows, tail, IsIn, FitsRow, FitsSome, is_in, ranges_after, fitting}
 
 pub in-range : (r : Range) (b : ℕ) → is_in r b ≡ true → IsIn r b
 in-range r b h = let k = and_parts (nat_le r.least b) (nat_le b r.most) h in (leb-true r.least b k.0, leb-true b r.most k.1)
@@ -176,11 +176,11 @@ row-fits low ((r ∷ qs) ∷ more) b rs h k = elim (cases_Bool (is_in r b)) [
       (f.0, λ bs q. inr (f.1 bs q))
 ]
 
-pub sequence-row : (b : ℕ) (bs : List ℕ) → FitsSome rows (b ∷ bs) → (rs : List Range) × (ranges_after rows b ≡ Some rs) × FitsRow rs bs
-sequence-row b bs h = row-of 0 rows b bs refl h
+pub sequence-row : (b : ℕ) (bs : List ℕ) → FitsSome well_formed_rows (b ∷ bs) → (rs : List Range) × (ranges_after well_formed_rows b ≡ Some rs) × FitsRow rs bs
+sequence-row b bs h = row-of 0 well_formed_rows b bs refl h
 
-pub row-sequence : (b : ℕ) (rs : List Range) → ranges_after rows b ≡ Some rs → (are_filled rs ≡ true) × ((bs : List ℕ) → FitsRow rs bs → FitsSome rows (b ∷ bs))
-row-sequence b rs h = row-fits 0 rows b rs refl h
+pub row-sequence : (b : ℕ) (rs : List Range) → ranges_after well_formed_rows b ≡ Some rs → (are_filled rs ≡ true) × ((bs : List ℕ) → FitsRow rs bs → FitsSome well_formed_rows (b ∷ bs))
+row-sequence b rs h = row-fits 0 well_formed_rows b rs refl h
 
 no-empty : (low : ℕ) (table : List (List Range)) → are_apart low table ≡ true → FitsSome table [] → ⊥
 no-empty low [] h k = k
@@ -189,5 +189,45 @@ no-empty low ((r ∷ rs) ∷ more) h (inl k) = k
 no-empty low ((r ∷ rs) ∷ more) h (inr k) = no-empty (suc r.most) more (apart-parts low r rs more h).others k
 
 -- a sequence has a byte
-pub sequence-nonempty : FitsSome rows [] → ⊥
-sequence-nonempty h = no-empty 0 rows refl h
+pub sequence-nonempty : FitsSome well_formed_rows [] → ⊥
+sequence-nonempty h = no-empty 0 well_formed_rows refl h
+
+-- ---- What is tested of each row holds of the ranges in the row of a first byte.
+
+abbrev pub each_row : (List Range → Bool) → List (List Range) → Bool
+each_row test [] = true
+each_row test ([] ∷ more) = each_row test more
+each_row test ((r ∷ rs) ∷ more) = test rs && each_row test more
+
+row-passes : (test : List Range → Bool) (table : List (List Range)) (b : ℕ) (rs : List Range) → each_row test table ≡ true → ranges_after table b ≡ Some rs → test rs ≡ true
+row-passes test [] b rs h k = absurd (none-some rs k)
+row-passes test ([] ∷ more) b rs h k = row-passes test more b rs h k
+row-passes test ((r ∷ qs) ∷ more) b rs h k = elim (cases_Bool (is_in r b)) [
+  | inl m ↦
+      let e : qs ≡ rs = same_Some qs rs (sym (cond-true (is_in r b) (Some qs) (ranges_after more b) m) ∙ k) in
+      ap test (sym e) ∙ (and_parts (test qs) (each_row test more) h).0
+  | inr m ↦ row-passes test more b rs (and_parts (test qs) (each_row test more) h).1 (sym (cond-false (is_in r b) (Some qs) (ranges_after more b) m) ∙ k)
+]
+
+-- each range is in that of tail bytes
+abbrev are_tails : List Range → Bool
+are_tails [] = true
+are_tails (r ∷ rs) = (nat_le 0x80 r.least && nat_le r.most 0xbf) && are_tails rs
+
+front-tail : (rs : List Range) (bs : List ℕ) (c : ℕ) → are_tails rs ≡ true → FitsFront rs (bs ++ c ∷ []) → IsIn tail c
+front-tail [] [] c t h = absurd h
+front-tail [] (b ∷ bs) c t h = absurd h
+front-tail (r ∷ rs) [] c t h =
+    let k = and_parts (nat_le 0x80 r.least) (nat_le r.most 0xbf) (and_parts (nat_le 0x80 r.least && nat_le r.most 0xbf) (are_tails rs) t).0 in
+    let l = leb-true 0x80 r.least k.0 in
+    let m = leb-true r.most 0xbf k.1 in
+    (omega arith, omega arith)
+front-tail (r ∷ rs) (b ∷ bs) c t h = front-tail rs bs c (and_parts (nat_le 0x80 r.least && nat_le r.most 0xbf) (are_tails rs) t).1 h.1
+
+-- a byte after the first is a tail byte
+pub next-tail : (b : ℕ) (rs : List Range) (bs : List ℕ) (c : ℕ) → ranges_after well_formed_rows b ≡ Some rs → FitsFront rs (bs ++ c ∷ []) → IsIn tail c
+next-tail b rs bs c e h = front-tail rs bs c (row-passes are_tails well_formed_rows b rs refl e) h
+
+-- there are three at most
+pub row-short : (b : ℕ) (rs : List Range) → ranges_after well_formed_rows b ≡ Some rs → length rs ≤ 3
+row-short b rs e = leb-true (length rs) 3 (row-passes (λ v. nat_le (length v) 3) well_formed_rows b rs refl e)

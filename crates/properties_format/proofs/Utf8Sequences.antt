@@ -1,11 +1,11 @@
 -- What the sequences of each row stand for: scalar values, of which the first row alone has those of ASCII.
 use Rattle.std.proofs.Common.{◌≡◌, ℕ, ◌+◌, ◌*◌, ◌%◌, ◌^◌, ◌<◌, ◌≤◌, ◌⊎◌, List, [], ◌∷◌, refl, sym, ap, ◌∙◌, inl, inr, arith}
 use Rattle.properties_format.specs.Text.{scalar}
-use Rattle.properties_format.specs.Utf8.{Range, from_to, tail, rows, IsIn, FitsRow, FitsSome, IsSequence, sequence_character}
+use Rattle.properties_format.specs.Utf8.{Range, from_to, tail, well_formed_rows, IsIn, FitsRow, FitsSome, IsWellFormed, sequence_character}
 
 -- ---- A fact on the bytes of a row, from one on each of them.
 
-in-one : (P : List ℕ → Type 0) (r : Range) → ((a : ℕ) → IsIn r a → P (a ∷ [])) → (bs : List ℕ) → FitsRow (r ∷ []) bs → P bs
+pub in-one : (P : List ℕ → Type 0) (r : Range) → ((a : ℕ) → IsIn r a → P (a ∷ [])) → (bs : List ℕ) → FitsRow (r ∷ []) bs → P bs
 in-one P r f [] h = absurd h
 in-one P r f (a ∷ []) h = f a h.0
 in-one P r f (a ∷ b ∷ bs) h = absurd h.1
@@ -14,14 +14,14 @@ in-more : (P : List ℕ → Type 0) (r : Range) (rs : List Range) → ((a : ℕ)
 in-more P r rs f [] h = absurd h
 in-more P r rs f (a ∷ bs) h = f a bs h.0 h.1
 
-in-two : (P : List ℕ → Type 0) (r s : Range) → ((a b : ℕ) → IsIn r a → IsIn s b → P (a ∷ b ∷ [])) → (bs : List ℕ) → FitsRow (r ∷ s ∷ []) bs → P bs
+pub in-two : (P : List ℕ → Type 0) (r s : Range) → ((a b : ℕ) → IsIn r a → IsIn s b → P (a ∷ b ∷ [])) → (bs : List ℕ) → FitsRow (r ∷ s ∷ []) bs → P bs
 in-two P r s f = in-more P r (s ∷ []) (λ a bs h. in-one (λ v. P (a ∷ v)) s (λ b k. f a b h k) bs)
 
-in-three : (P : List ℕ → Type 0) (r s t : Range) → ((a b c : ℕ) → IsIn r a → IsIn s b → IsIn t c → P (a ∷ b ∷ c ∷ []))
+pub in-three : (P : List ℕ → Type 0) (r s t : Range) → ((a b c : ℕ) → IsIn r a → IsIn s b → IsIn t c → P (a ∷ b ∷ c ∷ []))
     → (bs : List ℕ) → FitsRow (r ∷ s ∷ t ∷ []) bs → P bs
 in-three P r s t f = in-more P r (s ∷ t ∷ []) (λ a bs h. in-two (λ v. P (a ∷ v)) s t (λ b c k l. f a b c h k l) bs)
 
-in-four : (P : List ℕ → Type 0) (r s t u : Range) → ((a b c d : ℕ) → IsIn r a → IsIn s b → IsIn t c → IsIn u d → P (a ∷ b ∷ c ∷ d ∷ []))
+pub in-four : (P : List ℕ → Type 0) (r s t u : Range) → ((a b c d : ℕ) → IsIn r a → IsIn s b → IsIn t c → IsIn u d → P (a ∷ b ∷ c ∷ d ∷ []))
     → (bs : List ℕ) → FitsRow (r ∷ s ∷ t ∷ u ∷ []) bs → P bs
 in-four P r s t u f = in-more P r (s ∷ t ∷ u ∷ []) (λ a bs h. in-three (λ v. P (a ∷ v)) s t u (λ b c d k l m. f a b c d h k l m) bs)
 
@@ -43,7 +43,7 @@ low-fine bs h k = (inl k, λ l. absurd (omega arith))
 high-fine : (bs : List ℕ) → 0xe000 ≤ sequence_character bs → sequence_character bs < 0x11_0000 → Fine bs
 high-fine bs h k = (inr (h, k), λ l. absurd (omega arith))
 
-row-fine : (bs : List ℕ) → IsSequence bs → Fine bs
+row-fine : (bs : List ℕ) → IsWellFormed bs → Fine bs
 row-fine bs (inl h) = in-one Fine (from_to 0x00 0x7f) (λ a i. ascii-fine a i.1) bs h
 row-fine bs (inr (inl h)) =
     in-two Fine (from_to 0xc2 0xdf) tail (λ a b i j. low-fine (a ∷ b ∷ []) (omega arith) (omega arith)) bs h
@@ -63,8 +63,8 @@ row-fine bs (inr (inr (inr (inr (inr (inr (inr (inr (inl h))))))))) =
     in-four Fine (from_to 0xf4 0xf4) (from_to 0x80 0x8f) tail tail (λ a b c d i j k l. high-fine (a ∷ b ∷ c ∷ d ∷ []) (omega arith) (omega arith)) bs h
 row-fine bs (inr (inr (inr (inr (inr (inr (inr (inr (inr h))))))))) = absurd h
 
-pub sequence-scalar : (bs : List ℕ) → IsSequence bs → scalar (sequence_character bs)
+pub sequence-scalar : (bs : List ℕ) → IsWellFormed bs → scalar (sequence_character bs)
 sequence-scalar bs h = (row-fine bs h).0
 
-pub sequence-ascii : (bs : List ℕ) → IsSequence bs → sequence_character bs < 0x80 → bs ≡ sequence_character bs ∷ []
+pub sequence-ascii : (bs : List ℕ) → IsWellFormed bs → sequence_character bs < 0x80 → bs ≡ sequence_character bs ∷ []
 sequence-ascii bs h = (row-fine bs h).1

@@ -18,8 +18,8 @@ abbrev pub tail : Range
 tail = from_to 0x80 0xbf
 
 -- the rows of the table: the first byte, and the bytes after it
-abbrev pub rows : List (List Range)
-rows =
+abbrev pub well_formed_rows : List (List Range)
+well_formed_rows =
     (from_to 0x00 0x7f ∷ [])
     ∷ (from_to 0xc2 0xdf ∷ tail ∷ [])
     ∷ (from_to 0xe0 0xe0 ∷ from_to 0xa0 0xbf ∷ tail ∷ [])
@@ -48,16 +48,16 @@ FitsSome [] bs = ⊥
 FitsSome (row ∷ more) bs = FitsRow row bs ⊎ FitsSome more bs
 
 -- the bytes are a well-formed sequence
-abbrev pub IsSequence : List ℕ → Type 0
-IsSequence bs = FitsSome rows bs
+abbrev pub IsWellFormed : List ℕ → Type 0
+IsWellFormed bs = FitsSome well_formed_rows bs
 
 -- the bytes begin a well-formed sequence, or are a whole one
 abbrev pub Begins : List ℕ → Type 0
-Begins bs = (more : List ℕ) × IsSequence (bs ++ more)
+Begins bs = (more : List ℕ) × IsWellFormed (bs ++ more)
 
 -- the bytes begin a well-formed sequence that is longer
 abbrev pub BeginsLonger : List ℕ → Type 0
-BeginsLonger bs = (next : ℕ) × (more : List ℕ) × IsSequence (bs ++ next ∷ more)
+BeginsLonger bs = (next : ℕ) × (more : List ℕ) × IsWellFormed (bs ++ next ∷ more)
 
 -- the character of a sequence, from its payload bits: 7; 5 and 6; 4, 6 and 6; 3, 6, 6 and 6
 abbrev pub sequence_character : List ℕ → ℕ
@@ -75,7 +75,7 @@ NextBreaks bs (next ∷ rest) = ¬ Begins (bs ++ next ∷ [])
 -- A piece before the rest: a well-formed sequence with its character; or, for U+FFFD, a byte that begins no sequence,
 -- or some bytes that begin a longer sequence which the rest doesn't go on with.
 pub data IsUtf8Piece (p : Piece) (rest : List ℕ) : Type 0 where
-  whole : IsSequence p.bytes → p.character ≡ sequence_character p.bytes → IsUtf8Piece p rest
+  whole : IsWellFormed p.bytes → p.character ≡ sequence_character p.bytes → IsUtf8Piece p rest
   stray : (b : ℕ) → p ≡ piece (b ∷ []) replacement → ¬ Begins (b ∷ []) → IsUtf8Piece p rest
   broken : (b : ℕ) (bs : List ℕ) → p ≡ piece (b ∷ bs) replacement → BeginsLonger (b ∷ bs) → NextBreaks (b ∷ bs) rest → IsUtf8Piece p rest
 
@@ -106,4 +106,4 @@ utf_8_piece_by (Some rs) b d = utf_8_piece b (fitting rs d) (length rs)
 
 -- the first piece of a first byte and those behind it
 abbrev pub first_utf_8_piece : ℕ → List ℕ → Piece
-first_utf_8_piece b d = utf_8_piece_by (ranges_after rows b) b d
+first_utf_8_piece b d = utf_8_piece_by (ranges_after well_formed_rows b) b d

@@ -1,0 +1,65 @@
+-- Which bytes stand for which character, and which marks are dropped.
+use Rattle.std.proofs.Common.{◌≡◌, ℕ, List, [], ◌∷◌, refl, true, false}
+use Rattle.properties_format.specs.Pieces.{Piece, piece}
+use Rattle.properties_format.specs.Encoding.{windows_1252, utf_8, utf_16le, utf_16be, mark, begins_like_mark, pieces_of, decoded_of}
+
+-- a byte each
+single-bytes : pieces_of windows_1252 (0xe9 ∷ 0x0a ∷ 0x80 ∷ []) ≡ piece (0xe9 ∷ []) 0xe9 ∷ piece (0x0a ∷ []) 0x0a ∷ piece (0x80 ∷ []) 0x20ac ∷ []
+unfolding pieces_of
+single-bytes = refl
+
+-- a sequence that a line feed breaks
+broken-by_line_feed : pieces_of utf_8 (0xe3 ∷ 0x81 ∷ 0x0a ∷ 0x78 ∷ []) ≡ piece (0xe3 ∷ 0x81 ∷ []) 0xfffd ∷ piece (0x0a ∷ []) 0x0a ∷ piece (0x78 ∷ []) 0x78 ∷ []
+unfolding pieces_of
+broken-by_line_feed = refl
+
+-- sequences of two, three and four bytes
+whole-sequences : pieces_of utf_8 (0xc3 ∷ 0xa9 ∷ 0xe6 ∷ 0x97 ∷ 0xa5 ∷ 0xf4 ∷ 0x8f ∷ 0xbf ∷ 0xbf ∷ [])
+    ≡ piece (0xc3 ∷ 0xa9 ∷ []) 0xe9 ∷ piece (0xe6 ∷ 0x97 ∷ 0xa5 ∷ []) 0x65e5 ∷ piece (0xf4 ∷ 0x8f ∷ 0xbf ∷ 0xbf ∷ []) 0x10_ffff ∷ []
+unfolding pieces_of
+whole-sequences = refl
+
+-- a byte that no sequence has, and a tail byte in front
+stray-bytes : pieces_of utf_8 (0xff ∷ 0xbf ∷ 0xf5 ∷ 0xc1 ∷ []) ≡ piece (0xff ∷ []) 0xfffd ∷ piece (0xbf ∷ []) 0xfffd ∷ piece (0xf5 ∷ []) 0xfffd ∷ piece (0xc1 ∷ []) 0xfffd ∷ []
+unfolding pieces_of
+stray-bytes = refl
+
+-- past the last character
+past-the-last : pieces_of utf_8 (0xf4 ∷ 0x90 ∷ []) ≡ piece (0xf4 ∷ []) 0xfffd ∷ piece (0x90 ∷ []) 0xfffd ∷ []
+unfolding pieces_of
+past-the-last = refl
+
+-- a high unit before a line feed, and one byte at the end
+unpaired-high : pieces_of utf_16le (0x3d ∷ 0xd8 ∷ 0x0a ∷ 0x00 ∷ 0x62 ∷ []) ≡ piece (0x3d ∷ 0xd8 ∷ []) 0xfffd ∷ piece (0x0a ∷ 0x00 ∷ []) 0x0a ∷ piece (0x62 ∷ []) 0xfffd ∷ []
+unfolding pieces_of
+unpaired-high = refl
+
+-- a high unit and a byte at the end are one
+high-and-byte : pieces_of utf_16be (0xd8 ∷ 0x3d ∷ 0xdc ∷ []) ≡ piece (0xd8 ∷ 0x3d ∷ 0xdc ∷ []) 0xfffd ∷ []
+unfolding pieces_of
+high-and-byte = refl
+
+high-at-end : pieces_of utf_16be (0xd8 ∷ 0x3d ∷ []) ≡ piece (0xd8 ∷ 0x3d ∷ []) 0xfffd ∷ []
+unfolding pieces_of
+high-at-end = refl
+
+no-bytes : decoded_of utf_16be [] ≡ []
+unfolding pieces_of
+no-bytes = refl
+
+-- a mark of another encoding, with an unpaired unit behind it
+marked-row : decoded_of windows_1252 (0xff ∷ 0xfe ∷ 0x61 ∷ 0x00 ∷ 0x3d ∷ 0x00 ∷ 0x3d ∷ 0xd8 ∷ 0x0a ∷ 0x00 ∷ 0x62 ∷ []) ≡ 0x61 ∷ 0x3d ∷ 0xfffd ∷ 0x0a ∷ 0xfffd ∷ []
+unfolding pieces_of
+marked-row = refl
+
+unmarked : mark utf_16le (0xfe ∷ 0xfe ∷ []) ≡ record { encoding = utf_16le; body = 0xfe ∷ 0xfe ∷ [] }
+unmarked = refl
+
+mark-alone : mark windows_1252 (0xef ∷ 0xbb ∷ 0xbf ∷ []) ≡ record { encoding = utf_8; body = [] }
+mark-alone = refl
+
+like-mark : begins_like_mark (0xfe ∷ 0xff ∷ 0x3d ∷ []) ≡ true
+like-mark = refl
+
+not-like-mark : begins_like_mark (0xef ∷ 0xbb ∷ []) ≡ false
+not-like-mark = refl
