@@ -23,6 +23,7 @@ pub mod Printing
 pub mod MarkLike
 pub mod Writing
 pub mod Maps
+pub mod Logical
 pub mod Examples
 pub mod Utf8Sequences
 pub mod Windows1252Table

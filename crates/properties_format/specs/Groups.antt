@@ -87,10 +87,14 @@ without_last (c ∷ d ∷ ds) = c ∷ without_last (d ∷ ds)
 abbrev pub without_open_backslash : List ℕ → List ℕ
 without_open_backslash x = if is_open x then without_last x else x
 
--- the lines after the first, each less its leading blanks and its open backslash
+-- what a line adds to the lines before it: the line less its leading blanks and its open backslash
+abbrev pub addition : List ℕ → List ℕ
+addition x = without_open_backslash (without_leading_blanks x)
+
+-- what the lines after the first add
 abbrev pub joined_after : List Line → List ℕ
 joined_after [] = []
-joined_after (l ∷ ls) = without_open_backslash (without_leading_blanks l.text) ++ joined_after ls
+joined_after (l ∷ ls) = addition l.text ++ joined_after ls
 
 -- The logical line of a group: a marked line as it stands, or the lines put together.
 abbrev pub joined : List Line → List ℕ

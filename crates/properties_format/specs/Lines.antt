@@ -23,15 +23,15 @@ abbrev pub IsPlain : List ℕ → Type 0
 IsPlain [] = Unit {0}
 IsPlain (c ∷ cs) = (is_line_end c ≡ false) × IsPlain cs
 
--- the next line is not an empty one that an LF alone ends
-abbrev pub IsNoLoneLf : List Ended → Type 0
-IsNoLoneLf [] = Unit {0}
-IsNoLoneLf (l ∷ ls) = ¬ ((l.text ≡ []) × (l.by ≡ lf))
+-- the first of these lines is not an empty one that an LF alone ends
+abbrev pub BeginsWithNoLoneLf : List Ended → Type 0
+BeginsWithNoLoneLf [] = Unit {0}
+BeginsWithNoLoneLf (l ∷ ls) = ¬ ((l.text ≡ []) × (l.by ≡ lf))
 
--- no line holds a line end, and a CR that is one by itself has no lone LF after it, which would be of the same end
+-- no line holds a line end; and where a CR ends a line, the next is not an empty one that an LF alone ends, since that LF would be of the same end
 abbrev pub AreLines : List Ended → List ℕ → Type 0
 AreLines [] last = IsPlain last
-AreLines (l ∷ ls) last = IsPlain l.text × (l.by ≡ cr → IsNoLoneLf ls) × AreLines ls last
+AreLines (l ∷ ls) last = IsPlain l.text × (l.by ≡ cr → BeginsWithNoLoneLf ls) × AreLines ls last
 
 -- The text has these lines.
 pub record IsLines (x : List ℕ) (lines : Lines) : Type 0 where
@@ -53,7 +53,7 @@ pub record Line : Type 0 where
   pub number : ℕ
   pub text : List ℕ
 
--- the lines behind n line ends, with their numbers; the last one is a line at the end alone
+-- the lines behind n line ends, with their numbers; what nothing ends is a line only where the input ends
 abbrev pub numbered : ℕ → List Ended → List ℕ → Ending → List Line
 numbered n [] last end = record { number = n + 1; text = last } ∷ []
 numbered n [] last fault = []
@@ -116,12 +116,12 @@ lines_of (c ∷ cs) = before c (lines_of cs)
 
 -- ---- the lines to come, where a text is read in parts
 
--- what comes, less the LF that is of an end whose CR was the last character
+-- what comes, less an LF at its front where the character before it was a CR
 abbrev pub rest_of_end : Bool → List ℕ → List ℕ
 rest_of_end true y = without_leading_lf y
 rest_of_end false y = y
 
--- the lines of what comes, behind n line ends, a CR perhaps, and the text of the line that is not yet ended
+-- the numbered lines to come: n line ends are passed, the character before may be a CR, and the beginning of the next line is held
 abbrev pub lines_after : ℕ → Bool → List ℕ → List ℕ → Ending → List Line
 lines_after n after_cr held y ending =
     let lines = lines_of (held ++ rest_of_end after_cr y) in numbered n lines.ended lines.last ending

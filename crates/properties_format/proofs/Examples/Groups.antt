@@ -3,16 +3,12 @@ use Rattle.std.proofs.Common.{◌≡◌, ℕ, ◌+◌, List, [], ◌∷◌, ◌+
 use Rattle.std.specs.Prelude.{codes}
 use Rattle.properties_format.specs.Text.{lf, cr, line_end_text}
 use Rattle.properties_format.specs.Lines.{Line, lines_of, line_ends, numbered_lines, Ending, end, fault, more}
-use Rattle.properties_format.specs.Groups.{ending_backslashes, groups_of, joined, first_number}
+use Rattle.properties_format.specs.Groups.{ending_backslashes}
+use Rattle.properties_format.specs.Logical.{logical_lines}
 
--- logical lines with the number of their first line
-abbrev logical : List (List Line) → List Line
-logical [] = []
-logical (g ∷ gs) = record { number = first_number g; text = joined g } ∷ logical gs
-
--- of a text
+-- the logical lines of a text
 abbrev read : List ℕ → Ending → List Line
-read x ending = logical (groups_of (numbered_lines (lines_of x) ending) ending)
+read x ending = logical_lines (numbered_lines (lines_of x) ending) ending
 
 -- of given natural lines
 abbrev natural : ℕ → List (List ℕ) → List Line
@@ -20,7 +16,7 @@ natural n [] = []
 natural n (x ∷ xs) = record { number = n; text = x } ∷ natural (n + 1) xs
 
 abbrev join : List (List ℕ) → List Line
-join xs = logical (groups_of (natural 1 xs) end)
+join xs = logical_lines (natural 1 xs) end
 
 abbrev line : ℕ → List ℕ → Line
 line n text = record { number = n; text = text }

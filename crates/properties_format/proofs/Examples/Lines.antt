@@ -1,8 +1,8 @@
 -- Worked rows of lines.
-use Rattle.std.proofs.Common.{◌≡◌, ℕ, List, [], ◌∷◌, ◌++◌, refl}
+use Rattle.std.proofs.Common.{◌≡◌, ℕ, true, false, List, [], ◌∷◌, ◌++◌, refl}
 use Rattle.std.specs.Prelude.{codes}
 use Rattle.properties_format.specs.Text.{LineEnd, lf, cr, crlf, line_end_text}
-use Rattle.properties_format.specs.Lines.{lines_of, Line, numbered_lines, end}
+use Rattle.properties_format.specs.Lines.{lines_of, Line, numbered_lines, lines_after, end, more}
 
 abbrev line : ℕ → List ℕ → Line
 line n text = record { number = n; text = text }
@@ -43,3 +43,11 @@ of_cr_crlf = refl
 
 of_lf_cr : lines_of (10 ∷ 13 ∷ []) ≡ record { ended = record { text = []; by = lf } ∷ record { text = []; by = cr } ∷ []; last = [] }
 of_lf_cr = refl
+
+-- an LF that comes in a later part is of the end whose CR came before
+of_parts : numbered_lines (lines_of (codes "a=1" ++ (13 ∷ []))) more ++ lines_after 1 true [] (10 ∷ codes "b=2") end ≡ line 1 (codes "a=1") ∷ line 2 (codes "b=2") ∷ []
+of_parts = refl
+
+-- a line that is held goes on
+of_held : lines_after 3 false (codes "ab") (codes "c" ++ (10 ∷ codes "d")) end ≡ line 4 (codes "abc") ∷ line 5 (codes "d") ∷ []
+of_held = refl

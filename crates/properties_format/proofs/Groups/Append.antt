@@ -1,10 +1,10 @@
 -- The groups of lines to which more come: those that are closed stay, and the open one goes on.
-use Rattle.std.proofs.Common.{◌≡◌, ℕ, List, [], ◌∷◌, ◌++◌, refl, ap, sym, ◌∙◌, inl, inr, append-nil}
+use Rattle.std.proofs.Common.{◌≡◌, ℕ, ◌+◌, List, [], ◌∷◌, ◌++◌, refl, ap, sym, ◌∙◌, inl, inr, append-nil, zero-add}
 use Rattle.std.proofs.lemmas.Bool.{cases_Bool}
-use Rattle.properties_format.specs.Lines.{Line, Ending, more, lines_of, line_ends, ends_in_cr, numbered_lines, lines_after}
+use Rattle.properties_format.specs.Lines.{Lines, Line, Ending, end, fault, more, lines_of, line_ends, ends_in_cr, numbered_lines, lines_after}
 use Rattle.properties_format.specs.Groups.{IsUnfinished, last_group, closes, groups_after, groups_of, open_after}
-use Rattle.properties_format.proofs.Lines.Numbers.{numbered_lines-append}
-use Rattle.properties_format.proofs.Groups.Steps.{groups_after-close, groups_after-leave, open_after-close, open_after-leave, groups_after-more}
+use Rattle.properties_format.proofs.Lines.Numbers.{numbered-end, numbered-fault, numbered_lines-append}
+use Rattle.properties_format.proofs.Groups.Steps.{groups_after-close, groups_after-leave, open_after-close, open_after-leave, groups_after-more, groups_after-fault}
 use Rattle.properties_format.proofs.Groups.Meets.{leave-unfinished}
 
 -- what is open behind lines is an unfinished group
@@ -53,3 +53,22 @@ pub groups-stay : (x y : List ℕ) (e : Ending)
 groups-stay x y e =
     ap (λ v. groups_of v e) (numbered_lines-append x y e)
     ∙ groups_of-append (numbered_lines (lines_of x) more) (lines_after (line_ends (lines_of x)) (ends_in_cr x) (lines_of x).last y e) e
+
+-- at a fault there are the groups that are closed, and no others
+pub groups-fault : (lines : Lines) → groups_of (numbered_lines lines fault) fault ≡ groups_of (numbered_lines lines more) more
+groups-fault lines =
+    ap (λ v. groups_of v fault) (numbered-fault 0 lines.ended lines.last)
+    ∙ groups_of-end (numbered_lines lines more) fault
+    ∙ ap (λ v. groups_of (numbered_lines lines more) more ++ v) (groups_after-fault (open_after [] (numbered_lines lines more)))
+    ∙ append-nil (groups_of (numbered_lines lines more) more)
+
+-- at the end the last line comes too
+pub groups-end : (lines : Lines)
+    → groups_of (numbered_lines lines end) end
+    ≡ groups_of (numbered_lines lines more) more
+    ++ groups_after (open_after [] (numbered_lines lines more)) (record { number = line_ends lines + 1; text = lines.last } ∷ []) end
+groups-end lines =
+    let last : ℕ → List Line = λ n. record { number = n + 1; text = lines.last } ∷ [] in
+    ap (λ v. groups_of v end) (numbered-end 0 lines.ended lines.last)
+    ∙ groups_of-append (numbered_lines lines more) (last (0 + line_ends lines)) end
+    ∙ ap (λ v. groups_of (numbered_lines lines more) more ++ groups_after (open_after [] (numbered_lines lines more)) (last v) end) (zero-add (line_ends lines))

@@ -1,11 +1,11 @@
 -- How many backslashes a text ends in, and which lines are open.
-use Rattle.std.proofs.Common.{◌≡◌, ℕ, zero, suc, ◌+◌, ◌==◌, ◌⊎◌, Bool, true, false, List, [], ◌∷◌, ◌++◌, refl, ap, sym, ◌∙◌, inl, inr, append_assoc, append-nil, add-zero, zero-add, arith}
+use Rattle.std.proofs.Common.{◌≡◌, ℕ, zero, suc, ◌+◌, ◌==◌, ◌⊎◌, Bool, true, false, List, [], ◌∷◌, ◌++◌, refl, ap, sym, ◌∙◌, inl, inr, append_assoc, append-nil, add-zero, zero-add, add-one, arith}
 use Rattle.std.specs.Prelude.{reverse, replicate, not, ◌%◌, if◌then◌else◌}
 use Rattle.std.proofs.lemmas.Bool.{cases_Bool}
 use Rattle.std.proofs.lemmas.Bool.Decides.{eqb_tells}
-use Rattle.std.proofs.lemmas.List.{reverse-append}
+use Rattle.std.proofs.lemmas.List.{reverse-append, reverse-reverse, replicate_more}
 use Rattle.properties_format.specs.Text.{backslash, is_blank}
-use Rattle.properties_format.specs.Groups.{leading_backslashes, ending_backslashes, is_open, without_leading_blanks, without_last, without_open_backslash}
+use Rattle.properties_format.specs.Groups.{leading_backslashes, ending_backslashes, is_open, without_leading_blanks, without_last, without_open_backslash, addition}
 
 -- one character more at the end
 pub ending_backslashes-push : (x : List ℕ) (c : ℕ) → ending_backslashes (x ++ c ∷ []) ≡ (if c == backslash then suc (ending_backslashes x) else 0)
@@ -40,6 +40,31 @@ run-behind x m (suc n) h =
 -- behind a part that ends in no backslash, the backslashes are those that the text ends in
 pub ending_backslashes-run : (x : List ℕ) (n : ℕ) → ending_backslashes x ≡ 0 → ending_backslashes (x ++ replicate n backslash) ≡ n
 ending_backslashes-run x n h = run-behind x 0 n h ∙ zero-add n
+
+leading-split : (y : List ℕ) → (r : List ℕ) × (y ≡ replicate (leading_backslashes y) backslash ++ r) × (leading_backslashes r ≡ 0)
+leading-split [] = ([], refl, refl)
+leading-split (c ∷ y) = elim (eqb_tells c backslash) [
+  | inl k ↦ let s = leading-split y in rw k.1 (s.0, ap (λ v. backslash ∷ v) s.1, s.2)
+  | inr k ↦ (c ∷ y, rw k.0 refl, rw k.0 refl)
+]
+
+reverse-run : (n : ℕ) → reverse (replicate n backslash) ≡ replicate n backslash
+reverse-run zero = refl
+reverse-run (suc n) =
+    reverse-append (backslash ∷ []) (replicate n backslash)
+    ∙ ap (λ v. v ++ backslash ∷ []) (reverse-run n)
+    ∙ replicate_more n backslash
+    ∙ ap (λ v. replicate v backslash) (add-one n)
+
+-- every text is such a part and the backslashes that it ends in
+pub ending_backslashes-split : (x : List ℕ) → (p : List ℕ) × (x ≡ p ++ replicate (ending_backslashes x) backslash) × (ending_backslashes p ≡ 0)
+ending_backslashes-split x =
+    let s = leading-split (reverse x) in
+    let n = ending_backslashes x in (
+      reverse s.0,
+      sym (reverse-reverse x) ∙ ap reverse s.1 ∙ reverse-append (replicate n backslash) s.0 ∙ ap (λ v. reverse s.0 ++ v) (reverse-run n),
+      ap leading_backslashes (reverse-reverse s.0) ∙ s.2,
+    )
 
 -- ---- open lines
 
@@ -120,3 +145,11 @@ without_open_backslash-closed x h = rw h refl
 
 pub without_open_backslash-open : (x : List ℕ) → is_open (x ++ backslash ∷ []) ≡ true → without_open_backslash (x ++ backslash ∷ []) ≡ x
 without_open_backslash-open x h = rw h (without_last-push x backslash)
+
+-- ---- what a line adds
+
+pub addition-closed : (x : List ℕ) → is_open x ≡ false → addition x ≡ without_leading_blanks x
+addition-closed x h = without_open_backslash-closed (without_leading_blanks x) (is_open-blanks x ∙ h)
+
+pub addition-open : (x : List ℕ) → is_open x ≡ true → addition x ≡ without_last (without_leading_blanks x)
+addition-open x h = let e : is_open (without_leading_blanks x) ≡ true = is_open-blanks x ∙ h in rw e refl

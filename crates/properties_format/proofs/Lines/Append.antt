@@ -1,9 +1,10 @@
 -- The lines of two texts together: where the second one comes after the first, the lines that the first ends stay.
-use Rattle.std.proofs.Common.{◌≡◌, ℕ, suc, ◌+◌, ◌==◌, false, List, [], ◌∷◌, ◌++◌, length, refl, ap, sym, ◌∙◌, append_assoc, arith, add-zero}
+use Rattle.std.proofs.Common.{◌≡◌, ℕ, ◌+◌, ◌==◌, false, List, [], ◌∷◌, ◌++◌, length, refl, ap, sym, ◌∙◌, append_assoc, add-zero, Bool, true, inl, inr}
+use Rattle.std.proofs.lemmas.Bool.{cases_Bool}
 use Rattle.properties_format.specs.Text.{line_feed, carriage_return, LineEnd, lf, cr, crlf, line_end_text}
-use Rattle.properties_format.specs.Lines.{Ended, put_together, IsPlain, IsNoLoneLf, AreLines, Ending, more, line_ends, begins_with_lf, ends_in_cr, lines_of, numbered, lines_after}
+use Rattle.properties_format.specs.Lines.{Ended, put_together, IsPlain, BeginsWithNoLoneLf, AreLines, Ending, more, line_ends, begins_with_lf, ends_in_cr, lines_of, numbered, lines_after, rest_of_end}
 use Rattle.properties_format.proofs.Lines.Meets.{lines_of-meets}
-use Rattle.properties_format.proofs.Lines.Plain.{plain-no_cr, no_lf_first, ends_in_cr-append}
+use Rattle.properties_format.proofs.Lines.Plain.{one-more, regroup, plain-no_cr, no_lf_first, ends_in_cr-append, ends-behind, ends-lf, ends-crlf}
 use Rattle.properties_format.proofs.Lines.Steps.{lines_after-cr, lines_after-line}
 
 -- ---- the numbered lines
@@ -16,12 +17,6 @@ Goes ls last = (n : ℕ) (y : List ℕ) (e : Ending)
 goes-last : (last : List ℕ) → IsPlain last → Goes [] last
 unfolding Goes
 goes-last last h n y e = rw (plain-no_cr last h, add-zero n) refl
-
-pub one-more : (n m : ℕ) → n + 1 + m ≡ n + suc m
-one-more n m = omega arith
-
-pub regroup : (text : List ℕ) (by : LineEnd) (whole y : List ℕ) → (text ++ (line_end_text by ++ whole)) ++ y ≡ text ++ (line_end_text by ++ (whole ++ y))
-regroup text by whole y = append_assoc text (line_end_text by ++ whole) y ∙ ap (λ v. text ++ v) (append_assoc (line_end_text by) whole y)
 
 -- a line with an end that needs no look at what comes
 goes-line : (text : List ℕ) (by : LineEnd) (ls : List Ended) (last : List ℕ) → IsPlain text
@@ -43,21 +38,6 @@ goes-cr text h n y e =
     ∙ lines_after-cr n false text y e h
     ∙ ap (λ v. record { number = n + 1; text = text } ∷ lines_after (n + 1) v [] y e) (sym (ends_in_cr-append text carriage_return []))
 
--- a text with a first character ends as it does behind a line end
-pub ends-behind : (text : List ℕ) (by : LineEnd) (c : ℕ) (x : List ℕ) → ends_in_cr (text ++ (line_end_text by ++ c ∷ x)) ≡ ends_in_cr (c ∷ x)
-ends-behind text lf c x = ends_in_cr-append text line_feed (c ∷ x)
-ends-behind text cr c x = ends_in_cr-append text carriage_return (c ∷ x)
-ends-behind text crlf c x = ends_in_cr-append text carriage_return (line_feed ∷ c ∷ x)
-
--- an LF at the end is no CR
-ends-lf : (text : List ℕ) (x : List ℕ) → ends_in_cr (text ++ line_feed ∷ x) ≡ ends_in_cr x
-ends-lf text [] = ends_in_cr-append text line_feed []
-ends-lf text (c ∷ x) = ends_in_cr-append text line_feed (c ∷ x)
-
-ends-crlf : (text : List ℕ) (x : List ℕ) → ends_in_cr (text ++ carriage_return ∷ line_feed ∷ x) ≡ ends_in_cr x
-ends-crlf text [] = ends_in_cr-append text carriage_return (line_feed ∷ [])
-ends-crlf text (c ∷ x) = ends_in_cr-append text carriage_return (line_feed ∷ c ∷ x)
-
 -- the end by a CR that no LF comes after, before a text that is not empty
 goes-cr-on : (text : List ℕ) (ls : List Ended) (last : List ℕ) (c : ℕ) (x : List ℕ) → put_together ls last ≡ c ∷ x → (c == line_feed) ≡ false
     → IsPlain text → Goes ls last → Goes (record { text = text; by = cr } ∷ ls) last
@@ -65,7 +45,7 @@ goes-cr-on text ls last c x is_some no_lf h goes =
     goes-line text cr ls last h (λ y e. rw is_some no_lf) (rw is_some (ends-behind text cr c x)) goes
 
 -- whether or not the rest is empty
-goes-cr-rest : (text : List ℕ) (ls : List Ended) (last : List ℕ) → IsPlain text → AreLines ls last → IsNoLoneLf ls → Goes ls last → Goes (record { text = text; by = cr } ∷ ls) last
+goes-cr-rest : (text : List ℕ) (ls : List Ended) (last : List ℕ) → IsPlain text → AreLines ls last → BeginsWithNoLoneLf ls → Goes ls last → Goes (record { text = text; by = cr } ∷ ls) last
 goes-cr-rest text [] [] h are none goes = goes-cr text h
 goes-cr-rest text [] (c ∷ cs) h are none goes = goes-cr-on text [] (c ∷ cs) c cs refl (no_lf_first [] (c ∷ cs) are none) h goes
 goes-cr-rest text (l ∷ ls) last h are none goes = of_line l.text l.by refl
@@ -79,7 +59,7 @@ goes-cr-rest text (l ∷ ls) last h are none goes = of_line l.text l.by refl
     of_line [] cr e = goes-cr-on text (l ∷ ls) last carriage_return (put_together ls last) (ap (λ v. put_together (v ∷ ls) last) e) (rw e at k) h goes
     of_line [] crlf e = goes-cr-on text (l ∷ ls) last carriage_return (line_feed ∷ put_together ls last) (ap (λ v. put_together (v ∷ ls) last) e) (rw e at k) h goes
 
-goes-any : (text : List ℕ) (by : LineEnd) (ls : List Ended) (last : List ℕ) → IsPlain text → (by ≡ cr → IsNoLoneLf ls) → AreLines ls last → Goes ls last
+goes-any : (text : List ℕ) (by : LineEnd) (ls : List Ended) (last : List ℕ) → IsPlain text → (by ≡ cr → BeginsWithNoLoneLf ls) → AreLines ls last → Goes ls last
     → Goes (record { text = text; by = by } ∷ ls) last
 goes-any text lf ls last h k are goes = goes-line text lf ls last h (λ y e. absurd (cc)) (ends-lf text (put_together ls last)) goes
 goes-any text cr ls last h k are goes = goes-cr-rest text ls last h are (k refl) goes
@@ -99,3 +79,17 @@ lines_after-append n x y e =
     ap (λ v. lines_after n false [] (v ++ y) e) m.text
     ∙ goes (lines_of x).ended (lines_of x).last m.are_lines n y e
     ∙ ap (λ v. lines_after n false [] x more ++ lines_after (n + line_ends (lines_of x)) (ends_in_cr v) (lines_of x).last y e) (sym m.text)
+
+rest-append : (after_cr : Bool) (c : ℕ) (x y : List ℕ) → rest_of_end after_cr (c ∷ x ++ y) ≡ rest_of_end after_cr (c ∷ x) ++ y
+rest-append false c x y = refl
+rest-append true c x y = elim (cases_Bool (c == line_feed)) [ inl k ↦ rw k refl | inr k ↦ rw k refl ]
+
+-- The same anywhere in a text: what a part gives, and where the reading then stands.
+pub lines_after-part : (n : ℕ) (after_cr : Bool) (held : List ℕ) (c : ℕ) (x y : List ℕ) (e : Ending)
+    → let z = held ++ rest_of_end after_cr (c ∷ x) in
+    lines_after n after_cr held (c ∷ x ++ y) e
+    ≡ lines_after n after_cr held (c ∷ x) more ++ lines_after (n + line_ends (lines_of z)) (ends_in_cr z) (lines_of z).last y e
+lines_after-part n after_cr held c x y e =
+    ap (λ v. lines_after n false held v e) (rest-append after_cr c x y)
+    ∙ ap (λ v. lines_after n false [] v e) (sym (append_assoc held (rest_of_end after_cr (c ∷ x)) y))
+    ∙ lines_after-append n (held ++ rest_of_end after_cr (c ∷ x)) y e

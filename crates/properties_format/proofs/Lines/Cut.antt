@@ -3,9 +3,9 @@ use Rattle.std.proofs.Common.{◌≡◌, ℕ, suc, ◌+◌, true, false, List, [
 use Rattle.properties_format.specs.Text.{carriage_return, LineEnd, lf, cr, crlf, line_end_text}
 use Rattle.properties_format.specs.Lines.{Ended, Lines, put_together, AreLines, more, line_ends, begins_with_lf, ends_in_cr, lines_of, numbered, rest_of_end}
 use Rattle.properties_format.proofs.Lines.Meets.{lines_of-meets}
-use Rattle.properties_format.proofs.Lines.Plain.{no_lf_first, ends_in_cr-append}
+use Rattle.properties_format.proofs.Lines.Plain.{no_lf_first, ends_in_cr-append, ends-behind, regroup}
 use Rattle.properties_format.proofs.Lines.Steps.{lines_of-line}
-use Rattle.properties_format.proofs.Lines.Append.{ends-behind, regroup, lines_after-append}
+use Rattle.properties_format.proofs.Lines.Append.{lines_after-append}
 
 -- no CR at the end of the first is parted from an LF at the front of the second
 abbrev pub PartsNoEnd : List ℕ → List ℕ → Type 0

@@ -1,7 +1,8 @@
 -- The numbers of lines, and which numbered lines stay whatever comes.
 use Rattle.std.proofs.Common.{◌≡◌, ℕ, ◌+◌, List, [], ◌∷◌, ◌++◌, length, refl, ap, ◌∙◌, zero-add, add-zero, Bool}
 use Rattle.properties_format.specs.Lines.{Ended, Line, Ending, end, fault, more, line_ends, ends_in_cr, lines_of, numbered, numbered_lines, rest_of_end, lines_after}
-use Rattle.properties_format.proofs.Lines.Append.{one-more, lines_after-append}
+use Rattle.properties_format.proofs.Lines.Plain.{one-more}
+use Rattle.properties_format.proofs.Lines.Append.{lines_after-append}
 
 -- the lines have the numbers behind n, without a gap
 abbrev pub AreNumbered : ℕ → List Line → Type 0

@@ -1,7 +1,7 @@
 -- A text has one list of lines, and a line in front of a text is in front of its lines.
 use Rattle.std.proofs.Common.{◌≡◌, ℕ, List, [], ◌∷◌, ◌++◌, refl, ap, sym, ◌∙◌}
 use Rattle.properties_format.specs.Text.{line_feed, carriage_return, LineEnd, lf, cr, crlf, line_end_text}
-use Rattle.properties_format.specs.Lines.{Ended, Lines, put_together, IsPlain, IsNoLoneLf, AreLines, IsLines, end_before, cr_before, before, lines_of}
+use Rattle.properties_format.specs.Lines.{Ended, Lines, put_together, IsPlain, BeginsWithNoLoneLf, AreLines, IsLines, end_before, cr_before, before, lines_of}
 use Rattle.properties_format.proofs.Lines.Meets.{before-plain}
 
 -- a text without line ends is one line
@@ -17,13 +17,13 @@ cr-before-line [] crlf ls h = refl
 cr-before-line (c ∷ cs) by ls h = refl
 
 -- a CR takes nothing but a lone LF
-pub cr-before : (ls : List Ended) → IsNoLoneLf ls → cr_before ls ≡ end_before cr ls
+pub cr-before : (ls : List Ended) → BeginsWithNoLoneLf ls → cr_before ls ≡ end_before cr ls
 cr-before [] h = refl
 cr-before (l ∷ ls) h = cr-before-line l.text l.by ls h
 
 -- a line and its end, before a text whose lines are known
 pub lines_of-before : (text : List ℕ) (by : LineEnd) (y : List ℕ) (ls : List Ended) (last : List ℕ)
-    → IsPlain text → (by ≡ cr → IsNoLoneLf ls) → lines_of y ≡ record { ended = ls; last = last }
+    → IsPlain text → (by ≡ cr → BeginsWithNoLoneLf ls) → lines_of y ≡ record { ended = ls; last = last }
     → lines_of (text ++ (line_end_text by ++ y)) ≡ record { ended = record { text = text; by = by } ∷ ls; last = last }
 lines_of-before [] lf y ls last h k e = ap (before line_feed) e
 lines_of-before [] cr y ls last h k e = ap (before carriage_return) e ∙ ap (λ v. let s : Lines = record { ended = v; last = last } in s) (cr-before ls (k refl))
@@ -39,3 +39,7 @@ lines_of-together (l ∷ ls) last h = lines_of-before l.text l.by (put_together 
 -- lines of the text are what is computed
 pub lines_of-only : (x : List ℕ) (lines : Lines) → IsLines x lines → lines ≡ lines_of x
 lines_of-only x lines h = sym (ap lines_of h.text ∙ lines_of-together lines.ended lines.last h.are_lines)
+
+-- two lists of lines of one text are the same
+pub lines-unique : (x : List ℕ) (a b : Lines) → IsLines x a → IsLines x b → a ≡ b
+lines-unique x a b h k = lines_of-only x a h ∙ sym (lines_of-only x b k)

@@ -1,8 +1,8 @@
--- Texts without line ends, and what the lines of a text say of its first character.
-use Rattle.std.proofs.Common.{◌≡◌, ℕ, ◌==◌, false, List, [], ◌∷◌, ◌++◌, refl, ap, sym, ◌∙◌}
+-- Texts without line ends, and what the lines of a text say of its first and its last character.
+use Rattle.std.proofs.Common.{◌≡◌, ℕ, ◌==◌, false, List, [], ◌∷◌, ◌++◌, refl, ap, sym, ◌∙◌, suc, ◌+◌, append_assoc, arith}
 use Rattle.std.proofs.lemmas.Bool.{or_parts}
 use Rattle.properties_format.specs.Text.{line_feed, carriage_return, LineEnd, lf, cr, crlf, line_end_text}
-use Rattle.properties_format.specs.Lines.{Ended, put_together, IsPlain, IsNoLoneLf, AreLines, begins_with_lf, ends_in_cr, without_leading_lf, lines_of}
+use Rattle.properties_format.specs.Lines.{Ended, put_together, IsPlain, BeginsWithNoLoneLf, AreLines, begins_with_lf, ends_in_cr, without_leading_lf, lines_of}
 use Rattle.properties_format.proofs.Lines.Meets.{lines_of-meets}
 
 pub plain-append : (x y : List ℕ) → IsPlain x → IsPlain y → IsPlain (x ++ y)
@@ -37,7 +37,7 @@ plain-no_cr (c ∷ []) h = (or_parts (c == line_feed) (c == carriage_return) h.0
 plain-no_cr (c ∷ d ∷ ds) h = plain-no_cr (d ∷ ds) h.1
 
 -- where no LF comes first, no lone LF is the first line
-pub no_lone_lf : (ls : List Ended) (last : List ℕ) → begins_with_lf (put_together ls last) ≡ false → IsNoLoneLf ls
+pub no_lone_lf : (ls : List Ended) (last : List ℕ) → begins_with_lf (put_together ls last) ≡ false → BeginsWithNoLoneLf ls
 no_lone_lf [] last h = tt
 no_lone_lf (l ∷ ls) last h = of_line l.text l.by (put_together ls last) h
   where
@@ -48,7 +48,7 @@ no_lone_lf (l ∷ ls) last h = of_line l.text l.by (put_together ls last) h
     of_line (c ∷ text) by y h = λ p. absurd (cc p.0)
 
 -- and the other way round
-pub no_lf_first : (ls : List Ended) (last : List ℕ) → AreLines ls last → IsNoLoneLf ls → begins_with_lf (put_together ls last) ≡ false
+pub no_lf_first : (ls : List Ended) (last : List ℕ) → AreLines ls last → BeginsWithNoLoneLf ls → begins_with_lf (put_together ls last) ≡ false
 no_lf_first [] last h k = plain-no_lf last h
 no_lf_first (l ∷ ls) last h k = of_line l.text l.by (put_together ls last) h.0 k
   where
@@ -58,7 +58,7 @@ no_lf_first (l ∷ ls) last h k = of_line l.text l.by (put_together ls last) h.0
     of_line [] crlf y h k = refl
     of_line (c ∷ text) by y h k = plain-no_lf (c ∷ text) h
 
-pub lines_of-no_lone_lf : (y : List ℕ) → begins_with_lf y ≡ false → IsNoLoneLf (lines_of y).ended
+pub lines_of-no_lone_lf : (y : List ℕ) → begins_with_lf y ≡ false → BeginsWithNoLoneLf (lines_of y).ended
 lines_of-no_lone_lf y h = no_lone_lf (lines_of y).ended (lines_of y).last (sym (ap begins_with_lf (lines_of-meets y).text) ∙ h)
 
 -- what does not begin with an LF has none to lose
@@ -71,3 +71,26 @@ pub ends_in_cr-append : (x : List ℕ) (c : ℕ) (y : List ℕ) → ends_in_cr (
 ends_in_cr-append [] c y = refl
 ends_in_cr-append (b ∷ []) c y = refl
 ends_in_cr-append (b ∷ d ∷ x) c y = ends_in_cr-append (d ∷ x) c y
+
+-- a text with a first character ends as it does behind a line end
+pub ends-behind : (text : List ℕ) (by : LineEnd) (c : ℕ) (x : List ℕ) → ends_in_cr (text ++ (line_end_text by ++ c ∷ x)) ≡ ends_in_cr (c ∷ x)
+ends-behind text lf c x = ends_in_cr-append text line_feed (c ∷ x)
+ends-behind text cr c x = ends_in_cr-append text carriage_return (c ∷ x)
+ends-behind text crlf c x = ends_in_cr-append text carriage_return (line_feed ∷ c ∷ x)
+
+-- an LF at the end is no CR
+pub ends-lf : (text : List ℕ) (x : List ℕ) → ends_in_cr (text ++ line_feed ∷ x) ≡ ends_in_cr x
+ends-lf text [] = ends_in_cr-append text line_feed []
+ends-lf text (c ∷ x) = ends_in_cr-append text line_feed (c ∷ x)
+
+pub ends-crlf : (text : List ℕ) (x : List ℕ) → ends_in_cr (text ++ carriage_return ∷ line_feed ∷ x) ≡ ends_in_cr x
+ends-crlf text [] = ends_in_cr-append text carriage_return (line_feed ∷ [])
+ends-crlf text (c ∷ x) = ends_in_cr-append text carriage_return (line_feed ∷ c ∷ x)
+
+-- ---- steps in sums and texts
+
+pub one-more : (n m : ℕ) → n + 1 + m ≡ n + suc m
+one-more n m = omega arith
+
+pub regroup : (text : List ℕ) (by : LineEnd) (whole y : List ℕ) → (text ++ (line_end_text by ++ whole)) ++ y ≡ text ++ (line_end_text by ++ (whole ++ y))
+regroup text by whole y = append_assoc text (line_end_text by ++ whole) y ∙ ap (λ v. text ++ v) (append_assoc (line_end_text by) whole y)
