@@ -1,10 +1,10 @@
 -- The digits that write a UTF-16 unit, and what they are read as.
-use Rattle.std.proofs.Common.{◌≡◌, ℕ, ◌+◌, ◌-◌, ◌*◌, ◌/◌, ◌%◌, ◌<◌, ◌≤◌, true, false, List, ◌∷◌, ◌++◌, ap, sym, ◌∙◌, subst, ap₂, arith}
+use Rattle.std.proofs.Common.{◌≡◌, ◌==◌, ℕ, ◌+◌, ◌-◌, ◌*◌, ◌/◌, ◌%◌, ◌<◌, ◌≤◌, true, false, List, ◌∷◌, ◌++◌, ap, sym, ◌∙◌, subst, ap₂, arith}
 use Rattle.std.specs.Char.{digit_value, digit_char, is_digit}
-use Rattle.std.proofs.lemmas.Bool.{and_from, le-leb}
+use Rattle.std.proofs.lemmas.Bool.{and_from, le-leb, lt-ltb}
 use Rattle.std.proofs.lemmas.Bool.Decides.{nat_tests}
-use Rattle.properties_format.specs.Text.{backslash}
-use Rattle.properties_format.specs.Escapes.{letter_u, is_hexadecimal, hexadecimal_value, Four, four_text, are_hexadecimal, code_unit, is_high, is_low, is_surrogate, paired, in_front, meaning_of}
+use Rattle.properties_format.specs.Text.{backslash, is_blank, is_separator}
+use Rattle.properties_format.specs.Escapes.{letter_u, is_hexadecimal, hexadecimal_value, Four, four_text, are_hexadecimal, code_unit, is_high, is_low, is_surrogate, pair_character, in_front, meaning_of}
 use Rattle.properties_format.proofs.EscapesLaws.{meaning_of-unicode, meaning_of-surrogates}
 
 -- a hexadecimal digit is a digit in base 16, and counts as much
@@ -19,6 +19,19 @@ is_hexadecimal-char n h = grind (arith, nat_tests)
 
 pub hexadecimal_value-char : (n : ℕ) → n < 16 → hexadecimal_value (digit_char n) ≡ n
 hexadecimal_value-char n h = grind (arith, nat_tests)
+
+-- a hexadecimal digit is no backslash, no blank and no separator
+pub hexadecimal-plain : (c : ℕ) → is_hexadecimal c ≡ true → ((c == backslash) ≡ false) × (is_blank c ≡ false) × (is_separator c ≡ false)
+hexadecimal-plain c h = (not_backslash c h, not_blank c h, not_separator c h)
+  where
+    not_backslash : (c : ℕ) → is_hexadecimal c ≡ true → (c == backslash) ≡ false
+    not_backslash c h = grind (arith, nat_tests)
+
+    not_blank : (c : ℕ) → is_hexadecimal c ≡ true → is_blank c ≡ false
+    not_blank c h = grind (arith, nat_tests)
+
+    not_separator : (c : ℕ) → is_hexadecimal c ≡ true → is_separator c ≡ false
+    not_separator c h = grind (arith, nat_tests)
 
 -- the four lowercase digits of a unit
 abbrev pub unit_digits : ℕ → Four
@@ -55,20 +68,20 @@ high_of c = 0xd800 + (c - 0x1_0000) / 0x400
 abbrev pub low_of : ℕ → ℕ
 low_of c = 0xdc00 + (c - 0x1_0000) % 0x400
 
-high-bounds : (c : ℕ) → c < 0x11_0000 → (0xd800 ≤ high_of c) × (high_of c ≤ 0xdbff)
+high-bounds : (c : ℕ) → c < 0x11_0000 → (0xd800 ≤ high_of c) × (high_of c < 0xdc00)
 high-bounds c h = omega arith
 
-low-bounds : (c : ℕ) → (0xdc00 ≤ low_of c) × (low_of c ≤ 0xdfff)
+low-bounds : (c : ℕ) → (0xdc00 ≤ low_of c) × (low_of c < 0xe000)
 low-bounds c = omega arith
 
 high_of-high : (c : ℕ) → c < 0x11_0000 → is_high (high_of c) ≡ true
-high_of-high c h = let b = high-bounds c h in and_from _ _ (le-leb 0xd800 (high_of c) b.0) (le-leb (high_of c) 0xdbff b.1)
+high_of-high c h = let b = high-bounds c h in and_from _ _ (le-leb 0xd800 (high_of c) b.0) (lt-ltb (high_of c) 0xdc00 b.1)
 
 low_of-low : (c : ℕ) → is_low (low_of c) ≡ true
-low_of-low c = let b = low-bounds c in and_from _ _ (le-leb 0xdc00 (low_of c) b.0) (le-leb (low_of c) 0xdfff b.1)
+low_of-low c = let b = low-bounds c in and_from _ _ (le-leb 0xdc00 (low_of c) b.0) (lt-ltb (low_of c) 0xe000 b.1)
 
-pub paired-surrogates : (c : ℕ) → 0x1_0000 ≤ c → paired (high_of c) (low_of c) ≡ c
-paired-surrogates c h = omega arith
+pub pair_character-surrogates : (c : ℕ) → 0x1_0000 ≤ c → pair_character (high_of c) (low_of c) ≡ c
+pair_character-surrogates c h = omega arith
 
 -- the two escapes of a character past U+FFFF
 pub meaning_of-pair : (c : ℕ) (rest : List ℕ) → 0x1_0000 ≤ c → c < 0x11_0000
@@ -80,4 +93,4 @@ meaning_of-pair c rest h k =
     meaning_of-surrogates (unit_digits (high_of c)) (unit_digits (low_of c)) rest
     (unit_digits-hexadecimal (high_of c)) (subst (λ v. is_high v ≡ true) (sym e) (high_of-high c k))
     (unit_digits-hexadecimal (low_of c)) (subst (λ v. is_low v ≡ true) (sym f) (low_of-low c))
-    ∙ ap (λ v. in_front v (meaning_of rest)) (ap₂ paired e f ∙ paired-surrogates c h)
+    ∙ ap (λ v. in_front v (meaning_of rest)) (ap₂ pair_character e f ∙ pair_character-surrogates c h)

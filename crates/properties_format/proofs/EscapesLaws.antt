@@ -1,9 +1,9 @@
 -- How the meaning of a text goes on from what stands in front of it.
-use Rattle.std.proofs.Common.{◌≡◌, ℕ, ◌==◌, ◌<◌, length, true, false, List, [], ◌∷◌, ◌++◌, map, None, refl, ap, ◌∙◌, arith}
+use Rattle.std.proofs.Common.{◌≡◌, ℕ, ◌==◌, ◌<◌, length, true, false, List, [], ◌∷◌, ◌++◌, map, None, refl, ap, sym, ◌∙◌, append_assoc, append-nil, arith}
 use Rattle.properties_format.specs.Text.{backslash}
-use Rattle.properties_format.specs.Escapes.{letter_u, escaped_character, Four, four_text, are_hexadecimal, code_unit, is_high, is_low, is_surrogate, paired, Spelling, itself, escaped, unicode, surrogates, last, spelt_character, IsSpelling, spelt_before, AreSpellings, not_enough_digits, not_hex, invalid_character, malformed_by, means, breaks, with_low, behind_u, in_front, meaning_of}
+use Rattle.properties_format.specs.Escapes.{letter_u, escaped_character, Four, four_text, are_hexadecimal, code_unit, is_high, is_low, is_surrogate, pair_character, Spelling, itself, escaped, unicode, surrogates, last, spelling_text, spelt_character, IsSpelling, spelt_before, AreSpellings, not_enough_digits, not_hex, invalid_character, malformed_by, means, breaks, with_low, behind_u, in_front, meaning_of}
 use Rattle.properties_format.proofs.EscapesFirst.{spelling_of-none}
-use Rattle.properties_format.proofs.Escapes.{text_in_front, meaning_of-empty, meaning_of-spelling, meaning_of-spellings, meaning_of-fault}
+use Rattle.properties_format.proofs.Escapes.{text_in_front, text_in_front-means, meaning_of-empty, meaning_of-spelling, meaning_of-spellings, meaning_of-fault}
 
 -- ---- a spelling in front
 
@@ -19,7 +19,7 @@ meaning_of-unicode d rest h k = meaning_of-spelling (unicode d) rest (h, k)
 
 pub meaning_of-surrogates : (high low : Four) (rest : List ℕ) → are_hexadecimal high ≡ true → is_high (code_unit high) ≡ true
     → are_hexadecimal low ≡ true → is_low (code_unit low) ≡ true
-    → meaning_of (backslash ∷ letter_u ∷ four_text high ++ (backslash ∷ letter_u ∷ four_text low ++ rest)) ≡ in_front (paired (code_unit high) (code_unit low)) (meaning_of rest)
+    → meaning_of (backslash ∷ letter_u ∷ four_text high ++ (backslash ∷ letter_u ∷ four_text low ++ rest)) ≡ in_front (pair_character (code_unit high) (code_unit low)) (meaning_of rest)
 meaning_of-surrogates high low rest h k l m = meaning_of-spelling (surrogates high low) rest (h, k, l, m)
 
 -- a backslash that stands last
@@ -69,6 +69,41 @@ AreWhole-spellings (p ∷ ps) rest h = (IsWhole-spelling p (spelt_before ps rest
 -- whole spellings in front of any text
 pub meaning_of-whole : (ps : List Spelling) (rest : List ℕ) → AreWhole ps → meaning_of (spelt_before ps rest) ≡ text_in_front (map spelt_character ps) (meaning_of rest)
 meaning_of-whole ps rest h = meaning_of-spellings ps rest (AreWhole-spellings ps rest h)
+
+-- whole spellings alone
+pub meaning_of-all : (ps : List Spelling) → AreWhole ps → meaning_of (spelt_before ps []) ≡ means (map spelt_character ps)
+meaning_of-all ps h =
+    meaning_of-whole ps [] h
+    ∙ ap (text_in_front (map spelt_character ps)) meaning_of-empty
+    ∙ text_in_front-means (map spelt_character ps) []
+    ∙ ap means (append-nil (map spelt_character ps))
+
+-- ---- spellings put together
+
+pub spelt_before-front : (ps : List Spelling) (rest : List ℕ) → spelt_before ps rest ≡ spelt_before ps [] ++ rest
+spelt_before-front [] rest = refl
+spelt_before-front (p ∷ ps) rest = ap (λ v. spelling_text p ++ v) (spelt_before-front ps rest) ∙ sym (append_assoc (spelling_text p) (spelt_before ps []) rest)
+
+pub spelt_before-append : (ps qs : List Spelling) (rest : List ℕ) → spelt_before (ps ++ qs) rest ≡ spelt_before ps (spelt_before qs rest)
+spelt_before-append [] qs rest = refl
+spelt_before-append (p ∷ ps) qs rest = ap (λ v. spelling_text p ++ v) (spelt_before-append ps qs rest)
+
+pub AreWhole-append : (ps qs : List Spelling) → AreWhole ps → AreWhole qs → AreWhole (ps ++ qs)
+AreWhole-append [] qs h k = k
+AreWhole-append (p ∷ ps) qs h k = (h.0, AreWhole-append ps qs h.1 k)
+
+-- characters that spell themselves
+pub spelt_before-itself : (x rest : List ℕ) → spelt_before (map itself x) rest ≡ x ++ rest
+spelt_before-itself [] rest = refl
+spelt_before-itself (c ∷ x) rest = ap (λ v. c ∷ v) (spelt_before-itself x rest)
+
+pub characters-itself : (x : List ℕ) → map spelt_character (map itself x) ≡ x
+characters-itself [] = refl
+characters-itself (c ∷ x) = ap (λ v. c ∷ v) (characters-itself x)
+
+pub AreWhole-itself : (x : List ℕ) → HasNoBackslash x → AreWhole (map itself x)
+AreWhole-itself [] h = tt
+AreWhole-itself (c ∷ x) h = (h.0, AreWhole-itself x h.1)
 
 -- ---- a `\u` that begins no spelling
 

@@ -4,7 +4,7 @@ use Rattle.std.proofs.lemmas.Bool.{and_parts}
 use Rattle.std.proofs.lemmas.Bool.Decides.{nat_tests}
 use Rattle.std.proofs.lemmas.List.Elements.{All-nil, All-cons, All-head, All-tail}
 use Rattle.properties_format.specs.Text.{backslash, scalar}
-use Rattle.properties_format.specs.Escapes.{Four, is_hexadecimal, hexadecimal_value, are_hexadecimal, code_unit, is_high, is_low, is_surrogate, paired, escaped_character, Spelling, itself, escaped, unicode, surrogates, last, spelling_text, spelt_character, IsSpelling, spelt_before, AreSpellings, Means, means, IsMeaning, meaning_of}
+use Rattle.properties_format.specs.Escapes.{Four, is_hexadecimal, hexadecimal_value, are_hexadecimal, code_unit, is_high, is_low, is_surrogate, pair_character, escaped_character, Spelling, itself, escaped, unicode, surrogates, last, spelling_text, spelt_character, IsSpelling, spelt_before, AreSpellings, Means, means, IsMeaning, meaning_of}
 use Rattle.properties_format.proofs.Escapes.{meaning_of-meets}
 
 digit-below : (c : ℕ) → is_hexadecimal c ≡ true → hexadecimal_value c < 16
@@ -24,7 +24,7 @@ code_unit-below d h =
 unit-scalar : (n : ℕ) → n < 0x1_0000 → is_surrogate n ≡ false → scalar n
 unit-scalar n h k = grind (arith, nat_tests)
 
-pair-scalar : (high low : ℕ) → is_high high ≡ true → is_low low ≡ true → scalar (paired high low)
+pair-scalar : (high low : ℕ) → is_high high ≡ true → is_low low ≡ true → scalar (pair_character high low)
 pair-scalar high low h k = grind (arith, nat_tests)
 
 escaped-scalar : (c : ℕ) → scalar c → scalar (escaped_character c)

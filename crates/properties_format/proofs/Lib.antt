@@ -11,6 +11,14 @@ pub mod Utf8Pieces
 pub mod Utf8Rows
 pub mod Lines
 pub mod Groups
+pub mod Escapes
+pub mod EscapesDigits
+pub mod EscapesFirst
+pub mod EscapesLaws
+pub mod EscapesScalars
+pub mod EscapesTrimmed
+pub mod Examples
+pub mod Split
 pub mod SplitBlanks
 pub mod SplitKeys
 pub mod Split

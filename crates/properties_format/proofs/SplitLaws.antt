@@ -7,6 +7,7 @@ use Rattle.properties_format.specs.Text.{backslash, scalar, is_blank, is_comment
 use Rattle.properties_format.specs.Split.{Logical, blank, comment, pair, AreBlanks, begins, plain, escaped, IsKey, separator, IsSplit, split_full, split_of}
 use Rattle.properties_format.specs.Escapes.{letter_u, is_hexadecimal, Four, four_text, are_hexadecimal}
 use Rattle.properties_format.proofs.SplitBlanks.{past_blanks-append}
+use Rattle.properties_format.proofs.EscapesDigits.{hexadecimal-plain}
 use Rattle.properties_format.proofs.Split.{separator-full, split_of-pair, split_of-meets, split_of-only}
 
 -- a line is one thing in one way
@@ -28,18 +29,6 @@ IsKey-plain c x rest h b s k = record { units = plain c ∷ k.units; whole = ap 
 
 pub IsKey-escaped : (c : ℕ) (x rest : List ℕ) → IsKey x rest → IsKey (backslash ∷ c ∷ x) rest
 IsKey-escaped c x rest k = record { units = escaped c ∷ k.units; whole = ap (λ v. backslash ∷ c ∷ v) k.whole; each = (tt, k.each) }
-
-hexadecimal-plain : (c : ℕ) → is_hexadecimal c ≡ true → ((c == backslash) ≡ false) × (is_blank c ≡ false) × (is_separator c ≡ false)
-hexadecimal-plain c h = (not_backslash c h, not_blank c h, not_separator c h)
-  where
-    not_backslash : (c : ℕ) → is_hexadecimal c ≡ true → (c == backslash) ≡ false
-    not_backslash c h = grind (arith, nat_tests)
-
-    not_blank : (c : ℕ) → is_hexadecimal c ≡ true → is_blank c ≡ false
-    not_blank c h = grind (arith, nat_tests)
-
-    not_separator : (c : ℕ) → is_hexadecimal c ≡ true → is_separator c ≡ false
-    not_separator c h = grind (arith, nat_tests)
 
 IsKey-digit : (c : ℕ) (x rest : List ℕ) → is_hexadecimal c ≡ true → IsKey x rest → IsKey (c ∷ x) rest
 IsKey-digit c x rest h k = let p = hexadecimal-plain c h in IsKey-plain c x rest p.0 p.1 p.2 k

@@ -1,6 +1,8 @@
 -- What a key, a value or a comment's text means: it is a concatenation of spellings, each of one character.
--- Source: java.util.Properties of Java SE 7, load; The Unicode Standard, section 3.9, D91 (surrogate pairs).
-use Rattle.std.specs.Prelude.{◌≡◌, ◌==◌, ◌&&◌, ◌||◌, ℕ, ◌+◌, ◌-◌, ◌*◌, nat_le, zero, suc, pred, length, Bool, true, false, if◌then◌else◌, List, [], ◌∷◌, ◌++◌, map, Option, Some, None}
+-- Source: java.util.Properties of Java SE 7, load.
+use Rattle.std.specs.Prelude.{◌≡◌, ◌==◌, ◌&&◌, ℕ, zero, suc, pred, length, true, false, if◌then◌else◌, List, [], ◌∷◌, ◌++◌, map, Option, Some, None}
+pub use Rattle.properties_format.specs.Hexadecimal.{is_hexadecimal, hexadecimal_value, Four, four_text, are_hexadecimal, code_unit}
+pub use Rattle.properties_format.specs.Surrogates.{is_high, is_low, is_surrogate, pair_character}
 use Rattle.properties_format.specs.Text.{tab, line_feed, form_feed, carriage_return, backslash}
 
 -- How a text can fail to have a meaning: what stands behind a `\u` is too short, is not hexadecimal, or is a surrogate without its other half.
@@ -31,46 +33,6 @@ escaped_character c =
     if c == letter_t then tab
     else (if c == letter_n then line_feed else (if c == letter_f then form_feed else (if c == letter_r then carriage_return else c)))
 
--- a hexadecimal digit: 0 to 9, A to F, or a to f
-abbrev pub is_hexadecimal : ℕ → Bool
-is_hexadecimal c = (nat_le 0x30 c && nat_le c 0x39) || ((nat_le 0x41 c && nat_le c 0x46) || (nat_le 0x61 c && nat_le c 0x66))
-
--- what a hexadecimal digit counts
-abbrev pub hexadecimal_value : ℕ → ℕ
-hexadecimal_value c = if nat_le c 0x39 then c - 0x30 else (if nat_le c 0x46 then c - 0x37 else c - 0x57)
-
--- the four characters behind a `\u`
-pub record Four : Type 0 where
-  pub first : ℕ
-  pub second : ℕ
-  pub third : ℕ
-  pub fourth : ℕ
-
-abbrev pub four_text : Four → List ℕ
-four_text d = d.first ∷ d.second ∷ d.third ∷ d.fourth ∷ []
-
--- all four are hexadecimal digits
-abbrev pub are_hexadecimal : Four → Bool
-are_hexadecimal d = (is_hexadecimal d.first && is_hexadecimal d.second) && (is_hexadecimal d.third && is_hexadecimal d.fourth)
-
--- the number of four hexadecimal digits
-abbrev pub code_unit : Four → ℕ
-code_unit d = ((hexadecimal_value d.first * 16 + hexadecimal_value d.second) * 16 + hexadecimal_value d.third) * 16 + hexadecimal_value d.fourth
-
--- a high surrogate, a low one, and either
-abbrev pub is_high : ℕ → Bool
-is_high n = nat_le 0xd800 n && nat_le n 0xdbff
-
-abbrev pub is_low : ℕ → Bool
-is_low n = nat_le 0xdc00 n && nat_le n 0xdfff
-
-abbrev pub is_surrogate : ℕ → Bool
-is_surrogate n = is_high n || is_low n
-
--- the character of a high and a low surrogate
-abbrev pub paired : ℕ → ℕ → ℕ
-paired high low = 0x1_0000 + (high - 0xd800) * 0x400 + (low - 0xdc00)
-
 -- How a character is spelt: as itself; by a backslash and a character; by one `\u` escape; by two, of a high and a low surrogate; by a backslash that stands last.
 pub data Spelling : Type 0 where
   itself : ℕ → Spelling
@@ -92,7 +54,7 @@ abbrev pub spelt_character : Spelling → ℕ
 spelt_character (itself c) = c
 spelt_character (escaped c) = escaped_character c
 spelt_character (unicode d) = code_unit d
-spelt_character (surrogates high low) = paired (code_unit high) (code_unit low)
+spelt_character (surrogates high low) = pair_character (code_unit high) (code_unit low)
 spelt_character last = 0
 
 -- The spelling may stand before this rest of the text.
@@ -144,6 +106,7 @@ pub data Meaning : Type 0 where
   means : List ℕ → Meaning
   breaks : Malformed → Meaning
 
+-- the text comes to this
 abbrev pub IsMeaning : List ℕ → Meaning → Type 0
 IsMeaning text (means meant) = Means text meant
 IsMeaning text (breaks kind) = Breaks text kind

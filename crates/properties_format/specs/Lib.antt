@@ -1,3 +1,7 @@
+pub mod Escapes
+pub mod Hexadecimal
+pub mod Split
+pub mod Surrogates
 pub mod Text
 pub mod Pieces
 pub mod Windows1252
