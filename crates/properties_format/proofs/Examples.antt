@@ -5,7 +5,7 @@ pub mod Groups
 pub mod Items
 pub mod Lines
 pub mod Maps
+pub mod Pieces
 pub mod Settings
 pub mod Split
 pub mod Writing
-pub mod Pieces

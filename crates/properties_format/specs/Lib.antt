@@ -1,16 +1,15 @@
-pub mod Escapes
-pub mod Hexadecimal
-pub mod Split
-pub mod Surrogates
 pub mod Text
 pub mod Pieces
 pub mod Windows1252
 pub mod Utf8
+pub mod Surrogates
 pub mod Utf16
 pub mod Encoding
 pub mod Lines
 pub mod Groups
+pub mod Logical
 pub mod Split
+pub mod Hexadecimal
 pub mod Escapes
 pub mod Entries
 pub mod Items
@@ -18,4 +17,3 @@ pub mod Settings
 pub mod Printing
 pub mod Writing
 pub mod Maps
-pub mod Logical
