@@ -165,7 +165,7 @@ spelt_key-encodable e first key =
 
 -- ---- whole lines
 
-blank-ascii : (c : ℕ) → is_blank c ≡ true → c < 0x80
+pub blank-ascii : (c : ℕ) → is_blank c ≡ true → c < 0x80
 blank-ascii c h = elim (or_cases (c == 0x20) (c == 0x09 || c == 0x0c) h) [
   | inl e ↦ is-ascii c 0x20 (lit< tt) e
   | inr h ↦ elim (or_cases (c == 0x09) (c == 0x0c) h) [ inl e ↦ is-ascii c 0x09 (lit< tt) e | inr e ↦ is-ascii c 0x0c (lit< tt) e ]

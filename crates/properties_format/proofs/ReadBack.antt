@@ -1,2 +1,5 @@
 -- What is written is read back.
 pub mod Spellings
+pub mod Texts
+pub mod Pairs
+pub mod Comments
