@@ -3,3 +3,4 @@ pub mod Spellings
 pub mod Texts
 pub mod Pairs
 pub mod Comments
+pub mod Lines

@@ -1,11 +1,11 @@
 -- What a list of calls to a writer writes, and what it is to be read back as.
 -- Source: java.util.Properties of Java SE 7, store, which writes one comment or one pair a line.
-use Rattle.std.specs.Prelude.{ℕ, ◌+◌, ◌==◌, ◌&&◌, not, Bool, true, false, if◌then◌else◌, List, [], ◌∷◌, ◌++◌, Option, Some, None}
-use Rattle.properties_format.specs.Text.{LineEnd, is_comment_mark}
+use Rattle.std.specs.Prelude.{◌≡◌, All, ℕ, ◌+◌, ◌==◌, ◌&&◌, not, Bool, true, false, if◌then◌else◌, List, [], ◌∷◌, ◌++◌, Option, Some, None}
+use Rattle.properties_format.specs.Text.{scalar, LineEnd, backslash, is_comment_mark}
 use Rattle.properties_format.specs.Encoding.{Encoding}
 use Rattle.properties_format.specs.Split.{trimmed}
 use Rattle.properties_format.specs.Entries.{Content, comment, pair, Entry, item}
-use Rattle.properties_format.specs.Settings.{Settings, is_blanks, is_good_prefix, is_good_separator}
+use Rattle.properties_format.specs.Settings.{Settings, IsGoodPrefix, IsGoodSeparator, is_blanks, is_good_prefix, is_good_separator}
 use Rattle.properties_format.specs.Printing.{printed}
 
 -- a call: a comment or a pair to write, a setting to change, or a flush
@@ -96,3 +96,39 @@ told_line s n (Some line) = item (n + 1) (told_content s line) ∷ []
 abbrev pub told : Settings → ℕ → List Call → List Entry
 told s n [] = []
 told s n (call ∷ calls) = told_line s n (line_of s call) ++ told (settings_after_call s call) (lines_with n (line_of s call)) calls
+
+-- ---- which calls are read back
+
+-- no character of the text is a backslash
+abbrev pub HoldsNoBackslash : List ℕ → Type 0
+HoldsNoBackslash [] = Unit {0}
+HoldsNoBackslash (c ∷ cs) = ((c == backslash) ≡ false) × HoldsNoBackslash cs
+
+-- each prefix under which a comment is written, from these settings on, holds no backslash
+abbrev pub ArePrefixesClean : Settings → List Call → Type 0
+ArePrefixesClean s [] = Unit {0}
+ArePrefixesClean s (comment_call text ∷ calls) = HoldsNoBackslash s.comment_prefix × ArePrefixesClean s calls
+ArePrefixesClean s (pair_call key value ∷ calls) = ArePrefixesClean s calls
+ArePrefixesClean s (prefix_call prefix ∷ calls) = ArePrefixesClean (settings_after_call s (prefix_call prefix)) calls
+ArePrefixesClean s (separator_call separator ∷ calls) = ArePrefixesClean (settings_after_call s (separator_call separator)) calls
+ArePrefixesClean s (ending_call line_ending ∷ calls) = ArePrefixesClean (settings_after_call s (ending_call line_ending)) calls
+ArePrefixesClean s (flush_call ∷ calls) = ArePrefixesClean s calls
+
+-- each text of the call is one of scalar values
+abbrev pub IsOfScalars : Call → Type 0
+IsOfScalars (comment_call text) = All scalar text
+IsOfScalars (pair_call key value) = All scalar key × All scalar value
+IsOfScalars (prefix_call prefix) = All scalar prefix
+IsOfScalars (separator_call separator) = All scalar separator
+IsOfScalars (ending_call line_ending) = Unit {0}
+IsOfScalars flush_call = Unit {0}
+
+abbrev pub AreOfScalars : List Call → Type 0
+AreOfScalars [] = Unit {0}
+AreOfScalars (call ∷ calls) = IsOfScalars call × AreOfScalars calls
+
+-- What a writer is set to is good: so are the settings of a new one, and calls keep them so.
+pub record AreGoodSettings (s : Settings) : Type 0 where
+  pub prefix : IsGoodPrefix s.comment_prefix
+  pub scalars : All scalar s.comment_prefix
+  pub separator : IsGoodSeparator s.kv_separator

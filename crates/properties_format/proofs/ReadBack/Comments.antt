@@ -23,7 +23,7 @@ use Rattle.properties_format.proofs.Settings.{mark_not_blank, tail_of-good}
 use Rattle.properties_format.proofs.Printing.{encoded-ascii, blank-ascii}
 use Rattle.properties_format.proofs.ReadBack.Spellings.{IsSafe, IsPlainlySpelt, literal-plainly, in_comment-spelt}
 use Rattle.properties_format.proofs.ReadBack.Texts.{safe-whole, safe-plain}
-use Rattle.properties_format.proofs.ReadBack.Pairs.{IsReadAs, blanks-plain}
+use Rattle.properties_format.proofs.ReadBack.Pairs.{IsReadAs, blanks-plain, cons-front}
 
 -- x is the text of whole spellings of y that keep blanks, and holds no line end
 record ArePlainlySpelt (x y : List ℕ) : Type 0 where
@@ -102,6 +102,7 @@ comment-at : (indent : List ℕ) (mark : ℕ) (rest content : List ℕ) → AreB
     → IsReadAs (indent ++ (mark ∷ rest)) (comment (trimmed content))
 comment-at indent mark rest content b m s =
     record {
+      some = cons-front indent rest mark;
       plain = plain-append indent (mark ∷ rest) (blanks-plain indent b) ((mark-ascii mark m).1, s.plain);
       alone = inl (marked-behind indent mark rest b m);
       outcome =

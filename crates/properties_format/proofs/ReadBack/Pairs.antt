@@ -24,6 +24,7 @@ use Rattle.properties_format.proofs.ReadBack.Texts.{AreSafe, AreSafelySpelt, spe
 
 -- what a line's text is read as, and that it is a line of its own
 pub record IsReadAs (text : List ℕ) (content : Content) : Type 0 where
+  pub some : text ≢ []
   pub plain : IsPlain text
   pub alone : StandsAlone text
   pub outcome : outcome_of text ≡ given content
@@ -84,7 +85,7 @@ separator-quiet : (x : List ℕ) → IsGoodSeparator x → IsQuiet x
 separator-quiet x (inl g) = rw g.division (quiet-append g.before (g.sign ∷ g.after) (blanks-quiet g.before g.blank_before) (sign-quiet g.sign g.after g.signed (blanks-quiet g.after g.blank_after)))
 separator-quiet x (inr g) = blanks-quiet x g.blank
 
-cons-front : (x y : List ℕ) (c : ℕ) → x ++ (c ∷ y) ≢ []
+pub cons-front : (x y : List ℕ) (c : ℕ) → x ++ (c ∷ y) ≢ []
 cons-front [] y c h = cc
 cons-front (d ∷ x) y c h = cc
 
@@ -132,6 +133,7 @@ pub pair-read : (k v sep key value : List ℕ) → AreSafelySpelt k key → AreS
 pair-read k v sep key value ks vs g some =
     let q = separator-quiet sep g in
     record {
+      some = append-some k sep v (separator-some sep g);
       plain = plain-append k (sep ++ v) (spelt-plain k key ks) (plain-append sep v q.plain (spelt-plain v value vs));
       alone = inr (closed-behind k sep v q.slashes (separator-some sep g) (spelt-closed v value vs));
       outcome =
