@@ -16,13 +16,13 @@ use Rattle.properties_format.proofs.Printing.{encoded_text-append}
 -- ---- a character in a key is escaped, or stands as itself
 
 -- what is spelt begins with a backslash
-abbrev IsEscape : List ℕ → Type 0
+abbrev pub IsEscape : List ℕ → Type 0
 IsEscape x = (rest : List ℕ) × (x ≡ backslash ∷ rest)
 
 abbrev pub IsEscapedOrItself : Encoding → ℕ → List ℕ → Type 0
 IsEscapedOrItself e c x = IsEscape x ⊎ ((x ≡ c ∷ []) × (is_some (encoded e c) ≡ true))
 
-unicode-is_escape : (c : ℕ) → IsEscape (unicode_escape c)
+pub unicode-is_escape : (c : ℕ) → IsEscape (unicode_escape c)
 unicode-is_escape c = elim (cases_Bool (nat_lt c 0x1_0000)) [
   | inl e ↦ (_, cond-true (nat_lt c 0x1_0000) (unit_escape c) (unit_escape (high_surrogate c) ++ unit_escape (low_surrogate c)) e)
   | inr e ↦ (_, cond-false (nat_lt c 0x1_0000) (unit_escape c) (unit_escape (high_surrogate c) ++ unit_escape (low_surrogate c)) e)

@@ -112,9 +112,6 @@ letter_escape-ascii c = (lit< tt, (letter c, tt))
         (λ k. cond_both (c == 0x0a) 0x6e (cond (c == 0x0c) 0x66 0x72) (λ v. v < 0x80) (λ k. lit< tt)
         (λ k. cond_both (c == 0x0c) 0x66 0x72 (λ v. v < 0x80) (λ k. lit< tt) (λ k. lit< tt)))
 
-literal-encodable : (e : Encoding) (c : ℕ) → AreEncodable e (literal e c)
-literal-encodable e c = cond_both (is_some (encoded e c)) (c ∷ []) (unicode_escape c) (AreEncodable e) (λ k. (k, tt)) (λ k. AreEncodable-ascii e (unicode_escape c) (unicode_escape-ascii c))
-
 is-ascii : (c k : ℕ) → k < 0x80 → (c == k) ≡ true → c < 0x80
 is-ascii c k h e = rw (eqb-true c k e) h
 
@@ -133,22 +130,30 @@ special-ascii c h = elim (or_cases (c == backslash) (c == space || (is_separator
 special-escape : (c : ℕ) → is_special c ≡ true → AreAscii (backslash ∷ c ∷ [])
 special-escape c h = (lit< tt, (special-ascii c h, tt))
 
+literal-either : (e : Encoding) (c : ℕ) (P : List ℕ → Type 0) → ((x : List ℕ) → AreAscii x → P x) → (is_some (encoded e c) ≡ true → P (c ∷ [])) → P (literal e c)
+literal-either e c P ascii as_it_is = cond_both (is_some (encoded e c)) (c ∷ []) (unicode_escape c) P as_it_is (λ k. ascii (unicode_escape c) (unicode_escape-ascii c))
+
+-- What is spelt is an ASCII text, or the character itself, which can be encoded.
+pub spelt-either : (e : Encoding) (place : Place) (c : ℕ) (P : List ℕ → Type 0) → ((x : List ℕ) → AreAscii x → P x) → (is_some (encoded e c) ≡ true → P (c ∷ []))
+    → P (spelt e place c)
+spelt-either e in_key_or_value c P ascii as_it_is =
+    cond_both (is_special c) (backslash ∷ c ∷ []) (cond (has_letter c) (letter_escape c) (cond (nat_lt c space) (unicode_escape c) (literal e c))) P
+    (λ k. ascii (backslash ∷ c ∷ []) (special-escape c k))
+    (λ k. cond_both (has_letter c) (letter_escape c) (cond (nat_lt c space) (unicode_escape c) (literal e c)) P
+    (λ k. ascii (letter_escape c) (letter_escape-ascii c))
+    (λ k. cond_both (nat_lt c space) (unicode_escape c) (literal e c) P
+    (λ k. ascii (unicode_escape c) (unicode_escape-ascii c))
+    (λ k. literal-either e c P ascii as_it_is)))
+spelt-either e in_comment c P ascii as_it_is =
+    cond_both (c == backslash) (backslash ∷ backslash ∷ []) (cond (c == 0x0a || c == 0x0d) (letter_escape c) (literal e c)) P
+    (λ k. ascii (backslash ∷ backslash ∷ []) (lit< tt, (lit< tt, tt)))
+    (λ k. cond_both (c == 0x0a || c == 0x0d) (letter_escape c) (literal e c) P
+    (λ k. ascii (letter_escape c) (letter_escape-ascii c))
+    (λ k. literal-either e c P ascii as_it_is))
+spelt-either e in_prefix c P ascii as_it_is = literal-either e c P ascii as_it_is
+
 pub spelt-encodable : (e : Encoding) (place : Place) (c : ℕ) → AreEncodable e (spelt e place c)
-spelt-encodable e in_key_or_value c =
-    cond_both (is_special c) (backslash ∷ c ∷ []) (cond (has_letter c) (letter_escape c) (cond (nat_lt c space) (unicode_escape c) (literal e c))) (AreEncodable e)
-    (λ k. AreEncodable-ascii e (backslash ∷ c ∷ []) (special-escape c k))
-    (λ k. cond_both (has_letter c) (letter_escape c) (cond (nat_lt c space) (unicode_escape c) (literal e c)) (AreEncodable e)
-    (λ k. AreEncodable-ascii e (letter_escape c) (letter_escape-ascii c))
-    (λ k. cond_both (nat_lt c space) (unicode_escape c) (literal e c) (AreEncodable e)
-    (λ k. AreEncodable-ascii e (unicode_escape c) (unicode_escape-ascii c))
-    (λ k. literal-encodable e c)))
-spelt-encodable e in_comment c =
-    cond_both (c == backslash) (backslash ∷ backslash ∷ []) (cond (c == 0x0a || c == 0x0d) (letter_escape c) (literal e c)) (AreEncodable e)
-    (λ k. AreEncodable-ascii e (backslash ∷ backslash ∷ []) (lit< tt, (lit< tt, tt)))
-    (λ k. cond_both (c == 0x0a || c == 0x0d) (letter_escape c) (literal e c) (AreEncodable e)
-    (λ k. AreEncodable-ascii e (letter_escape c) (letter_escape-ascii c))
-    (λ k. literal-encodable e c))
-spelt-encodable e in_prefix c = literal-encodable e c
+spelt-encodable e place c = spelt-either e place c (AreEncodable e) (AreEncodable-ascii e) (λ k. (k, tt))
 
 pub spelt_text-encodable : (e : Encoding) (place : Place) (x : List ℕ) → AreEncodable e (spelt_text e place x)
 spelt_text-encodable e place [] = tt

@@ -4,3 +4,4 @@ pub mod Texts
 pub mod Pairs
 pub mod Comments
 pub mod Lines
+pub mod Bytes

@@ -75,10 +75,10 @@ tail-plainly e (c ∷ tail) y cs h b p s =
 literal-ascii : (e : Encoding) (c : ℕ) → c < 0x80 → literal e c ≡ c ∷ []
 literal-ascii e c h = cond-true (is_some (encoded e c)) (c ∷ []) (unicode_escape c) (ap is_some (encoded-ascii e c h))
 
-mark-ascii : (c : ℕ) → is_comment_mark c ≡ true → (c < 0x80) × (is_line_end c ≡ false)
+pub mark-ascii : (c : ℕ) → is_comment_mark c ≡ true → (c < 0x80) × (is_line_end c ≡ false)
 mark-ascii c h = elim (or_cases (c == 0x23) (c == 0x21) h) [ inl e ↦ rw (eqb-true c 0x23 e) (lit< tt, refl) | inr e ↦ rw (eqb-true c 0x21 e) (lit< tt, refl) ]
 
-prefix-spelt : (e : Encoding) (indent : List ℕ) (mark : ℕ) (tail : List ℕ) → AreBlanks indent → is_comment_mark mark ≡ true
+pub prefix-spelt : (e : Encoding) (indent : List ℕ) (mark : ℕ) (tail : List ℕ) → AreBlanks indent → is_comment_mark mark ≡ true
     → spelt_text e in_prefix (indent ++ (mark ∷ tail)) ≡ indent ++ (mark ∷ spelt_text e in_prefix tail)
 prefix-spelt e [] mark tail b m = ap (λ v. v ++ spelt_text e in_prefix tail) (literal-ascii e mark (mark-ascii mark m).0)
 prefix-spelt e (c ∷ indent) mark tail b m =

@@ -89,7 +89,7 @@ pub cons-front : (x y : List ℕ) (c : ℕ) → x ++ (c ∷ y) ≢ []
 cons-front [] y c h = cc
 cons-front (d ∷ x) y c h = cc
 
-separator-some : (x : List ℕ) → IsGoodSeparator x → x ≢ []
+pub separator-some : (x : List ℕ) → IsGoodSeparator x → x ≢ []
 separator-some x (inl g) = λ q. cons-front g.before g.after g.sign (sym g.division ∙ q)
 separator-some x (inr g) = g.some
 
