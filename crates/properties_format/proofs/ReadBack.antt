@@ -5,3 +5,5 @@ pub mod Pairs
 pub mod Comments
 pub mod Lines
 pub mod Bytes
+pub mod Unmarked
+pub mod Law
