@@ -1,17 +1,18 @@
 -- The characters of pieces: each is a scalar value, an ASCII character has its own bytes, and what is encoded is a piece.
-use Rattle.std.proofs.Common.{◌≡◌, ℕ, ◌+◌, ◌-◌, ◌*◌, ◌%◌, ◌<◌, ◌≤◌, ◌⊎◌, ◌&&◌, Bool, true, false, nat_lt, nat_le, List, [], ◌∷◌, ◌++◌, length, Option, Some, None, All, refl, sym, ap, ap₂, ◌∙◌, subst, inl, inr, arith, ltb-true, ltb-false, leb-true, leb-false}
+use Rattle.std.proofs.Common.{◌≡◌, ℕ, ◌+◌, ◌-◌, ◌*◌, ◌<◌, true, false, nat_lt, nat_le, List, [], ◌∷◌, ◌++◌, Option, Some, None, All, refl, sym, ap, ap₂, ◌∙◌, inl, inr, arith, ltb-true, ltb-false, leb-false}
 use Rattle.std.specs.Char.{encode_utf8}
 use Rattle.std.specs.List.{AllByRecursion}
-use Rattle.std.proofs.lemmas.List.Elements.{All-from_recursion, recursion_from_All, All-nil, All-cons}
+use Rattle.std.proofs.lemmas.List.Elements.{recursion_from_All, All-nil, All-cons}
 use Rattle.std.proofs.lemmas.Bool.{and_parts, and_cases, and_left, lt-leb}
 use Rattle.std.proofs.lemmas.Option.{none-some, same_Some}
 use Rattle.properties_format.specs.Text.{byte, scalar, replacement}
 use Rattle.properties_format.specs.Pieces.{Piece, piece, characters}
 use Rattle.properties_format.specs.Windows1252.{windows_1252_character, windows_1252_byte}
-use Rattle.properties_format.specs.Utf8.{IsUtf8Piece, whole, stray, broken, IsWellFormed, sequence_character}
-use Rattle.properties_format.specs.Utf16.{low_first, high_first, is_high, is_low, pair_character, IsUtf16Piece, pair, plain, low_alone, high_alone, high_last, byte_last, both_last}
-use Rattle.properties_format.specs.Encoding.{Encoding, windows_1252, utf_8, utf_16le, utf_16be, output_encoding, one_byte, encoded, mark, IsPiece, IsPieces, pieces_of, decoded_of, ascii_bytes}
-use Rattle.properties_format.proofs.Windows1252Table.{windows_1252_character-byte, windows_1252-scalar, windows_1252-ascii, windows_1252_character-ascii}
+use Rattle.properties_format.specs.Utf8.{IsUtf8Piece, whole, stray, broken}
+use Rattle.properties_format.specs.Surrogates.{is_high, is_low, pair_character}
+use Rattle.properties_format.specs.Utf16.{low_first, high_first, IsUtf16Piece, pair, plain, low_alone, high_alone, high_last, byte_last, both_last}
+use Rattle.properties_format.specs.Encoding.{Encoding, windows_1252, utf_8, utf_16le, utf_16be, output_encoding, one_byte, encoded, IsPiece, IsPieces, pieces_of, ascii_bytes}
+use Rattle.properties_format.proofs.Windows1252Table.{windows_1252_character-byte, windows_1252-scalar, windows_1252-ascii, windows_1252_character-ascii, windows_1252_byte-ascii}
 use Rattle.properties_format.proofs.Utf8Characters.{encode-says, encode-ascii}
 use Rattle.properties_format.proofs.Utf8Sequences.{sequence-scalar, sequence-ascii}
 use Rattle.properties_format.proofs.EncodingPieces.{pieces_of-meets, pieces_of-piece}
@@ -40,7 +41,27 @@ pub pieces_of-encoded : (e : Encoding) (c : ℕ) (bs y : List ℕ) → scalar c 
     → pieces_of (output_encoding e) (bs ++ y) ≡ piece bs c ∷ pieces_of (output_encoding e) y
 pieces_of-encoded e c bs y h k = pieces_of-piece (output_encoding e) (piece bs c) y (encoded-piece e c bs y h k)
 
+-- an output encoding is its own, and encodes as the one asked for does
+pub output_encoding-twice : (e : Encoding) → output_encoding (output_encoding e) ≡ output_encoding e
+output_encoding-twice windows_1252 = refl
+output_encoding-twice utf_8 = refl
+output_encoding-twice utf_16le = refl
+output_encoding-twice utf_16be = refl
+
+pub encoded-output : (e : Encoding) (c : ℕ) → encoded (output_encoding e) c ≡ encoded e c
+encoded-output windows_1252 c = refl
+encoded-output utf_8 c = refl
+encoded-output utf_16le c = refl
+encoded-output utf_16be c = refl
+
 -- ---- An ASCII character.
+
+-- it is encoded as one byte
+pub encoded-ascii : (e : Encoding) (c : ℕ) → c < 0x80 → encoded e c ≡ Some (c ∷ [])
+encoded-ascii windows_1252 c h = ap one_byte (windows_1252_byte-ascii c h)
+encoded-ascii utf_8 c h = ap Some (encode-ascii c h)
+encoded-ascii utf_16le c h = ap Some (encode-ascii c h)
+encoded-ascii utf_16be c h = ap Some (encode-ascii c h)
 
 not-surrogate : (u : ℕ) → u < 0x80 → (is_high u ≡ false) × (is_low u ≡ false)
 not-surrogate u h =

@@ -1,11 +1,10 @@
 -- Where bytes may be cut so that their pieces are those of their parts.
-use Rattle.std.proofs.Common.{◌≡◌, ℕ, suc, ◌+◌, ◌<◌, ◌≤◌, List, [], ◌∷◌, ◌++◌, length, drop, refl, sym, ap, ap₂, ◌∙◌, subst, arith, append_assoc, append-nil, length-append}
-use Rattle.std.proofs.Math.Seq.{drop-append_seam}
+use Rattle.std.proofs.Common.{◌≡◌, ℕ, ◌+◌, ◌<◌, List, [], ◌∷◌, ◌++◌, length, refl, sym, ap, ap₂, ◌∙◌, subst, arith, append_assoc, append-nil, length-append}
 use Rattle.properties_format.specs.Pieces.{Piece, piece, characters}
-use Rattle.properties_format.specs.Encoding.{Encoding, IsPiece, IsPieces, IsAligned, first_piece, pieces_of, ascii_bytes}
-use Rattle.properties_format.proofs.EncodingPieces.{first-meets, piece-length, pieces_of-meets, pieces_of-only, pieces_of-piece}
-use Rattle.properties_format.proofs.EncodingCharacters.{ascii-piece, pieces_of-ascii, piece-ascii}
-use Rattle.properties_format.proofs.PieceEnds.{piece-more, piece-long, piece-less, piece-aligned, piece-anew, aligned-nil, aligned-append, aligned-back, BeginsAnew, ascii-anew}
+use Rattle.properties_format.specs.Encoding.{Encoding, IsPiece, IsPieces, IsAligned, pieces_of, ascii_bytes}
+use Rattle.properties_format.proofs.EncodingPieces.{piece-length, pieces_of-meets, pieces_of-only, pieces_of-piece}
+use Rattle.properties_format.proofs.EncodingCharacters.{pieces_of-ascii, piece-ascii}
+use Rattle.properties_format.proofs.PieceEnds.{piece-more, piece-less, piece-aligned, piece-anew, aligned-nil, aligned-append, aligned-back, BeginsAnew, ascii-anew}
 
 -- ---- Bytes added behind.
 
@@ -52,20 +51,6 @@ pieces_of-anew e x y a h = pieces_of-append e x y (last-anew e x y (pieces_of e 
 -- a first piece with a byte behind it is the first whatever follows
 pub pieces_of-first : (e : Encoding) (p : Piece) (rest y : List ℕ) → 0 < length rest → IsPiece e p rest → pieces_of e (p.bytes ++ (rest ++ y)) ≡ p ∷ pieces_of e (rest ++ y)
 pieces_of-first e p rest y l h = pieces_of-piece e p (rest ++ y) (piece-more e p rest y l h)
-
--- the first piece of four bytes at least is the first whatever follows
-pub pieces_of-long : (e : Encoding) (b : ℕ) (d y : List ℕ) → 3 ≤ length d
-    → pieces_of e (b ∷ d ++ y) ≡ first_piece e b d ∷ pieces_of e (drop (length (first_piece e b d).bytes) (b ∷ d) ++ y)
-pieces_of-long e b d y l =
-    let p : Piece = first_piece e b d in
-    let m = first-meets e b d in
-    let n : length (b ∷ d) ≡ length (p.bytes ++ m.0) = ap length m.1 in
-    let k : IsPiece e p (m.0 ++ y) = piece-long e p m.0 y (omega arith) m.2 in
-    let r : drop (length p.bytes) (b ∷ d) ≡ m.0 = ap (drop (length p.bytes)) m.1 ∙ drop-append_seam p.bytes m.0 in
-    ap (λ v. pieces_of e (v ++ y)) m.1
-    ∙ ap (pieces_of e) (append_assoc p.bytes m.0 y)
-    ∙ pieces_of-piece e p (m.0 ++ y) k
-    ∙ ap (λ v. p ∷ pieces_of e (v ++ y)) (sym r)
 
 -- ---- A cut before any piece.
 
@@ -132,7 +117,7 @@ place-of (p ∷ ps) (b ∷ t) c s h =
     let k : p.character ≡ b = cc in
     let l : characters ps ≡ t ++ c ∷ s = cc in
     let m = place-of ps t c s l in
-    (p ∷ m.0, m.1, m.2, ap {y = m.0 ++ m.1 ∷ m.2} (λ v. p ∷ v) m.3, ap₂ (λ v w. v ∷ w) k m.4, m.5, m.6)
+    (p ∷ m.0, m.1, m.2, ap (λ v. p ∷ v) {y = m.0 ++ m.1 ∷ m.2} m.3, ap₂ (λ v w. v ∷ w) k m.4, m.5, m.6)
 
 -- the bytes around those of an ASCII character, and what they are decoded to
 pub record IsCutAt (e : Encoding) (d : List ℕ) (t : List ℕ) (c : ℕ) (s : List ℕ) (x y : List ℕ) : Type 0 where

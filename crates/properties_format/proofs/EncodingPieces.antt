@@ -1,8 +1,7 @@
 -- The pieces of some bytes are what is read, and nothing else is.
 use Rattle.std.proofs.Common.{◌≡◌, ℕ, zero, suc, ◌+◌, ◌<◌, ◌≤◌, List, [], ◌∷◌, ◌++◌, length, drop, refl, sym, ap, ◌∙◌, arith, length-append}
 use Rattle.std.proofs.Math.Seq.{drop-append_seam}
-use Rattle.properties_format.specs.Pieces.{Piece, piece, characters}
-use Rattle.properties_format.specs.Windows1252.{windows_1252_character, IsWindows1252Piece}
+use Rattle.properties_format.specs.Pieces.{Piece, characters}
 use Rattle.properties_format.specs.Utf16.{low_first, high_first}
 use Rattle.properties_format.specs.Encoding.{Encoding, windows_1252, utf_8, utf_16le, utf_16be, IsPiece, IsPieces, IsDecoded, mark, first_piece, pieces_within, pieces_of, decoded_of}
 use Rattle.properties_format.proofs.FirstPieces.{Meets, IsRead}

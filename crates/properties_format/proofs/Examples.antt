@@ -9,3 +9,4 @@ pub mod Pieces
 pub mod Settings
 pub mod Split
 pub mod Writing
+pub mod Waiting

@@ -33,3 +33,4 @@ pub mod Logical
 pub mod Utf8Sequences
 pub mod Windows1252Table
 pub mod SplitLaws
+pub mod Waiting

@@ -1,24 +1,15 @@
 -- Which bytes at the front decide the mark.
-use Rattle.std.proofs.Common.{◌≡◌, ℕ, suc, ◌<◌, ◌≤◌, ◌==◌, ◌&&◌, ◌||◌, Bool, true, false, cond, if◌then◌else◌, List, [], ◌∷◌, ◌++◌, length, drop, All, refl, sym, ap, ◌∙◌, inl, inr, arith}
+use Rattle.std.proofs.Common.{◌≡◌, ℕ, ◌≤◌, ◌==◌, ◌&&◌, ◌||◌, true, false, if◌then◌else◌, List, [], ◌∷◌, ◌++◌, length, drop, All, refl, sym, ap, ◌∙◌, inl, inr, arith}
 use Rattle.std.proofs.lemmas.List.{drop-append-le}
 use Rattle.std.proofs.lemmas.List.Elements.{All-drop}
-use Rattle.std.proofs.lemmas.Bool.{cases_Bool, cond-true, cond-false, or_parts, and_parts, and_left, or_from}
+use Rattle.std.proofs.lemmas.Bool.{cases_Bool, or_parts, and_parts, and_left, or_from}
 use Rattle.properties_format.specs.Text.{byte, scalar}
 use Rattle.properties_format.specs.Pieces.{characters}
-use Rattle.properties_format.specs.Encoding.{Encoding, windows_1252, utf_8, utf_16le, utf_16be, Marked, mark, begins_with, begins_like_mark, utf_8_mark, utf_16be_mark, utf_16le_mark, pieces_of, decoded_of}
+use Rattle.properties_format.specs.Encoding.{Encoding, utf_8, utf_16le, utf_16be, Marked, mark, begins_with, begins_like_mark, utf_8_mark, utf_16be_mark, utf_16le_mark, pieces_of, decoded_of}
+use Rattle.properties_format.specs.Waiting.{begins_longer, awaits_mark}
 use Rattle.properties_format.proofs.EncodingCharacters.{pieces_of-scalar}
 
--- the list begins the other, which is longer
-abbrev pub begins_longer : List ℕ → List ℕ → Bool
-begins_longer b [] = false
-begins_longer [] (m ∷ ms) = true
-begins_longer (x ∷ b) (m ∷ ms) = m == x && begins_longer b ms
-
--- the bytes may become a mark by those that follow
-abbrev pub is_undecided : List ℕ → Bool
-is_undecided b = begins_longer b utf_8_mark || (begins_longer b utf_16be_mark || begins_longer b utf_16le_mark)
-
--- the same, with more bytes behind
+-- an encoding in force and its body, with more bytes behind
 abbrev pub followed : Marked → List ℕ → Marked
 followed m d = record { encoding = m.encoding; body = m.body ++ d }
 
@@ -45,9 +36,9 @@ not-longer (x ∷ b) (m ∷ ms) h = elim (cases_Bool (m == x)) [
   | inr k ↦ and_left (m == x) (begins_longer b ms) k
 ]
 
--- three bytes decide
-pub is_undecided-long : (b : List ℕ) → 3 ≤ length b → is_undecided b ≡ false
-is_undecided-long b h =
+-- three bytes at least don't wait
+pub awaits_mark-long : (b : List ℕ) → 3 ≤ length b → awaits_mark b ≡ false
+awaits_mark-long b h =
     or_from (begins_longer b utf_8_mark) (begins_longer b utf_16be_mark || begins_longer b utf_16le_mark) (not-longer b utf_8_mark h)
     (or_from (begins_longer b utf_16be_mark) (begins_longer b utf_16le_mark) (not-longer b utf_16be_mark (omega arith)) (not-longer b utf_16le_mark (omega arith)))
 
@@ -60,8 +51,8 @@ choose-append e m b d x y h k = elim (cases_Bool (begins_with m b)) [
   | inr t ↦ rw (begins-append m b d h) (rw t k)
 ]
 
--- Bytes that can't become a mark decide it: what follows them is in the body.
-pub mark-append : (e : Encoding) (b d : List ℕ) → is_undecided b ≡ false → mark e (b ++ d) ≡ followed (mark e b) d
+-- Bytes that don't wait decide the mark: what follows them is in the body.
+pub mark-append : (e : Encoding) (b d : List ℕ) → awaits_mark b ≡ false → mark e (b ++ d) ≡ followed (mark e b) d
 mark-append e b d h =
     let k = or_parts (begins_longer b utf_8_mark) (begins_longer b utf_16be_mark || begins_longer b utf_16le_mark) h in
     let l = or_parts (begins_longer b utf_16be_mark) (begins_longer b utf_16le_mark) k.1 in
@@ -107,3 +98,7 @@ decoded_of-scalar e b h = pieces_of-scalar (mark e b).encoding (mark e b).body (
 -- bytes that don't begin like a mark are decoded whole
 pub decoded_of-unmarked : (e : Encoding) (b : List ℕ) → begins_like_mark b ≡ false → decoded_of e b ≡ characters (pieces_of e b)
 decoded_of-unmarked e b h = ap (λ v. characters (pieces_of v.encoding v.body)) (mark-none e b h)
+
+-- bytes that don't wait for a mark, and others behind them
+pub decoded_of-append : (e : Encoding) (b d : List ℕ) → awaits_mark b ≡ false → decoded_of e (b ++ d) ≡ characters (pieces_of (mark e b).encoding ((mark e b).body ++ d))
+decoded_of-append e b d h = ap (λ v. characters (pieces_of v.encoding v.body)) (mark-append e b d h)

@@ -1,11 +1,12 @@
 -- How far a piece depends on what stands behind it.
-use Rattle.std.proofs.Common.{◌≡◌, ℕ, suc, ◌+◌, ◌%◌, ◌<◌, ◌≤◌, Bool, true, false, List, [], ◌∷◌, ◌++◌, length, Some, refl, sym, ap, ◌∙◌, arith, length-append}
+use Rattle.std.proofs.Common.{◌≡◌, ℕ, ◌%◌, ◌<◌, true, false, List, [], ◌∷◌, ◌++◌, length, refl, ap, arith, length-append}
 use Rattle.properties_format.specs.Text.{replacement}
 use Rattle.properties_format.specs.Pieces.{Piece, piece}
-use Rattle.properties_format.specs.Utf8.{Range, well_formed_rows, tail, IsIn, BeginsLonger, NextBreaks, IsUtf8Piece, whole, stray, broken}
-use Rattle.properties_format.specs.Utf16.{low_first, high_first, is_high, is_low, IsUtf16Piece, pair, plain, low_alone, high_alone, high_last, byte_last, both_last}
+use Rattle.properties_format.specs.Utf8.{tail, IsIn, NextBreaks, IsUtf8Piece, whole, stray, broken}
+use Rattle.properties_format.specs.Surrogates.{is_high, is_low}
+use Rattle.properties_format.specs.Utf16.{low_first, high_first, IsUtf16Piece, pair, plain, low_alone, high_alone, high_last, byte_last, both_last}
 use Rattle.properties_format.specs.Encoding.{Encoding, windows_1252, utf_8, utf_16le, utf_16be, IsPiece, IsAligned, ascii_bytes}
-use Rattle.properties_format.proofs.Utf8Rows.{sequence-row, shorter-than_row, next-tail, row-short}
+use Rattle.properties_format.proofs.Utf8Rows.{next-tail}
 use Rattle.properties_format.proofs.Utf8Pieces.{begins-front}
 use Rattle.properties_format.proofs.EncodingCharacters.{ascii-not_low}
 
@@ -38,38 +39,6 @@ piece-more windows_1252 p (b ∷ rest) y l h = h
 piece-more utf_8 p (b ∷ rest) y l h = utf_8-more p b rest y h
 piece-more utf_16le p (b ∷ rest) y l h = utf_16-more low_first p b rest y h
 piece-more utf_16be p (b ∷ rest) y l h = utf_16-more high_first p b rest y h
-
--- ---- Four bytes are enough.
-
-utf_8-long : (p : Piece) (y : List ℕ) → 4 ≤ length p.bytes → IsUtf8Piece p [] → IsUtf8Piece p y
-utf_8-long p y l (whole h e) = whole h e
-utf_8-long p y l (stray a e h) = stray a e h
-utf_8-long p y l (broken b bs e h k) =
-    let r = sequence-row b (bs ++ h.0 ∷ h.1) h.2 in
-    let m : length bs < length r.0 = shorter-than_row r.0 bs h.0 h.1 r.2 in
-    let n : length r.0 ≤ 3 = row-short b r.0 r.1 in
-    let q : length p.bytes ≡ suc (length bs) = ap (λ v. length v.bytes) e in
-    absurd (omega arith)
-
-utf_16-long : (unit : ℕ → ℕ → ℕ) (p : Piece) (y : List ℕ) → 4 ≤ length p.bytes → IsUtf16Piece unit p [] → IsUtf16Piece unit p y
-utf_16-long unit p y l (pair a1 a2 a3 a4 e h k) = pair a1 a2 a3 a4 e h k
-utf_16-long unit p y l (plain a1 a2 e h k) = plain a1 a2 e h k
-utf_16-long unit p y l (low_alone a1 a2 e h) = low_alone a1 a2 e h
-utf_16-long unit p y l (high_alone a1 a2 c d more e h s k) = absurd (cc)
-utf_16-long unit p y l (high_last a1 a2 e h s) = let q : length p.bytes ≡ 2 = ap (λ v. length v.bytes) e in absurd (omega arith)
-utf_16-long unit p y l (byte_last a1 e s) = let q : length p.bytes ≡ 1 = ap (λ v. length v.bytes) e in absurd (omega arith)
-utf_16-long unit p y l (both_last a1 a2 a3 e h s) = let q : length p.bytes ≡ 3 = ap (λ v. length v.bytes) e in absurd (omega arith)
-
-piece-whole : (e : Encoding) (p : Piece) (y : List ℕ) → 4 ≤ length p.bytes → IsPiece e p [] → IsPiece e p y
-piece-whole windows_1252 p y l h = h
-piece-whole utf_8 p y l h = utf_8-long p y l h
-piece-whole utf_16le p y l h = utf_16-long low_first p y l h
-piece-whole utf_16be p y l h = utf_16-long high_first p y l h
-
--- a piece stays one, whatever follows, where it and what is behind it are four bytes at least
-pub piece-long : (e : Encoding) (p : Piece) (rest y : List ℕ) → 4 ≤ length (p.bytes ++ rest) → IsPiece e p rest → IsPiece e p (rest ++ y)
-piece-long e p [] y l h = let k = length-append p.bytes [] in piece-whole e p y (omega arith) h
-piece-long e p (b ∷ rest) y l h = piece-more e p (b ∷ rest) y (omega arith) h
 
 -- ---- Fewer bytes behind.
 

@@ -1,9 +1,9 @@
 -- The characters of UTF-8 sequences.
-use Rattle.std.proofs.Common.{◌≡◌, ℕ, ◌+◌, ◌*◌, ◌/◌, ◌%◌, ◌^◌, ◌<◌, ◌≤◌, ◌⊎◌, Bool, true, false, cond, nat_lt, List, [], ◌∷◌, ◌++◌, refl, sym, ap, ◌∙◌, inl, inr, arith, ltb-true, ltb-false, lt-ltb}
+use Rattle.std.proofs.Common.{◌≡◌, ℕ, ◌+◌, ◌*◌, ◌/◌, ◌%◌, ◌^◌, ◌<◌, ◌≤◌, ◌⊎◌, nat_lt, List, [], ◌∷◌, ◌∙◌, inl, inr, arith, lt-ltb}
 use Rattle.std.proofs.lemmas.Bool.{cond-true, cond-false, cases_lt, le-ltb}
 use Rattle.std.specs.Char.{encode_utf8}
 use Rattle.properties_format.specs.Text.{scalar}
-use Rattle.properties_format.specs.Utf8.{Range, well_formed_rows, from_to, tail, IsIn, FitsRow, FitsSome, IsWellFormed, sequence_character}
+use Rattle.properties_format.specs.Utf8.{tail, IsIn, IsWellFormed, sequence_character}
 
 -- ---- How a character is encoded.
 

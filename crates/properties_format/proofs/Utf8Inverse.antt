@@ -1,7 +1,7 @@
 -- A character has one well-formed sequence: the one that encoding makes.
-use Rattle.std.proofs.Common.{◌≡◌, ℕ, ◌+◌, ◌*◌, ◌/◌, ◌%◌, ◌^◌, ◌<◌, ◌≤◌, List, [], ◌∷◌, refl, sym, ap, ◌∙◌, inl, inr, arith}
+use Rattle.std.proofs.Common.{◌≡◌, ℕ, ◌+◌, ◌/◌, ◌%◌, ◌^◌, ◌≤◌, List, [], ◌∷◌, ap, ◌∙◌, inl, inr, arith}
 use Rattle.std.specs.Char.{encode_utf8}
-use Rattle.properties_format.specs.Utf8.{Range, from_to, tail, IsIn, IsWellFormed, sequence_character}
+use Rattle.properties_format.specs.Utf8.{from_to, tail, IsIn, IsWellFormed, sequence_character}
 use Rattle.properties_format.proofs.Utf8Characters.{next, encode-one, encode-two, encode-three, encode-four}
 use Rattle.properties_format.proofs.Utf8Sequences.{in-one, in-two, in-three, in-four}
 

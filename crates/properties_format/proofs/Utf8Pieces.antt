@@ -1,10 +1,10 @@
 -- The first piece of UTF-8 is what is read, and nothing else is.
-use Rattle.std.proofs.Common.{◌≡◌, ℕ, ◌<◌, ◌==◌, ◌⊎◌, Bool, true, false, cond, if◌then◌else◌, List, [], ◌∷◌, ◌++◌, length, Option, Some, None, refl, sym, ap, ◌∙◌, subst, inl, inr, arith, append_assoc, eq-eqb, ne_eqb}
+use Rattle.std.proofs.Common.{◌≡◌, ℕ, ◌<◌, ◌==◌, true, false, List, [], ◌∷◌, ◌++◌, length, Option, Some, None, refl, sym, ap, ◌∙◌, subst, inl, inr, arith, eq-eqb, ne_eqb}
 use Rattle.std.proofs.lemmas.Bool.{cond-true, cond-false}
 use Rattle.std.proofs.lemmas.Option.{none-some, same_Some}
 use Rattle.properties_format.specs.Text.{replacement}
 use Rattle.properties_format.specs.Pieces.{Piece, piece}
-use Rattle.properties_format.specs.Utf8.{Range, well_formed_rows, FitsRow, FitsSome, IsWellFormed, Begins, BeginsLonger, NextBreaks, sequence_character, IsUtf8Piece, whole, stray, broken, ranges_after, fitting, utf_8_piece, utf_8_piece_by, first_utf_8_piece}
+use Rattle.properties_format.specs.Utf8.{Range, well_formed_rows, IsWellFormed, Begins, BeginsLonger, NextBreaks, sequence_character, IsUtf8Piece, whole, stray, broken, ranges_after, fitting, utf_8_piece, utf_8_piece_by, first_utf_8_piece}
 use Rattle.properties_format.proofs.Utf8Rows.{FitsFront, Breaks, Fitted, front-of_row, length-row, shorter-than_row, row-of_front, longer-of_front, fitting-row, fitting-broken, fitting-fits, sequence-row, row-sequence, sequence-nonempty}
 use Rattle.properties_format.proofs.FirstPieces.{Meets, IsRead}
 

@@ -1,7 +1,7 @@
 -- What the sequences of each row stand for: scalar values, of which the first row alone has those of ASCII.
-use Rattle.std.proofs.Common.{◌≡◌, ℕ, ◌+◌, ◌*◌, ◌%◌, ◌^◌, ◌<◌, ◌≤◌, ◌⊎◌, List, [], ◌∷◌, refl, sym, ap, ◌∙◌, inl, inr, arith}
+use Rattle.std.proofs.Common.{◌≡◌, ℕ, ◌%◌, ◌^◌, ◌<◌, ◌≤◌, List, [], ◌∷◌, ap, inl, inr, arith}
 use Rattle.properties_format.specs.Text.{scalar}
-use Rattle.properties_format.specs.Utf8.{Range, from_to, tail, well_formed_rows, IsIn, FitsRow, FitsSome, IsWellFormed, sequence_character}
+use Rattle.properties_format.specs.Utf8.{Range, from_to, tail, IsIn, FitsRow, IsWellFormed, sequence_character}
 
 -- ---- A fact on the bytes of a row, from one on each of them.
 

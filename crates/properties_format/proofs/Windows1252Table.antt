@@ -1,6 +1,6 @@
 -- The table of windows-1252: its characters are distinct, and the byte of a character is found by it.
-use Rattle.std.proofs.Common.{◌≡◌, ℕ, zero, suc, ◌+◌, ◌-◌, ◌<◌, ◌≤◌, ◌==◌, ◌&&◌, ◌||◌, ◌⊎◌, not, Bool, true, false, cond, if◌then◌else◌, nat_lt, nat_le, slice_index, List, [], ◌∷◌, length, Option, Some, None, refl, sym, ap, ◌∙◌, subst, inl, inr, arith, ltb-true, le-ltb, le-leb, leb-true, lt-ltb, eqb-true}
-use Rattle.std.proofs.lemmas.Bool.{lt-leb, cond-true, cond-false, cases_Bool, and_parts, and_from, and_left, and_right, not-true, agree_below, agree_below_at, or_cases, both_ways}
+use Rattle.std.proofs.Common.{◌≡◌, ℕ, zero, suc, ◌+◌, ◌-◌, ◌<◌, ◌≤◌, ◌==◌, ◌&&◌, ◌||◌, not, Bool, true, false, nat_lt, nat_le, slice_index, List, [], ◌∷◌, length, Option, Some, None, refl, sym, ap, ◌∙◌, inl, inr, arith, ltb-true, le-leb, leb-true, lt-ltb, eqb-true}
+use Rattle.std.proofs.lemmas.Bool.{lt-leb, cond-true, cond-false, cases_Bool, and_parts, and_from, and_left, not-true, agree_below_at, or_cases}
 use Rattle.std.proofs.lemmas.Option.{none-some, same_Some}
 use Rattle.properties_format.specs.Text.{byte, scalar}
 use Rattle.properties_format.specs.Windows1252.{windows_1252_table, is_in_table, windows_1252_character, place_from, windows_1252_byte}
@@ -60,6 +60,10 @@ windows_1252_character-byte c b h = elim (cases_Bool (nat_lt c 0x100 && not (is_
       )
 ]
 
+-- a character that has no byte is none of a byte's
+pub windows_1252_byte-none : (c : ℕ) → windows_1252_byte c ≡ None → (b : ℕ) → byte b → windows_1252_character b ≡ c → ⊥
+windows_1252_byte-none c h b k e = none-some b (sym h ∙ ap windows_1252_byte (sym e) ∙ windows_1252_byte-character b k)
+
 -- a byte's character is a scalar value
 pub windows_1252-scalar : (b : ℕ) → byte b → scalar (windows_1252_character b)
 windows_1252-scalar b h =
@@ -82,3 +86,6 @@ windows_1252-ascii b h = elim (cases_Bool (is_in_table b)) [
 -- and is its own character
 pub windows_1252_character-ascii : (c : ℕ) → c < 0x80 → windows_1252_character c ≡ c
 windows_1252_character-ascii c h = cond-false (is_in_table c) _ c (and_left (nat_le 0x80 c) (nat_lt c 0xa0) (lt-leb 0x80 c h))
+
+pub windows_1252_byte-ascii : (c : ℕ) → c < 0x80 → windows_1252_byte c ≡ Some c
+windows_1252_byte-ascii c h = ap windows_1252_byte (sym (windows_1252_character-ascii c h)) ∙ windows_1252_byte-character c (omega arith)

@@ -17,3 +17,4 @@ pub mod Settings
 pub mod Printing
 pub mod Writing
 pub mod Maps
+pub mod Waiting

@@ -1,8 +1,9 @@
--- UTF-16, in either order of bytes: units of two bytes, surrogates, and what stands for unpaired ones.
--- Source: The Unicode Standard, section 3.8 (surrogates) and D91 (UTF-16); WHATWG Encoding Standard, section 14.2.
-use Rattle.std.specs.Prelude.{◌≡◌, ℕ, ◌+◌, ◌-◌, ◌*◌, ◌&&◌, Bool, true, false, nat_lt, nat_le, if◌then◌else◌, List, [], ◌∷◌}
+-- UTF-16, in either order of bytes: units of two bytes, and what stands for unpaired surrogates.
+-- Source: The Unicode Standard, D91 (UTF-16); WHATWG Encoding Standard, section 14.2.
+use Rattle.std.specs.Prelude.{◌≡◌, ℕ, ◌+◌, ◌*◌, true, false, if◌then◌else◌, List, [], ◌∷◌}
 use Rattle.properties_format.specs.Pieces.{Piece, piece}
 use Rattle.properties_format.specs.Text.{replacement}
+use Rattle.properties_format.specs.Surrogates.{is_high, is_low, pair_character}
 
 -- the unit of two bytes, the low one first or the high one first
 abbrev pub low_first : ℕ → ℕ → ℕ
@@ -10,17 +11,6 @@ low_first a b = b * 0x100 + a
 
 abbrev pub high_first : ℕ → ℕ → ℕ
 high_first a b = a * 0x100 + b
-
--- a high surrogate, and a low one
-abbrev pub is_high : ℕ → Bool
-is_high u = nat_le 0xd800 u && nat_lt u 0xdc00
-
-abbrev pub is_low : ℕ → Bool
-is_low u = nat_le 0xdc00 u && nat_lt u 0xe000
-
--- the character of a high surrogate and a low one
-abbrev pub pair_character : ℕ → ℕ → ℕ
-pair_character high low = 0x1_0000 + (high - 0xd800) * 0x400 + (low - 0xdc00)
 
 -- A piece before the rest: a high unit and a low one; a unit that is no surrogate; for U+FFFD a low unit, or a high
 -- unit before a whole unit that isn't low; and at the end, for U+FFFD, a high unit, one byte, or both.

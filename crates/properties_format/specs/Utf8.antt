@@ -59,7 +59,8 @@ Begins bs = (more : List ℕ) × IsWellFormed (bs ++ more)
 abbrev pub BeginsLonger : List ℕ → Type 0
 BeginsLonger bs = (next : ℕ) × (more : List ℕ) × IsWellFormed (bs ++ next ∷ more)
 
--- the character of a sequence, from its payload bits: 7; 5 and 6; 4, 6 and 6; 3, 6, 6 and 6
+-- the character of a sequence: the low seven bits of a byte that stands alone; else the low five, four or three bits of
+-- the first byte, and then the low six of each byte after it
 abbrev pub sequence_character : List ℕ → ℕ
 sequence_character [] = 0
 sequence_character (a ∷ []) = a % 2 ^ 7

@@ -1,7 +1,7 @@
 -- What some bytes are decoded to, and how some characters are encoded.
-use Rattle.std.proofs.Common.{◌≡◌, ℕ, List, [], ◌∷◌, refl, Some, None}
+use Rattle.std.proofs.Common.{◌≡◌, [], ◌∷◌, refl, Some, None}
 use Rattle.std.specs.Char.{encode_utf8}
-use Rattle.properties_format.specs.Encoding.{windows_1252, utf_8, utf_16le, utf_16be, decoded_of, pieces_of, encoded, output_encoding}
+use Rattle.properties_format.specs.Encoding.{windows_1252, utf_8, utf_16le, utf_16be, decoded_of, pieces_of, encoded}
 
 -- windows-1252
 table-row : decoded_of windows_1252 (0x80 ∷ 0x81 ∷ 0x9f ∷ 0xe9 ∷ []) ≡ 0x20ac ∷ 0x81 ∷ 0x178 ∷ 0xe9 ∷ []

@@ -1,6 +1,6 @@
 -- Which bytes stand for which character, and which marks are dropped.
-use Rattle.std.proofs.Common.{◌≡◌, ℕ, List, [], ◌∷◌, refl, true, false}
-use Rattle.properties_format.specs.Pieces.{Piece, piece}
+use Rattle.std.proofs.Common.{◌≡◌, [], ◌∷◌, refl, true, false}
+use Rattle.properties_format.specs.Pieces.{piece}
 use Rattle.properties_format.specs.Encoding.{windows_1252, utf_8, utf_16le, utf_16be, mark, begins_like_mark, pieces_of, decoded_of}
 
 -- a byte each

@@ -1,0 +1,41 @@
+-- Which bytes wait for more: those whose mark, or whose first piece, the next ones may still change.
+use Rattle.std.specs.Prelude.{ℕ, ◌==◌, ◌&&◌, ◌||◌, Bool, true, false, List, [], ◌∷◌, Option, Some, None}
+use Rattle.properties_format.specs.Surrogates.{is_high}
+use Rattle.properties_format.specs.Utf8.{Range, well_formed_rows, is_in, ranges_after}
+use Rattle.properties_format.specs.Utf16.{low_first, high_first}
+use Rattle.properties_format.specs.Encoding.{Encoding, windows_1252, utf_8, utf_16le, utf_16be, utf_8_mark, utf_16be_mark, utf_16le_mark}
+
+-- the list begins the other, which is longer
+abbrev pub begins_longer : List ℕ → List ℕ → Bool
+begins_longer b [] = false
+begins_longer [] (m ∷ ms) = true
+begins_longer (x ∷ b) (m ∷ ms) = m == x && begins_longer b ms
+
+-- the bytes at the front of the input may become a mark
+abbrev pub awaits_mark : List ℕ → Bool
+awaits_mark b = begins_longer b utf_8_mark || (begins_longer b utf_16be_mark || begins_longer b utf_16le_mark)
+
+-- the bytes fit these ranges, and there are fewer of them
+abbrev pub fits_short : List Range → List ℕ → Bool
+fits_short [] d = false
+fits_short (r ∷ rs) [] = true
+fits_short (r ∷ rs) (b ∷ d) = is_in r b && fits_short rs d
+
+-- a sequence of UTF-8 is not whole
+abbrev pub awaits_byte : Option (List Range) → List ℕ → Bool
+awaits_byte None d = false
+awaits_byte (Some rs) d = fits_short rs d
+
+-- a unit is not whole, or behind a high unit stands none
+abbrev pub awaits_unit : (ℕ → ℕ → ℕ) → ℕ → List ℕ → Bool
+awaits_unit unit a [] = true
+awaits_unit unit a (b ∷ []) = is_high (unit a b)
+awaits_unit unit a (b ∷ c ∷ []) = is_high (unit a b)
+awaits_unit unit a (b ∷ c ∷ d ∷ more) = false
+
+-- the first piece of a first byte and those behind it may change by the bytes that come
+abbrev pub awaits_more : Encoding → ℕ → List ℕ → Bool
+awaits_more windows_1252 b d = false
+awaits_more utf_8 b d = awaits_byte (ranges_after well_formed_rows b) d
+awaits_more utf_16le b d = awaits_unit low_first b d
+awaits_more utf_16be b d = awaits_unit high_first b d
