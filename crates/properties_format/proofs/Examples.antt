@@ -8,5 +8,5 @@ pub mod Maps
 pub mod Pieces
 pub mod Settings
 pub mod Split
-pub mod Writing
 pub mod Waiting
+pub mod Writing

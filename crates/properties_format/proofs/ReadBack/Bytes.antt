@@ -1,23 +1,19 @@
 -- The bytes that are written are decoded to what was printed.
-use Rattle.std.proofs.Common.{◌≡◌, ◌≢◌, ◌⊎◌, ℕ, ◌+◌, ◌<◌, ◌==◌, ◌&&◌, ◌||◌, not, Bool, true, false, if◌then◌else◌, List, [], ◌∷◌, ◌++◌, refl, ap, sym, ◌∙◌, inl, inr, append_assoc, arith, lit<, ne_eqb, subst}
+use Rattle.std.proofs.Common.{◌≡◌, ℕ, ◌+◌, ◌==◌, ◌&&◌, not, Bool, true, false, if◌then◌else◌, List, [], ◌∷◌, ◌++◌, refl, ap, ◌∙◌, inl, arith}
 use Rattle.std.specs.Prelude.{Option, Some, None, is_some, unwrap_or, All}
 use Rattle.std.specs.List.{AllByRecursion}
 use Rattle.std.proofs.lemmas.List.Elements.{recursion_from_All}
-use Rattle.std.proofs.lemmas.Bool.{cases_Bool, cond-true, cond-false, cond_both, and_left, or_from}
-use Rattle.properties_format.specs.Text.{scalar, backslash, LineEnd, line_end_text}
-use Rattle.properties_format.specs.Encoding.{Encoding, output_encoding, encoded, begins_with, begins_like_mark, utf_8_mark, utf_16be_mark, utf_16le_mark, pieces_of, characters, decoded_of}
+use Rattle.std.proofs.lemmas.Bool.{cond_both}
+use Rattle.properties_format.specs.Text.{scalar, line_end_text}
+use Rattle.properties_format.specs.Encoding.{Encoding, output_encoding, encoded, pieces_of, characters}
 use Rattle.properties_format.specs.Entries.{Content, comment, pair}
-use Rattle.properties_format.specs.Settings.{Settings, IsGoodPrefix, IsGoodSeparator, is_blanks}
+use Rattle.properties_format.specs.Settings.{Settings, is_blanks}
 use Rattle.properties_format.specs.Printing.{Place, in_key_or_value, in_comment, in_prefix, unicode_escape, spelt, spelt_text, encoded_text, is_mark_like, shielded, spelt_key, printed_text}
-use Rattle.properties_format.specs.Writing.{Call, comment_call, pair_call, prefix_call, separator_call, ending_call, flush_call, is_empty, settings_after_call, line_of, lines_with, wrote, AreOfScalars, AreGoodSettings}
+use Rattle.properties_format.specs.Writing.{Call, comment_call, pair_call, prefix_call, separator_call, ending_call, flush_call, is_empty, settings_after_call, line_of, lines_with, AreOfScalars, AreGoodSettings}
 use Rattle.properties_format.proofs.EncodingPieces.{pieces_of-nil}
 use Rattle.properties_format.proofs.EncodingCharacters.{pieces_of-encoded}
-use Rattle.properties_format.proofs.Marks.{decoded_of-unmarked}
-use Rattle.properties_format.proofs.Printing.{AreEncodable, AreEncodable-append, AreAscii, encoded-ascii, encoded_text-append, line_end-ascii, unicode_escape-ascii, blank-ascii, good_separator-ascii, spelt-either, printed_text-encodable}
-use Rattle.properties_format.proofs.MarkLike.{unicode-is_escape}
-use Rattle.properties_format.proofs.ReadBack.Pairs.{separator-some}
-use Rattle.properties_format.proofs.ReadBack.Comments.{prefix-spelt, mark-ascii}
-use Rattle.properties_format.proofs.ReadBack.Lines.{line_text, wrote_text, wrote-text, settings_after_call-good}
+use Rattle.properties_format.proofs.Printing.{AreEncodable, AreEncodable-append, AreAscii, line_end-ascii, unicode_escape-ascii, good_separator-ascii, spelt-either, printed_text-encodable}
+use Rattle.properties_format.proofs.ReadBack.Lines.{line_text, wrote_text, settings_after_call-good}
 
 -- ---- what can be encoded is decoded to itself
 

@@ -1,16 +1,16 @@
 -- A printed comment is a line of its own, and is read as its prefix's tail and its text, without the blanks at both ends.
-use Rattle.std.proofs.Common.{◌≡◌, ◌⊎◌, ℕ, ◌<◌, ◌==◌, ◌||◌, Bool, true, false, List, [], ◌∷◌, ◌++◌, map, refl, ap, sym, ◌∙◌, inl, inr, append_assoc, lit<, eqb-true, ap₂, subst}
+use Rattle.std.proofs.Common.{◌≡◌, ◌⊎◌, ℕ, ◌<◌, ◌==◌, true, false, List, [], ◌∷◌, ◌++◌, map, refl, ap, sym, ◌∙◌, inl, inr, append_assoc, lit<, eqb-true, ap₂, subst}
 use Rattle.std.specs.Prelude.{is_some}
 use Rattle.std.specs.List.{AllByRecursion}
 use Rattle.std.proofs.lemmas.Bool.{cond-true, or_cases}
-use Rattle.properties_format.specs.Text.{scalar, backslash, is_blank, is_line_end, is_comment_mark}
+use Rattle.properties_format.specs.Text.{scalar, backslash, is_line_end, is_comment_mark}
 use Rattle.properties_format.specs.Encoding.{Encoding, encoded}
 use Rattle.properties_format.specs.Lines.{IsPlain}
 use Rattle.properties_format.specs.Groups.{is_marked}
-use Rattle.properties_format.specs.Split.{Logical, AreBlanks, trimmed, split_of}
+use Rattle.properties_format.specs.Split.{AreBlanks, trimmed}
 use Rattle.properties_format.specs.Escapes.{Spelling, itself, spelling_text, spelt_character, spelt_before, means, meaning_of}
-use Rattle.properties_format.specs.Entries.{Content, comment, pair}
-use Rattle.properties_format.specs.Items.{given, comment_outcome, split_outcome, outcome_of}
+use Rattle.properties_format.specs.Entries.{comment}
+use Rattle.properties_format.specs.Items.{comment_outcome, split_outcome}
 use Rattle.properties_format.specs.Settings.{IsGoodPrefix}
 use Rattle.properties_format.specs.Printing.{in_comment, in_prefix, unicode_escape, literal, spelt, spelt_text}
 use Rattle.properties_format.specs.Writing.{tail_of}

@@ -1,10 +1,8 @@
 -- Reading inverts writing: what a new writer's calls wrote is read back as one item a line.
-use Rattle.std.proofs.Common.{◌≡◌, ◌<◌, ℕ, List, [], ◌∷◌, refl, ap, sym, ◌∙◌, lit<, inl, subst}
-use Rattle.std.specs.Prelude.{All}
-use Rattle.std.specs.List.{AllByRecursion}
+use Rattle.std.proofs.Common.{◌≡◌, List, [], ◌∷◌, refl, ap, ◌∙◌, lit<, inl, subst}
 use Rattle.std.proofs.lemmas.List.Elements.{All-from_recursion}
 use Rattle.properties_format.specs.Text.{scalar, number_sign, space}
-use Rattle.properties_format.specs.Encoding.{Encoding, output_encoding, begins_like_mark, pieces_of, characters, decoded_of}
+use Rattle.properties_format.specs.Encoding.{Encoding, output_encoding, pieces_of, characters, decoded_of}
 use Rattle.properties_format.specs.Lines.{end, lines_of, line_ends}
 use Rattle.properties_format.specs.Items.{IsItems, items_of_lines, items_of}
 use Rattle.properties_format.specs.Settings.{Settings, default_settings}

@@ -1,17 +1,17 @@
 -- What a list of calls prints is read line by line, as one item a line.
-use Rattle.std.proofs.Common.{◌≡◌, ◌≢◌, ◌⊎◌, ℕ, ◌+◌, ◌==◌, ◌&&◌, not, Bool, true, false, if◌then◌else◌, List, [], ◌∷◌, ◌++◌, refl, ap, sym, ◌∙◌, inl, inr, append_assoc, ap₂, subst}
+use Rattle.std.proofs.Common.{◌≡◌, ◌≢◌, ℕ, ◌+◌, ◌==◌, ◌&&◌, not, Bool, true, false, if◌then◌else◌, List, [], ◌∷◌, ◌++◌, refl, ap, sym, ◌∙◌, inl, inr, append_assoc, ap₂, subst}
 use Rattle.std.specs.Prelude.{All, Option, Some, None}
 use Rattle.std.specs.List.{AllByRecursion}
 use Rattle.std.proofs.lemmas.List.Elements.{recursion_from_All}
-use Rattle.std.proofs.lemmas.Bool.{cases_Bool, cond-true, cond-false, not-true}
-use Rattle.properties_format.specs.Text.{scalar, LineEnd, cr, line_end_text}
+use Rattle.std.proofs.lemmas.Bool.{not-true}
+use Rattle.properties_format.specs.Text.{scalar, LineEnd, line_end_text}
 use Rattle.properties_format.specs.Encoding.{Encoding}
 use Rattle.properties_format.specs.Lines.{IsPlain, Line, end, begins_with_lf, lines_after}
 use Rattle.properties_format.specs.Groups.{joined, groups_of}
 use Rattle.properties_format.specs.Entries.{Content, comment, pair, Entry, item}
-use Rattle.properties_format.specs.Items.{given, split_outcome, outcome_of, followed, entries_of}
-use Rattle.properties_format.specs.Settings.{Settings, IsGoodPrefix, IsGoodSeparator, is_blanks, is_good_prefix, is_good_separator}
-use Rattle.properties_format.specs.Printing.{in_key_or_value, in_comment, in_prefix, spelt_text, spelt_key, encoded_text, printed_text, printed}
+use Rattle.properties_format.specs.Items.{split_outcome, outcome_of, followed, entries_of}
+use Rattle.properties_format.specs.Settings.{Settings, is_blanks, is_good_prefix, is_good_separator}
+use Rattle.properties_format.specs.Printing.{in_key_or_value, in_comment, in_prefix, spelt_text, spelt_key, encoded_text, printed_text}
 use Rattle.properties_format.specs.Writing.{Call, comment_call, pair_call, prefix_call, separator_call, ending_call, flush_call, is_empty, settings_after_call, settings_after, line_of, lines_with, line_bytes, wrote, told_content, told_line, told, HoldsNoBackslash, ArePrefixesClean, IsOfScalars, AreOfScalars, AreGoodSettings}
 use Rattle.properties_format.proofs.Lines.Plain.{plain-no_lf}
 use Rattle.properties_format.proofs.Lines.Steps.{lines_after-end}

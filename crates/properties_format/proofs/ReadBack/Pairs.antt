@@ -1,5 +1,5 @@
 -- A printed pair is a line of its own, and is read as that pair.
-use Rattle.std.proofs.Common.{◌≡◌, ◌≢◌, ◌⊎◌, ℕ, ◌==◌, ◌&&◌, ◌||◌, Bool, true, false, List, [], ◌∷◌, ◌++◌, map, refl, ap, sym, ◌∙◌, inl, inr, append_assoc, eqb-true, ap₂}
+use Rattle.std.proofs.Common.{◌≡◌, ◌≢◌, ℕ, ◌==◌, ◌&&◌, ◌||◌, Bool, true, false, List, [], ◌∷◌, ◌++◌, map, refl, ap, sym, ◌∙◌, inl, inr, append_assoc, eqb-true, ap₂}
 use Rattle.std.specs.List.{AllByRecursion}
 use Rattle.std.proofs.lemmas.Bool.{cases_Bool, cond-true, cond-false, or_cases}
 use Rattle.properties_format.specs.Text.{scalar, backslash, is_blank, is_line_end, is_separator}
@@ -8,7 +8,7 @@ use Rattle.properties_format.specs.Lines.{IsPlain}
 use Rattle.properties_format.specs.Groups.{is_open}
 use Rattle.properties_format.specs.Split.{Logical, AreBlanks, IsBetween, blanks, separator, split_of}
 use Rattle.properties_format.specs.Escapes.{Spelling, spelling_text, spelt_character, spelt_before}
-use Rattle.properties_format.specs.Entries.{Content, comment, pair}
+use Rattle.properties_format.specs.Entries.{Content, pair}
 use Rattle.properties_format.specs.Items.{given, pair_outcome, split_outcome, outcome_of}
 use Rattle.properties_format.specs.Settings.{IsGoodSeparator, IsSignedSeparator, is_blanks}
 use Rattle.properties_format.specs.Printing.{in_key_or_value, unicode_escape, spelt_text, is_mark_like, shielded, spelt_key}

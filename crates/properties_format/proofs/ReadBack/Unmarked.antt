@@ -1,13 +1,13 @@
 -- What a new writer writes does not begin like a byte order mark.
-use Rattle.std.proofs.Common.{◌≡◌, ◌≢◌, ◌⊎◌, ℕ, ◌<◌, ◌==◌, ◌&&◌, ◌||◌, not, Bool, true, false, if◌then◌else◌, List, [], ◌∷◌, ◌++◌, refl, ap, sym, ◌∙◌, inl, inr, append_assoc, arith, lit<, ne_eqb, subst}
-use Rattle.std.specs.Prelude.{Option, Some, None, unwrap_or}
-use Rattle.std.proofs.lemmas.Bool.{cases_Bool, cond-true, cond-false, and_left, or_from}
+use Rattle.std.proofs.Common.{◌≡◌, ℕ, ◌<◌, ◌==◌, ◌&&◌, ◌||◌, not, Bool, true, false, if◌then◌else◌, List, [], ◌∷◌, ◌++◌, refl, ap, ◌∙◌, inl, inr, append_assoc, arith, lit<, ne_eqb}
+use Rattle.std.specs.Prelude.{Some, None, unwrap_or}
+use Rattle.std.proofs.lemmas.Bool.{cases_Bool, cond-true, cond-false, and_left}
 use Rattle.properties_format.specs.Text.{backslash, is_comment_mark}
-use Rattle.properties_format.specs.Encoding.{Encoding, encoded, begins_with, begins_like_mark, utf_8_mark, utf_16be_mark, utf_16le_mark}
+use Rattle.properties_format.specs.Encoding.{Encoding, begins_with, begins_like_mark, utf_8_mark, utf_16be_mark, utf_16le_mark}
 use Rattle.properties_format.specs.Split.{AreBlanks}
 use Rattle.properties_format.specs.Entries.{Content, comment, pair}
 use Rattle.properties_format.specs.Settings.{Settings, IsGoodPrefix, IsGoodSeparator, is_blanks}
-use Rattle.properties_format.specs.Printing.{in_key_or_value, in_prefix, unicode_escape, spelt_text, encoded_text, is_mark_like, shielded, spelt_key, printed_text}
+use Rattle.properties_format.specs.Printing.{in_key_or_value, in_prefix, spelt_text, encoded_text, is_mark_like, shielded, spelt_key, printed_text}
 use Rattle.properties_format.specs.Writing.{Call, comment_call, pair_call, prefix_call, separator_call, ending_call, flush_call, is_empty, settings_after_call, lines_with, AreOfScalars, AreGoodSettings}
 use Rattle.properties_format.proofs.Printing.{encoded-ascii, encoded_text-append, blank-ascii, good_separator-ascii}
 use Rattle.properties_format.proofs.MarkLike.{unicode-is_escape}
