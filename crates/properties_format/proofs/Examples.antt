@@ -1,8 +1,12 @@
 -- Worked rows of each page, computed.
 pub mod Encodings
-pub mod Pieces
-pub mod Waiting
-pub mod Lines
-pub mod Groups
 pub mod Escapes
+pub mod Groups
+pub mod Items
+pub mod Lines
+pub mod Maps
+pub mod Pieces
+pub mod Settings
 pub mod Split
+pub mod Waiting
+pub mod Writing

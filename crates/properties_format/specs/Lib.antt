@@ -12,3 +12,9 @@ pub mod Logical
 pub mod Split
 pub mod Hexadecimal
 pub mod Escapes
+pub mod Entries
+pub mod Items
+pub mod Settings
+pub mod Printing
+pub mod Writing
+pub mod Maps

@@ -1,0 +1,33 @@
+-- The maps of some inputs.
+use Rattle.std.proofs.Common.{◌≡◌, [], ◌∷◌, refl, Some, None}
+use Rattle.std.specs.Prelude.{codes}
+use Rattle.properties_format.specs.Encoding.{windows_1252, pieces_of}
+use Rattle.properties_format.specs.Lines.{end}
+use Rattle.properties_format.specs.Split.{split_of}
+use Rattle.properties_format.specs.Escapes.{meaning_of}
+use Rattle.properties_format.specs.Items.{items_of}
+use Rattle.properties_format.specs.Settings.{default_settings}
+use Rattle.properties_format.specs.Writing.{pair_call, wrote}
+use Rattle.properties_format.specs.Maps.{value_in}
+
+-- the last value of a key stands
+last_value : value_in (items_of windows_1252 (codes "a=1\na=2") end) (codes "a") ≡ Some (codes "2")
+unfolding items_of pieces_of split_of meaning_of
+last_value = refl
+
+no_value : value_in (items_of windows_1252 (codes "a=1\na=2") end) (codes "b") ≡ None
+unfolding items_of pieces_of split_of meaning_of
+no_value = refl
+
+comments_aside : value_in (items_of windows_1252 (codes "#a=1\nb=2\n#b=3") end) (codes "b") ≡ Some (codes "2")
+unfolding items_of pieces_of split_of meaning_of
+comments_aside = refl
+
+before_a_fault : value_in (items_of windows_1252 (codes "a=1\na=\\u1\na=3") end) (codes "a") ≡ Some (codes "1")
+unfolding items_of pieces_of split_of meaning_of
+before_a_fault = refl
+
+-- a key that begins like a mark is found again
+mark_like_key : value_in (items_of windows_1252 (wrote windows_1252 default_settings 0 (pair_call (codes "þÿ") [] ∷ [])) end) (codes "þÿ") ≡ Some []
+unfolding items_of pieces_of split_of meaning_of
+mark_like_key = refl

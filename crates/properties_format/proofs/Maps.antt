@@ -1,0 +1,69 @@
+-- The map of an input exists, and is unique.
+use Rattle.std.proofs.Common.{◌≡◌, ℕ, Bool, true, false, List, [], ◌∷◌, ◌++◌, refl, ap, sym, ◌∙◌}
+use Rattle.std.specs.Prelude.{Option, Some, None, bytes_eq}
+use Rattle.std.proofs.lemmas.Bool.{cond-true, cond-false, false_from_ne_true}
+use Rattle.std.proofs.lemmas.Slice.Eq.{bytes_eq-Decides}
+use Rattle.properties_format.specs.Entries.{comment, pair, Entry, item, malformed, read_fault}
+use Rattle.properties_format.specs.Maps.{HasNoPair, IsValue, IsMap, value_of, first_value, value_in}
+
+abbrev IsPairOf : List ℕ → List ℕ → Entry → Type 0
+IsPairOf key value entry = (n : ℕ) × (entry ≡ item n (pair key value))
+
+-- what the value of one entry says
+abbrev ValueSays : List ℕ → Entry → Option (List ℕ) → Type 0
+ValueSays key entry None = (entries : List Entry) → HasNoPair key entries → HasNoPair key (entry ∷ entries)
+ValueSays key entry (Some value) = IsPairOf key value entry
+
+not_same : (x y : List ℕ) → bytes_eq x y ≡ false → x ≡ y → ⊥
+not_same x y e q = let t = (bytes_eq-Decides x y).1 q in cc
+
+pair-says : (n : ℕ) (k v key : List ℕ) (b : Bool) → bytes_eq k key ≡ b → ValueSays key (item n (pair k v)) (value_of (item n (pair k v)) key)
+pair-says n k v key true e =
+    rw e (n, ap (λ x. item n (pair x v)) ((bytes_eq-Decides k key).0 e))
+pair-says n k v key false e = rw e (λ entries h. ((λ q. not_same k key e q), h))
+
+says : (entry : Entry) (key : List ℕ) → ValueSays key entry (value_of entry key)
+says (item n (pair k v)) key = pair-says n k v key (bytes_eq k key) refl
+says (item n (comment text)) key = λ entries h. h
+says (malformed kind n) key = λ entries h. h
+says (read_fault n) key = λ entries h. h
+
+-- the value of a key in the entries with one more in front
+with_front : (entry : Entry) (entries : List Entry) (key : List ℕ) (r o : Option (List ℕ)) → IsValue entries key r → ValueSays key entry o → IsValue (entry ∷ entries) key (first_value r o)
+with_front entry entries key (Some v) o g s =
+    record { before = entry ∷ g.before; number = g.number; after = g.after; division = ap (λ x. entry ∷ x) g.division; no_later = g.no_later }
+with_front entry entries key None None h s = s entries h
+with_front entry entries key None (Some v) h s =
+    record { before = []; number = s.0; after = entries; division = ap (λ x. x ∷ entries) s.1; no_later = h }
+
+pub value_in-meets : (entries : List Entry) (key : List ℕ) → IsValue entries key (value_in entries key)
+value_in-meets [] key = tt
+value_in-meets (entry ∷ entries) key = with_front entry entries key (value_in entries key) (value_of entry key) (value_in-meets entries key) (says entry key)
+
+-- where no entry is a pair with the key, there is no value
+none-in : (entries : List Entry) (key : List ℕ) → HasNoPair key entries → value_in entries key ≡ None
+none-in [] key h = refl
+none-in (item n (pair k v) ∷ entries) key h =
+    ap (λ r. first_value r (value_of (item n (pair k v)) key)) (none-in entries key h.1)
+    ∙ cond-false (bytes_eq k key) (Some v) None (false_from_ne_true (bytes_eq k key) (λ t. h.0 ((bytes_eq-Decides k key).0 t)))
+none-in (item n (comment text) ∷ entries) key h = ap (λ r. first_value r None) (none-in entries key h)
+none-in (malformed kind n ∷ entries) key h = ap (λ r. first_value r None) (none-in entries key h)
+none-in (read_fault n ∷ entries) key h = ap (λ r. first_value r None) (none-in entries key h)
+
+-- the last pair with the key gives the value
+last-in : (before : List Entry) (n : ℕ) (key value : List ℕ) (after : List Entry) → HasNoPair key after → value_in (before ++ (item n (pair key value) ∷ after)) key ≡ Some value
+last-in [] n key value after h =
+    ap (λ r. first_value r (value_of (item n (pair key value)) key)) (none-in after key h)
+    ∙ cond-true (bytes_eq key key) (Some value) None ((bytes_eq-Decides key key).1 refl)
+last-in (entry ∷ before) n key value after h = ap (λ r. first_value r (value_of entry key)) (last-in before n key value after h)
+
+pub value_in-only : (entries : List Entry) (key : List ℕ) (r : Option (List ℕ)) → IsValue entries key r → r ≡ value_in entries key
+value_in-only entries key None h = sym (none-in entries key h)
+value_in-only entries key (Some value) g = sym (ap (λ x. value_in x key) g.division ∙ last-in g.before g.number key value g.after g.no_later)
+
+-- the map of the entries, and that it is the only one
+pub map-meets : (entries : List Entry) → IsMap entries (value_in entries)
+map-meets entries key = value_in-meets entries key
+
+pub map-only : (entries : List Entry) (value_at : List ℕ → Option (List ℕ)) → IsMap entries value_at → (key : List ℕ) → value_at key ≡ value_in entries key
+map-only entries value_at h key = value_in-only entries key (value_at key) (h key)

@@ -1,0 +1,103 @@
+-- The bytes that are written are decoded to what was printed.
+use Rattle.std.proofs.Common.{◌≡◌, ℕ, ◌+◌, ◌==◌, ◌&&◌, not, Bool, true, false, if◌then◌else◌, List, [], ◌∷◌, ◌++◌, refl, ap, ◌∙◌, inl, arith}
+use Rattle.std.specs.Prelude.{Option, Some, None, is_some, unwrap_or, All}
+use Rattle.std.specs.List.{AllByRecursion}
+use Rattle.std.proofs.lemmas.List.Elements.{recursion_from_All}
+use Rattle.std.proofs.lemmas.Bool.{cond_both}
+use Rattle.properties_format.specs.Text.{scalar, line_end_text}
+use Rattle.properties_format.specs.Encoding.{Encoding, output_encoding, encoded, pieces_of, characters}
+use Rattle.properties_format.specs.Entries.{Content, comment, pair}
+use Rattle.properties_format.specs.Settings.{Settings, is_blanks}
+use Rattle.properties_format.specs.Printing.{Place, in_key_or_value, in_comment, in_prefix, unicode_escape, spelt, spelt_text, encoded_text, is_mark_like, shielded, spelt_key, printed_text}
+use Rattle.properties_format.specs.Writing.{Call, comment_call, pair_call, prefix_call, separator_call, ending_call, flush_call, is_empty, settings_after_call, line_of, lines_with, AreOfScalars, AreGoodSettings}
+use Rattle.properties_format.proofs.EncodingPieces.{pieces_of-nil}
+use Rattle.properties_format.proofs.EncodingCharacters.{pieces_of-encoded}
+use Rattle.properties_format.proofs.Printing.{AreEncodable, AreEncodable-append, AreAscii, line_end-ascii, unicode_escape-ascii, good_separator-ascii, spelt-either, printed_text-encodable}
+use Rattle.properties_format.proofs.ReadBack.Lines.{line_text, wrote_text, settings_after_call-good}
+
+-- ---- what can be encoded is decoded to itself
+
+decoded-front : (e : Encoding) (c : ℕ) (o : Option (List ℕ)) (y : List ℕ) → scalar c → encoded e c ≡ o → is_some o ≡ true
+    → characters (pieces_of (output_encoding e) (unwrap_or o [] ++ y)) ≡ c ∷ characters (pieces_of (output_encoding e) y)
+decoded-front e c None y h same some = cc
+decoded-front e c (Some bs) y h same some = ap characters (pieces_of-encoded e c bs y h same)
+
+pub text-decoded : (e : Encoding) (x : List ℕ) → AllByRecursion scalar x → AreEncodable e x → characters (pieces_of (output_encoding e) (encoded_text e x)) ≡ x
+text-decoded e [] h k = ap characters (pieces_of-nil (output_encoding e))
+text-decoded e (c ∷ x) h k = decoded-front e c (encoded e c) (encoded_text e x) h.0 refl k.0 ∙ ap (λ v. c ∷ v) (text-decoded e x h.1 k.1)
+
+-- ---- what is printed holds scalar values
+
+scalars-append : (x y : List ℕ) → AllByRecursion scalar x → AllByRecursion scalar y → AllByRecursion scalar (x ++ y)
+scalars-append [] y h k = k
+scalars-append (c ∷ x) y h k = (h.0, scalars-append x y h.1 k)
+
+ascii-scalars : (x : List ℕ) → AreAscii x → AllByRecursion scalar x
+ascii-scalars [] h = tt
+ascii-scalars (c ∷ x) h = (inl (let b = h.0 in omega arith), ascii-scalars x h.1)
+
+spelt_text-scalars : (e : Encoding) (place : Place) (x : List ℕ) → AllByRecursion scalar x → AllByRecursion scalar (spelt_text e place x)
+spelt_text-scalars e place [] h = tt
+spelt_text-scalars e place (c ∷ x) h =
+    scalars-append (spelt e place c) (spelt_text e place x) (spelt-either e place c (AllByRecursion scalar) ascii-scalars (λ k. (h.0, tt))) (spelt_text-scalars e place x h.1)
+
+shielded-scalars : (e : Encoding) (key : List ℕ) → AllByRecursion scalar key → AllByRecursion scalar (shielded e key)
+shielded-scalars e [] h = tt
+shielded-scalars e (c ∷ cs) h = scalars-append (unicode_escape c) (spelt_text e in_key_or_value cs) (ascii-scalars (unicode_escape c) (unicode_escape-ascii c)) (spelt_text-scalars e in_key_or_value cs h.1)
+
+key-scalars : (e : Encoding) (first : Bool) (key : List ℕ) → AllByRecursion scalar key → AllByRecursion scalar (spelt_key e first key)
+key-scalars e first key h =
+    cond_both (first && is_mark_like e key) (shielded e key) (spelt_text e in_key_or_value key) (AllByRecursion scalar) (λ k. shielded-scalars e key h) (λ k. spelt_text-scalars e in_key_or_value key h)
+
+by_recursion : (x : List ℕ) → All scalar x → AllByRecursion scalar x
+by_recursion x h = recursion_from_All scalar x h
+
+ContentScalars : Content → Type 0
+ContentScalars (comment text) = All scalar text
+ContentScalars (pair key value) = All scalar key × All scalar value
+
+printed-scalars : (e : Encoding) (s : Settings) (first : Bool) (line : Content) → AreGoodSettings s → ContentScalars line → AllByRecursion scalar (printed_text e s first line)
+unfolding ContentScalars
+printed-scalars e s first (comment text) g h =
+    scalars-append (spelt_text e in_prefix s.comment_prefix) (spelt_text e in_comment text ++ line_end_text s.line_ending) (spelt_text-scalars e in_prefix s.comment_prefix (by_recursion s.comment_prefix g.scalars))
+    (scalars-append (spelt_text e in_comment text) (line_end_text s.line_ending) (spelt_text-scalars e in_comment text (by_recursion text h)) (ascii-scalars (line_end_text s.line_ending) (line_end-ascii s.line_ending)))
+printed-scalars e s first (pair key value) g h =
+    scalars-append (spelt_key e first key) (s.kv_separator ++ (spelt_text e in_key_or_value value ++ line_end_text s.line_ending)) (key-scalars e first key (by_recursion key h.0))
+    (scalars-append s.kv_separator (spelt_text e in_key_or_value value ++ line_end_text s.line_ending) (ascii-scalars s.kv_separator (good_separator-ascii s.kv_separator g.separator))
+    (scalars-append (spelt_text e in_key_or_value value) (line_end_text s.line_ending) (spelt_text-scalars e in_key_or_value value (by_recursion value h.1)) (ascii-scalars (line_end_text s.line_ending) (line_end-ascii s.line_ending))))
+
+-- ---- all that is written
+
+-- scalar values that can be encoded
+pub record AreWritable (e : Encoding) (x : List ℕ) : Type 0 where
+  pub scalars : AllByRecursion scalar x
+  pub encodable : AreEncodable e x
+
+writable-append : (e : Encoding) (x y : List ℕ) → AreWritable e x → AreWritable e y → AreWritable e (x ++ y)
+writable-append e x y h k = record { scalars = scalars-append x y h.scalars k.scalars; encodable = AreEncodable-append e x y h.encodable k.encodable }
+
+line-writable : (e : Encoding) (s : Settings) (n : ℕ) (line : Content) → AreGoodSettings s → ContentScalars line → AreWritable e (printed_text e s (n == 0) line)
+line-writable e s n line g h = record { scalars = printed-scalars e s (n == 0) line g h; encodable = printed_text-encodable e s (n == 0) line g.separator }
+
+-- a pair, where it is accepted and where it is not
+pair-writable : (e : Encoding) (s : Settings) (n : ℕ) (key value : List ℕ) (b : Bool) → AreGoodSettings s → All scalar key → All scalar value → AreWritable e (line_text e s n (if b then Some (pair key value) else None))
+unfolding ContentScalars
+pair-writable e s n key value true g h k = line-writable e s n (pair key value) g (h, k)
+pair-writable e s n key value false g h k = record { scalars = tt; encodable = tt }
+
+pub wrote_text-writable : (e : Encoding) (s : Settings) (n : ℕ) (calls : List Call) → AreGoodSettings s → AreOfScalars calls → AreWritable e (wrote_text e s n calls)
+unfolding ContentScalars
+wrote_text-writable e s n [] g h = record { scalars = tt; encodable = tt }
+wrote_text-writable e s n (comment_call text ∷ calls) g h =
+    writable-append e (printed_text e s (n == 0) (comment text)) (wrote_text e s (n + 1) calls) (line-writable e s n (comment text) g h.0) (wrote_text-writable e s (n + 1) calls g h.1)
+wrote_text-writable e s n (pair_call key value ∷ calls) g h =
+    let o = line_of s (pair_call key value) in
+    writable-append e (line_text e s n o) (wrote_text e s (lines_with n o) calls) (pair-writable e s n key value (not (is_empty key && is_blanks s.kv_separator)) g h.0.0 h.0.1)
+    (wrote_text-writable e s (lines_with n o) calls g h.1)
+wrote_text-writable e s n (prefix_call prefix ∷ calls) g h =
+    wrote_text-writable e (settings_after_call s (prefix_call prefix)) n calls (settings_after_call-good s (prefix_call prefix) g h.0) h.1
+wrote_text-writable e s n (separator_call separator ∷ calls) g h =
+    wrote_text-writable e (settings_after_call s (separator_call separator)) n calls (settings_after_call-good s (separator_call separator) g h.0) h.1
+wrote_text-writable e s n (ending_call line_ending ∷ calls) g h =
+    wrote_text-writable e (settings_after_call s (ending_call line_ending)) n calls (settings_after_call-good s (ending_call line_ending) g h.0) h.1
+wrote_text-writable e s n (flush_call ∷ calls) g h = wrote_text-writable e s n calls g h.1

@@ -1,0 +1,129 @@
+-- A printed comment is a line of its own, and is read as its prefix's tail and its text, without the blanks at both ends.
+use Rattle.std.proofs.Common.{◌≡◌, ◌⊎◌, ℕ, ◌<◌, ◌==◌, true, false, List, [], ◌∷◌, ◌++◌, map, refl, ap, sym, ◌∙◌, inl, inr, append_assoc, lit<, eqb-true, ap₂, subst}
+use Rattle.std.specs.Prelude.{is_some}
+use Rattle.std.specs.List.{AllByRecursion}
+use Rattle.std.proofs.lemmas.Bool.{cond-true, or_cases}
+use Rattle.properties_format.specs.Text.{scalar, backslash, is_line_end, is_comment_mark}
+use Rattle.properties_format.specs.Encoding.{Encoding, encoded}
+use Rattle.properties_format.specs.Lines.{IsPlain}
+use Rattle.properties_format.specs.Groups.{is_marked}
+use Rattle.properties_format.specs.Split.{AreBlanks, trimmed}
+use Rattle.properties_format.specs.Escapes.{Spelling, itself, spelling_text, spelt_character, spelt_before, means, meaning_of}
+use Rattle.properties_format.specs.Entries.{comment}
+use Rattle.properties_format.specs.Items.{comment_outcome, split_outcome}
+use Rattle.properties_format.specs.Settings.{IsGoodPrefix}
+use Rattle.properties_format.specs.Printing.{in_comment, in_prefix, unicode_escape, literal, spelt, spelt_text}
+use Rattle.properties_format.specs.Writing.{tail_of}
+use Rattle.properties_format.proofs.Lines.Plain.{plain-append}
+use Rattle.properties_format.proofs.Groups.Joined.{is_marked-blank, is_marked-other}
+use Rattle.properties_format.proofs.Split.{split_of-comment}
+use Rattle.properties_format.proofs.EscapesLaws.{HasNoBackslash, IsWhole, AreWhole}
+use Rattle.properties_format.proofs.EscapesTrimmed.{AllKeepBlanks, meaning_of-trimmed}
+use Rattle.properties_format.proofs.Settings.{mark_not_blank, tail_of-good}
+use Rattle.properties_format.proofs.Printing.{encoded-ascii, blank-ascii}
+use Rattle.properties_format.proofs.ReadBack.Spellings.{IsSafe, IsPlainlySpelt, literal-plainly, in_comment-spelt}
+use Rattle.properties_format.proofs.ReadBack.Texts.{safe-whole, safe-plain}
+use Rattle.properties_format.proofs.ReadBack.Pairs.{IsReadAs, blanks-plain, cons-front}
+
+-- x is the text of whole spellings of y that keep blanks, and holds no line end
+record ArePlainlySpelt (x y : List ℕ) : Type 0 where
+  spellings : List Spelling
+  text : x ≡ spelt_before spellings []
+  characters : map spelt_character spellings ≡ y
+  whole : AreWhole spellings
+  keep : AllKeepBlanks spellings
+  plain : IsPlain x
+
+-- ---- one character in front
+
+plainly-whole : (c : ℕ) (p : Spelling) → IsSafe p ⊎ ((p ≡ itself c) × ((c == backslash) ≡ false) × (is_line_end c ≡ false)) → IsWhole p
+plainly-whole c p (inl h) = safe-whole p h
+plainly-whole c p (inr h) = subst IsWhole (sym h.0) h.1
+
+plainly-plain : (c : ℕ) (p : Spelling) → IsSafe p ⊎ ((p ≡ itself c) × ((c == backslash) ≡ false) × (is_line_end c ≡ false)) → IsPlain (spelling_text p)
+plainly-plain c p (inl h) = safe-plain p h
+plainly-plain c p (inr h) = subst (λ v. IsPlain (spelling_text v)) (sym h.0) (h.2, tt)
+
+plainly-cons : (x y : List ℕ) (c : ℕ) (cs : List ℕ) → IsPlainlySpelt x c → ArePlainlySpelt y cs → ArePlainlySpelt (x ++ y) (c ∷ cs)
+plainly-cons x y c cs s t =
+    record {
+      spellings = s.spelling ∷ t.spellings;
+      text = ap₂ (λ v w. v ++ w) s.text t.text;
+      characters = ap₂ (λ v w. v ∷ w) s.character t.characters;
+      whole = (plainly-whole c s.spelling s.safe, t.whole);
+      keep = (s.keeps, t.keep);
+      plain = plain-append x y (subst IsPlain (sym s.text) (plainly-plain c s.spelling s.safe)) t.plain;
+    }
+
+-- ---- the text of a comment, and the tail of a prefix before it
+
+comment-plainly : (e : Encoding) (x : List ℕ) → AllByRecursion scalar x → ArePlainlySpelt (spelt_text e in_comment x) x
+comment-plainly e [] h = record { spellings = []; text = refl; characters = refl; whole = tt; keep = tt; plain = tt }
+comment-plainly e (c ∷ x) h = plainly-cons (spelt e in_comment c) (spelt_text e in_comment x) c x (in_comment-spelt e c h.0) (comment-plainly e x h.1)
+
+same-plainly : (x y z : List ℕ) → x ≡ y → ArePlainlySpelt y z → ArePlainlySpelt x z
+same-plainly x y z e s = subst (λ v. ArePlainlySpelt v z) (sym e) s
+
+tail-plainly : (e : Encoding) (tail y cs : List ℕ) → AllByRecursion scalar tail → HasNoBackslash tail → IsPlain tail → ArePlainlySpelt y cs → ArePlainlySpelt (spelt_text e in_prefix tail ++ y) (tail ++ cs)
+tail-plainly e [] y cs h b p s = s
+tail-plainly e (c ∷ tail) y cs h b p s =
+    same-plainly _ (literal e c ++ (spelt_text e in_prefix tail ++ y)) (c ∷ tail ++ cs) (append_assoc (literal e c) (spelt_text e in_prefix tail) y)
+    (plainly-cons (literal e c) (spelt_text e in_prefix tail ++ y) c (tail ++ cs) (literal-plainly e c h.0 b.0 p.0) (tail-plainly e tail y cs h.1 b.1 p.1 s))
+
+-- ---- the prefix
+
+literal-ascii : (e : Encoding) (c : ℕ) → c < 0x80 → literal e c ≡ c ∷ []
+literal-ascii e c h = cond-true (is_some (encoded e c)) (c ∷ []) (unicode_escape c) (ap is_some (encoded-ascii e c h))
+
+pub mark-ascii : (c : ℕ) → is_comment_mark c ≡ true → (c < 0x80) × (is_line_end c ≡ false)
+mark-ascii c h = elim (or_cases (c == 0x23) (c == 0x21) h) [ inl e ↦ rw (eqb-true c 0x23 e) (lit< tt, refl) | inr e ↦ rw (eqb-true c 0x21 e) (lit< tt, refl) ]
+
+pub prefix-spelt : (e : Encoding) (indent : List ℕ) (mark : ℕ) (tail : List ℕ) → AreBlanks indent → is_comment_mark mark ≡ true
+    → spelt_text e in_prefix (indent ++ (mark ∷ tail)) ≡ indent ++ (mark ∷ spelt_text e in_prefix tail)
+prefix-spelt e [] mark tail b m = ap (λ v. v ++ spelt_text e in_prefix tail) (literal-ascii e mark (mark-ascii mark m).0)
+prefix-spelt e (c ∷ indent) mark tail b m =
+    ap (λ v. v ++ spelt_text e in_prefix (indent ++ (mark ∷ tail))) (literal-ascii e c (blank-ascii c b.0)) ∙ ap (λ v. c ∷ v) (prefix-spelt e indent mark tail b.1 m)
+
+scalar-right : (x y : List ℕ) → AllByRecursion scalar (x ++ y) → AllByRecursion scalar y
+scalar-right [] y h = h
+scalar-right (c ∷ x) y h = scalar-right x y h.1
+
+slashes-right : (x y : List ℕ) → HasNoBackslash (x ++ y) → HasNoBackslash y
+slashes-right [] y h = h
+slashes-right (c ∷ x) y h = slashes-right x y h.1
+
+-- ---- the line of a comment
+
+marked-behind : (indent : List ℕ) (mark : ℕ) (rest : List ℕ) → AreBlanks indent → is_comment_mark mark ≡ true → is_marked (indent ++ (mark ∷ rest)) ≡ true
+marked-behind [] mark rest b m = is_marked-other mark rest (mark_not_blank mark m) ∙ m
+marked-behind (c ∷ indent) mark rest b m = is_marked-blank c (indent ++ (mark ∷ rest)) b.0 ∙ marked-behind indent mark rest b.1 m
+
+comment-at : (indent : List ℕ) (mark : ℕ) (rest content : List ℕ) → AreBlanks indent → is_comment_mark mark ≡ true → ArePlainlySpelt rest content
+    → IsReadAs (indent ++ (mark ∷ rest)) (comment (trimmed content))
+comment-at indent mark rest content b m s =
+    record {
+      some = cons-front indent rest mark;
+      plain = plain-append indent (mark ∷ rest) (blanks-plain indent b) ((mark-ascii mark m).1, s.plain);
+      alone = inl (marked-behind indent mark rest b m);
+      outcome =
+          ap split_outcome (split_of-comment indent mark rest b m)
+          ∙ ap comment_outcome (ap (λ v. meaning_of (trimmed v)) s.text ∙ meaning_of-trimmed s.spellings s.whole s.keep ∙ ap (λ v. means (trimmed v)) s.characters);
+    }
+
+-- A comment under a good prefix without a backslash.
+pub comment-read : (e : Encoding) (prefix text : List ℕ) → IsGoodPrefix prefix → HasNoBackslash prefix → AllByRecursion scalar prefix → AllByRecursion scalar text
+    → IsReadAs (spelt_text e in_prefix prefix ++ spelt_text e in_comment text) (comment (trimmed (tail_of prefix ++ text)))
+comment-read e prefix text g b h k =
+    let front = g.indent ++ (g.mark ∷ []) in
+    let split : prefix ≡ front ++ g.tail = g.division ∙ sym (append_assoc g.indent (g.mark ∷ []) g.tail) in
+    let scalars = scalar-right front g.tail (subst (AllByRecursion scalar) split h) in
+    let slashes = slashes-right front g.tail (subst HasNoBackslash split b) in
+    let rest = spelt_text e in_prefix g.tail ++ spelt_text e in_comment text in
+    let read = comment-at g.indent g.mark rest (g.tail ++ text) g.indented g.marked
+    (tail-plainly e g.tail (spelt_text e in_comment text) text scalars slashes g.one_line (comment-plainly e text k)) in
+    let same : spelt_text e in_prefix prefix ++ spelt_text e in_comment text ≡ g.indent ++ (g.mark ∷ rest) =
+    ap (λ v. spelt_text e in_prefix v ++ spelt_text e in_comment text) g.division
+    ∙ ap (λ v. v ++ spelt_text e in_comment text) (prefix-spelt e g.indent g.mark g.tail g.indented g.marked)
+    ∙ append_assoc g.indent (g.mark ∷ spelt_text e in_prefix g.tail) (spelt_text e in_comment text) in
+    subst (λ v. IsReadAs v (comment (trimmed (tail_of prefix ++ text)))) (sym same)
+    (subst (λ v. IsReadAs (g.indent ++ (g.mark ∷ rest)) (comment (trimmed (v ++ text)))) (sym (tail_of-good prefix g)) read)

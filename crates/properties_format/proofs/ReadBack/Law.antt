@@ -1,0 +1,46 @@
+-- Reading inverts writing: what a new writer's calls wrote is read back as one item a line.
+use Rattle.std.proofs.Common.{◌≡◌, List, [], ◌∷◌, refl, ap, ◌∙◌, lit<, inl, subst}
+use Rattle.std.proofs.lemmas.List.Elements.{All-from_recursion}
+use Rattle.properties_format.specs.Text.{scalar, number_sign, space}
+use Rattle.properties_format.specs.Encoding.{Encoding, output_encoding, pieces_of, characters, decoded_of}
+use Rattle.properties_format.specs.Lines.{end, lines_of, line_ends}
+use Rattle.properties_format.specs.Items.{IsItems, items_of_lines, items_of}
+use Rattle.properties_format.specs.Settings.{Settings, default_settings}
+use Rattle.properties_format.specs.Printing.{encoded_text}
+use Rattle.properties_format.specs.Writing.{Call, wrote, told, ArePrefixesClean, AreOfScalars, AreGoodSettings}
+use Rattle.properties_format.proofs.Marks.{decoded_of-unmarked}
+use Rattle.properties_format.proofs.Items.{items_of-meets}
+use Rattle.properties_format.proofs.Settings.{IsGoodPrefix-from_test, IsGoodSeparator-from_test}
+use Rattle.properties_format.proofs.ReadBack.Lines.{wrote_text, wrote-text, text-read}
+use Rattle.properties_format.proofs.ReadBack.Bytes.{text-decoded, wrote_text-writable}
+use Rattle.properties_format.proofs.ReadBack.Unmarked.{wrote_text-unmarked}
+
+-- the settings of a new writer are good
+pub default_settings-good : AreGoodSettings default_settings
+default_settings-good =
+    record {
+      prefix = IsGoodPrefix-from_test (number_sign ∷ space ∷ []) refl;
+      scalars = All-from_recursion scalar (number_sign ∷ space ∷ []) (inl (lit< tt), (inl (lit< tt), tt));
+      separator = IsGoodSeparator-from_test default_settings.kv_separator refl;
+    }
+
+-- the bytes that are written are decoded to what was printed, in an encoding that a writer writes
+pub wrote-decoded : (e : Encoding) (s : Settings) (calls : List Call) → output_encoding e ≡ e → AreGoodSettings s → AreOfScalars calls → decoded_of e (wrote e s 0 calls) ≡ wrote_text e s 0 calls
+wrote-decoded e s calls own g h =
+    let x = wrote_text e s 0 calls in
+    let w = wrote_text-writable e s 0 calls g h in
+    ap (decoded_of e) (wrote-text e s 0 calls)
+    ∙ decoded_of-unmarked e (encoded_text e x) (wrote_text-unmarked e s calls g h)
+    ∙ subst (λ a. characters (pieces_of a (encoded_text e x)) ≡ x) own (text-decoded e x w.scalars w.encodable)
+
+-- What a writer's calls wrote, from good settings on and with no line before them, has the items that they told.
+pub items_of-wrote : (e : Encoding) (s : Settings) (calls : List Call) → output_encoding e ≡ e → AreGoodSettings s → ArePrefixesClean s calls → AreOfScalars calls
+    → items_of e (wrote e s 0 calls) end ≡ told s 0 calls
+unfolding items_of
+items_of-wrote e s calls own g c h =
+    ap (λ x. items_of_lines (lines_of x) end) (wrote-decoded e s calls own g h) ∙ (text-read e (line_ends (lines_of (wrote_text e s 0 calls))) s 0 calls g c h).read
+
+-- The same of the relation.
+pub IsItems-wrote : (e : Encoding) (s : Settings) (calls : List Call) → output_encoding e ≡ e → AreGoodSettings s → ArePrefixesClean s calls → AreOfScalars calls
+    → IsItems e (wrote e s 0 calls) end (told s 0 calls)
+IsItems-wrote e s calls own g c h = subst (IsItems e (wrote e s 0 calls) end) (items_of-wrote e s calls own g c h) (items_of-meets e (wrote e s 0 calls) end)

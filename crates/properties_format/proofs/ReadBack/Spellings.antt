@@ -1,0 +1,249 @@
+-- What is printed for a character is a spelling of that character.
+use Rattle.std.proofs.Common.{◌≡◌, ◌⊎◌, ℕ, ◌<◌, ◌≤◌, ◌==◌, ◌||◌, true, false, cond, List, [], ◌∷◌, ◌++◌, refl, ap, sym, ◌∙◌, inl, inr, arith, lit<, eqb-true, ltb-true, ltb-false, le-leb, lt-ltb, le-ltb, subst, ap₂}
+use Rattle.std.specs.Prelude.{is_some, nat_lt, nat_le}
+use Rattle.std.proofs.lemmas.Bool.{cases_Bool, cond-true, cond-false, and_from, and_left, and_right, or_from, or_cases, or_parts, lt-leb}
+use Rattle.properties_format.specs.Text.{scalar, tab, line_feed, form_feed, carriage_return, space, backslash, is_blank, is_line_end, is_comment_mark, is_separator}
+use Rattle.properties_format.specs.Encoding.{Encoding, encoded}
+use Rattle.properties_format.specs.Escapes.{letter_u, escaped_character, are_hexadecimal, code_unit, is_high, is_low, is_surrogate, pair_character, Spelling, itself, escaped, unicode, surrogates, last, spelling_text, spelt_character, IsSpelling}
+use Rattle.properties_format.specs.Printing.{in_key_or_value, in_comment, unit_escape, high_surrogate, low_surrogate, unicode_escape, literal, is_special, letter_escape, has_letter, spelt}
+use Rattle.properties_format.proofs.EscapesDigits.{unit_digits, unit_digits-hexadecimal, unit_digits-unit, high_of, low_of, pair_character-surrogates}
+use Rattle.properties_format.proofs.EscapesTrimmed.{KeepsBlanks, KeepsBlanks-itself, KeepsBlanks-escaped, KeepsBlanks-unicode, KeepsBlanks-surrogates}
+use Rattle.properties_format.proofs.Printing.{encoded-ascii}
+
+-- a spelling that may stand in a key or a value
+abbrev pub IsSafe : Spelling → Type 0
+IsSafe (itself c) = ((c == backslash) ≡ false) × (is_blank c ≡ false) × (is_separator c ≡ false) × (is_comment_mark c ≡ false) × (is_line_end c ≡ false)
+IsSafe (escaped c) = ((c == letter_u) ≡ false) × (is_line_end c ≡ false)
+IsSafe (unicode d) = (are_hexadecimal d ≡ true) × (is_surrogate (code_unit d) ≡ false)
+IsSafe (surrogates high low) = IsSpelling (surrogates high low) []
+IsSafe last = ⊥
+
+-- x is a safe spelling of c
+pub record IsSafelySpelt (x : List ℕ) (c : ℕ) : Type 0 where
+  pub spelling : Spelling
+  pub text : x ≡ spelling_text spelling
+  pub character : spelt_character spelling ≡ c
+  pub safe : IsSafe spelling
+
+-- x is a safe spelling of c, or c itself, which is no backslash and ends no line; and it keeps blanks
+pub record IsPlainlySpelt (x : List ℕ) (c : ℕ) : Type 0 where
+  pub spelling : Spelling
+  pub text : x ≡ spelling_text spelling
+  pub character : spelt_character spelling ≡ c
+  pub safe : IsSafe spelling ⊎ ((spelling ≡ itself c) × ((c == backslash) ≡ false) × (is_line_end c ≡ false))
+  pub keeps : KeepsBlanks spelling
+
+-- ---- `\u` escapes
+
+scalar-no_surrogate : (c : ℕ) → scalar c → is_surrogate c ≡ false
+scalar-no_surrogate c (inl h) = or_from (is_high c) (is_low c) (and_left (nat_le 0xd800 c) (nat_lt c 0xdc00) (lt-leb 0xd800 c h)) (and_left (nat_le 0xdc00 c) (nat_lt c 0xe000) (lt-leb 0xdc00 c (omega arith)))
+scalar-no_surrogate c (inr h) =
+    or_from (is_high c) (is_low c) (and_right (nat_le 0xd800 c) (nat_lt c 0xdc00) (le-ltb c 0xdc00 (omega (arith, h)))) (and_right (nat_le 0xdc00 c) (nat_lt c 0xe000) (le-ltb c 0xe000 h.0))
+
+below-end : (c : ℕ) → scalar c → c < 0x11_0000
+below-end c h = omega arith
+
+abbrev unit-spelt : (c : ℕ) → scalar c → c < 0x1_0000 → IsSafelySpelt (unit_escape c) c
+unit-spelt c h k =
+    record {
+      spelling = unicode (unit_digits c);
+      text = refl;
+      character = unit_digits-unit c k;
+      safe = (unit_digits-hexadecimal c, subst (λ v. is_surrogate v ≡ false) (sym (unit_digits-unit c k)) (scalar-no_surrogate c h));
+    }
+
+unit-keeps : (c : ℕ) → c < 0x1_0000 → is_blank c ≡ false → KeepsBlanks (unicode (unit_digits c))
+unit-keeps c k b = KeepsBlanks-unicode (unit_digits c) (unit_digits-hexadecimal c) (subst (λ v. is_blank v ≡ false) (sym (unit_digits-unit c k)) b)
+
+high-unit : (c : ℕ) → c < 0x11_0000 → code_unit (unit_digits (high_of c)) ≡ high_of c
+high-unit c h = unit_digits-unit (high_of c) (omega arith)
+
+low-unit : (c : ℕ) → code_unit (unit_digits (low_of c)) ≡ low_of c
+low-unit c = unit_digits-unit (low_of c) (omega arith)
+
+is_high-high : (c : ℕ) → c < 0x11_0000 → is_high (high_of c) ≡ true
+is_high-high c h = and_from (nat_le 0xd800 (high_of c)) (nat_lt (high_of c) 0xdc00) (le-leb 0xd800 (high_of c) (omega arith)) (lt-ltb (high_of c) 0xdc00 (omega arith))
+
+is_low-low : (c : ℕ) → is_low (low_of c) ≡ true
+is_low-low c = and_from (nat_le 0xdc00 (low_of c)) (nat_lt (low_of c) 0xe000) (le-leb 0xdc00 (low_of c) (omega arith)) (lt-ltb (low_of c) 0xe000 (omega arith))
+
+pair-is : (c : ℕ) → scalar c → 0x1_0000 ≤ c → pair_character (code_unit (unit_digits (high_of c))) (code_unit (unit_digits (low_of c))) ≡ c
+pair-is c h k = ap₂ pair_character (high-unit c (below-end c h)) (low-unit c) ∙ pair_character-surrogates c k
+
+abbrev pair-spelt : (c : ℕ) → scalar c → 0x1_0000 ≤ c → IsSafelySpelt (unit_escape (high_surrogate c) ++ unit_escape (low_surrogate c)) c
+pair-spelt c h k =
+    record {
+      spelling = surrogates (unit_digits (high_of c)) (unit_digits (low_of c));
+      text = refl;
+      character = pair-is c h k;
+      safe = (
+        unit_digits-hexadecimal (high_of c),
+        subst (λ v. is_high v ≡ true) (sym (high-unit c (below-end c h))) (is_high-high c (below-end c h)),
+        unit_digits-hexadecimal (low_of c),
+        subst (λ v. is_low v ≡ true) (sym (low-unit c)) (is_low-low c),
+      );
+    }
+
+pair-keeps : (c : ℕ) → scalar c → 0x1_0000 ≤ c → is_blank c ≡ false → KeepsBlanks (surrogates (unit_digits (high_of c)) (unit_digits (low_of c)))
+pair-keeps c h k b = KeepsBlanks-surrogates (unit_digits (high_of c)) (unit_digits (low_of c)) (unit_digits-hexadecimal (low_of c)) (subst (λ v. is_blank v ≡ false) (sym (pair-is c h k)) b)
+
+same-spelt : (x y : List ℕ) (c : ℕ) → x ≡ y → IsSafelySpelt y c → IsSafelySpelt x c
+same-spelt x y c e s = record { spelling = s.spelling; text = e ∙ s.text; character = s.character; safe = s.safe }
+
+same-plainly : (x y : List ℕ) (c : ℕ) → x ≡ y → IsPlainlySpelt y c → IsPlainlySpelt x c
+same-plainly x y c e s = record { spelling = s.spelling; text = e ∙ s.text; character = s.character; safe = s.safe; keeps = s.keeps }
+
+pub unicode-spelt : (c : ℕ) → scalar c → IsSafelySpelt (unicode_escape c) c
+unicode-spelt c h =
+    let whole = unit_escape c in
+    let two = unit_escape (high_surrogate c) ++ unit_escape (low_surrogate c) in
+    elim (cases_Bool (nat_lt c 0x1_0000)) [
+      | inl k ↦ same-spelt (unicode_escape c) whole c (cond-true (nat_lt c 0x1_0000) whole two k) (unit-spelt c h (ltb-true c 0x1_0000 k))
+      | inr k ↦ same-spelt (unicode_escape c) two c (cond-false (nat_lt c 0x1_0000) whole two k) (pair-spelt c h (ltb-false c 0x1_0000 k))
+    ]
+
+pub unicode-plainly : (c : ℕ) → scalar c → is_blank c ≡ false → IsPlainlySpelt (unicode_escape c) c
+unicode-plainly c h b =
+    let whole = unit_escape c in
+    let two = unit_escape (high_surrogate c) ++ unit_escape (low_surrogate c) in
+    elim (cases_Bool (nat_lt c 0x1_0000)) [
+      | inl k ↦
+          let s = unit-spelt c h (ltb-true c 0x1_0000 k) in
+          same-plainly (unicode_escape c) whole c (cond-true (nat_lt c 0x1_0000) whole two k)
+          (record { spelling = unicode (unit_digits c); text = refl; character = s.character; safe = inl s.safe; keeps = unit-keeps c (ltb-true c 0x1_0000 k) b })
+      | inr k ↦
+          let s = pair-spelt c h (ltb-false c 0x1_0000 k) in
+          same-plainly (unicode_escape c) two c (cond-false (nat_lt c 0x1_0000) whole two k)
+          (record { spelling = surrogates (unit_digits (high_of c)) (unit_digits (low_of c)); text = refl; character = s.character; safe = inl s.safe; keeps = pair-keeps c h (ltb-false c 0x1_0000 k) b })
+    ]
+
+-- ---- characters as they stand, and escapes with a backslash alone
+
+escape-spelt : (c d : ℕ) → (d == letter_u) ≡ false → is_line_end d ≡ false → escaped_character d ≡ c → IsSafelySpelt (backslash ∷ d ∷ []) c
+escape-spelt c d u l e = record { spelling = escaped d; text = refl; character = e; safe = (u, l) }
+
+at-character : (c d : ℕ) (x : ℕ → List ℕ) → (c == d) ≡ true → IsSafelySpelt (x d) d → IsSafelySpelt (x c) c
+at-character c d x e s = rw (eqb-true c d e) s
+
+special-spelt : (c : ℕ) → is_special c ≡ true → IsSafelySpelt (backslash ∷ c ∷ []) c
+special-spelt c h = elim (or_cases (c == backslash) (c == space || (is_separator c || is_comment_mark c)) h) [
+  | inl e ↦ at-character c backslash (λ v. backslash ∷ v ∷ []) e (escape-spelt backslash backslash refl refl refl)
+  | inr h ↦ elim (or_cases (c == space) (is_separator c || is_comment_mark c) h) [
+    | inl e ↦ at-character c space (λ v. backslash ∷ v ∷ []) e (escape-spelt space space refl refl refl)
+    | inr h ↦ elim (or_cases (is_separator c) (is_comment_mark c) h) [
+      | inl h ↦ elim (or_cases (c == 0x3d) (c == 0x3a) h) [
+        | inl e ↦ at-character c 0x3d (λ v. backslash ∷ v ∷ []) e (escape-spelt 0x3d 0x3d refl refl refl)
+        | inr e ↦ at-character c 0x3a (λ v. backslash ∷ v ∷ []) e (escape-spelt 0x3a 0x3a refl refl refl)
+      ]
+      | inr h ↦ elim (or_cases (c == 0x23) (c == 0x21) h) [
+        | inl e ↦ at-character c 0x23 (λ v. backslash ∷ v ∷ []) e (escape-spelt 0x23 0x23 refl refl refl)
+        | inr e ↦ at-character c 0x21 (λ v. backslash ∷ v ∷ []) e (escape-spelt 0x21 0x21 refl refl refl)
+      ]
+    ]
+  ]
+]
+
+letter-spelt : (c : ℕ) → has_letter c ≡ true → IsSafelySpelt (letter_escape c) c
+letter-spelt c h = elim (or_cases (c == tab || c == line_feed) (c == form_feed || c == carriage_return) h) [
+  | inl h ↦ elim (or_cases (c == tab) (c == line_feed) h) [
+    | inl e ↦ at-character c tab letter_escape e (escape-spelt tab 0x74 refl refl refl)
+    | inr e ↦ at-character c line_feed letter_escape e (escape-spelt line_feed 0x6e refl refl refl)
+  ]
+  | inr h ↦ elim (or_cases (c == form_feed) (c == carriage_return) h) [
+    | inl e ↦ at-character c form_feed letter_escape e (escape-spelt form_feed 0x66 refl refl refl)
+    | inr e ↦ at-character c carriage_return letter_escape e (escape-spelt carriage_return 0x72 refl refl refl)
+  ]
+]
+
+-- ---- keys and values
+
+-- what has no escape of its own in a key
+record IsOrdinary (c : ℕ) : Type 0 where
+  special : is_special c ≡ false
+  letter : has_letter c ≡ false
+
+blank-cases : (c : ℕ) → (c == space) ≡ false → (c == tab) ≡ false → (c == form_feed) ≡ false → is_blank c ≡ false
+blank-cases c a b d = or_from (c == space) (c == tab || c == form_feed) a (or_from (c == tab) (c == form_feed) b d)
+
+itself-spelt : (c : ℕ) → IsOrdinary c → IsSafelySpelt (c ∷ []) c
+itself-spelt c o =
+    let a = or_parts (c == backslash) (c == space || (is_separator c || is_comment_mark c)) o.special in
+    let b = or_parts (c == space) (is_separator c || is_comment_mark c) a.1 in
+    let d = or_parts (is_separator c) (is_comment_mark c) b.1 in
+    let f = or_parts (c == tab || c == line_feed) (c == form_feed || c == carriage_return) o.letter in
+    let g = or_parts (c == tab) (c == line_feed) f.0 in
+    let i = or_parts (c == form_feed) (c == carriage_return) f.1 in
+    record {
+      spelling = itself c;
+      text = refl;
+      character = refl;
+      safe = (a.0, blank-cases c b.0 g.0 i.0, d.0, d.1, or_from (c == line_feed) (c == carriage_return) g.1 i.1);
+    }
+
+literal-spelt : (e : Encoding) (c : ℕ) → scalar c → IsOrdinary c → IsSafelySpelt (literal e c) c
+literal-spelt e c h o = elim (cases_Bool (is_some (encoded e c))) [
+  | inl k ↦ same-spelt (literal e c) (c ∷ []) c (cond-true (is_some (encoded e c)) (c ∷ []) (unicode_escape c) k) (itself-spelt c o)
+  | inr k ↦ same-spelt (literal e c) (unicode_escape c) c (cond-false (is_some (encoded e c)) (c ∷ []) (unicode_escape c) k) (unicode-spelt c h)
+]
+
+pub in_key_or_value-spelt : (e : Encoding) (c : ℕ) → scalar c → IsSafelySpelt (spelt e in_key_or_value c) c
+in_key_or_value-spelt e c h =
+    let last_two = cond (nat_lt c space) (unicode_escape c) (literal e c) in
+    let last_three = cond (has_letter c) (letter_escape c) last_two in
+    elim (cases_Bool (is_special c)) [
+      | inl k ↦ same-spelt _ (backslash ∷ c ∷ []) c (cond-true (is_special c) (backslash ∷ c ∷ []) last_three k) (special-spelt c k)
+      | inr k ↦ same-spelt _ last_three c (cond-false (is_special c) (backslash ∷ c ∷ []) last_three k)
+          (elim (cases_Bool (has_letter c)) [
+            | inl l ↦ same-spelt _ (letter_escape c) c (cond-true (has_letter c) (letter_escape c) last_two l) (letter-spelt c l)
+            | inr l ↦ same-spelt _ last_two c (cond-false (has_letter c) (letter_escape c) last_two l)
+                (elim (cases_Bool (nat_lt c space)) [
+                  | inl m ↦ same-spelt _ (unicode_escape c) c (cond-true (nat_lt c space) (unicode_escape c) (literal e c) m) (unicode-spelt c h)
+                  | inr m ↦ same-spelt _ (literal e c) c (cond-false (nat_lt c space) (unicode_escape c) (literal e c) m) (literal-spelt e c h (record { special = k; letter = l }))
+                ])
+          ])
+    ]
+
+-- ---- comments and prefixes
+
+escape-plainly : (c d : ℕ) → (d == letter_u) ≡ false → is_line_end d ≡ false → escaped_character d ≡ c → is_blank d ≡ false → is_blank (escaped_character d) ≡ false → IsPlainlySpelt (backslash ∷ d ∷ []) c
+escape-plainly c d u l e b f = record { spelling = escaped d; text = refl; character = e; safe = inl (u, l); keeps = KeepsBlanks-escaped d b f }
+
+at-character_plainly : (c d : ℕ) (x : ℕ → List ℕ) → (c == d) ≡ true → IsPlainlySpelt (x d) d → IsPlainlySpelt (x c) c
+at-character_plainly c d x e s = rw (eqb-true c d e) s
+
+-- a blank can be encoded, as ASCII characters can
+blank-encoded : (e : Encoding) (c : ℕ) → is_blank c ≡ true → is_some (encoded e c) ≡ true
+blank-encoded e c h = elim (or_cases (c == space) (c == tab || c == form_feed) h) [
+  | inl k ↦ ap is_some (encoded-ascii e c (rw (eqb-true c space k) (lit< tt)))
+  | inr h ↦ elim (or_cases (c == tab) (c == form_feed) h) [
+    | inl k ↦ ap is_some (encoded-ascii e c (rw (eqb-true c tab k) (lit< tt)))
+    | inr k ↦ ap is_some (encoded-ascii e c (rw (eqb-true c form_feed k) (lit< tt)))
+  ]
+]
+
+unencoded-full : (e : Encoding) (c : ℕ) → is_some (encoded e c) ≡ false → is_blank c ≡ false
+unencoded-full e c h = elim (cases_Bool (is_blank c)) [ inl b ↦ (let k = blank-encoded e c b in cc) | inr b ↦ b ]
+
+pub literal-plainly : (e : Encoding) (c : ℕ) → scalar c → (c == backslash) ≡ false → is_line_end c ≡ false → IsPlainlySpelt (literal e c) c
+literal-plainly e c h b l = elim (cases_Bool (is_some (encoded e c))) [
+  | inl k ↦ same-plainly (literal e c) (c ∷ []) c (cond-true (is_some (encoded e c)) (c ∷ []) (unicode_escape c) k)
+      (record { spelling = itself c; text = refl; character = refl; safe = inr (refl, b, l); keeps = KeepsBlanks-itself c })
+  | inr k ↦ same-plainly (literal e c) (unicode_escape c) c (cond-false (is_some (encoded e c)) (c ∷ []) (unicode_escape c) k) (unicode-plainly c h (unencoded-full e c k))
+]
+
+pub in_comment-spelt : (e : Encoding) (c : ℕ) → scalar c → IsPlainlySpelt (spelt e in_comment c) c
+in_comment-spelt e c h =
+    let rest = cond (c == line_feed || c == carriage_return) (letter_escape c) (literal e c) in
+    elim (cases_Bool (c == backslash)) [
+      | inl k ↦ same-plainly _ (backslash ∷ backslash ∷ []) c (cond-true (c == backslash) (backslash ∷ backslash ∷ []) rest k)
+          (at-character_plainly c backslash (λ v. backslash ∷ backslash ∷ []) k (escape-plainly backslash backslash refl refl refl refl refl))
+      | inr k ↦ same-plainly _ rest c (cond-false (c == backslash) (backslash ∷ backslash ∷ []) rest k)
+          (elim (cases_Bool (c == line_feed || c == carriage_return)) [
+            | inl l ↦ same-plainly _ (letter_escape c) c (cond-true (c == line_feed || c == carriage_return) (letter_escape c) (literal e c) l)
+                (elim (or_cases (c == line_feed) (c == carriage_return) l) [
+                  | inl m ↦ at-character_plainly c line_feed letter_escape m (escape-plainly line_feed 0x6e refl refl refl refl refl)
+                  | inr m ↦ at-character_plainly c carriage_return letter_escape m (escape-plainly carriage_return 0x72 refl refl refl refl refl)
+                ])
+            | inr l ↦ same-plainly _ (literal e c) c (cond-false (c == line_feed || c == carriage_return) (letter_escape c) (literal e c) l) (literal-plainly e c h k l)
+          ])
+    ]

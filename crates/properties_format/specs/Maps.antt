@@ -1,0 +1,48 @@
+-- The map of an input: each key that a pair of it has, with the value of its last pair.
+-- Source: java.util.Properties of Java SE 7, load (a later pair with a key takes the place of an earlier one).
+use Rattle.std.specs.Prelude.{◌≡◌, ◌≢◌, ℕ, List, [], ◌∷◌, ◌++◌, Option, Some, None, if◌then◌else◌, bytes_eq}
+use Rattle.properties_format.specs.Entries.{comment, pair, Entry, item, malformed, read_fault}
+
+-- no entry is a pair with this key
+abbrev pub HasNoPair : List ℕ → List Entry → Type 0
+HasNoPair key [] = Unit {0}
+HasNoPair key (item n (pair k v) ∷ entries) = (k ≢ key) × HasNoPair key entries
+HasNoPair key (item n (comment text) ∷ entries) = HasNoPair key entries
+HasNoPair key (malformed kind n ∷ entries) = HasNoPair key entries
+HasNoPair key (read_fault n ∷ entries) = HasNoPair key entries
+
+-- The last pair with this key has this value: there are entries before it, that pair, and entries after it without that key.
+pub record IsLastValue (entries : List Entry) (key value : List ℕ) : Type 0 where
+  pub before : List Entry
+  pub number : ℕ
+  pub after : List Entry
+  pub division : entries ≡ before ++ (item number (pair key value) ∷ after)
+  pub no_later : HasNoPair key after
+
+-- The value of a key: that of its last pair, or none where there is no pair with that key.
+abbrev pub IsValue : List Entry → List ℕ → Option (List ℕ) → Type 0
+IsValue entries key (Some value) = IsLastValue entries key value
+IsValue entries key None = HasNoPair key entries
+
+-- The map gives each key its value.
+abbrev pub IsMap : List Entry → (List ℕ → Option (List ℕ)) → Type 0
+IsMap entries value_at = (key : List ℕ) → IsValue entries key (value_at key)
+
+-- ---- how it is read
+
+-- the value of one entry, if it is a pair with this key
+abbrev pub value_of : Entry → List ℕ → Option (List ℕ)
+value_of (item n (pair k v)) key = if bytes_eq k key then Some v else None
+value_of (item n (comment text)) key = None
+value_of (malformed kind n) key = None
+value_of (read_fault n) key = None
+
+-- the first of two values, if there is one, else the second
+abbrev pub first_value : Option (List ℕ) → Option (List ℕ) → Option (List ℕ)
+first_value (Some v) other = Some v
+first_value None other = other
+
+-- the value of a key, looked for from the last entry on
+abbrev pub value_in : List Entry → List ℕ → Option (List ℕ)
+value_in [] key = None
+value_in (entry ∷ entries) key = first_value (value_in entries key) (value_of entry key)

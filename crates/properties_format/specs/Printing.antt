@@ -1,0 +1,85 @@
+-- How a line is printed: each character by itself, and the line from its parts.
+-- Source: java.util.Properties of Java SE 7, store; a character that the encoding lacks is written as store writes it, by `\u` and four hexadecimal digits for each of its UTF-16 units (The Unicode Standard, section 3.9, D91).
+use Rattle.std.specs.Prelude.{ℕ, ◌+◌, ◌-◌, ◌/◌, ◌%◌, ◌==◌, ◌&&◌, ◌||◌, nat_lt, Bool, if◌then◌else◌, List, [], ◌∷◌, ◌++◌, is_some, unwrap_or}
+use Rattle.std.specs.Char.{digit_char}
+use Rattle.properties_format.specs.Text.{line_end_text, tab, line_feed, form_feed, carriage_return, space, backslash, is_comment_mark, is_separator}
+use Rattle.properties_format.specs.Encoding.{Encoding, encoded, begins_like_mark}
+use Rattle.properties_format.specs.Entries.{Content, comment, pair}
+use Rattle.properties_format.specs.Settings.{Settings}
+
+-- where a character stands in a printed line
+pub data Place : Type 0 where
+  in_key_or_value : Place
+  in_comment : Place
+  in_prefix : Place
+
+-- `\u` and the four hexadecimal digits, in lowercase, of a UTF-16 unit
+abbrev pub unit_escape : ℕ → List ℕ
+unit_escape u = backslash ∷ 0x75 ∷ digit_char (u / 0x1000 % 0x10) ∷ digit_char (u / 0x100 % 0x10) ∷ digit_char (u / 0x10 % 0x10) ∷ digit_char (u % 0x10) ∷ []
+
+-- the two surrogates of a character past U+FFFF
+abbrev pub high_surrogate : ℕ → ℕ
+high_surrogate c = 0xd800 + (c - 0x1_0000) / 0x400
+
+abbrev pub low_surrogate : ℕ → ℕ
+low_surrogate c = 0xdc00 + (c - 0x1_0000) % 0x400
+
+-- a character as one such escape, or past U+FFFF as two
+abbrev pub unicode_escape : ℕ → List ℕ
+unicode_escape c = if nat_lt c 0x1_0000 then unit_escape c else unit_escape (high_surrogate c) ++ unit_escape (low_surrogate c)
+
+-- what the encoding can encode stands as itself, and the rest is escaped
+abbrev pub literal : Encoding → ℕ → List ℕ
+literal e c = if is_some (encoded e c) then c ∷ [] else unicode_escape c
+
+-- the characters with a meaning of their own in a key or a value, which take a backslash before them
+abbrev pub is_special : ℕ → Bool
+is_special c = c == backslash || (c == space || (is_separator c || is_comment_mark c))
+
+-- `\t`, `\n`, `\f` and `\r`
+abbrev pub letter_escape : ℕ → List ℕ
+letter_escape c =
+    backslash ∷ (if c == tab then 0x74 else (if c == line_feed then 0x6e else (if c == form_feed then 0x66 else 0x72))) ∷ []
+
+abbrev pub has_letter : ℕ → Bool
+has_letter c = (c == tab || c == line_feed) || (c == form_feed || c == carriage_return)
+
+-- How a character is printed. In a key or a value everything that would not be read back as itself is escaped; in a comment the backslash and the line ends; and everywhere what the encoding cannot encode.
+abbrev pub spelt : Encoding → Place → ℕ → List ℕ
+spelt e in_key_or_value c =
+    if is_special c then backslash ∷ c ∷ [] else (if has_letter c then letter_escape c else (if nat_lt c space then unicode_escape c else literal e c))
+spelt e in_comment c =
+    if c == backslash then backslash ∷ backslash ∷ [] else (if c == line_feed || c == carriage_return then letter_escape c else literal e c)
+spelt e in_prefix c = literal e c
+
+-- a text, character by character
+abbrev pub spelt_text : Encoding → Place → List ℕ → List ℕ
+spelt_text e place [] = []
+spelt_text e place (c ∷ cs) = spelt e place c ++ spelt_text e place cs
+
+-- the bytes of a text of characters that the encoding can encode
+abbrev pub encoded_text : Encoding → List ℕ → List ℕ
+encoded_text e [] = []
+encoded_text e (c ∷ cs) = unwrap_or (encoded e c) [] ++ encoded_text e cs
+
+-- a key whose bytes would be taken for a byte order mark, if they stood at the front of the input
+abbrev pub is_mark_like : Encoding → List ℕ → Bool
+is_mark_like e key = begins_like_mark (encoded_text e (spelt_text e in_key_or_value key))
+
+-- a key with its first character escaped
+abbrev pub shielded : Encoding → List ℕ → List ℕ
+shielded e [] = []
+shielded e (c ∷ cs) = unicode_escape c ++ spelt_text e in_key_or_value cs
+
+-- a key, on the first line that is written or on another: on the first, one that begins like a mark is shielded
+abbrev pub spelt_key : Encoding → Bool → List ℕ → List ℕ
+spelt_key e first key = if first && is_mark_like e key then shielded e key else spelt_text e in_key_or_value key
+
+-- the characters of a printed line: prefix, text and line end, or key, separator, value and line end
+abbrev pub printed_text : Encoding → Settings → Bool → Content → List ℕ
+printed_text e s first (comment text) = spelt_text e in_prefix s.comment_prefix ++ (spelt_text e in_comment text ++ line_end_text s.line_ending)
+printed_text e s first (pair key value) = spelt_key e first key ++ (s.kv_separator ++ (spelt_text e in_key_or_value value ++ line_end_text s.line_ending))
+
+-- and its bytes
+abbrev pub printed : Encoding → Settings → Bool → Content → List ℕ
+printed e s first line = encoded_text e (printed_text e s first line)

@@ -1,0 +1,134 @@
+-- What a list of calls to a writer writes, and what it is to be read back as.
+-- Source: java.util.Properties of Java SE 7, store, which writes one comment or one pair a line.
+use Rattle.std.specs.Prelude.{◌≡◌, All, ℕ, ◌+◌, ◌==◌, ◌&&◌, not, Bool, true, false, if◌then◌else◌, List, [], ◌∷◌, ◌++◌, Option, Some, None}
+use Rattle.properties_format.specs.Text.{scalar, LineEnd, backslash, is_comment_mark}
+use Rattle.properties_format.specs.Encoding.{Encoding}
+use Rattle.properties_format.specs.Split.{trimmed}
+use Rattle.properties_format.specs.Entries.{Content, comment, pair, Entry, item}
+use Rattle.properties_format.specs.Settings.{Settings, IsGoodPrefix, IsGoodSeparator, is_blanks, is_good_prefix, is_good_separator}
+use Rattle.properties_format.specs.Printing.{printed}
+
+-- a call: a comment or a pair to write, a setting to change, or a flush
+pub data Call : Type 0 where
+  comment_call : List ℕ → Call
+  pair_call : List ℕ → List ℕ → Call
+  prefix_call : List ℕ → Call
+  separator_call : List ℕ → Call
+  ending_call : LineEnd → Call
+  flush_call : Call
+
+abbrev pub is_empty : List ℕ → Bool
+is_empty [] = true
+is_empty (c ∷ cs) = false
+
+-- Which calls a writer takes: good prefixes and separators, every pair but one of an empty key under a separator of blanks alone, and everything else.
+abbrev pub is_accepted : Settings → Call → Bool
+is_accepted s (comment_call text) = true
+is_accepted s (pair_call key value) = not (is_empty key && is_blanks s.kv_separator)
+is_accepted s (prefix_call prefix) = is_good_prefix prefix
+is_accepted s (separator_call separator) = is_good_separator separator
+is_accepted s (ending_call line_ending) = true
+is_accepted s flush_call = true
+
+-- the settings after one call, and after a list of calls
+abbrev pub settings_after_call : Settings → Call → Settings
+settings_after_call s (comment_call text) = s
+settings_after_call s (pair_call key value) = s
+settings_after_call s (prefix_call prefix) = if is_good_prefix prefix then record s { comment_prefix = prefix } else s
+settings_after_call s (separator_call separator) = if is_good_separator separator then record s { kv_separator = separator } else s
+settings_after_call s (ending_call line_ending) = record s { line_ending = line_ending }
+settings_after_call s flush_call = s
+
+abbrev pub settings_after : Settings → List Call → Settings
+settings_after s [] = s
+settings_after s (call ∷ calls) = settings_after (settings_after_call s call) calls
+
+-- the answer of each call: whether it was accepted
+abbrev pub answers : Settings → List Call → List Bool
+answers s [] = []
+answers s (call ∷ calls) = is_accepted s call ∷ answers (settings_after_call s call) calls
+
+-- the line that a call writes, where it writes one: an accepted comment or pair
+abbrev pub line_of : Settings → Call → Option Content
+line_of s (comment_call text) = Some (comment text)
+line_of s (pair_call key value) = if is_accepted s (pair_call key value) then Some (pair key value) else None
+line_of s (prefix_call prefix) = None
+line_of s (separator_call separator) = None
+line_of s (ending_call line_ending) = None
+line_of s flush_call = None
+
+-- the number of lines after a line, where there is one
+abbrev pub lines_with : ℕ → Option Content → ℕ
+lines_with n None = n
+lines_with n (Some line) = n + 1
+
+abbrev pub lines_after : Settings → ℕ → List Call → ℕ
+lines_after s n [] = n
+lines_after s n (call ∷ calls) = lines_after (settings_after_call s call) (lines_with n (line_of s call)) calls
+
+-- the bytes of a line, where there is one: it is first where no line stands before it
+abbrev pub line_bytes : Encoding → Settings → ℕ → Option Content → List ℕ
+line_bytes e s n None = []
+line_bytes e s n (Some line) = printed e s (n == 0) line
+
+-- The bytes that a list of calls writes, from these settings and this number of lines on: the printed lines, each under the settings before it.
+abbrev pub wrote : Encoding → Settings → ℕ → List Call → List ℕ
+wrote e s n [] = []
+wrote e s n (call ∷ calls) =
+    line_bytes e s n (line_of s call) ++ wrote e (settings_after_call s call) (lines_with n (line_of s call)) calls
+
+-- what follows the first comment mark of a prefix
+abbrev pub tail_of : List ℕ → List ℕ
+tail_of [] = []
+tail_of (c ∷ cs) = if is_comment_mark c then cs else tail_of cs
+
+-- what a line says to its reader: a pair itself, and a comment the prefix's tail and its text, without the blanks at both ends
+abbrev pub told_content : Settings → Content → Content
+told_content s (comment text) = comment (trimmed (tail_of s.comment_prefix ++ text))
+told_content s (pair key value) = pair key value
+
+-- the item of a line, where there is one, which is the next after n lines
+abbrev pub told_line : Settings → ℕ → Option Content → List Entry
+told_line s n None = []
+told_line s n (Some line) = item (n + 1) (told_content s line) ∷ []
+
+-- The items that the written lines are to be read back as: one a line, numbered on from the lines before.
+abbrev pub told : Settings → ℕ → List Call → List Entry
+told s n [] = []
+told s n (call ∷ calls) = told_line s n (line_of s call) ++ told (settings_after_call s call) (lines_with n (line_of s call)) calls
+
+-- ---- which calls are read back
+
+-- no character of the text is a backslash
+abbrev pub HoldsNoBackslash : List ℕ → Type 0
+HoldsNoBackslash [] = Unit {0}
+HoldsNoBackslash (c ∷ cs) = ((c == backslash) ≡ false) × HoldsNoBackslash cs
+
+-- each prefix under which a comment is written, from these settings on, holds no backslash
+abbrev pub ArePrefixesClean : Settings → List Call → Type 0
+ArePrefixesClean s [] = Unit {0}
+ArePrefixesClean s (comment_call text ∷ calls) = HoldsNoBackslash s.comment_prefix × ArePrefixesClean s calls
+ArePrefixesClean s (pair_call key value ∷ calls) = ArePrefixesClean s calls
+ArePrefixesClean s (prefix_call prefix ∷ calls) = ArePrefixesClean (settings_after_call s (prefix_call prefix)) calls
+ArePrefixesClean s (separator_call separator ∷ calls) = ArePrefixesClean (settings_after_call s (separator_call separator)) calls
+ArePrefixesClean s (ending_call line_ending ∷ calls) = ArePrefixesClean (settings_after_call s (ending_call line_ending)) calls
+ArePrefixesClean s (flush_call ∷ calls) = ArePrefixesClean s calls
+
+-- each text of the call is one of scalar values
+abbrev pub IsOfScalars : Call → Type 0
+IsOfScalars (comment_call text) = All scalar text
+IsOfScalars (pair_call key value) = All scalar key × All scalar value
+IsOfScalars (prefix_call prefix) = All scalar prefix
+IsOfScalars (separator_call separator) = All scalar separator
+IsOfScalars (ending_call line_ending) = Unit {0}
+IsOfScalars flush_call = Unit {0}
+
+abbrev pub AreOfScalars : List Call → Type 0
+AreOfScalars [] = Unit {0}
+AreOfScalars (call ∷ calls) = IsOfScalars call × AreOfScalars calls
+
+-- What a writer is set to is good: so are the settings of a new one, and calls keep them so.
+pub record AreGoodSettings (s : Settings) : Type 0 where
+  pub prefix : IsGoodPrefix s.comment_prefix
+  pub scalars : All scalar s.comment_prefix
+  pub separator : IsGoodSeparator s.kv_separator
