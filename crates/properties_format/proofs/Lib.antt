@@ -27,6 +27,7 @@ pub mod Settings
 pub mod Printing
 pub mod MarkLike
 pub mod Writing
+pub mod LastSettings
 pub mod ReadBack
 pub mod Maps
 pub mod Logical

@@ -2,7 +2,7 @@
 use Rattle.std.proofs.Common.{◌≡◌, List, [], ◌∷◌, refl, ap, ◌∙◌, lit<, inl, subst}
 use Rattle.std.proofs.lemmas.List.Elements.{All-from_recursion}
 use Rattle.properties_format.specs.Text.{scalar, number_sign, space}
-use Rattle.properties_format.specs.Encoding.{Encoding, output_encoding, pieces_of, characters, decoded_of}
+use Rattle.properties_format.specs.Encoding.{Encoding, windows_1252, utf_8, utf_16le, utf_16be, output_encoding, pieces_of, characters, decoded_of}
 use Rattle.properties_format.specs.Lines.{end, lines_of, line_ends}
 use Rattle.properties_format.specs.Items.{IsItems, items_of_lines, items_of}
 use Rattle.properties_format.specs.Settings.{Settings, default_settings}
@@ -23,6 +23,13 @@ default_settings-good =
       scalars = All-from_recursion scalar (number_sign ∷ space ∷ []) (inl (lit< tt), (inl (lit< tt), tt));
       separator = IsGoodSeparator-from_test default_settings.kv_separator refl;
     }
+
+-- an output encoding is its own
+pub output_encoding-own : (e : Encoding) → output_encoding (output_encoding e) ≡ output_encoding e
+output_encoding-own windows_1252 = refl
+output_encoding-own utf_8 = refl
+output_encoding-own utf_16le = refl
+output_encoding-own utf_16be = refl
 
 -- the bytes that are written are decoded to what was printed, in an encoding that a writer writes
 pub wrote-decoded : (e : Encoding) (s : Settings) (calls : List Call) → output_encoding e ≡ e → AreGoodSettings s → AreOfScalars calls → decoded_of e (wrote e s 0 calls) ≡ wrote_text e s 0 calls
