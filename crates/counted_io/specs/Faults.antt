@@ -1,5 +1,8 @@
 -- How a count of faults moves, and what calls show of a reader's end and of a sink's flushing.
-use Rattle.std.specs.Prelude.{◌≡◌, ℕ, ◌+◌, ◌-◌, ◌^◌, ◌<◌, ◌==◌, ◌⊎◌, Bool, true, false, if◌then◌else◌, List, length, Result, Ok, Err, MatchResult, IfOk}
+use Rattle.std.specs.Prelude.{◌≡◌, ℕ, ◌+◌, ◌-◌, ◌^◌, ◌<◌, ◌==◌, ◌⊎◌, Bool, true, false, if◌then◌else◌, List, length, Result, Ok, Err, MatchResult, IfOk, IsErrAnd}
+use Rattle.std.specs.IoError.{error_kind}
+use Rattle.std.specs.declared.io.Error.{Error}
+use Rattle.std.specs.declared.io.ErrorKind.{ErrorKind}
 
 -- the greatest count, at which it stays: `usize::MAX`
 abbrev pub most_faults : ℕ
@@ -37,3 +40,7 @@ flushed_after_write flushed (Err e) = flushed
 abbrev pub flushed_after_flush : {T E : Type 0} → Bool → Result T E → Bool
 flushed_after_flush flushed (Ok x) = true
 flushed_after_flush flushed (Err e) = flushed
+
+-- a call that failed by an error of this kind
+abbrev pub FailsWith : {T : Type 0} → ErrorKind → Result T Error → Type 0
+FailsWith kind r = IsErrAnd r (λ e. error_kind e ≡ kind)

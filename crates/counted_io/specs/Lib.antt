@@ -1,2 +1,4 @@
 pub mod Faults
 pub mod Counting
+pub mod ReaderScript
+pub mod SinkScript

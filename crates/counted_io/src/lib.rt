@@ -4,6 +4,8 @@
 //! keeps a number that rises at each failure, so that a caller's contract can: an error of a call is told from an
 //! invented one by the count, which rose.
 //!
+//! For tests and proofs, a scripted reader and a scripted sink cut, take and fail as they are told.
+//!
 //! ```text
 //! let mut input = Counted::new(file);
 //! let items = read_lines(alloc, &mut input, Encoding::UTF_8);
@@ -13,8 +15,12 @@
 
 mod counted;
 mod read;
+mod scripted_reader;
+mod scripted_sink;
 mod write;
 
 pub use counted::Counted;
 pub use read::CountedRead;
+pub use scripted_reader::{ScriptedReader, Tail};
+pub use scripted_sink::{ScriptedSink, SinkFault};
 pub use write::CountedWrite;

@@ -1,6 +1,7 @@
 // Sinks that count their faults.
 
-ghost use Rattle.std.specs.Prelude.{◌≡◌, ℕ, Bool};
+ghost use Rattle.std.specs.Prelude.{◌≡◌, ℕ, Bool, List, Result};
+ghost use Rattle.std.specs.declared.io.Error.{Error};
 ghost use Rattle.std.specs.Io.{WritesAtMost};
 ghost use Rattle.std.specs.Io.KnownBytes.{WriteAppends, Keeps};
 ghost use Rattle.counted_io.specs.Faults.{CountsFault, CountsWrite, flushed_after_write, flushed_after_flush};
@@ -22,12 +23,20 @@ pub trait CountedWrite: Write + Drop {
     /// owner finds what the calls left.
     ghost identity: { Self → ℕ } = { λ _. 0 };
 
+    /// What a call of `write_counted` may answer: from a sink and bytes to an answer and the sink behind it. A caller
+    /// that passes an error on can show by it that the sink answered that error.
+    ghost write_gives: { Self → List ℕ → Result ℕ Error → Self → Type 0 } = { λ _ _ _ _. Unit {0} };
+
+    /// What a call of `flush_counted` may answer.
+    ghost flush_gives: { Self → Result Unit Error → Self → Type 0 } = { λ _ _ _. Unit {0} };
+
     /// Does what `write` does.
     fn write_counted(&mut self, bytes: &[u8]) -> io::Result<usize>
         ensures bound { WritesAtMost result bytes.now }
         ensures bytes { WriteAppends (Self.contents self.old) (Self.contents self.new) result bytes.now }
         ensures faults { CountsWrite (faults self.old) (faults self.new) result bytes.now }
         ensures flushed { is_flushed self.new ≡ flushed_after_write (is_flushed self.old) result }
+        ensures gives { write_gives self.old bytes.now result self.new }
         ensures same_reference { identity self.new ≡ identity self.old };
 
     /// Does what `flush` does.
@@ -35,6 +44,7 @@ pub trait CountedWrite: Write + Drop {
         ensures bytes { Keeps (Self.contents self.old) (Self.contents self.new) }
         ensures faults { CountsFault (faults self.old) (faults self.new) result }
         ensures flushed { is_flushed self.new ≡ flushed_after_flush (is_flushed self.old) result }
+        ensures gives { flush_gives self.old result self.new }
         ensures same_reference { identity self.new ≡ identity self.old };
 }
 
@@ -44,6 +54,10 @@ impl<W: CountedWrite> CountedWrite for &mut W {
     ghost is_flushed = { λ w. W.is_flushed w.now };
 
     ghost identity = { λ w. w.ghost_name };
+
+    ghost write_gives = { λ w bytes answer v. W.write_gives w.now bytes answer v.now };
+
+    ghost flush_gives = { λ w answer v. W.flush_gives w.now answer v.now };
 
     fn write_counted(&mut self, bytes: &[u8]) -> io::Result<usize> {
         (**self).write_counted(bytes)

@@ -1,7 +1,7 @@
 -- Calls on the lines of a reader in turn.
-use Rattle.std.proofs.Common.{◌≡◌, ◌⊎◌, ℕ, Bool, true, false, List, refl, sym, ◌∙◌, inl, inr}
-use Rattle.std.specs.Prelude.{Option, Some, None, Result, Ok, Err}
-use Rattle.java_properties.specs.Streams.{HasRead, HasFailed}
+use Rattle.std.proofs.Common.{◌≡◌, ◌⊎◌, ℕ, Bool, true, false, List, refl, ◌∙◌, inl, inr}
+use Rattle.std.specs.Prelude.{Option, Some, None, Ok, Err}
+use Rattle.java_properties.specs.Streams.{HasRead}
 use Rattle.java_properties.specs.Reading.{Progress, CallLeaves, IsRefusal}
 use Rattle.java_properties.specs.Errors.{IsPlain}
 use Rattle.java_properties.specs.declared.error.ErrorKind.TheVariants as kind

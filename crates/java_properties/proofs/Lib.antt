@@ -1,2 +1,8 @@
 pub mod Streams
 pub mod Calls
+pub mod Windows1252
+pub mod Printing
+pub mod MarkLike
+pub mod SettingsTests
+pub mod LineTexts
+pub mod Making

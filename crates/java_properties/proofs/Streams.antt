@@ -1,10 +1,15 @@
 -- Reads and writes in turn.
-use Rattle.std.proofs.Common.{◌≡◌, ◌≢◌, ◌⊎◌, ◌==◌, ℕ, Bool, false, rules, List, [], ◌∷◌, ◌++◌, refl, ap, sym, ◌∙◌, append_assoc, append-nil, inl, inr}
+use Rattle.std.proofs.Common.{◌≡◌, ◌≢◌, ◌==◌, ℕ, Bool, false, rules, List, [], ◌∷◌, ◌++◌, refl, ap, sym, ◌∙◌, append_assoc, append-nil, inl, inr}
 use borrow.Author.Tests.{tests}
-use Rattle.std.specs.Prelude.{Option, Some, None, Result, Ok, Err}
+use Rattle.std.specs.Prelude.{Option, Some, None, Ok, Err, Result}
 use Rattle.std.specs.Io.KnownBytes.{Consumes, Appends}
 use Rattle.counted_io.specs.Faults.{one_more, count_of_taken}
-use Rattle.java_properties.specs.Streams.{HasRead, HasFailed, TakesByte, TakesChar, IsProperBeginning, Sends}
+use Rattle.java_properties.specs.Streams.{HasRead, HasFailed, TakesByte, CameFromWrite, CameFromSink}
+use Rattle.java_properties.specs.Errors.{IsError, IsStreamError}
+use Rattle.java_properties.specs.declared.error.Cause.{Cause}
+use Rattle.java_properties.specs.declared.error.ErrorKind.TheVariants as kind
+use Rattle.java_properties.specs.declared.error.PropertiesError.{PropertiesError}
+use Rattle.std.specs.declared.io.Error.{Error}
 
 pub consumes-none : (known : Option (List ℕ)) → Consumes known known []
 consumes-none None = tt
@@ -65,3 +70,11 @@ module _ {W : Type 0} (contents : W → Option (List ℕ)) (faults : W → ℕ) 
 -- a write that took a byte is no fault
 pub taken-some : (old n : ℕ) (bytes : List ℕ) → n ≢ 0 → count_of_taken old n bytes ≡ old
 taken-some old n bytes h = let e : (n == 0) ≡ false = search (rules, tests) in rw e refl
+
+-- the cause of an error is the sink's, by what the error was made of
+module _ {W : Type 0} (writes : W → List ℕ → Result ℕ Error → W → Type 0) (flushes : W → Result Unit Error → W → Type 0) where
+  pub write-cause : (line : ℕ) (why : Cause) (e : PropertiesError) (to : W) → IsError kind.Io (Some line) why e → CameFromWrite writes why to → CameFromSink writes flushes e to
+  write-cause line why e to is h = λ k. rw (is.1, is.2) h
+
+  pub flush-cause : (error : Error) (e : PropertiesError) (before to : W) → IsStreamError None error e → flushes before (Err error) to → CameFromSink writes flushes e to
+  flush-cause error e before to is h = λ k. rw (is.1, is.2) (before, h)

@@ -1,5 +1,5 @@
 -- What a contract sees of what cuts natural lines.
-use Rattle.std.specs.Prelude.{◌≡◌, ◌+◌, ℕ, false, Result, Ok, Err}
+use Rattle.std.specs.Prelude.{◌≡◌, ◌+◌, false, Result, Ok, Err}
 use Rattle.java_properties.specs.Reading.{Progress}
 use Rattle.java_properties.specs.declared.error.PropertiesError.{PropertiesError}
 use Rattle.java_properties.specs.declared.lines.NaturalLine.{NaturalLine}

@@ -1,5 +1,8 @@
 -- What a contract sees of an error.
-use Rattle.std.specs.Prelude.{◌≡◌, ℕ, Option, Some, None}
+use Rattle.std.specs.Prelude.{◌≡◌, ℕ, List, Option, Some, None}
+use Rattle.std.specs.Option.{option_map}
+use Rattle.std.specs.Str.{chars}
+use Rattle.std.specs.String.{string_bytes}
 use Rattle.java_properties.specs.declared.error.ErrorKind.{ErrorKind}
 use Rattle.java_properties.specs.declared.error.Cause.{Cause}
 use Rattle.java_properties.specs.declared.error.ErrorKind.TheVariants as kind
@@ -17,6 +20,10 @@ line_of e = e.line_number
 abbrev pub cause_of : PropertiesError → Cause
 cause_of e = e.cause
 
+-- the characters of the text that was refused, where one was
+abbrev pub refused_of : PropertiesError → Option (List ℕ)
+refused_of e = option_map (λ text. chars (string_bytes text)) e.refused
+
 -- an error of this kind, line and cause
 abbrev pub IsError : ErrorKind → Option ℕ → Cause → PropertiesError → Type 0
 IsError kind line cause e = (kind_of e ≡ kind) × (line_of e ≡ line) × (cause_of e ≡ cause)
@@ -28,3 +35,7 @@ IsPlain kind e = IsError kind None cause.None e
 -- a stream failed so, in this line if it is of one
 abbrev pub IsStreamError : Option ℕ → Error → PropertiesError → Type 0
 IsStreamError line error e = IsError kind.Io line (cause.Io error) e
+
+-- this text was refused, as of this kind
+abbrev pub IsRefusal : ErrorKind → List ℕ → PropertiesError → Type 0
+IsRefusal kind text e = IsPlain kind e × (refused_of e ≡ Some text)

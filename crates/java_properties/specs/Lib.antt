@@ -1,9 +1,13 @@
 pub mod Errors
-pub mod Encodings
 pub mod Streams
 pub mod Decoding
 pub mod Reading
 pub mod Cutting
 pub mod Iterating
 pub mod Lines
+pub mod Views
+pub mod SettingsTexts
+pub mod SettingsViews
+pub mod Contents
 pub mod Writing
+pub mod Calls

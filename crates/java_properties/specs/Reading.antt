@@ -1,6 +1,5 @@
 -- What an iterator is between calls, and what a call of it leaves.
 use Rattle.std.specs.Prelude.{◌≡◌, ◌+◌, ◌-◌, ◌^◌, ◌⊎◌, ℕ, Bool, true, false, if◌then◌else◌, List, Option, Some, None, Result, Ok, Err}
-use Rattle.counted_io.specs.Faults.{one_more}
 use Rattle.java_properties.specs.Streams.{HasRead, HasFailed}
 use Rattle.java_properties.specs.Errors.{IsPlain, IsStreamError}
 use Rattle.java_properties.specs.declared.error.ErrorKind.TheVariants as kind

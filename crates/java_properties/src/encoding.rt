@@ -1,7 +1,9 @@
-// Bytes to characters.
+// Bytes to characters, and characters to bytes.
 
-ghost use Rattle.std.specs.Prelude.{◌≡◌, false, IfOk};
-ghost use Rattle.java_properties.specs.Encodings.{output_of};
+ghost use Rattle.std.specs.Prelude.{◌≡◌, ◌++◌, ◌<◌, ◌==◌, false, length, [], position, is_some, unwrap_or, IfOk, IfSome, OnOk};
+ghost use Rattle.properties_format.specs.Encoding.{output_encoding, encoded};
+ghost use Rattle.properties_format.specs.Windows1252.{windows_1252_character, windows_1252_byte};
+ghost use Rattle.java_properties.specs.Views.{encoding_of};
 ghost use Rattle.java_properties.specs.Streams.{TakesChar};
 ghost use Rattle.java_properties.specs.Decoding.{decoded_reader, decoded_all, DecodesNext};
 
@@ -27,7 +29,7 @@ pub enum Encoding {
 impl Encoding {
     /// The encoding to write in: itself, but UTF-8 in the place of a form of UTF-16.
     pub fn output_encoding(self) -> Encoding
-        ensures { result ≡ output_of self }
+        ensures { encoding_of result ≡ output_encoding (encoding_of self) }
     {
         match self {
             Encoding::WINDOWS_1252 => Encoding::WINDOWS_1252,
@@ -44,24 +46,57 @@ const WINDOWS_1252_HIGH: [char; 32] = [
     '\u{2dc}', '\u{2122}', '\u{161}', '\u{203a}', '\u{153}', '\u{9d}', '\u{17e}', '\u{178}',
 ];
 
-fn windows_1252_character(byte: u8) -> char {
+fn windows_1252_character(byte: u8) -> char
+    ensures { result ≡ windows_1252_character byte }
+{
     match byte {
         0x80..=0x9f => WINDOWS_1252_HIGH[usize::from(byte - 0x80)],
         _ => char::from(byte),
     }
 }
 
-/// The byte of a character, where windows-1252 has one.
-pub fn windows_1252_byte(character: char) -> Option<u8> {
+// The byte of a character, where windows-1252 has one.
+fn windows_1252_byte(character: char) -> Option<u8>
+    ensures { result ≡ windows_1252_byte character }
+{
     match character {
         '\0'..='\x7f' | '\u{a0}'..='\u{ff}' => u8::try_from(u32::from(character)).ok(),
         _ => {
-            let at = WINDOWS_1252_HIGH
-                .iter()
-                .position(|high| *high == character)?;
-            u8::try_from(at + 0x80).ok()
+            let place = place_of(&WINDOWS_1252_HIGH, character)?;
+            u8::try_from(place + 0x80).ok()
         }
     }
+}
+
+// The first place of a character.
+fn place_of(characters: &[char], character: char) -> Option<usize>
+    ensures value { result ≡ position (λ c. c == character) characters.now }
+    ensures within { IfSome result (λ place. place < length characters.now) }
+{
+    characters.iter().position(|other| *other == character)
+}
+
+/// Appends the bytes of a character in the output encoding of an encoding, and says whether it has any.
+pub fn push_encoded(
+    bytes: &mut Vec<u8>,
+    encoding: Encoding,
+    character: char,
+) -> Result<bool, AllocError>
+    ensures said { IfOk result (λ done. done ≡ is_some (encoded (encoding_of encoding) character)) }
+    ensures appended { OnOk result (bytes.new.items ≡ bytes.old.items ++ unwrap_or (encoded (encoding_of encoding) character) []) }
+{
+    match encoding {
+        Encoding::WINDOWS_1252 => {
+            let Some(byte) = windows_1252_byte(character) else {
+                return Ok(false);
+            };
+            bytes.push(byte)?;
+        }
+        Encoding::UTF_8 | Encoding::UTF_16LE | Encoding::UTF_16BE => {
+            bytes.extend_from_slice(character.encode_utf8(&mut [0; 4]).as_bytes())?;
+        }
+    }
+    Ok(true)
 }
 
 /// What is held between characters. It is passed its reader at each call, and takes its memory when it is made.
@@ -98,6 +133,7 @@ pub struct DecodeIter<R> {
 }
 
 impl<R: CountedRead> DecodeIter<R> {
+    /// At the start of a reader, of which nothing is read yet.
     pub fn new(alloc: Global, reader: R) -> Result<DecodeIter<R>, AllocError>
         ensures { IfOk result (λ it. (decoded_reader it ≡ reader) × (decoded_all it ≡ false)) }
     {
@@ -124,3 +160,6 @@ impl<R: CountedRead> Iterator for DecodeIter<R> {
         answer
     }
 }
+
+#[cfg(test)]
+mod tests;

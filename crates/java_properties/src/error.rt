@@ -1,8 +1,10 @@
 // Why a call fails.
 
 ghost use Rattle.std.specs.Prelude.{◌≡◌, Some, None};
-ghost use Rattle.java_properties.specs.Errors.{kind_of, line_of, cause_of, IsError, IsPlain, IsStreamError};
-ghost use Rattle.java_properties.specs.declared.error.ErrorKind.TheVariants.{Io, Memory, TooManyLines};
+ghost use Rattle.std.specs.Str.{chars};
+ghost use Rattle.std.specs.String.{string_bytes};
+ghost use Rattle.java_properties.specs.Errors.{kind_of, line_of, cause_of, IsError, IsPlain, IsRefusal, IsStreamError};
+ghost use Rattle.java_properties.specs.declared.error.ErrorKind.TheVariants.{Io, BadCommentPrefix, BadKvSeparator, EmptyKey, TooManyLines, Failed, Memory};
 
 use std::alloc::{AllocError, AllocFailed};
 use std::error::Error;
@@ -48,12 +50,13 @@ pub enum Cause {
 
 /// Why a call failed, and in which line.
 ///
-/// It prints its kind in words and its line, as `I/O error (line_number = 3)`.
+/// It prints its kind in words and its line, as `I/O error (line_number = 3)`, and the text that was refused, where one was.
 #[derive(Debug, Drop)]
 pub struct PropertiesError {
     kind: ErrorKind,
     line_number: Option<usize>,
     cause: Cause,
+    refused: Option<String>,
 }
 
 impl PropertiesError {
@@ -86,6 +89,7 @@ impl PropertiesError {
             kind: ErrorKind::Io,
             line_number: Some(line_number),
             cause,
+            refused: None,
         }
     }
 
@@ -102,6 +106,43 @@ impl PropertiesError {
         PropertiesError::plain(ErrorKind::TooManyLines)
     }
 
+    /// A write failed before.
+    pub(crate) fn failed() -> PropertiesError
+        ensures { IsPlain Failed result }
+    {
+        PropertiesError::plain(ErrorKind::Failed)
+    }
+
+    /// An empty key can't be written before blanks alone.
+    pub(crate) fn empty_key() -> PropertiesError
+        ensures { IsPlain EmptyKey result }
+    {
+        PropertiesError::plain(ErrorKind::EmptyKey)
+    }
+
+    /// This text makes no comment.
+    pub(crate) fn bad_comment_prefix(prefix: String) -> PropertiesError
+        ensures { IsRefusal BadCommentPrefix (chars (string_bytes prefix)) result }
+    {
+        PropertiesError::refusal(ErrorKind::BadCommentPrefix, prefix)
+    }
+
+    /// This text ends no key.
+    pub(crate) fn bad_kv_separator(separator: String) -> PropertiesError
+        ensures { IsRefusal BadKvSeparator (chars (string_bytes separator)) result }
+    {
+        PropertiesError::refusal(ErrorKind::BadKvSeparator, separator)
+    }
+
+    fn refusal(kind: ErrorKind, text: String) -> PropertiesError
+        ensures { IsRefusal kind (chars (string_bytes text)) result }
+    {
+        PropertiesError {
+            refused: Some(text),
+            ..PropertiesError::plain(kind)
+        }
+    }
+
     fn plain(kind: ErrorKind) -> PropertiesError
         ensures { IsPlain kind result }
     {
@@ -109,6 +150,7 @@ impl PropertiesError {
             kind,
             line_number: None,
             cause: Cause::None,
+            refused: None,
         }
     }
 }
@@ -121,6 +163,7 @@ impl From<io::Error> for PropertiesError {
             kind: ErrorKind::Io,
             line_number: None,
             cause: Cause::Io(error),
+            refused: None,
         }
     }
 }
@@ -144,6 +187,9 @@ impl<T: Drop> From<AllocFailed<T>> for PropertiesError {
 impl fmt::Display for PropertiesError {
     fn fmt<W: fmt::Write>(&self, f: &mut fmt::Formatter<W>) -> fmt::Result {
         write!(f, "{}", self.kind.description())?;
+        if let Some(text) = &self.refused {
+            write!(f, ": {text:?}")?;
+        }
         match self.line_number {
             Some(number) => write!(f, " (line_number = {number})"),
             None => write!(f, " (line_number = unknown)"),
@@ -170,3 +216,6 @@ impl ErrorKind {
         }
     }
 }
+
+#[cfg(test)]
+mod tests;

@@ -28,4 +28,4 @@ pub use encoding::Encoding;
 pub use error::{Cause, ErrorKind, PropertiesError};
 pub use iter::PropertiesIter;
 pub use line::{Line, LineContent};
-pub use writer::PropertiesWriter;
+pub use writer::{Call, LineEnding, PropertiesWriter, run_calls};

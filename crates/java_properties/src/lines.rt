@@ -151,6 +151,7 @@ pub struct NaturalLines<R> {
 }
 
 impl<R: CountedRead> NaturalLines<R> {
+    /// At the start of a reader, of which nothing is read yet.
     pub fn new(alloc: Global, reader: R) -> NaturalLines<R>
         ensures progress { lines_progress result ≡ fresh }
         ensures reader { lines_reader result ≡ reader }

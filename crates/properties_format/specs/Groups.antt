@@ -42,7 +42,7 @@ abbrev pub AreOpen : List Line → Type 0
 AreOpen [] = Unit {0}
 AreOpen (l ∷ ls) = (is_open l.text ≡ true) × AreOpen ls
 
--- A whole group is a marked line alone, or begins with an unmarked line, and all but its last line are open.
+-- A whole group is a marked line alone, or begins with an unmarked line, all but its last line are open, and the last is not.
 abbrev pub IsWhole : List Line → Type 0
 IsWhole [] = ⊥
 IsWhole (l ∷ ls) = (is_marked l.text ≡ true) × (ls ≡ []) ⊎ (is_marked l.text ≡ false) × EndsClosed l ls

@@ -1,21 +1,114 @@
 // Texts as they are printed.
 
-ghost use Rattle.std.specs.Prelude.{◌<◌};
+ghost use Rattle.std.specs.Prelude.{◌≡◌, ◌++◌, ◌∷◌, ◌<◌, [], OnOk};
+ghost use Rattle.std.specs.Char.{digit_char};
+ghost use Rattle.std.specs.Str.{chars};
+ghost use Rattle.properties_format.specs.Text.{backslash};
+ghost use Rattle.properties_format.specs.Printing.{unit_escape, unicode_escape, literal, spelt, spelt_text, encoded_text, is_mark_like, shielded, spelt_key, in_key_or_value, in_comment};
+ghost use Rattle.java_properties.specs.Views.{encoding_of, place_of};
 
-use crate::encoding::windows_1252_byte;
+use crate::encoding::{Encoding, push_encoded};
 use std::alloc::AllocError;
 
 const HEXADECIMAL: [u8; 16] = *b"0123456789abcdef";
 
-/// Prints a key or a value, so that it is read back as it is.
-pub fn print_text(line: &mut Vec<u8>, text: &str) -> Result<(), AllocError> {
+/// Where a text stands in a line, which says what is escaped.
+#[derive(Clone, Copy)]
+pub enum Place {
+    /// All that would not be read back as itself.
+    KeyOrValue,
+    /// The backslash, and what ends lines.
+    Comment,
+    /// Nothing but what the encoding lacks.
+    Prefix,
+}
+
+/// Prints a text in the output encoding of an encoding.
+pub fn print_text(
+    line: &mut Vec<u8>,
+    encoding: Encoding,
+    place: Place,
+    text: &str,
+) -> Result<(), AllocError>
+    ensures printed { OnOk result (line.new.items ≡ line.old.items ++ encoded_text (encoding_of encoding) (spelt_text (encoding_of encoding) (place_of place) (chars text.now))) }
+{
     for character in text.chars() {
-        print_character(line, character)?;
+        print_character(line, encoding, place, character)?;
     }
     Ok(())
 }
 
-fn print_character(line: &mut Vec<u8>, character: char) -> Result<(), AllocError> {
+/// Prints a key. At the front of the first line it isn't to be taken for a byte order mark.
+pub fn print_key(
+    line: &mut Vec<u8>,
+    encoding: Encoding,
+    first: bool,
+    key: &str,
+) -> Result<(), AllocError>
+    ensures printed { OnOk result (line.new.items ≡ line.old.items ++ encoded_text (encoding_of encoding) (spelt_key (encoding_of encoding) first (chars key.now))) }
+{
+    if first && is_mark_like(encoding, key) {
+        return print_shielded(line, encoding, key);
+    }
+    print_text(line, encoding, Place::KeyOrValue, key)
+}
+
+/// Appends a text as it is.
+pub fn print_raw(line: &mut Vec<u8>, text: &str) -> Result<(), AllocError>
+    ensures printed { OnOk result (line.new.items ≡ line.old.items ++ text.now) }
+{
+    line.extend_from_slice(text.as_bytes())
+}
+
+// Whether a key's bytes begin like a byte order mark, by its first characters alone.
+fn is_mark_like(encoding: Encoding, key: &str) -> bool
+    ensures { result ≡ is_mark_like (encoding_of encoding) (chars key.now) }
+{
+    match encoding {
+        Encoding::WINDOWS_1252 => {
+            key.starts_with("\u{ef}\u{bb}\u{bf}")
+                || key.starts_with("\u{fe}\u{ff}")
+                || key.starts_with("\u{ff}\u{fe}")
+        }
+        Encoding::UTF_8 | Encoding::UTF_16LE | Encoding::UTF_16BE => key.starts_with("\u{feff}"),
+    }
+}
+
+// A key with its first character as an escape.
+fn print_shielded(line: &mut Vec<u8>, encoding: Encoding, key: &str) -> Result<(), AllocError>
+    ensures printed { OnOk result (line.new.items ≡ line.old.items ++ encoded_text (encoding_of encoding) (shielded (encoding_of encoding) (chars key.now))) }
+{
+    let mut characters = key.chars();
+    let Some(character) = characters.next() else {
+        return Ok(());
+    };
+    print_escape(line, character)?;
+    print_text(line, encoding, Place::KeyOrValue, characters.as_str())
+}
+
+fn print_character(
+    line: &mut Vec<u8>,
+    encoding: Encoding,
+    place: Place,
+    character: char,
+) -> Result<(), AllocError>
+    ensures printed { OnOk result (line.new.items ≡ line.old.items ++ encoded_text (encoding_of encoding) (spelt (encoding_of encoding) (place_of place) character)) }
+{
+    match place {
+        Place::KeyOrValue => print_in_key_or_value(line, encoding, character),
+        Place::Comment => print_in_comment(line, encoding, character),
+        Place::Prefix => print_literal(line, encoding, character),
+    }
+}
+
+#[tactic(auto, using(crate::proofs::Printing::encoded_pair, crate::proofs::Printing::encoded_escape))]
+fn print_in_key_or_value(
+    line: &mut Vec<u8>,
+    encoding: Encoding,
+    character: char,
+) -> Result<(), AllocError>
+    ensures printed { OnOk result (line.new.items ≡ line.old.items ++ encoded_text (encoding_of encoding) (spelt (encoding_of encoding) in_key_or_value character)) }
+{
     match character {
         '\t' => print_after_backslash(line, b't'),
         '\n' => print_after_backslash(line, b'n'),
@@ -27,25 +120,47 @@ fn print_character(line: &mut Vec<u8>, character: char) -> Result<(), AllocError
         ':' => print_after_backslash(line, b':'),
         '=' => print_after_backslash(line, b'='),
         '\\' => print_after_backslash(line, b'\\'),
-        '\0'..='\x1f' => print_escape(line, character),
-        _ => match windows_1252_byte(character) {
-            Some(byte) => print_byte(line, byte),
-            None => print_escape(line, character),
-        },
+        _ if character < ' ' => print_escape(line, character),
+        _ => print_literal(line, encoding, character),
     }
 }
 
-fn print_byte(line: &mut Vec<u8>, byte: u8) -> Result<(), AllocError> {
-    line.push(byte)?;
-    Ok(())
+fn print_in_comment(
+    line: &mut Vec<u8>,
+    encoding: Encoding,
+    character: char,
+) -> Result<(), AllocError>
+    ensures printed { OnOk result (line.new.items ≡ line.old.items ++ encoded_text (encoding_of encoding) (spelt (encoding_of encoding) in_comment character)) }
+{
+    match character {
+        '\n' => print_after_backslash(line, b'n'),
+        '\r' => print_after_backslash(line, b'r'),
+        '\\' => print_after_backslash(line, b'\\'),
+        _ => print_literal(line, encoding, character),
+    }
 }
 
-fn print_after_backslash(line: &mut Vec<u8>, byte: u8) -> Result<(), AllocError> {
+// As itself, or where the encoding lacks it as an escape.
+#[tactic(auto, using(crate::proofs::Printing::literal_known))]
+fn print_literal(line: &mut Vec<u8>, encoding: Encoding, character: char) -> Result<(), AllocError>
+    ensures printed { OnOk result (line.new.items ≡ line.old.items ++ encoded_text (encoding_of encoding) (literal (encoding_of encoding) character)) }
+{
+    if push_encoded(line, encoding, character)? {
+        return Ok(());
+    }
+    print_escape(line, character)
+}
+
+fn print_after_backslash(line: &mut Vec<u8>, byte: u8) -> Result<(), AllocError>
+    ensures printed { OnOk result (line.new.items ≡ line.old.items ++ (backslash ∷ byte ∷ [])) }
+{
     line.extend_from_slice(&[b'\\', byte])
 }
 
 // As `\u` and four digits, or as two such escapes of a high and a low surrogate.
-fn print_escape(line: &mut Vec<u8>, character: char) -> Result<(), AllocError> {
+fn print_escape(line: &mut Vec<u8>, character: char) -> Result<(), AllocError>
+    ensures printed { OnOk result (line.new.items ≡ line.old.items ++ unicode_escape character) }
+{
     let code = u32::from(character);
     if code < 0x1_0000 {
         return print_unit(line, code);
@@ -56,12 +171,12 @@ fn print_escape(line: &mut Vec<u8>, character: char) -> Result<(), AllocError> {
 }
 
 fn print_unit(line: &mut Vec<u8>, unit: u32) -> Result<(), AllocError>
-    requires { unit < 0x1_0000 }
+    ensures printed { OnOk result (line.new.items ≡ line.old.items ++ unit_escape unit) }
 {
     line.extend_from_slice(&[
         b'\\',
         b'u',
-        hexadecimal_digit(unit / 0x1000),
+        hexadecimal_digit(unit / 0x1000 % 0x10),
         hexadecimal_digit(unit / 0x100 % 0x10),
         hexadecimal_digit(unit / 0x10 % 0x10),
         hexadecimal_digit(unit % 0x10),
@@ -70,6 +185,10 @@ fn print_unit(line: &mut Vec<u8>, unit: u32) -> Result<(), AllocError>
 
 fn hexadecimal_digit(value: u32) -> u8
     requires { value < 16 }
+    ensures { result ≡ digit_char value }
 {
     HEXADECIMAL[value as usize]
 }
+
+#[cfg(test)]
+mod tests;

@@ -1,0 +1,12 @@
+use Rattle.std.proofs.Common.{refl, ap, sym}
+use Rattle.std.specs.Str.{chars}
+use Rattle.java_properties.specs.SettingsTexts.{prefix_of}
+use Rattle.java_properties.proofs.writer.settings.Settings.comment_prefix.Goals as goal
+
+pub returns-in-None-clause-value : goal.returns-in-None-clause-value
+unfolding chars
+returns-in-None-clause-value c = sym (ap prefix_of c.in-None.is)
+
+pub returns-in-None-clause-good : goal.returns-in-None-clause-good
+unfolding chars
+returns-in-None-clause-good c = refl

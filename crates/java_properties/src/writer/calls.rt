@@ -1,0 +1,93 @@
+// Calls of a writer as values.
+
+ghost use Rattle.std.specs.Prelude.{◌≡◌, true, IfErr};
+ghost use Rattle.java_properties.specs.Streams.{CameFromSink};
+ghost use Rattle.java_properties.specs.Writing.{writer_state, writer_sink};
+ghost use Rattle.java_properties.specs.Calls.{calls_in, call_in, CallGives, RunGives, Answered};
+
+use crate::error::{ErrorKind, PropertiesError};
+use crate::writer::{LineEnding, PropertiesWriter};
+use counted_io::CountedWrite;
+use std::alloc::Global;
+
+/// A call of a writer: a line, a setting or a flush.
+#[derive(Drop)]
+pub enum Call {
+    /// Write a comment.
+    Comment(String),
+    /// Write a key and its value.
+    Pair(String, String),
+    /// Set the prefix of comments.
+    Prefix(String),
+    /// Set the separator of keys and values.
+    Separator(String),
+    /// Set the line ending.
+    Ending(LineEnding),
+    /// Flush the sink.
+    Flush,
+}
+
+/// Makes the calls in order, and answers for each whether it was accepted.
+///
+/// A bad prefix, a bad separator and an empty key under a separator of blanks are not accepted, change nothing, and
+/// the calls go on. Any other error ends them, and is the answer: the calls before it have been made.
+///
+/// ```text
+/// let calls = vec![in alloc; Call::Ending(LineEnding::CRLF), Call::Pair(key, value), Call::Flush]?;
+/// let accepted = run_calls(alloc, calls.as_slice(), &mut writer)?;
+/// ```
+pub fn run_calls<W: CountedWrite>(
+    alloc: Global,
+    calls: &[Call],
+    writer: &mut PropertiesWriter<W>,
+) -> Result<Vec<bool>, PropertiesError>
+    ensures runs { RunGives (λ v. v.items) W.contents W.faults W.is_flushed (calls_in calls.now) (writer_state writer.old) (writer_sink writer.old) result (writer_state writer.new) (writer_sink writer.new) }
+    ensures untouched { (writer_state writer.old).failed ≡ true → writer_sink writer.new ≡ writer_sink writer.old }
+    ensures cause { IfErr result (λ e. CameFromSink W.write_gives W.flush_gives e (writer_sink writer.new)) }
+    ensures same_reference { W.identity (writer_sink writer.new) ≡ W.identity (writer_sink writer.old) }
+{
+    let mut answers = Vec::with_capacity(alloc, calls.len())?;
+    for call in calls {
+        let accepted = run_call(call, writer)?;
+        // There is room for an answer to each call.
+        answers.push(accepted).unwrap();
+    }
+    Ok(answers)
+}
+
+fn run_call<W: CountedWrite>(
+    call: &Call,
+    writer: &mut PropertiesWriter<W>,
+) -> Result<bool, PropertiesError>
+    ensures gives { CallGives W.contents W.faults W.is_flushed (call_in call.now) (writer_state writer.old) (writer_sink writer.old) result (writer_state writer.new) (writer_sink writer.new) }
+    ensures untouched { (writer_state writer.old).failed ≡ true → writer_sink writer.new ≡ writer_sink writer.old }
+    ensures cause { IfErr result (λ e. CameFromSink W.write_gives W.flush_gives e (writer_sink writer.new)) }
+    ensures same_reference { W.identity (writer_sink writer.new) ≡ W.identity (writer_sink writer.old) }
+{
+    match call {
+        Call::Comment(text) => answer_of(writer.write_comment(text.as_str())),
+        Call::Pair(key, value) => answer_of(writer.write(key.as_str(), value.as_str())),
+        Call::Prefix(prefix) => answer_of(writer.set_comment_prefix(prefix.as_str())),
+        Call::Separator(separator) => answer_of(writer.set_kv_separator(separator.as_str())),
+        Call::Ending(line_ending) => {
+            writer.set_line_ending(*line_ending);
+            Ok(true)
+        }
+        Call::Flush => answer_of(writer.flush()),
+    }
+}
+
+// Whether the call was accepted, or the error that ends the calls.
+fn answer_of(answer: Result<(), PropertiesError>) -> Result<bool, PropertiesError>
+    ensures { Answered answer result }
+{
+    match answer {
+        Ok(()) => Ok(true),
+        Err(error) => match error.kind() {
+            ErrorKind::BadCommentPrefix | ErrorKind::BadKvSeparator | ErrorKind::EmptyKey => {
+                Ok(false)
+            }
+            _ => Err(error),
+        },
+    }
+}

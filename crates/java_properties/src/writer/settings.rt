@@ -1,0 +1,184 @@
+// What a writer is set to.
+
+ghost use Rattle.std.specs.Prelude.{◌≡◌, true};
+ghost use Rattle.std.specs.Str.{chars};
+ghost use Rattle.properties_format.specs.Text.{line_end_text, is_blank, is_line_end, is_comment_mark, is_separator};
+ghost use Rattle.properties_format.specs.Settings.{is_good_prefix, is_good_separator};
+ghost use Rattle.java_properties.specs.SettingsTexts.{ending_of, prefix_of, separator_of};
+
+use crate::error::PropertiesError;
+use std::alloc::Global;
+
+/// What ends each line that is written.
+#[derive(Clone, Copy, Debug, PartialEq, Eq)]
+pub enum LineEnding {
+    /// A carriage return.
+    CR,
+    /// A line feed.
+    LF,
+    /// A carriage return and a line feed.
+    CRLF,
+}
+
+impl LineEnding {
+    pub(crate) fn as_str(self) -> &'static str
+        ensures { chars result.now ≡ line_end_text (ending_of self) }
+    {
+        match self {
+            LineEnding::CR => "\r",
+            LineEnding::LF => "\n",
+            LineEnding::CRLF => "\r\n",
+        }
+    }
+}
+
+/// What stands before a comment and between a key and its value, and what ends a line. A text that is `None` is the one of a new writer.
+#[derive(Drop)]
+pub(crate) struct Settings {
+    comment_prefix: Option<String>,
+    kv_separator: Option<String>,
+    line_ending: LineEnding,
+    ghost good_prefix: { is_good_prefix (prefix_of comment_prefix) ≡ true },
+    ghost good_separator: { is_good_separator (separator_of kv_separator) ≡ true },
+}
+
+impl Settings {
+    ghost use Rattle.properties_format.specs.Settings.{default_settings};
+    ghost use Rattle.java_properties.specs.SettingsViews.{settings_of, SetsPrefix, SetsSeparator, SetsEnding};
+
+    /// Those of a new writer, which take no memory.
+    pub fn new() -> Settings
+        ensures { settings_of result ≡ default_settings }
+    {
+        Settings {
+            comment_prefix: None,
+            kv_separator: None,
+            line_ending: LineEnding::LF,
+        }
+    }
+
+    /// What stands before the text of a comment.
+    pub fn comment_prefix(&self) -> &str
+        ensures value { chars result.now ≡ (settings_of self.now).comment_prefix }
+        ensures good { is_good_prefix (chars result.now) ≡ true }
+    {
+        match &self.comment_prefix {
+            Some(prefix) => prefix.as_str(),
+            None => "# ",
+        }
+    }
+
+    /// What stands between a key and its value.
+    pub fn kv_separator(&self) -> &str
+        ensures value { chars result.now ≡ (settings_of self.now).kv_separator }
+        ensures good { is_good_separator (chars result.now) ≡ true }
+    {
+        match &self.kv_separator {
+            Some(separator) => separator.as_str(),
+            None => "=",
+        }
+    }
+
+    /// What ends a line.
+    pub fn line_ending(&self) -> LineEnding
+        ensures { ending_of result ≡ (settings_of self.now).line_ending }
+    {
+        self.line_ending
+    }
+
+    /// Sets what stands before the text of a comment, unless it makes no comment. The allocator is for a copy of the text, which the error has too.
+    pub fn set_comment_prefix(&mut self, alloc: Global, prefix: &str) -> Result<(), PropertiesError>
+        ensures { SetsPrefix (settings_of self.old) (chars prefix.now) result (settings_of self.new) }
+    {
+        let copy = String::from_str(alloc, prefix)?;
+        if !is_good_prefix(prefix) {
+            return Err(PropertiesError::bad_comment_prefix(copy));
+        }
+        self.comment_prefix = Some(copy);
+        Ok(())
+    }
+
+    /// Sets what stands between a key and its value, unless it doesn't end a key. The allocator is for a copy of the text, which the error has too.
+    pub fn set_kv_separator(
+        &mut self,
+        alloc: Global,
+        separator: &str,
+    ) -> Result<(), PropertiesError>
+        ensures { SetsSeparator (settings_of self.old) (chars separator.now) result (settings_of self.new) }
+    {
+        let copy = String::from_str(alloc, separator)?;
+        if !is_good_separator(separator) {
+            return Err(PropertiesError::bad_kv_separator(copy));
+        }
+        self.kv_separator = Some(copy);
+        Ok(())
+    }
+
+    /// Sets what ends a line.
+    pub fn set_line_ending(&mut self, line_ending: LineEnding)
+        ensures { SetsEnding (settings_of self.old) (ending_of line_ending) (settings_of self.new) }
+    {
+        self.line_ending = line_ending;
+    }
+}
+
+/// Whether the text makes a comment of what comes after it: blanks or none, a comment mark, and no line end.
+pub(crate) fn is_good_prefix(text: &str) -> bool
+    ensures { result ≡ is_good_prefix (chars text.now) }
+{
+    let mut marked = false;
+    for character in text.chars() {
+        if marked {
+            if is_line_end(character) {
+                return false;
+            }
+        } else if is_comment_mark(character) {
+            marked = true;
+        } else if !is_blank(character) {
+            return false;
+        }
+    }
+    marked
+}
+
+/// Whether the text ends a key that stands before it: one colon or equals sign with blanks around it or none, or blanks alone.
+pub(crate) fn is_good_separator(text: &str) -> bool
+    ensures { result ≡ is_good_separator (chars text.now) }
+{
+    let mut signed = false;
+    for character in text.chars() {
+        if is_separator(character) && !signed {
+            signed = true;
+        } else if !is_blank(character) {
+            return false;
+        }
+    }
+    !text.is_empty()
+}
+
+pub(super) fn is_blank(character: char) -> bool
+    ensures { result ≡ is_blank character }
+{
+    matches!(character, ' ' | '\t' | '\x0c')
+}
+
+fn is_line_end(character: char) -> bool
+    ensures { result ≡ is_line_end character }
+{
+    matches!(character, '\n' | '\r')
+}
+
+fn is_comment_mark(character: char) -> bool
+    ensures { result ≡ is_comment_mark character }
+{
+    matches!(character, '#' | '!')
+}
+
+fn is_separator(character: char) -> bool
+    ensures { result ≡ is_separator character }
+{
+    matches!(character, '=' | ':')
+}
+
+#[cfg(test)]
+mod tests;
