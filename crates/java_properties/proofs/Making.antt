@@ -1,14 +1,14 @@
 -- Calls of a writer in turn, and what each gives.
-use Rattle.std.proofs.Common.{◌≡◌, ◌⊎◌, ℕ, ◌+◌, Bool, true, false, List, [], ◌∷◌, ◌++◌, refl, ap, sym, ◌∙◌, inl, inr, append-nil, cond, subst, zero, suc, ◌<◌, length, take, drop, get_or, add-one, arith}
-use Rattle.std.specs.Prelude.{Option, Some, None, Result, Ok, Err, is_some, not, ◌&&◌, map}
+use Rattle.std.proofs.Common.{◌≡◌, ℕ, ◌+◌, Bool, true, false, List, [], ◌∷◌, ◌++◌, refl, ap, sym, ◌∙◌, inl, inr, append-nil, cond, subst, zero, suc, ◌<◌, length, take, drop, get_or, add-one, arith}
+use Rattle.std.specs.Prelude.{Option, Some, None, Result, Ok, Err, is_some, map}
 use Rattle.std.specs.Io.KnownBytes.{Appends, Keeps}
-use Rattle.counted_io.specs.Faults.{one_more}
 use Rattle.properties_format.specs.Entries.{Content, comment, pair}
-use Rattle.properties_format.specs.Settings.{Settings, is_good_prefix, is_good_separator}
-use Rattle.properties_format.specs.Writing.{Call, comment_call, pair_call, prefix_call, separator_call, ending_call, flush_call, is_accepted, settings_after_call, settings_after, lines_with, lines_after, line_of, wrote, answers}
-use Rattle.properties_format.specs.Text.{LineEnd}
-use Rattle.properties_format.proofs.Writing.{settings_after-append, lines_after-append, wrote-append, answers-append}
-use Rattle.java_properties.specs.Writing.{Writer, WritesLine, Flushes, IsRefusedLine, TakesLine, next_line, call_of}
+use Rattle.properties_format.specs.Settings.{Settings}
+use Rattle.properties_format.specs.Reading.Settings.{is_good_prefix, is_good_separator}
+use Rattle.properties_format.specs.Writing.{Call, comment_call, pair_call, prefix_call, separator_call, ending_call, flush_call, is_accepted, settings_after_call, settings_after, lines_with, line_count_after, written_line, answers}
+use Rattle.properties_format.specs.Text.{LineEnding}
+use Rattle.properties_format.proofs.Writing.{settings_after-append, line_count_after-append, wrote-append, answers-append}
+use Rattle.java_properties.specs.Writing.{Writer, WritesLine, Flushes, next_line}
 use Rattle.java_properties.specs.SettingsViews.{SetsPrefix, SetsSeparator}
 use Rattle.java_properties.specs.Errors.{kind_of, IsPlain}
 use Rattle.java_properties.specs.Calls.{is_not_accepted, Answered, after_calls, flushed_after, Made, FailsAt, CallGives, RunGives}
@@ -21,7 +21,7 @@ use Rattle.java_properties.proofs.Streams.{appends-none, appends-more}
 flushed-append : (s : Settings) (b : Bool) (xs ys : List Call) → flushed_after s b (xs ++ ys) ≡ flushed_after (settings_after s xs) (flushed_after s b xs) ys
 flushed-append s b [] ys = refl
 flushed-append s b (comment_call text ∷ xs) ys = flushed-append s false xs ys
-flushed-append s b (pair_call key value ∷ xs) ys = flushed-append s (cond (is_some (line_of s (pair_call key value))) false b) xs ys
+flushed-append s b (pair_call key value ∷ xs) ys = flushed-append s (cond (is_some (written_line s (pair_call key value))) false b) xs ys
 flushed-append s b (prefix_call prefix ∷ xs) ys = flushed-append (settings_after_call s (prefix_call prefix)) b xs ys
 flushed-append s b (separator_call separator ∷ xs) ys = flushed-append (settings_after_call s (separator_call separator)) b xs ys
 flushed-append s b (ending_call line_ending ∷ xs) ys = flushed-append (settings_after_call s (ending_call line_ending)) b xs ys
@@ -34,7 +34,7 @@ module _ {W : Type 0} (contents : W → Option (List ℕ)) (faults : W → ℕ) 
   -- what the last call keeps of the flushing
   last-flushed : (s : Settings) (b : Bool) (call : Call) (middle to : W) → (b ≡ true → is_flushed middle ≡ true)
       → (flushed_after s false (call ∷ []) ≡ true → is_flushed to ≡ true)
-      → (is_some (line_of s call) ≡ false → (call ≡ flush_call → ⊥) → to ≡ middle)
+      → (is_some (written_line s call) ≡ false → (call ≡ flush_call → ⊥) → to ≡ middle)
       → flushed_after s b (call ∷ []) ≡ true → is_flushed to ≡ true
   last-flushed s b (comment_call text) middle to before here same e = absurd (cc)
   last-flushed s b (pair_call key value) middle to before here same e = lined (is_accepted s (pair_call key value)) same e
@@ -63,8 +63,8 @@ module _ {W : Type 0} (contents : W → Option (List ℕ)) (faults : W → ℕ) 
     where
       after-append : (w : Writer) (done : List Call) (call : Call) → after_calls w (done ++ (call ∷ [])) ≡ after_calls (after_calls w done) (call ∷ [])
       after-append w done call =
-          ap (λ v. let x : Writer = record w { settings = v; lines = lines_after w.settings w.lines (done ++ (call ∷ [])) } in x) (settings_after-append w.settings done (call ∷ []))
-          ∙ ap (λ v. let x : Writer = record w { settings = settings_after (settings_after w.settings done) (call ∷ []); lines = v } in x) (lines_after-append w.settings w.lines done (call ∷ []))
+          ap (λ v. let x : Writer = record w { settings = v; lines = line_count_after w.settings w.lines (done ++ (call ∷ [])) } in x) (settings_after-append w.settings done (call ∷ []))
+          ∙ ap (λ v. let x : Writer = record w { settings = settings_after (settings_after w.settings done) (call ∷ []); lines = v } in x) (line_count_after-append w.settings w.lines done (call ∷ []))
 
   -- ---- what each call gives, by what it answered
 
@@ -79,7 +79,7 @@ module _ {W : Type 0} (contents : W → Option (List ℕ)) (faults : W → ℕ) 
 
   never-flushed : (s : Settings) (call : Call) → (call ≡ flush_call → ⊥) → flushed_after s false (call ∷ []) ≡ true → ⊥
   never-flushed s (comment_call text) other e = absurd (cc)
-  never-flushed s (pair_call key value) other e = both (is_some (line_of s (pair_call key value))) e
+  never-flushed s (pair_call key value) other e = both (is_some (written_line s (pair_call key value))) e
     where
       both : (b : Bool) → cond b false false ≡ true → ⊥
       both true e = absurd (cc)
@@ -90,7 +90,7 @@ module _ {W : Type 0} (contents : W → Option (List ℕ)) (faults : W → ℕ) 
   never-flushed s flush_call other e = other refl
 
   -- a call that writes no line, and is no flush
-  made-quiet : (call : Call) (w now : Writer) (from to : W) → line_of w.settings call ≡ None → (call ≡ flush_call → ⊥)
+  made-quiet : (call : Call) (w now : Writer) (from to : W) → written_line w.settings call ≡ None → (call ≡ flush_call → ⊥)
       → now ≡ record w { settings = settings_after_call w.settings call } → to ≡ from → Made contents faults is_flushed (call ∷ []) w from now to
   made-quiet call w now from to none other after same = record {
     after = after ∙ ap (λ v. let x : Writer = record w { settings = settings_after_call w.settings call; lines = lines_with w.lines v } in x) (sym none);
@@ -100,7 +100,7 @@ module _ {W : Type 0} (contents : W → Option (List ℕ)) (faults : W → ℕ) 
   }
 
   -- a call that writes a line
-  made-line : (call : Call) (line : Content) (w now : Writer) (from to : W) → line_of w.settings call ≡ Some line → (call ≡ flush_call → ⊥)
+  made-line : (call : Call) (line : Content) (w now : Writer) (from to : W) → written_line w.settings call ≡ Some line → (call ≡ flush_call → ⊥)
       → settings_after_call w.settings call ≡ w.settings → now ≡ record w { lines = w.lines + 1 }
       → Appends (contents from) (contents to) (next_line w line) → faults to ≡ faults from → Made contents faults is_flushed (call ∷ []) w from now to
   made-line call line w now from to some other kept after appended count = record {
@@ -112,10 +112,10 @@ module _ {W : Type 0} (contents : W → Option (List ℕ)) (faults : W → ℕ) 
     flushed = λ e. absurd (never-flushed w.settings call other e);
   }
 
-  line-of-pair : (s : Settings) (key value : List ℕ) → is_accepted s (pair_call key value) ≡ true → line_of s (pair_call key value) ≡ Some (pair key value)
+  line-of-pair : (s : Settings) (key value : List ℕ) → is_accepted s (pair_call key value) ≡ true → written_line s (pair_call key value) ≡ Some (pair key value)
   line-of-pair s key value h = ap (λ b. cond b (Some (pair key value)) None) h
 
-  no-line-of-pair : (s : Settings) (key value : List ℕ) → is_accepted s (pair_call key value) ≡ false → line_of s (pair_call key value) ≡ None
+  no-line-of-pair : (s : Settings) (key value : List ℕ) → is_accepted s (pair_call key value) ≡ false → written_line s (pair_call key value) ≡ None
   no-line-of-pair s key value h = ap (λ b. cond b (Some (pair key value)) None) h
 
   pub comment-gives : (w : Writer) (text : List ℕ) (from : W) (answer : Result Unit PropertiesError) (now : Writer) (to : W) (result : Result Bool PropertiesError)
@@ -187,7 +187,7 @@ module _ {W : Type 0} (contents : W → Option (List ℕ)) (faults : W → ℕ) 
   separator-gives w separator from (Err e) now to result (after, inr plain) kept same is =
       let no = is_not-plain kind.Memory e plain in rw (answered-error e result no is) (no, (plain, set-to w now w.settings kept after, same))
 
-  pub ending-gives : (w : Writer) (line_ending : LineEnd) (from : W) (now : Writer) (to : W)
+  pub ending-gives : (w : Writer) (line_ending : LineEnding) (from : W) (now : Writer) (to : W)
       → now ≡ record w { settings = record w.settings { line_ending = line_ending } } → to ≡ from
       → CallGives contents faults is_flushed (ending_call line_ending) w from (Ok true) now to
   ending-gives w line_ending from now to after same =

@@ -12,10 +12,10 @@ use Rattle.std.proofs.lemmas.Bool.{cases_Bool, cond-false, and_parts, false_from
 use Rattle.std.proofs.lemmas.Str.{chars-append, chars-encodes, encodes-chars, encodes-append, scalars-chars}
 use Rattle.std.proofs.lemmas.List.Elements.{All-nil, All-cons}
 use Rattle.properties_format.specs.Text.{scalar}
-use Rattle.properties_format.specs.Encoding.{Encoding, windows_1252, utf_8, utf_16le, utf_16be, begins_with, begins_like_mark, output_encoding}
-use Rattle.properties_format.specs.Printing.{Place, in_key_or_value, in_comment, in_prefix, spelt, spelt_text, encoded_text, is_mark_like}
-use Rattle.properties_format.proofs.EncodingCharacters.{encoded-output}
-use Rattle.properties_format.proofs.MarkLike.{is_mark_like-utf_8}
+use Rattle.properties_format.specs.Encoding.{Encoding, windows_1252, utf_8, utf_16le, utf_16be, begins_with, begins_like_bom, output_encoding}
+use Rattle.properties_format.specs.Printing.{Place, in_key_or_value, in_comment, in_prefix, spelt, spelt_text, encoded_text, is_bom_like}
+use Rattle.properties_format.proofs.Encodings.Characters.{encoded-output}
+use Rattle.properties_format.proofs.Printing.BomLike.{is_bom_like-utf_8}
 
 -- ---- A text that begins with another begins with its characters.
 
@@ -68,9 +68,9 @@ spelt_text-output : (e : Encoding) (place : Place) (xs : List ℕ) → spelt_tex
 spelt_text-output e place [] = refl
 spelt_text-output e place (c ∷ cs) = ap₂ (λ x xs. x ++ xs) (spelt-output e place c) (spelt_text-output e place cs)
 
-is_mark_like-output : (e : Encoding) (key : List ℕ) → is_mark_like (output_encoding e) key ≡ is_mark_like e key
-is_mark_like-output e key =
-    ap begins_like_mark (
+is_bom_like-output : (e : Encoding) (key : List ℕ) → is_bom_like (output_encoding e) key ≡ is_bom_like e key
+is_bom_like-output e key =
+    ap begins_like_bom (
     ap (encoded_text (output_encoding e)) (spelt_text-output e in_key_or_value key) ∙ encoded_text-output e (spelt_text e in_key_or_value key)
     )
 
@@ -90,6 +90,6 @@ scalars-all (c ∷ cs) h =
     let p = and_parts (is_scalar c) (all_scalars cs) h in
     All-cons scalar c cs (scalar-is c p.0) (scalars-all cs p.1)
 
-pub mark_like_utf_8 : (e : Encoding) (bs : List ℕ) → output_encoding e ≡ utf_8 → IsUtf8 bs → is_mark_like e (chars bs) ≡ begins_with (0xfeff ∷ []) (chars bs)
+pub mark_like_utf_8 : (e : Encoding) (bs : List ℕ) → output_encoding e ≡ utf_8 → IsUtf8 bs → is_bom_like e (chars bs) ≡ begins_with (0xfeff ∷ []) (chars bs)
 mark_like_utf_8 e bs h u =
-    sym (is_mark_like-output e (chars bs)) ∙ ap (λ v. is_mark_like v (chars bs)) h ∙ is_mark_like-utf_8 (chars bs) (scalars-all (chars bs) (scalars-chars bs u))
+    sym (is_bom_like-output e (chars bs)) ∙ ap (λ v. is_bom_like v (chars bs)) h ∙ is_bom_like-utf_8 (chars bs) (scalars-all (chars bs) (scalars-chars bs u))

@@ -7,7 +7,7 @@ use Rattle.std.proofs.lemmas.Str.{encodes-chars, encode_ascii}
 use Rattle.properties_format.specs.Text.{backslash}
 use Rattle.properties_format.specs.Encoding.{Encoding, encoded}
 use Rattle.properties_format.specs.Printing.{Place, in_key_or_value, unit_escape, high_surrogate, low_surrogate, unicode_escape, literal, is_special, has_letter, letter_escape, spelt, spelt_text, encoded_text}
-use Rattle.properties_format.proofs.Printing.{encoded_text-append, spelt_text-append, AreAscii, encoded_text-ascii, unicode_escape-ascii}
+use Rattle.properties_format.proofs.Printing.Characters.{encoded_text-append, spelt_text-append, AreAscii, encoded_text-ascii, unicode_escape-ascii}
 
 -- a backslash and an ASCII character are their own bytes
 pub encoded_pair : (e : Encoding) (b : ℕ) → b < 0x80 → encoded_text e (backslash ∷ b ∷ []) ≡ backslash ∷ b ∷ []
@@ -25,7 +25,7 @@ nothing : (o : Option (List ℕ)) → is_some o ≡ false → unwrap_or o [] ≡
 nothing None h = refl
 nothing (Some x) h = cc
 
--- what it lacks is escaped, behind what was appended for it, which is nothing
+-- what it lacks is escaped, after what was appended for it, which is nothing
 pub literal_lacked : (e : Encoding) (c : ℕ) (before at : List ℕ) → is_some (encoded e c) ≡ false → at ≡ before ++ unwrap_or (encoded e c) []
     → before ++ encoded_text e (literal e c) ≡ at ++ unicode_escape c
 literal_lacked e c before at h k =
@@ -69,10 +69,10 @@ printed_more e place before xs c =
     ∙ ap (encoded_text e) (sym (spelt_text-append e place xs (c ∷ [])))
     )
 
--- an escape, and the text behind it
-pub shielded_more : (e : Encoding) (place : Place) (before cs : List ℕ) (c : ℕ)
+-- an escape, and the text after it
+pub first_escaped_more : (e : Encoding) (place : Place) (before cs : List ℕ) (c : ℕ)
     → (before ++ unicode_escape c) ++ encoded_text e (spelt_text e place cs) ≡ before ++ encoded_text e (unicode_escape c ++ spelt_text e place cs)
-shielded_more e place before cs c =
+first_escaped_more e place before cs c =
     append_assoc before (unicode_escape c) (encoded_text e (spelt_text e place cs))
     ∙ ap (λ v. before ++ v) (
     ap (λ v. v ++ encoded_text e (spelt_text e place cs)) (sym (encoded_escape e c)) ∙ sym (encoded_text-append e (unicode_escape c) (spelt_text e place cs))

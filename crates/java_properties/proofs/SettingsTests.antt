@@ -8,9 +8,10 @@ use Rattle.std.specs.Str.{IsUtf8, chars}
 use Rattle.std.proofs.lemmas.Bool.{cond-true, cond-false}
 use Rattle.std.proofs.lemmas.Str.{chars_past_char, chars-nil, encodes-chars, length-le-encodes}
 use Rattle.std.proofs.lemmas.List.{nil_from_length}
-use Rattle.properties_format.specs.Text.{is_blank, is_line_end, is_comment_mark, is_separator}
-use Rattle.properties_format.specs.Settings.{is_blanks, is_plain, is_good_prefix, is_signed_separator, is_good_separator}
-use Rattle.properties_format.proofs.Settings.{mark_not_blank, separator_not_blank}
+use Rattle.properties_format.specs.Text.{is_blank, is_line_end, is_comment_sign, is_separator}
+use Rattle.properties_format.specs.Reading.Settings.{holds_no_line_end}
+use Rattle.properties_format.specs.Reading.Settings.{is_blanks, is_good_prefix, is_signed_separator, is_good_separator}
+use Rattle.properties_format.proofs.Settings.Tests.{sign_not_blank, separator_not_blank}
 
 -- a text is empty where it has no byte
 pub chars-empty : (bs : List ℕ) → length bs ≡ 0 → chars bs ≡ []
@@ -28,27 +29,27 @@ past_last test whole last bs e h k = sym (h ∙ ap test (chars-empty bs e) ∙ k
 
 -- what is still to hold of a prefix, past its mark or before it
 abbrev pub prefix_left : Bool → List ℕ → Bool
-prefix_left true cs = is_plain cs
+prefix_left true cs = holds_no_line_end cs
 prefix_left false cs = is_good_prefix cs
 
-pub prefix_left-end : (marked : Bool) → prefix_left marked [] ≡ marked
+pub prefix_left-end : (signed : Bool) → prefix_left signed [] ≡ signed
 prefix_left-end true = refl
 prefix_left-end false = refl
 
 pub prefix_left-in_line : (c : ℕ) (cs : List ℕ) → is_line_end c ≡ false → prefix_left true (c ∷ cs) ≡ prefix_left true cs
-prefix_left-in_line c cs e = ap (λ v. not v && is_plain cs) e
+prefix_left-in_line c cs e = ap (λ v. not v && holds_no_line_end cs) e
 
 pub prefix_left-line_end : (c : ℕ) (cs : List ℕ) → is_line_end c ≡ true → prefix_left true (c ∷ cs) ≡ false
-prefix_left-line_end c cs e = ap (λ v. not v && is_plain cs) e
+prefix_left-line_end c cs e = ap (λ v. not v && holds_no_line_end cs) e
 
-pub prefix_left-mark : (c : ℕ) (cs : List ℕ) → is_comment_mark c ≡ true → prefix_left false (c ∷ cs) ≡ prefix_left true cs
-prefix_left-mark c cs e = cond-false (is_blank c) _ _ (mark_not_blank c e) ∙ ap (λ v. v && is_plain cs) e
+pub prefix_left-sign : (c : ℕ) (cs : List ℕ) → is_comment_sign c ≡ true → prefix_left false (c ∷ cs) ≡ prefix_left true cs
+prefix_left-sign c cs e = cond-false (is_blank c) _ _ (sign_not_blank c e) ∙ ap (λ v. v && holds_no_line_end cs) e
 
 pub prefix_left-blank : (c : ℕ) (cs : List ℕ) → is_blank c ≡ true → prefix_left false (c ∷ cs) ≡ prefix_left false cs
 prefix_left-blank c cs e = cond-true (is_blank c) _ _ e
 
-pub prefix_left-other : (c : ℕ) (cs : List ℕ) → is_comment_mark c ≡ false → is_blank c ≡ false → prefix_left false (c ∷ cs) ≡ false
-prefix_left-other c cs m e = cond-false (is_blank c) _ _ e ∙ ap (λ v. v && is_plain cs) m
+pub prefix_left-other : (c : ℕ) (cs : List ℕ) → is_comment_sign c ≡ false → is_blank c ≡ false → prefix_left false (c ∷ cs) ≡ false
+prefix_left-other c cs m e = cond-false (is_blank c) _ _ e ∙ ap (λ v. v && holds_no_line_end cs) m
 
 -- ---- separators
 

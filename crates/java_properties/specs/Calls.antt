@@ -1,8 +1,7 @@
 -- Lists of calls of a writer, and what making them does.
-use Rattle.std.specs.Prelude.{◌≡◌, ◌⊎◌, ◌+◌, ◌==◌, not, ℕ, Bool, true, false, if◌then◌else◌, List, [], ◌∷◌, ◌++◌, map, Option, Some, None, Result, Ok, Err, is_some, string_bytes}
+use Rattle.std.specs.Prelude.{◌≡◌, ◌⊎◌, ℕ, Bool, true, false, if◌then◌else◌, List, [], ◌∷◌, ◌++◌, map, Option, Result, Ok, Err, is_some, string_bytes}
 use Rattle.std.specs.Str.{chars}
 use Rattle.std.specs.Io.KnownBytes.{Appends}
-use Rattle.properties_format.specs.Encoding.{Encoding}
 use Rattle.properties_format.specs.Settings.{Settings}
 use Rattle.properties_format.specs.Entries.{comment, pair}
 use Rattle.properties_format.specs.Writing as format
@@ -40,16 +39,16 @@ Answered (Err e) result = result ≡ (if is_not_accepted (kind_of e) then Ok fal
 
 -- the writer after the calls, if none of them failed
 abbrev pub after_calls : Writer → List format.Call → Writer
-after_calls w calls = record w { settings = format.settings_after w.settings calls; lines = format.lines_after w.settings w.lines calls }
+after_calls w calls = record w { settings = format.settings_after w.settings calls; lines = format.line_count_after w.settings w.lines calls }
 
 -- whether a flush comes after all lines of the calls, or came before them and they have none
 abbrev pub flushed_after : Settings → Bool → List format.Call → Bool
 flushed_after s flushed [] = flushed
 flushed_after s flushed (format.flush_call ∷ calls) = flushed_after s true calls
 flushed_after s flushed (call ∷ calls) =
-    flushed_after (format.settings_after_call s call) (if is_some (format.line_of s call) then false else flushed) calls
+    flushed_after (format.settings_after_call s call) (if is_some (format.written_line s call) then false else flushed) calls
 
--- The calls were made, and none failed: the sink has what they write, and is flushed where they flushed it behind their last line.
+-- The calls were made, and none failed: the sink has what they write, and is flushed where they flushed it after their last line.
 pub record Made {W : Type 0} (contents : W → Option (List ℕ)) (faults : W → ℕ) (is_flushed : W → Bool) (calls : List format.Call) (w : Writer) (from : W) (now : Writer) (to : W) : Type 0 where
   pub after : now ≡ after_calls w calls
   pub wrote : Appends (contents from) (contents to) (format.wrote w.encoding w.settings w.lines calls)
@@ -70,7 +69,7 @@ abbrev pub CallGives : {W : Type 0} → (W → Option (List ℕ)) → (W → ℕ
 CallGives contents faults is_flushed call w from (Ok accepted) now to =
     (accepted ≡ format.is_accepted w.settings call)
     × Made contents faults is_flushed (call ∷ []) w from now to
-    × (is_some (format.line_of w.settings call) ≡ false → (call ≡ format.flush_call → ⊥) → to ≡ from)
+    × (is_some (format.written_line w.settings call) ≡ false → (call ≡ format.flush_call → ⊥) → to ≡ from)
 CallGives contents faults is_flushed call w from (Err e) now to =
     (is_not_accepted (kind_of e) ≡ false) × FailsAt contents faults is_flushed call w from e now to
 

@@ -1,5 +1,4 @@
 -- What the writer's own type of a line says.
-use Rattle.std.specs.Prelude.{List}
 use Rattle.std.specs.Str.{chars}
 use Rattle.properties_format.specs.Entries as format
 use Rattle.java_properties.specs.declared.writer.Content.{Content}

@@ -1,7 +1,7 @@
 -- What a contract sees of a writer's settings, and what the setters leave of them.
 use Rattle.std.specs.Prelude.{◌≡◌, ◌⊎◌, ℕ, true, false, List, Result, Ok, Err}
-use Rattle.properties_format.specs.Text.{LineEnd}
-use Rattle.properties_format.specs.Settings.{is_good_prefix, is_good_separator}
+use Rattle.properties_format.specs.Text.{LineEnding}
+use Rattle.properties_format.specs.Reading.Settings.{is_good_prefix, is_good_separator}
 use Rattle.properties_format.specs.Settings as format
 use Rattle.java_properties.specs.Errors.{IsPlain, IsRefusal}
 use Rattle.java_properties.specs.SettingsTexts.{ending_of, prefix_of, separator_of}
@@ -25,5 +25,5 @@ SetsSeparator before separator (Err e) after =
     (after ≡ before) × (((is_good_separator separator ≡ false) × IsRefusal kind.BadKvSeparator separator e) ⊎ IsPlain kind.Memory e)
 
 -- A line end is set, and nothing else changes.
-abbrev pub SetsEnding : format.Settings → LineEnd → format.Settings → Type 0
+abbrev pub SetsEnding : format.Settings → LineEnding → format.Settings → Type 0
 SetsEnding before line_ending after = after ≡ record before { line_ending = line_ending }

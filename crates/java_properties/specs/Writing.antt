@@ -1,5 +1,5 @@
 -- What a contract sees of a writer, and what its calls leave. `contents`, `faults` and `is_flushed` are what is known of a sink.
-use Rattle.std.specs.Prelude.{◌≡◌, ◌⊎◌, ◌+◌, ◌^◌, ◌==◌, ℕ, Bool, true, false, if◌then◌else◌, List, ◌++◌, Option, Some, None, Result, Ok, Err, IfOk}
+use Rattle.std.specs.Prelude.{◌≡◌, ◌⊎◌, ◌+◌, ◌^◌, ◌==◌, ℕ, Bool, true, false, List, ◌++◌, Option, Some, None, Result, Ok, Err}
 use Rattle.std.specs.Io.KnownBytes.{Appends, Keeps}
 use Rattle.counted_io.specs.Faults.{one_more}
 use Rattle.properties_format.specs.Encoding.{Encoding}

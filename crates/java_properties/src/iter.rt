@@ -102,7 +102,7 @@ impl<R: CountedRead> PropertiesIter<R> {
         })
     }
 
-    /// The reader, behind the bytes that were read so far.
+    /// The reader, after the bytes that were read so far.
     pub fn into_inner(self) -> R
         ensures { result ≡ iter_reader self }
     {

@@ -5,7 +5,7 @@ ghost use Rattle.std.specs.Prelude.{◌<◌, ◌≤◌, length, slice_index};
 /// The parts of a line, before their escapes are resolved.
 #[derive(Clone, Copy)]
 pub enum ParsedLine<'a> {
-    /// The text behind the mark, without the blanks around it.
+    /// The text after the mark, without the blanks around it.
     Comment(&'a str),
     /// The key, and the value with the blanks that end it.
     KVPair(&'a str, &'a str),
@@ -13,7 +13,7 @@ pub enum ParsedLine<'a> {
 
 const BLANKS: [char; 3] = [' ', '\t', '\u{c}'];
 
-const COMMENT_MARKS: [char; 2] = ['#', '!'];
+const COMMENT_SIGNS: [char; 2] = ['#', '!'];
 
 const SEPARATORS: [char; 2] = ['=', ':'];
 
@@ -25,7 +25,7 @@ pub fn parse_line(line: &str) -> Option<ParsedLine<'_>> {
     if text.is_empty() {
         return None;
     }
-    if let Some(comment) = text.strip_prefix(COMMENT_MARKS) {
+    if let Some(comment) = text.strip_prefix(COMMENT_SIGNS) {
         return Some(ParsedLine::Comment(comment.trim_matches(BLANKS)));
     }
     let (key, rest) = text.split_at(key_length(text.as_bytes()));

@@ -4,7 +4,7 @@ ghost use Rattle.std.specs.Prelude.{◌≡◌, ◌++◌, IsOkAnd, IfErr, OnOk};
 ghost use Rattle.std.specs.Str.{chars};
 ghost use Rattle.properties_format.specs.Encoding.{windows_1252, output_encoding};
 ghost use Rattle.properties_format.specs.Entries as entry;
-ghost use Rattle.properties_format.specs.Settings.{is_blanks};
+ghost use Rattle.properties_format.specs.Reading.Settings.{is_blanks};
 ghost use Rattle.properties_format.specs.Writing.{is_accepted};
 ghost use Rattle.java_properties.specs.Views.{encoding_of};
 ghost use Rattle.java_properties.specs.SettingsViews.{SetsPrefix, SetsSeparator};
@@ -93,7 +93,7 @@ impl Printer {
         }
     }
 
-    // An empty key needs a separator that is seen: behind blanks alone the value would be read as the key.
+    // An empty key needs a separator that is seen: after blanks alone the value would be read as the key.
     fn accepts(&self, content: Content<'_>) -> bool
         ensures { result ≡ is_accepted (printer_state self.now).settings (call_of (content_in content.entry)) }
     {

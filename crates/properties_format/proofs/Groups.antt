@@ -1,5 +1,6 @@
 pub mod Append
 pub mod Joined
+pub mod Logical
 pub mod Meets
 pub mod Numbers
 pub mod Only

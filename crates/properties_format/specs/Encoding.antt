@@ -1,10 +1,10 @@
 -- The four encodings: which one a text is in, the pieces of its bytes, and what a writer's encoding can say.
 -- Source: WHATWG Encoding Standard, sections 4.3 (output encodings), 6 (byte order marks) and 8 to 14 (the decoders).
-use Rattle.std.specs.Prelude.{◌≡◌, ℕ, zero, suc, ◌%◌, ◌==◌, ◌&&◌, ◌||◌, Bool, true, false, if◌then◌else◌, List, [], ◌∷◌, ◌++◌, length, drop, Option, Some, None, encode_utf8}
-use Rattle.properties_format.specs.Pieces.{Piece, piece, characters}
-use Rattle.properties_format.specs.Windows1252.{windows_1252_character, windows_1252_byte, IsWindows1252Piece}
-use Rattle.properties_format.specs.Utf8.{IsUtf8Piece, first_utf_8_piece}
-use Rattle.properties_format.specs.Utf16.{low_first, high_first, IsUtf16Piece, first_utf_16_piece}
+use Rattle.std.specs.Prelude.{◌≡◌, ℕ, ◌%◌, ◌==◌, ◌&&◌, ◌||◌, Bool, true, false, if◌then◌else◌, List, [], ◌∷◌, ◌++◌, length, drop, Option, Some, None, encode_utf8}
+use Rattle.properties_format.specs.Pieces.{Piece, characters}
+use Rattle.properties_format.specs.Windows1252.{windows_1252_byte, IsWindows1252Piece}
+use Rattle.properties_format.specs.Utf8.{IsUtf8Piece}
+use Rattle.properties_format.specs.Utf16.{low_first, high_first, IsUtf16Piece}
 pub use Rattle.properties_format.specs.Pieces.{Piece, characters}
 
 pub data Encoding : Type 0 where
@@ -37,14 +37,14 @@ encoded utf_16be c = Some (encode_utf8 c)
 -- ---- Marks.
 
 -- the byte order marks
-abbrev pub utf_8_mark : List ℕ
-utf_8_mark = 0xef ∷ 0xbb ∷ 0xbf ∷ []
+abbrev pub utf_8_bom : List ℕ
+utf_8_bom = 0xef ∷ 0xbb ∷ 0xbf ∷ []
 
-abbrev pub utf_16be_mark : List ℕ
-utf_16be_mark = 0xfe ∷ 0xff ∷ []
+abbrev pub utf_16be_bom : List ℕ
+utf_16be_bom = 0xfe ∷ 0xff ∷ []
 
-abbrev pub utf_16le_mark : List ℕ
-utf_16le_mark = 0xff ∷ 0xfe ∷ []
+abbrev pub utf_16le_bom : List ℕ
+utf_16le_bom = 0xff ∷ 0xfe ∷ []
 
 -- the list begins with these numbers
 abbrev pub begins_with : List ℕ → List ℕ → Bool
@@ -52,21 +52,21 @@ begins_with [] d = true
 begins_with (m ∷ ms) [] = false
 begins_with (m ∷ ms) (b ∷ d) = m == b && begins_with ms d
 
--- the bytes begin like a mark
-abbrev pub begins_like_mark : List ℕ → Bool
-begins_like_mark b = begins_with utf_8_mark b || (begins_with utf_16be_mark b || begins_with utf_16le_mark b)
+-- the bytes begin like a byte order mark
+abbrev pub begins_like_bom : List ℕ → Bool
+begins_like_bom b = begins_with utf_8_bom b || (begins_with utf_16be_bom b || begins_with utf_16le_bom b)
 
 -- an encoding in force, and the bytes that are in it
-pub record Marked : Type 0 where
+pub record InForce : Type 0 where
   pub encoding : Encoding
   pub body : List ℕ
 
--- a mark at the front says the encoding and is dropped; without one it is the encoding asked for, and all bytes
-abbrev pub mark : Encoding → List ℕ → Marked
-mark e b =
-    if begins_with utf_8_mark b then record { encoding = utf_8; body = drop 3 b }
-    else (if begins_with utf_16be_mark b then record { encoding = utf_16be; body = drop 2 b }
-    else (if begins_with utf_16le_mark b then record { encoding = utf_16le; body = drop 2 b }
+-- a byte order mark at the front says the encoding and is dropped; without one it is the encoding asked for, and all bytes
+abbrev pub byte_order_mark : Encoding → List ℕ → InForce
+byte_order_mark e b =
+    if begins_with utf_8_bom b then record { encoding = utf_8; body = drop 3 b }
+    else (if begins_with utf_16be_bom b then record { encoding = utf_16be; body = drop 2 b }
+    else (if begins_with utf_16le_bom b then record { encoding = utf_16le; body = drop 2 b }
     else record { encoding = e; body = b }))
 
 -- ---- Pieces.
@@ -78,14 +78,14 @@ IsPiece utf_8 p rest = IsUtf8Piece p rest
 IsPiece utf_16le p rest = IsUtf16Piece low_first p rest
 IsPiece utf_16be p rest = IsUtf16Piece high_first p rest
 
--- the bytes are those of these pieces in order, each a piece before what is behind it
+-- the bytes are those of these pieces in order, each a piece before what is after it
 abbrev pub IsPieces : Encoding → List ℕ → List Piece → Type 0
 IsPieces e d [] = d ≡ []
 IsPieces e d (p ∷ ps) = (rest : List ℕ) × (d ≡ p.bytes ++ rest) × IsPiece e p rest × IsPieces e rest ps
 
--- the bytes are decoded to this text: the characters of the pieces of what is behind the mark
+-- the bytes are decoded to this text: the characters of the pieces of what comes after the byte order mark
 abbrev pub IsDecoded : Encoding → List ℕ → List ℕ → Type 0
-IsDecoded e b x = (ps : List Piece) × IsPieces (mark e b).encoding (mark e b).body ps × (x ≡ characters ps)
+IsDecoded e b x = (ps : List Piece) × IsPieces (byte_order_mark e b).encoding (byte_order_mark e b).body ps × (x ≡ characters ps)
 
 -- the bytes of an ASCII character
 abbrev pub ascii_bytes : Encoding → ℕ → List ℕ
@@ -100,24 +100,3 @@ IsAligned windows_1252 d = Unit {0}
 IsAligned utf_8 d = Unit {0}
 IsAligned utf_16le d = length d % 2 ≡ 0
 IsAligned utf_16be d = length d % 2 ≡ 0
-
--- ---- How it is read.
-
--- the first piece of a first byte and those behind it
-abbrev pub first_piece : Encoding → ℕ → List ℕ → Piece
-first_piece windows_1252 b d = piece (b ∷ []) (windows_1252_character b)
-first_piece utf_8 b d = first_utf_8_piece b d
-first_piece utf_16le b d = first_utf_16_piece low_first b d
-first_piece utf_16be b d = first_utf_16_piece high_first b d
-
--- the pieces, at most so many
-abbrev pub pieces_within : Encoding → ℕ → List ℕ → List Piece
-pieces_within e n [] = []
-pieces_within e zero (b ∷ d) = []
-pieces_within e (suc n) (b ∷ d) = let p = first_piece e b d in p ∷ pieces_within e n (drop (length p.bytes) (b ∷ d))
-
-unfoldable pub pieces_of : Encoding → List ℕ → List Piece
-pieces_of e d = pieces_within e (length d) d
-
-abbrev pub decoded_of : Encoding → List ℕ → List ℕ
-decoded_of e b = characters (pieces_of (mark e b).encoding (mark e b).body)

@@ -1,17 +1,17 @@
 -- What a key, a value or a comment's text means: it is a concatenation of spellings, each of one character.
 -- Source: java.util.Properties of Java SE 7, load.
-use Rattle.std.specs.Prelude.{◌≡◌, ◌==◌, ◌&&◌, ℕ, zero, suc, pred, length, true, false, if◌then◌else◌, List, [], ◌∷◌, ◌++◌, map, Option, Some, None}
+use Rattle.std.specs.Prelude.{◌≡◌, ◌==◌, ℕ, true, false, if◌then◌else◌, List, [], ◌∷◌, ◌++◌, map}
 pub use Rattle.properties_format.specs.Hexadecimal.{is_hexadecimal, hexadecimal_value, Four, four_text, are_hexadecimal, code_unit}
 pub use Rattle.properties_format.specs.Surrogates.{is_high, is_low, is_surrogate, pair_character}
 use Rattle.properties_format.specs.Text.{tab, line_feed, form_feed, carriage_return, backslash}
 
--- How a text can fail to have a meaning: what stands behind a `\u` is too short, is not hexadecimal, or is a surrogate without its other half.
+-- How a text can fail to have a meaning: what stands after a `\u` is too short, is not hexadecimal, or is a surrogate without its other half.
 pub data Malformed : Type 0 where
   not_enough_digits : Malformed
   not_hex : Malformed
   invalid_character : Malformed
 
--- the letters t, n, f, r and u, which mean something behind a backslash
+-- the letters t, n, f, r and u, which mean something after a backslash
 abbrev pub letter_t : ℕ
 letter_t = 0x74
 
@@ -87,7 +87,7 @@ pub record Means (text meant : List ℕ) : Type 0 where
 abbrev pub NoSpelling : List ℕ → Type 0
 NoSpelling text = (p : Spelling) (rest : List ℕ) → text ≡ spelling_text p ++ rest → IsSpelling p rest → ⊥
 
--- what is wrong with a text behind a `\u` that no spelling begins
+-- what is wrong with a text after a `\u` that no spelling begins
 abbrev pub malformed_by : List ℕ → Malformed
 malformed_by (a ∷ b ∷ c ∷ d ∷ rest) = if are_hexadecimal record { first = a; second = b; third = c; fourth = d } then invalid_character else not_hex
 malformed_by _ = not_enough_digits
@@ -95,11 +95,11 @@ malformed_by _ = not_enough_digits
 -- The text is a concatenation of spellings, and then a `\u` which begins no spelling.
 pub record Breaks (text : List ℕ) (kind : Malformed) : Type 0 where
   pub spellings : List Spelling
-  pub behind : List ℕ
-  pub whole : text ≡ spelt_before spellings (backslash ∷ letter_u ∷ behind)
-  pub each : AreSpellings spellings (backslash ∷ letter_u ∷ behind)
-  pub no_spelling : NoSpelling (backslash ∷ letter_u ∷ behind)
-  pub fault : kind ≡ malformed_by behind
+  pub after : List ℕ
+  pub whole : text ≡ spelt_before spellings (backslash ∷ letter_u ∷ after)
+  pub each : AreSpellings spellings (backslash ∷ letter_u ∷ after)
+  pub no_spelling : NoSpelling (backslash ∷ letter_u ∷ after)
+  pub fault : kind ≡ malformed_by after
 
 -- What a text comes to: the text that it means, or the way in which it breaks.
 pub data Meaning : Type 0 where
@@ -110,55 +110,3 @@ pub data Meaning : Type 0 where
 abbrev pub IsMeaning : List ℕ → Meaning → Type 0
 IsMeaning text (means meant) = Means text meant
 IsMeaning text (breaks kind) = Breaks text kind
-
--- ---- how it is read
-
--- the two escapes of a high surrogate and what stands behind it, if that is one of a low surrogate
-abbrev pub with_low : Four → List ℕ → Option Spelling
-with_low high (x ∷ y ∷ a ∷ b ∷ c ∷ d ∷ rest) =
-    let low : Four = record { first = a; second = b; third = c; fourth = d } in
-    if (x == backslash && y == letter_u) && (are_hexadecimal low && is_low (code_unit low)) then Some (surrogates high low) else None
-with_low high _ = None
-
--- the spelling of which these four are the first digits
-abbrev pub with_digits : Four → List ℕ → Option Spelling
-with_digits d rest =
-    if are_hexadecimal d then (if is_high (code_unit d) then with_low d rest else (if is_low (code_unit d) then None else Some (unicode d)))
-    else None
-
--- the spelling that a `\u` begins
-abbrev pub behind_u : List ℕ → Option Spelling
-behind_u (a ∷ b ∷ c ∷ d ∷ rest) = with_digits record { first = a; second = b; third = c; fourth = d } rest
-behind_u _ = None
-
--- the spelling that a backslash begins
-abbrev pub behind_backslash : List ℕ → Option Spelling
-behind_backslash [] = Some last
-behind_backslash (c ∷ cs) = if c == letter_u then behind_u cs else Some (escaped c)
-
--- the spelling that the text begins with
-abbrev pub first_spelling : ℕ → List ℕ → Option Spelling
-first_spelling c cs = if c == backslash then behind_backslash cs else Some (itself c)
-
--- a character in front of a meaning
-abbrev pub in_front : ℕ → Meaning → Meaning
-in_front c (means x) = means (c ∷ x)
-in_front c (breaks kind) = breaks kind
-
--- what is wrong with a text that begins with a `\u` and no spelling
-abbrev pub fault_of : List ℕ → Malformed
-fault_of [] = not_enough_digits
-fault_of (u ∷ behind) = malformed_by behind
-
--- the meaning of the text without this many of its first characters, which belong to a spelling that has been read
-abbrev pub meaning_past : List ℕ → ℕ → Meaning
-meaning_past [] skipped = means []
-meaning_past (c ∷ cs) (suc skipped) = meaning_past cs skipped
-meaning_past (c ∷ cs) zero = elim (first_spelling c cs) [
-  | None ↦ breaks (fault_of cs)
-  | Some p ↦ in_front (spelt_character p) (meaning_past cs (pred (length (spelling_text p))))
-]
-
--- the meaning of the text
-unfoldable pub meaning_of : List ℕ → Meaning
-meaning_of text = meaning_past text 0

@@ -1,9 +1,9 @@
 -- The groups of natural lines that make one logical line each.
 -- Source: java.util.Properties of Java SE 7, load: a logical line may be spread out across several adjacent natural lines, where a backslash escapes the line terminator;
 -- a comment line can not be extended so.
-use Rattle.std.specs.Prelude.{◌≡◌, ℕ, suc, ◌%◌, ◌==◌, ◌⊎◌, Bool, true, false, not, ◌||◌, if◌then◌else◌, List, [], ◌∷◌, ◌++◌, reverse}
-use Rattle.properties_format.specs.Text.{backslash, is_blank, is_comment_mark}
-use Rattle.properties_format.specs.Lines.{Line, Ending, end, fault, more}
+use Rattle.std.specs.Prelude.{◌≡◌, ℕ, suc, ◌%◌, ◌==◌, ◌⊎◌, Bool, true, false, if◌then◌else◌, List, [], ◌∷◌, ◌++◌, reverse}
+use Rattle.properties_format.specs.Text.{backslash, is_comment_sign, without_leading_blanks}
+use Rattle.properties_format.specs.Lines.{Line, InputEnd, end, fault, more}
 
 -- how many backslashes the text begins with
 abbrev pub leading_backslashes : List ℕ → ℕ
@@ -18,19 +18,14 @@ ending_backslashes x = leading_backslashes (reverse x)
 abbrev pub is_open : List ℕ → Bool
 is_open x = ending_backslashes x % 2 == 1
 
--- the text less the blanks that it begins with
-abbrev pub without_leading_blanks : List ℕ → List ℕ
-without_leading_blanks [] = []
-without_leading_blanks (c ∷ cs) = if is_blank c then without_leading_blanks cs else c ∷ cs
+-- the first character is a comment sign
+abbrev pub begins_with_comment_sign : List ℕ → Bool
+begins_with_comment_sign [] = false
+begins_with_comment_sign (c ∷ cs) = is_comment_sign c
 
--- the first character is a mark of a comment
-abbrev pub begins_with_mark : List ℕ → Bool
-begins_with_mark [] = false
-begins_with_mark (c ∷ cs) = is_comment_mark c
-
--- The line is marked: its first character that is no blank is a mark of a comment.
-abbrev pub is_marked : List ℕ → Bool
-is_marked x = begins_with_mark (without_leading_blanks x)
+-- The line is a comment line: its first character that is no blank is a comment sign.
+abbrev pub is_comment_line : List ℕ → Bool
+is_comment_line x = begins_with_comment_sign (without_leading_blanks x)
 
 -- all but the last line are open, and the last is not
 abbrev pub EndsClosed : Line → List Line → Type 0
@@ -42,19 +37,19 @@ abbrev pub AreOpen : List Line → Type 0
 AreOpen [] = Unit {0}
 AreOpen (l ∷ ls) = (is_open l.text ≡ true) × AreOpen ls
 
--- A whole group is a marked line alone, or begins with an unmarked line, all but its last line are open, and the last is not.
+-- A whole group is a comment line alone, or begins with another line, all but its last line are open, and the last is not.
 abbrev pub IsWhole : List Line → Type 0
 IsWhole [] = ⊥
-IsWhole (l ∷ ls) = (is_marked l.text ≡ true) × (ls ≡ []) ⊎ (is_marked l.text ≡ false) × EndsClosed l ls
+IsWhole (l ∷ ls) = (is_comment_line l.text ≡ true) × (ls ≡ []) ⊎ (is_comment_line l.text ≡ false) × EndsClosed l ls
 
 abbrev pub AreWhole : List (List Line) → Type 0
 AreWhole [] = Unit {0}
 AreWhole (g ∷ gs) = IsWhole g × AreWhole gs
 
--- What is left behind the whole groups: nothing, or a group that begins with an unmarked line and ends open.
+-- What is left after the whole groups: nothing, or a group that begins with no comment line and ends open.
 abbrev pub IsUnfinished : List Line → Type 0
 IsUnfinished [] = Unit {0}
-IsUnfinished (l ∷ ls) = (is_marked l.text ≡ false) × AreOpen (l ∷ ls)
+IsUnfinished (l ∷ ls) = (is_comment_line l.text ≡ false) × AreOpen (l ∷ ls)
 
 -- the lines of the groups
 abbrev pub lines_in : List (List Line) → List Line
@@ -62,14 +57,14 @@ lines_in [] = []
 lines_in (g ∷ gs) = g ++ lines_in gs
 
 -- what ends open is the last group at the end, and is left out at a fault and where more may come
-abbrev pub last_group : List Line → Ending → List (List Line)
+abbrev pub last_group : List Line → InputEnd → List (List Line)
 last_group [] ending = []
 last_group (l ∷ ls) end = (l ∷ ls) ∷ []
 last_group (l ∷ ls) fault = []
 last_group (l ∷ ls) more = []
 
 -- The lines have these groups: whole ones, and perhaps a last one that ends open.
-pub record IsGroups (lines : List Line) (ending : Ending) (groups : List (List Line)) : Type 0 where
+pub record IsGroups (lines : List Line) (ending : InputEnd) (groups : List (List Line)) : Type 0 where
   pub whole : List (List Line)
   pub unfinished : List Line
   pub are_lines : lines ≡ lines_in whole ++ unfinished
@@ -96,41 +91,12 @@ abbrev pub joined_after : List Line → List ℕ
 joined_after [] = []
 joined_after (l ∷ ls) = addition l.text ++ joined_after ls
 
--- The logical line of a group: a marked line as it stands, or the lines put together.
+-- The logical line of a group: a comment line as it stands, or the lines put together.
 abbrev pub joined : List Line → List ℕ
 joined [] = []
-joined (l ∷ ls) = if is_marked l.text then l.text else without_open_backslash l.text ++ joined_after ls
+joined (l ∷ ls) = if is_comment_line l.text then l.text else without_open_backslash l.text ++ joined_after ls
 
 -- the number of a group's first line
 abbrev pub first_number : List Line → ℕ
 first_number [] = 0
 first_number (l ∷ ls) = l.number
-
--- ---- the groups, computed line by line
-
--- whether the line is the last of its group, of which the given lines stand before it
-abbrev pub closes : List Line → Line → Bool
-closes [] l = is_marked l.text || not (is_open l.text)
-closes (p ∷ ps) l = not (is_open l.text)
-
--- the groups of the lines behind those of a group that is still open
-abbrev pub groups_after : List Line → List Line → Ending → List (List Line)
-groups_after open_lines [] ending = last_group open_lines ending
-groups_after open_lines (l ∷ ls) ending =
-    elim (closes open_lines l) [
-      | true ↦ (open_lines ++ l ∷ []) ∷ groups_after [] ls ending
-      | false ↦ groups_after (open_lines ++ l ∷ []) ls ending
-    ]
-
--- the groups of the lines
-abbrev pub groups_of : List Line → Ending → List (List Line)
-groups_of lines ending = groups_after [] lines ending
-
--- the lines of the group that is still open behind these lines
-abbrev pub open_after : List Line → List Line → List Line
-open_after open_lines [] = open_lines
-open_after open_lines (l ∷ ls) =
-    elim (closes open_lines l) [
-      | true ↦ open_after [] ls
-      | false ↦ open_after (open_lines ++ l ∷ []) ls
-    ]

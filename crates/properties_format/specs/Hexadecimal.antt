@@ -10,7 +10,7 @@ is_hexadecimal c = (nat_le 0x30 c && nat_le c 0x39) || ((nat_le 0x41 c && nat_le
 abbrev pub hexadecimal_value : ℕ → ℕ
 hexadecimal_value c = if nat_le c 0x39 then c - 0x30 else (if nat_le c 0x46 then c - 0x37 else c - 0x57)
 
--- the four characters behind a `\u`
+-- the four characters after a `\u`
 pub record Four : Type 0 where
   pub first : ℕ
   pub second : ℕ

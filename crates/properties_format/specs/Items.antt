@@ -1,11 +1,11 @@
 -- The items of an input: what its bytes say, from the first line to the last, or to the first fault.
 -- Source: java.util.Properties of Java SE 7, load.
 use Rattle.std.specs.Prelude.{◌≡◌, ◌⊎◌, ℕ, ◌+◌, List, [], ◌∷◌}
-use Rattle.properties_format.specs.Encoding.{Encoding, IsDecoded, decoded_of}
-use Rattle.properties_format.specs.Lines.{Ending, end, fault, more, Line, Lines, IsLines, line_ends, numbered_lines, lines_of}
-use Rattle.properties_format.specs.Groups.{IsGroups, joined, first_number, groups_of}
-use Rattle.properties_format.specs.Split.{Logical, IsSplit, split_of}
-use Rattle.properties_format.specs.Escapes.{Malformed, Means, Breaks, Meaning, means, breaks, meaning_of}
+use Rattle.properties_format.specs.Encoding.{Encoding, IsDecoded}
+use Rattle.properties_format.specs.Lines.{InputEnd, end, fault, more, Line, Lines, IsLines, line_ends, numbered_lines}
+use Rattle.properties_format.specs.Groups.{IsGroups, joined, first_number}
+use Rattle.properties_format.specs.Split.{Logical, IsSplit}
+use Rattle.properties_format.specs.Escapes.{Malformed, Means, Breaks}
 pub use Rattle.properties_format.specs.Entries.{Content, comment, pair, Entry, item, malformed, read_fault, number_of, NumbersAscend}
 
 -- what a logical line comes to: nothing, a content, or malformed escapes
@@ -57,26 +57,26 @@ IsOutcome x (given (comment text)) = MeansComment x text
 IsOutcome x (given (pair key value)) = MeansPair x key value
 IsOutcome x (broken kind) = BreaksComment x kind ⊎ (BreaksKey x kind ⊎ BreaksValue x kind)
 
--- what the ending adds behind n line ends: a fault is one of the line that it cut
-abbrev pub last_entries : ℕ → Ending → List Entry
+-- what the ending adds after n line ends: a fault is one of the line that it cut
+abbrev pub last_entries : ℕ → InputEnd → List Entry
 last_entries n end = []
 last_entries n fault = read_fault (n + 1) ∷ []
 last_entries n more = []
 
--- the entries of a group's outcome and of the groups behind it: malformed escapes are the last
+-- the entries of a group's outcome and of the groups after it: malformed escapes are the last
 abbrev pub IsFollowed : ℕ → Outcome → (List Entry → Type 0) → List Entry → Type 0
 IsFollowed number ignored Rest entries = Rest entries
 IsFollowed number (given content) Rest entries = (rest : List Entry) × (entries ≡ item number content ∷ rest) × Rest rest
 IsFollowed number (broken kind) Rest entries = entries ≡ malformed kind number ∷ []
 
--- The entries of these groups, at this ending behind n line ends: what each group comes to, under the number of its first line.
-abbrev pub AreEntries : ℕ → Ending → List (List Line) → List Entry → Type 0
+-- The entries of these groups, at this ending after n line ends: what each group comes to, under the number of its first line.
+abbrev pub AreEntries : ℕ → InputEnd → List (List Line) → List Entry → Type 0
 AreEntries n ending [] entries = entries ≡ last_entries n ending
 AreEntries n ending (group ∷ groups) entries =
     (outcome : Outcome) × IsOutcome (joined group) outcome × IsFollowed (first_number group) outcome (AreEntries n ending groups) entries
 
 -- The items of an input in an encoding, up to this ending: it decodes to a text, the text has lines, the lines have groups, and these are their entries.
-pub record IsItems (e : Encoding) (bytes : List ℕ) (ending : Ending) (entries : List Entry) : Type 0 where
+pub record IsItems (e : Encoding) (bytes : List ℕ) (ending : InputEnd) (entries : List Entry) : Type 0 where
   pub text : List ℕ
   pub lines : Lines
   pub groups : List (List Line)
@@ -84,44 +84,3 @@ pub record IsItems (e : Encoding) (bytes : List ℕ) (ending : Ending) (entries 
   pub divided : IsLines text lines
   pub grouped : IsGroups (numbered_lines lines ending) ending groups
   pub are_entries : AreEntries (line_ends lines) ending groups entries
-
--- ---- how they are read
-
--- what a comment comes to, by what its text means
-abbrev pub comment_outcome : Meaning → Outcome
-comment_outcome (means text) = given (comment text)
-comment_outcome (breaks kind) = broken kind
-
--- what a pair comes to, by what its key means and what its value means
-abbrev pub pair_outcome : Meaning → Meaning → Outcome
-pair_outcome (breaks kind) value = broken kind
-pair_outcome (means key) (breaks kind) = broken kind
-pair_outcome (means key) (means value) = given (pair key value)
-
--- what a logical line comes to, by what it is
-abbrev pub split_outcome : Logical → Outcome
-split_outcome Logical.blank = ignored
-split_outcome (Logical.comment raw) = comment_outcome (meaning_of raw)
-split_outcome (Logical.pair raw_key raw_value) = pair_outcome (meaning_of raw_key) (meaning_of raw_value)
-
-abbrev pub outcome_of : List ℕ → Outcome
-outcome_of x = split_outcome (split_of x)
-
--- an outcome's entry, and then the entries behind it, if it lets them follow
-abbrev pub followed : ℕ → Outcome → List Entry → List Entry
-followed number ignored rest = rest
-followed number (given content) rest = item number content ∷ rest
-followed number (broken kind) rest = malformed kind number ∷ []
-
--- the entries of the groups
-abbrev pub entries_of : ℕ → Ending → List (List Line) → List Entry
-entries_of n ending [] = last_entries n ending
-entries_of n ending (group ∷ groups) = followed (first_number group) (outcome_of (joined group)) (entries_of n ending groups)
-
--- the items of a text's lines
-abbrev pub items_of_lines : Lines → Ending → List Entry
-items_of_lines lines ending = entries_of (line_ends lines) ending (groups_of (numbered_lines lines ending) ending)
-
--- the items of the bytes
-unfoldable pub items_of : Encoding → List ℕ → Ending → List Entry
-items_of e bytes ending = items_of_lines (lines_of (decoded_of e bytes)) ending

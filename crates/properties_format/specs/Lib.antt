@@ -1,14 +1,12 @@
 pub mod Text
+pub mod Pieces
 pub mod Windows1252
 pub mod Utf8
 pub mod Surrogates
 pub mod Utf16
-pub mod Pieces
 pub mod Encoding
-pub mod Waiting
 pub mod Lines
 pub mod Groups
-pub mod Logical
 pub mod Split
 pub mod Hexadecimal
 pub mod Escapes
@@ -18,3 +16,4 @@ pub mod Settings
 pub mod Printing
 pub mod Writing
 pub mod Maps
+pub mod Reading

@@ -1,6 +1,6 @@
 -- The map of an input: each key that a pair of it has, with the value of its last pair.
 -- Source: java.util.Properties of Java SE 7, load (a later pair with a key takes the place of an earlier one).
-use Rattle.std.specs.Prelude.{◌≡◌, ◌≢◌, ℕ, List, [], ◌∷◌, ◌++◌, Option, Some, None, if◌then◌else◌, bytes_eq}
+use Rattle.std.specs.Prelude.{◌≡◌, ◌≢◌, ℕ, List, [], ◌∷◌, ◌++◌, Option, Some, None}
 use Rattle.properties_format.specs.Entries.{comment, pair, Entry, item, malformed, read_fault}
 
 -- no entry is a pair with this key
@@ -27,22 +27,3 @@ IsValue entries key None = HasNoPair key entries
 -- The map gives each key its value.
 abbrev pub IsMap : List Entry → (List ℕ → Option (List ℕ)) → Type 0
 IsMap entries value_at = (key : List ℕ) → IsValue entries key (value_at key)
-
--- ---- how it is read
-
--- the value of one entry, if it is a pair with this key
-abbrev pub value_of : Entry → List ℕ → Option (List ℕ)
-value_of (item n (pair k v)) key = if bytes_eq k key then Some v else None
-value_of (item n (comment text)) key = None
-value_of (malformed kind n) key = None
-value_of (read_fault n) key = None
-
--- the first of two values, if there is one, else the second
-abbrev pub first_value : Option (List ℕ) → Option (List ℕ) → Option (List ℕ)
-first_value (Some v) other = Some v
-first_value None other = other
-
--- the value of a key, looked for from the last entry on
-abbrev pub value_in : List Entry → List ℕ → Option (List ℕ)
-value_in [] key = None
-value_in (entry ∷ entries) key = first_value (value_in entries key) (value_of entry key)

@@ -2,8 +2,8 @@
 -- Source: java.util.Properties of Java SE 7, store; a character that the encoding lacks is written as store writes it, by `\u` and four hexadecimal digits for each of its UTF-16 units (The Unicode Standard, section 3.9, D91).
 use Rattle.std.specs.Prelude.{ℕ, ◌+◌, ◌-◌, ◌/◌, ◌%◌, ◌==◌, ◌&&◌, ◌||◌, nat_lt, Bool, if◌then◌else◌, List, [], ◌∷◌, ◌++◌, is_some, unwrap_or}
 use Rattle.std.specs.Char.{digit_char}
-use Rattle.properties_format.specs.Text.{line_end_text, tab, line_feed, form_feed, carriage_return, space, backslash, is_comment_mark, is_separator}
-use Rattle.properties_format.specs.Encoding.{Encoding, encoded, begins_like_mark}
+use Rattle.properties_format.specs.Text.{line_ending_text, tab, line_feed, form_feed, carriage_return, space, backslash, is_comment_sign, is_separator}
+use Rattle.properties_format.specs.Encoding.{Encoding, encoded, begins_like_bom}
 use Rattle.properties_format.specs.Entries.{Content, comment, pair}
 use Rattle.properties_format.specs.Settings.{Settings}
 
@@ -34,7 +34,7 @@ literal e c = if is_some (encoded e c) then c ∷ [] else unicode_escape c
 
 -- the characters with a meaning of their own in a key or a value, which take a backslash before them
 abbrev pub is_special : ℕ → Bool
-is_special c = c == backslash || (c == space || (is_separator c || is_comment_mark c))
+is_special c = c == backslash || (c == space || (is_separator c || is_comment_sign c))
 
 -- `\t`, `\n`, `\f` and `\r`
 abbrev pub letter_escape : ℕ → List ℕ
@@ -63,22 +63,22 @@ encoded_text e [] = []
 encoded_text e (c ∷ cs) = unwrap_or (encoded e c) [] ++ encoded_text e cs
 
 -- a key whose bytes would be taken for a byte order mark, if they stood at the front of the input
-abbrev pub is_mark_like : Encoding → List ℕ → Bool
-is_mark_like e key = begins_like_mark (encoded_text e (spelt_text e in_key_or_value key))
+abbrev pub is_bom_like : Encoding → List ℕ → Bool
+is_bom_like e key = begins_like_bom (encoded_text e (spelt_text e in_key_or_value key))
 
 -- a key with its first character escaped
-abbrev pub shielded : Encoding → List ℕ → List ℕ
-shielded e [] = []
-shielded e (c ∷ cs) = unicode_escape c ++ spelt_text e in_key_or_value cs
+abbrev pub with_first_escaped : Encoding → List ℕ → List ℕ
+with_first_escaped e [] = []
+with_first_escaped e (c ∷ cs) = unicode_escape c ++ spelt_text e in_key_or_value cs
 
--- a key, on the first line that is written or on another: on the first, one that begins like a mark is shielded
+-- a key, on the first line that is written or on another: on the first, one that begins like a byte order mark has its first character escaped
 abbrev pub spelt_key : Encoding → Bool → List ℕ → List ℕ
-spelt_key e first key = if first && is_mark_like e key then shielded e key else spelt_text e in_key_or_value key
+spelt_key e first key = if first && is_bom_like e key then with_first_escaped e key else spelt_text e in_key_or_value key
 
 -- the characters of a printed line: prefix, text and line end, or key, separator, value and line end
 abbrev pub printed_text : Encoding → Settings → Bool → Content → List ℕ
-printed_text e s first (comment text) = spelt_text e in_prefix s.comment_prefix ++ (spelt_text e in_comment text ++ line_end_text s.line_ending)
-printed_text e s first (pair key value) = spelt_key e first key ++ (s.kv_separator ++ (spelt_text e in_key_or_value value ++ line_end_text s.line_ending))
+printed_text e s first (comment text) = spelt_text e in_prefix s.comment_prefix ++ (spelt_text e in_comment text ++ line_ending_text s.line_ending)
+printed_text e s first (pair key value) = spelt_key e first key ++ (s.kv_separator ++ (spelt_text e in_key_or_value value ++ line_ending_text s.line_ending))
 
 -- and its bytes
 abbrev pub printed : Encoding → Settings → Bool → Content → List ℕ

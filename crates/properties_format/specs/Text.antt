@@ -1,7 +1,7 @@
 -- Bytes, characters, and the kinds of characters that the format knows.
 -- A text is the list of its characters, and a character is the number of its code point.
 -- Source: java.util.Properties of Java SE 7, load; The Unicode Standard, section 3.9, D76 (scalar values).
-use Rattle.std.specs.Prelude.{ℕ, ◌<◌, ◌≤◌, ◌==◌, ◌||◌, ◌⊎◌, Bool, List, [], ◌∷◌}
+use Rattle.std.specs.Prelude.{ℕ, ◌<◌, ◌≤◌, ◌==◌, ◌||◌, ◌⊎◌, Bool, List, [], ◌∷◌, if◌then◌else◌}
 
 -- a byte
 abbrev pub byte : ℕ → Type 0
@@ -27,7 +27,7 @@ carriage_return = 0x0d
 abbrev pub space : ℕ
 space = 0x20
 
--- the marks of a comment, the separators, and the escape
+-- the comment signs, the separators, and the escape
 abbrev pub exclamation_mark : ℕ
 exclamation_mark = 0x21
 
@@ -51,26 +51,31 @@ replacement = 0xfffd
 abbrev pub is_blank : ℕ → Bool
 is_blank c = c == space || (c == tab || c == form_feed)
 
+-- the text without the blanks that it begins with
+abbrev pub without_leading_blanks : List ℕ → List ℕ
+without_leading_blanks [] = []
+without_leading_blanks (c ∷ cs) = if is_blank c then without_leading_blanks cs else c ∷ cs
+
 -- a character of a line end
 abbrev pub is_line_end : ℕ → Bool
 is_line_end c = c == line_feed || c == carriage_return
 
--- a mark of a comment
-abbrev pub is_comment_mark : ℕ → Bool
-is_comment_mark c = c == number_sign || c == exclamation_mark
+-- a comment sign
+abbrev pub is_comment_sign : ℕ → Bool
+is_comment_sign c = c == number_sign || c == exclamation_mark
 
 -- what may stand between a key and its value, beside blanks
 abbrev pub is_separator : ℕ → Bool
 is_separator c = c == equals_sign || c == colon
 
 -- What ends a line: an LF, a CR, or a CR and an LF taken as one.
-pub data LineEnd : Type 0 where
-  lf : LineEnd
-  cr : LineEnd
-  crlf : LineEnd
+pub data LineEnding : Type 0 where
+  lf : LineEnding
+  cr : LineEnding
+  crlf : LineEnding
 
 -- the characters of a line end
-abbrev pub line_end_text : LineEnd → List ℕ
-line_end_text lf = line_feed ∷ []
-line_end_text cr = carriage_return ∷ []
-line_end_text crlf = carriage_return ∷ line_feed ∷ []
+abbrev pub line_ending_text : LineEnding → List ℕ
+line_ending_text lf = line_feed ∷ []
+line_ending_text cr = carriage_return ∷ []
+line_ending_text crlf = carriage_return ∷ line_feed ∷ []

@@ -1,6 +1,6 @@
 -- UTF-16, in either order of bytes: units of two bytes, and what stands for unpaired surrogates.
 -- Source: The Unicode Standard, D91 (UTF-16); WHATWG Encoding Standard, section 14.2.
-use Rattle.std.specs.Prelude.{◌≡◌, ℕ, ◌+◌, ◌*◌, true, false, if◌then◌else◌, List, [], ◌∷◌}
+use Rattle.std.specs.Prelude.{◌≡◌, ℕ, ◌+◌, ◌*◌, true, false, List, [], ◌∷◌}
 use Rattle.properties_format.specs.Pieces.{Piece, piece}
 use Rattle.properties_format.specs.Text.{replacement}
 use Rattle.properties_format.specs.Surrogates.{is_high, is_low, pair_character}
@@ -25,20 +25,3 @@ pub data IsUtf16Piece (unit : ℕ → ℕ → ℕ) (p : Piece) (rest : List ℕ)
   high_last : (a b : ℕ) → p ≡ piece (a ∷ b ∷ []) replacement → is_high (unit a b) ≡ true → rest ≡ [] → IsUtf16Piece unit p rest
   byte_last : (a : ℕ) → p ≡ piece (a ∷ []) replacement → rest ≡ [] → IsUtf16Piece unit p rest
   both_last : (a b c : ℕ) → p ≡ piece (a ∷ b ∷ c ∷ []) replacement → is_high (unit a b) ≡ true → rest ≡ [] → IsUtf16Piece unit p rest
-
--- ---- How it is read.
-
--- the piece of a high unit of these bytes and what is behind it
-abbrev pub high_piece : (ℕ → ℕ → ℕ) → ℕ → ℕ → List ℕ → Piece
-high_piece unit a b [] = piece (a ∷ b ∷ []) replacement
-high_piece unit a b (c ∷ []) = piece (a ∷ b ∷ c ∷ []) replacement
-high_piece unit a b (c ∷ d ∷ more) =
-    if is_low (unit c d) then piece (a ∷ b ∷ c ∷ d ∷ []) (pair_character (unit a b) (unit c d))
-    else piece (a ∷ b ∷ []) replacement
-
--- the first piece of a first byte and those behind it
-abbrev pub first_utf_16_piece : (ℕ → ℕ → ℕ) → ℕ → List ℕ → Piece
-first_utf_16_piece unit a [] = piece (a ∷ []) replacement
-first_utf_16_piece unit a (b ∷ d) =
-    if is_high (unit a b) then high_piece unit a b d
-    else piece (a ∷ b ∷ []) (if is_low (unit a b) then replacement else unit a b)

@@ -1,11 +1,12 @@
 -- What a list of calls to a writer writes, and what it is to be read back as.
 -- Source: java.util.Properties of Java SE 7, store, which writes one comment or one pair a line.
 use Rattle.std.specs.Prelude.{◌≡◌, All, ℕ, ◌+◌, ◌==◌, ◌&&◌, not, Bool, true, false, if◌then◌else◌, List, [], ◌∷◌, ◌++◌, Option, Some, None}
-use Rattle.properties_format.specs.Text.{scalar, LineEnd, backslash, is_comment_mark}
+use Rattle.properties_format.specs.Text.{scalar, LineEnding, backslash, is_comment_sign}
 use Rattle.properties_format.specs.Encoding.{Encoding}
-use Rattle.properties_format.specs.Split.{trimmed}
+use Rattle.properties_format.specs.Reading.Split.{trimmed}
 use Rattle.properties_format.specs.Entries.{Content, comment, pair, Entry, item}
-use Rattle.properties_format.specs.Settings.{Settings, IsGoodPrefix, IsGoodSeparator, is_blanks, is_good_prefix, is_good_separator}
+use Rattle.properties_format.specs.Settings.{Settings, IsGoodPrefix, IsGoodSeparator}
+use Rattle.properties_format.specs.Reading.Settings.{is_blanks, is_good_prefix, is_good_separator}
 use Rattle.properties_format.specs.Printing.{printed}
 
 -- a call: a comment or a pair to write, a setting to change, or a flush
@@ -14,7 +15,7 @@ pub data Call : Type 0 where
   pair_call : List ℕ → List ℕ → Call
   prefix_call : List ℕ → Call
   separator_call : List ℕ → Call
-  ending_call : LineEnd → Call
+  ending_call : LineEnding → Call
   flush_call : Call
 
 abbrev pub is_empty : List ℕ → Bool
@@ -49,22 +50,22 @@ answers s [] = []
 answers s (call ∷ calls) = is_accepted s call ∷ answers (settings_after_call s call) calls
 
 -- the line that a call writes, where it writes one: an accepted comment or pair
-abbrev pub line_of : Settings → Call → Option Content
-line_of s (comment_call text) = Some (comment text)
-line_of s (pair_call key value) = if is_accepted s (pair_call key value) then Some (pair key value) else None
-line_of s (prefix_call prefix) = None
-line_of s (separator_call separator) = None
-line_of s (ending_call line_ending) = None
-line_of s flush_call = None
+abbrev pub written_line : Settings → Call → Option Content
+written_line s (comment_call text) = Some (comment text)
+written_line s (pair_call key value) = if is_accepted s (pair_call key value) then Some (pair key value) else None
+written_line s (prefix_call prefix) = None
+written_line s (separator_call separator) = None
+written_line s (ending_call line_ending) = None
+written_line s flush_call = None
 
 -- the number of lines after a line, where there is one
 abbrev pub lines_with : ℕ → Option Content → ℕ
 lines_with n None = n
 lines_with n (Some line) = n + 1
 
-abbrev pub lines_after : Settings → ℕ → List Call → ℕ
-lines_after s n [] = n
-lines_after s n (call ∷ calls) = lines_after (settings_after_call s call) (lines_with n (line_of s call)) calls
+abbrev pub line_count_after : Settings → ℕ → List Call → ℕ
+line_count_after s n [] = n
+line_count_after s n (call ∷ calls) = line_count_after (settings_after_call s call) (lines_with n (written_line s call)) calls
 
 -- the bytes of a line, where there is one: it is first where no line stands before it
 abbrev pub line_bytes : Encoding → Settings → ℕ → Option Content → List ℕ
@@ -75,27 +76,27 @@ line_bytes e s n (Some line) = printed e s (n == 0) line
 abbrev pub wrote : Encoding → Settings → ℕ → List Call → List ℕ
 wrote e s n [] = []
 wrote e s n (call ∷ calls) =
-    line_bytes e s n (line_of s call) ++ wrote e (settings_after_call s call) (lines_with n (line_of s call)) calls
+    line_bytes e s n (written_line s call) ++ wrote e (settings_after_call s call) (lines_with n (written_line s call)) calls
 
--- what follows the first comment mark of a prefix
+-- what follows the first comment sign of a prefix
 abbrev pub tail_of : List ℕ → List ℕ
 tail_of [] = []
-tail_of (c ∷ cs) = if is_comment_mark c then cs else tail_of cs
+tail_of (c ∷ cs) = if is_comment_sign c then cs else tail_of cs
 
 -- what a line says to its reader: a pair itself, and a comment the prefix's tail and its text, without the blanks at both ends
-abbrev pub told_content : Settings → Content → Content
-told_content s (comment text) = comment (trimmed (tail_of s.comment_prefix ++ text))
-told_content s (pair key value) = pair key value
+abbrev pub content_read_back : Settings → Content → Content
+content_read_back s (comment text) = comment (trimmed (tail_of s.comment_prefix ++ text))
+content_read_back s (pair key value) = pair key value
 
 -- the item of a line, where there is one, which is the next after n lines
-abbrev pub told_line : Settings → ℕ → Option Content → List Entry
-told_line s n None = []
-told_line s n (Some line) = item (n + 1) (told_content s line) ∷ []
+abbrev pub item_read_back : Settings → ℕ → Option Content → List Entry
+item_read_back s n None = []
+item_read_back s n (Some line) = item (n + 1) (content_read_back s line) ∷ []
 
 -- The items that the written lines are to be read back as: one a line, numbered on from the lines before.
-abbrev pub told : Settings → ℕ → List Call → List Entry
-told s n [] = []
-told s n (call ∷ calls) = told_line s n (line_of s call) ++ told (settings_after_call s call) (lines_with n (line_of s call)) calls
+abbrev pub items_read_back : Settings → ℕ → List Call → List Entry
+items_read_back s n [] = []
+items_read_back s n (call ∷ calls) = item_read_back s n (written_line s call) ++ items_read_back (settings_after_call s call) (lines_with n (written_line s call)) calls
 
 -- ---- which calls are read back
 

@@ -4,7 +4,7 @@ ghost use Rattle.std.specs.Prelude.{◌≡◌, ◌++◌, ◌∷◌, ◌<◌, [],
 ghost use Rattle.std.specs.Char.{digit_char};
 ghost use Rattle.std.specs.Str.{chars};
 ghost use Rattle.properties_format.specs.Text.{backslash};
-ghost use Rattle.properties_format.specs.Printing.{unit_escape, unicode_escape, literal, spelt, spelt_text, encoded_text, is_mark_like, shielded, spelt_key, in_key_or_value, in_comment};
+ghost use Rattle.properties_format.specs.Printing.{unit_escape, unicode_escape, literal, spelt, spelt_text, encoded_text, is_bom_like, with_first_escaped, spelt_key, in_key_or_value, in_comment};
 ghost use Rattle.java_properties.specs.Views.{encoding_of, place_of};
 
 use crate::encoding::{Encoding, push_encoded};
@@ -47,8 +47,8 @@ pub fn print_key(
 ) -> Result<(), AllocError>
     ensures printed { OnOk result (line.new.items ≡ line.old.items ++ encoded_text (encoding_of encoding) (spelt_key (encoding_of encoding) first (chars key.now))) }
 {
-    if first && is_mark_like(encoding, key) {
-        return print_shielded(line, encoding, key);
+    if first && is_bom_like(encoding, key) {
+        return print_with_first_escaped(line, encoding, key);
     }
     print_text(line, encoding, Place::KeyOrValue, key)
 }
@@ -61,8 +61,8 @@ pub fn print_raw(line: &mut Vec<u8>, text: &str) -> Result<(), AllocError>
 }
 
 // Whether a key's bytes begin like a byte order mark, by its first characters alone.
-fn is_mark_like(encoding: Encoding, key: &str) -> bool
-    ensures { result ≡ is_mark_like (encoding_of encoding) (chars key.now) }
+fn is_bom_like(encoding: Encoding, key: &str) -> bool
+    ensures { result ≡ is_bom_like (encoding_of encoding) (chars key.now) }
 {
     match encoding {
         Encoding::WINDOWS_1252 => {
@@ -75,8 +75,8 @@ fn is_mark_like(encoding: Encoding, key: &str) -> bool
 }
 
 // A key with its first character as an escape.
-fn print_shielded(line: &mut Vec<u8>, encoding: Encoding, key: &str) -> Result<(), AllocError>
-    ensures printed { OnOk result (line.new.items ≡ line.old.items ++ encoded_text (encoding_of encoding) (shielded (encoding_of encoding) (chars key.now))) }
+fn print_with_first_escaped(line: &mut Vec<u8>, encoding: Encoding, key: &str) -> Result<(), AllocError>
+    ensures printed { OnOk result (line.new.items ≡ line.old.items ++ encoded_text (encoding_of encoding) (with_first_escaped (encoding_of encoding) (chars key.now))) }
 {
     let mut characters = key.chars();
     let Some(character) = characters.next() else {

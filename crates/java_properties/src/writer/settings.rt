@@ -2,8 +2,8 @@
 
 ghost use Rattle.std.specs.Prelude.{◌≡◌, true};
 ghost use Rattle.std.specs.Str.{chars};
-ghost use Rattle.properties_format.specs.Text.{line_end_text, is_blank, is_line_end, is_comment_mark, is_separator};
-ghost use Rattle.properties_format.specs.Settings.{is_good_prefix, is_good_separator};
+ghost use Rattle.properties_format.specs.Text.{line_ending_text, is_blank, is_line_end, is_comment_sign, is_separator};
+ghost use Rattle.properties_format.specs.Reading.Settings.{is_good_prefix, is_good_separator};
 ghost use Rattle.java_properties.specs.SettingsTexts.{ending_of, prefix_of, separator_of};
 
 use crate::error::PropertiesError;
@@ -22,7 +22,7 @@ pub enum LineEnding {
 
 impl LineEnding {
     pub(crate) fn as_str(self) -> &'static str
-        ensures { chars result.now ≡ line_end_text (ending_of self) }
+        ensures { chars result.now ≡ line_ending_text (ending_of self) }
     {
         match self {
             LineEnding::CR => "\r",
@@ -132,7 +132,7 @@ pub(crate) fn is_good_prefix(text: &str) -> bool
             if is_line_end(character) {
                 return false;
             }
-        } else if is_comment_mark(character) {
+        } else if is_comment_sign(character) {
             marked = true;
         } else if !is_blank(character) {
             return false;
@@ -168,8 +168,8 @@ fn is_line_end(character: char) -> bool
     matches!(character, '\n' | '\r')
 }
 
-fn is_comment_mark(character: char) -> bool
-    ensures { result ≡ is_comment_mark character }
+fn is_comment_sign(character: char) -> bool
+    ensures { result ≡ is_comment_sign character }
 {
     matches!(character, '#' | '!')
 }

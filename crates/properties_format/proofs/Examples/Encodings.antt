@@ -1,7 +1,8 @@
 -- What some bytes are decoded to, and how some characters are encoded.
 use Rattle.std.proofs.Common.{◌≡◌, [], ◌∷◌, refl, Some, None}
 use Rattle.std.specs.Char.{encode_utf8}
-use Rattle.properties_format.specs.Encoding.{windows_1252, utf_8, utf_16le, utf_16be, decoded_of, pieces_of, encoded}
+use Rattle.properties_format.specs.Encoding.{windows_1252, utf_8, utf_16le, utf_16be, encoded}
+use Rattle.properties_format.specs.Reading.Encoding.{decoded_of, pieces_of}
 
 -- windows-1252
 table-row : decoded_of windows_1252 (0x80 ∷ 0x81 ∷ 0x9f ∷ 0xe9 ∷ []) ≡ 0x20ac ∷ 0x81 ∷ 0x178 ∷ 0xe9 ∷ []
@@ -59,30 +60,30 @@ aligned-unit : decoded_of utf_16le (0x61 ∷ 0x00 ∷ 0x3d ∷ 0x00 ∷ 0x0a ∷
 unfolding pieces_of
 aligned-unit = refl
 
--- marks
-second-mark : decoded_of utf_8 (0xef ∷ 0xbb ∷ 0xbf ∷ 0xef ∷ 0xbb ∷ 0xbf ∷ 0x61 ∷ []) ≡ 0xfeff ∷ 0x61 ∷ []
+-- byte order marks
+second-byte_order_mark : decoded_of utf_8 (0xef ∷ 0xbb ∷ 0xbf ∷ 0xef ∷ 0xbb ∷ 0xbf ∷ 0x61 ∷ []) ≡ 0xfeff ∷ 0x61 ∷ []
 unfolding pieces_of
-second-mark = refl
+second-byte_order_mark = refl
 
-mark-of-utf_8 : decoded_of utf_16le (0xef ∷ 0xbb ∷ 0xbf ∷ 0x61 ∷ []) ≡ 0x61 ∷ []
+byte_order_mark-of-utf_8 : decoded_of utf_16le (0xef ∷ 0xbb ∷ 0xbf ∷ 0x61 ∷ []) ≡ 0x61 ∷ []
 unfolding pieces_of
-mark-of-utf_8 = refl
+byte_order_mark-of-utf_8 = refl
 
-mark-of-utf_16le : decoded_of utf_8 (0xff ∷ 0xfe ∷ 0x61 ∷ 0x00 ∷ []) ≡ 0x61 ∷ []
+byte_order_mark-of-utf_16le : decoded_of utf_8 (0xff ∷ 0xfe ∷ 0x61 ∷ 0x00 ∷ []) ≡ 0x61 ∷ []
 unfolding pieces_of
-mark-of-utf_16le = refl
+byte_order_mark-of-utf_16le = refl
 
-mark-of-utf_16be : decoded_of windows_1252 (0xfe ∷ 0xff ∷ 0x00 ∷ 0x61 ∷ []) ≡ 0x61 ∷ []
+byte_order_mark-of-utf_16be : decoded_of windows_1252 (0xfe ∷ 0xff ∷ 0x00 ∷ 0x61 ∷ []) ≡ 0x61 ∷ []
 unfolding pieces_of
-mark-of-utf_16be = refl
+byte_order_mark-of-utf_16be = refl
 
-lone-mark-byte : decoded_of utf_8 (0xfe ∷ []) ≡ 0xfffd ∷ []
+lone-byte_order_mark-byte : decoded_of utf_8 (0xfe ∷ []) ≡ 0xfffd ∷ []
 unfolding pieces_of
-lone-mark-byte = refl
+lone-byte_order_mark-byte = refl
 
-cut-mark : decoded_of windows_1252 (0xef ∷ 0xbb ∷ []) ≡ 0xef ∷ 0xbb ∷ []
+cut-byte_order_mark : decoded_of windows_1252 (0xef ∷ 0xbb ∷ []) ≡ 0xef ∷ 0xbb ∷ []
 unfolding pieces_of
-cut-mark = refl
+cut-byte_order_mark = refl
 
 -- output
 euro : encoded windows_1252 0x20ac ≡ Some (0x80 ∷ [])

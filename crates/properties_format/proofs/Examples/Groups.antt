@@ -1,13 +1,14 @@
 -- Worked rows of groups, of joined lines, and of the lines that a fault names.
 use Rattle.std.proofs.Common.{◌≡◌, ℕ, ◌+◌, List, [], ◌∷◌, ◌++◌, refl}
 use Rattle.std.specs.Prelude.{codes}
-use Rattle.properties_format.specs.Text.{lf, cr, line_end_text}
-use Rattle.properties_format.specs.Lines.{Line, lines_of, line_ends, numbered_lines, Ending, end, fault, more}
+use Rattle.properties_format.specs.Text.{lf, cr, line_ending_text}
+use Rattle.properties_format.specs.Lines.{Line, line_ends, numbered_lines, InputEnd, end, fault, more}
+use Rattle.properties_format.specs.Reading.Lines.{lines_of}
 use Rattle.properties_format.specs.Groups.{ending_backslashes}
-use Rattle.properties_format.specs.Logical.{logical_lines}
+use Rattle.properties_format.specs.Reading.Logical.{logical_lines}
 
 -- the logical lines of a text
-abbrev read : List ℕ → Ending → List Line
+abbrev read : List ℕ → InputEnd → List Line
 read x ending = logical_lines (numbered_lines (lines_of x) ending) ending
 
 -- of given natural lines
@@ -21,15 +22,15 @@ join xs = logical_lines (natural 1 xs) end
 abbrev line : ℕ → List ℕ → Line
 line n text = record { number = n; text = text }
 
--- the line that a fault behind the text names
+-- the line that a fault after the text names
 abbrev fault_line : List ℕ → ℕ
 fault_line x = line_ends (lines_of x) + 1
 
 abbrev eol : List ℕ
-eol = line_end_text lf
+eol = line_ending_text lf
 
 abbrev return : List ℕ
-return = line_end_text cr
+return = line_ending_text cr
 
 abbrev bee : List ℕ
 bee = 0x1f41e ∷ []

@@ -2,11 +2,14 @@
 use Rattle.std.proofs.Common.{◌≡◌, [], ◌∷◌, refl}
 use Rattle.std.specs.Prelude.{codes, encode_utf8_all}
 use Rattle.std.specs.Char.{encode_utf8}
-use Rattle.properties_format.specs.Encoding.{windows_1252, utf_8, utf_16le, pieces_of}
+use Rattle.properties_format.specs.Encoding.{windows_1252, utf_8, utf_16le}
+use Rattle.properties_format.specs.Reading.Encoding.{pieces_of}
 use Rattle.properties_format.specs.Lines.{end, fault, more}
-use Rattle.properties_format.specs.Split.{split_of}
-use Rattle.properties_format.specs.Escapes.{not_enough_digits, not_hex, invalid_character, meaning_of}
-use Rattle.properties_format.specs.Items.{comment, pair, item, malformed, read_fault, items_of}
+use Rattle.properties_format.specs.Reading.Split.{split_of}
+use Rattle.properties_format.specs.Escapes.{not_enough_digits, not_hex, invalid_character}
+use Rattle.properties_format.specs.Reading.Escapes.{meaning_of}
+use Rattle.properties_format.specs.Items.{comment, pair, item, malformed, read_fault}
+use Rattle.properties_format.specs.Reading.Items.{items_of}
 
 -- nothing at all
 empty : items_of windows_1252 [] end ≡ []
@@ -71,7 +74,7 @@ past_ascii : items_of utf_8 (encode_utf8_all (codes "a=日本語\nb=Français"))
 unfolding items_of pieces_of split_of meaning_of encode_utf8
 past_ascii = refl
 
--- UTF-16, by its mark
+-- UTF-16, by its byte order mark
 unpaired_units : items_of windows_1252 (0xff ∷ 0xfe ∷ 0x61 ∷ 0x00 ∷ 0x3d ∷ 0x00 ∷ 0x3d ∷ 0xd8 ∷ 0x0a ∷ 0x00 ∷ 0x62 ∷ []) end ≡ item 1 (pair (codes "a") (codes "�")) ∷ item 2 (pair (codes "�") []) ∷ []
 unfolding items_of pieces_of split_of meaning_of
 unpaired_units = refl
@@ -163,7 +166,7 @@ stored_backslash : items_of windows_1252 (codes "#\\\\uD83D\\uDC1E") end ≡ mal
 unfolding items_of pieces_of split_of meaning_of
 stored_backslash = refl
 
--- comments and pairs, and a fault behind a pair
+-- comments and pairs, and a fault after a pair
 a_comment_and_two_pairs : items_of windows_1252 (codes "# x\nb = 2\na") end ≡ item 1 (comment (codes "x")) ∷ item 2 (pair (codes "b") (codes "2")) ∷ item 3 (pair (codes "a") []) ∷ []
 unfolding items_of pieces_of split_of meaning_of
 a_comment_and_two_pairs = refl

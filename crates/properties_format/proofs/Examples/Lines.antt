@@ -1,8 +1,9 @@
 -- Worked rows of lines.
 use Rattle.std.proofs.Common.{◌≡◌, ℕ, true, false, List, [], ◌∷◌, ◌++◌, refl}
 use Rattle.std.specs.Prelude.{codes}
-use Rattle.properties_format.specs.Text.{LineEnd, lf, cr, crlf, line_end_text}
-use Rattle.properties_format.specs.Lines.{lines_of, Line, numbered_lines, lines_after, end, more}
+use Rattle.properties_format.specs.Text.{LineEnding, lf, cr, crlf, line_ending_text}
+use Rattle.properties_format.specs.Lines.{Line, numbered_lines, end, more}
+use Rattle.properties_format.specs.Reading.Lines.{lines_of, lines_to_come}
 
 abbrev line : ℕ → List ℕ → Line
 line n text = record { number = n; text = text }
@@ -17,22 +18,22 @@ of_none = refl
 of_space : read (codes " ") ≡ line 1 (codes " ") ∷ []
 of_space = refl
 
-of_space_ended : (t : LineEnd) → read (codes " " ++ line_end_text t) ≡ line 1 (codes " ") ∷ line 2 [] ∷ []
+of_space_ended : (t : LineEnding) → read (codes " " ++ line_ending_text t) ≡ line 1 (codes " ") ∷ line 2 [] ∷ []
 of_space_ended lf = refl
 of_space_ended cr = refl
 of_space_ended crlf = refl
 
-of_spaces : (t : LineEnd) → read (codes " " ++ (line_end_text t ++ codes " ")) ≡ line 1 (codes " ") ∷ line 2 (codes " ") ∷ []
+of_spaces : (t : LineEnding) → read (codes " " ++ (line_ending_text t ++ codes " ")) ≡ line 1 (codes " ") ∷ line 2 (codes " ") ∷ []
 of_spaces lf = refl
 of_spaces cr = refl
 of_spaces crlf = refl
 
-of_end : (t : LineEnd) → read (line_end_text t) ≡ line 1 [] ∷ line 2 [] ∷ []
+of_end : (t : LineEnding) → read (line_ending_text t) ≡ line 1 [] ∷ line 2 [] ∷ []
 of_end lf = refl
 of_end cr = refl
 of_end crlf = refl
 
-of_end_space : (t : LineEnd) → read (line_end_text t ++ codes " ") ≡ line 1 [] ∷ line 2 (codes " ") ∷ []
+of_end_space : (t : LineEnding) → read (line_ending_text t ++ codes " ") ≡ line 1 [] ∷ line 2 (codes " ") ∷ []
 of_end_space lf = refl
 of_end_space cr = refl
 of_end_space crlf = refl
@@ -45,9 +46,9 @@ of_lf_cr : lines_of (10 ∷ 13 ∷ []) ≡ record { ended = record { text = []; 
 of_lf_cr = refl
 
 -- an LF that comes in a later part is of the end whose CR came before
-of_parts : numbered_lines (lines_of (codes "a=1" ++ (13 ∷ []))) more ++ lines_after 1 true [] (10 ∷ codes "b=2") end ≡ line 1 (codes "a=1") ∷ line 2 (codes "b=2") ∷ []
+of_parts : numbered_lines (lines_of (codes "a=1" ++ (13 ∷ []))) more ++ lines_to_come 1 true [] (10 ∷ codes "b=2") end ≡ line 1 (codes "a=1") ∷ line 2 (codes "b=2") ∷ []
 of_parts = refl
 
 -- a line that is held goes on
-of_held : lines_after 3 false (codes "ab") (codes "c" ++ (10 ∷ codes "d")) end ≡ line 4 (codes "abc") ∷ line 5 (codes "d") ∷ []
+of_held : lines_to_come 3 false (codes "ab") (codes "c" ++ (10 ∷ codes "d")) end ≡ line 4 (codes "abc") ∷ line 5 (codes "d") ∷ []
 of_held = refl

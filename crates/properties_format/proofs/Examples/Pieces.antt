@@ -1,7 +1,8 @@
--- Which bytes stand for which character, and which marks are dropped.
+-- Which bytes stand for which character, and which byte order marks are dropped.
 use Rattle.std.proofs.Common.{◌≡◌, [], ◌∷◌, refl, true, false}
 use Rattle.properties_format.specs.Pieces.{piece}
-use Rattle.properties_format.specs.Encoding.{windows_1252, utf_8, utf_16le, utf_16be, mark, begins_like_mark, pieces_of, decoded_of}
+use Rattle.properties_format.specs.Encoding.{windows_1252, utf_8, utf_16le, utf_16be, byte_order_mark, begins_like_bom}
+use Rattle.properties_format.specs.Reading.Encoding.{pieces_of, decoded_of}
 
 -- a byte each
 single-bytes : pieces_of windows_1252 (0xe9 ∷ 0x0a ∷ 0x80 ∷ []) ≡ piece (0xe9 ∷ []) 0xe9 ∷ piece (0x0a ∷ []) 0x0a ∷ piece (0x80 ∷ []) 0x20ac ∷ []
@@ -47,19 +48,19 @@ no-bytes : decoded_of utf_16be [] ≡ []
 unfolding pieces_of
 no-bytes = refl
 
--- a mark of another encoding, with an unpaired unit behind it
-marked-row : decoded_of windows_1252 (0xff ∷ 0xfe ∷ 0x61 ∷ 0x00 ∷ 0x3d ∷ 0x00 ∷ 0x3d ∷ 0xd8 ∷ 0x0a ∷ 0x00 ∷ 0x62 ∷ []) ≡ 0x61 ∷ 0x3d ∷ 0xfffd ∷ 0x0a ∷ 0xfffd ∷ []
+-- a byte order mark of another encoding, with an unpaired unit after it
+with_bom : decoded_of windows_1252 (0xff ∷ 0xfe ∷ 0x61 ∷ 0x00 ∷ 0x3d ∷ 0x00 ∷ 0x3d ∷ 0xd8 ∷ 0x0a ∷ 0x00 ∷ 0x62 ∷ []) ≡ 0x61 ∷ 0x3d ∷ 0xfffd ∷ 0x0a ∷ 0xfffd ∷ []
 unfolding pieces_of
-marked-row = refl
+with_bom = refl
 
-unmarked : mark utf_16le (0xfe ∷ 0xfe ∷ []) ≡ record { encoding = utf_16le; body = 0xfe ∷ 0xfe ∷ [] }
+unmarked : byte_order_mark utf_16le (0xfe ∷ 0xfe ∷ []) ≡ record { encoding = utf_16le; body = 0xfe ∷ 0xfe ∷ [] }
 unmarked = refl
 
-mark-alone : mark windows_1252 (0xef ∷ 0xbb ∷ 0xbf ∷ []) ≡ record { encoding = utf_8; body = [] }
-mark-alone = refl
+byte_order_mark-alone : byte_order_mark windows_1252 (0xef ∷ 0xbb ∷ 0xbf ∷ []) ≡ record { encoding = utf_8; body = [] }
+byte_order_mark-alone = refl
 
-like-mark : begins_like_mark (0xfe ∷ 0xff ∷ 0x3d ∷ []) ≡ true
-like-mark = refl
+like-byte_order_mark : begins_like_bom (0xfe ∷ 0xff ∷ 0x3d ∷ []) ≡ true
+like-byte_order_mark = refl
 
-not-like-mark : begins_like_mark (0xef ∷ 0xbb ∷ []) ≡ false
-not-like-mark = refl
+not-like-byte_order_mark : begins_like_bom (0xef ∷ 0xbb ∷ []) ≡ false
+not-like-byte_order_mark = refl

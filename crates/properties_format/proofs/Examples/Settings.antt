@@ -1,7 +1,7 @@
 -- Which prefixes and separators are good.
 use Rattle.std.proofs.Common.{◌≡◌, true, false, [], refl}
 use Rattle.std.specs.Prelude.{codes}
-use Rattle.properties_format.specs.Settings.{is_good_prefix, is_good_separator}
+use Rattle.properties_format.specs.Reading.Settings.{is_good_prefix, is_good_separator}
 
 -- good prefixes
 number_sign_alone : is_good_prefix (codes "#") ≡ true
@@ -35,8 +35,8 @@ empty_prefix = refl
 blank_prefix : is_good_prefix (codes " ") ≡ false
 blank_prefix = refl
 
-no_mark : is_good_prefix (codes "x") ≡ false
-no_mark = refl
+no_bom : is_good_prefix (codes "x") ≡ false
+no_bom = refl
 
 line_feed_before_mark : is_good_prefix (codes "\n#") ≡ false
 line_feed_before_mark = refl

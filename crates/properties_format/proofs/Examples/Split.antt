@@ -1,7 +1,8 @@
 -- Lines and what they are, computed.
 use Rattle.std.specs.Prelude.{◌≡◌, refl, ℕ, List, [], ◌∷◌, ◌++◌, map, codes}
 use Rattle.properties_format.specs.Text.{form_feed}
-use Rattle.properties_format.specs.Split.{Logical, blank, comment, pair, split_of}
+use Rattle.properties_format.specs.Split.{Logical, blank, comment, pair}
+use Rattle.properties_format.specs.Reading.Split.{split_of}
 
 bug : List ℕ
 bug = 0x1_f41e ∷ []

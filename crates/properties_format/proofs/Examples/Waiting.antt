@@ -1,19 +1,19 @@
 -- Which bytes wait for more.
 use Rattle.std.proofs.Common.{◌≡◌, [], ◌∷◌, refl, true, false}
 use Rattle.properties_format.specs.Encoding.{windows_1252, utf_8, utf_16le, utf_16be}
-use Rattle.properties_format.specs.Waiting.{awaits_mark, awaits_more}
+use Rattle.properties_format.specs.Reading.Waiting.{awaits_bom, awaits_more}
 
-no-byte-of_mark : awaits_mark [] ≡ true
+no-byte-of_mark : awaits_bom [] ≡ true
 no-byte-of_mark = refl
 
-front-of_mark : awaits_mark (0xef ∷ 0xbb ∷ []) ≡ true
+front-of_mark : awaits_bom (0xef ∷ 0xbb ∷ []) ≡ true
 front-of_mark = refl
 
-whole-mark : awaits_mark (0xfe ∷ 0xff ∷ []) ≡ false
-whole-mark = refl
+whole-byte_order_mark : awaits_bom (0xfe ∷ 0xff ∷ []) ≡ false
+whole-byte_order_mark = refl
 
-no-mark : awaits_mark (0xef ∷ 0xbc ∷ []) ≡ false
-no-mark = refl
+no-byte_order_mark : awaits_bom (0xef ∷ 0xbc ∷ []) ≡ false
+no-byte_order_mark = refl
 
 single-byte : awaits_more windows_1252 0xe3 [] ≡ false
 single-byte = refl

@@ -3,18 +3,20 @@ use Rattle.std.proofs.Common.{◌≡◌, List, [], ◌∷◌, refl, true, false,
 use Rattle.std.specs.Prelude.{codes}
 use Rattle.std.specs.Char.{encode_utf8}
 use Rattle.properties_format.specs.Text.{lf, cr, crlf}
-use Rattle.properties_format.specs.Encoding.{Encoding, windows_1252, utf_8, utf_16le, output_encoding, pieces_of}
+use Rattle.properties_format.specs.Encoding.{Encoding, windows_1252, utf_8, utf_16le, output_encoding}
+use Rattle.properties_format.specs.Reading.Encoding.{pieces_of}
 use Rattle.properties_format.specs.Lines.{end}
-use Rattle.properties_format.specs.Split.{split_of}
-use Rattle.properties_format.specs.Escapes.{meaning_of}
-use Rattle.properties_format.specs.Items.{Entry, comment, pair, item, items_of}
+use Rattle.properties_format.specs.Reading.Split.{split_of}
+use Rattle.properties_format.specs.Reading.Escapes.{meaning_of}
+use Rattle.properties_format.specs.Items.{Entry, comment, pair, item}
+use Rattle.properties_format.specs.Reading.Items.{items_of}
 use Rattle.properties_format.specs.Settings.{default_settings}
-use Rattle.properties_format.specs.Writing.{Call, comment_call, pair_call, prefix_call, separator_call, ending_call, flush_call, answers, wrote, told}
+use Rattle.properties_format.specs.Writing.{Call, comment_call, pair_call, prefix_call, separator_call, ending_call, flush_call, answers, wrote, items_read_back}
 
 -- a new writer's calls write these bytes, which read back as these items
 abbrev WritesAndReads : Encoding → List Call → List ℕ → List Entry → Type 0
 WritesAndReads e calls bytes items =
-    (wrote e default_settings 0 calls ≡ bytes) × (told default_settings 0 calls ≡ items) × (items_of e bytes end ≡ items)
+    (wrote e default_settings 0 calls ≡ bytes) × (items_read_back default_settings 0 calls ≡ items) × (items_of e bytes end ≡ items)
 
 -- pairs
 a_pair : WritesAndReads windows_1252 (pair_call (codes "a") (codes "b") ∷ []) (codes "a=b\n") (item 1 (pair (codes "a") (codes "b")) ∷ [])
@@ -49,30 +51,30 @@ letters : WritesAndReads windows_1252 (pair_call (codes "\t\n") (codes "\u{c}\r\
 unfolding items_of pieces_of split_of meaning_of
 letters = (refl, refl, refl)
 
--- a first key that begins like a mark
-mark_like_key : WritesAndReads windows_1252 (pair_call (codes "þÿ") (codes "x") ∷ pair_call (codes "þÿ") (codes "x") ∷ []) (codes "\\u00feÿ=x\nþÿ=x\n") (item 1 (pair (codes "þÿ") (codes "x")) ∷ item 2 (pair (codes "þÿ") (codes "x")) ∷ [])
+-- a first key that begins like a byte order mark
+bom_like_key : WritesAndReads windows_1252 (pair_call (codes "þÿ") (codes "x") ∷ pair_call (codes "þÿ") (codes "x") ∷ []) (codes "\\u00feÿ=x\nþÿ=x\n") (item 1 (pair (codes "þÿ") (codes "x")) ∷ item 2 (pair (codes "þÿ") (codes "x")) ∷ [])
 unfolding items_of pieces_of split_of meaning_of
-mark_like_key = (refl, refl, refl)
+bom_like_key = (refl, refl, refl)
 
-mark_like_key_low_byte_first : WritesAndReads windows_1252 (pair_call (codes "ÿþa") (codes "x") ∷ []) (codes "\\u00ffþa=x\n") (item 1 (pair (codes "ÿþa") (codes "x")) ∷ [])
+bom_like_key_low_byte_first : WritesAndReads windows_1252 (pair_call (codes "ÿþa") (codes "x") ∷ []) (codes "\\u00ffþa=x\n") (item 1 (pair (codes "ÿþa") (codes "x")) ∷ [])
 unfolding items_of pieces_of split_of meaning_of
-mark_like_key_low_byte_first = (refl, refl, refl)
+bom_like_key_low_byte_first = (refl, refl, refl)
 
-mark_like_key_of_three : WritesAndReads windows_1252 (pair_call (codes "ï»¿") (codes "x") ∷ []) (codes "\\u00ef»¿=x\n") (item 1 (pair (codes "ï»¿") (codes "x")) ∷ [])
+bom_like_key_of_three : WritesAndReads windows_1252 (pair_call (codes "ï»¿") (codes "x") ∷ []) (codes "\\u00ef»¿=x\n") (item 1 (pair (codes "ï»¿") (codes "x")) ∷ [])
 unfolding items_of pieces_of split_of meaning_of
-mark_like_key_of_three = (refl, refl, refl)
+bom_like_key_of_three = (refl, refl, refl)
 
-no_mark_like_key : WritesAndReads windows_1252 (pair_call (codes "ï»") (codes "x") ∷ []) (codes "ï»=x\n") (item 1 (pair (codes "ï»") (codes "x")) ∷ [])
+no_bom_like_key : WritesAndReads windows_1252 (pair_call (codes "ï»") (codes "x") ∷ []) (codes "ï»=x\n") (item 1 (pair (codes "ï»") (codes "x")) ∷ [])
 unfolding items_of pieces_of split_of meaning_of
-no_mark_like_key = (refl, refl, refl)
+no_bom_like_key = (refl, refl, refl)
 
-mark_like_key_in_utf_8 : WritesAndReads utf_8 (pair_call (codes "\u{feff}") [] ∷ []) (codes "\\ufeff=\n") (item 1 (pair (codes "\u{feff}") []) ∷ [])
+bom_like_key_in_utf_8 : WritesAndReads utf_8 (pair_call (codes "\u{feff}") [] ∷ []) (codes "\\ufeff=\n") (item 1 (pair (codes "\u{feff}") []) ∷ [])
 unfolding items_of pieces_of split_of meaning_of encode_utf8
-mark_like_key_in_utf_8 = (refl, refl, refl)
+bom_like_key_in_utf_8 = (refl, refl, refl)
 
-mark_like_key_behind_a_comment : WritesAndReads windows_1252 (comment_call (codes "c") ∷ pair_call (codes "þÿ") (codes "x") ∷ []) (codes "# c\nþÿ=x\n") (item 1 (comment (codes "c")) ∷ item 2 (pair (codes "þÿ") (codes "x")) ∷ [])
+bom_like_key_after_a_comment : WritesAndReads windows_1252 (comment_call (codes "c") ∷ pair_call (codes "þÿ") (codes "x") ∷ []) (codes "# c\nþÿ=x\n") (item 1 (comment (codes "c")) ∷ item 2 (pair (codes "þÿ") (codes "x")) ∷ [])
 unfolding items_of pieces_of split_of meaning_of
-mark_like_key_behind_a_comment = (refl, refl, refl)
+bom_like_key_after_a_comment = (refl, refl, refl)
 
 -- UTF-8
 utf_8_pairs : WritesAndReads utf_8 (pair_call [] [] ∷ pair_call (codes "a") (codes "b") ∷ pair_call (codes " :=") (codes " :=") ∷ pair_call (codes "!") (codes "#") ∷ []) (codes "=\na=b\n\\ \\:\\==\\ \\:\\=\n\\!=\\#\n") (item 1 (pair [] []) ∷ item 2 (pair (codes "a") (codes "b")) ∷ item 3 (pair (codes " :=") (codes " :=")) ∷ item 4 (pair (codes "!") (codes "#")) ∷ [])

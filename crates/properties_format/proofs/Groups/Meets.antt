@@ -2,8 +2,9 @@
 use Rattle.std.proofs.Common.{◌≡◌, true, false, List, [], ◌∷◌, ◌++◌, refl, ap, sym, ◌∙◌, inl, inr, append_assoc, append-nil}
 use Rattle.std.specs.Prelude.{not}
 use Rattle.std.proofs.lemmas.Bool.{cases_Bool, or_parts, not-false, not-true}
-use Rattle.properties_format.specs.Lines.{Line, Ending}
-use Rattle.properties_format.specs.Groups.{is_open, is_marked, EndsClosed, AreOpen, IsWhole, IsUnfinished, lines_in, IsGroups, closes, groups_after, groups_of}
+use Rattle.properties_format.specs.Lines.{Line, InputEnd}
+use Rattle.properties_format.specs.Groups.{is_open, is_comment_line, EndsClosed, AreOpen, IsWhole, IsUnfinished, lines_in, IsGroups}
+use Rattle.properties_format.specs.Reading.Groups.{closes, groups_after, groups_of}
 use Rattle.properties_format.proofs.Groups.Steps.{groups_after-close, groups_after-leave}
 
 -- open lines and then one that is not
@@ -16,7 +17,7 @@ are-open [] l h k = (k, tt)
 are-open (m ∷ ms) l h k = (h.0, are-open ms l h.1 k)
 
 one-whole : (l : Line) → closes [] l ≡ true → IsWhole (l ∷ [])
-one-whole l h = elim (cases_Bool (is_marked l.text)) [
+one-whole l h = elim (cases_Bool (is_comment_line l.text)) [
   | inl k ↦ inl (k, refl)
   | inr k ↦ inr (k, not-true (is_open l.text) (rw k at h))
 ]
@@ -29,11 +30,11 @@ close-whole (m ∷ ms) l h k = inr (h.0, ends-closed m ms l h.1 (not-true (is_op
 -- a group that is left open is unfinished
 pub leave-unfinished : (p : List Line) (l : Line) → IsUnfinished p → closes p l ≡ false → IsUnfinished (p ++ l ∷ [])
 leave-unfinished [] l h k =
-    let parts = or_parts (is_marked l.text) (not (is_open l.text)) k in (parts.0, (not-false (is_open l.text) parts.1, tt))
+    let parts = or_parts (is_comment_line l.text) (not (is_open l.text)) k in (parts.0, (not-false (is_open l.text) parts.1, tt))
 leave-unfinished (m ∷ ms) l h k = (h.0, are-open (m ∷ ms) l h.1 (not-false (is_open l.text) k))
 
 -- a whole group in front
-group-before : (g ls : List Line) (e : Ending) (gs : List (List Line)) → IsWhole g → IsGroups ls e gs → IsGroups (g ++ ls) e (g ∷ gs)
+group-before : (g ls : List Line) (e : InputEnd) (gs : List (List Line)) → IsWhole g → IsGroups ls e gs → IsGroups (g ++ ls) e (g ∷ gs)
 group-before g ls e gs h k = record {
   whole = g ∷ k.whole;
   unfinished = k.unfinished;
@@ -43,8 +44,8 @@ group-before g ls e gs h k = record {
   are_groups = ap (λ v. g ∷ v) k.are_groups;
 }
 
--- what is computed behind an open group, with the lines of that group in front
-pub groups_after-meets : (p ls : List Line) (e : Ending) → IsUnfinished p → IsGroups (p ++ ls) e (groups_after p ls e)
+-- what is computed after an open group, with the lines of that group in front
+pub groups_after-meets : (p ls : List Line) (e : InputEnd) → IsUnfinished p → IsGroups (p ++ ls) e (groups_after p ls e)
 groups_after-meets p [] e h = record {
   whole = [];
   unfinished = p;
@@ -63,5 +64,5 @@ groups_after-meets p (l ∷ ls) e h = elim (cases_Bool (closes p l)) [
 ]
 
 -- what is computed are groups of the lines
-pub groups_of-meets : (ls : List Line) (e : Ending) → IsGroups ls e (groups_of ls e)
+pub groups_of-meets : (ls : List Line) (e : InputEnd) → IsGroups ls e (groups_of ls e)
 groups_of-meets ls e = groups_after-meets [] ls e tt

@@ -1,7 +1,8 @@
 -- The numbers of groups ascend.
 use Rattle.std.proofs.Common.{ℕ, ◌+◌, ◌<◌, ◌≤◌, List, [], ◌∷◌, ◌++◌, map, length, subst, append_assoc, arith}
-use Rattle.properties_format.specs.Lines.{Lines, Line, Ending, end, fault, more, numbered_lines}
-use Rattle.properties_format.specs.Groups.{AreWhole, lines_in, last_group, first_number, groups_of}
+use Rattle.properties_format.specs.Lines.{Lines, Line, InputEnd, end, fault, more, numbered_lines}
+use Rattle.properties_format.specs.Groups.{AreWhole, lines_in, last_group, first_number}
+use Rattle.properties_format.specs.Reading.Groups.{groups_of}
 use Rattle.properties_format.proofs.Lines.Numbers.{AreNumbered, numbered-in_order, in_order-right}
 use Rattle.properties_format.proofs.Groups.Meets.{groups_of-meets}
 
@@ -10,13 +11,13 @@ abbrev pub AscendAbove : ℕ → List ℕ → Type 0
 AscendAbove n [] = Unit {0}
 AscendAbove n (m ∷ ms) = (n < m) × AscendAbove m ms
 
-last-ascends : (n m : ℕ) (p : List Line) (e : Ending) → m ≤ n → AreNumbered n p → AscendAbove m (map first_number (last_group p e))
+last-ascends : (n m : ℕ) (p : List Line) (e : InputEnd) → m ≤ n → AreNumbered n p → AscendAbove m (map first_number (last_group p e))
 last-ascends n m [] e h k = tt
 last-ascends n m (l ∷ ls) end h k = (omega (arith, k.0), tt)
 last-ascends n m (l ∷ ls) fault h k = tt
 last-ascends n m (l ∷ ls) more h k = tt
 
-ascend : (n m : ℕ) (gs : List (List Line)) (p : List Line) (e : Ending) → m ≤ n → AreWhole gs → AreNumbered n (lines_in gs ++ p)
+ascend : (n m : ℕ) (gs : List (List Line)) (p : List Line) (e : InputEnd) → m ≤ n → AreWhole gs → AreNumbered n (lines_in gs ++ p)
     → AscendAbove m (map first_number (gs ++ last_group p e))
 ascend n m [] p e h are k = last-ascends n m p e h k
 ascend n m ([] ∷ gs) p e h are k = absurd are.0
@@ -25,12 +26,12 @@ ascend n m ((l ∷ ls) ∷ gs) p e h are k =
     in_order-right (n + 1) ls (lines_in gs ++ p) (subst (λ v. AreNumbered (n + 1) v) (append_assoc ls (lines_in gs) p) k.1) in
     (omega (arith, k.0), ascend (n + 1 + length ls) l.number gs p e (omega (arith, k.0)) are.1 after)
 
--- of lines that are numbered behind n
-pub groups-ascend : (n : ℕ) (ls : List Line) (e : Ending) → AreNumbered n ls → AscendAbove n (map first_number (groups_of ls e))
+-- of lines that are numbered after n
+pub groups-ascend : (n : ℕ) (ls : List Line) (e : InputEnd) → AreNumbered n ls → AscendAbove n (map first_number (groups_of ls e))
 groups-ascend n ls e h =
     let m = groups_of-meets ls e in
     rw m.are_groups (ascend n n m.whole m.unfinished e (omega arith) m.are_whole (rw m.are_lines at h))
 
 -- The numbers of the groups of a text ascend strictly, from 1 or above.
-pub groups_of-ascend : (lines : Lines) (e : Ending) → AscendAbove 0 (map first_number (groups_of (numbered_lines lines e) e))
+pub groups_of-ascend : (lines : Lines) (e : InputEnd) → AscendAbove 0 (map first_number (groups_of (numbered_lines lines e) e))
 groups_of-ascend lines e = groups-ascend 0 (numbered_lines lines e) e (numbered-in_order 0 lines.ended lines.last e)

@@ -4,8 +4,8 @@ use Rattle.std.specs.Prelude.{reverse, replicate, not, ◌%◌, if◌then◌else
 use Rattle.std.proofs.lemmas.Bool.{cases_Bool}
 use Rattle.std.proofs.lemmas.Bool.Decides.{eqb_tells}
 use Rattle.std.proofs.lemmas.List.{reverse-append, reverse-reverse, replicate_more}
-use Rattle.properties_format.specs.Text.{backslash, is_blank}
-use Rattle.properties_format.specs.Groups.{leading_backslashes, ending_backslashes, is_open, without_leading_blanks, without_last, without_open_backslash, addition}
+use Rattle.properties_format.specs.Text.{backslash, is_blank, without_leading_blanks}
+use Rattle.properties_format.specs.Groups.{leading_backslashes, ending_backslashes, is_open, without_last, without_open_backslash, addition}
 
 -- one character more at the end
 pub ending_backslashes-push : (x : List ℕ) (c : ℕ) → ending_backslashes (x ++ c ∷ []) ≡ (if c == backslash then suc (ending_backslashes x) else 0)
@@ -22,24 +22,24 @@ leading-other [] b c h = rw h refl
 leading-other (d ∷ a) b c h = rw (leading-other a b c h) refl
 
 -- what stands before a character that is no backslash does not count
-pub ending_backslashes-behind : (x : List ℕ) (c : ℕ) (y : List ℕ) → (c == backslash) ≡ false → ending_backslashes (x ++ c ∷ y) ≡ ending_backslashes y
-ending_backslashes-behind x c y h =
+pub ending_backslashes-after : (x : List ℕ) (c : ℕ) (y : List ℕ) → (c == backslash) ≡ false → ending_backslashes (x ++ c ∷ y) ≡ ending_backslashes y
+ending_backslashes-after x c y h =
     ap leading_backslashes (reverse-append x (c ∷ y) ∙ ap (λ v. v ++ reverse x) (reverse-append (c ∷ []) y) ∙ append_assoc (reverse y) (c ∷ []) (reverse x))
     ∙ leading-other (reverse y) (reverse x) c h
 
-run-behind : (x : List ℕ) (m n : ℕ) → ending_backslashes x ≡ m → ending_backslashes (x ++ replicate n backslash) ≡ m + n
-run-behind x m zero h = ap ending_backslashes (append-nil x) ∙ h ∙ sym (add-zero m)
-run-behind x m (suc n) h =
+run-after : (x : List ℕ) (m n : ℕ) → ending_backslashes x ≡ m → ending_backslashes (x ++ replicate n backslash) ≡ m + n
+run-after x m zero h = ap ending_backslashes (append-nil x) ∙ h ∙ sym (add-zero m)
+run-after x m (suc n) h =
     ap ending_backslashes (sym (append_assoc x (backslash ∷ []) (replicate n backslash)))
-    ∙ run-behind (x ++ backslash ∷ []) (suc m) n (ending_backslashes-more x ∙ ap suc h)
+    ∙ run-after (x ++ backslash ∷ []) (suc m) n (ending_backslashes-more x ∙ ap suc h)
     ∙ move m n
   where
     move : (m n : ℕ) → suc m + n ≡ m + suc n
     move m n = omega arith
 
--- behind a part that ends in no backslash, the backslashes are those that the text ends in
+-- after a part that ends in no backslash, the backslashes are those that the text ends in
 pub ending_backslashes-run : (x : List ℕ) (n : ℕ) → ending_backslashes x ≡ 0 → ending_backslashes (x ++ replicate n backslash) ≡ n
-ending_backslashes-run x n h = run-behind x 0 n h ∙ zero-add n
+ending_backslashes-run x n h = run-after x 0 n h ∙ zero-add n
 
 leading-split : (y : List ℕ) → (r : List ℕ) × (y ≡ replicate (leading_backslashes y) backslash ++ r) × (leading_backslashes r ≡ 0)
 leading-split [] = ([], refl, refl)
@@ -94,8 +94,8 @@ pub is_open-other : (x : List ℕ) (c : ℕ) → (c == backslash) ≡ false → 
 is_open-other x c h = ap (λ v. v % 2 == 1) (ending_backslashes-none x c h)
 
 -- whether a line is open does not hang on what stands before a character that is no backslash
-pub is_open-behind : (x : List ℕ) (c : ℕ) (y : List ℕ) → (c == backslash) ≡ false → is_open (x ++ c ∷ y) ≡ is_open y
-is_open-behind x c y h = ap (λ v. v % 2 == 1) (ending_backslashes-behind x c y h)
+pub is_open-after : (x : List ℕ) (c : ℕ) (y : List ℕ) → (c == backslash) ≡ false → is_open (x ++ c ∷ y) ≡ is_open y
+is_open-after x c y h = ap (λ v. v % 2 == 1) (ending_backslashes-after x c y h)
 
 -- a blank is no backslash
 pub blank-other : (c : ℕ) → is_blank c ≡ true → (c == backslash) ≡ false
@@ -108,7 +108,7 @@ blank-other c h = elim (eqb_tells c backslash) [
 pub is_open-blanks : (x : List ℕ) → is_open (without_leading_blanks x) ≡ is_open x
 is_open-blanks [] = refl
 is_open-blanks (c ∷ x) = elim (cases_Bool (is_blank c)) [
-  | inl k ↦ rw k (is_open-blanks x ∙ sym (is_open-behind [] c x (blank-other c k)))
+  | inl k ↦ rw k (is_open-blanks x ∙ sym (is_open-after [] c x (blank-other c k)))
   | inr k ↦ rw k refl
 ]
 

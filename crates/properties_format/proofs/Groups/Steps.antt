@@ -1,16 +1,17 @@
 -- How the groups go on with the next line, where a group begins and where one is open.
 use Rattle.std.proofs.Common.{◌≡◌, Bool, true, false, List, [], ◌∷◌, ◌++◌, refl}
 use Rattle.std.specs.Prelude.{◌||◌}
-use Rattle.properties_format.specs.Lines.{Line, Ending, end, fault, more}
-use Rattle.properties_format.specs.Groups.{is_open, is_marked, closes, groups_after, groups_of, open_after}
+use Rattle.properties_format.specs.Lines.{Line, InputEnd, end, fault, more}
+use Rattle.properties_format.specs.Groups.{is_open, is_comment_line}
+use Rattle.properties_format.specs.Reading.Groups.{closes, groups_after, groups_of, open_after}
 
 -- a line that closes its group
-pub groups_after-close : (p : List Line) (l : Line) (ls : List Line) (e : Ending) → closes p l ≡ true
+pub groups_after-close : (p : List Line) (l : Line) (ls : List Line) (e : InputEnd) → closes p l ≡ true
     → groups_after p (l ∷ ls) e ≡ (p ++ l ∷ []) ∷ groups_after [] ls e
 groups_after-close p l ls e h = rw (h, groups_after) refl
 
 -- a line that leaves its group open
-pub groups_after-leave : (p : List Line) (l : Line) (ls : List Line) (e : Ending) → closes p l ≡ false
+pub groups_after-leave : (p : List Line) (l : Line) (ls : List Line) (e : InputEnd) → closes p l ≡ false
     → groups_after p (l ∷ ls) e ≡ groups_after (p ++ l ∷ []) ls e
 groups_after-leave p l ls e h = rw (h, groups_after) refl
 
@@ -22,21 +23,21 @@ open_after-leave p l ls h = rw (h, open_after) refl
 
 -- ---- which line closes a group
 
--- a marked line closes the group that it begins
-pub closes-marked : (l : Line) → is_marked l.text ≡ true → closes [] l ≡ true
-closes-marked l h = rw h refl
+-- a comment line closes the group that it begins
+pub closes-comment_line : (l : Line) → is_comment_line l.text ≡ true → closes [] l ≡ true
+closes-comment_line l h = rw h refl
 
 -- a line that is not open closes every group
 pub closes-closed : (p : List Line) (l : Line) → is_open l.text ≡ false → closes p l ≡ true
-closes-closed [] l h = rw h (or-true (is_marked l.text))
+closes-closed [] l h = rw h (or-true (is_comment_line l.text))
   where
     or-true : (b : Bool) → (b || true) ≡ true
     or-true true = refl
     or-true false = refl
 closes-closed (m ∷ ms) l h = rw h refl
 
--- an open line that is not marked leaves the group open that it begins
-pub closes-begins : (l : Line) → is_marked l.text ≡ false → is_open l.text ≡ true → closes [] l ≡ false
+-- an open line that is no comment line leaves the group open that it begins
+pub closes-begins : (l : Line) → is_comment_line l.text ≡ false → is_open l.text ≡ true → closes [] l ≡ false
 closes-begins l h k = rw (h, k) refl
 
 -- an open line leaves a group open
@@ -45,28 +46,28 @@ closes-goes_on m ms l h = rw h refl
 
 -- ---- the groups by the next line
 
--- where a group begins: a marked line is a group
-pub groups_of-marked : (l : Line) (ls : List Line) (e : Ending) → is_marked l.text ≡ true
+-- where a group begins: a comment line is a group
+pub groups_of-comment_line : (l : Line) (ls : List Line) (e : InputEnd) → is_comment_line l.text ≡ true
     → groups_of (l ∷ ls) e ≡ (l ∷ []) ∷ groups_of ls e
-groups_of-marked l ls e h = groups_after-close [] l ls e (closes-marked l h)
+groups_of-comment_line l ls e h = groups_after-close [] l ls e (closes-comment_line l h)
 
 -- where a group begins: a line that is not open is a group
-pub groups_of-closed : (l : Line) (ls : List Line) (e : Ending) → is_open l.text ≡ false
+pub groups_of-closed : (l : Line) (ls : List Line) (e : InputEnd) → is_open l.text ≡ false
     → groups_of (l ∷ ls) e ≡ (l ∷ []) ∷ groups_of ls e
 groups_of-closed l ls e h = groups_after-close [] l ls e (closes-closed [] l h)
 
--- where a group begins: an open line that is not marked begins one that goes on
-pub groups_of-open : (l : Line) (ls : List Line) (e : Ending) → is_marked l.text ≡ false → is_open l.text ≡ true
+-- where a group begins: an open line that is no comment line begins one that goes on
+pub groups_of-open : (l : Line) (ls : List Line) (e : InputEnd) → is_comment_line l.text ≡ false → is_open l.text ≡ true
     → groups_of (l ∷ ls) e ≡ groups_after (l ∷ []) ls e
 groups_of-open l ls e h k = groups_after-leave [] l ls e (closes-begins l h k)
 
 -- where a group is open: a line that is not open closes it
-pub groups_after-closed : (p : List Line) (l : Line) (ls : List Line) (e : Ending) → is_open l.text ≡ false
+pub groups_after-closed : (p : List Line) (l : Line) (ls : List Line) (e : InputEnd) → is_open l.text ≡ false
     → groups_after p (l ∷ ls) e ≡ (p ++ l ∷ []) ∷ groups_of ls e
 groups_after-closed p l ls e h = groups_after-close p l ls e (closes-closed p l h)
 
--- where a group is open: an open line is one more of it, marked or not
-pub groups_after-open : (m : Line) (ms : List Line) (l : Line) (ls : List Line) (e : Ending) → is_open l.text ≡ true
+-- where a group is open: an open line is one more of it, comment line or not
+pub groups_after-open : (m : Line) (ms : List Line) (l : Line) (ls : List Line) (e : InputEnd) → is_open l.text ≡ true
     → groups_after (m ∷ ms) (l ∷ ls) e ≡ groups_after (m ∷ ms ++ l ∷ []) ls e
 groups_after-open m ms l ls e h = groups_after-leave (m ∷ ms) l ls e (closes-goes_on m ms l h)
 

@@ -1,51 +1,52 @@
 -- The lines of two texts together: where the second one comes after the first, the lines that the first ends stay.
 use Rattle.std.proofs.Common.{◌≡◌, ℕ, ◌+◌, ◌==◌, false, List, [], ◌∷◌, ◌++◌, length, refl, ap, sym, ◌∙◌, append_assoc, add-zero, Bool, true, inl, inr}
 use Rattle.std.proofs.lemmas.Bool.{cases_Bool}
-use Rattle.properties_format.specs.Text.{line_feed, carriage_return, LineEnd, lf, cr, crlf, line_end_text}
-use Rattle.properties_format.specs.Lines.{Ended, put_together, IsPlain, BeginsWithNoLoneLf, AreLines, Ending, more, line_ends, begins_with_lf, ends_in_cr, lines_of, numbered, lines_after, rest_of_end}
+use Rattle.properties_format.specs.Text.{line_feed, carriage_return, LineEnding, lf, cr, crlf, line_ending_text}
+use Rattle.properties_format.specs.Lines.{Ended, put_together, HoldsNoLineEnd, BeginsWithNoLoneLf, AreLines, InputEnd, more, line_ends, numbered}
+use Rattle.properties_format.specs.Reading.Lines.{begins_with_lf, ends_in_cr, lines_of, lines_to_come, rest_of_end}
 use Rattle.properties_format.proofs.Lines.Meets.{lines_of-meets}
-use Rattle.properties_format.proofs.Lines.Plain.{one-more, regroup, plain-no_cr, no_lf_first, ends_in_cr-append, ends-behind, ends-lf, ends-crlf}
-use Rattle.properties_format.proofs.Lines.Steps.{lines_after-cr, lines_after-line}
+use Rattle.properties_format.proofs.Lines.Plain.{one-more, regroup, plain-no_cr, no_lf_first, ends_in_cr-append, ends-after, ends-lf, ends-crlf}
+use Rattle.properties_format.proofs.Lines.Steps.{lines_to_come-cr, lines_to_come-line}
 
 -- ---- the numbered lines
 
 -- the lines of a text to which more comes, where the text is given by its lines
 Goes : List Ended → List ℕ → Type 0
-Goes ls last = (n : ℕ) (y : List ℕ) (e : Ending)
-    → lines_after n false [] (put_together ls last ++ y) e ≡ numbered n ls last more ++ lines_after (n + length ls) (ends_in_cr (put_together ls last)) last y e
+Goes ls last = (n : ℕ) (y : List ℕ) (e : InputEnd)
+    → lines_to_come n false [] (put_together ls last ++ y) e ≡ numbered n ls last more ++ lines_to_come (n + length ls) (ends_in_cr (put_together ls last)) last y e
 
-goes-last : (last : List ℕ) → IsPlain last → Goes [] last
+goes-last : (last : List ℕ) → HoldsNoLineEnd last → Goes [] last
 unfolding Goes
 goes-last last h n y e = rw (plain-no_cr last h, add-zero n) refl
 
 -- a line with an end that needs no look at what comes
-goes-line : (text : List ℕ) (by : LineEnd) (ls : List Ended) (last : List ℕ) → IsPlain text
+goes-line : (text : List ℕ) (by : LineEnding) (ls : List Ended) (last : List ℕ) → HoldsNoLineEnd text
     → ((y : List ℕ) → by ≡ cr → begins_with_lf (put_together ls last ++ y) ≡ false)
-    → ends_in_cr (text ++ (line_end_text by ++ put_together ls last)) ≡ ends_in_cr (put_together ls last)
+    → ends_in_cr (text ++ (line_ending_text by ++ put_together ls last)) ≡ ends_in_cr (put_together ls last)
     → Goes ls last → Goes (record { text = text; by = by } ∷ ls) last
 unfolding Goes
 goes-line text by ls last h k m goes n y e =
-    ap (λ v. lines_after n false [] v e) (regroup text by (put_together ls last) y)
-    ∙ lines_after-line n [] text by (put_together ls last ++ y) e tt h (k y)
+    ap (λ v. lines_to_come n false [] v e) (regroup text by (put_together ls last) y)
+    ∙ lines_to_come-line n [] text by (put_together ls last ++ y) e tt h (k y)
     ∙ ap (λ v. record { number = n + 1; text = text } ∷ v) (goes (n + 1) y e)
     ∙ rw (m, one-more n (length ls)) refl
 
 -- a CR at the end of the text
-goes-cr : (text : List ℕ) → IsPlain text → Goes (record { text = text; by = cr } ∷ []) []
+goes-cr : (text : List ℕ) → HoldsNoLineEnd text → Goes (record { text = text; by = cr } ∷ []) []
 unfolding Goes
 goes-cr text h n y e =
-    ap (λ v. lines_after n false [] v e) (regroup text cr [] y)
-    ∙ lines_after-cr n false text y e h
-    ∙ ap (λ v. record { number = n + 1; text = text } ∷ lines_after (n + 1) v [] y e) (sym (ends_in_cr-append text carriage_return []))
+    ap (λ v. lines_to_come n false [] v e) (regroup text cr [] y)
+    ∙ lines_to_come-cr n false text y e h
+    ∙ ap (λ v. record { number = n + 1; text = text } ∷ lines_to_come (n + 1) v [] y e) (sym (ends_in_cr-append text carriage_return []))
 
 -- the end by a CR that no LF comes after, before a text that is not empty
 goes-cr-on : (text : List ℕ) (ls : List Ended) (last : List ℕ) (c : ℕ) (x : List ℕ) → put_together ls last ≡ c ∷ x → (c == line_feed) ≡ false
-    → IsPlain text → Goes ls last → Goes (record { text = text; by = cr } ∷ ls) last
+    → HoldsNoLineEnd text → Goes ls last → Goes (record { text = text; by = cr } ∷ ls) last
 goes-cr-on text ls last c x is_some no_lf h goes =
-    goes-line text cr ls last h (λ y e. rw is_some no_lf) (rw is_some (ends-behind text cr c x)) goes
+    goes-line text cr ls last h (λ y e. rw is_some no_lf) (rw is_some (ends-after text cr c x)) goes
 
 -- whether or not the rest is empty
-goes-cr-rest : (text : List ℕ) (ls : List Ended) (last : List ℕ) → IsPlain text → AreLines ls last → BeginsWithNoLoneLf ls → Goes ls last → Goes (record { text = text; by = cr } ∷ ls) last
+goes-cr-rest : (text : List ℕ) (ls : List Ended) (last : List ℕ) → HoldsNoLineEnd text → AreLines ls last → BeginsWithNoLoneLf ls → Goes ls last → Goes (record { text = text; by = cr } ∷ ls) last
 goes-cr-rest text [] [] h are none goes = goes-cr text h
 goes-cr-rest text [] (c ∷ cs) h are none goes = goes-cr-on text [] (c ∷ cs) c cs refl (no_lf_first [] (c ∷ cs) are none) h goes
 goes-cr-rest text (l ∷ ls) last h are none goes = of_line l.text l.by refl
@@ -53,13 +54,13 @@ goes-cr-rest text (l ∷ ls) last h are none goes = of_line l.text l.by refl
     k : begins_with_lf (put_together (l ∷ ls) last) ≡ false
     k = no_lf_first (l ∷ ls) last are none
 
-    of_line : (t : List ℕ) (by : LineEnd) → l ≡ record { text = t; by = by } → Goes (record { text = text; by = cr } ∷ l ∷ ls) last
-    of_line (c ∷ t) by e = goes-cr-on text (l ∷ ls) last c (t ++ (line_end_text by ++ put_together ls last)) (ap (λ v. put_together (v ∷ ls) last) e) (rw e at k) h goes
+    of_line : (t : List ℕ) (by : LineEnding) → l ≡ record { text = t; by = by } → Goes (record { text = text; by = cr } ∷ l ∷ ls) last
+    of_line (c ∷ t) by e = goes-cr-on text (l ∷ ls) last c (t ++ (line_ending_text by ++ put_together ls last)) (ap (λ v. put_together (v ∷ ls) last) e) (rw e at k) h goes
     of_line [] lf e = goes-cr-on text (l ∷ ls) last line_feed (put_together ls last) (ap (λ v. put_together (v ∷ ls) last) e) (rw e at k) h goes
     of_line [] cr e = goes-cr-on text (l ∷ ls) last carriage_return (put_together ls last) (ap (λ v. put_together (v ∷ ls) last) e) (rw e at k) h goes
     of_line [] crlf e = goes-cr-on text (l ∷ ls) last carriage_return (line_feed ∷ put_together ls last) (ap (λ v. put_together (v ∷ ls) last) e) (rw e at k) h goes
 
-goes-any : (text : List ℕ) (by : LineEnd) (ls : List Ended) (last : List ℕ) → IsPlain text → (by ≡ cr → BeginsWithNoLoneLf ls) → AreLines ls last → Goes ls last
+goes-any : (text : List ℕ) (by : LineEnding) (ls : List Ended) (last : List ℕ) → HoldsNoLineEnd text → (by ≡ cr → BeginsWithNoLoneLf ls) → AreLines ls last → Goes ls last
     → Goes (record { text = text; by = by } ∷ ls) last
 goes-any text lf ls last h k are goes = goes-line text lf ls last h (λ y e. absurd (cc)) (ends-lf text (put_together ls last)) goes
 goes-any text cr ls last h k are goes = goes-cr-rest text ls last h are (k refl) goes
@@ -70,26 +71,26 @@ goes [] last h = goes-last last h
 goes (l ∷ ls) last h = goes-any l.text l.by ls last h.0 h.1 h.2 (goes ls last h.2)
 
 -- The lines of a text to which more comes: those that the text ends, and then those of its last line and what comes.
-pub lines_after-append : (n : ℕ) (x y : List ℕ) (e : Ending)
-    → lines_after n false [] (x ++ y) e
-    ≡ lines_after n false [] x more ++ lines_after (n + line_ends (lines_of x)) (ends_in_cr x) (lines_of x).last y e
+pub lines_to_come-append : (n : ℕ) (x y : List ℕ) (e : InputEnd)
+    → lines_to_come n false [] (x ++ y) e
+    ≡ lines_to_come n false [] x more ++ lines_to_come (n + line_ends (lines_of x)) (ends_in_cr x) (lines_of x).last y e
 unfolding Goes
-lines_after-append n x y e =
+lines_to_come-append n x y e =
     let m = lines_of-meets x in
-    ap (λ v. lines_after n false [] (v ++ y) e) m.text
+    ap (λ v. lines_to_come n false [] (v ++ y) e) m.text
     ∙ goes (lines_of x).ended (lines_of x).last m.are_lines n y e
-    ∙ ap (λ v. lines_after n false [] x more ++ lines_after (n + line_ends (lines_of x)) (ends_in_cr v) (lines_of x).last y e) (sym m.text)
+    ∙ ap (λ v. lines_to_come n false [] x more ++ lines_to_come (n + line_ends (lines_of x)) (ends_in_cr v) (lines_of x).last y e) (sym m.text)
 
 rest-append : (after_cr : Bool) (c : ℕ) (x y : List ℕ) → rest_of_end after_cr (c ∷ x ++ y) ≡ rest_of_end after_cr (c ∷ x) ++ y
 rest-append false c x y = refl
 rest-append true c x y = elim (cases_Bool (c == line_feed)) [ inl k ↦ rw k refl | inr k ↦ rw k refl ]
 
 -- The same anywhere in a text: what a part gives, and where the reading then stands.
-pub lines_after-part : (n : ℕ) (after_cr : Bool) (held : List ℕ) (c : ℕ) (x y : List ℕ) (e : Ending)
+pub lines_to_come-part : (n : ℕ) (after_cr : Bool) (held : List ℕ) (c : ℕ) (x y : List ℕ) (e : InputEnd)
     → let z = held ++ rest_of_end after_cr (c ∷ x) in
-    lines_after n after_cr held (c ∷ x ++ y) e
-    ≡ lines_after n after_cr held (c ∷ x) more ++ lines_after (n + line_ends (lines_of z)) (ends_in_cr z) (lines_of z).last y e
-lines_after-part n after_cr held c x y e =
-    ap (λ v. lines_after n false held v e) (rest-append after_cr c x y)
-    ∙ ap (λ v. lines_after n false [] v e) (sym (append_assoc held (rest_of_end after_cr (c ∷ x)) y))
-    ∙ lines_after-append n (held ++ rest_of_end after_cr (c ∷ x)) y e
+    lines_to_come n after_cr held (c ∷ x ++ y) e
+    ≡ lines_to_come n after_cr held (c ∷ x) more ++ lines_to_come (n + line_ends (lines_of z)) (ends_in_cr z) (lines_of z).last y e
+lines_to_come-part n after_cr held c x y e =
+    ap (λ v. lines_to_come n false held v e) (rest-append after_cr c x y)
+    ∙ ap (λ v. lines_to_come n false [] v e) (sym (append_assoc held (rest_of_end after_cr (c ∷ x)) y))
+    ∙ lines_to_come-append n (held ++ rest_of_end after_cr (c ∷ x)) y e

@@ -1,22 +1,23 @@
 -- Where a text may be cut: the lines of the two parts are the lines of the whole, save that no CR and LF may be parted.
 use Rattle.std.proofs.Common.{◌≡◌, ℕ, suc, ◌+◌, true, false, List, [], ◌∷◌, ◌++◌, length, refl, ap, sym, ◌∙◌, length-append}
-use Rattle.properties_format.specs.Text.{carriage_return, LineEnd, lf, cr, crlf, line_end_text}
-use Rattle.properties_format.specs.Lines.{Ended, Lines, put_together, AreLines, more, line_ends, begins_with_lf, ends_in_cr, lines_of, numbered, rest_of_end}
+use Rattle.properties_format.specs.Text.{carriage_return, LineEnding, lf, cr, crlf, line_ending_text}
+use Rattle.properties_format.specs.Lines.{Ended, Lines, put_together, AreLines, more, line_ends, numbered}
+use Rattle.properties_format.specs.Reading.Lines.{begins_with_lf, ends_in_cr, lines_of, rest_of_end}
 use Rattle.properties_format.proofs.Lines.Meets.{lines_of-meets}
-use Rattle.properties_format.proofs.Lines.Plain.{no_lf_first, ends_in_cr-append, ends-behind, regroup}
+use Rattle.properties_format.proofs.Lines.Plain.{no_lf_first, ends_in_cr-append, ends-after, regroup}
 use Rattle.properties_format.proofs.Lines.Steps.{lines_of-line}
-use Rattle.properties_format.proofs.Lines.Append.{lines_after-append}
+use Rattle.properties_format.proofs.Lines.Append.{lines_to_come-append}
 
 -- no CR at the end of the first is parted from an LF at the front of the second
 abbrev pub PartsNoEnd : List ℕ → List ℕ → Type 0
 PartsNoEnd x y = ends_in_cr x ≡ true → begins_with_lf y ≡ false
 
-behind-line : (text : List ℕ) (by : LineEnd) (x y : List ℕ) → (by ≡ cr → begins_with_lf x ≡ false) → PartsNoEnd (text ++ (line_end_text by ++ x)) y
+after-line : (text : List ℕ) (by : LineEnding) (x y : List ℕ) → (by ≡ cr → begins_with_lf x ≡ false) → PartsNoEnd (text ++ (line_ending_text by ++ x)) y
     → (by ≡ cr → begins_with_lf (x ++ y) ≡ false) × PartsNoEnd x y
-behind-line text lf [] y h k = ((λ e. absurd (cc)), (λ e. absurd (cc)))
-behind-line text cr [] y h k = ((λ e. k (ends_in_cr-append text carriage_return [])), (λ e. absurd (cc)))
-behind-line text crlf [] y h k = ((λ e. absurd (cc)), (λ e. absurd (cc)))
-behind-line text by (c ∷ x) y h k = (h, (λ e. k (ends-behind text by c x ∙ e)))
+after-line text lf [] y h k = ((λ e. absurd (cc)), (λ e. absurd (cc)))
+after-line text cr [] y h k = ((λ e. k (ends_in_cr-append text carriage_return [])), (λ e. absurd (cc)))
+after-line text crlf [] y h k = ((λ e. absurd (cc)), (λ e. absurd (cc)))
+after-line text by (c ∷ x) y h k = (h, (λ e. k (ends-after text by c x ∙ e)))
 
 -- lines, and then those of the last one and of what comes
 abbrev pub lines_on : List Ended → Lines → Lines
@@ -26,7 +27,7 @@ of-lines : (ls : List Ended) (last y : List ℕ) → AreLines ls last → PartsN
     → lines_of (put_together ls last ++ y) ≡ lines_on ls (lines_of (last ++ y))
 of-lines [] last y h k = refl
 of-lines (l ∷ ls) last y h k =
-    let both = behind-line l.text l.by (put_together ls last) y (λ e. no_lf_first ls last h.2 (h.1 e)) k in
+    let both = after-line l.text l.by (put_together ls last) y (λ e. no_lf_first ls last h.2 (h.1 e)) k in
     ap lines_of (regroup l.text l.by (put_together ls last) y)
     ∙ lines_of-line l.text l.by (put_together ls last ++ y) h.0 both.0
     ∙ ap (lines_on (l ∷ [])) (of-lines ls last y h.2 both.1)
@@ -38,7 +39,7 @@ lines_of-append x y h =
     let k : PartsNoEnd (put_together (lines_of x).ended (lines_of x).last) y = λ e. h (ap ends_in_cr m.text ∙ e) in
     ap (λ v. lines_of (v ++ y)) m.text ∙ of-lines (lines_of x).ended (lines_of x).last y m.are_lines k
 
--- where the first part ends in a line end, the lines of the parts stand one behind the other
+-- where the first part ends in a line end, the lines of the parts stand one after the other
 pub lines_of-cut : (x y : List ℕ) → (lines_of x).last ≡ [] → PartsNoEnd x y → lines_of (x ++ y) ≡ lines_on (lines_of x).ended (lines_of y)
 lines_of-cut x y e h = lines_of-append x y h ∙ ap (λ v. lines_on (lines_of x).ended (lines_of (v ++ y))) e
 
@@ -56,6 +57,6 @@ line_ends-append x y =
     let n = line_ends (lines_of x) in
     let w = lines_of ((lines_of x).last ++ rest_of_end (ends_in_cr x) y) in
     sym (length-numbered 0 z.ended z.last)
-    ∙ ap length (lines_after-append 0 x y more)
+    ∙ ap length (lines_to_come-append 0 x y more)
     ∙ length-append (numbered 0 (lines_of x).ended (lines_of x).last more) (numbered (0 + n) w.ended w.last more)
     ∙ rw (length-numbered 0 (lines_of x).ended (lines_of x).last, length-numbered (0 + n) w.ended w.last) refl

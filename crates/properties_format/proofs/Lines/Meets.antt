@@ -2,8 +2,9 @@
 use Rattle.std.proofs.Common.{◌≡◌, ℕ, ◌==◌, false, List, [], ◌∷◌, refl, ap, inl, inr}
 use Rattle.std.proofs.lemmas.Bool.{or_from, or_parts}
 use Rattle.std.proofs.lemmas.Bool.Decides.{eqb_tells}
-use Rattle.properties_format.specs.Text.{line_feed, carriage_return, is_line_end, LineEnd, lf, cr, crlf}
-use Rattle.properties_format.specs.Lines.{Ended, Lines, IsLines, end_before, cr_before, character_before, before, lines_of}
+use Rattle.properties_format.specs.Text.{line_feed, carriage_return, is_line_end, LineEnding, lf, cr, crlf}
+use Rattle.properties_format.specs.Lines.{Ended, Lines, IsLines}
+use Rattle.properties_format.specs.Reading.Lines.{end_before, cr_before, character_before, before, lines_of}
 
 -- a character that ends no line is none of the two that do
 pub before-plain : (c : ℕ) (lines : Lines) → is_line_end c ≡ false → before c lines ≡ character_before c lines.ended lines.last
@@ -16,7 +17,7 @@ lf-meets : (x : List ℕ) (lines : Lines) → IsLines x lines → IsLines (line_
 lf-meets x lines h = record { text = ap (λ v. line_feed ∷ v) h.text; are_lines = (tt, (λ k. absurd (cc)), h.are_lines) }
 
 -- a CR before a line
-cr-meets-line : (text : List ℕ) (by : LineEnd) (ls : List Ended) (last x : List ℕ)
+cr-meets-line : (text : List ℕ) (by : LineEnding) (ls : List Ended) (last x : List ℕ)
     → IsLines x (record { ended = record { text = text; by = by } ∷ ls; last = last })
     → IsLines (carriage_return ∷ x) (record { ended = cr_before (record { text = text; by = by } ∷ ls); last = last })
 cr-meets-line [] lf ls last x h = record { text = ap (λ v. carriage_return ∷ v) h.text; are_lines = (tt, (λ k. absurd (cc)), h.are_lines.2) }

@@ -1,29 +1,30 @@
 -- The numbers of lines, and which numbered lines stay whatever comes.
 use Rattle.std.proofs.Common.{◌≡◌, ℕ, ◌+◌, List, [], ◌∷◌, ◌++◌, length, refl, ap, ◌∙◌, zero-add, add-zero, Bool}
-use Rattle.properties_format.specs.Lines.{Ended, Line, Ending, end, fault, more, line_ends, ends_in_cr, lines_of, numbered, numbered_lines, rest_of_end, lines_after}
+use Rattle.properties_format.specs.Lines.{Ended, Line, InputEnd, end, fault, more, line_ends, numbered, numbered_lines}
+use Rattle.properties_format.specs.Reading.Lines.{ends_in_cr, lines_of, rest_of_end, lines_to_come}
 use Rattle.properties_format.proofs.Lines.Plain.{one-more}
-use Rattle.properties_format.proofs.Lines.Append.{lines_after-append}
+use Rattle.properties_format.proofs.Lines.Append.{lines_to_come-append}
 
--- the lines have the numbers behind n, without a gap
+-- the lines have the numbers after n, without a gap
 abbrev pub AreNumbered : ℕ → List Line → Type 0
 AreNumbered n [] = Unit {0}
 AreNumbered n (l ∷ ls) = (l.number ≡ n + 1) × AreNumbered (n + 1) ls
 
-pub numbered-in_order : (n : ℕ) (ls : List Ended) (last : List ℕ) (e : Ending) → AreNumbered n (numbered n ls last e)
+pub numbered-in_order : (n : ℕ) (ls : List Ended) (last : List ℕ) (e : InputEnd) → AreNumbered n (numbered n ls last e)
 numbered-in_order n [] last end = (refl, tt)
 numbered-in_order n [] last fault = tt
 numbered-in_order n [] last more = tt
 numbered-in_order n (l ∷ ls) last e = (refl, numbered-in_order (n + 1) ls last e)
 
-pub lines_after-in_order : (n : ℕ) (after_cr : Bool) (held y : List ℕ) (e : Ending) → AreNumbered n (lines_after n after_cr held y e)
-lines_after-in_order n after_cr held y e = let lines = lines_of (held ++ rest_of_end after_cr y) in numbered-in_order n lines.ended lines.last e
+pub lines_to_come-in_order : (n : ℕ) (after_cr : Bool) (held y : List ℕ) (e : InputEnd) → AreNumbered n (lines_to_come n after_cr held y e)
+lines_to_come-in_order n after_cr held y e = let lines = lines_of (held ++ rest_of_end after_cr y) in numbered-in_order n lines.ended lines.last e
 
--- a part at the end of numbered lines is numbered behind the part before it
+-- a part at the end of numbered lines is numbered after the part before it
 pub in_order-right : (n : ℕ) (ls ms : List Line) → AreNumbered n (ls ++ ms) → AreNumbered (n + length ls) ms
 in_order-right n [] ms h = rw (add-zero n) h
 in_order-right n (l ∷ ls) ms h = rw (one-more n (length ls)) at (in_order-right (n + 1) ls ms h.1)
 
--- at the end there is one line more than at a fault, and it has the number behind those of all line ends
+-- at the end there is one line more than at a fault, and it has the number after those of all line ends
 pub numbered-end : (n : ℕ) (ls : List Ended) (last : List ℕ)
     → numbered n ls last end ≡ numbered n ls last more ++ record { number = n + length ls + 1; text = last } ∷ []
 numbered-end n [] last = rw (add-zero n) refl
@@ -35,9 +36,9 @@ numbered-fault n [] last = refl
 numbered-fault n (l ∷ ls) last = ap (λ v. record { number = n + 1; text = l.text } ∷ v) (numbered-fault (n + 1) ls last)
 
 -- The lines that a text ends are lines of every text that it begins, with their numbers; the others come after them.
-pub numbered_lines-append : (x y : List ℕ) (e : Ending)
+pub numbered_lines-append : (x y : List ℕ) (e : InputEnd)
     → numbered_lines (lines_of (x ++ y)) e
-    ≡ numbered_lines (lines_of x) more ++ lines_after (line_ends (lines_of x)) (ends_in_cr x) (lines_of x).last y e
+    ≡ numbered_lines (lines_of x) more ++ lines_to_come (line_ends (lines_of x)) (ends_in_cr x) (lines_of x).last y e
 numbered_lines-append x y e =
-    lines_after-append 0 x y e
-    ∙ ap (λ v. numbered_lines (lines_of x) more ++ lines_after v (ends_in_cr x) (lines_of x).last y e) (zero-add (line_ends (lines_of x)))
+    lines_to_come-append 0 x y e
+    ∙ ap (λ v. numbered_lines (lines_of x) more ++ lines_to_come v (ends_in_cr x) (lines_of x).last y e) (zero-add (line_ends (lines_of x)))

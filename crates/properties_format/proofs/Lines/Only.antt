@@ -1,15 +1,16 @@
 -- A text has one list of lines, and a line in front of a text is in front of its lines.
 use Rattle.std.proofs.Common.{◌≡◌, ℕ, List, [], ◌∷◌, ◌++◌, refl, ap, sym, ◌∙◌}
-use Rattle.properties_format.specs.Text.{line_feed, carriage_return, LineEnd, lf, cr, crlf, line_end_text}
-use Rattle.properties_format.specs.Lines.{Ended, Lines, put_together, IsPlain, BeginsWithNoLoneLf, AreLines, IsLines, end_before, cr_before, before, lines_of}
+use Rattle.properties_format.specs.Text.{line_feed, carriage_return, LineEnding, lf, cr, crlf, line_ending_text}
+use Rattle.properties_format.specs.Lines.{Ended, Lines, put_together, HoldsNoLineEnd, BeginsWithNoLoneLf, AreLines, IsLines}
+use Rattle.properties_format.specs.Reading.Lines.{end_before, cr_before, before, lines_of}
 use Rattle.properties_format.proofs.Lines.Meets.{before-plain}
 
 -- a text without line ends is one line
-pub lines_of-plain : (l : List ℕ) → IsPlain l → lines_of l ≡ record { ended = []; last = l }
+pub lines_of-plain : (l : List ℕ) → HoldsNoLineEnd l → lines_of l ≡ record { ended = []; last = l }
 lines_of-plain [] h = refl
 lines_of-plain (c ∷ l) h = ap (before c) (lines_of-plain l h.1) ∙ before-plain c (record { ended = []; last = l }) h.0
 
-cr-before-line : (text : List ℕ) (by : LineEnd) (ls : List Ended) → ¬ ((text ≡ []) × (by ≡ lf))
+cr-before-line : (text : List ℕ) (by : LineEnding) (ls : List Ended) → ¬ ((text ≡ []) × (by ≡ lf))
     → cr_before (record { text = text; by = by } ∷ ls) ≡ end_before cr (record { text = text; by = by } ∷ ls)
 cr-before-line [] lf ls h = absurd (h (refl, refl))
 cr-before-line [] cr ls h = refl
@@ -22,9 +23,9 @@ cr-before [] h = refl
 cr-before (l ∷ ls) h = cr-before-line l.text l.by ls h
 
 -- a line and its end, before a text whose lines are known
-pub lines_of-before : (text : List ℕ) (by : LineEnd) (y : List ℕ) (ls : List Ended) (last : List ℕ)
-    → IsPlain text → (by ≡ cr → BeginsWithNoLoneLf ls) → lines_of y ≡ record { ended = ls; last = last }
-    → lines_of (text ++ (line_end_text by ++ y)) ≡ record { ended = record { text = text; by = by } ∷ ls; last = last }
+pub lines_of-before : (text : List ℕ) (by : LineEnding) (y : List ℕ) (ls : List Ended) (last : List ℕ)
+    → HoldsNoLineEnd text → (by ≡ cr → BeginsWithNoLoneLf ls) → lines_of y ≡ record { ended = ls; last = last }
+    → lines_of (text ++ (line_ending_text by ++ y)) ≡ record { ended = record { text = text; by = by } ∷ ls; last = last }
 lines_of-before [] lf y ls last h k e = ap (before line_feed) e
 lines_of-before [] cr y ls last h k e = ap (before carriage_return) e ∙ ap (λ v. let s : Lines = record { ended = v; last = last } in s) (cr-before ls (k refl))
 lines_of-before [] crlf y ls last h k e = ap (λ v. before carriage_return (before line_feed v)) e

@@ -1,37 +1,38 @@
 -- Texts without line ends, and what the lines of a text say of its first and its last character.
 use Rattle.std.proofs.Common.{◌≡◌, ℕ, ◌==◌, false, List, [], ◌∷◌, ◌++◌, refl, ap, sym, ◌∙◌, suc, ◌+◌, append_assoc, arith}
 use Rattle.std.proofs.lemmas.Bool.{or_parts}
-use Rattle.properties_format.specs.Text.{line_feed, carriage_return, LineEnd, lf, cr, crlf, line_end_text}
-use Rattle.properties_format.specs.Lines.{Ended, put_together, IsPlain, BeginsWithNoLoneLf, AreLines, begins_with_lf, ends_in_cr, without_leading_lf, lines_of}
+use Rattle.properties_format.specs.Text.{line_feed, carriage_return, LineEnding, lf, cr, crlf, line_ending_text}
+use Rattle.properties_format.specs.Lines.{Ended, put_together, HoldsNoLineEnd, BeginsWithNoLoneLf, AreLines}
+use Rattle.properties_format.specs.Reading.Lines.{begins_with_lf, ends_in_cr, without_leading_lf, lines_of}
 use Rattle.properties_format.proofs.Lines.Meets.{lines_of-meets}
 
-pub plain-append : (x y : List ℕ) → IsPlain x → IsPlain y → IsPlain (x ++ y)
+pub plain-append : (x y : List ℕ) → HoldsNoLineEnd x → HoldsNoLineEnd y → HoldsNoLineEnd (x ++ y)
 plain-append [] y h k = k
 plain-append (c ∷ x) y h k = (h.0, plain-append x y h.1 k)
 
-pub plain-left : (x y : List ℕ) → IsPlain (x ++ y) → IsPlain x
+pub plain-left : (x y : List ℕ) → HoldsNoLineEnd (x ++ y) → HoldsNoLineEnd x
 plain-left [] y h = tt
 plain-left (c ∷ x) y h = (h.0, plain-left x y h.1)
 
-pub plain-right : (x y : List ℕ) → IsPlain (x ++ y) → IsPlain y
+pub plain-right : (x y : List ℕ) → HoldsNoLineEnd (x ++ y) → HoldsNoLineEnd y
 plain-right [] y h = h
 plain-right (c ∷ x) y h = plain-right x y h.1
 
 -- the last line of a text is plain
-pub last-plain : (x : List ℕ) → IsPlain (lines_of x).last
+pub last-plain : (x : List ℕ) → HoldsNoLineEnd (lines_of x).last
 last-plain x = of_lines (lines_of x).ended (lines_of x).last (lines_of-meets x).are_lines
   where
-    of_lines : (ls : List Ended) (last : List ℕ) → AreLines ls last → IsPlain last
+    of_lines : (ls : List Ended) (last : List ℕ) → AreLines ls last → HoldsNoLineEnd last
     of_lines [] last h = h
     of_lines (l ∷ ls) last h = of_lines ls last h.2
 
 -- a plain text does not begin with an LF
-pub plain-no_lf : (x : List ℕ) → IsPlain x → begins_with_lf x ≡ false
+pub plain-no_lf : (x : List ℕ) → HoldsNoLineEnd x → begins_with_lf x ≡ false
 plain-no_lf [] h = refl
 plain-no_lf (c ∷ x) h = (or_parts (c == line_feed) (c == carriage_return) h.0).0
 
 -- and does not end in a CR
-pub plain-no_cr : (x : List ℕ) → IsPlain x → ends_in_cr x ≡ false
+pub plain-no_cr : (x : List ℕ) → HoldsNoLineEnd x → ends_in_cr x ≡ false
 plain-no_cr [] h = refl
 plain-no_cr (c ∷ []) h = (or_parts (c == line_feed) (c == carriage_return) h.0).1
 plain-no_cr (c ∷ d ∷ ds) h = plain-no_cr (d ∷ ds) h.1
@@ -41,7 +42,7 @@ pub no_lone_lf : (ls : List Ended) (last : List ℕ) → begins_with_lf (put_tog
 no_lone_lf [] last h = tt
 no_lone_lf (l ∷ ls) last h = of_line l.text l.by (put_together ls last) h
   where
-    of_line : (text : List ℕ) (by : LineEnd) (y : List ℕ) → begins_with_lf (text ++ (line_end_text by ++ y)) ≡ false → ¬ ((text ≡ []) × (by ≡ lf))
+    of_line : (text : List ℕ) (by : LineEnding) (y : List ℕ) → begins_with_lf (text ++ (line_ending_text by ++ y)) ≡ false → ¬ ((text ≡ []) × (by ≡ lf))
     of_line [] lf y h = absurd (cc)
     of_line [] cr y h = λ p. absurd (cc p.1)
     of_line [] crlf y h = λ p. absurd (cc p.1)
@@ -52,7 +53,7 @@ pub no_lf_first : (ls : List Ended) (last : List ℕ) → AreLines ls last → B
 no_lf_first [] last h k = plain-no_lf last h
 no_lf_first (l ∷ ls) last h k = of_line l.text l.by (put_together ls last) h.0 k
   where
-    of_line : (text : List ℕ) (by : LineEnd) (y : List ℕ) → IsPlain text → ¬ ((text ≡ []) × (by ≡ lf)) → begins_with_lf (text ++ (line_end_text by ++ y)) ≡ false
+    of_line : (text : List ℕ) (by : LineEnding) (y : List ℕ) → HoldsNoLineEnd text → ¬ ((text ≡ []) × (by ≡ lf)) → begins_with_lf (text ++ (line_ending_text by ++ y)) ≡ false
     of_line [] lf y h k = absurd (k (refl, refl))
     of_line [] cr y h k = refl
     of_line [] crlf y h k = refl
@@ -72,11 +73,11 @@ ends_in_cr-append [] c y = refl
 ends_in_cr-append (b ∷ []) c y = refl
 ends_in_cr-append (b ∷ d ∷ x) c y = ends_in_cr-append (d ∷ x) c y
 
--- a text with a first character ends as it does behind a line end
-pub ends-behind : (text : List ℕ) (by : LineEnd) (c : ℕ) (x : List ℕ) → ends_in_cr (text ++ (line_end_text by ++ c ∷ x)) ≡ ends_in_cr (c ∷ x)
-ends-behind text lf c x = ends_in_cr-append text line_feed (c ∷ x)
-ends-behind text cr c x = ends_in_cr-append text carriage_return (c ∷ x)
-ends-behind text crlf c x = ends_in_cr-append text carriage_return (line_feed ∷ c ∷ x)
+-- a text with a first character ends as it does after a line end
+pub ends-after : (text : List ℕ) (by : LineEnding) (c : ℕ) (x : List ℕ) → ends_in_cr (text ++ (line_ending_text by ++ c ∷ x)) ≡ ends_in_cr (c ∷ x)
+ends-after text lf c x = ends_in_cr-append text line_feed (c ∷ x)
+ends-after text cr c x = ends_in_cr-append text carriage_return (c ∷ x)
+ends-after text crlf c x = ends_in_cr-append text carriage_return (line_feed ∷ c ∷ x)
 
 -- an LF at the end is no CR
 pub ends-lf : (text : List ℕ) (x : List ℕ) → ends_in_cr (text ++ line_feed ∷ x) ≡ ends_in_cr x
@@ -92,5 +93,5 @@ ends-crlf text (c ∷ x) = ends_in_cr-append text carriage_return (line_feed ∷
 pub one-more : (n m : ℕ) → n + 1 + m ≡ n + suc m
 one-more n m = omega arith
 
-pub regroup : (text : List ℕ) (by : LineEnd) (whole y : List ℕ) → (text ++ (line_end_text by ++ whole)) ++ y ≡ text ++ (line_end_text by ++ (whole ++ y))
-regroup text by whole y = append_assoc text (line_end_text by ++ whole) y ∙ ap (λ v. text ++ v) (append_assoc (line_end_text by) whole y)
+pub regroup : (text : List ℕ) (by : LineEnding) (whole y : List ℕ) → (text ++ (line_ending_text by ++ whole)) ++ y ≡ text ++ (line_ending_text by ++ (whole ++ y))
+regroup text by whole y = append_assoc text (line_ending_text by ++ whole) y ∙ ap (λ v. text ++ v) (append_assoc (line_ending_text by) whole y)

@@ -3,22 +3,23 @@ use Rattle.std.proofs.Common.{◌≡◌, ℕ, ◌+◌, ◌==◌, Bool, true, fal
 use Rattle.std.specs.Prelude.{if◌then◌else◌}
 use Rattle.std.proofs.lemmas.Bool.{or_parts}
 use Rattle.std.proofs.lemmas.Bool.Decides.{eqb_tells}
-use Rattle.properties_format.specs.Text.{line_feed, carriage_return, is_line_end, LineEnd, lf, cr, crlf, line_end_text}
-use Rattle.properties_format.specs.Lines.{Lines, IsPlain, Line, Ending, end, fault, more, begins_with_lf, without_leading_lf, lines_of, numbered, numbered_lines, lines_after}
+use Rattle.properties_format.specs.Text.{line_feed, carriage_return, is_line_end, LineEnding, lf, cr, crlf, line_ending_text}
+use Rattle.properties_format.specs.Lines.{Lines, HoldsNoLineEnd, Line, InputEnd, end, fault, more, numbered, numbered_lines}
+use Rattle.properties_format.specs.Reading.Lines.{begins_with_lf, without_leading_lf, lines_of, lines_to_come}
 use Rattle.properties_format.proofs.Lines.Only.{lines_of-plain, lines_of-before}
 use Rattle.properties_format.proofs.Lines.Plain.{plain-append, lines_of-no_lone_lf, without_leading_lf-none}
 
 -- a line and its end, before any text; a CR is an end by itself only where no LF comes
-pub lines_of-line : (text : List ℕ) (by : LineEnd) (y : List ℕ) → IsPlain text → (by ≡ cr → begins_with_lf y ≡ false)
-    → lines_of (text ++ (line_end_text by ++ y)) ≡ record { ended = record { text = text; by = by } ∷ (lines_of y).ended; last = (lines_of y).last }
+pub lines_of-line : (text : List ℕ) (by : LineEnding) (y : List ℕ) → HoldsNoLineEnd text → (by ≡ cr → begins_with_lf y ≡ false)
+    → lines_of (text ++ (line_ending_text by ++ y)) ≡ record { ended = record { text = text; by = by } ∷ (lines_of y).ended; last = (lines_of y).last }
 lines_of-line text by y h k = lines_of-before text by y (lines_of y).ended (lines_of y).last h (λ e. lines_of-no_lone_lf y (k e)) refl
 
 -- the end that a CR is, or is a part of
-abbrev pub cr_end : List ℕ → LineEnd
+abbrev pub cr_end : List ℕ → LineEnding
 cr_end y = if begins_with_lf y then crlf else cr
 
 -- a line and a CR, before any text
-pub lines_of-cr : (text y : List ℕ) → IsPlain text
+pub lines_of-cr : (text y : List ℕ) → HoldsNoLineEnd text
     → lines_of (text ++ carriage_return ∷ y)
     ≡ record { ended = record { text = text; by = cr_end y } ∷ (lines_of (without_leading_lf y)).ended; last = (lines_of (without_leading_lf y)).last }
 lines_of-cr text [] h = lines_of-line text cr [] h (λ e. refl)
@@ -30,63 +31,63 @@ lines_of-cr text (c ∷ y) h = elim (eqb_tells c line_feed) [
 -- ---- the numbered lines to come
 
 -- of a whole text
-pub lines_after-start : (x : List ℕ) (e : Ending) → numbered_lines (lines_of x) e ≡ lines_after 0 false [] x e
-lines_after-start x e = refl
+pub lines_to_come-start : (x : List ℕ) (e : InputEnd) → numbered_lines (lines_of x) e ≡ lines_to_come 0 false [] x e
+lines_to_come-start x e = refl
 
 -- nothing comes
-after-nothing : (n : ℕ) (after_cr : Bool) (held : List ℕ) (e : Ending) → IsPlain held → lines_after n after_cr held [] e ≡ numbered n [] held e
+after-nothing : (n : ℕ) (after_cr : Bool) (held : List ℕ) (e : InputEnd) → HoldsNoLineEnd held → lines_to_come n after_cr held [] e ≡ numbered n [] held e
 after-nothing n true held e h = let g : Lines → List Line = λ v. numbered n v.ended v.last e in ap (λ v. g (lines_of v)) (append-nil held) ∙ ap g (lines_of-plain held h)
 after-nothing n false held e h = let g : Lines → List Line = λ v. numbered n v.ended v.last e in ap (λ v. g (lines_of v)) (append-nil held) ∙ ap g (lines_of-plain held h)
 
 -- at the end the line that is held is the last one
-pub lines_after-end : (n : ℕ) (after_cr : Bool) (held : List ℕ) → IsPlain held
-    → lines_after n after_cr held [] end ≡ record { number = n + 1; text = held } ∷ []
-lines_after-end n after_cr held h = after-nothing n after_cr held end h
+pub lines_to_come-end : (n : ℕ) (after_cr : Bool) (held : List ℕ) → HoldsNoLineEnd held
+    → lines_to_come n after_cr held [] end ≡ record { number = n + 1; text = held } ∷ []
+lines_to_come-end n after_cr held h = after-nothing n after_cr held end h
 
 -- at a fault it is lost
-pub lines_after-fault : (n : ℕ) (after_cr : Bool) (held : List ℕ) → IsPlain held → lines_after n after_cr held [] fault ≡ []
-lines_after-fault n after_cr held h = after-nothing n after_cr held fault h
+pub lines_to_come-fault : (n : ℕ) (after_cr : Bool) (held : List ℕ) → HoldsNoLineEnd held → lines_to_come n after_cr held [] fault ≡ []
+lines_to_come-fault n after_cr held h = after-nothing n after_cr held fault h
 
 -- where more may come it is no line yet
-pub lines_after-more : (n : ℕ) (after_cr : Bool) (held : List ℕ) → IsPlain held → lines_after n after_cr held [] more ≡ []
-lines_after-more n after_cr held h = after-nothing n after_cr held more h
+pub lines_to_come-more : (n : ℕ) (after_cr : Bool) (held : List ℕ) → HoldsNoLineEnd held → lines_to_come n after_cr held [] more ≡ []
+lines_to_come-more n after_cr held h = after-nothing n after_cr held more h
 
 -- an LF after a CR is of that CR's end
-pub lines_after-skip : (n : ℕ) (held y : List ℕ) (e : Ending) → lines_after n true held (line_feed ∷ y) e ≡ lines_after n false held y e
-lines_after-skip n held y e = refl
+pub lines_to_come-skip : (n : ℕ) (held y : List ℕ) (e : InputEnd) → lines_to_come n true held (line_feed ∷ y) e ≡ lines_to_come n false held y e
+lines_to_come-skip n held y e = refl
 
 -- where no LF comes first, a CR before it does not matter
-pub lines_after-no_lf : (n : ℕ) (after_cr : Bool) (held y : List ℕ) (e : Ending) → begins_with_lf y ≡ false
-    → lines_after n after_cr held y e ≡ lines_after n false held y e
-lines_after-no_lf n true held y e h = ap (λ v. lines_after n false held v e) (without_leading_lf-none y h)
-lines_after-no_lf n false held y e h = refl
+pub lines_to_come-no_lf : (n : ℕ) (after_cr : Bool) (held y : List ℕ) (e : InputEnd) → begins_with_lf y ≡ false
+    → lines_to_come n after_cr held y e ≡ lines_to_come n false held y e
+lines_to_come-no_lf n true held y e h = ap (λ v. lines_to_come n false held v e) (without_leading_lf-none y h)
+lines_to_come-no_lf n false held y e h = refl
 
 -- any other character is of the line that is held
-pub lines_after-character : (n : ℕ) (after_cr : Bool) (held : List ℕ) (c : ℕ) (y : List ℕ) (e : Ending) → is_line_end c ≡ false
-    → lines_after n after_cr held (c ∷ y) e ≡ lines_after n false (held ++ c ∷ []) y e
-lines_after-character n after_cr held c y e h =
-    lines_after-no_lf n after_cr held (c ∷ y) e (or_parts (c == line_feed) (c == carriage_return) h).0
-    ∙ ap (λ v. lines_after n false [] v e) (sym (append_assoc held (c ∷ []) y))
+pub lines_to_come-character : (n : ℕ) (after_cr : Bool) (held : List ℕ) (c : ℕ) (y : List ℕ) (e : InputEnd) → is_line_end c ≡ false
+    → lines_to_come n after_cr held (c ∷ y) e ≡ lines_to_come n false (held ++ c ∷ []) y e
+lines_to_come-character n after_cr held c y e h =
+    lines_to_come-no_lf n after_cr held (c ∷ y) e (or_parts (c == line_feed) (c == carriage_return) h).0
+    ∙ ap (λ v. lines_to_come n false [] v e) (sym (append_assoc held (c ∷ []) y))
 
 -- characters may be held or come
-pub lines_after-held : (n : ℕ) (held x y : List ℕ) (e : Ending) → lines_after n false held (x ++ y) e ≡ lines_after n false (held ++ x) y e
-lines_after-held n held x y e = ap (λ v. lines_after n false [] v e) (sym (append_assoc held x y))
+pub lines_to_come-held : (n : ℕ) (held x y : List ℕ) (e : InputEnd) → lines_to_come n false held (x ++ y) e ≡ lines_to_come n false (held ++ x) y e
+lines_to_come-held n held x y e = ap (λ v. lines_to_come n false [] v e) (sym (append_assoc held x y))
 
 -- an LF ends the line that is held
-pub lines_after-lf : (n : ℕ) (held y : List ℕ) (e : Ending) → IsPlain held
-    → lines_after n false held (line_feed ∷ y) e ≡ record { number = n + 1; text = held } ∷ lines_after (n + 1) false [] y e
-lines_after-lf n held y e h = ap (λ v. let w : Lines = v in numbered n w.ended w.last e) (lines_of-line held lf y h (λ k. absurd (cc)))
+pub lines_to_come-lf : (n : ℕ) (held y : List ℕ) (e : InputEnd) → HoldsNoLineEnd held
+    → lines_to_come n false held (line_feed ∷ y) e ≡ record { number = n + 1; text = held } ∷ lines_to_come (n + 1) false [] y e
+lines_to_come-lf n held y e h = ap (λ v. let w : Lines = v in numbered n w.ended w.last e) (lines_of-line held lf y h (λ k. absurd (cc)))
 
--- a CR ends it, and an LF behind the CR is of the same end
-pub lines_after-cr : (n : ℕ) (after_cr : Bool) (held y : List ℕ) (e : Ending) → IsPlain held
-    → lines_after n after_cr held (carriage_return ∷ y) e ≡ record { number = n + 1; text = held } ∷ lines_after (n + 1) true [] y e
-lines_after-cr n after_cr held y e h =
-    lines_after-no_lf n after_cr held (carriage_return ∷ y) e refl
+-- a CR ends it, and an LF after the CR is of the same end
+pub lines_to_come-cr : (n : ℕ) (after_cr : Bool) (held y : List ℕ) (e : InputEnd) → HoldsNoLineEnd held
+    → lines_to_come n after_cr held (carriage_return ∷ y) e ≡ record { number = n + 1; text = held } ∷ lines_to_come (n + 1) true [] y e
+lines_to_come-cr n after_cr held y e h =
+    lines_to_come-no_lf n after_cr held (carriage_return ∷ y) e refl
     ∙ ap (λ v. let w : Lines = v in numbered n w.ended w.last e) (lines_of-cr held y h)
 
 -- a line end ends it, whole
-pub lines_after-line : (n : ℕ) (held text : List ℕ) (by : LineEnd) (y : List ℕ) (e : Ending) → IsPlain held → IsPlain text → (by ≡ cr → begins_with_lf y ≡ false)
-    → lines_after n false held (text ++ (line_end_text by ++ y)) e ≡ record { number = n + 1; text = held ++ text } ∷ lines_after (n + 1) false [] y e
-lines_after-line n held text by y e h k m =
-    lines_after-held n held text (line_end_text by ++ y) e
+pub lines_to_come-line : (n : ℕ) (held text : List ℕ) (by : LineEnding) (y : List ℕ) (e : InputEnd) → HoldsNoLineEnd held → HoldsNoLineEnd text → (by ≡ cr → begins_with_lf y ≡ false)
+    → lines_to_come n false held (text ++ (line_ending_text by ++ y)) e ≡ record { number = n + 1; text = held ++ text } ∷ lines_to_come (n + 1) false [] y e
+lines_to_come-line n held text by y e h k m =
+    lines_to_come-held n held text (line_ending_text by ++ y) e
     ∙ ap (λ v. let w : Lines = v in numbered n w.ended w.last e) (lines_of-line (held ++ text) by y (plain-append held text h k) m)

@@ -4,15 +4,17 @@ use Rattle.std.specs.Prelude.{Option, Some, None, is_some, unwrap_or, All}
 use Rattle.std.specs.List.{AllByRecursion}
 use Rattle.std.proofs.lemmas.List.Elements.{recursion_from_All}
 use Rattle.std.proofs.lemmas.Bool.{cond_both}
-use Rattle.properties_format.specs.Text.{scalar, line_end_text}
-use Rattle.properties_format.specs.Encoding.{Encoding, output_encoding, encoded, pieces_of, characters}
+use Rattle.properties_format.specs.Text.{scalar, line_ending_text}
+use Rattle.properties_format.specs.Encoding.{Encoding, output_encoding, encoded, characters}
+use Rattle.properties_format.specs.Reading.Encoding.{pieces_of}
 use Rattle.properties_format.specs.Entries.{Content, comment, pair}
-use Rattle.properties_format.specs.Settings.{Settings, is_blanks}
-use Rattle.properties_format.specs.Printing.{Place, in_key_or_value, in_comment, in_prefix, unicode_escape, spelt, spelt_text, encoded_text, is_mark_like, shielded, spelt_key, printed_text}
-use Rattle.properties_format.specs.Writing.{Call, comment_call, pair_call, prefix_call, separator_call, ending_call, flush_call, is_empty, settings_after_call, line_of, lines_with, AreOfScalars, AreGoodSettings}
-use Rattle.properties_format.proofs.EncodingPieces.{pieces_of-nil}
-use Rattle.properties_format.proofs.EncodingCharacters.{pieces_of-encoded}
-use Rattle.properties_format.proofs.Printing.{AreEncodable, AreEncodable-append, AreAscii, line_end-ascii, unicode_escape-ascii, good_separator-ascii, spelt-either, printed_text-encodable}
+use Rattle.properties_format.specs.Settings.{Settings}
+use Rattle.properties_format.specs.Reading.Settings.{is_blanks}
+use Rattle.properties_format.specs.Printing.{Place, in_key_or_value, in_comment, in_prefix, unicode_escape, spelt, spelt_text, encoded_text, is_bom_like, with_first_escaped, spelt_key, printed_text}
+use Rattle.properties_format.specs.Writing.{Call, comment_call, pair_call, prefix_call, separator_call, ending_call, flush_call, is_empty, settings_after_call, written_line, lines_with, AreOfScalars, AreGoodSettings}
+use Rattle.properties_format.proofs.Encodings.Pieces.{pieces_of-nil}
+use Rattle.properties_format.proofs.Encodings.Characters.{pieces_of-encoded}
+use Rattle.properties_format.proofs.Printing.Characters.{AreEncodable, AreEncodable-append, AreAscii, line_end-ascii, unicode_escape-ascii, good_separator-ascii, spelt-either, printed_text-encodable}
 use Rattle.properties_format.proofs.ReadBack.Lines.{line_text, wrote_text, settings_after_call-good}
 
 -- ---- what can be encoded is decoded to itself
@@ -41,13 +43,13 @@ spelt_text-scalars e place [] h = tt
 spelt_text-scalars e place (c ∷ x) h =
     scalars-append (spelt e place c) (spelt_text e place x) (spelt-either e place c (AllByRecursion scalar) ascii-scalars (λ k. (h.0, tt))) (spelt_text-scalars e place x h.1)
 
-shielded-scalars : (e : Encoding) (key : List ℕ) → AllByRecursion scalar key → AllByRecursion scalar (shielded e key)
-shielded-scalars e [] h = tt
-shielded-scalars e (c ∷ cs) h = scalars-append (unicode_escape c) (spelt_text e in_key_or_value cs) (ascii-scalars (unicode_escape c) (unicode_escape-ascii c)) (spelt_text-scalars e in_key_or_value cs h.1)
+with_first_escaped-scalars : (e : Encoding) (key : List ℕ) → AllByRecursion scalar key → AllByRecursion scalar (with_first_escaped e key)
+with_first_escaped-scalars e [] h = tt
+with_first_escaped-scalars e (c ∷ cs) h = scalars-append (unicode_escape c) (spelt_text e in_key_or_value cs) (ascii-scalars (unicode_escape c) (unicode_escape-ascii c)) (spelt_text-scalars e in_key_or_value cs h.1)
 
 key-scalars : (e : Encoding) (first : Bool) (key : List ℕ) → AllByRecursion scalar key → AllByRecursion scalar (spelt_key e first key)
 key-scalars e first key h =
-    cond_both (first && is_mark_like e key) (shielded e key) (spelt_text e in_key_or_value key) (AllByRecursion scalar) (λ k. shielded-scalars e key h) (λ k. spelt_text-scalars e in_key_or_value key h)
+    cond_both (first && is_bom_like e key) (with_first_escaped e key) (spelt_text e in_key_or_value key) (AllByRecursion scalar) (λ k. with_first_escaped-scalars e key h) (λ k. spelt_text-scalars e in_key_or_value key h)
 
 by_recursion : (x : List ℕ) → All scalar x → AllByRecursion scalar x
 by_recursion x h = recursion_from_All scalar x h
@@ -59,12 +61,12 @@ ContentScalars (pair key value) = All scalar key × All scalar value
 printed-scalars : (e : Encoding) (s : Settings) (first : Bool) (line : Content) → AreGoodSettings s → ContentScalars line → AllByRecursion scalar (printed_text e s first line)
 unfolding ContentScalars
 printed-scalars e s first (comment text) g h =
-    scalars-append (spelt_text e in_prefix s.comment_prefix) (spelt_text e in_comment text ++ line_end_text s.line_ending) (spelt_text-scalars e in_prefix s.comment_prefix (by_recursion s.comment_prefix g.scalars))
-    (scalars-append (spelt_text e in_comment text) (line_end_text s.line_ending) (spelt_text-scalars e in_comment text (by_recursion text h)) (ascii-scalars (line_end_text s.line_ending) (line_end-ascii s.line_ending)))
+    scalars-append (spelt_text e in_prefix s.comment_prefix) (spelt_text e in_comment text ++ line_ending_text s.line_ending) (spelt_text-scalars e in_prefix s.comment_prefix (by_recursion s.comment_prefix g.scalars))
+    (scalars-append (spelt_text e in_comment text) (line_ending_text s.line_ending) (spelt_text-scalars e in_comment text (by_recursion text h)) (ascii-scalars (line_ending_text s.line_ending) (line_end-ascii s.line_ending)))
 printed-scalars e s first (pair key value) g h =
-    scalars-append (spelt_key e first key) (s.kv_separator ++ (spelt_text e in_key_or_value value ++ line_end_text s.line_ending)) (key-scalars e first key (by_recursion key h.0))
-    (scalars-append s.kv_separator (spelt_text e in_key_or_value value ++ line_end_text s.line_ending) (ascii-scalars s.kv_separator (good_separator-ascii s.kv_separator g.separator))
-    (scalars-append (spelt_text e in_key_or_value value) (line_end_text s.line_ending) (spelt_text-scalars e in_key_or_value value (by_recursion value h.1)) (ascii-scalars (line_end_text s.line_ending) (line_end-ascii s.line_ending))))
+    scalars-append (spelt_key e first key) (s.kv_separator ++ (spelt_text e in_key_or_value value ++ line_ending_text s.line_ending)) (key-scalars e first key (by_recursion key h.0))
+    (scalars-append s.kv_separator (spelt_text e in_key_or_value value ++ line_ending_text s.line_ending) (ascii-scalars s.kv_separator (good_separator-ascii s.kv_separator g.separator))
+    (scalars-append (spelt_text e in_key_or_value value) (line_ending_text s.line_ending) (spelt_text-scalars e in_key_or_value value (by_recursion value h.1)) (ascii-scalars (line_ending_text s.line_ending) (line_end-ascii s.line_ending))))
 
 -- ---- all that is written
 
@@ -91,7 +93,7 @@ wrote_text-writable e s n [] g h = record { scalars = tt; encodable = tt }
 wrote_text-writable e s n (comment_call text ∷ calls) g h =
     writable-append e (printed_text e s (n == 0) (comment text)) (wrote_text e s (n + 1) calls) (line-writable e s n (comment text) g h.0) (wrote_text-writable e s (n + 1) calls g h.1)
 wrote_text-writable e s n (pair_call key value ∷ calls) g h =
-    let o = line_of s (pair_call key value) in
+    let o = written_line s (pair_call key value) in
     writable-append e (line_text e s n o) (wrote_text e s (lines_with n o) calls) (pair-writable e s n key value (not (is_empty key && is_blanks s.kv_separator)) g h.0.0 h.0.1)
     (wrote_text-writable e s (lines_with n o) calls g h.1)
 wrote_text-writable e s n (prefix_call prefix ∷ calls) g h =

@@ -3,24 +3,26 @@ use Rattle.std.proofs.Common.{◌≡◌, ◌⊎◌, ℕ, ◌<◌, ◌==◌, true
 use Rattle.std.specs.Prelude.{is_some}
 use Rattle.std.specs.List.{AllByRecursion}
 use Rattle.std.proofs.lemmas.Bool.{cond-true, or_cases}
-use Rattle.properties_format.specs.Text.{scalar, backslash, is_line_end, is_comment_mark}
+use Rattle.properties_format.specs.Text.{scalar, backslash, is_line_end, is_comment_sign}
 use Rattle.properties_format.specs.Encoding.{Encoding, encoded}
-use Rattle.properties_format.specs.Lines.{IsPlain}
-use Rattle.properties_format.specs.Groups.{is_marked}
-use Rattle.properties_format.specs.Split.{AreBlanks, trimmed}
-use Rattle.properties_format.specs.Escapes.{Spelling, itself, spelling_text, spelt_character, spelt_before, means, meaning_of}
+use Rattle.properties_format.specs.Lines.{HoldsNoLineEnd}
+use Rattle.properties_format.specs.Groups.{is_comment_line}
+use Rattle.properties_format.specs.Split.{AreBlanks}
+use Rattle.properties_format.specs.Reading.Split.{trimmed}
+use Rattle.properties_format.specs.Escapes.{Spelling, itself, spelling_text, spelt_character, spelt_before, means}
+use Rattle.properties_format.specs.Reading.Escapes.{meaning_of}
 use Rattle.properties_format.specs.Entries.{comment}
-use Rattle.properties_format.specs.Items.{comment_outcome, split_outcome}
+use Rattle.properties_format.specs.Reading.Items.{comment_outcome, split_outcome}
 use Rattle.properties_format.specs.Settings.{IsGoodPrefix}
 use Rattle.properties_format.specs.Printing.{in_comment, in_prefix, unicode_escape, literal, spelt, spelt_text}
 use Rattle.properties_format.specs.Writing.{tail_of}
 use Rattle.properties_format.proofs.Lines.Plain.{plain-append}
-use Rattle.properties_format.proofs.Groups.Joined.{is_marked-blank, is_marked-other}
-use Rattle.properties_format.proofs.Split.{split_of-comment}
-use Rattle.properties_format.proofs.EscapesLaws.{HasNoBackslash, IsWhole, AreWhole}
-use Rattle.properties_format.proofs.EscapesTrimmed.{AllKeepBlanks, meaning_of-trimmed}
-use Rattle.properties_format.proofs.Settings.{mark_not_blank, tail_of-good}
-use Rattle.properties_format.proofs.Printing.{encoded-ascii, blank-ascii}
+use Rattle.properties_format.proofs.Groups.Joined.{is_comment_line-blank, is_comment_line-other}
+use Rattle.properties_format.proofs.Split.Unique.{split_of-comment}
+use Rattle.properties_format.proofs.Escapes.Laws.{HasNoBackslash, IsWhole, AreWhole}
+use Rattle.properties_format.proofs.Escapes.Trimmed.{AllKeepBlanks, meaning_of-trimmed}
+use Rattle.properties_format.proofs.Settings.Tests.{sign_not_blank, tail_of-good}
+use Rattle.properties_format.proofs.Printing.Characters.{encoded-ascii, blank-ascii}
 use Rattle.properties_format.proofs.ReadBack.Spellings.{IsSafe, IsPlainlySpelt, literal-plainly, in_comment-spelt}
 use Rattle.properties_format.proofs.ReadBack.Texts.{safe-whole, safe-plain}
 use Rattle.properties_format.proofs.ReadBack.Pairs.{IsReadAs, blanks-plain, cons-front}
@@ -32,7 +34,7 @@ record ArePlainlySpelt (x y : List ℕ) : Type 0 where
   characters : map spelt_character spellings ≡ y
   whole : AreWhole spellings
   keep : AllKeepBlanks spellings
-  plain : IsPlain x
+  plain : HoldsNoLineEnd x
 
 -- ---- one character in front
 
@@ -40,9 +42,9 @@ plainly-whole : (c : ℕ) (p : Spelling) → IsSafe p ⊎ ((p ≡ itself c) × (
 plainly-whole c p (inl h) = safe-whole p h
 plainly-whole c p (inr h) = subst IsWhole (sym h.0) h.1
 
-plainly-plain : (c : ℕ) (p : Spelling) → IsSafe p ⊎ ((p ≡ itself c) × ((c == backslash) ≡ false) × (is_line_end c ≡ false)) → IsPlain (spelling_text p)
+plainly-plain : (c : ℕ) (p : Spelling) → IsSafe p ⊎ ((p ≡ itself c) × ((c == backslash) ≡ false) × (is_line_end c ≡ false)) → HoldsNoLineEnd (spelling_text p)
 plainly-plain c p (inl h) = safe-plain p h
-plainly-plain c p (inr h) = subst (λ v. IsPlain (spelling_text v)) (sym h.0) (h.2, tt)
+plainly-plain c p (inr h) = subst (λ v. HoldsNoLineEnd (spelling_text v)) (sym h.0) (h.2, tt)
 
 plainly-cons : (x y : List ℕ) (c : ℕ) (cs : List ℕ) → IsPlainlySpelt x c → ArePlainlySpelt y cs → ArePlainlySpelt (x ++ y) (c ∷ cs)
 plainly-cons x y c cs s t =
@@ -52,7 +54,7 @@ plainly-cons x y c cs s t =
       characters = ap₂ (λ v w. v ∷ w) s.character t.characters;
       whole = (plainly-whole c s.spelling s.safe, t.whole);
       keep = (s.keeps, t.keep);
-      plain = plain-append x y (subst IsPlain (sym s.text) (plainly-plain c s.spelling s.safe)) t.plain;
+      plain = plain-append x y (subst HoldsNoLineEnd (sym s.text) (plainly-plain c s.spelling s.safe)) t.plain;
     }
 
 -- ---- the text of a comment, and the tail of a prefix before it
@@ -64,7 +66,7 @@ comment-plainly e (c ∷ x) h = plainly-cons (spelt e in_comment c) (spelt_text 
 same-plainly : (x y z : List ℕ) → x ≡ y → ArePlainlySpelt y z → ArePlainlySpelt x z
 same-plainly x y z e s = subst (λ v. ArePlainlySpelt v z) (sym e) s
 
-tail-plainly : (e : Encoding) (tail y cs : List ℕ) → AllByRecursion scalar tail → HasNoBackslash tail → IsPlain tail → ArePlainlySpelt y cs → ArePlainlySpelt (spelt_text e in_prefix tail ++ y) (tail ++ cs)
+tail-plainly : (e : Encoding) (tail y cs : List ℕ) → AllByRecursion scalar tail → HasNoBackslash tail → HoldsNoLineEnd tail → ArePlainlySpelt y cs → ArePlainlySpelt (spelt_text e in_prefix tail ++ y) (tail ++ cs)
 tail-plainly e [] y cs h b p s = s
 tail-plainly e (c ∷ tail) y cs h b p s =
     same-plainly _ (literal e c ++ (spelt_text e in_prefix tail ++ y)) (c ∷ tail ++ cs) (append_assoc (literal e c) (spelt_text e in_prefix tail) y)
@@ -75,14 +77,14 @@ tail-plainly e (c ∷ tail) y cs h b p s =
 literal-ascii : (e : Encoding) (c : ℕ) → c < 0x80 → literal e c ≡ c ∷ []
 literal-ascii e c h = cond-true (is_some (encoded e c)) (c ∷ []) (unicode_escape c) (ap is_some (encoded-ascii e c h))
 
-pub mark-ascii : (c : ℕ) → is_comment_mark c ≡ true → (c < 0x80) × (is_line_end c ≡ false)
-mark-ascii c h = elim (or_cases (c == 0x23) (c == 0x21) h) [ inl e ↦ rw (eqb-true c 0x23 e) (lit< tt, refl) | inr e ↦ rw (eqb-true c 0x21 e) (lit< tt, refl) ]
+pub sign-ascii : (c : ℕ) → is_comment_sign c ≡ true → (c < 0x80) × (is_line_end c ≡ false)
+sign-ascii c h = elim (or_cases (c == 0x23) (c == 0x21) h) [ inl e ↦ rw (eqb-true c 0x23 e) (lit< tt, refl) | inr e ↦ rw (eqb-true c 0x21 e) (lit< tt, refl) ]
 
-pub prefix-spelt : (e : Encoding) (indent : List ℕ) (mark : ℕ) (tail : List ℕ) → AreBlanks indent → is_comment_mark mark ≡ true
-    → spelt_text e in_prefix (indent ++ (mark ∷ tail)) ≡ indent ++ (mark ∷ spelt_text e in_prefix tail)
-prefix-spelt e [] mark tail b m = ap (λ v. v ++ spelt_text e in_prefix tail) (literal-ascii e mark (mark-ascii mark m).0)
-prefix-spelt e (c ∷ indent) mark tail b m =
-    ap (λ v. v ++ spelt_text e in_prefix (indent ++ (mark ∷ tail))) (literal-ascii e c (blank-ascii c b.0)) ∙ ap (λ v. c ∷ v) (prefix-spelt e indent mark tail b.1 m)
+pub prefix-spelt : (e : Encoding) (indent : List ℕ) (sign : ℕ) (tail : List ℕ) → AreBlanks indent → is_comment_sign sign ≡ true
+    → spelt_text e in_prefix (indent ++ (sign ∷ tail)) ≡ indent ++ (sign ∷ spelt_text e in_prefix tail)
+prefix-spelt e [] sign tail b m = ap (λ v. v ++ spelt_text e in_prefix tail) (literal-ascii e sign (sign-ascii sign m).0)
+prefix-spelt e (c ∷ indent) sign tail b m =
+    ap (λ v. v ++ spelt_text e in_prefix (indent ++ (sign ∷ tail))) (literal-ascii e c (blank-ascii c b.0)) ∙ ap (λ v. c ∷ v) (prefix-spelt e indent sign tail b.1 m)
 
 scalar-right : (x y : List ℕ) → AllByRecursion scalar (x ++ y) → AllByRecursion scalar y
 scalar-right [] y h = h
@@ -94,19 +96,19 @@ slashes-right (c ∷ x) y h = slashes-right x y h.1
 
 -- ---- the line of a comment
 
-marked-behind : (indent : List ℕ) (mark : ℕ) (rest : List ℕ) → AreBlanks indent → is_comment_mark mark ≡ true → is_marked (indent ++ (mark ∷ rest)) ≡ true
-marked-behind [] mark rest b m = is_marked-other mark rest (mark_not_blank mark m) ∙ m
-marked-behind (c ∷ indent) mark rest b m = is_marked-blank c (indent ++ (mark ∷ rest)) b.0 ∙ marked-behind indent mark rest b.1 m
+comment_line-after : (indent : List ℕ) (sign : ℕ) (rest : List ℕ) → AreBlanks indent → is_comment_sign sign ≡ true → is_comment_line (indent ++ (sign ∷ rest)) ≡ true
+comment_line-after [] sign rest b m = is_comment_line-other sign rest (sign_not_blank sign m) ∙ m
+comment_line-after (c ∷ indent) sign rest b m = is_comment_line-blank c (indent ++ (sign ∷ rest)) b.0 ∙ comment_line-after indent sign rest b.1 m
 
-comment-at : (indent : List ℕ) (mark : ℕ) (rest content : List ℕ) → AreBlanks indent → is_comment_mark mark ≡ true → ArePlainlySpelt rest content
-    → IsReadAs (indent ++ (mark ∷ rest)) (comment (trimmed content))
-comment-at indent mark rest content b m s =
+comment-at : (indent : List ℕ) (sign : ℕ) (rest content : List ℕ) → AreBlanks indent → is_comment_sign sign ≡ true → ArePlainlySpelt rest content
+    → IsReadAs (indent ++ (sign ∷ rest)) (comment (trimmed content))
+comment-at indent sign rest content b m s =
     record {
-      some = cons-front indent rest mark;
-      plain = plain-append indent (mark ∷ rest) (blanks-plain indent b) ((mark-ascii mark m).1, s.plain);
-      alone = inl (marked-behind indent mark rest b m);
+      some = cons-front indent rest sign;
+      plain = plain-append indent (sign ∷ rest) (blanks-plain indent b) ((sign-ascii sign m).1, s.plain);
+      alone = inl (comment_line-after indent sign rest b m);
       outcome =
-          ap split_outcome (split_of-comment indent mark rest b m)
+          ap split_outcome (split_of-comment indent sign rest b m)
           ∙ ap comment_outcome (ap (λ v. meaning_of (trimmed v)) s.text ∙ meaning_of-trimmed s.spellings s.whole s.keep ∙ ap (λ v. means (trimmed v)) s.characters);
     }
 
@@ -114,16 +116,16 @@ comment-at indent mark rest content b m s =
 pub comment-read : (e : Encoding) (prefix text : List ℕ) → IsGoodPrefix prefix → HasNoBackslash prefix → AllByRecursion scalar prefix → AllByRecursion scalar text
     → IsReadAs (spelt_text e in_prefix prefix ++ spelt_text e in_comment text) (comment (trimmed (tail_of prefix ++ text)))
 comment-read e prefix text g b h k =
-    let front = g.indent ++ (g.mark ∷ []) in
-    let split : prefix ≡ front ++ g.tail = g.division ∙ sym (append_assoc g.indent (g.mark ∷ []) g.tail) in
+    let front = g.indent ++ (g.sign ∷ []) in
+    let split : prefix ≡ front ++ g.tail = g.division ∙ sym (append_assoc g.indent (g.sign ∷ []) g.tail) in
     let scalars = scalar-right front g.tail (subst (AllByRecursion scalar) split h) in
     let slashes = slashes-right front g.tail (subst HasNoBackslash split b) in
     let rest = spelt_text e in_prefix g.tail ++ spelt_text e in_comment text in
-    let read = comment-at g.indent g.mark rest (g.tail ++ text) g.indented g.marked
+    let read = comment-at g.indent g.sign rest (g.tail ++ text) g.indented g.signed
     (tail-plainly e g.tail (spelt_text e in_comment text) text scalars slashes g.one_line (comment-plainly e text k)) in
-    let same : spelt_text e in_prefix prefix ++ spelt_text e in_comment text ≡ g.indent ++ (g.mark ∷ rest) =
+    let same : spelt_text e in_prefix prefix ++ spelt_text e in_comment text ≡ g.indent ++ (g.sign ∷ rest) =
     ap (λ v. spelt_text e in_prefix v ++ spelt_text e in_comment text) g.division
-    ∙ ap (λ v. v ++ spelt_text e in_comment text) (prefix-spelt e g.indent g.mark g.tail g.indented g.marked)
-    ∙ append_assoc g.indent (g.mark ∷ spelt_text e in_prefix g.tail) (spelt_text e in_comment text) in
+    ∙ ap (λ v. v ++ spelt_text e in_comment text) (prefix-spelt e g.indent g.sign g.tail g.indented g.signed)
+    ∙ append_assoc g.indent (g.sign ∷ spelt_text e in_prefix g.tail) (spelt_text e in_comment text) in
     subst (λ v. IsReadAs v (comment (trimmed (tail_of prefix ++ text)))) (sym same)
-    (subst (λ v. IsReadAs (g.indent ++ (g.mark ∷ rest)) (comment (trimmed (v ++ text)))) (sym (tail_of-good prefix g)) read)
+    (subst (λ v. IsReadAs (g.indent ++ (g.sign ∷ rest)) (comment (trimmed (v ++ text)))) (sym (tail_of-good prefix g)) read)

@@ -2,15 +2,18 @@
 use Rattle.std.proofs.Common.{◌≡◌, List, [], ◌∷◌, refl, ap, ◌∙◌, lit<, inl, subst}
 use Rattle.std.proofs.lemmas.List.Elements.{All-from_recursion}
 use Rattle.properties_format.specs.Text.{scalar, number_sign, space}
-use Rattle.properties_format.specs.Encoding.{Encoding, windows_1252, utf_8, utf_16le, utf_16be, output_encoding, pieces_of, characters, decoded_of}
-use Rattle.properties_format.specs.Lines.{end, lines_of, line_ends}
-use Rattle.properties_format.specs.Items.{IsItems, items_of_lines, items_of}
+use Rattle.properties_format.specs.Encoding.{Encoding, windows_1252, utf_8, utf_16le, utf_16be, output_encoding, characters}
+use Rattle.properties_format.specs.Reading.Encoding.{pieces_of, decoded_of}
+use Rattle.properties_format.specs.Lines.{end, line_ends}
+use Rattle.properties_format.specs.Reading.Lines.{lines_of}
+use Rattle.properties_format.specs.Items.{IsItems}
+use Rattle.properties_format.specs.Reading.Items.{items_of_lines, items_of}
 use Rattle.properties_format.specs.Settings.{Settings, default_settings}
 use Rattle.properties_format.specs.Printing.{encoded_text}
-use Rattle.properties_format.specs.Writing.{Call, wrote, told, ArePrefixesClean, AreOfScalars, AreGoodSettings}
-use Rattle.properties_format.proofs.Marks.{decoded_of-unmarked}
-use Rattle.properties_format.proofs.Items.{items_of-meets}
-use Rattle.properties_format.proofs.Settings.{IsGoodPrefix-from_test, IsGoodSeparator-from_test}
+use Rattle.properties_format.specs.Writing.{Call, wrote, items_read_back, ArePrefixesClean, AreOfScalars, AreGoodSettings}
+use Rattle.properties_format.proofs.Encodings.ByteOrderMarks.{decoded_of-unmarked}
+use Rattle.properties_format.proofs.Items.Unique.{items_of-meets}
+use Rattle.properties_format.proofs.Settings.Tests.{IsGoodPrefix-from_test, IsGoodSeparator-from_test}
 use Rattle.properties_format.proofs.ReadBack.Lines.{wrote_text, wrote-text, text-read}
 use Rattle.properties_format.proofs.ReadBack.Bytes.{text-decoded, wrote_text-writable}
 use Rattle.properties_format.proofs.ReadBack.Unmarked.{wrote_text-unmarked}
@@ -42,12 +45,12 @@ wrote-decoded e s calls own g h =
 
 -- What a writer's calls wrote, from good settings on and with no line before them, has the items that they told.
 pub items_of-wrote : (e : Encoding) (s : Settings) (calls : List Call) → output_encoding e ≡ e → AreGoodSettings s → ArePrefixesClean s calls → AreOfScalars calls
-    → items_of e (wrote e s 0 calls) end ≡ told s 0 calls
+    → items_of e (wrote e s 0 calls) end ≡ items_read_back s 0 calls
 unfolding items_of
 items_of-wrote e s calls own g c h =
     ap (λ x. items_of_lines (lines_of x) end) (wrote-decoded e s calls own g h) ∙ (text-read e (line_ends (lines_of (wrote_text e s 0 calls))) s 0 calls g c h).read
 
 -- The same of the relation.
 pub IsItems-wrote : (e : Encoding) (s : Settings) (calls : List Call) → output_encoding e ≡ e → AreGoodSettings s → ArePrefixesClean s calls → AreOfScalars calls
-    → IsItems e (wrote e s 0 calls) end (told s 0 calls)
+    → IsItems e (wrote e s 0 calls) end (items_read_back s 0 calls)
 IsItems-wrote e s calls own g c h = subst (IsItems e (wrote e s 0 calls) end) (items_of-wrote e s calls own g c h) (items_of-meets e (wrote e s 0 calls) end)

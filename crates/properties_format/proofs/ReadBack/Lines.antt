@@ -4,23 +4,26 @@ use Rattle.std.specs.Prelude.{All, Option, Some, None}
 use Rattle.std.specs.List.{AllByRecursion}
 use Rattle.std.proofs.lemmas.List.Elements.{recursion_from_All}
 use Rattle.std.proofs.lemmas.Bool.{not-true}
-use Rattle.properties_format.specs.Text.{scalar, LineEnd, line_end_text}
+use Rattle.properties_format.specs.Text.{scalar, LineEnding, line_ending_text}
 use Rattle.properties_format.specs.Encoding.{Encoding}
-use Rattle.properties_format.specs.Lines.{IsPlain, Line, end, begins_with_lf, lines_after}
-use Rattle.properties_format.specs.Groups.{joined, groups_of}
+use Rattle.properties_format.specs.Lines.{HoldsNoLineEnd, Line, end}
+use Rattle.properties_format.specs.Reading.Lines.{begins_with_lf, lines_to_come}
+use Rattle.properties_format.specs.Groups.{joined}
+use Rattle.properties_format.specs.Reading.Groups.{groups_of}
 use Rattle.properties_format.specs.Entries.{Content, comment, pair, Entry, item}
-use Rattle.properties_format.specs.Items.{split_outcome, outcome_of, followed, entries_of}
-use Rattle.properties_format.specs.Settings.{Settings, is_blanks, is_good_prefix, is_good_separator}
+use Rattle.properties_format.specs.Reading.Items.{split_outcome, outcome_of, followed, entries_of}
+use Rattle.properties_format.specs.Settings.{Settings}
+use Rattle.properties_format.specs.Reading.Settings.{is_blanks, is_good_prefix, is_good_separator}
 use Rattle.properties_format.specs.Printing.{in_key_or_value, in_comment, in_prefix, spelt_text, spelt_key, encoded_text, printed_text}
-use Rattle.properties_format.specs.Writing.{Call, comment_call, pair_call, prefix_call, separator_call, ending_call, flush_call, is_empty, settings_after_call, settings_after, line_of, lines_with, line_bytes, wrote, told_content, told_line, told, HoldsNoBackslash, ArePrefixesClean, IsOfScalars, AreOfScalars, AreGoodSettings}
+use Rattle.properties_format.specs.Writing.{Call, comment_call, pair_call, prefix_call, separator_call, ending_call, flush_call, is_empty, settings_after_call, settings_after, written_line, lines_with, line_bytes, wrote, content_read_back, item_read_back, items_read_back, HoldsNoBackslash, ArePrefixesClean, IsOfScalars, AreOfScalars, AreGoodSettings}
 use Rattle.properties_format.proofs.Lines.Plain.{plain-no_lf}
-use Rattle.properties_format.proofs.Lines.Steps.{lines_after-end}
-use Rattle.properties_format.proofs.Groups.Joined.{joined-marked, joined-closed}
-use Rattle.properties_format.proofs.Logical.{StandsAlone, groups-line}
-use Rattle.properties_format.proofs.Split.{split_of-blank}
-use Rattle.properties_format.proofs.EscapesLaws.{HasNoBackslash}
-use Rattle.properties_format.proofs.Settings.{IsGoodPrefix-from_test, IsGoodSeparator-from_test}
-use Rattle.properties_format.proofs.Printing.{encoded_text-append}
+use Rattle.properties_format.proofs.Lines.Steps.{lines_to_come-end}
+use Rattle.properties_format.proofs.Groups.Joined.{joined-comment_line, joined-closed}
+use Rattle.properties_format.proofs.Groups.Logical.{StandsAlone, groups-line}
+use Rattle.properties_format.proofs.Split.Unique.{split_of-blank}
+use Rattle.properties_format.proofs.Escapes.Laws.{HasNoBackslash}
+use Rattle.properties_format.proofs.Settings.Tests.{IsGoodPrefix-from_test, IsGoodSeparator-from_test}
+use Rattle.properties_format.proofs.Printing.Characters.{encoded_text-append}
 use Rattle.properties_format.proofs.ReadBack.Texts.{texts-spelt}
 use Rattle.properties_format.proofs.ReadBack.Pairs.{IsReadAs, key-spelt, pair-read}
 use Rattle.properties_format.proofs.ReadBack.Comments.{comment-read}
@@ -34,7 +37,7 @@ line_text e s n (Some line) = printed_text e s (n == 0) line
 
 abbrev pub wrote_text : Encoding → Settings → ℕ → List Call → List ℕ
 wrote_text e s n [] = []
-wrote_text e s n (call ∷ calls) = line_text e s n (line_of s call) ++ wrote_text e (settings_after_call s call) (lines_with n (line_of s call)) calls
+wrote_text e s n (call ∷ calls) = line_text e s n (written_line s call) ++ wrote_text e (settings_after_call s call) (lines_with n (written_line s call)) calls
 
 line-bytes : (e : Encoding) (s : Settings) (n : ℕ) (o : Option Content) → line_bytes e s n o ≡ encoded_text e (line_text e s n o)
 line-bytes e s n None = refl
@@ -44,15 +47,15 @@ pub wrote-text : (e : Encoding) (s : Settings) (n : ℕ) (calls : List Call) →
 wrote-text e s n [] = refl
 wrote-text e s n (call ∷ calls) =
     let t = settings_after_call s call in
-    let m = lines_with n (line_of s call) in
-    ap₂ (λ v w. v ++ w) (line-bytes e s n (line_of s call)) (wrote-text e t m calls) ∙ sym (encoded_text-append e (line_text e s n (line_of s call)) (wrote_text e t m calls))
+    let m = lines_with n (written_line s call) in
+    ap₂ (λ v w. v ++ w) (line-bytes e s n (written_line s call)) (wrote-text e t m calls) ∙ sym (encoded_text-append e (line_text e s n (written_line s call)) (wrote_text e t m calls))
 
 -- ---- one line
 
 -- a text, and then its line end; the text is read as this
-pub record IsLineReadAs (by : LineEnd) (x : List ℕ) (content : Content) : Type 0 where
+pub record IsLineReadAs (by : LineEnding) (x : List ℕ) (content : Content) : Type 0 where
   pub text : List ℕ
-  pub whole : x ≡ text ++ line_end_text by
+  pub whole : x ≡ text ++ line_ending_text by
   pub read : IsReadAs text content
 
 by_recursion : (x : List ℕ) → All scalar x → AllByRecursion scalar x
@@ -63,11 +66,11 @@ no_backslash [] h = tt
 no_backslash (c ∷ x) h = (h.0, no_backslash x h.1)
 
 pub comment-line : (e : Encoding) (s : Settings) (first : Bool) (text : List ℕ) → AreGoodSettings s → HoldsNoBackslash s.comment_prefix → All scalar text
-    → IsLineReadAs s.line_ending (printed_text e s first (comment text)) (told_content s (comment text))
+    → IsLineReadAs s.line_ending (printed_text e s first (comment text)) (content_read_back s (comment text))
 comment-line e s first text g b h =
     record {
       text = spelt_text e in_prefix s.comment_prefix ++ spelt_text e in_comment text;
-      whole = sym (append_assoc (spelt_text e in_prefix s.comment_prefix) (spelt_text e in_comment text) (line_end_text s.line_ending));
+      whole = sym (append_assoc (spelt_text e in_prefix s.comment_prefix) (spelt_text e in_comment text) (line_ending_text s.line_ending));
       read = comment-read e s.comment_prefix text g.prefix (no_backslash s.comment_prefix b) (by_recursion s.comment_prefix g.scalars) (by_recursion text h);
     }
 
@@ -78,45 +81,45 @@ pair-line e s first key value g some h k =
     let back = spelt_text e in_key_or_value value in
     record {
       text = front ++ (s.kv_separator ++ back);
-      whole = ap (λ v. front ++ v) (sym (append_assoc s.kv_separator back (line_end_text s.line_ending))) ∙ sym (append_assoc front (s.kv_separator ++ back) (line_end_text s.line_ending));
+      whole = ap (λ v. front ++ v) (sym (append_assoc s.kv_separator back (line_ending_text s.line_ending))) ∙ sym (append_assoc front (s.kv_separator ++ back) (line_ending_text s.line_ending));
       read = pair-read front back s.kv_separator key value (key-spelt e first key (by_recursion key h)) (texts-spelt e value (by_recursion value k)) g.separator some;
     }
 
 -- ---- all lines
 
--- the text, behind n line ends, is read as these entries, and no LF is at its front
+-- the text, after n line ends, is read as these entries, and no LF is at its front
 pub record IsTextReadAs (m n : ℕ) (x : List ℕ) (entries : List Entry) : Type 0 where
-  pub read : entries_of m end (groups_of (lines_after n false [] x end) end) ≡ entries
+  pub read : entries_of m end (groups_of (lines_to_come n false [] x end) end) ≡ entries
   pub no_lf : begins_with_lf x ≡ false
 
 joined-alone : (l : Line) → StandsAlone l.text → joined (l ∷ []) ≡ l.text
-joined-alone l (inl m) = joined-marked l [] m
+joined-alone l (inl m) = joined-comment_line l [] m
 joined-alone l (inr m) = joined-closed l m
 
-front-no_lf : (x y : List ℕ) → x ≢ [] → IsPlain x → begins_with_lf (x ++ y) ≡ false
+front-no_lf : (x y : List ℕ) → x ≢ [] → HoldsNoLineEnd x → begins_with_lf (x ++ y) ≡ false
 front-no_lf [] y some h = absurd (some refl)
 front-no_lf (c ∷ x) y some h = plain-no_lf (c ∷ x) h
 
-line-read : (m n : ℕ) (by : LineEnd) (text y : List ℕ) (content : Content) (entries : List Entry) → IsReadAs text content → IsTextReadAs m (n + 1) y entries
-    → entries_of m end (groups_of (lines_after n false [] (text ++ (line_end_text by ++ y)) end) end) ≡ item (n + 1) content ∷ entries
+line-read : (m n : ℕ) (by : LineEnding) (text y : List ℕ) (content : Content) (entries : List Entry) → IsReadAs text content → IsTextReadAs m (n + 1) y entries
+    → entries_of m end (groups_of (lines_to_come n false [] (text ++ (line_ending_text by ++ y)) end) end) ≡ item (n + 1) content ∷ entries
 line-read m n by text y content entries r t =
     let l : Line = record { number = n + 1; text = text } in
     ap (λ v. entries_of m end v) (groups-line n text by y end r.plain (λ _. t.no_lf) r.alone)
     ∙ ap₂ (λ o v. followed (n + 1) o v) (ap outcome_of (joined-alone l r.alone) ∙ r.outcome) t.read
 
-line-then : (m n : ℕ) (by : LineEnd) (x y : List ℕ) (content : Content) (entries : List Entry) → IsLineReadAs by x content → IsTextReadAs m (n + 1) y entries
+line-then : (m n : ℕ) (by : LineEnding) (x y : List ℕ) (content : Content) (entries : List Entry) → IsLineReadAs by x content → IsTextReadAs m (n + 1) y entries
     → IsTextReadAs m n (x ++ y) (item (n + 1) content ∷ entries)
 line-then m n by x y content entries l t =
-    let same : x ++ y ≡ l.text ++ (line_end_text by ++ y) = ap (λ v. v ++ y) l.whole ∙ append_assoc l.text (line_end_text by) y in
+    let same : x ++ y ≡ l.text ++ (line_ending_text by ++ y) = ap (λ v. v ++ y) l.whole ∙ append_assoc l.text (line_ending_text by) y in
     record {
-      read = ap (λ v. entries_of m end (groups_of (lines_after n false [] v end) end)) same ∙ line-read m n by l.text y content entries l.read t;
-      no_lf = ap begins_with_lf same ∙ front-no_lf l.text (line_end_text by ++ y) l.read.some l.read.plain;
+      read = ap (λ v. entries_of m end (groups_of (lines_to_come n false [] v end) end)) same ∙ line-read m n by l.text y content entries l.read t;
+      no_lf = ap begins_with_lf same ∙ front-no_lf l.text (line_ending_text by ++ y) l.read.some l.read.plain;
     }
 
 nothing-read : (m n : ℕ) → IsTextReadAs m n [] []
 nothing-read m n =
     record {
-      read = ap (λ v. entries_of m end (groups_of v end)) (lines_after-end n false [] tt) ∙ ap (λ v. followed (n + 1) (split_outcome v) []) (split_of-blank [] tt);
+      read = ap (λ v. entries_of m end (groups_of v end)) (lines_to_come-end n false [] tt) ∙ ap (λ v. followed (n + 1) (split_outcome v) []) (split_of-blank [] tt);
       no_lf = refl;
     }
 
@@ -146,23 +149,23 @@ settings_after-good s (call ∷ calls) g h = settings_after-good (settings_after
 
 -- a pair, which is a line where it is accepted
 pair-step : (e : Encoding) (m : ℕ) (s : Settings) (n : ℕ) (key value : List ℕ) (calls : List Call) (b : Bool) → not (is_empty key && is_blanks s.kv_separator) ≡ b → AreGoodSettings s
-    → All scalar key → All scalar value → ((k : ℕ) → IsTextReadAs m k (wrote_text e s k calls) (told s k calls))
+    → All scalar key → All scalar value → ((k : ℕ) → IsTextReadAs m k (wrote_text e s k calls) (items_read_back s k calls))
     → (o : Option Content) → o ≡ (if b then Some (pair key value) else None)
-    → IsTextReadAs m n (line_text e s n o ++ wrote_text e s (lines_with n o) calls) (told_line s n o ++ told s (lines_with n o) calls)
+    → IsTextReadAs m n (line_text e s n o ++ wrote_text e s (lines_with n o) calls) (item_read_back s n o ++ items_read_back s (lines_with n o) calls)
 pair-step e m s n key value calls true accepted g h k rest o same =
     let some : key ≡ [] → is_blanks s.kv_separator ≡ false = λ q. subst (λ v. (is_empty v && is_blanks s.kv_separator) ≡ false) q (not-true (is_empty key && is_blanks s.kv_separator) accepted) in
-    rw same (line-then m n s.line_ending (printed_text e s (n == 0) (pair key value)) (wrote_text e s (n + 1) calls) (pair key value) (told s (n + 1) calls)
+    rw same (line-then m n s.line_ending (printed_text e s (n == 0) (pair key value)) (wrote_text e s (n + 1) calls) (pair key value) (items_read_back s (n + 1) calls)
     (pair-line e s (n == 0) key value g some h k) (rest (n + 1)))
 pair-step e m s n key value calls false refused g h k rest o same = rw same (rest n)
 
 pub text-read : (e : Encoding) (m : ℕ) (s : Settings) (n : ℕ) (calls : List Call) → AreGoodSettings s → ArePrefixesClean s calls → AreOfScalars calls
-    → IsTextReadAs m n (wrote_text e s n calls) (told s n calls)
+    → IsTextReadAs m n (wrote_text e s n calls) (items_read_back s n calls)
 text-read e m s n [] g c h = nothing-read m n
 text-read e m s n (comment_call text ∷ calls) g c h =
-    line-then m n s.line_ending (printed_text e s (n == 0) (comment text)) (wrote_text e s (n + 1) calls) (told_content s (comment text)) (told s (n + 1) calls)
+    line-then m n s.line_ending (printed_text e s (n == 0) (comment text)) (wrote_text e s (n + 1) calls) (content_read_back s (comment text)) (items_read_back s (n + 1) calls)
     (comment-line e s (n == 0) text g c.0 h.0) (text-read e m s (n + 1) calls g c.1 h.1)
 text-read e m s n (pair_call key value ∷ calls) g c h =
-    pair-step e m s n key value calls (not (is_empty key && is_blanks s.kv_separator)) refl g h.0.0 h.0.1 (λ k. text-read e m s k calls g c h.1) (line_of s (pair_call key value)) refl
+    pair-step e m s n key value calls (not (is_empty key && is_blanks s.kv_separator)) refl g h.0.0 h.0.1 (λ k. text-read e m s k calls g c h.1) (written_line s (pair_call key value)) refl
 text-read e m s n (prefix_call prefix ∷ calls) g c h =
     text-read e m (settings_after_call s (prefix_call prefix)) n calls (settings_after_call-good s (prefix_call prefix) g h.0) c h.1
 text-read e m s n (separator_call separator ∷ calls) g c h =

@@ -4,44 +4,47 @@ use Rattle.std.specs.List.{AllByRecursion}
 use Rattle.std.proofs.lemmas.Bool.{cases_Bool, cond-true, cond-false, or_cases}
 use Rattle.properties_format.specs.Text.{scalar, backslash, is_blank, is_line_end, is_separator}
 use Rattle.properties_format.specs.Encoding.{Encoding}
-use Rattle.properties_format.specs.Lines.{IsPlain}
+use Rattle.properties_format.specs.Lines.{HoldsNoLineEnd}
 use Rattle.properties_format.specs.Groups.{is_open}
-use Rattle.properties_format.specs.Split.{Logical, AreBlanks, IsBetween, blanks, separator, split_of}
+use Rattle.properties_format.specs.Split.{Logical, AreBlanks, IsBetween, blanks, separator}
+use Rattle.properties_format.specs.Reading.Split.{split_of}
 use Rattle.properties_format.specs.Escapes.{Spelling, spelling_text, spelt_character, spelt_before}
 use Rattle.properties_format.specs.Entries.{Content, pair}
-use Rattle.properties_format.specs.Items.{given, pair_outcome, split_outcome, outcome_of}
-use Rattle.properties_format.specs.Settings.{IsGoodSeparator, IsSignedSeparator, is_blanks}
-use Rattle.properties_format.specs.Printing.{in_key_or_value, unicode_escape, spelt_text, is_mark_like, shielded, spelt_key}
+use Rattle.properties_format.specs.Items.{given}
+use Rattle.properties_format.specs.Reading.Items.{pair_outcome, split_outcome, outcome_of}
+use Rattle.properties_format.specs.Settings.{IsGoodSeparator, IsSignedSeparator}
+use Rattle.properties_format.specs.Reading.Settings.{is_blanks}
+use Rattle.properties_format.specs.Printing.{in_key_or_value, unicode_escape, spelt_text, is_bom_like, with_first_escaped, spelt_key}
 use Rattle.properties_format.proofs.Lines.Plain.{plain-append}
-use Rattle.properties_format.proofs.Groups.Open.{is_open-behind, blank-other}
-use Rattle.properties_format.proofs.Logical.{StandsAlone}
-use Rattle.properties_format.proofs.Split.{split_of-pair}
-use Rattle.properties_format.proofs.SplitLaws.{split_of-empty_key}
-use Rattle.properties_format.proofs.EscapesLaws.{HasNoBackslash}
-use Rattle.properties_format.proofs.Settings.{is_blanks-from}
+use Rattle.properties_format.proofs.Groups.Open.{is_open-after, blank-other}
+use Rattle.properties_format.proofs.Groups.Logical.{StandsAlone}
+use Rattle.properties_format.proofs.Split.Unique.{split_of-pair}
+use Rattle.properties_format.proofs.Split.Laws.{split_of-empty_key}
+use Rattle.properties_format.proofs.Escapes.Laws.{HasNoBackslash}
+use Rattle.properties_format.proofs.Settings.Tests.{is_blanks-from}
 use Rattle.properties_format.proofs.ReadBack.Spellings.{unicode-spelt}
 use Rattle.properties_format.proofs.ReadBack.Texts.{AreSafe, AreSafelySpelt, spelt-cons, texts-spelt, spelt-means, spelt-plain, spelt-closed, are_safe-key, BeginsFull, safe-begins, are_safe-begin}
 
 -- what a line's text is read as, and that it is a line of its own
 pub record IsReadAs (text : List ℕ) (content : Content) : Type 0 where
   pub some : text ≢ []
-  pub plain : IsPlain text
+  pub plain : HoldsNoLineEnd text
   pub alone : StandsAlone text
   pub outcome : outcome_of text ≡ given content
 
 -- ---- keys
 
-shielded-spelt : (e : Encoding) (key : List ℕ) → AllByRecursion scalar key → AreSafelySpelt (shielded e key) key
-shielded-spelt e [] h = record { spellings = []; text = refl; characters = refl; safe = tt }
-shielded-spelt e (c ∷ cs) h = spelt-cons (unicode_escape c) (spelt_text e in_key_or_value cs) c cs (unicode-spelt c h.0) (texts-spelt e cs h.1)
+with_first_escaped-spelt : (e : Encoding) (key : List ℕ) → AllByRecursion scalar key → AreSafelySpelt (with_first_escaped e key) key
+with_first_escaped-spelt e [] h = record { spellings = []; text = refl; characters = refl; safe = tt }
+with_first_escaped-spelt e (c ∷ cs) h = spelt-cons (unicode_escape c) (spelt_text e in_key_or_value cs) c cs (unicode-spelt c h.0) (texts-spelt e cs h.1)
 
 same-texts : (x y z : List ℕ) → x ≡ y → AreSafelySpelt y z → AreSafelySpelt x z
 same-texts x y z e s = record { spellings = s.spellings; text = e ∙ s.text; characters = s.characters; safe = s.safe }
 
 pub key-spelt : (e : Encoding) (first : Bool) (key : List ℕ) → AllByRecursion scalar key → AreSafelySpelt (spelt_key e first key) key
-key-spelt e first key h = elim (cases_Bool (first && is_mark_like e key)) [
-  | inl k ↦ same-texts _ (shielded e key) key (cond-true (first && is_mark_like e key) (shielded e key) (spelt_text e in_key_or_value key) k) (shielded-spelt e key h)
-  | inr k ↦ same-texts _ (spelt_text e in_key_or_value key) key (cond-false (first && is_mark_like e key) (shielded e key) (spelt_text e in_key_or_value key) k) (texts-spelt e key h)
+key-spelt e first key h = elim (cases_Bool (first && is_bom_like e key)) [
+  | inl k ↦ same-texts _ (with_first_escaped e key) key (cond-true (first && is_bom_like e key) (with_first_escaped e key) (spelt_text e in_key_or_value key) k) (with_first_escaped-spelt e key h)
+  | inr k ↦ same-texts _ (spelt_text e in_key_or_value key) key (cond-false (first && is_bom_like e key) (with_first_escaped e key) (spelt_text e in_key_or_value key) k) (texts-spelt e key h)
 ]
 
 -- ---- separators
@@ -58,7 +61,7 @@ blank-plain c h = elim (or_cases (c == 0x20) (c == 0x09 || c == 0x0c) h) [
 -- no backslash, and no line end
 record IsQuiet (x : List ℕ) : Type 0 where
   slashes : HasNoBackslash x
-  plain : IsPlain x
+  plain : HoldsNoLineEnd x
 
 quiet-append : (x y : List ℕ) → IsQuiet x → IsQuiet y → IsQuiet (x ++ y)
 quiet-append x y h k = record { slashes = go x y h.slashes k.slashes; plain = plain-append x y h.plain k.plain }
@@ -67,7 +70,7 @@ quiet-append x y h k = record { slashes = go x y h.slashes k.slashes; plain = pl
     go [] y h k = k
     go (c ∷ x) y h k = (h.0, go x y h.1 k)
 
-pub blanks-plain : (x : List ℕ) → AreBlanks x → IsPlain x
+pub blanks-plain : (x : List ℕ) → AreBlanks x → HoldsNoLineEnd x
 blanks-plain [] h = tt
 blanks-plain (c ∷ x) h = (blank-plain c h.0, blanks-plain x h.1)
 
@@ -93,11 +96,11 @@ pub separator-some : (x : List ℕ) → IsGoodSeparator x → x ≢ []
 separator-some x (inl g) = λ q. cons-front g.before g.after g.sign (sym g.division ∙ q)
 separator-some x (inr g) = g.some
 
--- behind a separator only what follows it counts
-closed-behind : (x sep y : List ℕ) → HasNoBackslash sep → sep ≢ [] → is_open y ≡ false → is_open (x ++ (sep ++ y)) ≡ false
-closed-behind x [] y h some o = absurd (some refl)
-closed-behind x (c ∷ []) y h some o = is_open-behind x c y h.0 ∙ o
-closed-behind x (c ∷ d ∷ sep) y h some o = is_open-behind x c (d ∷ sep ++ y) h.0 ∙ closed-behind [] (d ∷ sep) y h.1 (λ q. cc) o
+-- after a separator only what follows it counts
+closed-after : (x sep y : List ℕ) → HasNoBackslash sep → sep ≢ [] → is_open y ≡ false → is_open (x ++ (sep ++ y)) ≡ false
+closed-after x [] y h some o = absurd (some refl)
+closed-after x (c ∷ []) y h some o = is_open-after x c y h.0 ∙ o
+closed-after x (c ∷ d ∷ sep) y h some o = is_open-after x c (d ∷ sep ++ y) h.0 ∙ closed-after [] (d ∷ sep) y h.1 (λ q. cc) o
 
 -- ---- the line of a pair
 
@@ -110,8 +113,8 @@ between-of : (vs : List Spelling) (sep : List ℕ) → AreSafe vs → IsGoodSepa
 between-of vs sep v (inl g) = separator g.before g.sign g.after g.division g.blank_before g.signed g.blank_after (are_safe-begin vs v).no_blank
 between-of vs sep v (inr g) = let b = are_safe-begin vs v in blanks g.some g.blank b.no_blank b.no_separator
 
-some-behind : (p : Spelling) (ps : List Spelling) (y : List ℕ) → AreSafe (p ∷ ps) → BeginsFull (spelt_before (p ∷ ps) [] ++ y)
-some-behind p ps y h = rw (append_assoc (spelling_text p) (spelt_before ps []) y) (safe-begins p (spelt_before ps [] ++ y) h.0)
+some-after : (p : Spelling) (ps : List Spelling) (y : List ℕ) → AreSafe (p ∷ ps) → BeginsFull (spelt_before (p ∷ ps) [] ++ y)
+some-after p ps y h = rw (append_assoc (spelling_text p) (spelt_before ps []) y) (safe-begins p (spelt_before ps [] ++ y) h.0)
 
 append-some : (x y z : List ℕ) → y ≢ [] → x ++ (y ++ z) ≢ []
 append-some [] [] z some q = some refl
@@ -123,9 +126,9 @@ split-pair : (ks vs : List Spelling) (sep : List ℕ) → AreSafe ks → AreSafe
 split-pair [] vs sep k v (inl g) some = split-empty_key vs sep v g
 split-pair [] vs sep k v (inr g) some = let a = some refl in let b = is_blanks-from sep g.blank in cc
 split-pair (p ∷ ps) vs sep k v g some =
-    let b = some-behind p ps (sep ++ spelt_before vs []) k in
+    let b = some-after p ps (sep ++ spelt_before vs []) k in
     split_of-pair [] (spelt_before (p ∷ ps) []) sep (spelt_before vs []) tt (append-some (spelt_before (p ∷ ps) []) sep (spelt_before vs []) (separator-some sep g))
-    b.no_blank b.no_mark (are_safe-key (p ∷ ps) (sep ++ spelt_before vs []) k) (between-of vs sep v g)
+    b.no_blank b.no_bom (are_safe-key (p ∷ ps) (sep ++ spelt_before vs []) k) (between-of vs sep v g)
 
 -- A key and a value, each safely spelt, around a good separator, which is not blanks alone where the key is empty.
 pub pair-read : (k v sep key value : List ℕ) → AreSafelySpelt k key → AreSafelySpelt v value → IsGoodSeparator sep → (key ≡ [] → is_blanks sep ≡ false)
@@ -135,7 +138,7 @@ pair-read k v sep key value ks vs g some =
     record {
       some = append-some k sep v (separator-some sep g);
       plain = plain-append k (sep ++ v) (spelt-plain k key ks) (plain-append sep v q.plain (spelt-plain v value vs));
-      alone = inr (closed-behind k sep v q.slashes (separator-some sep g) (spelt-closed v value vs));
+      alone = inr (closed-after k sep v q.slashes (separator-some sep g) (spelt-closed v value vs));
       outcome =
           ap split_outcome
           (ap₂ (λ x y. split_of (x ++ (sep ++ y))) ks.text vs.text

@@ -2,17 +2,17 @@
 use Rattle.std.proofs.Common.{◌≡◌, ◌⊎◌, ℕ, ◌<◌, ◌≤◌, ◌==◌, ◌||◌, true, false, cond, List, [], ◌∷◌, ◌++◌, refl, ap, sym, ◌∙◌, inl, inr, arith, lit<, eqb-true, ltb-true, ltb-false, le-leb, lt-ltb, le-ltb, subst, ap₂}
 use Rattle.std.specs.Prelude.{is_some, nat_lt, nat_le}
 use Rattle.std.proofs.lemmas.Bool.{cases_Bool, cond-true, cond-false, and_from, and_left, and_right, or_from, or_cases, or_parts, lt-leb}
-use Rattle.properties_format.specs.Text.{scalar, tab, line_feed, form_feed, carriage_return, space, backslash, is_blank, is_line_end, is_comment_mark, is_separator}
+use Rattle.properties_format.specs.Text.{scalar, tab, line_feed, form_feed, carriage_return, space, backslash, is_blank, is_line_end, is_comment_sign, is_separator}
 use Rattle.properties_format.specs.Encoding.{Encoding, encoded}
 use Rattle.properties_format.specs.Escapes.{letter_u, escaped_character, are_hexadecimal, code_unit, is_high, is_low, is_surrogate, pair_character, Spelling, itself, escaped, unicode, surrogates, last, spelling_text, spelt_character, IsSpelling}
 use Rattle.properties_format.specs.Printing.{in_key_or_value, in_comment, unit_escape, high_surrogate, low_surrogate, unicode_escape, literal, is_special, letter_escape, has_letter, spelt}
-use Rattle.properties_format.proofs.EscapesDigits.{unit_digits, unit_digits-hexadecimal, unit_digits-unit, high_of, low_of, pair_character-surrogates}
-use Rattle.properties_format.proofs.EscapesTrimmed.{KeepsBlanks, KeepsBlanks-itself, KeepsBlanks-escaped, KeepsBlanks-unicode, KeepsBlanks-surrogates}
-use Rattle.properties_format.proofs.Printing.{encoded-ascii}
+use Rattle.properties_format.proofs.Escapes.Digits.{unit_digits, unit_digits-hexadecimal, unit_digits-unit, high_of, low_of, pair_character-surrogates}
+use Rattle.properties_format.proofs.Escapes.Trimmed.{KeepsBlanks, KeepsBlanks-itself, KeepsBlanks-escaped, KeepsBlanks-unicode, KeepsBlanks-surrogates}
+use Rattle.properties_format.proofs.Printing.Characters.{encoded-ascii}
 
 -- a spelling that may stand in a key or a value
 abbrev pub IsSafe : Spelling → Type 0
-IsSafe (itself c) = ((c == backslash) ≡ false) × (is_blank c ≡ false) × (is_separator c ≡ false) × (is_comment_mark c ≡ false) × (is_line_end c ≡ false)
+IsSafe (itself c) = ((c == backslash) ≡ false) × (is_blank c ≡ false) × (is_separator c ≡ false) × (is_comment_sign c ≡ false) × (is_line_end c ≡ false)
 IsSafe (escaped c) = ((c == letter_u) ≡ false) × (is_line_end c ≡ false)
 IsSafe (unicode d) = (are_hexadecimal d ≡ true) × (is_surrogate (code_unit d) ≡ false)
 IsSafe (surrogates high low) = IsSpelling (surrogates high low) []
@@ -126,11 +126,11 @@ at-character : (c d : ℕ) (x : ℕ → List ℕ) → (c == d) ≡ true → IsSa
 at-character c d x e s = rw (eqb-true c d e) s
 
 special-spelt : (c : ℕ) → is_special c ≡ true → IsSafelySpelt (backslash ∷ c ∷ []) c
-special-spelt c h = elim (or_cases (c == backslash) (c == space || (is_separator c || is_comment_mark c)) h) [
+special-spelt c h = elim (or_cases (c == backslash) (c == space || (is_separator c || is_comment_sign c)) h) [
   | inl e ↦ at-character c backslash (λ v. backslash ∷ v ∷ []) e (escape-spelt backslash backslash refl refl refl)
-  | inr h ↦ elim (or_cases (c == space) (is_separator c || is_comment_mark c) h) [
+  | inr h ↦ elim (or_cases (c == space) (is_separator c || is_comment_sign c) h) [
     | inl e ↦ at-character c space (λ v. backslash ∷ v ∷ []) e (escape-spelt space space refl refl refl)
-    | inr h ↦ elim (or_cases (is_separator c) (is_comment_mark c) h) [
+    | inr h ↦ elim (or_cases (is_separator c) (is_comment_sign c) h) [
       | inl h ↦ elim (or_cases (c == 0x3d) (c == 0x3a) h) [
         | inl e ↦ at-character c 0x3d (λ v. backslash ∷ v ∷ []) e (escape-spelt 0x3d 0x3d refl refl refl)
         | inr e ↦ at-character c 0x3a (λ v. backslash ∷ v ∷ []) e (escape-spelt 0x3a 0x3a refl refl refl)
@@ -167,9 +167,9 @@ blank-cases c a b d = or_from (c == space) (c == tab || c == form_feed) a (or_fr
 
 itself-spelt : (c : ℕ) → IsOrdinary c → IsSafelySpelt (c ∷ []) c
 itself-spelt c o =
-    let a = or_parts (c == backslash) (c == space || (is_separator c || is_comment_mark c)) o.special in
-    let b = or_parts (c == space) (is_separator c || is_comment_mark c) a.1 in
-    let d = or_parts (is_separator c) (is_comment_mark c) b.1 in
+    let a = or_parts (c == backslash) (c == space || (is_separator c || is_comment_sign c)) o.special in
+    let b = or_parts (c == space) (is_separator c || is_comment_sign c) a.1 in
+    let d = or_parts (is_separator c) (is_comment_sign c) b.1 in
     let f = or_parts (c == tab || c == line_feed) (c == form_feed || c == carriage_return) o.letter in
     let g = or_parts (c == tab) (c == line_feed) f.0 in
     let i = or_parts (c == form_feed) (c == carriage_return) f.1 in

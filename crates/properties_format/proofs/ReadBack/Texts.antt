@@ -3,18 +3,19 @@ use Rattle.std.proofs.Common.{◌≡◌, ℕ, ◌==◌, ◌&&◌, true, false, L
 use Rattle.std.specs.List.{AllByRecursion}
 use Rattle.std.proofs.lemmas.Bool.{cases_Bool, and_parts}
 use Rattle.std.proofs.lemmas.Bool.Decides.{nat_tests}
-use Rattle.properties_format.specs.Text.{scalar, backslash, is_blank, is_line_end, is_comment_mark, is_separator}
+use Rattle.properties_format.specs.Text.{scalar, backslash, is_blank, is_line_end, is_comment_sign, is_separator}
 use Rattle.properties_format.specs.Encoding.{Encoding}
-use Rattle.properties_format.specs.Lines.{IsPlain}
+use Rattle.properties_format.specs.Lines.{HoldsNoLineEnd}
 use Rattle.properties_format.specs.Groups.{is_open}
 use Rattle.properties_format.specs.Split.{IsKey, begins}
-use Rattle.properties_format.specs.Escapes.{letter_u, is_hexadecimal, Four, four_text, are_hexadecimal, Spelling, itself, escaped, unicode, surrogates, last, spelling_text, spelt_character, spelt_before, means, meaning_of}
+use Rattle.properties_format.specs.Escapes.{letter_u, is_hexadecimal, Four, four_text, are_hexadecimal, Spelling, itself, escaped, unicode, surrogates, last, spelling_text, spelt_character, spelt_before, means}
+use Rattle.properties_format.specs.Reading.Escapes.{meaning_of}
 use Rattle.properties_format.specs.Printing.{in_key_or_value, spelt, spelt_text}
 use Rattle.properties_format.proofs.Lines.Plain.{plain-append}
 use Rattle.properties_format.proofs.Groups.Open.{is_open-two, is_open-other}
-use Rattle.properties_format.proofs.SplitLaws.{IsKey-nil, IsKey-plain, IsKey-escaped, IsKey-unicode}
-use Rattle.properties_format.proofs.EscapesDigits.{hexadecimal-plain}
-use Rattle.properties_format.proofs.EscapesLaws.{IsWhole, AreWhole, meaning_of-all}
+use Rattle.properties_format.proofs.Split.Laws.{IsKey-nil, IsKey-plain, IsKey-escaped, IsKey-unicode}
+use Rattle.properties_format.proofs.Escapes.Digits.{hexadecimal-plain}
+use Rattle.properties_format.proofs.Escapes.Laws.{IsWhole, AreWhole, meaning_of-all}
 use Rattle.properties_format.proofs.ReadBack.Spellings.{IsSafe, IsSafelySpelt, in_key_or_value-spelt}
 
 abbrev pub AreSafe : List Spelling → Type 0
@@ -65,26 +66,26 @@ four-digits d h =
     let r = and_parts (is_hexadecimal d.third) (is_hexadecimal d.fourth) p.1 in
     (q.0, q.1, r.0, r.1)
 
-unit-plain : (d : Four) → are_hexadecimal d ≡ true → IsPlain (backslash ∷ letter_u ∷ four_text d)
+unit-plain : (d : Four) → are_hexadecimal d ≡ true → HoldsNoLineEnd (backslash ∷ letter_u ∷ four_text d)
 unit-plain d h = let f = four-digits d h in (refl, (refl, (digit-plain d.first f.0, (digit-plain d.second f.1, (digit-plain d.third f.2, (digit-plain d.fourth f.3, tt))))))
 
-pub safe-plain : (p : Spelling) → IsSafe p → IsPlain (spelling_text p)
+pub safe-plain : (p : Spelling) → IsSafe p → HoldsNoLineEnd (spelling_text p)
 safe-plain (itself c) h = (h.4, tt)
 safe-plain (escaped c) h = (refl, (h.1, tt))
 safe-plain (unicode d) h = unit-plain d h.0
 safe-plain (surrogates high low) h = plain-append (backslash ∷ letter_u ∷ four_text high) (backslash ∷ letter_u ∷ four_text low) (unit-plain high h.0) (unit-plain low h.2)
 safe-plain last h = absurd h
 
-are_safe-plain : (ps : List Spelling) → AreSafe ps → IsPlain (spelt_before ps [])
+are_safe-plain : (ps : List Spelling) → AreSafe ps → HoldsNoLineEnd (spelt_before ps [])
 are_safe-plain [] h = tt
 are_safe-plain (p ∷ ps) h = plain-append (spelling_text p) (spelt_before ps []) (safe-plain p h.0) (are_safe-plain ps h.1)
 
-pub spelt-plain : (x y : List ℕ) → AreSafelySpelt x y → IsPlain x
+pub spelt-plain : (x y : List ℕ) → AreSafelySpelt x y → HoldsNoLineEnd x
 spelt-plain x y s = rw s.text (are_safe-plain s.spellings s.safe)
 
 -- ---- no open backslash
 
--- behind a text that is not open, one that ends in another character than a backslash is not open
+-- after a text that is not open, one that ends in another character than a backslash is not open
 other-closed : (x y : List ℕ) (c : ℕ) → (c == backslash) ≡ false → is_open (x ++ (y ++ c ∷ [])) ≡ false
 other-closed x y c h = ap is_open (sym (append_assoc x y (c ∷ []))) ∙ is_open-other (x ++ y) c h
 
@@ -128,15 +129,15 @@ are_safe-key (p ∷ ps) rest h = safe-key p (spelt_before ps []) rest h.0 (are_s
 pub record BeginsFull (x : List ℕ) : Type 0 where
   pub no_blank : begins is_blank x ≡ false
   pub no_separator : begins is_separator x ≡ false
-  pub no_mark : begins is_comment_mark x ≡ false
+  pub no_bom : begins is_comment_sign x ≡ false
 
 pub safe-begins : (p : Spelling) (y : List ℕ) → IsSafe p → BeginsFull (spelling_text p ++ y)
-safe-begins (itself c) y h = record { no_blank = h.1; no_separator = h.2; no_mark = h.3 }
-safe-begins (escaped c) y h = record { no_blank = refl; no_separator = refl; no_mark = refl }
-safe-begins (unicode d) y h = record { no_blank = refl; no_separator = refl; no_mark = refl }
-safe-begins (surrogates high low) y h = record { no_blank = refl; no_separator = refl; no_mark = refl }
+safe-begins (itself c) y h = record { no_blank = h.1; no_separator = h.2; no_bom = h.3 }
+safe-begins (escaped c) y h = record { no_blank = refl; no_separator = refl; no_bom = refl }
+safe-begins (unicode d) y h = record { no_blank = refl; no_separator = refl; no_bom = refl }
+safe-begins (surrogates high low) y h = record { no_blank = refl; no_separator = refl; no_bom = refl }
 safe-begins last y h = absurd h
 
 pub are_safe-begin : (ps : List Spelling) → AreSafe ps → BeginsFull (spelt_before ps [])
-are_safe-begin [] h = record { no_blank = refl; no_separator = refl; no_mark = refl }
+are_safe-begin [] h = record { no_blank = refl; no_separator = refl; no_bom = refl }
 are_safe-begin (p ∷ ps) h = safe-begins p (spelt_before ps []) h.0

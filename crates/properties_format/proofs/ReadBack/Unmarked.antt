@@ -2,20 +2,21 @@
 use Rattle.std.proofs.Common.{◌≡◌, ℕ, ◌<◌, ◌==◌, ◌&&◌, ◌||◌, not, Bool, true, false, if◌then◌else◌, List, [], ◌∷◌, ◌++◌, refl, ap, ◌∙◌, inl, inr, append_assoc, arith, lit<, ne_eqb}
 use Rattle.std.specs.Prelude.{Some, None, unwrap_or}
 use Rattle.std.proofs.lemmas.Bool.{cases_Bool, cond-true, cond-false, and_left}
-use Rattle.properties_format.specs.Text.{backslash, is_comment_mark}
-use Rattle.properties_format.specs.Encoding.{Encoding, begins_with, begins_like_mark, utf_8_mark, utf_16be_mark, utf_16le_mark}
+use Rattle.properties_format.specs.Text.{backslash, is_comment_sign}
+use Rattle.properties_format.specs.Encoding.{Encoding, begins_with, begins_like_bom, utf_8_bom, utf_16be_bom, utf_16le_bom}
 use Rattle.properties_format.specs.Split.{AreBlanks}
 use Rattle.properties_format.specs.Entries.{Content, comment, pair}
-use Rattle.properties_format.specs.Settings.{Settings, IsGoodPrefix, IsGoodSeparator, is_blanks}
-use Rattle.properties_format.specs.Printing.{in_key_or_value, in_prefix, spelt_text, encoded_text, is_mark_like, shielded, spelt_key, printed_text}
+use Rattle.properties_format.specs.Settings.{Settings, IsGoodPrefix, IsGoodSeparator}
+use Rattle.properties_format.specs.Reading.Settings.{is_blanks}
+use Rattle.properties_format.specs.Printing.{in_key_or_value, in_prefix, spelt_text, encoded_text, is_bom_like, with_first_escaped, spelt_key, printed_text}
 use Rattle.properties_format.specs.Writing.{Call, comment_call, pair_call, prefix_call, separator_call, ending_call, flush_call, is_empty, settings_after_call, lines_with, AreOfScalars, AreGoodSettings}
-use Rattle.properties_format.proofs.Printing.{encoded-ascii, encoded_text-append, blank-ascii, good_separator-ascii}
-use Rattle.properties_format.proofs.MarkLike.{unicode-is_escape}
+use Rattle.properties_format.proofs.Printing.Characters.{encoded-ascii, encoded_text-append, blank-ascii, good_separator-ascii}
+use Rattle.properties_format.proofs.Printing.BomLike.{unicode-is_escape}
 use Rattle.properties_format.proofs.ReadBack.Pairs.{separator-some}
-use Rattle.properties_format.proofs.ReadBack.Comments.{prefix-spelt, mark-ascii}
+use Rattle.properties_format.proofs.ReadBack.Comments.{prefix-spelt, sign-ascii}
 use Rattle.properties_format.proofs.ReadBack.Lines.{line_text, wrote_text, settings_after_call-good}
 
--- ---- no mark has an ASCII byte
+-- ---- no byte order mark has an ASCII byte
 
 -- none of these numbers is this one
 abbrev HasNot : ℕ → List ℕ → Type 0
@@ -25,75 +26,75 @@ HasNot c (m ∷ ms) = ((m == c) ≡ false) × HasNot c ms
 no-ascii : (m c : ℕ) → c < 0x80 → 0x80 < m → (m == c) ≡ false
 no-ascii m c h k = ne_eqb m c (λ q. absurd (omega arith))
 
--- an ASCII byte ends what can be taken for a mark
+-- an ASCII byte ends what can be taken for a byte order mark
 begins-cut : (ms x : List ℕ) (c : ℕ) (y : List ℕ) → HasNot c ms → begins_with ms (x ++ (c ∷ y)) ≡ begins_with ms x
 begins-cut [] x c y h = refl
 begins-cut (m ∷ ms) [] c y h = and_left (m == c) (begins_with ms y) h.0
 begins-cut (m ∷ ms) (b ∷ x) c y h = ap (λ v. (m == b) && v) (begins-cut ms x c y h.1)
 
-mark-cut : (x : List ℕ) (c : ℕ) (y : List ℕ) → c < 0x80 → begins_like_mark (x ++ (c ∷ y)) ≡ begins_like_mark x
-mark-cut x c y h =
+byte_order_mark-cut : (x : List ℕ) (c : ℕ) (y : List ℕ) → c < 0x80 → begins_like_bom (x ++ (c ∷ y)) ≡ begins_like_bom x
+byte_order_mark-cut x c y h =
     let ef = no-ascii 0xef c h (lit< tt) in
     let bb = no-ascii 0xbb c h (lit< tt) in
     let bf = no-ascii 0xbf c h (lit< tt) in
     let fe = no-ascii 0xfe c h (lit< tt) in
     let ff = no-ascii 0xff c h (lit< tt) in
-    ap (λ b. b || (begins_with utf_16be_mark (x ++ (c ∷ y)) || begins_with utf_16le_mark (x ++ (c ∷ y)))) (begins-cut utf_8_mark x c y (ef, (bb, (bf, tt))))
-    ∙ ap (λ b. begins_with utf_8_mark x || (b || begins_with utf_16le_mark (x ++ (c ∷ y)))) (begins-cut utf_16be_mark x c y (fe, (ff, tt)))
-    ∙ ap (λ b. begins_with utf_8_mark x || (begins_with utf_16be_mark x || b)) (begins-cut utf_16le_mark x c y (ff, (fe, tt)))
+    ap (λ b. b || (begins_with utf_16be_bom (x ++ (c ∷ y)) || begins_with utf_16le_bom (x ++ (c ∷ y)))) (begins-cut utf_8_bom x c y (ef, (bb, (bf, tt))))
+    ∙ ap (λ b. begins_with utf_8_bom x || (b || begins_with utf_16le_bom (x ++ (c ∷ y)))) (begins-cut utf_16be_bom x c y (fe, (ff, tt)))
+    ∙ ap (λ b. begins_with utf_8_bom x || (begins_with utf_16be_bom x || b)) (begins-cut utf_16le_bom x c y (ff, (fe, tt)))
 
 -- the bytes of a text with an ASCII character in it, up to that character
-text-cut : (e : Encoding) (x : List ℕ) (c : ℕ) (y : List ℕ) → c < 0x80 → begins_like_mark (encoded_text e (x ++ (c ∷ y))) ≡ begins_like_mark (encoded_text e x)
+text-cut : (e : Encoding) (x : List ℕ) (c : ℕ) (y : List ℕ) → c < 0x80 → begins_like_bom (encoded_text e (x ++ (c ∷ y))) ≡ begins_like_bom (encoded_text e x)
 text-cut e x c y h =
-    ap begins_like_mark (encoded_text-append e x (c ∷ y) ∙ ap (λ o. encoded_text e x ++ (unwrap_or o [] ++ encoded_text e y)) (encoded-ascii e c h))
-    ∙ mark-cut (encoded_text e x) c (encoded_text e y) h
+    ap begins_like_bom (encoded_text-append e x (c ∷ y) ∙ ap (λ o. encoded_text e x ++ (unwrap_or o [] ++ encoded_text e y)) (encoded-ascii e c h))
+    ∙ byte_order_mark-cut (encoded_text e x) c (encoded_text e y) h
 
 -- ---- the first line
 
 abbrev IsUnmarked : Encoding → List ℕ → Type 0
-IsUnmarked e x = begins_like_mark (encoded_text e x) ≡ false
+IsUnmarked e x = begins_like_bom (encoded_text e x) ≡ false
 
 -- the characters of a text that begins with an ASCII one
 front-unmarked : (e : Encoding) (x : List ℕ) (c : ℕ) (y : List ℕ) → x ≡ c ∷ y → c < 0x80 → IsUnmarked e x
-front-unmarked e x c y same h = ap (λ v. begins_like_mark (encoded_text e v)) same ∙ text-cut e [] c y h
+front-unmarked e x c y same h = ap (λ v. begins_like_bom (encoded_text e v)) same ∙ text-cut e [] c y h
 
-indent-front : (indent : List ℕ) (mark : ℕ) (rest : List ℕ) → AreBlanks indent → is_comment_mark mark ≡ true → (c : ℕ) × (y : List ℕ) × (indent ++ (mark ∷ rest) ≡ c ∷ y) × (c < 0x80)
-indent-front [] mark rest b m = (mark, rest, refl, (mark-ascii mark m).0)
-indent-front (c ∷ indent) mark rest b m = (c, indent ++ (mark ∷ rest), refl, blank-ascii c b.0)
+indent-front : (indent : List ℕ) (sign : ℕ) (rest : List ℕ) → AreBlanks indent → is_comment_sign sign ≡ true → (c : ℕ) × (y : List ℕ) × (indent ++ (sign ∷ rest) ≡ c ∷ y) × (c < 0x80)
+indent-front [] sign rest b m = (sign, rest, refl, (sign-ascii sign m).0)
+indent-front (c ∷ indent) sign rest b m = (c, indent ++ (sign ∷ rest), refl, blank-ascii c b.0)
 
 comment-unmarked : (e : Encoding) (prefix rest : List ℕ) → IsGoodPrefix prefix → IsUnmarked e (spelt_text e in_prefix prefix ++ rest)
 comment-unmarked e prefix rest g =
-    let (c, y, same, h) = indent-front g.indent g.mark (spelt_text e in_prefix g.tail) g.indented g.marked in
+    let (c, y, same, h) = indent-front g.indent g.sign (spelt_text e in_prefix g.tail) g.indented g.signed in
     front-unmarked e (spelt_text e in_prefix prefix ++ rest) c (y ++ rest)
-    (ap (λ v. v ++ rest) (ap (spelt_text e in_prefix) g.division ∙ prefix-spelt e g.indent g.mark g.tail g.indented g.marked ∙ same)) h
+    (ap (λ v. v ++ rest) (ap (spelt_text e in_prefix) g.division ∙ prefix-spelt e g.indent g.sign g.tail g.indented g.signed ∙ same)) h
 
 -- a separator begins with an ASCII character
 separator-front : (sep : List ℕ) → IsGoodSeparator sep → (c : ℕ) × (y : List ℕ) × (sep ≡ c ∷ y) × (c < 0x80)
 separator-front [] g = absurd (separator-some [] g refl)
 separator-front (c ∷ y) g = (c, y, refl, (good_separator-ascii (c ∷ y) g).0)
 
-shielded-unmarked : (e : Encoding) (key rest : List ℕ) → is_mark_like e key ≡ true → IsUnmarked e (shielded e key ++ rest)
-shielded-unmarked e [] rest h = cc
-shielded-unmarked e (c ∷ cs) rest h =
+with_first_escaped-unmarked : (e : Encoding) (key rest : List ℕ) → is_bom_like e key ≡ true → IsUnmarked e (with_first_escaped e key ++ rest)
+with_first_escaped-unmarked e [] rest h = cc
+with_first_escaped-unmarked e (c ∷ cs) rest h =
     let (y, same) = unicode-is_escape c in
-    front-unmarked e (shielded e (c ∷ cs) ++ rest) backslash ((y ++ spelt_text e in_key_or_value cs) ++ rest) (ap (λ v. (v ++ spelt_text e in_key_or_value cs) ++ rest) same) (lit< tt)
+    front-unmarked e (with_first_escaped e (c ∷ cs) ++ rest) backslash ((y ++ spelt_text e in_key_or_value cs) ++ rest) (ap (λ v. (v ++ spelt_text e in_key_or_value cs) ++ rest) same) (lit< tt)
 
-plain-unmarked : (e : Encoding) (key sep rest : List ℕ) → IsGoodSeparator sep → is_mark_like e key ≡ false → IsUnmarked e (spelt_text e in_key_or_value key ++ (sep ++ rest))
+plain-unmarked : (e : Encoding) (key sep rest : List ℕ) → IsGoodSeparator sep → is_bom_like e key ≡ false → IsUnmarked e (spelt_text e in_key_or_value key ++ (sep ++ rest))
 plain-unmarked e key sep rest g h =
     let (c, y, same, k) = separator-front sep g in
-    ap (λ v. begins_like_mark (encoded_text e (spelt_text e in_key_or_value key ++ (v ++ rest)))) same ∙ text-cut e (spelt_text e in_key_or_value key) c (y ++ rest) k ∙ h
+    ap (λ v. begins_like_bom (encoded_text e (spelt_text e in_key_or_value key ++ (v ++ rest)))) same ∙ text-cut e (spelt_text e in_key_or_value key) c (y ++ rest) k ∙ h
 
 pair-unmarked : (e : Encoding) (key sep rest : List ℕ) → IsGoodSeparator sep → IsUnmarked e (spelt_key e true key ++ (sep ++ rest))
-pair-unmarked e key sep rest g = elim (cases_Bool (is_mark_like e key)) [
-  | inl h ↦ ap (λ v. begins_like_mark (encoded_text e (v ++ (sep ++ rest)))) (cond-true (is_mark_like e key) (shielded e key) (spelt_text e in_key_or_value key) h) ∙ shielded-unmarked e key (sep ++ rest) h
-  | inr h ↦ ap (λ v. begins_like_mark (encoded_text e (v ++ (sep ++ rest)))) (cond-false (is_mark_like e key) (shielded e key) (spelt_text e in_key_or_value key) h) ∙ plain-unmarked e key sep rest g h
+pair-unmarked e key sep rest g = elim (cases_Bool (is_bom_like e key)) [
+  | inl h ↦ ap (λ v. begins_like_bom (encoded_text e (v ++ (sep ++ rest)))) (cond-true (is_bom_like e key) (with_first_escaped e key) (spelt_text e in_key_or_value key) h) ∙ with_first_escaped-unmarked e key (sep ++ rest) h
+  | inr h ↦ ap (λ v. begins_like_bom (encoded_text e (v ++ (sep ++ rest)))) (cond-false (is_bom_like e key) (with_first_escaped e key) (spelt_text e in_key_or_value key) h) ∙ plain-unmarked e key sep rest g h
 ]
 
 printed-unmarked : (e : Encoding) (s : Settings) (line : Content) (rest : List ℕ) → AreGoodSettings s → IsUnmarked e (printed_text e s true line ++ rest)
 printed-unmarked e s (comment text) rest g =
-    ap (λ v. begins_like_mark (encoded_text e v)) (append_assoc (spelt_text e in_prefix s.comment_prefix) _ rest) ∙ comment-unmarked e s.comment_prefix _ g.prefix
+    ap (λ v. begins_like_bom (encoded_text e v)) (append_assoc (spelt_text e in_prefix s.comment_prefix) _ rest) ∙ comment-unmarked e s.comment_prefix _ g.prefix
 printed-unmarked e s (pair key value) rest g =
-    ap (λ v. begins_like_mark (encoded_text e v)) (append_assoc (spelt_key e true key) (s.kv_separator ++ _) rest ∙ ap (λ v. spelt_key e true key ++ v) (append_assoc s.kv_separator _ rest))
+    ap (λ v. begins_like_bom (encoded_text e v)) (append_assoc (spelt_key e true key) (s.kv_separator ++ _) rest ∙ ap (λ v. spelt_key e true key ++ v) (append_assoc s.kv_separator _ rest))
     ∙ pair-unmarked e key s.kv_separator _ g.separator
 
 -- ---- all lines
@@ -103,7 +104,7 @@ pair-step : (e : Encoding) (s : Settings) (key value : List ℕ) (calls : List C
 pair-step e s key value calls true g h = printed-unmarked e s (pair key value) (wrote_text e s 1 calls) g
 pair-step e s key value calls false g h = h
 
-pub wrote_text-unmarked : (e : Encoding) (s : Settings) (calls : List Call) → AreGoodSettings s → AreOfScalars calls → begins_like_mark (encoded_text e (wrote_text e s 0 calls)) ≡ false
+pub wrote_text-unmarked : (e : Encoding) (s : Settings) (calls : List Call) → AreGoodSettings s → AreOfScalars calls → begins_like_bom (encoded_text e (wrote_text e s 0 calls)) ≡ false
 wrote_text-unmarked e s [] g h = refl
 wrote_text-unmarked e s (comment_call text ∷ calls) g h = printed-unmarked e s (comment text) (wrote_text e s 1 calls) g
 wrote_text-unmarked e s (pair_call key value ∷ calls) g h = pair-step e s key value calls (not (is_empty key && is_blanks s.kv_separator)) g (wrote_text-unmarked e s calls g h.1)

@@ -1,4 +1,4 @@
-use Rattle.std.proofs.Common.{arith, rules, inl, inr}
+use Rattle.std.proofs.Common.{arith}
 use Rattle.java_properties.specs.declared.lines.NaturalLine.{NaturalLine}
 use Rattle.java_properties.specs.declared.line.Line.{Line}
 use Rattle.java_properties.specs.Iterating.{items_progress}

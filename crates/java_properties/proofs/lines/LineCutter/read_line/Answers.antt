@@ -1,4 +1,4 @@
-use Rattle.std.proofs.Common.{◌≢◌, true, false, refl, ap, arith, string_bytes, inl, inr}
+use Rattle.std.proofs.Common.{arith, inl, inr}
 use Rattle.std.proofs.lemmas.Result.{err_from_is_err_and}
 use Rattle.std.proofs.lemmas.Str.{length-encode, len_utf8_bounds}
 use Rattle.java_properties.proofs.Streams.{has_read-more, has_failed-more}

@@ -1,6 +1,5 @@
 use Rattle.std.proofs.Common.{ap, sym, ◌∙◌, not}
-use Rattle.std.specs.Str.{chars}
-use Rattle.properties_format.specs.Settings.{is_blanks}
+use Rattle.properties_format.specs.Reading.Settings.{is_blanks}
 use Rattle.java_properties.specs.SettingsViews.{settings_of}
 use Rattle.java_properties.proofs.LineTexts.{accepts-some, accepts-none}
 use Rattle.java_properties.proofs.writer.Printer.accepts.Goals as goal

@@ -1,7 +1,5 @@
-use Rattle.std.proofs.Common.{◌≡◌, ◌++◌, ◌==◌, ap, sym, ◌∙◌, append_assoc}
 use Rattle.std.specs.Str.{chars}
 use Rattle.std.proofs.lemmas.Result.{on_ok_weaker}
-use Rattle.properties_format.specs.Printing.{encoded_text, spelt_text, spelt_key, in_key_or_value}
 use Rattle.java_properties.specs.Views.{encoding_of}
 use Rattle.java_properties.specs.Writing.{printer_state}
 use Rattle.java_properties.proofs.LineTexts.{separator-bytes, pair-parts}

@@ -1,6 +1,6 @@
 use Rattle.std.proofs.Common.{◌≡◌, ◌≤◌, true, length, take, vec_len, vec_capacity}
 use Rattle.properties_format.specs.Writing.{answers}
-use Rattle.java_properties.specs.Calls.{calls_in, after_calls, Made}
+use Rattle.java_properties.specs.Calls.{calls_in, Made}
 use Rattle.java_properties.specs.Writing.{writer_state, writer_sink}
 use Rattle.java_properties.proofs.writer.calls.run_calls.Given as goal
 

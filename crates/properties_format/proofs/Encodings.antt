@@ -1,0 +1,14 @@
+pub mod ByteOrderMarks
+pub mod Characters
+pub mod Cuts
+pub mod FirstPieces
+pub mod PieceEnds
+pub mod Pieces
+pub mod Utf16
+pub mod Utf8Characters
+pub mod Utf8Inverse
+pub mod Utf8Pieces
+pub mod Utf8Rows
+pub mod Utf8Sequences
+pub mod Waiting
+pub mod Windows1252

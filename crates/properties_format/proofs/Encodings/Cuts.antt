@@ -1,0 +1,153 @@
+-- Where bytes may be cut so that their pieces are those of their parts.
+use Rattle.std.proofs.Common.{◌≡◌, ℕ, ◌+◌, ◌<◌, List, [], ◌∷◌, ◌++◌, length, refl, sym, ap, ap₂, ◌∙◌, subst, arith, append_assoc, append-nil, length-append}
+use Rattle.properties_format.specs.Pieces.{Piece, piece, characters}
+use Rattle.properties_format.specs.Encoding.{Encoding, IsPiece, IsPieces, IsAligned, ascii_bytes}
+use Rattle.properties_format.specs.Reading.Encoding.{pieces_of}
+use Rattle.properties_format.proofs.Encodings.Pieces.{piece-length, pieces_of-meets, pieces_of-only, pieces_of-piece}
+use Rattle.properties_format.proofs.Encodings.Characters.{pieces_of-ascii, piece-ascii}
+use Rattle.properties_format.proofs.Encodings.PieceEnds.{piece-more, piece-less, piece-aligned, piece-anew, aligned-nil, aligned-append, aligned-back, BeginsAnew, ascii-anew}
+
+-- ---- Bytes added after.
+
+-- the last piece, if there is one, stays a piece before these bytes
+abbrev pub LastStands : Encoding → List Piece → List ℕ → Type 0
+LastStands e [] y = Unit {0}
+LastStands e (p ∷ []) y = IsPiece e p y
+LastStands e (p ∷ q ∷ ps) y = LastStands e (q ∷ ps) y
+
+-- some pieces have a byte
+pieces-length : (e : Encoding) (d : List ℕ) (p : Piece) (ps : List Piece) → IsPieces e d (p ∷ ps) → 0 < length d
+pieces-length e d p ps (rest, s, h, k) =
+    let l = piece-length e p rest h in
+    let m : length d ≡ length (p.bytes ++ rest) = ap length s in omega arith
+
+pub pieces-append : (e : Encoding) (x y : List ℕ) (ps qs : List Piece) → IsPieces e x ps → LastStands e ps y → IsPieces e y qs → IsPieces e (x ++ y) (ps ++ qs)
+pieces-append e x y [] qs h l k = rw h k
+pieces-append e x y (p ∷ []) qs (rest, s, h, m) l k =
+    let t : x ≡ p.bytes = s ∙ ap (λ v. p.bytes ++ v) m ∙ append-nil p.bytes in
+    (y, ap (λ v. v ++ y) t, l, k)
+pieces-append e x y (p ∷ q ∷ ps) qs (rest, s, h, m) l k =
+    (rest ++ y, ap (λ v. v ++ y) s ∙ append_assoc p.bytes rest y, piece-more e p rest y (pieces-length e rest q ps m) h, pieces-append e rest y (q ∷ ps) qs m l k)
+
+-- The pieces of bytes at whose end a piece stands, and then those of the bytes after.
+pub pieces_of-append : (e : Encoding) (x y : List ℕ) → LastStands e (pieces_of e x) y → pieces_of e (x ++ y) ≡ pieces_of e x ++ pieces_of e y
+pieces_of-append e x y h =
+    sym (pieces_of-only e (x ++ y) (pieces_of e x ++ pieces_of e y) (pieces-append e x y (pieces_of e x) (pieces_of e y) (pieces_of-meets e x) h (pieces_of-meets e y)))
+
+-- a last piece stays one before bytes that begin anew
+last-anew : (e : Encoding) (x y : List ℕ) (ps : List Piece) → BeginsAnew e y → IsAligned e x → IsPieces e x ps → LastStands e ps y
+last-anew e x y [] h a k = tt
+last-anew e x y (p ∷ []) h a (rest, s, m, t) =
+    let q : x ≡ p.bytes = s ∙ ap (λ v. p.bytes ++ v) t ∙ append-nil p.bytes in
+    piece-anew e p y h (rw q at a) (rw t at m)
+last-anew e x y (p ∷ q ∷ ps) h a (rest, s, m, t) =
+    let b = piece-aligned e p rest (pieces-length e rest q ps t) m in
+    last-anew e rest y (q ∷ ps) h (aligned-back e p.bytes rest b (rw s at a)) t
+
+pub pieces_of-anew : (e : Encoding) (x y : List ℕ) → IsAligned e x → BeginsAnew e y → pieces_of e (x ++ y) ≡ pieces_of e x ++ pieces_of e y
+pieces_of-anew e x y a h = pieces_of-append e x y (last-anew e x y (pieces_of e x) h a (pieces_of-meets e x))
+
+-- ---- The first piece.
+
+-- a first piece with a byte after it is the first whatever follows
+pub pieces_of-first : (e : Encoding) (p : Piece) (rest y : List ℕ) → 0 < length rest → IsPiece e p rest → pieces_of e (p.bytes ++ (rest ++ y)) ≡ p ∷ pieces_of e (rest ++ y)
+pieces_of-first e p rest y l h = pieces_of-piece e p (rest ++ y) (piece-more e p rest y l h)
+
+-- ---- A cut before any piece.
+
+-- the bytes x and y, cut between these pieces
+pub record IsCut (e : Encoding) (d x y : List ℕ) (ps qs : List Piece) : Type 0 where
+  pub joins : d ≡ x ++ y
+  pub aligned : IsAligned e x
+  pub front : IsPieces e x ps
+  pub back : IsPieces e y qs
+
+abbrev pub Cut : Encoding → List ℕ → List Piece → List Piece → Type 0
+Cut e d ps qs = (x : List ℕ) × (y : List ℕ) × IsCut e d x y ps qs
+
+cut-more : (e : Encoding) (d rest x y : List ℕ) (p q : Piece) (ps qs : List Piece) → d ≡ p.bytes ++ rest → IsPiece e p rest → IsCut e rest x y ps (q ∷ qs)
+    → IsCut e d (p.bytes ++ x) y (p ∷ ps) (q ∷ qs)
+cut-more e d rest x y p q ps qs s h c =
+    let l : 0 < length y = pieces-length e y q qs c.back in
+    let m : length rest ≡ length (x ++ y) = ap length c.joins in
+    let n : length (x ++ y) ≡ length x + length y = length-append x y in
+    let k : IsPiece e p (x ++ y) = rw c.joins at h in
+    record {
+      joins = s ∙ ap (λ v. p.bytes ++ v) c.joins ∙ sym (append_assoc p.bytes x y);
+      aligned = aligned-append e p.bytes x (piece-aligned e p rest (omega arith) h) c.aligned;
+      front = (x, refl, piece-less e p x y c.aligned k, c.front);
+      back = c.back;
+    }
+
+-- bytes may be cut before any of their pieces
+pub pieces-cut : (e : Encoding) (d : List ℕ) (ps : List Piece) (q : Piece) (qs : List Piece) → IsPieces e d (ps ++ q ∷ qs) → Cut e d ps (q ∷ qs)
+pieces-cut e d [] q qs h = ([], d, record { joins = refl; aligned = aligned-nil e; front = refl; back = h })
+pieces-cut e d (p ∷ ps) q qs (rest, s, h, k) =
+    let c = pieces-cut e rest ps q qs k in
+    (p.bytes ++ c.0, c.1, cut-more e d rest c.0 c.1 p q ps qs s h c.2)
+
+-- ---- A cut at an ASCII character, as at a line end.
+
+pub characters-append : (ps qs : List Piece) → characters (ps ++ qs) ≡ characters ps ++ characters qs
+characters-append [] qs = refl
+characters-append (p ∷ ps) qs = ap (λ v. p.character ∷ v) (characters-append ps qs)
+
+-- The bytes of an ASCII character, where a unit may begin, part the pieces before it and those after it.
+pub pieces_of-cut_ascii : (e : Encoding) (c : ℕ) (x y : List ℕ) → c < 0x80 → IsAligned e x
+    → pieces_of e (x ++ (ascii_bytes e c ++ y)) ≡ pieces_of e x ++ piece (ascii_bytes e c) c ∷ pieces_of e y
+pieces_of-cut_ascii e c x y h a =
+    pieces_of-anew e x (ascii_bytes e c ++ y) a (ascii-anew e c y h) ∙ ap (λ v. pieces_of e x ++ v) (pieces_of-ascii e c y h)
+
+pub characters-cut_ascii : (e : Encoding) (c : ℕ) (x y : List ℕ) → c < 0x80 → IsAligned e x
+    → characters (pieces_of e (x ++ (ascii_bytes e c ++ y))) ≡ characters (pieces_of e x) ++ c ∷ characters (pieces_of e y)
+characters-cut_ascii e c x y h a =
+    ap characters (pieces_of-cut_ascii e c x y h a) ∙ characters-append (pieces_of e x) (piece (ascii_bytes e c) c ∷ pieces_of e y)
+
+-- the place of a character among the pieces
+abbrev Place : List Piece → List ℕ → ℕ → List ℕ → Type 0
+Place ps t c s = (qs : List Piece) × (p : Piece) × (rs : List Piece) × (ps ≡ qs ++ p ∷ rs) × (characters qs ≡ t) × (p.character ≡ c) × (characters rs ≡ s)
+
+place-of : (ps : List Piece) (t : List ℕ) (c : ℕ) (s : List ℕ) → characters ps ≡ t ++ c ∷ s → Place ps t c s
+place-of [] [] c s h = absurd (cc)
+place-of [] (b ∷ t) c s h = absurd (cc)
+place-of (p ∷ ps) [] c s h =
+    let k : p.character ≡ c = cc in
+    let l : characters ps ≡ s = cc in
+    ([], p, ps, refl, refl, k, l)
+place-of (p ∷ ps) (b ∷ t) c s h =
+    let k : p.character ≡ b = cc in
+    let l : characters ps ≡ t ++ c ∷ s = cc in
+    let m = place-of ps t c s l in
+    (p ∷ m.0, m.1, m.2, ap (λ v. p ∷ v) {y = m.0 ++ m.1 ∷ m.2} m.3, ap₂ (λ v w. v ∷ w) k m.4, m.5, m.6)
+
+-- the bytes around those of an ASCII character, and what they are decoded to
+pub record IsCutAt (e : Encoding) (d : List ℕ) (t : List ℕ) (c : ℕ) (s : List ℕ) (x y : List ℕ) : Type 0 where
+  pub joins : d ≡ x ++ (ascii_bytes e c ++ y)
+  pub aligned : IsAligned e x
+  pub front : characters (pieces_of e x) ≡ t
+  pub back : characters (pieces_of e y) ≡ s
+
+-- An ASCII character that is decoded comes of its bytes, where a unit may begin, and of nothing else.
+pub cut-at_ascii : (e : Encoding) (d t : List ℕ) (c : ℕ) (s : List ℕ) → c < 0x80 → characters (pieces_of e d) ≡ t ++ c ∷ s → (x : List ℕ) × (y : List ℕ) × IsCutAt e d t c s x y
+cut-at_ascii e d t c s l h = found (place-of (pieces_of e d) t c s h)
+  where
+    at-cut : (x y : List ℕ) (qs : List Piece) (p : Piece) (rs : List Piece) → characters qs ≡ t → p.character ≡ c → characters rs ≡ s
+        → IsCut e d x y qs (p ∷ rs) → (x : List ℕ) × (y : List ℕ) × IsCutAt e d t c s x y
+    at-cut x y qs p rs ht hc hs cut =
+        let b = cut.back in
+        let k : p.bytes ≡ ascii_bytes e c = rw hc at (piece-ascii e p b.0 b.2 (rw (← hc) at l)) in (
+          x,
+          b.0,
+          record {
+            joins = cut.joins ∙ ap (λ v. x ++ v) (b.1 ∙ ap (λ v. v ++ b.0) k);
+            aligned = cut.aligned;
+            front = ap characters (sym (pieces_of-only e x qs cut.front)) ∙ ht;
+            back = ap characters (sym (pieces_of-only e b.0 rs b.3)) ∙ hs;
+          },
+        )
+
+    found : Place (pieces_of e d) t c s → (x : List ℕ) × (y : List ℕ) × IsCutAt e d t c s x y
+    found m =
+        let P : List Piece → Type 0 = IsPieces e d in
+        let k = pieces-cut e d m.0 m.1 m.2 (subst P m.3 (pieces_of-meets e d)) in
+        at-cut k.0 k.1 m.0 m.1 m.2 m.4 m.5 m.6 k.2

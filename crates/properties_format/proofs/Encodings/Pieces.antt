@@ -1,0 +1,94 @@
+-- The pieces of some bytes are what is read, and nothing else is.
+use Rattle.std.proofs.Common.{◌≡◌, ℕ, zero, suc, ◌+◌, ◌<◌, ◌≤◌, List, [], ◌∷◌, ◌++◌, length, drop, refl, sym, ap, ◌∙◌, arith, length-append}
+use Rattle.std.proofs.Math.Seq.{drop-append_seam}
+use Rattle.properties_format.specs.Pieces.{Piece, characters}
+use Rattle.properties_format.specs.Utf16.{low_first, high_first}
+use Rattle.properties_format.specs.Encoding.{Encoding, windows_1252, utf_8, utf_16le, utf_16be, IsPiece, IsPieces, IsDecoded, byte_order_mark}
+use Rattle.properties_format.specs.Reading.Encoding.{first_piece, pieces_within, pieces_of, decoded_of}
+use Rattle.properties_format.proofs.Encodings.FirstPieces.{Meets, IsRead}
+use Rattle.properties_format.proofs.Encodings.Utf8Pieces.{utf_8-meets, utf_8-read}
+use Rattle.properties_format.proofs.Encodings.Utf16.{utf_16-meets, utf_16-read}
+
+-- ---- The first piece.
+
+pub first-meets : (e : Encoding) (b : ℕ) (d : List ℕ) → Meets (IsPiece e) (first_piece e b d) (b ∷ d)
+first-meets windows_1252 b d = (d, refl, (b, refl))
+first-meets utf_8 b d = utf_8-meets b d
+first-meets utf_16le b d = utf_16-meets low_first b d
+first-meets utf_16be b d = utf_16-meets high_first b d
+
+pub piece-read : (e : Encoding) (p : Piece) (rest : List ℕ) → IsPiece e p rest → IsRead (first_piece e) p rest
+piece-read windows_1252 p rest (b, e) = rw e (record { byte = b; others = []; bytes = refl; reads = refl })
+piece-read utf_8 p rest h = utf_8-read p rest h
+piece-read utf_16le p rest h = utf_16-read low_first p rest h
+piece-read utf_16be p rest h = utf_16-read high_first p rest h
+
+-- ---- All pieces.
+
+-- a piece and the pieces of the rest, read
+read-piece : (e : Encoding) (n : ℕ) (p : Piece) (rest : List ℕ) → IsPiece e p rest → pieces_within e (suc n) (p.bytes ++ rest) ≡ p ∷ pieces_within e n rest
+read-piece e n p rest h =
+    let r = piece-read e p rest h in
+    let s : p.bytes ++ rest ≡ r.byte ∷ r.others ++ rest = ap (λ v. v ++ rest) r.bytes in
+    ap (λ v. pieces_within e (suc n) v) s
+    ∙ ap (λ v. v ∷ pieces_within e n (drop (length v.bytes) (r.byte ∷ r.others ++ rest))) r.reads
+    ∙ ap (λ v. p ∷ pieces_within e n (drop (length p.bytes) v)) (sym s)
+    ∙ ap (λ v. p ∷ pieces_within e n v) (drop-append_seam p.bytes rest)
+
+-- a piece has a byte
+pub piece-length : (e : Encoding) (p : Piece) (rest : List ℕ) → IsPiece e p rest → length rest < length (p.bytes ++ rest)
+piece-length e p rest h =
+    let r = piece-read e p rest h in
+    let l : length (p.bytes ++ rest) ≡ length (r.byte ∷ r.others ++ rest) = ap (λ v. length (v ++ rest)) r.bytes in
+    let m : length (r.others ++ rest) ≡ length r.others + length rest = length-append r.others rest in
+    omega arith
+
+within-only : (e : Encoding) (n : ℕ) (d : List ℕ) (ps : List Piece) → length d ≤ n → IsPieces e d ps → pieces_within e n d ≡ ps
+within-only e n d [] l h = ap (pieces_within e n) h
+within-only e zero d (p ∷ ps) l (rest, s, h, k) =
+    let m = piece-length e p rest h in
+    let q : length d ≡ length (p.bytes ++ rest) = ap length s in
+    absurd (omega arith)
+within-only e (suc n) d (p ∷ ps) l (rest, s, h, k) =
+    let m = piece-length e p rest h in
+    let q : length d ≡ length (p.bytes ++ rest) = ap length s in
+    let t : length rest ≤ n = omega arith in
+    ap (pieces_within e (suc n)) s ∙ read-piece e n p rest h ∙ ap (λ v. p ∷ v) (within-only e n rest ps t k)
+
+within-meets : (e : Encoding) (n : ℕ) (d : List ℕ) → length d ≤ n → IsPieces e d (pieces_within e n d)
+within-meets e n [] l = refl
+within-meets e zero (b ∷ d) l = absurd (omega arith)
+within-meets e (suc n) (b ∷ d) l =
+    let m = first-meets e b d in
+    let r = piece-length e (first_piece e b d) m.0 m.2 in
+    let q : length (b ∷ d) ≡ length ((first_piece e b d).bytes ++ m.0) = ap length m.1 in
+    let t : length m.0 ≤ n = omega arith in
+    let s : drop (length (first_piece e b d).bytes) (b ∷ d) ≡ m.0 =
+    ap (drop (length (first_piece e b d).bytes)) m.1 ∙ drop-append_seam (first_piece e b d).bytes m.0 in
+    (m.0, m.1, m.2, rw s (within-meets e n m.0 t))
+
+-- Some bytes have the pieces that are read, and no others.
+pub pieces_of-meets : (e : Encoding) (d : List ℕ) → IsPieces e d (pieces_of e d)
+unfolding pieces_of
+pieces_of-meets e d = within-meets e (length d) d (omega arith)
+
+pub pieces_of-only : (e : Encoding) (d : List ℕ) (ps : List Piece) → IsPieces e d ps → ps ≡ pieces_of e d
+unfolding pieces_of
+pieces_of-only e d ps h = sym (within-only e (length d) d ps (omega arith) h)
+
+-- Some bytes are decoded to the text that is read, and to no other.
+pub decoded_of-meets : (e : Encoding) (b : List ℕ) → IsDecoded e b (decoded_of e b)
+decoded_of-meets e b = (pieces_of (byte_order_mark e b).encoding (byte_order_mark e b).body, pieces_of-meets (byte_order_mark e b).encoding (byte_order_mark e b).body, refl)
+
+pub decoded_of-only : (e : Encoding) (b x : List ℕ) → IsDecoded e b x → x ≡ decoded_of e b
+decoded_of-only e b x (ps, h, s) = s ∙ ap characters (pieces_of-only (byte_order_mark e b).encoding (byte_order_mark e b).body ps h)
+
+-- ---- Pieces in front.
+
+-- the pieces of no bytes
+pub pieces_of-nil : (e : Encoding) → pieces_of e [] ≡ []
+pieces_of-nil e = sym (pieces_of-only e [] [] refl)
+
+-- a piece before the rest is the first of the pieces
+pub pieces_of-piece : (e : Encoding) (p : Piece) (rest : List ℕ) → IsPiece e p rest → pieces_of e (p.bytes ++ rest) ≡ p ∷ pieces_of e rest
+pieces_of-piece e p rest h = sym (pieces_of-only e (p.bytes ++ rest) (p ∷ pieces_of e rest) (rest, refl, h, pieces_of-meets e rest))

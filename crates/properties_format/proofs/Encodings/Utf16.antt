@@ -1,0 +1,78 @@
+-- The first piece of UTF-16 is what is read, and nothing else is.
+use Rattle.std.proofs.Common.{◌≡◌, ℕ, true, false, nat_le, nat_lt, List, [], ◌∷◌, refl, ap, ◌∙◌, inl, inr}
+use Rattle.std.proofs.lemmas.Bool.{cond-true, cond-false, cases_Bool, and_parts, leb-true, le-ltb, and_right}
+use Rattle.properties_format.specs.Text.{replacement}
+use Rattle.properties_format.specs.Pieces.{Piece, piece}
+use Rattle.properties_format.specs.Surrogates.{is_high, is_low, pair_character}
+use Rattle.properties_format.specs.Utf16.{IsUtf16Piece, pair, plain, low_alone, high_alone, high_last, byte_last, both_last}
+use Rattle.properties_format.specs.Reading.Utf16.{high_piece, first_utf_16_piece}
+use Rattle.properties_format.proofs.Encodings.FirstPieces.{Meets, IsRead}
+
+pub low-not_high : (u : ℕ) → is_low u ≡ true → is_high u ≡ false
+low-not_high u h =
+    let k = and_parts (nat_le 0xdc00 u) (nat_lt u 0xe000) h in
+    and_right (nat_le 0xd800 u) (nat_lt u 0xdc00) (le-ltb u 0xdc00 (leb-true 0xdc00 u k.0))
+
+pub high-not_low : (u : ℕ) → is_high u ≡ true → is_low u ≡ false
+high-not_low u h = elim (cases_Bool (is_low u)) [
+  | inl k ↦ absurd (let e = low-not_high u k in cc)
+  | inr k ↦ k
+]
+
+module _ (unit : ℕ → ℕ → ℕ) where
+  -- ---- What is read, from the kinds of the units.
+
+  read-high : (a b : ℕ) (d : List ℕ) → is_high (unit a b) ≡ true → first_utf_16_piece unit a (b ∷ d) ≡ high_piece unit a b d
+  read-high a b d h = cond-true (is_high (unit a b)) (high_piece unit a b d) _ h
+
+  read-low : (a b : ℕ) (d : List ℕ) → is_low (unit a b) ≡ true → first_utf_16_piece unit a (b ∷ d) ≡ piece (a ∷ b ∷ []) replacement
+  read-low a b d h =
+      cond-false (is_high (unit a b)) (high_piece unit a b d) _ (low-not_high (unit a b) h)
+      ∙ ap (λ v. piece (a ∷ b ∷ []) v) (cond-true (is_low (unit a b)) replacement (unit a b) h)
+
+  read-plain : (a b : ℕ) (d : List ℕ) → is_high (unit a b) ≡ false → is_low (unit a b) ≡ false → first_utf_16_piece unit a (b ∷ d) ≡ piece (a ∷ b ∷ []) (unit a b)
+  read-plain a b d h k =
+      cond-false (is_high (unit a b)) (high_piece unit a b d) _ h
+      ∙ ap (λ v. piece (a ∷ b ∷ []) v) (cond-false (is_low (unit a b)) replacement (unit a b) k)
+
+  read-pair : (a b c d : ℕ) (more : List ℕ) → is_low (unit c d) ≡ true
+      → high_piece unit a b (c ∷ d ∷ more) ≡ piece (a ∷ b ∷ c ∷ d ∷ []) (pair_character (unit a b) (unit c d))
+  read-pair a b c d more h = cond-true (is_low (unit c d)) _ (piece (a ∷ b ∷ []) replacement) h
+
+  read-alone : (a b c d : ℕ) (more : List ℕ) → is_low (unit c d) ≡ false → high_piece unit a b (c ∷ d ∷ more) ≡ piece (a ∷ b ∷ []) replacement
+  read-alone a b c d more h = cond-false (is_low (unit c d)) _ (piece (a ∷ b ∷ []) replacement) h
+
+  -- ---- What is read is a piece.
+
+  high-meets : (a b : ℕ) (d : List ℕ) → is_high (unit a b) ≡ true → Meets (IsUtf16Piece unit) (high_piece unit a b d) (a ∷ b ∷ d)
+  high-meets a b [] h = ([], refl, high_last a b refl h refl)
+  high-meets a b (c ∷ []) h = ([], refl, both_last a b c refl h refl)
+  high-meets a b (c ∷ d ∷ more) h = elim (cases_Bool (is_low (unit c d))) [
+    | inl k ↦ rw (read-pair a b c d more k) (more, refl, pair a b c d refl h k)
+    | inr k ↦ rw (read-alone a b c d more k) (c ∷ d ∷ more, refl, high_alone a b c d more refl h refl k)
+  ]
+
+  pub utf_16-meets : (a : ℕ) (d : List ℕ) → Meets (IsUtf16Piece unit) (first_utf_16_piece unit a d) (a ∷ d)
+  utf_16-meets a [] = ([], refl, byte_last a refl refl)
+  utf_16-meets a (b ∷ d) = elim (cases_Bool (is_high (unit a b))) [
+    | inl h ↦ rw (read-high a b d h) (high-meets a b d h)
+    | inr h ↦ elim (cases_Bool (is_low (unit a b))) [
+      | inl k ↦ rw (read-low a b d k) (d, refl, low_alone a b refl k)
+      | inr k ↦ rw (read-plain a b d h k) (d, refl, plain a b refl h k)
+    ]
+  ]
+
+  -- ---- A piece is what is read.
+
+  read-at : (p q : Piece) (rest : List ℕ) → q ≡ p → IsRead (first_utf_16_piece unit) p rest → IsRead (first_utf_16_piece unit) q rest
+  read-at p q rest e h = rw e h
+
+  pub utf_16-read : (p : Piece) (rest : List ℕ) → IsUtf16Piece unit p rest → IsRead (first_utf_16_piece unit) p rest
+  utf_16-read p rest (pair a b c d e h k) = rw e (record { byte = a; others = b ∷ c ∷ d ∷ []; bytes = refl; reads = read-high a b (c ∷ d ∷ rest) h ∙ read-pair a b c d rest k })
+  utf_16-read p rest (plain a b e h k) = rw e (record { byte = a; others = b ∷ []; bytes = refl; reads = read-plain a b rest h k })
+  utf_16-read p rest (low_alone a b e h) = rw e (record { byte = a; others = b ∷ []; bytes = refl; reads = read-low a b rest h })
+  utf_16-read p rest (high_alone a b c d more e h s k) =
+      rw (e, s) (record { byte = a; others = b ∷ []; bytes = refl; reads = read-high a b (c ∷ d ∷ more) h ∙ read-alone a b c d more k })
+  utf_16-read p rest (high_last a b e h s) = rw (e, s) (record { byte = a; others = b ∷ []; bytes = refl; reads = read-high a b [] h })
+  utf_16-read p rest (byte_last a e s) = rw (e, s) (record { byte = a; others = []; bytes = refl; reads = refl })
+  utf_16-read p rest (both_last a b c e h s) = rw (e, s) (record { byte = a; others = b ∷ c ∷ []; bytes = refl; reads = read-high a b (c ∷ []) h })

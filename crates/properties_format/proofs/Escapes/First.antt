@@ -1,0 +1,111 @@
+-- Which spelling a text begins with: at most one, and the reading finds it.
+use Rattle.std.proofs.Common.{◌≡◌, ℕ, ◌==◌, ◌&&◌, true, false, List, [], ◌∷◌, ◌++◌, Option, Some, None, refl, ap, ◌∙◌, inl, inr}
+use Rattle.std.proofs.lemmas.Bool.{cases_Bool, eqb-true, and_parts, or_parts, or_from}
+use Rattle.properties_format.specs.Text.{backslash}
+use Rattle.properties_format.specs.Escapes.{letter_u, Four, four_text, are_hexadecimal, code_unit, is_high, is_low, is_surrogate, Spelling, itself, escaped, unicode, surrogates, last, spelling_text, IsSpelling, NoSpelling}
+use Rattle.properties_format.specs.Reading.Escapes.{with_low, with_digits, after_u, after_backslash, first_spelling}
+
+-- the spelling that the text begins with, if there is one
+abbrev pub spelling_of : List ℕ → Option Spelling
+spelling_of [] = None
+spelling_of (c ∷ cs) = first_spelling c cs
+
+high-surrogate : (n : ℕ) → is_surrogate n ≡ false → is_high n ≡ false
+high-surrogate n e = (or_parts (is_high n) (is_low n) e).0
+
+low-surrogate : (n : ℕ) → is_surrogate n ≡ false → is_low n ≡ false
+low-surrogate n e = (or_parts (is_high n) (is_low n) e).1
+
+digits-unicode : (d : Four) (rest : List ℕ) → are_hexadecimal d ≡ true → is_surrogate (code_unit d) ≡ false → with_digits d rest ≡ Some (unicode d)
+digits-unicode d rest h k = rw h (rw (high-surrogate (code_unit d) k) (rw (low-surrogate (code_unit d) k) refl))
+
+digits-high : (d : Four) (rest : List ℕ) → are_hexadecimal d ≡ true → is_high (code_unit d) ≡ true → with_digits d rest ≡ with_low d rest
+digits-high d rest h k = rw h (rw k refl)
+
+low-low : (high low : Four) (rest : List ℕ) → are_hexadecimal low ≡ true → is_low (code_unit low) ≡ true
+    → with_low high (backslash ∷ letter_u ∷ four_text low ++ rest) ≡ Some (surrogates high low)
+low-low high low rest h k = rw h (rw k refl)
+
+-- the spelling in front is found
+pub spelling_of-only : (p : Spelling) (rest : List ℕ) → IsSpelling p rest → spelling_of (spelling_text p ++ rest) ≡ Some p
+spelling_of-only (itself c) rest h = rw h refl
+spelling_of-only (escaped c) rest h = rw h refl
+spelling_of-only (unicode d) rest h = digits-unicode d rest h.0 h.1
+spelling_of-only (surrogates high low) rest h = digits-high high (backslash ∷ letter_u ∷ four_text low ++ rest) h.0 h.1 ∙ low-low high low rest h.2 h.3
+spelling_of-only last rest h = rw h refl
+
+-- where none is found, none is there
+pub spelling_of-none : (x : List ℕ) → spelling_of x ≡ None → NoSpelling x
+spelling_of-none x e p rest w h = let f : spelling_of x ≡ Some p = ap spelling_of w ∙ spelling_of-only p rest h in absurd (cc)
+
+-- ---- what is found is there
+
+-- the spelling begins the text
+pub record IsFirst (x : List ℕ) (p : Spelling) : Type 0 where
+  pub rest : List ℕ
+  pub whole : x ≡ spelling_text p ++ rest
+  pub is_spelling : IsSpelling p rest
+
+-- a `\u` begins the text
+pub record IsEscape (x : List ℕ) : Type 0 where
+  pub after : List ℕ
+  pub whole : x ≡ backslash ∷ letter_u ∷ after
+
+abbrev pub IsFound : List ℕ → Option Spelling → Type 0
+IsFound x None = IsEscape x
+IsFound x (Some p) = IsFirst x p
+
+escape-found : (after : List ℕ) → IsFound (backslash ∷ letter_u ∷ after) None
+escape-found after = record { after = after; whole = refl }
+
+low-parts : (x y : ℕ) (low : Four) → ((x == backslash && y == letter_u) && (are_hexadecimal low && is_low (code_unit low))) ≡ true
+    → (x ≡ backslash) × (y ≡ letter_u) × (are_hexadecimal low ≡ true) × (is_low (code_unit low) ≡ true)
+low-parts x y low e =
+    let p = and_parts (x == backslash && y == letter_u) (are_hexadecimal low && is_low (code_unit low)) e in
+    let q = and_parts (x == backslash) (y == letter_u) p.0 in
+    let r = and_parts (are_hexadecimal low) (is_low (code_unit low)) p.1 in
+    (eqb-true x backslash q.0, eqb-true y letter_u q.1, r.0, r.1)
+
+low-found : (high : Four) (rest : List ℕ) → are_hexadecimal high ≡ true → is_high (code_unit high) ≡ true
+    → IsFound (backslash ∷ letter_u ∷ four_text high ++ rest) (with_low high rest)
+low-found high (x ∷ y ∷ a ∷ b ∷ c ∷ d ∷ rest) h k =
+    let low : Four = record { first = a; second = b; third = c; fourth = d } in
+    elim (cases_Bool ((x == backslash && y == letter_u) && (are_hexadecimal low && is_low (code_unit low)))) [
+      | inl e ↦ rw e (let p = low-parts x y low e in record {
+        rest = rest;
+        whole = ap (λ v. backslash ∷ letter_u ∷ four_text high ++ (v ∷ y ∷ four_text low ++ rest)) p.0
+            ∙ ap (λ v. backslash ∷ letter_u ∷ four_text high ++ (backslash ∷ v ∷ four_text low ++ rest)) p.1;
+        is_spelling = (h, k, p.2, p.3);
+      })
+      | inr e ↦ rw e (escape-found (four_text high ++ (x ∷ y ∷ a ∷ b ∷ c ∷ d ∷ rest)))
+    ]
+low-found high rest h k = escape-found (four_text high ++ rest)
+
+digits-found : (d : Four) (rest : List ℕ) → IsFound (backslash ∷ letter_u ∷ four_text d ++ rest) (with_digits d rest)
+digits-found d rest = elim (cases_Bool (are_hexadecimal d)) [
+  | inl e ↦ rw e (elim (cases_Bool (is_high (code_unit d))) [
+    | inl h ↦ rw h (low-found d rest e h)
+    | inr h ↦ rw h (elim (cases_Bool (is_low (code_unit d))) [
+      | inl l ↦ rw l (escape-found (four_text d ++ rest))
+      | inr l ↦ rw l (record { rest = rest; whole = refl; is_spelling = (e, or_from (is_high (code_unit d)) (is_low (code_unit d)) h l) })
+    ])
+  ])
+  | inr e ↦ rw e (escape-found (four_text d ++ rest))
+]
+
+u-found : (after : List ℕ) → IsFound (backslash ∷ letter_u ∷ after) (after_u after)
+u-found (a ∷ b ∷ c ∷ d ∷ rest) = digits-found record { first = a; second = b; third = c; fourth = d } rest
+u-found after = escape-found after
+
+backslash-found : (cs : List ℕ) → IsFound (backslash ∷ cs) (after_backslash cs)
+backslash-found [] = record { rest = []; whole = refl; is_spelling = refl }
+backslash-found (c ∷ cs) = elim (cases_Bool (c == letter_u)) [
+  | inl e ↦ rw e (rw (eqb-true c letter_u e) (u-found cs))
+  | inr e ↦ rw e (record { rest = cs; whole = refl; is_spelling = e })
+]
+
+pub first_spelling-found : (c : ℕ) (cs : List ℕ) → IsFound (c ∷ cs) (first_spelling c cs)
+first_spelling-found c cs = elim (cases_Bool (c == backslash)) [
+  | inl e ↦ rw e (rw (eqb-true c backslash e) (backslash-found cs))
+  | inr e ↦ rw e (record { rest = cs; whole = refl; is_spelling = e })
+]

@@ -1,0 +1,57 @@
+-- What scalars mean is scalars.
+use Rattle.std.proofs.Common.{◌≡◌, ℕ, ◌+◌, ◌*◌, ◌<◌, ◌&&◌, All, true, false, List, [], ◌∷◌, ◌++◌, map, sym, inl, subst, arith, lit<}
+use Rattle.std.proofs.lemmas.Bool.{and_parts}
+use Rattle.std.proofs.lemmas.Bool.Decides.{nat_tests}
+use Rattle.std.proofs.lemmas.List.Elements.{All-nil, All-cons, All-head, All-tail}
+use Rattle.properties_format.specs.Text.{backslash, scalar}
+use Rattle.properties_format.specs.Escapes.{Four, is_hexadecimal, hexadecimal_value, are_hexadecimal, code_unit, is_high, is_low, is_surrogate, pair_character, escaped_character, Spelling, itself, escaped, unicode, surrogates, last, spelling_text, spelt_character, IsSpelling, spelt_before, AreSpellings, Means, means, IsMeaning}
+use Rattle.properties_format.specs.Reading.Escapes.{meaning_of}
+use Rattle.properties_format.proofs.Escapes.Unique.{meaning_of-meets}
+
+digit-below : (c : ℕ) → is_hexadecimal c ≡ true → hexadecimal_value c < 16
+digit-below c h = grind (arith, nat_tests)
+
+four-below : (a b c d : ℕ) → a < 16 → b < 16 → c < 16 → d < 16 → ((a * 16 + b) * 16 + c) * 16 + d < 0x1_0000
+four-below a b c d h k l m = omega arith
+
+pub code_unit-below : (d : Four) → are_hexadecimal d ≡ true → code_unit d < 0x1_0000
+code_unit-below d h =
+    let p = and_parts (is_hexadecimal d.first && is_hexadecimal d.second) (is_hexadecimal d.third && is_hexadecimal d.fourth) h in
+    let q = and_parts (is_hexadecimal d.first) (is_hexadecimal d.second) p.0 in
+    let r = and_parts (is_hexadecimal d.third) (is_hexadecimal d.fourth) p.1 in
+    four-below (hexadecimal_value d.first) (hexadecimal_value d.second) (hexadecimal_value d.third) (hexadecimal_value d.fourth)
+    (digit-below d.first q.0) (digit-below d.second q.1) (digit-below d.third r.0) (digit-below d.fourth r.1)
+
+unit-scalar : (n : ℕ) → n < 0x1_0000 → is_surrogate n ≡ false → scalar n
+unit-scalar n h k = grind (arith, nat_tests)
+
+pair-scalar : (high low : ℕ) → is_high high ≡ true → is_low low ≡ true → scalar (pair_character high low)
+pair-scalar high low h k = grind (arith, nat_tests)
+
+escaped-scalar : (c : ℕ) → scalar c → scalar (escaped_character c)
+escaped-scalar c h = grind (arith, nat_tests)
+
+rest-scalars : (x y : List ℕ) → All scalar (x ++ y) → All scalar y
+rest-scalars [] y h = h
+rest-scalars (c ∷ x) y h = rest-scalars x y (All-tail scalar c (x ++ y) h)
+
+-- the character of a spelling
+spelling-scalar : (p : Spelling) (rest : List ℕ) → IsSpelling p rest → All scalar (spelling_text p ++ rest) → scalar (spelt_character p)
+spelling-scalar (itself c) rest h k = All-head scalar c rest k
+spelling-scalar (escaped c) rest h k = escaped-scalar c (All-head scalar c rest (All-tail scalar backslash (c ∷ rest) k))
+spelling-scalar (unicode d) rest h k = unit-scalar (code_unit d) (code_unit-below d h.0) h.1
+spelling-scalar (surrogates high low) rest h k = pair-scalar (code_unit high) (code_unit low) h.1 h.3
+spelling-scalar last rest h k = inl (lit< tt)
+
+pub spellings-scalars : (ps : List Spelling) (rest : List ℕ) → AreSpellings ps rest → All scalar (spelt_before ps rest) → All scalar (map spelt_character ps)
+spellings-scalars [] rest h k = All-nil scalar
+spellings-scalars (p ∷ ps) rest h k =
+    All-cons scalar (spelt_character p) (map spelt_character ps)
+    (spelling-scalar p (spelt_before ps rest) h.0 k)
+    (spellings-scalars ps rest h.1 (rest-scalars (spelling_text p) (spelt_before ps rest) k))
+
+pub means-scalars : (text meant : List ℕ) → Means text meant → All scalar text → All scalar meant
+means-scalars text meant m h = subst (All scalar) (sym m.characters) (spellings-scalars m.spellings [] m.each (subst (All scalar) m.whole h))
+
+pub meaning_of-scalars : (text meant : List ℕ) → meaning_of text ≡ means meant → All scalar text → All scalar meant
+meaning_of-scalars text meant e h = means-scalars text meant (subst (IsMeaning text) e (meaning_of-meets text)) h

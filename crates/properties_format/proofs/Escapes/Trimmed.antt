@@ -1,0 +1,187 @@
+-- Where blanks are spelt as themselves, a text without the blanks at its ends means its meaning without them.
+use Rattle.std.proofs.Common.{◌≡◌, ◌&&◌, ℕ, true, false, if◌then◌else◌, List, [], ◌∷◌, ◌++◌, map, refl, ap, sym, ◌∙◌, inl, inr}
+use Rattle.std.proofs.lemmas.Bool.{cases_Bool, both_ways, and_parts}
+use Rattle.properties_format.specs.Text.{is_blank, without_leading_blanks}
+use Rattle.properties_format.specs.Split.{begins, ends}
+use Rattle.properties_format.specs.Reading.Split.{without_trailing_blanks, unless_last_blank, trimmed}
+use Rattle.properties_format.specs.Escapes.{escaped_character, is_hexadecimal, Four, are_hexadecimal, code_unit, pair_character, Spelling, itself, escaped, unicode, surrogates, last, spelling_text, spelt_character, spelt_before, means}
+use Rattle.properties_format.specs.Reading.Escapes.{meaning_of}
+use Rattle.properties_format.proofs.Split.Blanks.{without_leading_blanks-full}
+use Rattle.properties_format.proofs.Escapes.Unique.{spelling_tail}
+use Rattle.properties_format.proofs.Escapes.Digits.{hexadecimal-plain}
+use Rattle.properties_format.proofs.Escapes.Laws.{AreWhole, meaning_of-all}
+
+-- the spelling of a blank is the blank, and the spelling of another character neither begins nor ends with a blank
+pub record KeepsBlanks (p : Spelling) : Type 0 where
+  pub at_front : begins is_blank (spelling_text p) ≡ is_blank (spelt_character p)
+  pub at_end : ends is_blank (spelling_text p) ≡ is_blank (spelt_character p)
+
+-- each of them is such
+abbrev pub AllKeepBlanks : List Spelling → Type 0
+AllKeepBlanks [] = Unit {0}
+AllKeepBlanks (p ∷ ps) = KeepsBlanks p × AllKeepBlanks ps
+
+-- the spellings without those of blanks at the front
+abbrev past : List Spelling → List Spelling
+past [] = []
+past (p ∷ ps) = if is_blank (spelt_character p) then past ps else p ∷ ps
+
+unless_last : Spelling → List Spelling → List Spelling
+unless_last p [] = if is_blank (spelt_character p) then [] else p ∷ []
+unless_last p (q ∷ qs) = p ∷ q ∷ qs
+
+-- the spellings without those of blanks at the end
+abbrev before : List Spelling → List Spelling
+before [] = []
+before (p ∷ ps) = unless_last p (before ps)
+
+-- ---- the character that a blank's spelling begins with
+
+blank-text : (p : Spelling) → KeepsBlanks p → is_blank (spelt_character p) ≡ true → spelling_text p ≡ spelt_character p ∷ []
+blank-text (itself c) k b = refl
+blank-text (escaped c) k b = absurd (both_ways _ (sym k.at_front) b)
+blank-text (unicode d) k b = absurd (both_ways _ (sym k.at_front) b)
+blank-text (surrogates high low) k b = absurd (both_ways _ (sym k.at_front) b)
+blank-text last k b = absurd (both_ways _ (sym k.at_front) b)
+
+text-some : (p : Spelling) (y : List ℕ) → (c : ℕ) × (cs : List ℕ) × (spelling_text p ++ y ≡ c ∷ cs)
+text-some (itself c) y = (_, _, refl)
+text-some (escaped c) y = (_, _, refl)
+text-some (unicode d) y = (_, _, refl)
+text-some (surrogates high low) y = (_, _, refl)
+text-some last y = (_, _, refl)
+
+-- ---- at the front
+
+begins-text : (p : Spelling) (y : List ℕ) → begins is_blank (spelling_text p ++ y) ≡ begins is_blank (spelling_text p)
+begins-text (itself c) y = refl
+begins-text (escaped c) y = refl
+begins-text (unicode d) y = refl
+begins-text (surrogates high low) y = refl
+begins-text last y = refl
+
+without_leading_blanks-text : (ps : List Spelling) → AllKeepBlanks ps → without_leading_blanks (spelt_before ps []) ≡ spelt_before (past ps) []
+without_leading_blanks-text [] k = refl
+without_leading_blanks-text (p ∷ ps) k = elim (cases_Bool (is_blank (spelt_character p))) [
+  | inl b ↦ rw b (rw (blank-text p k.0 b) (rw b (without_leading_blanks-text ps k.1)))
+  | inr b ↦ rw b (without_leading_blanks-full (spelling_text p ++ spelt_before ps []) (begins-text p (spelt_before ps []) ∙ k.0.at_front ∙ b))
+]
+
+without_leading_blanks-characters : (ps : List Spelling) → without_leading_blanks (map spelt_character ps) ≡ map spelt_character (past ps)
+without_leading_blanks-characters [] = refl
+without_leading_blanks-characters (p ∷ ps) = elim (cases_Bool (is_blank (spelt_character p))) [
+  | inl b ↦ rw b (without_leading_blanks-characters ps)
+  | inr b ↦ rw b refl
+]
+
+past-whole : (ps : List Spelling) → AreWhole ps → AreWhole (past ps)
+past-whole [] h = tt
+past-whole (p ∷ ps) h = elim (cases_Bool (is_blank (spelt_character p))) [
+  | inl b ↦ rw b (past-whole ps h.1)
+  | inr b ↦ rw b h
+]
+
+past-keep : (ps : List Spelling) → AllKeepBlanks ps → AllKeepBlanks (past ps)
+past-keep [] h = tt
+past-keep (p ∷ ps) h = elim (cases_Bool (is_blank (spelt_character p))) [
+  | inl b ↦ rw b (past-keep ps h.1)
+  | inr b ↦ rw b h
+]
+
+-- ---- at the end
+
+full-last : (c : ℕ) (y : List ℕ) → is_blank c ≡ false → unless_last_blank c y ≡ c ∷ y
+full-last c [] b = rw b refl
+full-last c (d ∷ y) b = refl
+
+-- a text that ends with no blank stays in front
+without_trailing_blanks-front : (c : ℕ) (t y : List ℕ) → ends is_blank (c ∷ t) ≡ false → without_trailing_blanks (c ∷ t ++ y) ≡ c ∷ t ++ without_trailing_blanks y
+without_trailing_blanks-front c [] y e = full-last c (without_trailing_blanks y) e
+without_trailing_blanks-front c (d ∷ t) y e = ap (unless_last_blank c) (without_trailing_blanks-front d t y e)
+
+without_trailing_blanks-spelling : (p : Spelling) (y : List ℕ) → ends is_blank (spelling_text p) ≡ false → without_trailing_blanks (spelling_text p ++ y) ≡ spelling_text p ++ without_trailing_blanks y
+without_trailing_blanks-spelling (itself c) y e = without_trailing_blanks-front c [] y e
+without_trailing_blanks-spelling (escaped c) y e = without_trailing_blanks-front _ (c ∷ []) y e
+without_trailing_blanks-spelling (unicode d) y e = without_trailing_blanks-front _ (spelling_tail (unicode d)) y e
+without_trailing_blanks-spelling (surrogates high low) y e = without_trailing_blanks-front _ (spelling_tail (surrogates high low)) y e
+without_trailing_blanks-spelling last y e = without_trailing_blanks-front _ [] y e
+
+full-unless : (p : Spelling) (qs : List Spelling) → is_blank (spelt_character p) ≡ false → unless_last p qs ≡ p ∷ qs
+unfolding unless_last
+full-unless p [] b = rw b refl
+full-unless p (q ∷ qs) b = refl
+
+-- a blank in front of what is left
+blank-front : (p : Spelling) (qs : List Spelling) → KeepsBlanks p → is_blank (spelt_character p) ≡ true
+    → unless_last_blank (spelt_character p) (spelt_before qs []) ≡ spelt_before (unless_last p qs) []
+unfolding unless_last
+blank-front p [] k b = rw b refl
+blank-front p (q ∷ qs) k b = go (spelling_text q ++ spelt_before qs []) (text-some q (spelt_before qs []))
+  where
+    go : (x : List ℕ) → (c : ℕ) × (cs : List ℕ) × (x ≡ c ∷ cs) → unless_last_blank (spelt_character p) x ≡ spelling_text p ++ x
+    go x (c, cs, e) = rw (e, blank-text p k b) refl
+
+without_trailing_blanks-text : (ps : List Spelling) → AllKeepBlanks ps → without_trailing_blanks (spelt_before ps []) ≡ spelt_before (before ps) []
+without_trailing_blanks-text [] k = refl
+without_trailing_blanks-text (p ∷ ps) k = elim (cases_Bool (is_blank (spelt_character p))) [
+  | inl b ↦ ap (λ t. without_trailing_blanks (t ++ spelt_before ps [])) (blank-text p k.0 b)
+      ∙ ap (unless_last_blank (spelt_character p)) (without_trailing_blanks-text ps k.1)
+      ∙ blank-front p (before ps) k.0 b
+  | inr b ↦ without_trailing_blanks-spelling p (spelt_before ps []) (k.0.at_end ∙ b)
+      ∙ ap (λ v. spelling_text p ++ v) (without_trailing_blanks-text ps k.1)
+      ∙ ap (λ v. spelt_before v []) (sym (full-unless p (before ps) b))
+]
+
+unless-characters : (p : Spelling) (qs : List Spelling) → unless_last_blank (spelt_character p) (map spelt_character qs) ≡ map spelt_character (unless_last p qs)
+unfolding unless_last
+unless-characters p [] = elim (cases_Bool (is_blank (spelt_character p))) [ inl b ↦ rw b refl | inr b ↦ rw b refl ]
+unless-characters p (q ∷ qs) = refl
+
+without_trailing_blanks-characters : (ps : List Spelling) → without_trailing_blanks (map spelt_character ps) ≡ map spelt_character (before ps)
+without_trailing_blanks-characters [] = refl
+without_trailing_blanks-characters (p ∷ ps) = ap (unless_last_blank (spelt_character p)) (without_trailing_blanks-characters ps) ∙ unless-characters p (before ps)
+
+unless-whole : (p : Spelling) (qs : List Spelling) → AreWhole (p ∷ qs) → AreWhole (unless_last p qs)
+unfolding unless_last
+unless-whole p [] h = elim (cases_Bool (is_blank (spelt_character p))) [ inl b ↦ rw b tt | inr b ↦ rw b h ]
+unless-whole p (q ∷ qs) h = h
+
+before-whole : (ps : List Spelling) → AreWhole ps → AreWhole (before ps)
+before-whole [] h = tt
+before-whole (p ∷ ps) h = unless-whole p (before ps) (h.0, before-whole ps h.1)
+
+-- ---- at both ends
+
+pub meaning_of-trimmed : (ps : List Spelling) → AreWhole ps → AllKeepBlanks ps → meaning_of (trimmed (spelt_before ps [])) ≡ means (trimmed (map spelt_character ps))
+meaning_of-trimmed ps h k =
+    let e : trimmed (spelt_before ps []) ≡ spelt_before (before (past ps)) [] = ap without_trailing_blanks (without_leading_blanks-text ps k) ∙ without_trailing_blanks-text (past ps) (past-keep ps k) in
+    let f : trimmed (map spelt_character ps) ≡ map spelt_character (before (past ps)) = ap without_trailing_blanks (without_leading_blanks-characters ps) ∙ without_trailing_blanks-characters (past ps) in
+    ap meaning_of e ∙ meaning_of-all (before (past ps)) (before-whole (past ps) (past-whole ps h)) ∙ ap means (sym f)
+
+-- ---- which spellings keep blanks
+
+pub KeepsBlanks-itself : (c : ℕ) → KeepsBlanks (itself c)
+KeepsBlanks-itself c = record { at_front = refl; at_end = refl }
+
+pub KeepsBlanks-escaped : (c : ℕ) → is_blank c ≡ false → is_blank (escaped_character c) ≡ false → KeepsBlanks (escaped c)
+KeepsBlanks-escaped c e f = record { at_front = sym f; at_end = e ∙ sym f }
+
+fourth-full : (d : Four) → are_hexadecimal d ≡ true → is_blank d.fourth ≡ false
+fourth-full d h =
+    let p = and_parts (is_hexadecimal d.first && is_hexadecimal d.second) (is_hexadecimal d.third && is_hexadecimal d.fourth) h in
+    let q = and_parts (is_hexadecimal d.third) (is_hexadecimal d.fourth) p.1 in
+    (hexadecimal-plain d.fourth q.1).1
+
+pub KeepsBlanks-unicode : (d : Four) → are_hexadecimal d ≡ true → is_blank (code_unit d) ≡ false → KeepsBlanks (unicode d)
+KeepsBlanks-unicode d h f = record { at_front = sym f; at_end = fourth-full d h ∙ sym f }
+
+pub KeepsBlanks-surrogates : (high low : Four) → are_hexadecimal low ≡ true → is_blank (pair_character (code_unit high) (code_unit low)) ≡ false → KeepsBlanks (surrogates high low)
+KeepsBlanks-surrogates high low h f = record { at_front = sym f; at_end = fourth-full low h ∙ sym f }
+
+pub AllKeepBlanks-append : (ps qs : List Spelling) → AllKeepBlanks ps → AllKeepBlanks qs → AllKeepBlanks (ps ++ qs)
+AllKeepBlanks-append [] qs h k = k
+AllKeepBlanks-append (p ∷ ps) qs h k = (h.0, AllKeepBlanks-append ps qs h.1 k)
+
+pub AllKeepBlanks-itself : (x : List ℕ) → AllKeepBlanks (map itself x)
+AllKeepBlanks-itself [] = tt
+AllKeepBlanks-itself (c ∷ x) = (KeepsBlanks-itself c, AllKeepBlanks-itself x)

@@ -1,0 +1,100 @@
+-- How the logical lines go on with the next line.
+use Rattle.std.proofs.Common.{◌≡◌, ℕ, ◌+◌, ◌⊎◌, true, false, List, [], ◌∷◌, ◌++◌, refl, ap, sym, ◌∙◌, inl, inr}
+use Rattle.std.proofs.lemmas.Bool.{cases_Bool}
+use Rattle.properties_format.specs.Text.{LineEnding, cr, line_ending_text}
+use Rattle.properties_format.specs.Lines.{HoldsNoLineEnd, Line, InputEnd, end, fault, more, line_ends, numbered_lines}
+use Rattle.properties_format.specs.Reading.Lines.{lines_of, begins_with_lf, ends_in_cr, lines_to_come}
+use Rattle.properties_format.specs.Groups.{is_open, is_comment_line, without_open_backslash, joined, first_number, addition}
+use Rattle.properties_format.specs.Reading.Groups.{groups_after, groups_of, open_after}
+use Rattle.properties_format.specs.Reading.Logical.{logical, logical_lines, joins_after}
+use Rattle.properties_format.proofs.Lines.Steps.{lines_to_come-line}
+use Rattle.properties_format.proofs.Groups.Steps.{groups_of-comment_line, groups_of-closed, groups_of-open, groups_after-closed, groups_after-open}
+use Rattle.properties_format.proofs.Groups.Append.{groups-stay}
+use Rattle.properties_format.proofs.Groups.Joined.{joined-comment_line, joined-one, joined-closed, joined-push}
+
+-- a line more where lines are joined
+pub joins_after-open : (number : ℕ) (text : List ℕ) (l : Line) (ls : List Line) (e : InputEnd) → is_open l.text ≡ true
+    → joins_after number text (l ∷ ls) e ≡ joins_after number (text ++ addition l.text) ls e
+joins_after-open number text l ls e h = rw (h, joins_after) refl
+
+pub joins_after-closed : (number : ℕ) (text : List ℕ) (l : Line) (ls : List Line) (e : InputEnd) → is_open l.text ≡ false
+    → joins_after number text (l ∷ ls) e ≡ record { number = number; text = text ++ addition l.text } ∷ logical_lines ls e
+joins_after-closed number text l ls e h = rw (h, joins_after) refl
+
+-- the logical lines after an open group hang on its number and its joined lines alone
+pub logical-after : (m : Line) (ms ls : List Line) (e : InputEnd) → is_comment_line m.text ≡ false
+    → logical (groups_after (m ∷ ms) ls e) ≡ joins_after m.number (joined (m ∷ ms)) ls e
+logical-after m ms [] end h = refl
+logical-after m ms [] fault h = refl
+logical-after m ms [] more h = refl
+logical-after m ms (l ∷ ls) e h = elim (cases_Bool (is_open l.text)) [
+  | inl k ↦
+      ap logical (groups_after-open m ms l ls e k)
+      ∙ logical-after m (ms ++ l ∷ []) ls e h
+      ∙ ap (λ v. joins_after m.number v ls e) (joined-push m ms l h)
+      ∙ sym (joins_after-open m.number (joined (m ∷ ms)) l ls e k)
+  | inr k ↦
+      ap logical (groups_after-closed (m ∷ ms) l ls e k)
+      ∙ ap (λ v. record { number = m.number; text = v } ∷ logical_lines ls e) (joined-push m ms l h)
+      ∙ sym (joins_after-closed m.number (joined (m ∷ ms)) l ls e k)
+]
+
+-- a comment line is a logical line
+pub logical_lines-comment_line : (l : Line) (ls : List Line) (e : InputEnd) → is_comment_line l.text ≡ true → logical_lines (l ∷ ls) e ≡ l ∷ logical_lines ls e
+logical_lines-comment_line l ls e h =
+    ap logical (groups_of-comment_line l ls e h) ∙ ap (λ v. record { number = l.number; text = v } ∷ logical_lines ls e) (joined-comment_line l [] h)
+
+-- so is a line that is not open
+pub logical_lines-closed : (l : Line) (ls : List Line) (e : InputEnd) → is_open l.text ≡ false → logical_lines (l ∷ ls) e ≡ l ∷ logical_lines ls e
+logical_lines-closed l ls e h =
+    ap logical (groups_of-closed l ls e h) ∙ ap (λ v. record { number = l.number; text = v } ∷ logical_lines ls e) (joined-closed l h)
+
+-- an open line that is no comment line begins a join
+pub logical_lines-open : (l : Line) (ls : List Line) (e : InputEnd) → is_comment_line l.text ≡ false → is_open l.text ≡ true
+    → logical_lines (l ∷ ls) e ≡ joins_after l.number (without_open_backslash l.text) ls e
+logical_lines-open l ls e h k =
+    ap logical (groups_of-open l ls e h k) ∙ logical-after l [] ls e h ∙ ap (λ v. joins_after l.number v ls e) (joined-one l h)
+
+-- ---- lines one after the other
+
+logical-append : (gs hs : List (List Line)) → logical (gs ++ hs) ≡ logical gs ++ logical hs
+logical-append [] hs = refl
+logical-append (g ∷ gs) hs = ap (λ v. record { number = first_number g; text = joined g } ∷ v) (logical-append gs hs)
+
+-- The logical lines of a text to which more may come are the first ones of every text that it begins, whatever its ending.
+pub logical_lines-stay : (x y : List ℕ) (e : InputEnd)
+    → logical_lines (numbered_lines (lines_of (x ++ y)) e) e
+    ≡ logical_lines (numbered_lines (lines_of x) more) more
+    ++ logical (groups_after (open_after [] (numbered_lines (lines_of x) more)) (lines_to_come (line_ends (lines_of x)) (ends_in_cr x) (lines_of x).last y e) e)
+logical_lines-stay x y e =
+    let gs = groups_of (numbered_lines (lines_of x) more) more in
+    let hs = groups_after (open_after [] (numbered_lines (lines_of x) more)) (lines_to_come (line_ends (lines_of x)) (ends_in_cr x) (lines_of x).last y e) e in
+    ap logical (groups-stay x y e) ∙ logical-append gs hs
+
+-- ---- a line of a text that no other is joined to
+
+-- such a line is a comment line, or not open
+abbrev pub StandsAlone : List ℕ → Type 0
+StandsAlone x = (is_comment_line x ≡ true) ⊎ (is_open x ≡ false)
+
+-- it is a group
+pub groups-line : (n : ℕ) (text : List ℕ) (by : LineEnding) (y : List ℕ) (e : InputEnd) → HoldsNoLineEnd text → (by ≡ cr → begins_with_lf y ≡ false) → StandsAlone text
+    → groups_of (lines_to_come n false [] (text ++ (line_ending_text by ++ y)) e) e
+    ≡ (record { number = n + 1; text = text } ∷ []) ∷ groups_of (lines_to_come (n + 1) false [] y e) e
+groups-line n text by y e h k (inl m) =
+    ap (λ v. groups_of v e) (lines_to_come-line n [] text by y e tt h k)
+    ∙ groups_of-comment_line (record { number = n + 1; text = text }) (lines_to_come (n + 1) false [] y e) e m
+groups-line n text by y e h k (inr m) =
+    ap (λ v. groups_of v e) (lines_to_come-line n [] text by y e tt h k)
+    ∙ groups_of-closed (record { number = n + 1; text = text }) (lines_to_come (n + 1) false [] y e) e m
+
+-- and a logical line
+pub logical-line : (n : ℕ) (text : List ℕ) (by : LineEnding) (y : List ℕ) (e : InputEnd) → HoldsNoLineEnd text → (by ≡ cr → begins_with_lf y ≡ false) → StandsAlone text
+    → logical_lines (lines_to_come n false [] (text ++ (line_ending_text by ++ y)) e) e
+    ≡ record { number = n + 1; text = text } ∷ logical_lines (lines_to_come (n + 1) false [] y e) e
+logical-line n text by y e h k (inl m) =
+    ap (λ v. logical_lines v e) (lines_to_come-line n [] text by y e tt h k)
+    ∙ logical_lines-comment_line (record { number = n + 1; text = text }) (lines_to_come (n + 1) false [] y e) e m
+logical-line n text by y e h k (inr m) =
+    ap (λ v. logical_lines v e) (lines_to_come-line n [] text by y e tt h k)
+    ∙ logical_lines-closed (record { number = n + 1; text = text }) (lines_to_come (n + 1) false [] y e) e m

@@ -1,0 +1,104 @@
+-- The numbers of the items strictly ascend.
+use Rattle.std.proofs.Common.{ℕ, ◌+◌, ◌<◌, ◌≤◌, List, [], ◌∷◌, ◌++◌, length, arith, append_assoc, subst}
+use Rattle.properties_format.specs.Encoding.{Encoding}
+use Rattle.properties_format.specs.Reading.Encoding.{decoded_of}
+use Rattle.properties_format.specs.Lines.{InputEnd, end, fault, more, Ended, Line, line_ends, numbered, numbered_lines}
+use Rattle.properties_format.specs.Reading.Lines.{lines_of}
+use Rattle.properties_format.specs.Groups.{AreWhole, lines_in, last_group, IsGroups, joined, first_number}
+use Rattle.properties_format.specs.Reading.Groups.{groups_of}
+use Rattle.properties_format.specs.Items.{Entry, NumbersAscend, Outcome, ignored, given, broken, IsItems, last_entries}
+use Rattle.properties_format.specs.Reading.Items.{outcome_of, followed, entries_of, items_of}
+use Rattle.properties_format.proofs.Groups.Meets.{groups_of-meets}
+use Rattle.properties_format.proofs.Items.Unique.{items_of-only}
+
+-- the numbers of the lines ascend from above low, and go no further than high
+abbrev LinesWithin : ℕ → ℕ → List Line → Type 0
+LinesWithin low high [] = low ≤ high
+LinesWithin low high (l ∷ ls) = (low < l.number) × LinesWithin l.number high ls
+
+-- and so do the numbers of the groups' first lines
+abbrev FirstsWithin : ℕ → ℕ → List (List Line) → Type 0
+FirstsWithin low high [] = low ≤ high
+FirstsWithin low high (g ∷ gs) = (low < first_number g) × FirstsWithin (first_number g) high gs
+
+-- whether the ending adds the last line
+abbrev last_line : InputEnd → ℕ
+last_line end = 1
+last_line fault = 0
+last_line more = 0
+
+-- ---- lines
+
+numbered-within : (n : ℕ) (ls : List Ended) (last : List ℕ) (ending : InputEnd) (high : ℕ) → n + length ls + last_line ending ≤ high → LinesWithin n high (numbered n ls last ending)
+numbered-within n [] last end high h = (omega arith, omega arith)
+numbered-within n [] last fault high h = omega arith
+numbered-within n [] last more high h = omega arith
+numbered-within n (l ∷ ls) last ending high h = (omega arith, numbered-within (n + 1) ls last ending high (omega arith))
+
+lines-bounded : (low high : ℕ) (ls : List Line) → LinesWithin low high ls → low ≤ high
+lines-bounded low high [] h = h
+lines-bounded low high (l ∷ ls) h = let k = lines-bounded l.number high ls h.1 in let b = h.0 in omega arith
+
+lines-lower : (low less high : ℕ) (ls : List Line) → less < low → LinesWithin low high ls → LinesWithin less high ls
+lines-lower low less high [] k h = omega arith
+lines-lower low less high (l ∷ ls) k h = (let b = h.0 in omega arith, h.1)
+
+lines-after : (low high : ℕ) (xs ys : List Line) → LinesWithin low high (xs ++ ys) → LinesWithin low high ys
+lines-after low high [] ys h = h
+lines-after low high (x ∷ xs) ys h = lines-lower x.number low high ys h.0 (lines-after x.number high xs ys h.1)
+
+lines-behind_first : (low high : ℕ) (xs ys zs : List Line) → LinesWithin low high ((xs ++ ys) ++ zs) → LinesWithin low high (ys ++ zs)
+lines-behind_first low high xs ys zs h = lines-after low high xs (ys ++ zs) (subst (λ v. LinesWithin low high v) (append_assoc xs ys zs) h)
+
+-- ---- groups
+
+firsts-of_last : (low high : ℕ) (ls : List Line) (ending : InputEnd) → LinesWithin low high ls → FirstsWithin low high (last_group ls ending)
+firsts-of_last low high [] ending h = h
+firsts-of_last low high (l ∷ ls) end h = (h.0, lines-bounded l.number high ls h.1)
+firsts-of_last low high (l ∷ ls) fault h = lines-bounded low high (l ∷ ls) h
+firsts-of_last low high (l ∷ ls) more h = lines-bounded low high (l ∷ ls) h
+
+firsts-of : (low high : ℕ) (whole : List (List Line)) (unfinished : List Line) (ending : InputEnd) → AreWhole whole → LinesWithin low high (lines_in whole ++ unfinished)
+    → FirstsWithin low high (whole ++ last_group unfinished ending)
+firsts-of low high [] unfinished ending w h = firsts-of_last low high unfinished ending h
+firsts-of low high ([] ∷ gs) unfinished ending w h = absurd w.0
+firsts-of low high ((l ∷ ls) ∷ gs) unfinished ending w h =
+    (h.0, firsts-of l.number high gs unfinished ending w.1 (lines-behind_first l.number high ls (lines_in gs) unfinished h.1))
+
+groups-within : (low high : ℕ) (ls : List Line) (ending : InputEnd) (gs : List (List Line)) → IsGroups ls ending gs → LinesWithin low high ls → FirstsWithin low high gs
+groups-within low high ls ending gs g h = rw g.are_groups (firsts-of low high g.whole g.unfinished ending g.are_whole (rw g.are_lines at h))
+
+-- ---- entries
+
+followed-ascend : (low high number : ℕ) (outcome : Outcome) (rest : List Entry) → low < number → NumbersAscend number rest → NumbersAscend low rest → NumbersAscend low (followed number outcome rest)
+followed-ascend low high number ignored rest h k m = m
+followed-ascend low high number (given content) rest h k m = (h, k)
+followed-ascend low high number (broken kind) rest h k m = (h, tt)
+
+ascend-lower : (low less : ℕ) (entries : List Entry) → less < low → NumbersAscend low entries → NumbersAscend less entries
+ascend-lower low less [] k h = tt
+ascend-lower low less (x ∷ xs) k h = (let b = h.0 in omega arith, h.1)
+
+last-ascend : (low high n : ℕ) (ending : InputEnd) → high ≤ n + last_line ending → low ≤ high → NumbersAscend low (last_entries n ending)
+last-ascend low high n end h k = tt
+last-ascend low high n fault h k = (omega arith, tt)
+last-ascend low high n more h k = tt
+
+entries-ascend : (low high n : ℕ) (ending : InputEnd) (gs : List (List Line)) → high ≤ n + last_line ending → FirstsWithin low high gs → NumbersAscend low (entries_of n ending gs)
+entries-ascend low high n ending [] h k = last-ascend low high n ending h k
+entries-ascend low high n ending (g ∷ gs) h k =
+    let rest = entries-ascend (first_number g) high n ending gs h k.1 in
+    followed-ascend low high (first_number g) (outcome_of (joined g)) (entries_of n ending gs) k.0 rest (ascend-lower (first_number g) low (entries_of n ending gs) k.0 rest)
+
+pub items_of-ascend : (e : Encoding) (bytes : List ℕ) (ending : InputEnd) → NumbersAscend 0 (items_of e bytes ending)
+unfolding items_of
+items_of-ascend e bytes ending =
+    let lines = lines_of (decoded_of e bytes) in
+    let numbers = numbered_lines lines ending in
+    entries-ascend 0 (line_ends lines + last_line ending) (line_ends lines) ending (groups_of numbers ending) (omega arith)
+    (groups-within 0 (line_ends lines + last_line ending) numbers ending (groups_of numbers ending) (groups_of-meets numbers ending)
+    (numbered-within 0 lines.ended lines.last ending (line_ends lines + last_line ending) (omega arith)))
+
+-- The numbers of the items strictly ascend, from 1 on.
+pub items-ascend : (e : Encoding) (bytes : List ℕ) (ending : InputEnd) (entries : List Entry) → IsItems e bytes ending entries → NumbersAscend 0 entries
+items-ascend e bytes ending entries h = rw (items_of-only e bytes ending entries h) (items_of-ascend e bytes ending)

@@ -1,0 +1,109 @@
+-- The settings after some calls are the last ones that were accepted, or else those at the start.
+use Rattle.std.proofs.Common.{◌≡◌, ℕ, Bool, true, false, List, [], ◌∷◌, refl, ap, ◌∙◌}
+use Rattle.std.specs.Prelude.{Option, Some, None, unwrap_or, if◌then◌else◌}
+use Rattle.properties_format.specs.Text.{LineEnding}
+use Rattle.properties_format.specs.Settings.{Settings}
+use Rattle.properties_format.specs.Reading.Settings.{is_good_prefix, is_good_separator}
+use Rattle.properties_format.specs.Writing.{Call, comment_call, pair_call, prefix_call, separator_call, ending_call, flush_call, settings_after_call, settings_after}
+
+-- the second value, if there is one, else the first
+abbrev pub later : {A : Type 0} → Option A → Option A → Option A
+later o None = o
+later o (Some x) = Some x
+
+-- the last value that a call of the list gives
+abbrev pub last_given : {A : Type 0} → (Call → Option A) → List Call → Option A
+last_given given [] = None
+last_given given (call ∷ calls) = later (given call) (last_given given calls)
+
+-- the prefix, the separator and the line end that a call sets, if it is accepted
+abbrev pub prefix_of : Call → Option (List ℕ)
+prefix_of (comment_call text) = None
+prefix_of (pair_call key value) = None
+prefix_of (prefix_call prefix) = if is_good_prefix prefix then Some prefix else None
+prefix_of (separator_call separator) = None
+prefix_of (ending_call line_ending) = None
+prefix_of flush_call = None
+
+abbrev pub separator_of : Call → Option (List ℕ)
+separator_of (comment_call text) = None
+separator_of (pair_call key value) = None
+separator_of (prefix_call prefix) = None
+separator_of (separator_call separator) = if is_good_separator separator then Some separator else None
+separator_of (ending_call line_ending) = None
+separator_of flush_call = None
+
+abbrev pub ending_of : Call → Option LineEnding
+ending_of (comment_call text) = None
+ending_of (pair_call key value) = None
+ending_of (prefix_call prefix) = None
+ending_of (separator_call separator) = None
+ending_of (ending_call line_ending) = Some line_ending
+ending_of flush_call = None
+
+-- ---- after one call
+
+after-prefix : (s : Settings) (prefix : List ℕ) (b : Bool)
+    → ((if b then record s { comment_prefix = prefix } else s).comment_prefix ≡ unwrap_or (if b then Some prefix else None) s.comment_prefix)
+    × ((if b then record s { comment_prefix = prefix } else s).kv_separator ≡ s.kv_separator)
+    × ((if b then record s { comment_prefix = prefix } else s).line_ending ≡ s.line_ending)
+after-prefix s prefix true = (refl, refl, refl)
+after-prefix s prefix false = (refl, refl, refl)
+
+after-separator : (s : Settings) (separator : List ℕ) (b : Bool)
+    → ((if b then record s { kv_separator = separator } else s).kv_separator ≡ unwrap_or (if b then Some separator else None) s.kv_separator)
+    × ((if b then record s { kv_separator = separator } else s).comment_prefix ≡ s.comment_prefix)
+    × ((if b then record s { kv_separator = separator } else s).line_ending ≡ s.line_ending)
+after-separator s separator true = (refl, refl, refl)
+after-separator s separator false = (refl, refl, refl)
+
+prefix-after_call : (s : Settings) (call : Call) → (settings_after_call s call).comment_prefix ≡ unwrap_or (prefix_of call) s.comment_prefix
+prefix-after_call s (comment_call text) = refl
+prefix-after_call s (pair_call key value) = refl
+prefix-after_call s (prefix_call prefix) = (after-prefix s prefix (is_good_prefix prefix)).0
+prefix-after_call s (separator_call separator) = (after-separator s separator (is_good_separator separator)).1
+prefix-after_call s (ending_call line_ending) = refl
+prefix-after_call s flush_call = refl
+
+separator-after_call : (s : Settings) (call : Call) → (settings_after_call s call).kv_separator ≡ unwrap_or (separator_of call) s.kv_separator
+separator-after_call s (comment_call text) = refl
+separator-after_call s (pair_call key value) = refl
+separator-after_call s (prefix_call prefix) = (after-prefix s prefix (is_good_prefix prefix)).1
+separator-after_call s (separator_call separator) = (after-separator s separator (is_good_separator separator)).0
+separator-after_call s (ending_call line_ending) = refl
+separator-after_call s flush_call = refl
+
+ending-after_call : (s : Settings) (call : Call) → (settings_after_call s call).line_ending ≡ unwrap_or (ending_of call) s.line_ending
+ending-after_call s (comment_call text) = refl
+ending-after_call s (pair_call key value) = refl
+ending-after_call s (prefix_call prefix) = (after-prefix s prefix (is_good_prefix prefix)).2
+ending-after_call s (separator_call separator) = (after-separator s separator (is_good_separator separator)).2
+ending-after_call s (ending_call line_ending) = refl
+ending-after_call s flush_call = refl
+
+-- ---- after a list of calls
+
+unwrap-later : {A : Type 0} (o p : Option A) (x : A) → unwrap_or p (unwrap_or o x) ≡ unwrap_or (later o p) x
+unwrap-later o None x = refl
+unwrap-later o (Some y) x = refl
+
+pub prefix-after : (s : Settings) (calls : List Call) → (settings_after s calls).comment_prefix ≡ unwrap_or (last_given prefix_of calls) s.comment_prefix
+prefix-after s [] = refl
+prefix-after s (call ∷ calls) =
+    prefix-after (settings_after_call s call) calls
+    ∙ ap (unwrap_or (last_given prefix_of calls)) (prefix-after_call s call)
+    ∙ unwrap-later (prefix_of call) (last_given prefix_of calls) s.comment_prefix
+
+pub separator-after : (s : Settings) (calls : List Call) → (settings_after s calls).kv_separator ≡ unwrap_or (last_given separator_of calls) s.kv_separator
+separator-after s [] = refl
+separator-after s (call ∷ calls) =
+    separator-after (settings_after_call s call) calls
+    ∙ ap (unwrap_or (last_given separator_of calls)) (separator-after_call s call)
+    ∙ unwrap-later (separator_of call) (last_given separator_of calls) s.kv_separator
+
+pub ending-after : (s : Settings) (calls : List Call) → (settings_after s calls).line_ending ≡ unwrap_or (last_given ending_of calls) s.line_ending
+ending-after s [] = refl
+ending-after s (call ∷ calls) =
+    ending-after (settings_after_call s call) calls
+    ∙ ap (unwrap_or (last_given ending_of calls)) (ending-after_call s call)
+    ∙ unwrap-later (ending_of call) (last_given ending_of calls) s.line_ending

@@ -1,0 +1,125 @@
+-- The tests of settings answer true at good settings, and at no others.
+use Rattle.std.proofs.Common.{◌≡◌, ℕ, ◌==◌, ◌&&◌, ◌||◌, not, true, false, List, [], ◌∷◌, ◌++◌, refl, ap, sym, ◌∙◌, inl, inr}
+use Rattle.std.specs.Bool.{Decides}
+use Rattle.std.proofs.lemmas.Bool.{cases_Bool, cond-true, cond-false, and_parts, and_from, or_cases, or_left, or_right, not-true, not_from_false, eqb-true}
+use Rattle.properties_format.specs.Text.{is_blank, is_line_end, is_comment_sign, is_separator}
+use Rattle.properties_format.specs.Lines.{HoldsNoLineEnd}
+use Rattle.properties_format.specs.Split.{AreBlanks}
+use Rattle.properties_format.specs.Settings.{IsGoodPrefix, IsSignedSeparator, IsGoodSeparator}
+use Rattle.properties_format.specs.Reading.Settings.{is_blanks, holds_no_line_end, is_good_prefix, is_signed_separator, is_good_separator}
+use Rattle.properties_format.specs.Writing.{tail_of}
+
+-- ---- blanks, and texts without a line end
+
+pub AreBlanks-from_test : (x : List ℕ) → is_blanks x ≡ true → AreBlanks x
+AreBlanks-from_test [] h = tt
+AreBlanks-from_test (c ∷ x) h = let p = and_parts (is_blank c) (is_blanks x) h in (p.0, AreBlanks-from_test x p.1)
+
+pub is_blanks-from : (x : List ℕ) → AreBlanks x → is_blanks x ≡ true
+is_blanks-from [] h = refl
+is_blanks-from (c ∷ x) h = and_from (is_blank c) (is_blanks x) h.0 (is_blanks-from x h.1)
+
+pub HoldsNoLineEnd-from_test : (x : List ℕ) → holds_no_line_end x ≡ true → HoldsNoLineEnd x
+HoldsNoLineEnd-from_test [] h = tt
+HoldsNoLineEnd-from_test (c ∷ x) h = let p = and_parts (not (is_line_end c)) (holds_no_line_end x) h in (not-true (is_line_end c) p.0, HoldsNoLineEnd-from_test x p.1)
+
+pub holds_no_line_end-from : (x : List ℕ) → HoldsNoLineEnd x → holds_no_line_end x ≡ true
+holds_no_line_end-from [] h = refl
+holds_no_line_end-from (c ∷ x) h = and_from (not (is_line_end c)) (holds_no_line_end x) (not_from_false (is_line_end c) h.0) (holds_no_line_end-from x h.1)
+
+-- ---- no comment sign and no separator is a blank
+
+pub sign_not_blank : (m : ℕ) → is_comment_sign m ≡ true → is_blank m ≡ false
+sign_not_blank m h = elim (or_cases (m == 0x23) (m == 0x21) h) [ inl e ↦ ap is_blank (eqb-true m 0x23 e) | inr e ↦ ap is_blank (eqb-true m 0x21 e) ]
+
+pub separator_not_blank : (m : ℕ) → is_separator m ≡ true → is_blank m ≡ false
+separator_not_blank m h = elim (or_cases (m == 0x3d) (m == 0x3a) h) [ inl e ↦ ap is_blank (eqb-true m 0x3d e) | inr e ↦ ap is_blank (eqb-true m 0x3a e) ]
+
+pub blank_not_sign : (c : ℕ) → is_blank c ≡ true → is_comment_sign c ≡ false
+blank_not_sign c h = elim (or_cases (c == 0x20) (c == 0x09 || c == 0x0c) h) [
+  | inl e ↦ ap is_comment_sign (eqb-true c 0x20 e)
+  | inr k ↦ elim (or_cases (c == 0x09) (c == 0x0c) k) [ inl e ↦ ap is_comment_sign (eqb-true c 0x09 e) | inr e ↦ ap is_comment_sign (eqb-true c 0x0c e) ]
+]
+
+-- ---- prefixes
+
+prefix-of_blank : (c : ℕ) (cs : List ℕ) → is_blank c ≡ true → is_good_prefix (c ∷ cs) ≡ is_good_prefix cs
+prefix-of_blank c cs e = cond-true (is_blank c) _ _ e
+
+prefix-of_other : (c : ℕ) (cs : List ℕ) → is_blank c ≡ false → is_good_prefix (c ∷ cs) ≡ (is_comment_sign c && holds_no_line_end cs)
+prefix-of_other c cs e = cond-false (is_blank c) _ _ e
+
+blank-in_front : (c : ℕ) (cs : List ℕ) → is_blank c ≡ true → IsGoodPrefix cs → IsGoodPrefix (c ∷ cs)
+blank-in_front c cs e g =
+    record { indent = c ∷ g.indent; sign = g.sign; tail = g.tail; division = ap (λ v. c ∷ v) g.division; indented = (e, g.indented); signed = g.signed; one_line = g.one_line }
+
+pub IsGoodPrefix-from_test : (prefix : List ℕ) → is_good_prefix prefix ≡ true → IsGoodPrefix prefix
+IsGoodPrefix-from_test [] h = cc
+IsGoodPrefix-from_test (c ∷ cs) h = elim (cases_Bool (is_blank c)) [
+  | inl e ↦ blank-in_front c cs e (IsGoodPrefix-from_test cs (sym (prefix-of_blank c cs e) ∙ h))
+  | inr e ↦
+      let p = and_parts (is_comment_sign c) (holds_no_line_end cs) (sym (prefix-of_other c cs e) ∙ h) in
+      record { indent = []; sign = c; tail = cs; division = refl; indented = tt; signed = p.0; one_line = HoldsNoLineEnd-from_test cs p.1 }
+]
+
+divided-is_good : (indent : List ℕ) (sign : ℕ) (tail : List ℕ) → AreBlanks indent → is_comment_sign sign ≡ true → HoldsNoLineEnd tail → is_good_prefix (indent ++ (sign ∷ tail)) ≡ true
+divided-is_good [] sign tail h m p = prefix-of_other sign tail (sign_not_blank sign m) ∙ and_from (is_comment_sign sign) (holds_no_line_end tail) m (holds_no_line_end-from tail p)
+divided-is_good (c ∷ indent) sign tail h m p = prefix-of_blank c (indent ++ (sign ∷ tail)) h.0 ∙ divided-is_good indent sign tail h.1 m p
+
+pub is_good_prefix-from : (prefix : List ℕ) → IsGoodPrefix prefix → is_good_prefix prefix ≡ true
+is_good_prefix-from prefix g = ap is_good_prefix g.division ∙ divided-is_good g.indent g.sign g.tail g.indented g.signed g.one_line
+
+pub is_good_prefix-Decides : (prefix : List ℕ) → Decides (is_good_prefix prefix) (IsGoodPrefix prefix)
+is_good_prefix-Decides prefix = (IsGoodPrefix-from_test prefix, is_good_prefix-from prefix)
+
+-- what follows the first comment sign is the tail of the division
+tail-divided : (indent : List ℕ) (sign : ℕ) (tail : List ℕ) → AreBlanks indent → is_comment_sign sign ≡ true → tail_of (indent ++ (sign ∷ tail)) ≡ tail
+tail-divided [] sign tail h m = cond-true (is_comment_sign sign) _ _ m
+tail-divided (c ∷ indent) sign tail h m = cond-false (is_comment_sign c) _ _ (blank_not_sign c h.0) ∙ tail-divided indent sign tail h.1 m
+
+pub tail_of-good : (prefix : List ℕ) (g : IsGoodPrefix prefix) → tail_of prefix ≡ g.tail
+tail_of-good prefix g = ap tail_of g.division ∙ tail-divided g.indent g.sign g.tail g.indented g.signed
+
+-- ---- separators
+
+signed-of_blank : (c : ℕ) (cs : List ℕ) → is_blank c ≡ true → is_signed_separator (c ∷ cs) ≡ is_signed_separator cs
+signed-of_blank c cs e = cond-true (is_blank c) _ _ e
+
+signed-of_other : (c : ℕ) (cs : List ℕ) → is_blank c ≡ false → is_signed_separator (c ∷ cs) ≡ (is_separator c && is_blanks cs)
+signed-of_other c cs e = cond-false (is_blank c) _ _ e
+
+blank-in_front_of_signed : (c : ℕ) (cs : List ℕ) → is_blank c ≡ true → IsSignedSeparator cs → IsSignedSeparator (c ∷ cs)
+blank-in_front_of_signed c cs e g =
+    record { before = c ∷ g.before; sign = g.sign; after = g.after; division = ap (λ v. c ∷ v) g.division; blank_before = (e, g.blank_before); signed = g.signed; blank_after = g.blank_after }
+
+pub IsSignedSeparator-from_test : (separator : List ℕ) → is_signed_separator separator ≡ true → IsSignedSeparator separator
+IsSignedSeparator-from_test [] h = cc
+IsSignedSeparator-from_test (c ∷ cs) h = elim (cases_Bool (is_blank c)) [
+  | inl e ↦ blank-in_front_of_signed c cs e (IsSignedSeparator-from_test cs (sym (signed-of_blank c cs e) ∙ h))
+  | inr e ↦
+      let p = and_parts (is_separator c) (is_blanks cs) (sym (signed-of_other c cs e) ∙ h) in
+      record { before = []; sign = c; after = cs; division = refl; blank_before = tt; signed = p.0; blank_after = AreBlanks-from_test cs p.1 }
+]
+
+divided-is_signed : (before : List ℕ) (sign : ℕ) (after : List ℕ) → AreBlanks before → is_separator sign ≡ true → AreBlanks after → is_signed_separator (before ++ (sign ∷ after)) ≡ true
+divided-is_signed [] sign after h m p = signed-of_other sign after (separator_not_blank sign m) ∙ and_from (is_separator sign) (is_blanks after) m (is_blanks-from after p)
+divided-is_signed (c ∷ before) sign after h m p = signed-of_blank c (before ++ (sign ∷ after)) h.0 ∙ divided-is_signed before sign after h.1 m p
+
+pub is_signed_separator-from : (separator : List ℕ) → IsSignedSeparator separator → is_signed_separator separator ≡ true
+is_signed_separator-from separator g = ap is_signed_separator g.division ∙ divided-is_signed g.before g.sign g.after g.blank_before g.signed g.blank_after
+
+pub IsGoodSeparator-from_test : (separator : List ℕ) → is_good_separator separator ≡ true → IsGoodSeparator separator
+IsGoodSeparator-from_test [] h = cc
+IsGoodSeparator-from_test (c ∷ cs) h = elim (or_cases (is_signed_separator (c ∷ cs)) (is_blanks (c ∷ cs)) h) [
+  | inl e ↦ inl (IsSignedSeparator-from_test (c ∷ cs) e)
+  | inr e ↦ inr (record { blank = AreBlanks-from_test (c ∷ cs) e; some = λ k. cc })
+]
+
+pub is_good_separator-from : (separator : List ℕ) → IsGoodSeparator separator → is_good_separator separator ≡ true
+is_good_separator-from [] (inl g) = is_signed_separator-from [] g
+is_good_separator-from [] (inr g) = absurd (g.some refl)
+is_good_separator-from (c ∷ cs) (inl g) = or_left (is_signed_separator (c ∷ cs)) (is_blanks (c ∷ cs)) (is_signed_separator-from (c ∷ cs) g)
+is_good_separator-from (c ∷ cs) (inr g) = or_right (is_signed_separator (c ∷ cs)) (is_blanks (c ∷ cs)) (is_blanks-from (c ∷ cs) g.blank)
+
+pub is_good_separator-Decides : (separator : List ℕ) → Decides (is_good_separator separator) (IsGoodSeparator separator)
+is_good_separator-Decides separator = (IsGoodSeparator-from_test separator, is_good_separator-from separator)

@@ -1,0 +1,106 @@
+-- Where a key ends: the units of a key, and the reading that cuts it off.
+use Rattle.std.proofs.Common.{◌≡◌, ℕ, ◌==◌, Bool, true, false, List, [], ◌∷◌, ◌++◌, refl, ap, sym, ◌∙◌, inl, inr, append_assoc, append-nil}
+use Rattle.std.proofs.lemmas.Bool.{cases_Bool, both_ways, eqb-true}
+use Rattle.properties_format.specs.Text.{backslash, is_blank, is_separator}
+use Rattle.properties_format.specs.Split.{KeyUnit, plain, escaped, last, unit_text, units_before, IsUnit, AreUnits, IsKey}
+use Rattle.properties_format.specs.Reading.Split.{Cut, with_front, ends_key, cut_key}
+
+-- the units put together before a rest are their text and the rest
+pub units_before-append : (us : List KeyUnit) (rest : List ℕ) → units_before us rest ≡ units_before us [] ++ rest
+units_before-append [] rest = refl
+units_before-append (u ∷ us) rest = ap (λ v. unit_text u ++ v) (units_before-append us rest) ∙ sym (append_assoc (unit_text u) (units_before us []) rest)
+
+-- the key with a text in front
+abbrev pub with_text : List ℕ → Cut → Cut
+with_text x cut = record { key = x ++ cut.key; rest = cut.rest }
+
+-- a text before which a key ends: an empty one, or one that begins with a blank or a separator
+abbrev pub ends_here : List ℕ → Bool
+ends_here [] = true
+ends_here (c ∷ cs) = ends_key c
+
+ends_key-plain : (c : ℕ) → is_blank c ≡ false → is_separator c ≡ false → ends_key c ≡ false
+ends_key-plain c b s = rw b s
+
+plain-parts : (c : ℕ) → ends_key c ≡ false → (is_blank c ≡ false) × (is_separator c ≡ false)
+plain-parts c e = elim (cases_Bool (is_blank c)) [
+  | inl b ↦ absurd (both_ways (ends_key c) e (rw b refl))
+  | inr b ↦ (b, rw b at e)
+]
+
+-- what ends a key is no backslash
+pub ends_key-backslash : (c : ℕ) → ends_key c ≡ true → (c == backslash) ≡ false
+ends_key-backslash c e = elim (cases_Bool (c == backslash)) [
+  | inl b ↦ absurd (both_ways (ends_key c) (rw (eqb-true c backslash b) refl) e)
+  | inr b ↦ b
+]
+
+pub cut_key-ends : (rest : List ℕ) → ends_here rest ≡ true → cut_key rest false ≡ record { key = []; rest = rest }
+cut_key-ends [] e = refl
+cut_key-ends (c ∷ rest) e = rw (ends_key-backslash c e) (rw e refl)
+
+-- a unit in front
+pub cut_key-unit : (u : KeyUnit) (rest : List ℕ) → IsUnit u rest → cut_key (unit_text u ++ rest) false ≡ with_text (unit_text u) (cut_key rest false)
+cut_key-unit (plain c) rest h = rw h.0 (rw (ends_key-plain c h.1 h.2) refl)
+cut_key-unit (escaped c) rest h = refl
+cut_key-unit last rest h = rw h refl
+
+-- units in front
+pub cut_key-units : (us : List KeyUnit) (rest : List ℕ) → AreUnits us rest → cut_key (units_before us rest) false ≡ with_text (units_before us []) (cut_key rest false)
+cut_key-units [] rest h = refl
+cut_key-units (u ∷ us) rest h =
+    cut_key-unit u (units_before us rest) h.0
+    ∙ ap (with_text (unit_text u)) (cut_key-units us rest h.1)
+    ∙ ap (λ v. let cut : Cut = record { key = v; rest = (cut_key rest false).rest } in cut) (sym (append_assoc (unit_text u) (units_before us []) (cut_key rest false).key))
+
+-- a key in front of what ends it
+pub cut_key-only : (key rest : List ℕ) → IsKey key rest → ends_here rest ≡ true → cut_key (key ++ rest) false ≡ record { key = key; rest = rest }
+cut_key-only key rest k e =
+    ap (λ v. cut_key v false) (ap (λ v. v ++ rest) k.whole ∙ sym (units_before-append k.units rest))
+    ∙ cut_key-units k.units rest k.each
+    ∙ ap (with_text (units_before k.units [])) (cut_key-ends rest e)
+    ∙ ap (λ v. let cut : Cut = record { key = v; rest = rest } in cut) (append-nil (units_before k.units []) ∙ sym k.whole)
+
+-- ---- each text is a key and what ends it
+
+pub record IsCut (x : List ℕ) (cut : Cut) : Type 0 where
+  pub whole : x ≡ cut.key ++ cut.rest
+  pub is_key : IsKey cut.key cut.rest
+  pub ends_it : ends_here cut.rest ≡ true
+
+nothing-cut : (rest : List ℕ) → ends_here rest ≡ true → IsCut rest (record { key = []; rest = rest })
+nothing-cut rest e = record { whole = refl; is_key = record { units = []; whole = refl; each = tt }; ends_it = e }
+
+-- a unit in front of a key that has been cut off
+unit-cut : (u : KeyUnit) (x : List ℕ) (cut : Cut) → IsUnit u x → IsCut x cut → IsCut (unit_text u ++ x) (with_text (unit_text u) cut)
+unit-cut u x cut h k = record {
+  whole = ap (λ v. unit_text u ++ v) k.whole ∙ sym (append_assoc (unit_text u) cut.key cut.rest);
+  is_key = record {
+    units = u ∷ k.is_key.units;
+    whole = ap (λ v. unit_text u ++ v) k.is_key.whole;
+    each = (rw (units_before-append k.is_key.units cut.rest) (rw (← k.is_key.whole) (rw (← k.whole) h)), k.is_key.each);
+  };
+  ends_it = k.ends_it;
+}
+
+-- what has been cut, where a backslash may stand before it
+IsCutAfter : Bool → List ℕ → Type 0
+IsCutAfter true x = IsCut (backslash ∷ x) (with_front backslash (cut_key x true))
+IsCutAfter false x = IsCut x (cut_key x false)
+
+cut-after : (x : List ℕ) (is_escaped : Bool) → IsCutAfter is_escaped x
+unfolding IsCutAfter
+cut-after [] true = unit-cut last [] (record { key = []; rest = [] }) refl (nothing-cut [] refl)
+cut-after [] false = nothing-cut [] refl
+cut-after (c ∷ x) true = unit-cut (escaped c) x (cut_key x false) tt (cut-after x false)
+cut-after (c ∷ x) false = elim (cases_Bool (c == backslash)) [
+  | inl e ↦ rw e (rw (eqb-true c backslash e) (cut-after x true))
+  | inr e ↦ rw e (elim (cases_Bool (ends_key c)) [
+    | inl k ↦ rw k (nothing-cut (c ∷ x) k)
+    | inr k ↦ rw k (unit-cut (plain c) x (cut_key x false) (e, (plain-parts c k).0, (plain-parts c k).1) (cut-after x false))
+  ])
+]
+
+pub cut_key-meets : (x : List ℕ) → IsCut x (cut_key x false)
+unfolding IsCutAfter
+cut_key-meets x = cut-after x false

@@ -1,0 +1,151 @@
+-- Each line is blank, a comment or a pair in one way.
+use Rattle.std.proofs.Common.{◌≡◌, ◌≢◌, ℕ, true, false, List, [], ◌∷◌, ◌++◌, refl, ap, sym, ◌∙◌, inl, inr, append_assoc, append-nil, arith}
+use Rattle.std.proofs.lemmas.Bool.{cases_Bool, both_ways}
+use Rattle.properties_format.specs.Text.{is_blank, is_comment_sign, is_separator, without_leading_blanks}
+use Rattle.properties_format.specs.Split.{Logical, blank, comment, pair, AreBlanks, begins, IsKey, IsBetween, nothing, blanks, separator, IsSplit}
+use Rattle.properties_format.specs.Reading.Split.{Cut, trimmed, cut_key, past_separator, pair_of, split_full, split_of, ends_key}
+use Rattle.properties_format.proofs.Split.Blanks.{without_leading_blanks-only, without_leading_blanks-blanks, IsPast, without_leading_blanks-meets, trimmed-meets, trimmed-only}
+use Rattle.properties_format.proofs.Split.Keys.{ends_here, cut_key-only, IsCut, cut_key-meets}
+
+-- ---- what comes after a key
+
+-- a separator is no blank
+pub separator-full : (c : ℕ) → is_separator c ≡ true → is_blank c ≡ false
+separator-full c e = elim (cases_Bool (is_blank c)) [
+  | inl b ↦ absurd (grind (arith))
+  | inr b ↦ b
+]
+
+ends_key-blank : (c : ℕ) → is_blank c ≡ true → ends_key c ≡ true
+ends_key-blank c b = rw b refl
+
+ends_key-separator : (c : ℕ) → is_separator c ≡ true → ends_key c ≡ true
+ends_key-separator c s = rw (separator-full c s) s
+
+past_separator-full : (y : List ℕ) → begins is_separator y ≡ false → past_separator y ≡ y
+past_separator-full [] e = refl
+past_separator-full (c ∷ y) e = rw e refl
+
+blanks-end : (between value : List ℕ) → between ≢ [] → AreBlanks between → ends_here (between ++ value) ≡ true
+blanks-end [] value h b = absurd (h refl)
+blanks-end (c ∷ between) value h b = ends_key-blank c b.0
+
+sign-end : (before : List ℕ) (sign : ℕ) (rest : List ℕ) → AreBlanks before → is_separator sign ≡ true → ends_here (before ++ (sign ∷ rest)) ≡ true
+sign-end [] sign rest b s = ends_key-separator sign s
+sign-end (c ∷ before) sign rest b s = ends_key-blank c b.0
+
+-- where a key ends, what stands between comes or the line does
+between-ends : (between value : List ℕ) → IsBetween between value → ends_here (between ++ value) ≡ true
+between-ends between value (nothing e f) = rw (e, f) refl
+between-ends between value (blanks h b e f) = blanks-end between value h b
+between-ends between value (separator before sign after e b s d f) =
+    rw e (rw (append_assoc before (sign ∷ after) value) (sign-end before sign (after ++ value) b s))
+
+-- after what stands between comes the value
+between-value : (between value : List ℕ) → IsBetween between value → past_separator (without_leading_blanks (between ++ value)) ≡ value
+between-value between value (nothing e f) = rw (e, f) refl
+between-value between value (blanks h b e f) = ap past_separator (without_leading_blanks-only between value b e) ∙ past_separator-full value f
+between-value between value (separator before sign after e b s d f) =
+    ap (λ v. past_separator (without_leading_blanks v)) (ap (λ v. v ++ value) e ∙ append_assoc before (sign ∷ after) value)
+    ∙ ap past_separator (without_leading_blanks-only before (sign ∷ (after ++ value)) b (separator-full sign s))
+    ∙ rw s (without_leading_blanks-only after value d f)
+
+pub record IsBehind (rest value : List ℕ) : Type 0 where
+  pub between : List ℕ
+  pub whole : rest ≡ between ++ value
+  pub is_between : IsBetween between value
+
+-- a key doesn't end before a character that is neither a blank nor a separator
+not-here : (before : List ℕ) (c : ℕ) (y : List ℕ) → ends_here (before ++ (c ∷ y)) ≡ true → is_blank c ≡ false → is_separator c ≡ false → before ≢ []
+not-here [] c y k b s q = both_ways (ends_key c) (rw (b, s) refl) k
+not-here (d ∷ before) c y k b s q = absurd (cc)
+
+-- a separator or none after the blanks
+after-step : (rest : List ℕ) (before y : List ℕ) → rest ≡ before ++ y → AreBlanks before → begins is_blank y ≡ false → ends_here rest ≡ true → IsBehind rest (past_separator y)
+after-step rest [] [] e b f k = record { between = []; whole = e; is_between = nothing refl refl }
+after-step rest (d ∷ before) [] e b f k = record { between = d ∷ before; whole = e; is_between = blanks (λ q. absurd (cc)) b refl refl }
+after-step rest before (c ∷ y) e b f k = elim (cases_Bool (is_separator c)) [
+  | inl s ↦ rw s (let p : IsPast y (without_leading_blanks y) = without_leading_blanks-meets y in record {
+    between = before ++ (c ∷ p.before);
+    whole = e ∙ ap (λ v. before ++ (c ∷ v)) p.whole ∙ sym (append_assoc before (c ∷ p.before) (without_leading_blanks y));
+    is_between = separator before c p.before refl b s p.before_blank p.begins_full;
+  })
+  | inr s ↦ rw s (record { between = before; whole = e; is_between = blanks (not-here before c y (rw e at k) f s) b f s })
+]
+
+after-meets : (rest : List ℕ) → ends_here rest ≡ true → IsBehind rest (past_separator (without_leading_blanks rest))
+after-meets rest k = let p : IsPast rest (without_leading_blanks rest) = without_leading_blanks-meets rest in after-step rest p.before (without_leading_blanks rest) p.whole p.before_blank p.begins_full k
+
+-- ---- what is read is what the line is
+
+full-pair : (line indent x : List ℕ) → line ≡ indent ++ x → AreBlanks indent → x ≢ [] → begins is_blank x ≡ false → begins is_comment_sign x ≡ false
+    → IsSplit line (pair_of (cut_key x false))
+full-pair line indent x e b h f m = whole (cut_key x false) (cut_key-meets x)
+  where
+    whole : (cut : Cut) → IsCut x cut → IsSplit line (pair_of cut)
+    whole cut k =
+        let r : IsBehind cut.rest (past_separator (without_leading_blanks cut.rest)) = after-meets cut.rest k.ends_it in
+        let w : x ≡ cut.key ++ (r.between ++ past_separator (without_leading_blanks cut.rest)) = k.whole ∙ ap (λ v. cut.key ++ v) r.whole in
+        record {
+          indent = indent;
+          between = r.between;
+          whole = e ∙ ap (λ v. indent ++ v) w;
+          indent_blank = b;
+          not_empty = rw w at h;
+          begins_full = rw w at f;
+          no_comment = rw w at m;
+          is_key = rw r.whole at k.is_key;
+          is_between = r.is_between;
+        }
+
+full-meets : (line indent x : List ℕ) → line ≡ indent ++ x → AreBlanks indent → begins is_blank x ≡ false → IsSplit line (split_full x)
+full-meets line indent [] e b f = rw (e, append-nil indent) b
+full-meets line indent (c ∷ x) e b f = elim (cases_Bool (is_comment_sign c)) [
+  | inl m ↦ rw m (record { indent = indent; sign = c; rest = x; whole = e; indent_blank = b; is_sign = m; trimmed = trimmed-meets x })
+  | inr m ↦ rw m (full-pair line indent (c ∷ x) e b (λ q. absurd (cc)) f m)
+]
+
+pub split_of-meets : (line : List ℕ) → IsSplit line (split_of line)
+unfolding split_of
+split_of-meets line = let p : IsPast line (without_leading_blanks line) = without_leading_blanks-meets line in full-meets line p.before (without_leading_blanks line) p.whole p.before_blank p.begins_full
+
+-- ---- what the line is, is read
+
+sign-full : (c : ℕ) → is_comment_sign c ≡ true → is_blank c ≡ false
+sign-full c e = elim (cases_Bool (is_blank c)) [
+  | inl b ↦ absurd (grind (arith))
+  | inr b ↦ b
+]
+
+-- a line of blanks
+pub split_of-blank : (line : List ℕ) → AreBlanks line → split_of line ≡ blank
+unfolding split_of
+split_of-blank line b = ap split_full (without_leading_blanks-blanks line b)
+
+-- blanks, a comment sign, and what follows it
+pub split_of-comment : (indent : List ℕ) (sign : ℕ) (rest : List ℕ) → AreBlanks indent → is_comment_sign sign ≡ true
+    → split_of (indent ++ (sign ∷ rest)) ≡ comment (trimmed rest)
+unfolding split_of
+split_of-comment indent sign rest b m = ap split_full (without_leading_blanks-only indent (sign ∷ rest) b (sign-full sign m)) ∙ rw m refl
+
+split_full-pair : (x : List ℕ) → x ≢ [] → begins is_comment_sign x ≡ false → split_full x ≡ pair_of (cut_key x false)
+split_full-pair [] h m = absurd (h refl)
+split_full-pair (c ∷ x) h m = rw m refl
+
+-- blanks, a key, what stands between, and a value
+pub split_of-pair : (indent key between value : List ℕ) → AreBlanks indent → key ++ (between ++ value) ≢ []
+    → begins is_blank (key ++ (between ++ value)) ≡ false → begins is_comment_sign (key ++ (between ++ value)) ≡ false
+    → IsKey key (between ++ value) → IsBetween between value → split_of (indent ++ (key ++ (between ++ value))) ≡ pair key value
+unfolding split_of
+split_of-pair indent key between value b h f m k w =
+    ap split_full (without_leading_blanks-only indent (key ++ (between ++ value)) b f)
+    ∙ split_full-pair (key ++ (between ++ value)) h m
+    ∙ ap pair_of (cut_key-only key (between ++ value) k (between-ends between value w))
+    ∙ ap (pair key) (between-value between value w)
+
+pub split_of-only : (line : List ℕ) (what : Logical) → IsSplit line what → what ≡ split_of line
+split_of-only line blank h = sym (split_of-blank line h)
+split_of-only line (comment text) h =
+    ap comment (trimmed-only h.rest text h.trimmed) ∙ sym (ap split_of h.whole ∙ split_of-comment h.indent h.sign h.rest h.indent_blank h.is_sign)
+split_of-only line (pair key value) h =
+    sym (ap split_of h.whole ∙ split_of-pair h.indent key h.between value h.indent_blank h.not_empty h.begins_full h.no_comment h.is_key h.is_between)

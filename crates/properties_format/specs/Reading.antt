@@ -1,0 +1,12 @@
+pub mod Utf8
+pub mod Utf16
+pub mod Encoding
+pub mod Waiting
+pub mod Lines
+pub mod Groups
+pub mod Logical
+pub mod Split
+pub mod Escapes
+pub mod Items
+pub mod Settings
+pub mod Maps

@@ -1,0 +1,28 @@
+-- How bytes are decoded: piece by piece, from the first byte on.
+use Rattle.std.specs.Prelude.{ℕ, zero, suc, List, [], ◌∷◌, length, drop}
+use Rattle.properties_format.specs.Pieces.{Piece, piece, characters}
+use Rattle.properties_format.specs.Windows1252.{windows_1252_character}
+use Rattle.properties_format.specs.Reading.Utf8.{first_utf_8_piece}
+use Rattle.properties_format.specs.Utf16.{low_first, high_first}
+use Rattle.properties_format.specs.Reading.Utf16.{first_utf_16_piece}
+use Rattle.properties_format.specs.Pieces.{Piece, characters}
+use Rattle.properties_format.specs.Encoding.{Encoding, windows_1252, utf_8, utf_16le, utf_16be, byte_order_mark}
+
+-- the first piece of a first byte and those after it
+abbrev pub first_piece : Encoding → ℕ → List ℕ → Piece
+first_piece windows_1252 b d = piece (b ∷ []) (windows_1252_character b)
+first_piece utf_8 b d = first_utf_8_piece b d
+first_piece utf_16le b d = first_utf_16_piece low_first b d
+first_piece utf_16be b d = first_utf_16_piece high_first b d
+
+-- the pieces, at most so many
+abbrev pub pieces_within : Encoding → ℕ → List ℕ → List Piece
+pieces_within e n [] = []
+pieces_within e zero (b ∷ d) = []
+pieces_within e (suc n) (b ∷ d) = let p = first_piece e b d in p ∷ pieces_within e n (drop (length p.bytes) (b ∷ d))
+
+unfoldable pub pieces_of : Encoding → List ℕ → List Piece
+pieces_of e d = pieces_within e (length d) d
+
+abbrev pub decoded_of : Encoding → List ℕ → List ℕ
+decoded_of e b = characters (pieces_of (byte_order_mark e b).encoding (byte_order_mark e b).body)

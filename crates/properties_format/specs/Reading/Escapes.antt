@@ -1,0 +1,56 @@
+-- What a text means, computed from its first character on.
+use Rattle.std.specs.Prelude.{◌==◌, ◌&&◌, ℕ, zero, suc, pred, length, if◌then◌else◌, List, [], ◌∷◌, Option, Some, None}
+use Rattle.properties_format.specs.Hexadecimal.{Four, are_hexadecimal, code_unit}
+use Rattle.properties_format.specs.Surrogates.{is_high, is_low}
+use Rattle.properties_format.specs.Text.{backslash}
+use Rattle.properties_format.specs.Escapes.{Malformed, not_enough_digits, letter_u, Spelling, itself, escaped, unicode, surrogates, last, spelling_text, spelt_character, malformed_by, Meaning, means, breaks}
+
+-- the two escapes of a high surrogate and what stands after it, if that is one of a low surrogate
+abbrev pub with_low : Four → List ℕ → Option Spelling
+with_low high (x ∷ y ∷ a ∷ b ∷ c ∷ d ∷ rest) =
+    let low : Four = record { first = a; second = b; third = c; fourth = d } in
+    if (x == backslash && y == letter_u) && (are_hexadecimal low && is_low (code_unit low)) then Some (surrogates high low) else None
+with_low high _ = None
+
+-- the spelling of which these four are the first digits
+abbrev pub with_digits : Four → List ℕ → Option Spelling
+with_digits d rest =
+    if are_hexadecimal d then (if is_high (code_unit d) then with_low d rest else (if is_low (code_unit d) then None else Some (unicode d)))
+    else None
+
+-- the spelling that a `\u` begins
+abbrev pub after_u : List ℕ → Option Spelling
+after_u (a ∷ b ∷ c ∷ d ∷ rest) = with_digits record { first = a; second = b; third = c; fourth = d } rest
+after_u _ = None
+
+-- the spelling that a backslash begins
+abbrev pub after_backslash : List ℕ → Option Spelling
+after_backslash [] = Some last
+after_backslash (c ∷ cs) = if c == letter_u then after_u cs else Some (escaped c)
+
+-- the spelling that the text begins with
+abbrev pub first_spelling : ℕ → List ℕ → Option Spelling
+first_spelling c cs = if c == backslash then after_backslash cs else Some (itself c)
+
+-- a character in front of a meaning
+abbrev pub in_front : ℕ → Meaning → Meaning
+in_front c (means x) = means (c ∷ x)
+in_front c (breaks kind) = breaks kind
+
+-- what is wrong with a text that begins with a `\u` and no spelling
+abbrev pub fault_of : List ℕ → Malformed
+fault_of [] = not_enough_digits
+fault_of (u ∷ after) = malformed_by after
+
+-- the meaning of the text without this many of its first characters, which belong to a spelling that has been read
+abbrev pub meaning_past : List ℕ → ℕ → Meaning
+meaning_past [] skipped = means []
+meaning_past (c ∷ cs) (suc skipped) = meaning_past cs skipped
+meaning_past (c ∷ cs) zero = elim (first_spelling c cs) [
+  | None ↦ breaks (fault_of cs)
+  | Some p ↦ in_front (spelt_character p) (meaning_past cs (pred (length (spelling_text p))))
+]
+
+-- the meaning of the text
+unfoldable pub meaning_of : List ℕ → Meaning
+meaning_of text = meaning_past text 0

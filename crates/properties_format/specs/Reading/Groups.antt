@@ -1,0 +1,31 @@
+-- The groups, computed line by line.
+use Rattle.std.specs.Prelude.{Bool, true, false, not, ◌||◌, List, [], ◌∷◌, ◌++◌}
+use Rattle.properties_format.specs.Lines.{Line, InputEnd}
+use Rattle.properties_format.specs.Groups.{is_open, is_comment_line, last_group}
+
+-- whether the line is the last of its group, of which the given lines stand before it
+abbrev pub closes : List Line → Line → Bool
+closes [] l = is_comment_line l.text || not (is_open l.text)
+closes (p ∷ ps) l = not (is_open l.text)
+
+-- the groups of the lines after those of a group that is still open
+abbrev pub groups_after : List Line → List Line → InputEnd → List (List Line)
+groups_after open_lines [] ending = last_group open_lines ending
+groups_after open_lines (l ∷ ls) ending =
+    elim (closes open_lines l) [
+      | true ↦ (open_lines ++ l ∷ []) ∷ groups_after [] ls ending
+      | false ↦ groups_after (open_lines ++ l ∷ []) ls ending
+    ]
+
+-- the groups of the lines
+abbrev pub groups_of : List Line → InputEnd → List (List Line)
+groups_of lines ending = groups_after [] lines ending
+
+-- the lines of the group that is still open after these lines
+abbrev pub open_after : List Line → List Line → List Line
+open_after open_lines [] = open_lines
+open_after open_lines (l ∷ ls) =
+    elim (closes open_lines l) [
+      | true ↦ open_after [] ls
+      | false ↦ open_after (open_lines ++ l ∷ []) ls
+    ]

@@ -1,0 +1,26 @@
+-- How prefixes and separators are tested.
+use Rattle.std.specs.Prelude.{ℕ, ◌&&◌, ◌||◌, not, Bool, true, false, if◌then◌else◌, List, [], ◌∷◌}
+use Rattle.properties_format.specs.Text.{is_blank, is_line_end, is_comment_sign, is_separator}
+
+-- whether the text is blanks, and whether it holds no line end
+abbrev pub is_blanks : List ℕ → Bool
+is_blanks [] = true
+is_blanks (c ∷ cs) = is_blank c && is_blanks cs
+
+abbrev pub holds_no_line_end : List ℕ → Bool
+holds_no_line_end [] = true
+holds_no_line_end (c ∷ cs) = not (is_line_end c) && holds_no_line_end cs
+
+-- whether a prefix is good
+abbrev pub is_good_prefix : List ℕ → Bool
+is_good_prefix [] = false
+is_good_prefix (c ∷ cs) = if is_blank c then is_good_prefix cs else is_comment_sign c && holds_no_line_end cs
+
+-- whether a separator has its sign, and whether it is good
+abbrev pub is_signed_separator : List ℕ → Bool
+is_signed_separator [] = false
+is_signed_separator (c ∷ cs) = if is_blank c then is_signed_separator cs else is_separator c && is_blanks cs
+
+abbrev pub is_good_separator : List ℕ → Bool
+is_good_separator [] = false
+is_good_separator (c ∷ cs) = is_signed_separator (c ∷ cs) || is_blanks (c ∷ cs)
