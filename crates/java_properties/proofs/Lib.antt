@@ -6,3 +6,4 @@ pub mod MarkLike
 pub mod SettingsTests
 pub mod LineTexts
 pub mod Making
+mod InputBuffer

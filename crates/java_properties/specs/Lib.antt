@@ -11,3 +11,4 @@ pub mod SettingsViews
 pub mod Contents
 pub mod Writing
 pub mod Calls
+pub mod InputBuffer

@@ -17,6 +17,7 @@
 
 mod encoding;
 mod error;
+mod input;
 mod iter;
 mod line;
 mod lines;
