@@ -1,0 +1,4 @@
+pub mod Meets
+pub mod Only
+pub mod Two
+pub mod Units
