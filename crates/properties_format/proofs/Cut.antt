@@ -1,3 +1,4 @@
+pub mod Byline
 pub mod Meets
 pub mod Only
 pub mod Two
