@@ -8,5 +8,6 @@ pub mod Logical
 pub mod Split
 pub mod Escapes
 pub mod Items
+pub mod ItemsToCome
 pub mod Settings
 pub mod Maps
