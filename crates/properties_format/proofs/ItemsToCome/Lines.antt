@@ -1,0 +1,232 @@
+-- The natural lines to come, step by step: bytes are read, the byte order mark is decided, an LF is passed over, a line is taken, the input ends.
+use Rattle.std.proofs.Common.{◌≡◌, ◌≢◌, ◌==◌, ℕ, ◌+◌, ◌<◌, ◌≤◌, Bool, true, false, List, [], ◌∷◌, ◌++◌, length, refl, ap, sym, ◌∙◌, inl, inr, append_assoc, append-nil, lit<, eqb-true, eq-eqb, add-zero, arith}
+use Rattle.std.specs.Prelude.{if◌then◌else◌}
+use Rattle.std.proofs.lemmas.Bool.{cases_Bool, or_cases}
+use Rattle.properties_format.specs.Text.{line_feed, carriage_return, is_line_end, LineEnding, lf, cr}
+use Rattle.properties_format.specs.Pieces.{characters}
+use Rattle.properties_format.specs.Encoding.{Encoding, windows_1252, utf_8, utf_16le, utf_16be, InForce, IsAligned, ascii_bytes, byte_order_mark, begins_with}
+use Rattle.properties_format.specs.Reading.Encoding.{pieces_of}
+use Rattle.properties_format.specs.Reading.Waiting.{awaits_bom}
+use Rattle.properties_format.specs.Lines.{Ended, Lines, HoldsNoLineEnd, InputEnd, end, fault, more, Line, line_ends, numbered}
+use Rattle.properties_format.specs.Reading.Lines.{begins_with_lf, rest_of_end, lines_of}
+use Rattle.properties_format.specs.Items.{Entry, read_fault, last_entries}
+use Rattle.properties_format.specs.ItemsToCome.{ReaderState, in_force}
+use Rattle.properties_format.specs.Reading.ItemsToCome.{text_to_come, natural_to_come, last_to_come}
+use Rattle.properties_format.specs.Reading.ReaderSteps.{Gives, after_read, after_decided, after_passed, after_line, next_line, HoldsLine, HoldsNoEnd}
+use Rattle.properties_format.proofs.Encodings.Characters.{pieces_of-ascii}
+use Rattle.properties_format.proofs.Encodings.Cuts.{characters-cut_ascii, cut-at_ascii}
+use Rattle.properties_format.proofs.Encodings.Waiting.{pieces_of-step}
+use Rattle.properties_format.proofs.Encodings.ByteOrderMarks.{begins-append, not-longer, byte_order_mark-append, followed}
+use Rattle.properties_format.proofs.Lines.Only.{lines_of-plain}
+use Rattle.properties_format.proofs.Lines.Plain.{one-more, plain-no_lf, without_leading_lf-none}
+use Rattle.properties_format.proofs.Lines.Steps.{lines_of-line, lines_of-cr, cr_end}
+
+-- ---- the same text to come
+
+-- the numbered lines of a text, unless the reader is at its end
+abbrev lines_unless : Bool → ℕ → List ℕ → InputEnd → List Line
+lines_unless done n text ending = if done then [] else (let lines = lines_of text in numbered n lines.ended lines.last ending)
+
+abbrev last_unless : Bool → ℕ → List ℕ → InputEnd → List Entry
+last_unless done n text ending = if done then [] else last_entries (n + line_ends (lines_of text)) ending
+
+-- where the text to come is the same, so is what is given of it
+gives-text : (s t : ReaderState) (x y : List ℕ) (ending : InputEnd) → s.is_done ≡ t.is_done → s.passed ≡ t.passed → text_to_come s x ≡ text_to_come t y → Gives s x [] t y ending
+unfolding natural_to_come last_to_come
+gives-text s t x y ending h k m = record {
+  natural =
+    ap (λ v. lines_unless v s.passed (text_to_come s x) ending) h
+    ∙ ap (λ v. lines_unless t.is_done v (text_to_come s x) ending) k
+    ∙ ap (λ v. lines_unless t.is_done t.passed v ending) m;
+  last =
+    ap (λ v. last_unless v s.passed (text_to_come s x) ending) h
+    ∙ ap (λ v. last_unless t.is_done v (text_to_come s x) ending) k
+    ∙ ap (λ v. last_unless t.is_done t.passed v ending) m;
+}
+
+-- the text of some bytes in an encoding, after a line end
+abbrev text_of : Bool → InForce → List ℕ
+text_of after_cr m = rest_of_end after_cr (characters (pieces_of m.encoding m.body))
+
+-- the text once the encoding is decided
+text-decided : (s : ReaderState) (d : List ℕ) → s.is_decided ≡ true → text_to_come s d ≡ rest_of_end s.after_cr (characters (pieces_of s.encoding (s.held ++ d)))
+text-decided s d h = rw h refl
+
+-- ---- reading, and the byte order mark
+
+-- Bytes that are read are held, before those that come.
+pub gives-read : (s : ReaderState) (r d : List ℕ) (ending : InputEnd) → Gives s (r ++ d) [] (after_read s r) d ending
+gives-read s r d ending =
+    let e : s.held ++ (r ++ d) ≡ (s.held ++ r) ++ d = sym (append_assoc s.held r d) in
+    let of : List ℕ → InForce = λ b. if s.is_decided then record { encoding = s.encoding; body = b } else byte_order_mark s.encoding b in
+    gives-text s (after_read s r) (r ++ d) d ending refl refl (ap (λ v. text_of s.after_cr (of v)) e)
+
+-- Held bytes that wait for no more decide the byte order mark.
+pub gives-decided : (s : ReaderState) (d : List ℕ) (ending : InputEnd) → s.is_decided ≡ false → awaits_bom s.held ≡ false → Gives s d [] (after_decided s) d ending
+gives-decided s d ending h k =
+    let e : in_force s d ≡ byte_order_mark s.encoding (s.held ++ d) = rw h refl in
+    gives-text s (after_decided s) d d ending refl refl (ap (text_of s.after_cr) (e ∙ byte_order_mark-append s.encoding s.held d k))
+
+-- Where nothing comes, any held bytes decide it.
+pub gives-decided_last : (s : ReaderState) (ending : InputEnd) → s.is_decided ≡ false → Gives s [] [] (after_decided s) [] ending
+gives-decided_last s ending h =
+    let m = byte_order_mark s.encoding s.held in
+    let e : in_force s [] ≡ byte_order_mark s.encoding (s.held ++ []) = rw h refl in
+    let f : byte_order_mark s.encoding (s.held ++ []) ≡ followed m [] =
+    ap (byte_order_mark s.encoding) (append-nil s.held) ∙ ap (λ v. let r : InForce = record { encoding = m.encoding; body = v } in r) (sym (append-nil m.body)) in
+    gives-text s (after_decided s) [] [] ending refl refl (ap (text_of s.after_cr) (e ∙ f))
+
+-- ---- after a CR
+
+-- An LF unit that comes after a CR is passed over.
+pub gives-passed_lf : (s : ReaderState) (rest d : List ℕ) (ending : InputEnd) → s.is_decided ≡ true → s.after_cr ≡ true → s.held ≡ ascii_bytes s.encoding line_feed ++ rest
+    → Gives s d [] (after_passed s rest) d ending
+gives-passed_lf s rest d ending h k m =
+    let e : s.held ++ d ≡ ascii_bytes s.encoding line_feed ++ (rest ++ d) = ap (λ v. v ++ d) m ∙ append_assoc (ascii_bytes s.encoding line_feed) rest d in
+    let f = pieces_of-ascii s.encoding line_feed (rest ++ d) (lit< tt) in
+    gives-text s (after_passed s rest) d d ending refl refl (
+      text-decided s d h
+      ∙ ap (λ v. rest_of_end v (characters (pieces_of s.encoding (s.held ++ d)))) k
+      ∙ ap (λ v. rest_of_end true (characters (pieces_of s.encoding v))) e
+      ∙ ap (λ v. rest_of_end true (characters v)) f
+      ∙ sym (text-decided (after_passed s rest) d h)
+    )
+
+-- no bytes are decoded to no characters
+none-decoded : (e : Encoding) (d : List ℕ) → characters (pieces_of e d) ≡ [] → d ≡ []
+none-decoded e [] h = refl
+none-decoded e (b ∷ d) h = let k = ap characters (pieces_of-step e b d) in absurd (cc)
+
+begins-lf : (x : List ℕ) → begins_with_lf x ≡ true → (y : List ℕ) × (x ≡ line_feed ∷ y)
+begins-lf [] h = absurd (cc)
+begins-lf (c ∷ x) h = (x, ap (λ v. v ∷ x) (eqb-true c line_feed h))
+
+-- bytes that don't begin with an LF unit aren't decoded to a text that begins with an LF
+pub decoded-no_lf : (e : Encoding) (d : List ℕ) → ((y : List ℕ) → d ≢ ascii_bytes e line_feed ++ y) → begins_with_lf (characters (pieces_of e d)) ≡ false
+decoded-no_lf e d h = elim (cases_Bool (begins_with_lf (characters (pieces_of e d)))) [
+  | inl k ↦
+      let b = begins-lf (characters (pieces_of e d)) k in
+      let c = cut-at_ascii e d [] line_feed b.0 (lit< tt) b.1 in
+      let x : c.0 ≡ [] = none-decoded e c.0 c.2.front in
+      absurd (h c.1 (c.2.joins ∙ ap (λ v. v ++ (ascii_bytes e line_feed ++ c.1)) x))
+  | inr k ↦ k
+]
+
+rest_of_end-none : (after_cr : Bool) (x : List ℕ) → begins_with_lf x ≡ false → rest_of_end after_cr x ≡ x
+rest_of_end-none true x h = without_leading_lf-none x h
+rest_of_end-none false x h = refl
+
+-- where no LF unit comes first, a CR before it does not matter
+gives-passed : (s : ReaderState) (d : List ℕ) (ending : InputEnd) → s.is_decided ≡ true → ((y : List ℕ) → s.held ++ d ≢ ascii_bytes s.encoding line_feed ++ y)
+    → Gives s d [] (after_passed s s.held) d ending
+gives-passed s d ending h k =
+    gives-text s (after_passed s s.held) d d ending refl refl
+    (text-decided s d h ∙ rest_of_end-none s.after_cr (characters (pieces_of s.encoding (s.held ++ d))) (decoded-no_lf s.encoding (s.held ++ d) k) ∙ sym (text-decided (after_passed s s.held) d h))
+
+begins-self : (m y : List ℕ) → begins_with m (m ++ y) ≡ true
+begins-self [] y = refl
+begins-self (c ∷ m) y = let e : (c == c) ≡ true = eq-eqb c c refl in rw e (begins-self m y)
+
+-- Bytes that are as long as an LF unit, and don't begin with one, tell that no LF comes after the CR.
+pub gives-passed_none : (s : ReaderState) (d : List ℕ) (ending : InputEnd) → s.is_decided ≡ true
+    → length (ascii_bytes s.encoding line_feed) ≤ length s.held → begins_with (ascii_bytes s.encoding line_feed) s.held ≡ false
+    → Gives s d [] (after_passed s s.held) d ending
+gives-passed_none s d ending h k m = gives-passed s d ending h no_lf
+  where
+    unit : List ℕ
+    unit = ascii_bytes s.encoding line_feed
+
+    no_lf : (y : List ℕ) → s.held ++ d ≢ unit ++ y
+    no_lf y e =
+        let f : begins_with unit (s.held ++ d) ≡ false = begins-append unit s.held d (not-longer s.held unit k) ∙ m in
+        let g : begins_with unit (s.held ++ d) ≡ true = ap (begins_with unit) e ∙ begins-self unit y in
+        absurd (cc)
+
+-- Where nothing comes, any bytes that don't begin with an LF unit tell it.
+pub gives-passed_last : (s : ReaderState) (ending : InputEnd) → s.is_decided ≡ true → begins_with (ascii_bytes s.encoding line_feed) s.held ≡ false
+    → Gives s [] [] (after_passed s s.held) [] ending
+gives-passed_last s ending h m = gives-passed s [] ending h no_lf
+  where
+    unit : List ℕ
+    unit = ascii_bytes s.encoding line_feed
+
+    no_lf : (y : List ℕ) → s.held ++ [] ≢ unit ++ y
+    no_lf y e =
+        let f : begins_with unit (s.held ++ []) ≡ false = ap (begins_with unit) (append-nil s.held) ∙ m in
+        let g : begins_with unit (s.held ++ []) ≡ true = ap (begins_with unit) e ∙ begins-self unit y in
+        absurd (cc)
+
+-- ---- a line
+
+-- a line and the character that ends it, before any text
+pub lines_of-ended : (text : List ℕ) (c : ℕ) (y : List ℕ) → HoldsNoLineEnd text → is_line_end c ≡ true
+    → (by : LineEnding)
+    × (lines_of (text ++ c ∷ y)
+    ≡ record { ended = record { text = text; by = by } ∷ (lines_of (rest_of_end (c == carriage_return) y)).ended; last = (lines_of (rest_of_end (c == carriage_return) y)).last })
+lines_of-ended text c y h k = elim (or_cases (c == line_feed) (c == carriage_return) k) [
+  | inl e ↦ rw (eqb-true c line_feed e) (lf, lines_of-line text lf y h (λ e. absurd (cc)))
+  | inr e ↦ rw (eqb-true c carriage_return e) (cr_end y, lines_of-cr text y h)
+]
+
+end-ascii : (c : ℕ) → is_line_end c ≡ true → c < 0x80
+end-ascii c h = elim (or_cases (c == line_feed) (c == carriage_return) h) [
+  | inl e ↦ rw (eqb-true c line_feed e) (lit< tt)
+  | inr e ↦ rw (eqb-true c carriage_return e) (lit< tt)
+]
+
+-- where the first line of the text to come is known
+gives-lines : (s t : ReaderState) (d : List ℕ) (ending : InputEnd) (text : List ℕ) (by : LineEnding) → s.is_done ≡ false → t.is_done ≡ false → t.passed ≡ s.passed + 1
+    → lines_of (text_to_come s d) ≡ record { ended = record { text = text; by = by } ∷ (lines_of (text_to_come t d)).ended; last = (lines_of (text_to_come t d)).last }
+    → Gives s d (record { number = s.passed + 1; text = text } ∷ []) t d ending
+unfolding natural_to_come last_to_come
+gives-lines s t d ending text by h k m e = rw (h, k, m) (record {
+  natural = ap (λ v. let w : Lines = v in numbered s.passed w.ended w.last ending) e;
+  last =
+    ap (λ v. last_entries (s.passed + line_ends v) ending) e
+    ∙ ap (λ v. last_entries v ending) (sym (one-more s.passed (length (lines_of (text_to_come t d)).ended)));
+})
+
+-- where the line is known to be plain once it is decoded
+line-plain : (s : ReaderState) (l : List ℕ) (c : ℕ) (rest d : List ℕ) (ending : InputEnd) → HoldsLine s l c rest → HoldsNoLineEnd (characters (pieces_of s.encoding l))
+    → Gives s d (next_line s l ∷ []) (after_line s c rest) d ending
+line-plain s l c rest d ending h plain =
+    let text = characters (pieces_of s.encoding l) in
+    let t : ReaderState = after_line s c rest in
+    let y = characters (pieces_of s.encoding (rest ++ d)) in
+    let e : s.held ++ d ≡ l ++ (ascii_bytes s.encoding c ++ (rest ++ d)) =
+    ap (λ v. v ++ d) h.held ∙ append_assoc l (ascii_bytes s.encoding c ++ rest) d ∙ ap (λ v. l ++ v) (append_assoc (ascii_bytes s.encoding c) rest d) in
+    let f : text_to_come s d ≡ text ++ c ∷ y =
+    text-decided s d h.decided
+    ∙ ap (λ v. rest_of_end v (characters (pieces_of s.encoding (s.held ++ d)))) h.passed
+    ∙ ap (λ v. characters (pieces_of s.encoding v)) e
+    ∙ characters-cut_ascii s.encoding c l (rest ++ d) (end-ascii c h.ends) h.aligned in
+    let g : rest_of_end (c == carriage_return) y ≡ text_to_come t d = sym (text-decided t d h.decided) in
+    let k = lines_of-ended text c y plain h.ends in
+    let lines : List ℕ → Lines = λ v. record { ended = record { text = text; by = k.0 } ∷ (lines_of v).ended; last = (lines_of v).last } in
+    gives-lines s t d ending text k.0 h.going h.going refl (ap lines_of f ∙ k.1 ∙ ap lines g)
+
+-- ---- nothing comes
+
+-- the lines of a state that holds no line end
+last-plain : (s : ReaderState) → HoldsNoEnd s → HoldsNoLineEnd (characters (pieces_of s.encoding s.held)) → lines_of (text_to_come s []) ≡ record { ended = []; last = (next_line s s.held).text }
+last-plain s h plain =
+    let text = characters (pieces_of s.encoding s.held) in
+    ap lines_of (
+      text-decided s [] h.decided
+      ∙ ap (λ v. rest_of_end s.after_cr (characters (pieces_of s.encoding v))) (append-nil s.held)
+      ∙ rest_of_end-none s.after_cr text (plain-no_lf text plain)
+    )
+    ∙ lines_of-plain text plain
+
+-- what is given where nothing comes
+at-last : (s : ReaderState) (ending : InputEnd) → HoldsNoEnd s → HoldsNoLineEnd (characters (pieces_of s.encoding s.held))
+    → (natural_to_come s [] ending ≡ numbered s.passed [] (next_line s s.held).text ending) × (last_to_come s [] ending ≡ last_entries s.passed ending)
+unfolding natural_to_come last_to_come
+at-last s ending h plain =
+    let k = last-plain s h plain in
+    let m : s.passed + line_ends (lines_of (text_to_come s [])) ≡ s.passed = ap (λ v. s.passed + line_ends v) k ∙ add-zero s.passed in
+    rw h.going (ap (λ v. let w : Lines = v in numbered s.passed w.ended w.last ending) k, ap (λ v. last_entries v ending) m)
+
+natural-done : (s : ReaderState) (d : List ℕ) (ending : InputEnd) → s.is_done ≡ true → (natural_to_come s d ending ≡ []) × (last_to_come s d ending ≡ [])
+unfolding natural_to_come last_to_come
+natural-done s d ending h = rw h (refl, refl)
