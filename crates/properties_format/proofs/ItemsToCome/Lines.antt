@@ -1,13 +1,14 @@
 -- The natural lines to come, step by step: bytes are read, the byte order mark is decided, an LF is passed over, a line is taken, the input ends.
-use Rattle.std.proofs.Common.{◌≡◌, ◌≢◌, ◌==◌, ℕ, ◌+◌, ◌<◌, ◌≤◌, Bool, true, false, List, [], ◌∷◌, ◌++◌, length, refl, ap, sym, ◌∙◌, inl, inr, append_assoc, append-nil, lit<, eqb-true, eq-eqb, add-zero, arith}
+use Rattle.std.proofs.Common.{◌≡◌, ◌≢◌, ◌==◌, ℕ, ◌+◌, ◌≤◌, Bool, true, false, List, [], ◌∷◌, ◌++◌, length, refl, subst, ap, sym, ◌∙◌, inl, inr, append_assoc, append-nil, lit<, eqb-true, eq-eqb, add-zero}
 use Rattle.std.specs.Prelude.{if◌then◌else◌}
 use Rattle.std.proofs.lemmas.Bool.{cases_Bool, or_cases}
-use Rattle.properties_format.specs.Text.{line_feed, carriage_return, is_line_end, LineEnding, lf, cr}
+use Rattle.properties_format.specs.Text.{line_feed, carriage_return, is_line_end, LineEnding, lf}
 use Rattle.properties_format.specs.Pieces.{characters}
-use Rattle.properties_format.specs.Encoding.{Encoding, windows_1252, utf_8, utf_16le, utf_16be, InForce, IsAligned, ascii_bytes, byte_order_mark, begins_with}
+use Rattle.properties_format.specs.Encoding.{Encoding, InForce, ascii_bytes, byte_order_mark, begins_with}
 use Rattle.properties_format.specs.Reading.Encoding.{pieces_of}
 use Rattle.properties_format.specs.Reading.Waiting.{awaits_bom}
-use Rattle.properties_format.specs.Lines.{Ended, Lines, HoldsNoLineEnd, InputEnd, end, fault, more, Line, line_ends, numbered}
+use Rattle.properties_format.specs.Reading.Cut.{decoded_line}
+use Rattle.properties_format.specs.Lines.{Lines, HoldsNoLineEnd, InputEnd, end, fault, more, Line, line_ends, numbered}
 use Rattle.properties_format.specs.Reading.Lines.{begins_with_lf, rest_of_end, lines_of}
 use Rattle.properties_format.specs.Items.{Entry, read_fault, last_entries}
 use Rattle.properties_format.specs.ItemsToCome.{ReaderState, in_force}
@@ -15,10 +16,10 @@ use Rattle.properties_format.specs.Reading.ItemsToCome.{text_to_come, natural_to
 use Rattle.properties_format.specs.Reading.ReaderSteps.{Gives, after_read, after_decided, after_passed, after_line, next_line, HoldsLine, HoldsNoEnd}
 use Rattle.properties_format.proofs.Encodings.Characters.{pieces_of-ascii}
 use Rattle.properties_format.proofs.Encodings.Cuts.{characters-cut_ascii, cut-at_ascii}
-use Rattle.properties_format.proofs.Encodings.Waiting.{pieces_of-step}
 use Rattle.properties_format.proofs.Encodings.ByteOrderMarks.{begins-append, not-longer, byte_order_mark-append, followed}
 use Rattle.properties_format.proofs.Lines.Only.{lines_of-plain}
 use Rattle.properties_format.proofs.Lines.Plain.{one-more, plain-no_lf, without_leading_lf-none}
+use Rattle.properties_format.proofs.Cut.Byline.{end-ascii, nothing-decoded, no_end-decoded}
 use Rattle.properties_format.proofs.Lines.Steps.{lines_of-line, lines_of-cr, cr_end}
 
 -- ---- the same text to come
@@ -35,13 +36,13 @@ gives-text : (s t : ReaderState) (x y : List ℕ) (ending : InputEnd) → s.is_d
 unfolding natural_to_come last_to_come
 gives-text s t x y ending h k m = record {
   natural =
-    ap (λ v. lines_unless v s.passed (text_to_come s x) ending) h
-    ∙ ap (λ v. lines_unless t.is_done v (text_to_come s x) ending) k
-    ∙ ap (λ v. lines_unless t.is_done t.passed v ending) m;
+      ap (λ v. lines_unless v s.passed (text_to_come s x) ending) h
+      ∙ ap (λ v. lines_unless t.is_done v (text_to_come s x) ending) k
+      ∙ ap (λ v. lines_unless t.is_done t.passed v ending) m;
   last =
-    ap (λ v. last_unless v s.passed (text_to_come s x) ending) h
-    ∙ ap (λ v. last_unless t.is_done v (text_to_come s x) ending) k
-    ∙ ap (λ v. last_unless t.is_done t.passed v ending) m;
+      ap (λ v. last_unless v s.passed (text_to_come s x) ending) h
+      ∙ ap (λ v. last_unless t.is_done v (text_to_come s x) ending) k
+      ∙ ap (λ v. last_unless t.is_done t.passed v ending) m;
 }
 
 -- the text of some bytes in an encoding, after a line end
@@ -60,6 +61,10 @@ gives-read s r d ending =
     let e : s.held ++ (r ++ d) ≡ (s.held ++ r) ++ d = sym (append_assoc s.held r d) in
     let of : List ℕ → InForce = λ b. if s.is_decided then record { encoding = s.encoding; body = b } else byte_order_mark s.encoding b in
     gives-text s (after_read s r) (r ++ d) d ending refl refl (ap (λ v. text_of s.after_cr (of v)) e)
+
+-- The same where nothing comes after them.
+pub gives-read_last : (s : ReaderState) (r : List ℕ) (ending : InputEnd) → Gives s r [] (after_read s r) [] ending
+gives-read_last s r ending = subst (λ v. Gives s v [] (after_read s r) [] ending) (append-nil r) (gives-read s r [] ending)
 
 -- Held bytes that wait for no more decide the byte order mark.
 pub gives-decided : (s : ReaderState) (d : List ℕ) (ending : InputEnd) → s.is_decided ≡ false → awaits_bom s.held ≡ false → Gives s d [] (after_decided s) d ending
@@ -85,17 +90,12 @@ gives-passed_lf s rest d ending h k m =
     let e : s.held ++ d ≡ ascii_bytes s.encoding line_feed ++ (rest ++ d) = ap (λ v. v ++ d) m ∙ append_assoc (ascii_bytes s.encoding line_feed) rest d in
     let f = pieces_of-ascii s.encoding line_feed (rest ++ d) (lit< tt) in
     gives-text s (after_passed s rest) d d ending refl refl (
-      text-decided s d h
-      ∙ ap (λ v. rest_of_end v (characters (pieces_of s.encoding (s.held ++ d)))) k
-      ∙ ap (λ v. rest_of_end true (characters (pieces_of s.encoding v))) e
-      ∙ ap (λ v. rest_of_end true (characters v)) f
-      ∙ sym (text-decided (after_passed s rest) d h)
+    text-decided s d h
+    ∙ ap (λ v. rest_of_end v (characters (pieces_of s.encoding (s.held ++ d)))) k
+    ∙ ap (λ v. rest_of_end true (characters (pieces_of s.encoding v))) e
+    ∙ ap (λ v. rest_of_end true (characters v)) f
+    ∙ sym (text-decided (after_passed s rest) d h)
     )
-
--- no bytes are decoded to no characters
-none-decoded : (e : Encoding) (d : List ℕ) → characters (pieces_of e d) ≡ [] → d ≡ []
-none-decoded e [] h = refl
-none-decoded e (b ∷ d) h = let k = ap characters (pieces_of-step e b d) in absurd (cc)
 
 begins-lf : (x : List ℕ) → begins_with_lf x ≡ true → (y : List ℕ) × (x ≡ line_feed ∷ y)
 begins-lf [] h = absurd (cc)
@@ -107,7 +107,7 @@ decoded-no_lf e d h = elim (cases_Bool (begins_with_lf (characters (pieces_of e 
   | inl k ↦
       let b = begins-lf (characters (pieces_of e d)) k in
       let c = cut-at_ascii e d [] line_feed b.0 (lit< tt) b.1 in
-      let x : c.0 ≡ [] = none-decoded e c.0 c.2.front in
+      let x : c.0 ≡ [] = nothing-decoded e c.0 c.2.front in
       absurd (h c.1 (c.2.joins ∙ ap (λ v. v ++ (ascii_bytes e line_feed ++ c.1)) x))
   | inr k ↦ k
 ]
@@ -168,12 +168,6 @@ lines_of-ended text c y h k = elim (or_cases (c == line_feed) (c == carriage_ret
   | inr e ↦ rw (eqb-true c carriage_return e) (cr_end y, lines_of-cr text y h)
 ]
 
-end-ascii : (c : ℕ) → is_line_end c ≡ true → c < 0x80
-end-ascii c h = elim (or_cases (c == line_feed) (c == carriage_return) h) [
-  | inl e ↦ rw (eqb-true c line_feed e) (lit< tt)
-  | inr e ↦ rw (eqb-true c carriage_return e) (lit< tt)
-]
-
 -- where the first line of the text to come is known
 gives-lines : (s t : ReaderState) (d : List ℕ) (ending : InputEnd) (text : List ℕ) (by : LineEnding) → s.is_done ≡ false → t.is_done ≡ false → t.passed ≡ s.passed + 1
     → lines_of (text_to_come s d) ≡ record { ended = record { text = text; by = by } ∷ (lines_of (text_to_come t d)).ended; last = (lines_of (text_to_come t d)).last }
@@ -182,15 +176,15 @@ unfolding natural_to_come last_to_come
 gives-lines s t d ending text by h k m e = rw (h, k, m) (record {
   natural = ap (λ v. let w : Lines = v in numbered s.passed w.ended w.last ending) e;
   last =
-    ap (λ v. last_entries (s.passed + line_ends v) ending) e
-    ∙ ap (λ v. last_entries v ending) (sym (one-more s.passed (length (lines_of (text_to_come t d)).ended)));
+      ap (λ v. last_entries (s.passed + line_ends v) ending) e
+      ∙ ap (λ v. last_entries v ending) (sym (one-more s.passed (length (lines_of (text_to_come t d)).ended)));
 })
 
 -- where the line is known to be plain once it is decoded
-line-plain : (s : ReaderState) (l : List ℕ) (c : ℕ) (rest d : List ℕ) (ending : InputEnd) → HoldsLine s l c rest → HoldsNoLineEnd (characters (pieces_of s.encoding l))
+line-plain : (s : ReaderState) (l : List ℕ) (c : ℕ) (rest d : List ℕ) (ending : InputEnd) → HoldsLine s l c rest → HoldsNoLineEnd (decoded_line s.encoding l)
     → Gives s d (next_line s l ∷ []) (after_line s c rest) d ending
 line-plain s l c rest d ending h plain =
-    let text = characters (pieces_of s.encoding l) in
+    let text = decoded_line s.encoding l in
     let t : ReaderState = after_line s c rest in
     let y = characters (pieces_of s.encoding (rest ++ d)) in
     let e : s.held ++ d ≡ l ++ (ascii_bytes s.encoding c ++ (rest ++ d)) =
@@ -205,21 +199,25 @@ line-plain s l c rest d ending h plain =
     let lines : List ℕ → Lines = λ v. record { ended = record { text = text; by = k.0 } ∷ (lines_of v).ended; last = (lines_of v).last } in
     gives-lines s t d ending text k.0 h.going h.going refl (ap lines_of f ∙ k.1 ∙ ap lines g)
 
+-- A line among the held bytes comes next, and then what comes of the rest.
+pub gives-line : (s : ReaderState) (l : List ℕ) (c : ℕ) (rest d : List ℕ) (ending : InputEnd) → HoldsLine s l c rest → Gives s d (next_line s l ∷ []) (after_line s c rest) d ending
+gives-line s l c rest d ending h = line-plain s l c rest d ending h (no_end-decoded s.encoding l h.none)
+
 -- ---- nothing comes
 
 -- the lines of a state that holds no line end
-last-plain : (s : ReaderState) → HoldsNoEnd s → HoldsNoLineEnd (characters (pieces_of s.encoding s.held)) → lines_of (text_to_come s []) ≡ record { ended = []; last = (next_line s s.held).text }
+last-plain : (s : ReaderState) → HoldsNoEnd s → HoldsNoLineEnd (decoded_line s.encoding s.held) → lines_of (text_to_come s []) ≡ record { ended = []; last = (next_line s s.held).text }
 last-plain s h plain =
-    let text = characters (pieces_of s.encoding s.held) in
+    let text = decoded_line s.encoding s.held in
     ap lines_of (
-      text-decided s [] h.decided
-      ∙ ap (λ v. rest_of_end s.after_cr (characters (pieces_of s.encoding v))) (append-nil s.held)
-      ∙ rest_of_end-none s.after_cr text (plain-no_lf text plain)
+    text-decided s [] h.decided
+    ∙ ap (λ v. rest_of_end s.after_cr (characters (pieces_of s.encoding v))) (append-nil s.held)
+    ∙ rest_of_end-none s.after_cr text (plain-no_lf text plain)
     )
     ∙ lines_of-plain text plain
 
 -- what is given where nothing comes
-at-last : (s : ReaderState) (ending : InputEnd) → HoldsNoEnd s → HoldsNoLineEnd (characters (pieces_of s.encoding s.held))
+at-last : (s : ReaderState) (ending : InputEnd) → HoldsNoEnd s → HoldsNoLineEnd (decoded_line s.encoding s.held)
     → (natural_to_come s [] ending ≡ numbered s.passed [] (next_line s s.held).text ending) × (last_to_come s [] ending ≡ last_entries s.passed ending)
 unfolding natural_to_come last_to_come
 at-last s ending h plain =
@@ -227,6 +225,22 @@ at-last s ending h plain =
     let m : s.passed + line_ends (lines_of (text_to_come s [])) ≡ s.passed = ap (λ v. s.passed + line_ends v) k ∙ add-zero s.passed in
     rw h.going (ap (λ v. let w : Lines = v in numbered s.passed w.ended w.last ending) k, ap (λ v. last_entries v ending) m)
 
-natural-done : (s : ReaderState) (d : List ℕ) (ending : InputEnd) → s.is_done ≡ true → (natural_to_come s d ending ≡ []) × (last_to_come s d ending ≡ [])
+-- at the end for good no line comes
+pub natural-done : (s : ReaderState) (d : List ℕ) (ending : InputEnd) → s.is_done ≡ true → (natural_to_come s d ending ≡ []) × (last_to_come s d ending ≡ [])
 unfolding natural_to_come last_to_come
 natural-done s d ending h = rw h (refl, refl)
+
+-- At the end the held bytes are the last line, and then the reader is done.
+pub gives-last : (s t : ReaderState) (y : List ℕ) → HoldsNoEnd s → t.is_done ≡ true → Gives s [] (next_line s s.held ∷ []) t y end
+gives-last s t y h k =
+    let now = at-last s end h (no_end-decoded s.encoding s.held h.none) in
+    let after = natural-done t y end k in
+    record { natural = now.0 ∙ ap (λ v. next_line s s.held ∷ v) (sym after.0); last = now.1 ∙ sym after.1 }
+
+-- At a fault they are no line, and the fault is one of the line that they begin.
+pub natural-fault : (s : ReaderState) → HoldsNoEnd s → (natural_to_come s [] fault ≡ []) × (last_to_come s [] fault ≡ read_fault (s.passed + 1) ∷ [])
+natural-fault s h = at-last s fault h (no_end-decoded s.encoding s.held h.none)
+
+-- Where more may come they are no line yet.
+pub natural-more : (s : ReaderState) → HoldsNoEnd s → (natural_to_come s [] more ≡ []) × (last_to_come s [] more ≡ [])
+natural-more s h = at-last s more h (no_end-decoded s.encoding s.held h.none)

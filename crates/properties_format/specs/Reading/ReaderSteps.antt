@@ -1,9 +1,8 @@
 -- What a step of a reader gives, and what it leaves to come.
-use Rattle.std.specs.Prelude.{◌≡◌, ℕ, ◌+◌, ◌==◌, true, false, List, [], ◌∷◌, ◌++◌, Option, Some, None}
+use Rattle.std.specs.Prelude.{◌≡◌, ℕ, ◌+◌, ◌==◌, true, false, List, ◌++◌}
 use Rattle.properties_format.specs.Text.{carriage_return, is_line_end}
-use Rattle.properties_format.specs.Pieces.{characters}
 use Rattle.properties_format.specs.Encoding.{IsAligned, ascii_bytes, byte_order_mark}
-use Rattle.properties_format.specs.Reading.Encoding.{pieces_of}
+use Rattle.properties_format.specs.Reading.Cut.{decoded_line}
 use Rattle.properties_format.specs.Lines.{InputEnd, Line}
 use Rattle.properties_format.specs.Cut.{HoldsNoLineEndUnit}
 use Rattle.properties_format.specs.ItemsToCome.{ReaderState}
@@ -35,7 +34,7 @@ after_line s c rest = record s { held = rest; passed = s.passed + 1; after_cr = 
 
 -- the next line, of these bytes
 abbrev pub next_line : ReaderState → List ℕ → Line
-next_line s l = record { number = s.passed + 1; text = characters (pieces_of s.encoding l) }
+next_line s l = record { number = s.passed + 1; text = decoded_line s.encoding l }
 
 -- The bytes that are held are a line, the line end c, and the rest.
 pub record HoldsLine (s : ReaderState) (l : List ℕ) (c : ℕ) (rest : List ℕ) : Type 0 where
