@@ -1,6 +1,7 @@
 pub mod Streams
 pub mod Calls
 pub mod Windows1252
+pub mod FirstPieces
 pub mod Printing
 pub mod MarkLike
 pub mod SettingsTests
