@@ -47,7 +47,8 @@ first-end (c ∷ x) = elim (cases_Bool (is_line_end c)) [
   | inr h ↦ elim (first-end x) [ inl p ↦ inl (h, p) | inr q ↦ inr (c ∷ q.0, q.1, q.2, q.3, ap (λ v. c ∷ v) q.4) ]
 ]
 
-end-ascii : (c : ℕ) → is_line_end c ≡ true → c < 0x80
+-- a line end is an ASCII character
+pub end-ascii : (c : ℕ) → is_line_end c ≡ true → c < 0x80
 end-ascii c h = elim (or_cases (c == line_feed) (c == carriage_return) h) [
   | inl e ↦ rw (eqb-true c line_feed e) (lit< tt)
   | inr e ↦ rw (eqb-true c carriage_return e) (lit< tt)
