@@ -19,7 +19,8 @@ no_lone : (e : Encoding) (ls : List Ended) (last : List ℕ) → begins_with_lf 
 no_lone e [] last h = tt
 no_lone e (l ∷ ls) last h = of_line l.text l.by (bytes_together e ls last) h
   where
-    of_line : (text : List ℕ) (by : LineEnding) (y : List ℕ) → begins_with_lf (units e (text ++ (line_ending_bytes e by ++ y))) ≡ false → ¬ ((text ≡ []) × (by ≡ lf))
+    of_line : (text : List ℕ) (by : LineEnding) (y : List ℕ) → begins_with_lf (units e (text ++ (line_ending_bytes e by ++ y))) ≡ false
+        → ¬ ((text ≡ []) × (by ≡ lf))
     of_line [] lf y h = let k = ap begins_with_lf (units-ascii e line_feed y) in absurd (cc)
     of_line [] cr y h = λ p. absurd (cc p.1)
     of_line [] crlf y h = λ p. absurd (cc p.1)

@@ -29,6 +29,13 @@ units-append utf_8 x y h = refl
 units-append utf_16le x y h = two-append low_first x y h
 units-append utf_16be x y h = two-append high_first x y h
 
+-- no bytes hold no line end unit
+pub no_end_unit-nil : (e : Encoding) → HoldsNoLineEndUnit e []
+no_end_unit-nil windows_1252 = tt
+no_end_unit-nil utf_8 = tt
+no_end_unit-nil utf_16le = tt
+no_end_unit-nil utf_16be = tt
+
 -- where neither part holds a line end unit, the whole holds none
 pub no_end_unit-append : (e : Encoding) (x y : List ℕ) → IsAligned e x → HoldsNoLineEndUnit e x → HoldsNoLineEndUnit e y → HoldsNoLineEndUnit e (x ++ y)
 no_end_unit-append e x y a h k = rw (units-append e x y a) (plain-append (units e x) (units e y) h k)
@@ -92,7 +99,9 @@ pub no_end-front : (d : List ℕ) (i : ℕ) → ((k : ℕ) → k < i → k < len
 no_end-front [] zero h = tt
 no_end-front [] (suc i) h = tt
 no_end-front (c ∷ d) zero h = tt
-no_end-front (c ∷ d) (suc i) h = (false_from_ne_true (is_line_end c) (h 0 (omega arith) (omega arith)), no_end-front d i (λ k l m. h (suc k) (omega arith) (omega arith)))
+no_end-front (c ∷ d) (suc i) h =
+    let first = false_from_ne_true (is_line_end c) (h 0 (omega arith) (omega arith)) in
+    (first, no_end-front d i (λ k l m. h (suc k) (omega arith) (omega arith)))
 
 -- whether an LF comes first is decided by the first whole unit, whatever follows
 pub lf_first-append : (e : Encoding) (x y : List ℕ) → 0 < length (units e x) → begins_with_lf (units e (x ++ y)) ≡ begins_with_lf (units e x)
