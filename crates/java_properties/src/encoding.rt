@@ -4,7 +4,7 @@ ghost use Rattle.std.specs.Prelude.{◌≡◌};
 ghost use Rattle.properties_format.specs.Encoding.{output_encoding};
 ghost use Rattle.java_properties.specs.Views.{encoding_of};
 
-mod byte_order_mark;
+pub mod byte_order_mark;
 mod decode;
 mod encode;
 mod first_piece;
