@@ -10,9 +10,10 @@ use Rattle.properties_format.specs.Items.{read_fault, last_entries}
 use Rattle.properties_format.specs.Reading.Items.{outcome_of, followed, entries_of}
 use Rattle.properties_format.specs.ItemsToCome.{ReaderState}
 use Rattle.properties_format.specs.Reading.ItemsToCome.{text_to_come, items_to_come, natural_to_come, last_to_come, entries_of_logical, logical_pending, entries_pending}
-use Rattle.properties_format.specs.Reading.ReaderSteps.{Gives, after_read, HoldsNoEnd}
+use Rattle.properties_format.specs.Reading.ReaderSteps.{Gives, after_read, next_line, HoldsNoEnd}
+use Rattle.properties_format.proofs.Groups.Open.{without_open_backslash-closed}
 use Rattle.properties_format.proofs.Groups.Logical.{joins_after-open, joins_after-closed, logical_lines-comment_line, logical_lines-closed, logical_lines-open}
-use Rattle.properties_format.proofs.ItemsToCome.Lines.{gives-read, natural-done, natural-fault, natural-more}
+use Rattle.properties_format.proofs.ItemsToCome.Lines.{gives-read, gives-last, natural-done, natural-fault, natural-more}
 
 -- ---- all entries
 
@@ -131,3 +132,38 @@ pub pending-more : (pending : Option Line) (s : ReaderState) → HoldsNoEnd s �
 unfolding entries_pending
 pending-more None s h = let k = natural-more s h in ap₂ (λ v w. entries_of_logical (logical_pending None v more) w) k.0 k.1
 pending-more (Some join) s h = let k = natural-more s h in ap₂ (λ v w. entries_of_logical (logical_pending (Some join) v more) w) k.0 k.1
+
+-- ---- the last line
+
+-- the same reader, at its end for good
+abbrev done : ReaderState → ReaderState
+done s = record s { is_done = true }
+
+-- At the end the held bytes are the last line. Where no join is open and they are a comment line, it is the last logical line.
+pub pending-end_comment_line : (s : ReaderState) → HoldsNoEnd s → is_comment_line (next_line s s.held).text ≡ true
+    → entries_pending None s [] end ≡ followed (s.passed + 1) (outcome_of (next_line s s.held).text) []
+pending-end_comment_line s h k =
+    let l = next_line s s.held in
+    pending-comment_line (gives-last s (done s) [] h refl) k ∙ ap (followed l.number (outcome_of l.text)) (pending-done (done s) [] end refl)
+
+-- Where they are none, the last logical line is that line less its open backslash.
+pub pending-end_line : (s : ReaderState) → HoldsNoEnd s → is_comment_line (next_line s s.held).text ≡ false
+    → entries_pending None s [] end ≡ followed (s.passed + 1) (outcome_of (without_open_backslash (next_line s s.held).text)) []
+pending-end_line s h k = elim (cases_Bool (is_open (next_line s s.held).text)) [
+  | inl o ↦ pending-open (gives-last s (done s) [] h refl) k o ∙ joining-done (record { number = s.passed + 1; text = without_open_backslash (next_line s s.held).text }) (done s) [] refl
+  | inr o ↦
+      let l = next_line s s.held in
+      pending-closed (gives-last s (done s) [] h refl) o
+      ∙ ap (followed l.number (outcome_of l.text)) (pending-done (done s) [] end refl)
+      ∙ ap (λ v. followed l.number (outcome_of v) []) (sym (without_open_backslash-closed l.text o))
+]
+
+-- Where a join is open, it is the last line of the join, open or not.
+pub joining-end : (join : Line) (s : ReaderState) → HoldsNoEnd s
+    → entries_pending (Some join) s [] end ≡ followed join.number (outcome_of (join.text ++ addition (next_line s s.held).text)) []
+joining-end join s h = elim (cases_Bool (is_open (next_line s s.held).text)) [
+  | inl o ↦ joining-open join (gives-last s (done s) [] h refl) o ∙ joining-done (record { number = join.number; text = join.text ++ addition (next_line s s.held).text }) (done s) [] refl
+  | inr o ↦
+      joining-closed join (gives-last s (done s) [] h refl) o
+      ∙ ap (followed join.number (outcome_of (join.text ++ addition (next_line s s.held).text))) (pending-done (done s) [] end refl)
+]
