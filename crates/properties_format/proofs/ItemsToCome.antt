@@ -3,3 +3,4 @@ pub mod Lines
 pub mod Numbers
 pub mod Steps
 pub mod Unique
+pub mod Waiting

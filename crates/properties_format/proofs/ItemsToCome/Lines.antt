@@ -5,18 +5,19 @@ use Rattle.std.proofs.lemmas.Bool.{cases_Bool, or_cases}
 use Rattle.properties_format.specs.Text.{line_feed, carriage_return, is_line_end, LineEnding, lf}
 use Rattle.properties_format.specs.Pieces.{characters}
 use Rattle.properties_format.specs.Encoding.{Encoding, InForce, ascii_bytes, byte_order_mark, begins_with}
-use Rattle.properties_format.specs.Reading.Encoding.{pieces_of}
+use Rattle.properties_format.specs.Reading.Encoding.{decoded_of, pieces_of}
 use Rattle.properties_format.specs.Reading.Waiting.{awaits_bom}
 use Rattle.properties_format.specs.Reading.Cut.{decoded_line}
-use Rattle.properties_format.specs.Lines.{Lines, HoldsNoLineEnd, InputEnd, end, fault, more, Line, line_ends, numbered}
+use Rattle.properties_format.specs.Lines.{numbered_lines, Lines, HoldsNoLineEnd, InputEnd, end, fault, more, Line, line_ends, numbered}
 use Rattle.properties_format.specs.Reading.Lines.{begins_with_lf, rest_of_end, lines_of}
 use Rattle.properties_format.specs.Items.{Entry, read_fault, last_entries}
-use Rattle.properties_format.specs.ItemsToCome.{ReaderState, in_force}
+use Rattle.properties_format.specs.ItemsToCome.{start, ReaderState, in_force}
 use Rattle.properties_format.specs.Reading.ItemsToCome.{text_to_come, natural_to_come, last_to_come}
 use Rattle.properties_format.specs.Reading.ReaderSteps.{Gives, after_read, after_decided, after_passed, after_line, next_line, HoldsLine, HoldsNoEnd}
 use Rattle.properties_format.proofs.Encodings.Characters.{pieces_of-ascii}
 use Rattle.properties_format.proofs.Encodings.Cuts.{characters-cut_ascii, cut-at_ascii}
 use Rattle.properties_format.proofs.Encodings.ByteOrderMarks.{begins-append, not-longer, byte_order_mark-append, followed}
+use Rattle.properties_format.proofs.Lines.Numbers.{AreNumbered, numbered-in_order}
 use Rattle.properties_format.proofs.Lines.Only.{lines_of-plain}
 use Rattle.properties_format.proofs.Lines.Plain.{one-more, plain-no_lf, without_leading_lf-none}
 use Rattle.properties_format.proofs.Cut.Byline.{end-ascii, nothing-decoded, no_end-decoded}
@@ -244,3 +245,18 @@ natural-fault s h = at-last s fault h (no_end-decoded s.encoding s.held h.none)
 -- Where more may come they are no line yet.
 pub natural-more : (s : ReaderState) → HoldsNoEnd s → (natural_to_come s [] more ≡ []) × (last_to_come s [] more ≡ [])
 natural-more s h = at-last s more h (no_end-decoded s.encoding s.held h.none)
+
+-- ---- all natural lines
+
+-- At the start the natural lines to come are the numbered lines of the decoded text.
+pub natural-start : (e : Encoding) (d : List ℕ) (ending : InputEnd) → natural_to_come (start e) d ending ≡ numbered_lines (lines_of (decoded_of e d)) ending
+unfolding natural_to_come
+natural-start e d ending = refl
+
+-- They are numbered on from the line ends that were passed, without a gap.
+pub natural-in_order : (s : ReaderState) (d : List ℕ) (ending : InputEnd) → AreNumbered s.passed (natural_to_come s d ending)
+unfolding natural_to_come
+natural-in_order s d ending = elim (cases_Bool s.is_done) [
+  | inl h ↦ rw h tt
+  | inr h ↦ let lines = lines_of (text_to_come s d) in rw h (numbered-in_order s.passed lines.ended lines.last ending)
+]
