@@ -1,8 +1,8 @@
 -- Splitting commutes with decoding: lines that are sought among undecoded bytes, and decoded one by one, are the lines of the decoded text.
-use Rattle.std.proofs.Common.{◌≡◌, ℕ, ◌<◌, ◌⊎◌, ◌==◌, eqb-true, true, List, [], ◌∷◌, ◌++◌, refl, ap, ap₂, sym, ◌∙◌, subst, inl, inr, lit<, append_assoc}
+use Rattle.std.proofs.Common.{◌≡◌, ℕ, suc, length, ◌<◌, ◌⊎◌, ◌==◌, eqb-true, true, List, [], ◌∷◌, ◌++◌, refl, ap, ap₂, sym, ◌∙◌, subst, inl, inr, lit<, append_assoc}
 use Rattle.std.proofs.lemmas.Bool.{cases_Bool, or_cases}
 use Rattle.properties_format.specs.Text.{line_feed, carriage_return, is_line_end, LineEnding, lf, cr, crlf, line_ending_text}
-use Rattle.properties_format.specs.Lines.{Ended, Lines, put_together, HoldsNoLineEnd, BeginsWithNoLoneLf, AreLines, IsLines}
+use Rattle.properties_format.specs.Lines.{Ended, Lines, put_together, HoldsNoLineEnd, BeginsWithNoLoneLf, AreLines, IsLines, line_ends}
 use Rattle.properties_format.specs.Pieces.{characters}
 use Rattle.properties_format.specs.Encoding.{Encoding, IsAligned, IsDecoded, ascii_bytes, byte_order_mark}
 use Rattle.properties_format.specs.Cut.{HoldsNoLineEndUnit, line_ending_bytes, bytes_together, AreCut, IsCut, IsDecodedLine, AreDecodedLines, IsByline}
@@ -14,7 +14,7 @@ use Rattle.properties_format.proofs.Encodings.Characters.{pieces_of-ascii}
 use Rattle.properties_format.proofs.Encodings.Cuts.{characters-cut_ascii, cut-at_ascii}
 use Rattle.properties_format.proofs.Encodings.Waiting.{pieces_of-step}
 use Rattle.properties_format.proofs.Lines.Meets.{lines_of-meets}
-use Rattle.properties_format.proofs.Lines.Only.{lines_of-only}
+use Rattle.properties_format.proofs.Lines.Only.{lines_of-plain, lines_of-only}
 use Rattle.properties_format.proofs.Cut.Units.{no_end_unit-at}
 use Rattle.properties_format.proofs.Cut.Only.{cut_of-only}
 use Rattle.properties_format.proofs.Cut.Meets.{cut_of-meets}
@@ -47,7 +47,7 @@ first-end (c ∷ x) = elim (cases_Bool (is_line_end c)) [
   | inr h ↦ elim (first-end x) [ inl p ↦ inl (h, p) | inr q ↦ inr (c ∷ q.0, q.1, q.2, q.3, ap (λ v. c ∷ v) q.4) ]
 ]
 
--- what ends a line is an ASCII character
+-- a line end is an ASCII character
 pub end-ascii : (c : ℕ) → is_line_end c ≡ true → c < 0x80
 end-ascii c h = elim (or_cases (c == line_feed) (c == carriage_return) h) [
   | inl e ↦ rw (eqb-true c line_feed e) (lit< tt)
@@ -86,6 +86,25 @@ decoded_lines-meets e d lines h = record {
 -- the lines of bytes, each decoded by itself, are the lines of their text
 pub decoded_lines-cut : (e : Encoding) (d : List ℕ) → decoded_lines e (cut_of e d) ≡ lines_of (decoded_line e d)
 decoded_lines-cut e d = lines_of-only (decoded_line e d) (decoded_lines e (cut_of e d)) (decoded_lines-meets e d (cut_of e d) (cut_of-meets e d))
+
+-- there are as many line ends among the bytes as in their text
+ended-length : (e : Encoding) (ls : List Ended) → length (decoded_ended e ls) ≡ length ls
+ended-length e [] = refl
+ended-length e (l ∷ ls) = ap suc (ended-length e ls)
+
+pub line_ends-cut : (e : Encoding) (d : List ℕ) → line_ends (cut_of e d) ≡ line_ends (lines_of (decoded_line e d))
+line_ends-cut e d = sym (ended-length e (cut_of e d).ended) ∙ ap line_ends (decoded_lines-cut e d)
+
+no_ended : (e : Encoding) (ls : List Ended) (last : List ℕ) → decoded_ended e ls ≡ [] → AreCut e ls last → HoldsNoLineEndUnit e (bytes_together e ls last)
+no_ended e [] last h k = k
+no_ended e (l ∷ ls) last h k = absurd (cc)
+
+-- Bytes that are decoded to a text without a line end hold no line end unit.
+pub no_end-undecoded : (e : Encoding) (d : List ℕ) → HoldsNoLineEnd (decoded_line e d) → HoldsNoLineEndUnit e d
+no_end-undecoded e d h =
+    let c = cut_of-meets e d in
+    let k = ap (λ v. v.ended) (decoded_lines-cut e d ∙ lines_of-plain (decoded_line e d) h) in
+    subst (HoldsNoLineEndUnit e) (sym c.bytes) (no_ended e (cut_of e d).ended (cut_of e d).last k c.are_cut)
 
 -- ---- Splitting commutes with decoding.
 
@@ -127,7 +146,9 @@ byline_of-meets e b =
 pub byline_of-only : (e : Encoding) (b : List ℕ) (lines : Lines) → IsByline e b lines → lines ≡ byline_of e b
 byline_of-only e b lines h =
     let m = byte_order_mark e b in
-    ap₂ (λ v w. let s : Lines = record { ended = v; last = w } in s) (decoded_ended-only m.encoding h.cut.ended lines.ended h.ended) (decoded_line-only m.encoding h.cut.last lines.last h.last)
+    let p = decoded_ended-only m.encoding h.cut.ended lines.ended h.ended in
+    let q = decoded_line-only m.encoding h.cut.last lines.last h.last in
+    ap₂ (λ v w. let s : Lines = record { ended = v; last = w } in s) p q
     ∙ ap (decoded_lines m.encoding) (cut_of-only m.encoding m.body h.cut h.is_cut)
 
 -- ---- The same of any lines, by line or of the text.

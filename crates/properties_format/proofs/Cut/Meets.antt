@@ -2,13 +2,15 @@
 use Rattle.std.proofs.Common.{◌≡◌, ℕ, ◌%◌, ◌==◌, ◌<◌, false, List, [], ◌∷◌, ◌++◌, length, refl, ap, ap₂, sym, ◌∙◌, subst, append_assoc, inl, inr, arith, lit<, eqb-true}
 use Rattle.std.proofs.lemmas.Bool.{cases_Bool, or_cases}
 use Rattle.properties_format.specs.Text.{line_feed, carriage_return, is_line_end, LineEnding, lf, cr, crlf, line_ending_text}
-use Rattle.properties_format.specs.Lines.{Ended, Lines, put_together, HoldsNoLineEnd, AreLines, IsLines}
+use Rattle.properties_format.specs.Lines.{Ended, Lines, put_together, HoldsNoLineEnd, BeginsWithNoLoneLf, AreLines, IsLines}
 use Rattle.properties_format.specs.Utf16.{low_first, high_first}
 use Rattle.properties_format.specs.Encoding.{Encoding, windows_1252, utf_8, utf_16le, utf_16be, IsAligned, ascii_bytes}
 use Rattle.properties_format.specs.Cut.{units_of_two, HoldsNoLineEndUnit, line_ending_bytes, bytes_together, AreCut, IsCut}
 use Rattle.properties_format.specs.Reading.Lines.{end_before, cr_before, lines_of}
 use Rattle.properties_format.specs.Reading.Cut.{two_before, unit_before, cut_of_two, cut_of}
 use Rattle.properties_format.proofs.Lines.Meets.{lines_of-meets}
+use Rattle.properties_format.proofs.Encodings.PieceEnds.{aligned-nil}
+use Rattle.properties_format.proofs.Cut.Units.{no_end_unit-nil}
 use Rattle.properties_format.proofs.Cut.Two.{unit-plain}
 use Rattle.properties_format.proofs.Cut.Only.{ending-windows_1252, ending-utf_8}
 
@@ -37,29 +39,45 @@ record IsOfTwo (e : Encoding) (unit : ℕ → ℕ → ℕ) : Type 0 where
   even : (d : List ℕ) → IsAligned e d → length d % 2 ≡ 0
   ascii : (c a b : ℕ) → c < 0x80 → unit a b ≡ c → a ∷ b ∷ [] ≡ ascii_bytes e c
 
+-- an empty line in front
+empty-cut : (e : Encoding) (by : LineEnding) (ls : List Ended) (last : List ℕ) → (by ≡ cr → BeginsWithNoLoneLf ls) → AreCut e ls last
+    → AreCut e (end_before by ls) last
+empty-cut e by ls last k h = (no_end_unit-nil e, aligned-nil e, k, h)
+
 -- an LF in front
-lf-meets : (e : Encoding) (d : List ℕ) (lines : Lines) → HoldsNoLineEndUnit e [] → IsAligned e [] → IsCut e d lines
+lf-meets : (e : Encoding) (d : List ℕ) (lines : Lines) → IsCut e d lines
     → IsCut e (ascii_bytes e line_feed ++ d) (record lines { ended = end_before lf lines.ended })
-lf-meets e d lines none whole h = record { bytes = ap (λ v. ascii_bytes e line_feed ++ v) h.bytes; are_cut = (none, whole, (λ k. absurd (cc)), h.are_cut) }
+lf-meets e d lines h = record {
+  bytes = ap (λ v. ascii_bytes e line_feed ++ v) h.bytes;
+  are_cut = empty-cut e lf lines.ended lines.last (λ k. absurd (cc)) h.are_cut;
+}
+
+-- a CR before a line that is no lone LF
+cr-apart : (e : Encoding) (ls : List Ended) (last d : List ℕ) → BeginsWithNoLoneLf ls → IsCut e d (record { ended = ls; last = last })
+    → IsCut e (ascii_bytes e carriage_return ++ d) (record { ended = end_before cr ls; last = last })
+cr-apart e ls last d k h = record {
+  bytes = ap (λ v. ascii_bytes e carriage_return ++ v) h.bytes;
+  are_cut = empty-cut e cr ls last (λ q. k) h.are_cut;
+}
 
 -- a CR before a line
-cr-meets-line : (e : Encoding) (text : List ℕ) (by : LineEnding) (ls : List Ended) (last d : List ℕ) → HoldsNoLineEndUnit e [] → IsAligned e []
+cr-meets-line : (e : Encoding) (text : List ℕ) (by : LineEnding) (ls : List Ended) (last d : List ℕ)
     → IsCut e d (record { ended = record { text = text; by = by } ∷ ls; last = last })
     → IsCut e (ascii_bytes e carriage_return ++ d) (record { ended = cr_before (record { text = text; by = by } ∷ ls); last = last })
-cr-meets-line e [] lf ls last d none whole h =
-    record { bytes = ap (λ v. ascii_bytes e carriage_return ++ v) h.bytes ∙ sym (append_assoc (ascii_bytes e carriage_return) (ascii_bytes e line_feed) (bytes_together e ls last)); are_cut = (none, whole, (λ k. absurd (cc)), h.are_cut.3) }
-cr-meets-line e [] cr ls last d none whole h =
-    record { bytes = ap (λ v. ascii_bytes e carriage_return ++ v) h.bytes; are_cut = (none, whole, (λ k p. absurd (cc)), h.are_cut) }
-cr-meets-line e [] crlf ls last d none whole h =
-    record { bytes = ap (λ v. ascii_bytes e carriage_return ++ v) h.bytes; are_cut = (none, whole, (λ k p. absurd (cc)), h.are_cut) }
-cr-meets-line e (c ∷ cs) by ls last d none whole h =
-    record { bytes = ap (λ v. ascii_bytes e carriage_return ++ v) h.bytes; are_cut = (none, whole, (λ k p. absurd (cc)), h.are_cut) }
+cr-meets-line e [] lf ls last d h =
+    let m = append_assoc (ascii_bytes e carriage_return) (ascii_bytes e line_feed) (bytes_together e ls last) in
+    record {
+      bytes = ap (λ v. ascii_bytes e carriage_return ++ v) h.bytes ∙ sym m;
+      are_cut = empty-cut e crlf ls last (λ k. absurd (cc)) h.are_cut.3;
+    }
+cr-meets-line e [] cr ls last d h = cr-apart e (record { text = []; by = cr } ∷ ls) last d (λ p. absurd (cc)) h
+cr-meets-line e [] crlf ls last d h = cr-apart e (record { text = []; by = crlf } ∷ ls) last d (λ p. absurd (cc)) h
+cr-meets-line e (c ∷ cs) by ls last d h = cr-apart e (record { text = c ∷ cs; by = by } ∷ ls) last d (λ p. absurd (cc)) h
 
-cr-meets : (e : Encoding) (ended : List Ended) (last d : List ℕ) → HoldsNoLineEndUnit e [] → IsAligned e [] → IsCut e d (record { ended = ended; last = last })
+cr-meets : (e : Encoding) (ended : List Ended) (last d : List ℕ) → IsCut e d (record { ended = ended; last = last })
     → IsCut e (ascii_bytes e carriage_return ++ d) (record { ended = cr_before ended; last = last })
-cr-meets e [] last d none whole h =
-    record { bytes = ap (λ v. ascii_bytes e carriage_return ++ v) h.bytes; are_cut = (none, whole, (λ k. tt), h.are_cut) }
-cr-meets e (l ∷ ls) last d none whole h = cr-meets-line e l.text l.by ls last d none whole h
+cr-meets e [] last d h = cr-apart e [] last d tt h
+cr-meets e (l ∷ ls) last d h = cr-meets-line e l.text l.by ls last d h
 
 -- any other unit in front
 two-meets : (e : Encoding) (unit : ℕ → ℕ → ℕ) (a b : ℕ) (ended : List Ended) (last d : List ℕ) → IsOfTwo e unit → is_line_end (unit a b) ≡ false
@@ -81,11 +99,11 @@ unit-meets e unit a b lines d t h = elim (cases_Bool (is_line_end (unit a b))) [
     | inl m ↦
         let q : unit a b ≡ line_feed = eqb-true (unit a b) line_feed m in
         let s = t.ascii line_feed a b (lit< tt) q in
-        rw q (subst (λ v. IsCut e (v ++ d) (record lines { ended = end_before lf lines.ended })) (sym s) (lf-meets e d lines (t.none [] tt) (t.whole [] refl) h))
+        rw q (subst (λ v. IsCut e (v ++ d) (record lines { ended = end_before lf lines.ended })) (sym s) (lf-meets e d lines h))
     | inr m ↦
         let q : unit a b ≡ carriage_return = eqb-true (unit a b) carriage_return m in
         let s = t.ascii carriage_return a b (lit< tt) q in
-        rw q (subst (λ v. IsCut e (v ++ d) (record lines { ended = cr_before lines.ended })) (sym s) (cr-meets e lines.ended lines.last d (t.none [] tt) (t.whole [] refl) h))
+        rw q (subst (λ v. IsCut e (v ++ d) (record lines { ended = cr_before lines.ended })) (sym s) (cr-meets e lines.ended lines.last d h))
   ]
   | inr k ↦ rw (unit-plain (unit a b) a b lines k) (two-meets e unit a b lines.ended lines.last d t k h)
 ]

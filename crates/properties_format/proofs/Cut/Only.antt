@@ -44,7 +44,8 @@ cut_of-before utf_16le text by y ls last p a k h = two-line utf_16le low_first t
 cut_of-before utf_16be text by y ls last p a k h = two-line utf_16be high_first text by y ls last be-ends p a k h
 
 -- lines that are put together are the lines of those bytes
-pub cut_of-together : (e : Encoding) (ls : List Ended) (last : List ℕ) → AreCut e ls last → cut_of e (bytes_together e ls last) ≡ record { ended = ls; last = last }
+pub cut_of-together : (e : Encoding) (ls : List Ended) (last : List ℕ) → AreCut e ls last
+    → cut_of e (bytes_together e ls last) ≡ record { ended = ls; last = last }
 cut_of-together e [] last h = cut_of-plain e last h
 cut_of-together e (l ∷ ls) last h = cut_of-before e l.text l.by (bytes_together e ls last) ls last h.0 h.1 h.2 (cut_of-together e ls last h.3)
 

@@ -15,18 +15,22 @@ outcome-blank x h = ap split_outcome h
 pub outcome-comment : (x raw text : List ℕ) → split_of x ≡ Logical.comment raw → meaning_of raw ≡ means text → outcome_of x ≡ given (comment text)
 outcome-comment x raw text h k = ap split_outcome h ∙ ap comment_outcome k
 
-pub outcome-comment_broken : (x raw : List ℕ) (kind : Malformed) → split_of x ≡ Logical.comment raw → meaning_of raw ≡ breaks kind → outcome_of x ≡ broken kind
+pub outcome-comment_broken : (x raw : List ℕ) (kind : Malformed) → split_of x ≡ Logical.comment raw → meaning_of raw ≡ breaks kind
+    → outcome_of x ≡ broken kind
 outcome-comment_broken x raw kind h k = ap split_outcome h ∙ ap comment_outcome k
 
 -- a pair comes to what its key and its value mean; where the key's escapes are malformed, its value does not matter
-pub outcome-pair : (x raw_key raw_value key value : List ℕ) → split_of x ≡ Logical.pair raw_key raw_value → meaning_of raw_key ≡ means key → meaning_of raw_value ≡ means value
+pub outcome-pair : (x raw_key raw_value key value : List ℕ) → split_of x ≡ Logical.pair raw_key raw_value → meaning_of raw_key ≡ means key
+    → meaning_of raw_value ≡ means value
     → outcome_of x ≡ given (pair key value)
 outcome-pair x rk rv key value h k m = ap split_outcome h ∙ ap (λ v. pair_outcome v (meaning_of rv)) k ∙ ap (pair_outcome (means key)) m
 
-pub outcome-key_broken : (x raw_key raw_value : List ℕ) (kind : Malformed) → split_of x ≡ Logical.pair raw_key raw_value → meaning_of raw_key ≡ breaks kind → outcome_of x ≡ broken kind
+pub outcome-key_broken : (x raw_key raw_value : List ℕ) (kind : Malformed) → split_of x ≡ Logical.pair raw_key raw_value → meaning_of raw_key ≡ breaks kind
+    → outcome_of x ≡ broken kind
 outcome-key_broken x rk rv kind h k = ap split_outcome h ∙ ap (λ v. pair_outcome v (meaning_of rv)) k
 
-pub outcome-value_broken : (x raw_key raw_value key : List ℕ) (kind : Malformed) → split_of x ≡ Logical.pair raw_key raw_value → meaning_of raw_key ≡ means key → meaning_of raw_value ≡ breaks kind
+pub outcome-value_broken : (x raw_key raw_value key : List ℕ) (kind : Malformed) → split_of x ≡ Logical.pair raw_key raw_value
+    → meaning_of raw_key ≡ means key → meaning_of raw_value ≡ breaks kind
     → outcome_of x ≡ broken kind
 outcome-value_broken x rk rv key kind h k m = ap split_outcome h ∙ ap (λ v. pair_outcome v (meaning_of rv)) k ∙ ap (pair_outcome (means key)) m
 
@@ -37,9 +41,11 @@ pub followed-ignored : (number : ℕ) (x : List ℕ) (rest : List Entry) → out
 followed-ignored number x rest h = ap (λ v. followed number v rest) h
 
 -- a content is an item, and the rest follows
-pub followed-given : (number : ℕ) (x : List ℕ) (content : Content) (rest : List Entry) → outcome_of x ≡ given content → followed number (outcome_of x) rest ≡ item number content ∷ rest
+pub followed-given : (number : ℕ) (x : List ℕ) (content : Content) (rest : List Entry) → outcome_of x ≡ given content
+    → followed number (outcome_of x) rest ≡ item number content ∷ rest
 followed-given number x content rest h = ap (λ v. followed number v rest) h
 
 -- malformed escapes are the last entry
-pub followed-broken : (number : ℕ) (x : List ℕ) (kind : Malformed) (rest : List Entry) → outcome_of x ≡ broken kind → followed number (outcome_of x) rest ≡ malformed kind number ∷ []
+pub followed-broken : (number : ℕ) (x : List ℕ) (kind : Malformed) (rest : List Entry) → outcome_of x ≡ broken kind
+    → followed number (outcome_of x) rest ≡ malformed kind number ∷ []
 followed-broken number x kind rest h = ap (λ v. followed number v rest) h

@@ -18,7 +18,8 @@ use Rattle.properties_format.proofs.ItemsToCome.Lines.{gives-read, gives-last, n
 -- ---- all entries
 
 -- The entries of groups are those of their logical lines.
-pub entries_of-logical : (n : ℕ) (ending : InputEnd) (gs : List (List Line)) → entries_of n ending gs ≡ entries_of_logical (logical gs) (last_entries n ending)
+pub entries_of-logical : (n : ℕ) (ending : InputEnd) (gs : List (List Line))
+    → entries_of n ending gs ≡ entries_of_logical (logical gs) (last_entries n ending)
 entries_of-logical n ending [] = refl
 entries_of-logical n ending (g ∷ gs) = ap (followed (first_number g) (outcome_of (joined g))) (entries_of-logical n ending gs)
 
@@ -35,7 +36,8 @@ items_to_come-pending s d ending = elim (cases_Bool s.is_done) [
 -- ---- steps
 
 -- one step after another
-pub gives-on : {s t u : ReaderState} {x y z : List ℕ} {ls ms : List Line} {ending : InputEnd} → Gives s x ls t y ending → Gives t y ms u z ending → Gives s x (ls ++ ms) u z ending
+pub gives-on : {s t u : ReaderState} {x y z : List ℕ} {ls ms : List Line} {ending : InputEnd} → Gives s x ls t y ending → Gives t y ms u z ending
+    → Gives s x (ls ++ ms) u z ending
 gives-on {s} {t} {u} {x} {y} {z} {ls} {ms} {ending} h k = record {
   natural = h.natural ∙ ap (λ v. ls ++ v) k.natural ∙ sym (append_assoc ls ms (natural_to_come u z ending));
   last = h.last ∙ k.last;
@@ -80,7 +82,8 @@ pending-closed {s} {t} {x} {y} {l} {ending} h k =
     ∙ ap (λ v. entries_of_logical v (last_to_come t y ending)) (logical_lines-closed l (natural_to_come t y ending) ending k)
 
 -- an open line that is no comment line begins a join
-pub pending-open : {s t : ReaderState} {x y : List ℕ} {l : Line} {ending : InputEnd} → Gives s x (l ∷ []) t y ending → is_comment_line l.text ≡ false → is_open l.text ≡ true
+pub pending-open : {s t : ReaderState} {x y : List ℕ} {l : Line} {ending : InputEnd} → Gives s x (l ∷ []) t y ending → is_comment_line l.text ≡ false
+    → is_open l.text ≡ true
     → entries_pending None s x ending ≡ entries_pending (Some (record { number = l.number; text = without_open_backslash l.text })) t y ending
 unfolding entries_pending
 pending-open {s} {t} {x} {y} {l} {ending} h k m =
@@ -115,7 +118,8 @@ pending-done s d ending h =
     ap₂ (λ v w. entries_of_logical (logical_pending None v ending) w) k.0 k.1
 
 -- but a join that is still open is a logical line there, where the input ended
-pub joining-done : (join : Line) (s : ReaderState) (d : List ℕ) → s.is_done ≡ true → entries_pending (Some join) s d end ≡ followed join.number (outcome_of join.text) []
+pub joining-done : (join : Line) (s : ReaderState) (d : List ℕ) → s.is_done ≡ true
+    → entries_pending (Some join) s d end ≡ followed join.number (outcome_of join.text) []
 unfolding entries_pending
 joining-done join s d h =
     let k = natural-done s d end h in

@@ -1,5 +1,6 @@
 -- The natural lines to come, step by step: bytes are read, the byte order mark is decided, an LF is passed over, a line is taken, the input ends.
-use Rattle.std.proofs.Common.{◌≡◌, ◌≢◌, ◌==◌, ℕ, ◌+◌, ◌≤◌, Bool, true, false, List, [], ◌∷◌, ◌++◌, length, refl, subst, ap, sym, ◌∙◌, inl, inr, append_assoc, append-nil, lit<, eqb-true, eq-eqb, add-zero}
+use Rattle.std.proofs.Common.{◌≡◌, ◌≢◌, ◌==◌, ℕ, ◌+◌, ◌≤◌, Bool, true, false, List, [], ◌∷◌, ◌++◌}
+use Rattle.std.proofs.Common.{length, refl, subst, ap, sym, ◌∙◌, inl, inr, append_assoc, append-nil, lit<, eqb-true, eq-eqb, add-zero}
 use Rattle.std.specs.Prelude.{if◌then◌else◌}
 use Rattle.std.proofs.lemmas.Bool.{cases_Bool, or_cases}
 use Rattle.properties_format.specs.Text.{line_feed, carriage_return, is_line_end, LineEnding, lf}
@@ -33,7 +34,8 @@ abbrev last_unless : Bool → ℕ → List ℕ → InputEnd → List Entry
 last_unless done n text ending = if done then [] else last_entries (n + line_ends (lines_of text)) ending
 
 -- where the text to come is the same, so is what is given of it
-gives-text : (s t : ReaderState) (x y : List ℕ) (ending : InputEnd) → s.is_done ≡ t.is_done → s.passed ≡ t.passed → text_to_come s x ≡ text_to_come t y → Gives s x [] t y ending
+gives-text : (s t : ReaderState) (x y : List ℕ) (ending : InputEnd) → s.is_done ≡ t.is_done → s.passed ≡ t.passed → text_to_come s x ≡ text_to_come t y
+    → Gives s x [] t y ending
 unfolding natural_to_come last_to_come
 gives-text s t x y ending h k m = record {
   natural =
@@ -51,7 +53,8 @@ abbrev text_of : Bool → InForce → List ℕ
 text_of after_cr m = rest_of_end after_cr (characters (pieces_of m.encoding m.body))
 
 -- the text once the encoding is decided
-text-decided : (s : ReaderState) (d : List ℕ) → s.is_decided ≡ true → text_to_come s d ≡ rest_of_end s.after_cr (characters (pieces_of s.encoding (s.held ++ d)))
+text-decided : (s : ReaderState) (d : List ℕ) → s.is_decided ≡ true
+    → text_to_come s d ≡ rest_of_end s.after_cr (characters (pieces_of s.encoding (s.held ++ d)))
 text-decided s d h = rw h refl
 
 -- ---- reading, and the byte order mark
@@ -68,7 +71,8 @@ pub gives-read_last : (s : ReaderState) (r : List ℕ) (ending : InputEnd) → G
 gives-read_last s r ending = subst (λ v. Gives s v [] (after_read s r) [] ending) (append-nil r) (gives-read s r [] ending)
 
 -- Held bytes that wait for no more decide the byte order mark.
-pub gives-decided : (s : ReaderState) (d : List ℕ) (ending : InputEnd) → s.is_decided ≡ false → awaits_bom s.held ≡ false → Gives s d [] (after_decided s) d ending
+pub gives-decided : (s : ReaderState) (d : List ℕ) (ending : InputEnd) → s.is_decided ≡ false → awaits_bom s.held ≡ false
+    → Gives s d [] (after_decided s) d ending
 gives-decided s d ending h k =
     let e : in_force s d ≡ byte_order_mark s.encoding (s.held ++ d) = rw h refl in
     gives-text s (after_decided s) d d ending refl refl (ap (text_of s.after_cr) (e ∙ byte_order_mark-append s.encoding s.held d k))
@@ -85,7 +89,8 @@ gives-decided_last s ending h =
 -- ---- after a CR
 
 -- An LF unit that comes after a CR is passed over.
-pub gives-passed_lf : (s : ReaderState) (rest d : List ℕ) (ending : InputEnd) → s.is_decided ≡ true → s.after_cr ≡ true → s.held ≡ ascii_bytes s.encoding line_feed ++ rest
+pub gives-passed_lf : (s : ReaderState) (rest d : List ℕ) (ending : InputEnd) → s.is_decided ≡ true → s.after_cr ≡ true
+    → s.held ≡ ascii_bytes s.encoding line_feed ++ rest
     → Gives s d [] (after_passed s rest) d ending
 gives-passed_lf s rest d ending h k m =
     let e : s.held ++ d ≡ ascii_bytes s.encoding line_feed ++ (rest ++ d) = ap (λ v. v ++ d) m ∙ append_assoc (ascii_bytes s.encoding line_feed) rest d in
@@ -170,7 +175,8 @@ lines_of-ended text c y h k = elim (or_cases (c == line_feed) (c == carriage_ret
 ]
 
 -- where the first line of the text to come is known
-gives-lines : (s t : ReaderState) (d : List ℕ) (ending : InputEnd) (text : List ℕ) (by : LineEnding) → s.is_done ≡ false → t.is_done ≡ false → t.passed ≡ s.passed + 1
+gives-lines : (s t : ReaderState) (d : List ℕ) (ending : InputEnd) (text : List ℕ) (by : LineEnding) → s.is_done ≡ false → t.is_done ≡ false
+    → t.passed ≡ s.passed + 1
     → lines_of (text_to_come s d) ≡ record { ended = record { text = text; by = by } ∷ (lines_of (text_to_come t d)).ended; last = (lines_of (text_to_come t d)).last }
     → Gives s d (record { number = s.passed + 1; text = text } ∷ []) t d ending
 unfolding natural_to_come last_to_come
@@ -201,13 +207,15 @@ line-plain s l c rest d ending h plain =
     gives-lines s t d ending text k.0 h.going h.going refl (ap lines_of f ∙ k.1 ∙ ap lines g)
 
 -- A line among the held bytes comes next, and then what comes of the rest.
-pub gives-line : (s : ReaderState) (l : List ℕ) (c : ℕ) (rest d : List ℕ) (ending : InputEnd) → HoldsLine s l c rest → Gives s d (next_line s l ∷ []) (after_line s c rest) d ending
+pub gives-line : (s : ReaderState) (l : List ℕ) (c : ℕ) (rest d : List ℕ) (ending : InputEnd) → HoldsLine s l c rest
+    → Gives s d (next_line s l ∷ []) (after_line s c rest) d ending
 gives-line s l c rest d ending h = line-plain s l c rest d ending h (no_end-decoded s.encoding l h.none)
 
 -- ---- nothing comes
 
 -- the lines of a state that holds no line end
-last-plain : (s : ReaderState) → HoldsNoEnd s → HoldsNoLineEnd (decoded_line s.encoding s.held) → lines_of (text_to_come s []) ≡ record { ended = []; last = (next_line s s.held).text }
+last-plain : (s : ReaderState) → HoldsNoEnd s → HoldsNoLineEnd (decoded_line s.encoding s.held)
+    → lines_of (text_to_come s []) ≡ record { ended = []; last = (next_line s s.held).text }
 last-plain s h plain =
     let text = decoded_line s.encoding s.held in
     ap lines_of (

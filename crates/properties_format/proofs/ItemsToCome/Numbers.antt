@@ -17,5 +17,6 @@ items_to_come-ascend s d ending = elim (cases_Bool s.is_done) [
 ]
 
 -- The numbers of the items to come strictly ascend, above the line ends that were passed.
-pub to_come-ascend : (s : ReaderState) (d : List ℕ) (ending : InputEnd) (entries : List Entry) → IsItemsToCome s d ending entries → NumbersAscend s.passed entries
+pub to_come-ascend : (s : ReaderState) (d : List ℕ) (ending : InputEnd) (entries : List Entry) → IsItemsToCome s d ending entries
+    → NumbersAscend s.passed entries
 to_come-ascend s d ending entries h = rw (items_to_come-only s d ending entries h) (items_to_come-ascend s d ending)

@@ -36,11 +36,13 @@ pub lines-decided : (s : ReaderState) → s.is_decided ≡ false → awaits_bom 
 lines-decided s h k = record { gives = λ d ending. gives-decided s d ending h k }
 
 -- an LF unit after a CR is passed over
-pub lines-passed_lf : (s : ReaderState) (rest : List ℕ) → s.is_decided ≡ true → s.after_cr ≡ true → s.held ≡ ascii_bytes s.encoding line_feed ++ rest → ReadsLines s [] [] (after_passed s rest)
+pub lines-passed_lf : (s : ReaderState) (rest : List ℕ) → s.is_decided ≡ true → s.after_cr ≡ true → s.held ≡ ascii_bytes s.encoding line_feed ++ rest
+    → ReadsLines s [] [] (after_passed s rest)
 lines-passed_lf s rest h k m = record { gives = λ d ending. gives-passed_lf s rest d ending h k m }
 
 -- bytes that are as long as an LF unit, and don't begin with one, tell that none is to be passed over
-pub lines-passed_none : (s : ReaderState) → s.is_decided ≡ true → length (ascii_bytes s.encoding line_feed) ≤ length s.held → begins_with (ascii_bytes s.encoding line_feed) s.held ≡ false
+pub lines-passed_none : (s : ReaderState) → s.is_decided ≡ true → length (ascii_bytes s.encoding line_feed) ≤ length s.held
+    → begins_with (ascii_bytes s.encoding line_feed) s.held ≡ false
     → ReadsLines s [] [] (after_passed s s.held)
 lines-passed_none s h k m = record { gives = λ d ending. gives-passed_none s d ending h k m }
 
@@ -55,7 +57,8 @@ pub on-start : (s : ReaderState) → ReadsOn s [] None s
 on-start s = record { items = λ d ending. items_to_come-pending s d ending }
 
 -- what comes of two parts one after the other
-regroup : (s : ReaderState) (r q d : List ℕ) (ending : InputEnd) (entries : List Entry) → items_to_come s (r ++ (q ++ d)) ending ≡ entries → items_to_come s ((r ++ q) ++ d) ending ≡ entries
+regroup : (s : ReaderState) (r q d : List ℕ) (ending : InputEnd) (entries : List Entry) → items_to_come s (r ++ (q ++ d)) ending ≡ entries
+    → items_to_come s ((r ++ q) ++ d) ending ≡ entries
 regroup s r q d ending entries h = ap (λ v. items_to_come s v ending) (append_assoc r q d) ∙ h
 
 -- a step that gives no line leaves the join as it is
@@ -64,7 +67,8 @@ on-same {s} {t} {u} {r} {q} {pending} h k =
     record { items = λ d ending. regroup s r q d ending _ (h.items (q ++ d) ending ∙ pending-same pending (k.gives d ending)) }
 
 -- an open line that is no comment line begins a join
-pub on-open : {s t u : ReaderState} {r q : List ℕ} {l : Line} → ReadsOn s r None t → ReadsLines t q (l ∷ []) u → is_comment_line l.text ≡ false → is_open l.text ≡ true
+pub on-open : {s t u : ReaderState} {r q : List ℕ} {l : Line} → ReadsOn s r None t → ReadsLines t q (l ∷ []) u → is_comment_line l.text ≡ false
+    → is_open l.text ≡ true
     → ReadsOn s (r ++ q) (Some (record { number = l.number; text = without_open_backslash l.text })) u
 on-open {s} {t} {u} {r} {q} h k m o = record { items = λ d ending. regroup s r q d ending _ (h.items (q ++ d) ending ∙ pending-open (k.gives d ending) m o) }
 
@@ -81,12 +85,14 @@ none-open : (number : ℕ) (text : List ℕ) (s : ReaderState) (d : List ℕ) (e
 none-open number text s d ending = ap (followed number (outcome_of text)) (sym (items_to_come-pending s d ending))
 
 -- where no join is open, a comment line is a logical line
-pub logical-comment_line : {s t u : ReaderState} {r q : List ℕ} {l : Line} → ReadsOn s r None t → ReadsLines t q (l ∷ []) u → is_comment_line l.text ≡ true → ReadsLogical s (r ++ q) l u
+pub logical-comment_line : {s t u : ReaderState} {r q : List ℕ} {l : Line} → ReadsOn s r None t → ReadsLines t q (l ∷ []) u → is_comment_line l.text ≡ true
+    → ReadsLogical s (r ++ q) l u
 logical-comment_line {s} {t} {u} {r} {q} {l} h k m =
     record { items = λ d ending. regroup s r q d ending _ (h.items (q ++ d) ending ∙ pending-comment_line (k.gives d ending) m ∙ none-open l.number l.text u d ending) }
 
 -- so is a line that is not open
-pub logical-closed : {s t u : ReaderState} {r q : List ℕ} {l : Line} → ReadsOn s r None t → ReadsLines t q (l ∷ []) u → is_open l.text ≡ false → ReadsLogical s (r ++ q) l u
+pub logical-closed : {s t u : ReaderState} {r q : List ℕ} {l : Line} → ReadsOn s r None t → ReadsLines t q (l ∷ []) u → is_open l.text ≡ false
+    → ReadsLogical s (r ++ q) l u
 logical-closed {s} {t} {u} {r} {q} {l} h k o =
     record { items = λ d ending. regroup s r q d ending _ (h.items (q ++ d) ending ∙ pending-closed (k.gives d ending) o ∙ none-open l.number l.text u d ending) }
 
@@ -121,7 +127,8 @@ entry-broken {s} {t} {r} {line} {kind} h k done m =
 -- ---- nothing comes
 
 -- what comes where nothing follows the bytes that were read
-pub on-last : {s t : ReaderState} {r : List ℕ} {pending : Option Line} → ReadsOn s r pending t → (ending : InputEnd) → items_to_come s r ending ≡ entries_pending pending t [] ending
+pub on-last : {s t : ReaderState} {r : List ℕ} {pending : Option Line} → ReadsOn s r pending t → (ending : InputEnd)
+    → items_to_come s r ending ≡ entries_pending pending t [] ending
 on-last {s} {t} {r} {pending} h ending = ap (λ v. items_to_come s v ending) (sym (append-nil r)) ∙ h.items [] ending
 
 -- and where the reader must first decide whether a byte order mark is at the front
