@@ -10,14 +10,16 @@ use Rattle.properties_format.specs.Items.{read_fault, last_entries}
 use Rattle.properties_format.specs.Reading.Items.{outcome_of, followed, entries_of}
 use Rattle.properties_format.specs.ItemsToCome.{ReaderState}
 use Rattle.properties_format.specs.Reading.ItemsToCome.{text_to_come, items_to_come, natural_to_come, last_to_come, entries_of_logical, logical_pending, entries_pending}
-use Rattle.properties_format.specs.Reading.ReaderSteps.{Gives, after_read, HoldsNoEnd}
+use Rattle.properties_format.specs.Reading.ReaderSteps.{Gives, after_read, next_line, HoldsNoEnd}
+use Rattle.properties_format.proofs.Groups.Open.{without_open_backslash-closed}
 use Rattle.properties_format.proofs.Groups.Logical.{joins_after-open, joins_after-closed, logical_lines-comment_line, logical_lines-closed, logical_lines-open}
-use Rattle.properties_format.proofs.ItemsToCome.Lines.{gives-read, natural-done, natural-fault, natural-more}
+use Rattle.properties_format.proofs.ItemsToCome.Lines.{gives-read, gives-last, natural-done, natural-fault, natural-more}
 
 -- ---- all entries
 
 -- The entries of groups are those of their logical lines.
-pub entries_of-logical : (n : ℕ) (ending : InputEnd) (gs : List (List Line)) → entries_of n ending gs ≡ entries_of_logical (logical gs) (last_entries n ending)
+pub entries_of-logical : (n : ℕ) (ending : InputEnd) (gs : List (List Line))
+    → entries_of n ending gs ≡ entries_of_logical (logical gs) (last_entries n ending)
 entries_of-logical n ending [] = refl
 entries_of-logical n ending (g ∷ gs) = ap (followed (first_number g) (outcome_of (joined g))) (entries_of-logical n ending gs)
 
@@ -34,7 +36,8 @@ items_to_come-pending s d ending = elim (cases_Bool s.is_done) [
 -- ---- steps
 
 -- one step after another
-pub gives-on : {s t u : ReaderState} {x y z : List ℕ} {ls ms : List Line} {ending : InputEnd} → Gives s x ls t y ending → Gives t y ms u z ending → Gives s x (ls ++ ms) u z ending
+pub gives-on : {s t u : ReaderState} {x y z : List ℕ} {ls ms : List Line} {ending : InputEnd} → Gives s x ls t y ending → Gives t y ms u z ending
+    → Gives s x (ls ++ ms) u z ending
 gives-on {s} {t} {u} {x} {y} {z} {ls} {ms} {ending} h k = record {
   natural = h.natural ∙ ap (λ v. ls ++ v) k.natural ∙ sym (append_assoc ls ms (natural_to_come u z ending));
   last = h.last ∙ k.last;
@@ -79,7 +82,8 @@ pending-closed {s} {t} {x} {y} {l} {ending} h k =
     ∙ ap (λ v. entries_of_logical v (last_to_come t y ending)) (logical_lines-closed l (natural_to_come t y ending) ending k)
 
 -- an open line that is no comment line begins a join
-pub pending-open : {s t : ReaderState} {x y : List ℕ} {l : Line} {ending : InputEnd} → Gives s x (l ∷ []) t y ending → is_comment_line l.text ≡ false → is_open l.text ≡ true
+pub pending-open : {s t : ReaderState} {x y : List ℕ} {l : Line} {ending : InputEnd} → Gives s x (l ∷ []) t y ending → is_comment_line l.text ≡ false
+    → is_open l.text ≡ true
     → entries_pending None s x ending ≡ entries_pending (Some (record { number = l.number; text = without_open_backslash l.text })) t y ending
 unfolding entries_pending
 pending-open {s} {t} {x} {y} {l} {ending} h k m =
@@ -114,7 +118,8 @@ pending-done s d ending h =
     ap₂ (λ v w. entries_of_logical (logical_pending None v ending) w) k.0 k.1
 
 -- but a join that is still open is a logical line there, where the input ended
-pub joining-done : (join : Line) (s : ReaderState) (d : List ℕ) → s.is_done ≡ true → entries_pending (Some join) s d end ≡ followed join.number (outcome_of join.text) []
+pub joining-done : (join : Line) (s : ReaderState) (d : List ℕ) → s.is_done ≡ true
+    → entries_pending (Some join) s d end ≡ followed join.number (outcome_of join.text) []
 unfolding entries_pending
 joining-done join s d h =
     let k = natural-done s d end h in
@@ -131,3 +136,38 @@ pub pending-more : (pending : Option Line) (s : ReaderState) → HoldsNoEnd s �
 unfolding entries_pending
 pending-more None s h = let k = natural-more s h in ap₂ (λ v w. entries_of_logical (logical_pending None v more) w) k.0 k.1
 pending-more (Some join) s h = let k = natural-more s h in ap₂ (λ v w. entries_of_logical (logical_pending (Some join) v more) w) k.0 k.1
+
+-- ---- the last line
+
+-- the same reader, at its end for good
+abbrev done : ReaderState → ReaderState
+done s = record s { is_done = true }
+
+-- At the end the held bytes are the last line. Where no join is open and they are a comment line, it is the last logical line.
+pub pending-end_comment_line : (s : ReaderState) → HoldsNoEnd s → is_comment_line (next_line s s.held).text ≡ true
+    → entries_pending None s [] end ≡ followed (s.passed + 1) (outcome_of (next_line s s.held).text) []
+pending-end_comment_line s h k =
+    let l = next_line s s.held in
+    pending-comment_line (gives-last s (done s) [] h refl) k ∙ ap (followed l.number (outcome_of l.text)) (pending-done (done s) [] end refl)
+
+-- Where they are none, the last logical line is that line less its open backslash.
+pub pending-end_line : (s : ReaderState) → HoldsNoEnd s → is_comment_line (next_line s s.held).text ≡ false
+    → entries_pending None s [] end ≡ followed (s.passed + 1) (outcome_of (without_open_backslash (next_line s s.held).text)) []
+pending-end_line s h k = elim (cases_Bool (is_open (next_line s s.held).text)) [
+  | inl o ↦ pending-open (gives-last s (done s) [] h refl) k o ∙ joining-done (record { number = s.passed + 1; text = without_open_backslash (next_line s s.held).text }) (done s) [] refl
+  | inr o ↦
+      let l = next_line s s.held in
+      pending-closed (gives-last s (done s) [] h refl) o
+      ∙ ap (followed l.number (outcome_of l.text)) (pending-done (done s) [] end refl)
+      ∙ ap (λ v. followed l.number (outcome_of v) []) (sym (without_open_backslash-closed l.text o))
+]
+
+-- Where a join is open, it is the last line of the join, open or not.
+pub joining-end : (join : Line) (s : ReaderState) → HoldsNoEnd s
+    → entries_pending (Some join) s [] end ≡ followed join.number (outcome_of (join.text ++ addition (next_line s s.held).text)) []
+joining-end join s h = elim (cases_Bool (is_open (next_line s s.held).text)) [
+  | inl o ↦ joining-open join (gives-last s (done s) [] h refl) o ∙ joining-done (record { number = join.number; text = join.text ++ addition (next_line s s.held).text }) (done s) [] refl
+  | inr o ↦
+      joining-closed join (gives-last s (done s) [] h refl) o
+      ∙ ap (followed join.number (outcome_of (join.text ++ addition (next_line s s.held).text))) (pending-done (done s) [] end refl)
+]

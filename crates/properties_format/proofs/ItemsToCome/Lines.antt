@@ -1,22 +1,24 @@
 -- The natural lines to come, step by step: bytes are read, the byte order mark is decided, an LF is passed over, a line is taken, the input ends.
-use Rattle.std.proofs.Common.{◌≡◌, ◌≢◌, ◌==◌, ℕ, ◌+◌, ◌≤◌, Bool, true, false, List, [], ◌∷◌, ◌++◌, length, refl, subst, ap, sym, ◌∙◌, inl, inr, append_assoc, append-nil, lit<, eqb-true, eq-eqb, add-zero}
+use Rattle.std.proofs.Common.{◌≡◌, ◌≢◌, ◌==◌, ℕ, ◌+◌, ◌≤◌, Bool, true, false, List, [], ◌∷◌, ◌++◌}
+use Rattle.std.proofs.Common.{length, refl, subst, ap, sym, ◌∙◌, inl, inr, append_assoc, append-nil, lit<, eqb-true, eq-eqb, add-zero}
 use Rattle.std.specs.Prelude.{if◌then◌else◌}
 use Rattle.std.proofs.lemmas.Bool.{cases_Bool, or_cases}
 use Rattle.properties_format.specs.Text.{line_feed, carriage_return, is_line_end, LineEnding, lf}
 use Rattle.properties_format.specs.Pieces.{characters}
 use Rattle.properties_format.specs.Encoding.{Encoding, InForce, ascii_bytes, byte_order_mark, begins_with}
-use Rattle.properties_format.specs.Reading.Encoding.{pieces_of}
+use Rattle.properties_format.specs.Reading.Encoding.{decoded_of, pieces_of}
 use Rattle.properties_format.specs.Reading.Waiting.{awaits_bom}
 use Rattle.properties_format.specs.Reading.Cut.{decoded_line}
-use Rattle.properties_format.specs.Lines.{Lines, HoldsNoLineEnd, InputEnd, end, fault, more, Line, line_ends, numbered}
+use Rattle.properties_format.specs.Lines.{numbered_lines, Lines, HoldsNoLineEnd, InputEnd, end, fault, more, Line, line_ends, numbered}
 use Rattle.properties_format.specs.Reading.Lines.{begins_with_lf, rest_of_end, lines_of}
 use Rattle.properties_format.specs.Items.{Entry, read_fault, last_entries}
-use Rattle.properties_format.specs.ItemsToCome.{ReaderState, in_force}
+use Rattle.properties_format.specs.ItemsToCome.{start, ReaderState, in_force}
 use Rattle.properties_format.specs.Reading.ItemsToCome.{text_to_come, natural_to_come, last_to_come}
 use Rattle.properties_format.specs.Reading.ReaderSteps.{Gives, after_read, after_decided, after_passed, after_line, next_line, HoldsLine, HoldsNoEnd}
 use Rattle.properties_format.proofs.Encodings.Characters.{pieces_of-ascii}
 use Rattle.properties_format.proofs.Encodings.Cuts.{characters-cut_ascii, cut-at_ascii}
 use Rattle.properties_format.proofs.Encodings.ByteOrderMarks.{begins-append, not-longer, byte_order_mark-append, followed}
+use Rattle.properties_format.proofs.Lines.Numbers.{AreNumbered, numbered-in_order}
 use Rattle.properties_format.proofs.Lines.Only.{lines_of-plain}
 use Rattle.properties_format.proofs.Lines.Plain.{one-more, plain-no_lf, without_leading_lf-none}
 use Rattle.properties_format.proofs.Cut.Byline.{end-ascii, nothing-decoded, no_end-decoded}
@@ -32,7 +34,8 @@ abbrev last_unless : Bool → ℕ → List ℕ → InputEnd → List Entry
 last_unless done n text ending = if done then [] else last_entries (n + line_ends (lines_of text)) ending
 
 -- where the text to come is the same, so is what is given of it
-gives-text : (s t : ReaderState) (x y : List ℕ) (ending : InputEnd) → s.is_done ≡ t.is_done → s.passed ≡ t.passed → text_to_come s x ≡ text_to_come t y → Gives s x [] t y ending
+gives-text : (s t : ReaderState) (x y : List ℕ) (ending : InputEnd) → s.is_done ≡ t.is_done → s.passed ≡ t.passed → text_to_come s x ≡ text_to_come t y
+    → Gives s x [] t y ending
 unfolding natural_to_come last_to_come
 gives-text s t x y ending h k m = record {
   natural =
@@ -50,7 +53,8 @@ abbrev text_of : Bool → InForce → List ℕ
 text_of after_cr m = rest_of_end after_cr (characters (pieces_of m.encoding m.body))
 
 -- the text once the encoding is decided
-text-decided : (s : ReaderState) (d : List ℕ) → s.is_decided ≡ true → text_to_come s d ≡ rest_of_end s.after_cr (characters (pieces_of s.encoding (s.held ++ d)))
+text-decided : (s : ReaderState) (d : List ℕ) → s.is_decided ≡ true
+    → text_to_come s d ≡ rest_of_end s.after_cr (characters (pieces_of s.encoding (s.held ++ d)))
 text-decided s d h = rw h refl
 
 -- ---- reading, and the byte order mark
@@ -67,7 +71,8 @@ pub gives-read_last : (s : ReaderState) (r : List ℕ) (ending : InputEnd) → G
 gives-read_last s r ending = subst (λ v. Gives s v [] (after_read s r) [] ending) (append-nil r) (gives-read s r [] ending)
 
 -- Held bytes that wait for no more decide the byte order mark.
-pub gives-decided : (s : ReaderState) (d : List ℕ) (ending : InputEnd) → s.is_decided ≡ false → awaits_bom s.held ≡ false → Gives s d [] (after_decided s) d ending
+pub gives-decided : (s : ReaderState) (d : List ℕ) (ending : InputEnd) → s.is_decided ≡ false → awaits_bom s.held ≡ false
+    → Gives s d [] (after_decided s) d ending
 gives-decided s d ending h k =
     let e : in_force s d ≡ byte_order_mark s.encoding (s.held ++ d) = rw h refl in
     gives-text s (after_decided s) d d ending refl refl (ap (text_of s.after_cr) (e ∙ byte_order_mark-append s.encoding s.held d k))
@@ -84,7 +89,8 @@ gives-decided_last s ending h =
 -- ---- after a CR
 
 -- An LF unit that comes after a CR is passed over.
-pub gives-passed_lf : (s : ReaderState) (rest d : List ℕ) (ending : InputEnd) → s.is_decided ≡ true → s.after_cr ≡ true → s.held ≡ ascii_bytes s.encoding line_feed ++ rest
+pub gives-passed_lf : (s : ReaderState) (rest d : List ℕ) (ending : InputEnd) → s.is_decided ≡ true → s.after_cr ≡ true
+    → s.held ≡ ascii_bytes s.encoding line_feed ++ rest
     → Gives s d [] (after_passed s rest) d ending
 gives-passed_lf s rest d ending h k m =
     let e : s.held ++ d ≡ ascii_bytes s.encoding line_feed ++ (rest ++ d) = ap (λ v. v ++ d) m ∙ append_assoc (ascii_bytes s.encoding line_feed) rest d in
@@ -169,7 +175,8 @@ lines_of-ended text c y h k = elim (or_cases (c == line_feed) (c == carriage_ret
 ]
 
 -- where the first line of the text to come is known
-gives-lines : (s t : ReaderState) (d : List ℕ) (ending : InputEnd) (text : List ℕ) (by : LineEnding) → s.is_done ≡ false → t.is_done ≡ false → t.passed ≡ s.passed + 1
+gives-lines : (s t : ReaderState) (d : List ℕ) (ending : InputEnd) (text : List ℕ) (by : LineEnding) → s.is_done ≡ false → t.is_done ≡ false
+    → t.passed ≡ s.passed + 1
     → lines_of (text_to_come s d) ≡ record { ended = record { text = text; by = by } ∷ (lines_of (text_to_come t d)).ended; last = (lines_of (text_to_come t d)).last }
     → Gives s d (record { number = s.passed + 1; text = text } ∷ []) t d ending
 unfolding natural_to_come last_to_come
@@ -200,13 +207,15 @@ line-plain s l c rest d ending h plain =
     gives-lines s t d ending text k.0 h.going h.going refl (ap lines_of f ∙ k.1 ∙ ap lines g)
 
 -- A line among the held bytes comes next, and then what comes of the rest.
-pub gives-line : (s : ReaderState) (l : List ℕ) (c : ℕ) (rest d : List ℕ) (ending : InputEnd) → HoldsLine s l c rest → Gives s d (next_line s l ∷ []) (after_line s c rest) d ending
+pub gives-line : (s : ReaderState) (l : List ℕ) (c : ℕ) (rest d : List ℕ) (ending : InputEnd) → HoldsLine s l c rest
+    → Gives s d (next_line s l ∷ []) (after_line s c rest) d ending
 gives-line s l c rest d ending h = line-plain s l c rest d ending h (no_end-decoded s.encoding l h.none)
 
 -- ---- nothing comes
 
 -- the lines of a state that holds no line end
-last-plain : (s : ReaderState) → HoldsNoEnd s → HoldsNoLineEnd (decoded_line s.encoding s.held) → lines_of (text_to_come s []) ≡ record { ended = []; last = (next_line s s.held).text }
+last-plain : (s : ReaderState) → HoldsNoEnd s → HoldsNoLineEnd (decoded_line s.encoding s.held)
+    → lines_of (text_to_come s []) ≡ record { ended = []; last = (next_line s s.held).text }
 last-plain s h plain =
     let text = decoded_line s.encoding s.held in
     ap lines_of (
@@ -244,3 +253,18 @@ natural-fault s h = at-last s fault h (no_end-decoded s.encoding s.held h.none)
 -- Where more may come they are no line yet.
 pub natural-more : (s : ReaderState) → HoldsNoEnd s → (natural_to_come s [] more ≡ []) × (last_to_come s [] more ≡ [])
 natural-more s h = at-last s more h (no_end-decoded s.encoding s.held h.none)
+
+-- ---- all natural lines
+
+-- At the start the natural lines to come are the numbered lines of the decoded text.
+pub natural-start : (e : Encoding) (d : List ℕ) (ending : InputEnd) → natural_to_come (start e) d ending ≡ numbered_lines (lines_of (decoded_of e d)) ending
+unfolding natural_to_come
+natural-start e d ending = refl
+
+-- They are numbered on from the line ends that were passed, without a gap.
+pub natural-in_order : (s : ReaderState) (d : List ℕ) (ending : InputEnd) → AreNumbered s.passed (natural_to_come s d ending)
+unfolding natural_to_come
+natural-in_order s d ending = elim (cases_Bool s.is_done) [
+  | inl h ↦ rw h tt
+  | inr h ↦ let lines = lines_of (text_to_come s d) in rw h (numbered-in_order s.passed lines.ended lines.last ending)
+]

@@ -42,7 +42,8 @@ rest_of_end-only true (c ∷ cs) text (inr h) = elim (eqb_tells c line_feed) [
 
 -- ---- the items to come
 
-further-meets : (s : ReaderState) (d : List ℕ) (ending : InputEnd) → AreFurtherEntries s d ending (further_entries s.passed (lines_of (text_to_come s d)) ending)
+further-meets : (s : ReaderState) (d : List ℕ) (ending : InputEnd)
+    → AreFurtherEntries s d ending (further_entries s.passed (lines_of (text_to_come s d)) ending)
 further-meets s d ending =
     let pieces = pieces_of (in_force s d).encoding (in_force s d).body in
     let lines = lines_of (text_to_come s d) in
@@ -86,7 +87,8 @@ items_to_come-meets s d ending = elim (cases_Bool s.is_done) [
 ]
 
 -- The items to come are what is computed.
-pub items_to_come-only : (s : ReaderState) (d : List ℕ) (ending : InputEnd) (entries : List Entry) → IsItemsToCome s d ending entries → entries ≡ items_to_come s d ending
+pub items_to_come-only : (s : ReaderState) (d : List ℕ) (ending : InputEnd) (entries : List Entry) → IsItemsToCome s d ending entries
+    → entries ≡ items_to_come s d ending
 items_to_come-only s d ending entries (inl h) = h.1 ∙ sym (items_to_come-done s d ending h.0)
 items_to_come-only s d ending entries (inr h) = further-only s d ending entries h.1 ∙ sym (items_to_come-going s d ending h.0)
 
@@ -100,8 +102,10 @@ items_to_come-start e d ending =
     ap (λ v. entries_of v ending (groups_of (numbered 0 lines.ended lines.last ending) ending)) (zero-add (line_ends lines))
 
 -- Said of the divisions: what comes of a reader at its start are the items of the input, and nothing else.
-pub to_come-is_items : (e : Encoding) (d : List ℕ) (ending : InputEnd) (entries : List Entry) → IsItemsToCome (start e) d ending entries → IsItems e d ending entries
+pub to_come-is_items : (e : Encoding) (d : List ℕ) (ending : InputEnd) (entries : List Entry) → IsItemsToCome (start e) d ending entries
+    → IsItems e d ending entries
 to_come-is_items e d ending entries h = rw (items_to_come-only (start e) d ending entries h, items_to_come-start e d ending) (items_of-meets e d ending)
 
-pub items-are_to_come : (e : Encoding) (d : List ℕ) (ending : InputEnd) (entries : List Entry) → IsItems e d ending entries → IsItemsToCome (start e) d ending entries
+pub items-are_to_come : (e : Encoding) (d : List ℕ) (ending : InputEnd) (entries : List Entry) → IsItems e d ending entries
+    → IsItemsToCome (start e) d ending entries
 items-are_to_come e d ending entries h = rw (items_of-only e d ending entries h, ← items_to_come-start e d ending) (items_to_come-meets (start e) d ending)

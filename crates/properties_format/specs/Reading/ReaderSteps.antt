@@ -1,12 +1,14 @@
 -- What a step of a reader gives, and what it leaves to come.
-use Rattle.std.specs.Prelude.{◌≡◌, ℕ, ◌+◌, ◌==◌, true, false, List, ◌++◌}
+use Rattle.std.specs.Prelude.{◌≡◌, ℕ, ◌+◌, ◌==◌, true, false, List, ◌∷◌, ◌++◌, Option}
 use Rattle.properties_format.specs.Text.{carriage_return, is_line_end}
 use Rattle.properties_format.specs.Encoding.{IsAligned, ascii_bytes, byte_order_mark}
 use Rattle.properties_format.specs.Reading.Cut.{decoded_line}
 use Rattle.properties_format.specs.Lines.{InputEnd, Line}
 use Rattle.properties_format.specs.Cut.{HoldsNoLineEndUnit}
 use Rattle.properties_format.specs.ItemsToCome.{ReaderState}
-use Rattle.properties_format.specs.Reading.ItemsToCome.{natural_to_come, last_to_come}
+use Rattle.properties_format.specs.Entries.{Entry}
+use Rattle.properties_format.specs.Reading.Items.{outcome_of, followed}
+use Rattle.properties_format.specs.Reading.ItemsToCome.{items_to_come, natural_to_come, last_to_come, entries_pending}
 
 -- Where x comes, and then this ending, the reader first gives these natural lines, and after them what it gives from there where y comes.
 pub record Gives (before : ReaderState) (x : List ℕ) (lines : List Line) (after : ReaderState) (y : List ℕ) (ending : InputEnd) : Type 0 where
@@ -51,3 +53,21 @@ pub record HoldsNoEnd (s : ReaderState) : Type 0 where
   pub going : s.is_done ≡ false
   pub decided : s.is_decided ≡ true
   pub none : HoldsNoLineEndUnit s.encoding s.held
+
+-- ---- steps one after the other, whatever comes after them
+
+-- Reading r, the reader first gives these natural lines.
+pub record ReadsLines (before : ReaderState) (r : List ℕ) (lines : List Line) (after : ReaderState) : Type 0 where
+  pub gives : (d : List ℕ) (ending : InputEnd) → Gives before (r ++ d) lines after d ending
+
+-- Reading r, the reader gives no item yet, and a join may be open.
+pub record ReadsOn (before : ReaderState) (r : List ℕ) (pending : Option Line) (after : ReaderState) : Type 0 where
+  pub items : (d : List ℕ) (ending : InputEnd) → items_to_come before (r ++ d) ending ≡ entries_pending pending after d ending
+
+-- Reading r, the reader comes to this logical line.
+pub record ReadsLogical (before : ReaderState) (r : List ℕ) (line : Line) (after : ReaderState) : Type 0 where
+  pub items : (d : List ℕ) (ending : InputEnd) → items_to_come before (r ++ d) ending ≡ followed line.number (outcome_of line.text) (items_to_come after d ending)
+
+-- Reading r, the reader gives this entry.
+pub record ReadsEntry (before : ReaderState) (r : List ℕ) (entry : Entry) (after : ReaderState) : Type 0 where
+  pub items : (d : List ℕ) (ending : InputEnd) → items_to_come before (r ++ d) ending ≡ entry ∷ items_to_come after d ending

@@ -1,0 +1,83 @@
+-- Bytes at the front that wait for a byte order mark: without more of them they are none, and no line end is among them.
+use Rattle.std.proofs.Common.{◌≡◌, ◌==◌, ◌&&◌, ℕ, Bool, true, false, List, [], ◌∷◌, refl, inl, inr, arith}
+use Rattle.std.proofs.lemmas.Bool.Decides.{eqb_tells}
+use Rattle.properties_format.specs.Encoding.{Encoding, windows_1252, utf_8, utf_16le, utf_16be, byte_order_mark}
+use Rattle.properties_format.specs.Reading.Waiting.{awaits_bom}
+use Rattle.properties_format.specs.Cut.{HoldsNoLineEndUnit}
+use Rattle.properties_format.specs.ItemsToCome.{ReaderState}
+use Rattle.properties_format.specs.Reading.ReaderSteps.{after_decided, HoldsNoEnd}
+use Rattle.properties_format.proofs.Encodings.ByteOrderMarks.{awaits_bom-long}
+
+-- the bytes are in the encoding asked for, and hold no line end
+abbrev pub IsPlainFront : Encoding → List ℕ → Type 0
+IsPlainFront e b = (byte_order_mark e b ≡ record { encoding = e; body = b }) × HoldsNoLineEndUnit e b
+
+front-none : (e : Encoding) → IsPlainFront e []
+front-none windows_1252 = (refl, tt)
+front-none utf_8 = (refl, tt)
+front-none utf_16le = (refl, tt)
+front-none utf_16be = (refl, tt)
+
+front-ef : (e : Encoding) → IsPlainFront e (0xef ∷ [])
+front-ef windows_1252 = (refl, (refl, tt))
+front-ef utf_8 = (refl, (refl, tt))
+front-ef utf_16le = (refl, tt)
+front-ef utf_16be = (refl, tt)
+
+front-fe : (e : Encoding) → IsPlainFront e (0xfe ∷ [])
+front-fe windows_1252 = (refl, (refl, tt))
+front-fe utf_8 = (refl, (refl, tt))
+front-fe utf_16le = (refl, tt)
+front-fe utf_16be = (refl, tt)
+
+front-ff : (e : Encoding) → IsPlainFront e (0xff ∷ [])
+front-ff windows_1252 = (refl, (refl, tt))
+front-ff utf_8 = (refl, (refl, tt))
+front-ff utf_16le = (refl, tt)
+front-ff utf_16be = (refl, tt)
+
+front-ef_bb : (e : Encoding) → IsPlainFront e (0xef ∷ 0xbb ∷ [])
+front-ef_bb windows_1252 = (refl, (refl, (refl, tt)))
+front-ef_bb utf_8 = (refl, (refl, (refl, tt)))
+front-ef_bb utf_16le = (refl, (refl, tt))
+front-ef_bb utf_16be = (refl, (refl, tt))
+
+front-one : (e : Encoding) (b : ℕ) → awaits_bom (b ∷ []) ≡ true → IsPlainFront e (b ∷ [])
+front-one e b h = elim (eqb_tells 0xef b) [
+  | inl k ↦ rw (← k.1) (front-ef e)
+  | inr k ↦ elim (eqb_tells 0xfe b) [
+    | inl m ↦ rw (← m.1) (front-fe e)
+    | inr m ↦ elim (eqb_tells 0xff b) [
+      | inl n ↦ rw (← n.1) (front-ff e)
+      | inr n ↦ let f : awaits_bom (b ∷ []) ≡ false = rw (k.0, m.0, n.0) refl in absurd (cc)
+    ]
+  ]
+]
+
+and-false : (b : Bool) → (b && false) ≡ false
+and-false true = refl
+and-false false = refl
+
+front-two : (e : Encoding) (b c : ℕ) → awaits_bom (b ∷ c ∷ []) ≡ true → IsPlainFront e (b ∷ c ∷ [])
+front-two e b c h = elim (eqb_tells 0xef b) [
+  | inl k ↦ elim (eqb_tells 0xbb c) [
+    | inl m ↦ rw (← k.1, ← m.1) (front-ef_bb e)
+    | inr m ↦ let f : awaits_bom (b ∷ c ∷ []) ≡ false = rw (← k.1, m.0) refl in absurd (cc)
+  ]
+  | inr k ↦
+      let f : awaits_bom (b ∷ c ∷ []) ≡ false = rw (k.0, and-false (0xff == c), and-false (0xfe == c), and-false (0xfe == b), and-false (0xff == b)) refl in
+      absurd (cc)
+]
+
+-- Bytes that wait for a byte order mark are none by themselves.
+pub waiting-front : (e : Encoding) (b : List ℕ) → awaits_bom b ≡ true → IsPlainFront e b
+waiting-front e [] h = front-none e
+waiting-front e (b ∷ []) h = front-one e b h
+waiting-front e (b ∷ c ∷ []) h = front-two e b c h
+waiting-front e (b ∷ c ∷ d ∷ more) h = let f : awaits_bom (b ∷ c ∷ d ∷ more) ≡ false = awaits_bom-long (b ∷ c ∷ d ∷ more) (omega arith) in absurd (cc)
+
+-- A reader that still waits for a byte order mark where nothing comes holds no line end.
+pub waiting-no_end : (s : ReaderState) → s.is_done ≡ false → awaits_bom s.held ≡ true → HoldsNoEnd (after_decided s)
+waiting-no_end s h k =
+    let f = waiting-front s.encoding s.held k in
+    record { going = h; decided = refl; none = rw f.0 f.1 }
