@@ -45,10 +45,16 @@ pub record SettlesLast (old new : ReaderState) : Type 0 where
   pub settled : IsSettled new
   pub held : IsSettled old → new ≡ old
 
+-- The LF that may stand at the front is passed over.
+pub record SkipsFeed (old new : ReaderState) : Type 0 where
+  pub alike : IsAlike old new
+  pub decided : new.is_decided ≡ true
+  pub after_end : new.after_cr ≡ false
+
 -- It is known whether an LF comes that is of a line end before, and if so it was passed; or too little is held to tell.
 abbrev pub PassesFeed : ReaderState → Bool → ReaderState → Type 0
-PassesFeed old true new = IsAlike old new × (new.is_decided ≡ true) × (new.after_cr ≡ false) × (old.after_cr ≡ false → new ≡ old)
-PassesFeed old false new = (new ≡ old) × (length old.held < unit_size old.encoding)
+PassesFeed old true new = SkipsFeed old new × (old.after_cr ≡ false → new ≡ old)
+PassesFeed old false new = (new ≡ old) × (old.after_cr ≡ true) × (length old.held < unit_size old.encoding)
 
 -- ---- seeking
 

@@ -8,12 +8,13 @@ ghost use Rattle.properties_format.specs.ItemsToCome.{ReaderState, start};
 ghost use Rattle.properties_format.specs.Reading.ReaderSteps.{after_decided};
 ghost use Rattle.java_properties.specs.Views.{encoding_of};
 ghost use Rattle.java_properties.specs.Decoding.{TellsBom};
-ghost use Rattle.java_properties.specs.LineFinder.{PassesFeed, Settles, SettlesLast, Seeks};
+ghost use Rattle.java_properties.specs.LineSearch.{unit_size};
+ghost use Rattle.java_properties.specs.LineFinder.{PassesFeed, SkipsFeed, Settles, SettlesLast, Seeks};
 
 use crate::encoding::Encoding;
 use crate::encoding::byte_order_mark::{ByteOrderMark, byte_order_mark};
 use crate::input::{FillError, InputBuffer};
-use crate::lines::search::{LineEnd, find_line_end, whole_units};
+use crate::lines::search::{LineEnd, find_line_end, unit_size, whole_units};
 use counted_io::CountedRead;
 use std::alloc::Global;
 use std::marker::Model;
@@ -151,6 +152,7 @@ impl LineSeeker {
 
     // Decides the byte order mark and passes the LF of a line end before, where the bytes that are held allow it.
     fn settle(&mut self) -> bool
+        requires { self.old.is_done ≡ false }
         ensures { Settles self.old result self.new }
     {
         if !self.is_decided {
@@ -191,17 +193,28 @@ impl LineSeeker {
         requires { self.old.is_decided ≡ true }
         ensures { PassesFeed self.old result self.new }
     {
-        if self.after_cr {
-            let feed = line_feed_of(self.encoding);
-            if self.input.held().len() < feed.len() {
-                return false;
-            }
-            if self.input.held().starts_with(feed) {
-                self.input.take(feed.len());
-            }
-            self.after_cr = false;
+        if !self.after_cr {
+            return true;
         }
+        if self.held().len() < unit_size(self.encoding) {
+            return false;
+        }
+        self.skip_line_feed();
         true
+    }
+
+    // Passes the LF that may stand at the front.
+    fn skip_line_feed(&mut self)
+        requires decided { self.old.is_decided ≡ true }
+        requires after_cr { self.old.after_cr ≡ true }
+        requires enough { unit_size self.old.encoding ≤ length self.old.held }
+        ensures { SkipsFeed self.old self.new }
+    {
+        let feed = line_feed_of(self.encoding);
+        if self.held().starts_with(feed) {
+            self.take(feed.len());
+        }
+        self.after_cr = false;
     }
 }
 
