@@ -29,6 +29,10 @@ pub lines-on : {s t u : ReaderState} {r q : List ℕ} {ls ms : List Line} → Re
 lines-on {s} {t} {u} {r} {q} {ls} {ms} h k =
     record { gives = λ d ending. subst (λ v. Gives s v (ls ++ ms) u d ending) (sym (append_assoc r q d)) (gives-on (h.gives (q ++ d) ending) (k.gives d ending)) }
 
+-- and a step that reads nothing
+pub lines-then : {s t u : ReaderState} {r : List ℕ} {ls ms : List Line} → ReadsLines s r ls t → ReadsLines t [] ms u → ReadsLines s r (ls ++ ms) u
+lines-then h k = record { gives = λ d ending. gives-on (h.gives d ending) (k.gives d ending) }
+
 -- bytes are read and held
 pub lines-read : (s : ReaderState) (r : List ℕ) → ReadsLines s r [] (after_read s r)
 lines-read s r = record { gives = λ d ending. gives-read s r d ending }
