@@ -8,8 +8,9 @@ use Rattle.properties_format.specs.Lines.{InputEnd, Line, Lines, IsLines, line_e
 use Rattle.properties_format.specs.Groups.{IsGroups}
 use Rattle.properties_format.specs.Items.{Entry, AreEntries}
 
--- Where a reader stands: the encoding in force, or the one asked for while it is not decided whether a byte order mark is at the front; the bytes that were read and not taken;
--- how many line ends were passed, and whether the last of them was a CR, whose LF may still come; and whether it is at its end for good.
+-- Where a reader stands: the encoding in force, or the one asked for while it is not decided whether a byte order mark is at the front;
+-- the bytes that were read and not taken; how many line ends were passed, and whether the last of them was a CR, whose LF may still come;
+-- and whether the reader is at its end for good.
 pub record ReaderState : Type 0 where
   pub encoding : Encoding
   pub is_decided : Bool

@@ -14,8 +14,7 @@ use Rattle.properties_format.proofs.Encodings.Characters.{pieces_of-scalar}
 abbrev pub followed : InForce → List ℕ → InForce
 followed m d = record { encoding = m.encoding; body = m.body ++ d }
 
--- bytes that a list doesn't outlast tell whether they begin with it, whatever follows
-pub begins-append : (m b d : List ℕ) → begins_longer b m ≡ false → begins_with m (b ++ d) ≡ begins_with m b
+begins-append : (m b d : List ℕ) → begins_longer b m ≡ false → begins_with m (b ++ d) ≡ begins_with m b
 begins-append [] b d h = refl
 begins-append (m ∷ ms) [] d h = absurd (cc)
 begins-append (m ∷ ms) (x ∷ b) d h = elim (cases_Bool (m == x)) [
@@ -30,8 +29,7 @@ begins-length [] b h = omega arith
 begins-length (m ∷ ms) [] h = absurd (cc)
 begins-length (m ∷ ms) (x ∷ b) h = let k = begins-length ms b (and_parts (m == x) (begins_with ms b) h).1 in omega arith
 
--- a list that isn't longer doesn't outlast the bytes
-pub not-longer : (b m : List ℕ) → length m ≤ length b → begins_longer b m ≡ false
+not-longer : (b m : List ℕ) → length m ≤ length b → begins_longer b m ≡ false
 not-longer b [] h = refl
 not-longer [] (m ∷ ms) h = absurd (omega arith)
 not-longer (x ∷ b) (m ∷ ms) h = elim (cases_Bool (m == x)) [

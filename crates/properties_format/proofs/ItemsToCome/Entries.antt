@@ -154,7 +154,9 @@ pending-end_comment_line s h k =
 pub pending-end_line : (s : ReaderState) → HoldsNoEnd s → is_comment_line (next_line s s.held).text ≡ false
     → entries_pending None s [] end ≡ followed (s.passed + 1) (outcome_of (without_open_backslash (next_line s s.held).text)) []
 pending-end_line s h k = elim (cases_Bool (is_open (next_line s s.held).text)) [
-  | inl o ↦ pending-open (gives-last s (done s) [] h refl) k o ∙ joining-done (record { number = s.passed + 1; text = without_open_backslash (next_line s s.held).text }) (done s) [] refl
+  | inl o ↦
+      let join : Line = record { number = s.passed + 1; text = without_open_backslash (next_line s s.held).text } in
+      pending-open (gives-last s (done s) [] h refl) k o ∙ joining-done join (done s) [] refl
   | inr o ↦
       let l = next_line s s.held in
       pending-closed (gives-last s (done s) [] h refl) o
@@ -166,7 +168,9 @@ pending-end_line s h k = elim (cases_Bool (is_open (next_line s s.held).text)) [
 pub joining-end : (join : Line) (s : ReaderState) → HoldsNoEnd s
     → entries_pending (Some join) s [] end ≡ followed join.number (outcome_of (join.text ++ addition (next_line s s.held).text)) []
 joining-end join s h = elim (cases_Bool (is_open (next_line s s.held).text)) [
-  | inl o ↦ joining-open join (gives-last s (done s) [] h refl) o ∙ joining-done (record { number = join.number; text = join.text ++ addition (next_line s s.held).text }) (done s) [] refl
+  | inl o ↦
+      let longer : Line = record { number = join.number; text = join.text ++ addition (next_line s s.held).text } in
+      joining-open join (gives-last s (done s) [] h refl) o ∙ joining-done longer (done s) [] refl
   | inr o ↦
       joining-closed join (gives-last s (done s) [] h refl) o
       ∙ ap (followed join.number (outcome_of (join.text ++ addition (next_line s s.held).text))) (pending-done (done s) [] end refl)

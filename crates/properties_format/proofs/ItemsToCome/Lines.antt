@@ -1,11 +1,11 @@
 -- The natural lines to come, step by step: bytes are read, the byte order mark is decided, an LF is passed over, a line is taken, the input ends.
-use Rattle.std.proofs.Common.{◌≡◌, ◌≢◌, ◌==◌, ℕ, ◌+◌, ◌≤◌, Bool, true, false, List, [], ◌∷◌, ◌++◌}
-use Rattle.std.proofs.Common.{length, refl, subst, ap, sym, ◌∙◌, inl, inr, append_assoc, append-nil, lit<, eqb-true, eq-eqb, add-zero}
+use Rattle.std.proofs.Common.{◌≡◌, ◌==◌, ℕ, ◌+◌, ◌<◌, Bool, true, false, List, [], ◌∷◌, ◌++◌, length, refl, subst, ap, ap₂, sym, ◌∙◌, inl, inr}
+use Rattle.std.proofs.Common.{append_assoc, append-nil, eqb-true, add-zero}
 use Rattle.std.specs.Prelude.{if◌then◌else◌}
 use Rattle.std.proofs.lemmas.Bool.{cases_Bool, or_cases}
 use Rattle.properties_format.specs.Text.{line_feed, carriage_return, is_line_end, LineEnding, lf}
 use Rattle.properties_format.specs.Pieces.{characters}
-use Rattle.properties_format.specs.Encoding.{Encoding, InForce, ascii_bytes, byte_order_mark, begins_with}
+use Rattle.properties_format.specs.Encoding.{Encoding, InForce, ascii_bytes, byte_order_mark}
 use Rattle.properties_format.specs.Reading.Encoding.{decoded_of, pieces_of}
 use Rattle.properties_format.specs.Reading.Waiting.{awaits_bom}
 use Rattle.properties_format.specs.Reading.Cut.{decoded_line}
@@ -15,13 +15,14 @@ use Rattle.properties_format.specs.Items.{Entry, read_fault, last_entries}
 use Rattle.properties_format.specs.ItemsToCome.{start, ReaderState, in_force}
 use Rattle.properties_format.specs.Reading.ItemsToCome.{text_to_come, natural_to_come, last_to_come}
 use Rattle.properties_format.specs.Reading.ReaderSteps.{Gives, after_read, after_decided, after_passed, after_line, next_line, HoldsLine, HoldsNoEnd}
-use Rattle.properties_format.proofs.Encodings.Characters.{pieces_of-ascii}
-use Rattle.properties_format.proofs.Encodings.Cuts.{characters-cut_ascii, cut-at_ascii}
-use Rattle.properties_format.proofs.Encodings.ByteOrderMarks.{begins-append, not-longer, byte_order_mark-append, followed}
+use Rattle.properties_format.proofs.Encodings.ByteOrderMarks.{byte_order_mark-append, followed}
 use Rattle.properties_format.proofs.Lines.Numbers.{AreNumbered, numbered-in_order}
 use Rattle.properties_format.proofs.Lines.Only.{lines_of-plain}
 use Rattle.properties_format.proofs.Lines.Plain.{one-more, plain-no_lf, without_leading_lf-none}
-use Rattle.properties_format.proofs.Cut.Byline.{end-ascii, nothing-decoded, no_end-decoded}
+use Rattle.properties_format.proofs.Cut.Units.{lf_first-append}
+use Rattle.properties_format.proofs.Cut.Byline.{no_end-decoded}
+use Rattle.properties_format.proofs.Cut.ToCome.{decoded-end, decoded-lf_first, decoded-no_lf}
+use Rattle.properties_format.specs.Cut.{units}
 use Rattle.properties_format.proofs.Lines.Steps.{lines_of-line, lines_of-cr, cr_end}
 
 -- ---- the same text to come
@@ -54,7 +55,7 @@ text_of after_cr m = rest_of_end after_cr (characters (pieces_of m.encoding m.bo
 
 -- the text once the encoding is decided
 text-decided : (s : ReaderState) (d : List ℕ) → s.is_decided ≡ true
-    → text_to_come s d ≡ rest_of_end s.after_cr (characters (pieces_of s.encoding (s.held ++ d)))
+    → text_to_come s d ≡ rest_of_end s.after_cr (decoded_line s.encoding (s.held ++ d))
 text-decided s d h = rw h refl
 
 -- ---- reading, and the byte order mark
@@ -90,85 +91,46 @@ gives-decided_last s ending h =
 
 -- An LF unit that comes after a CR is passed over.
 pub gives-passed_lf : (s : ReaderState) (rest d : List ℕ) (ending : InputEnd) → s.is_decided ≡ true → s.after_cr ≡ true
-    → s.held ≡ ascii_bytes s.encoding line_feed ++ rest
-    → Gives s d [] (after_passed s rest) d ending
+    → s.held ≡ ascii_bytes s.encoding line_feed ++ rest → Gives s d [] (after_passed s rest) d ending
 gives-passed_lf s rest d ending h k m =
     let e : s.held ++ d ≡ ascii_bytes s.encoding line_feed ++ (rest ++ d) = ap (λ v. v ++ d) m ∙ append_assoc (ascii_bytes s.encoding line_feed) rest d in
-    let f = pieces_of-ascii s.encoding line_feed (rest ++ d) (lit< tt) in
-    gives-text s (after_passed s rest) d d ending refl refl (
-    text-decided s d h
-    ∙ ap (λ v. rest_of_end v (characters (pieces_of s.encoding (s.held ++ d)))) k
-    ∙ ap (λ v. rest_of_end true (characters (pieces_of s.encoding v))) e
-    ∙ ap (λ v. rest_of_end true (characters v)) f
-    ∙ sym (text-decided (after_passed s rest) d h)
-    )
-
-begins-lf : (x : List ℕ) → begins_with_lf x ≡ true → (y : List ℕ) × (x ≡ line_feed ∷ y)
-begins-lf [] h = absurd (cc)
-begins-lf (c ∷ x) h = (x, ap (λ v. v ∷ x) (eqb-true c line_feed h))
-
--- bytes that don't begin with an LF unit aren't decoded to a text that begins with an LF
-pub decoded-no_lf : (e : Encoding) (d : List ℕ) → ((y : List ℕ) → d ≢ ascii_bytes e line_feed ++ y) → begins_with_lf (characters (pieces_of e d)) ≡ false
-decoded-no_lf e d h = elim (cases_Bool (begins_with_lf (characters (pieces_of e d)))) [
-  | inl k ↦
-      let b = begins-lf (characters (pieces_of e d)) k in
-      let c = cut-at_ascii e d [] line_feed b.0 (lit< tt) b.1 in
-      let x : c.0 ≡ [] = nothing-decoded e c.0 c.2.front in
-      absurd (h c.1 (c.2.joins ∙ ap (λ v. v ++ (ascii_bytes e line_feed ++ c.1)) x))
-  | inr k ↦ k
-]
+    let f : decoded_line s.encoding (s.held ++ d) ≡ line_feed ∷ decoded_line s.encoding (rest ++ d) =
+    ap (decoded_line s.encoding) e ∙ decoded-lf_first s.encoding (rest ++ d) in
+    let g : text_to_come s d ≡ decoded_line s.encoding (rest ++ d) = text-decided s d h ∙ ap₂ rest_of_end k f in
+    gives-text s (after_passed s rest) d d ending refl refl (g ∙ sym (text-decided (after_passed s rest) d h))
 
 rest_of_end-none : (after_cr : Bool) (x : List ℕ) → begins_with_lf x ≡ false → rest_of_end after_cr x ≡ x
 rest_of_end-none true x h = without_leading_lf-none x h
 rest_of_end-none false x h = refl
 
--- where no LF unit comes first, a CR before it does not matter
-gives-passed : (s : ReaderState) (d : List ℕ) (ending : InputEnd) → s.is_decided ≡ true → ((y : List ℕ) → s.held ++ d ≢ ascii_bytes s.encoding line_feed ++ y)
+-- where no LF unit comes first, a CR before does not matter
+gives-passed : (s : ReaderState) (d : List ℕ) (ending : InputEnd) → s.is_decided ≡ true → begins_with_lf (units s.encoding (s.held ++ d)) ≡ false
     → Gives s d [] (after_passed s s.held) d ending
 gives-passed s d ending h k =
-    gives-text s (after_passed s s.held) d d ending refl refl
-    (text-decided s d h ∙ rest_of_end-none s.after_cr (characters (pieces_of s.encoding (s.held ++ d))) (decoded-no_lf s.encoding (s.held ++ d) k) ∙ sym (text-decided (after_passed s s.held) d h))
+    let text = decoded_line s.encoding (s.held ++ d) in
+    let e : rest_of_end s.after_cr text ≡ text = rest_of_end-none s.after_cr text (decoded-no_lf s.encoding (s.held ++ d) k) in
+    gives-text s (after_passed s s.held) d d ending refl refl (text-decided s d h ∙ e ∙ sym (text-decided (after_passed s s.held) d h))
 
-begins-self : (m y : List ℕ) → begins_with m (m ++ y) ≡ true
-begins-self [] y = refl
-begins-self (c ∷ m) y = let e : (c == c) ≡ true = eq-eqb c c refl in rw e (begins-self m y)
-
--- Bytes that are as long as an LF unit, and don't begin with one, tell that no LF comes after the CR.
-pub gives-passed_none : (s : ReaderState) (d : List ℕ) (ending : InputEnd) → s.is_decided ≡ true
-    → length (ascii_bytes s.encoding line_feed) ≤ length s.held → begins_with (ascii_bytes s.encoding line_feed) s.held ≡ false
-    → Gives s d [] (after_passed s s.held) d ending
-gives-passed_none s d ending h k m = gives-passed s d ending h no_lf
-  where
-    unit : List ℕ
-    unit = ascii_bytes s.encoding line_feed
-
-    no_lf : (y : List ℕ) → s.held ++ d ≢ unit ++ y
-    no_lf y e =
-        let f : begins_with unit (s.held ++ d) ≡ false = begins-append unit s.held d (not-longer s.held unit k) ∙ m in
-        let g : begins_with unit (s.held ++ d) ≡ true = ap (begins_with unit) e ∙ begins-self unit y in
-        absurd (cc)
+-- Bytes with a whole unit that is no LF tell that none is to be passed over.
+pub gives-passed_none : (s : ReaderState) (d : List ℕ) (ending : InputEnd) → s.is_decided ≡ true → 0 < length (units s.encoding s.held)
+    → begins_with_lf (units s.encoding s.held) ≡ false → Gives s d [] (after_passed s s.held) d ending
+gives-passed_none s d ending h k m = gives-passed s d ending h (lf_first-append s.encoding s.held d k ∙ m)
 
 -- Where nothing comes, any bytes that don't begin with an LF unit tell it.
-pub gives-passed_last : (s : ReaderState) (ending : InputEnd) → s.is_decided ≡ true → begins_with (ascii_bytes s.encoding line_feed) s.held ≡ false
+pub gives-passed_last : (s : ReaderState) (ending : InputEnd) → s.is_decided ≡ true → begins_with_lf (units s.encoding s.held) ≡ false
     → Gives s [] [] (after_passed s s.held) [] ending
-gives-passed_last s ending h m = gives-passed s [] ending h no_lf
-  where
-    unit : List ℕ
-    unit = ascii_bytes s.encoding line_feed
-
-    no_lf : (y : List ℕ) → s.held ++ [] ≢ unit ++ y
-    no_lf y e =
-        let f : begins_with unit (s.held ++ []) ≡ false = ap (begins_with unit) (append-nil s.held) ∙ m in
-        let g : begins_with unit (s.held ++ []) ≡ true = ap (begins_with unit) e ∙ begins-self unit y in
-        absurd (cc)
+gives-passed_last s ending h m = gives-passed s [] ending h (ap (λ v. begins_with_lf (units s.encoding v)) (append-nil s.held) ∙ m)
 
 -- ---- a line
+
+-- lines with one more in front
+abbrev pub line_before : List ℕ → LineEnding → Lines → Lines
+line_before text by lines = record { ended = record { text = text; by = by } ∷ lines.ended; last = lines.last }
 
 -- a line and the character that ends it, before any text
 pub lines_of-ended : (text : List ℕ) (c : ℕ) (y : List ℕ) → HoldsNoLineEnd text → is_line_end c ≡ true
     → (by : LineEnding)
-    × (lines_of (text ++ c ∷ y)
-    ≡ record { ended = record { text = text; by = by } ∷ (lines_of (rest_of_end (c == carriage_return) y)).ended; last = (lines_of (rest_of_end (c == carriage_return) y)).last })
+    × (lines_of (text ++ c ∷ y) ≡ line_before text by (lines_of (rest_of_end (c == carriage_return) y)))
 lines_of-ended text c y h k = elim (or_cases (c == line_feed) (c == carriage_return) k) [
   | inl e ↦ rw (eqb-true c line_feed e) (lf, lines_of-line text lf y h (λ e. absurd (cc)))
   | inr e ↦ rw (eqb-true c carriage_return e) (cr_end y, lines_of-cr text y h)
@@ -177,7 +139,7 @@ lines_of-ended text c y h k = elim (or_cases (c == line_feed) (c == carriage_ret
 -- where the first line of the text to come is known
 gives-lines : (s t : ReaderState) (d : List ℕ) (ending : InputEnd) (text : List ℕ) (by : LineEnding) → s.is_done ≡ false → t.is_done ≡ false
     → t.passed ≡ s.passed + 1
-    → lines_of (text_to_come s d) ≡ record { ended = record { text = text; by = by } ∷ (lines_of (text_to_come t d)).ended; last = (lines_of (text_to_come t d)).last }
+    → lines_of (text_to_come s d) ≡ line_before text by (lines_of (text_to_come t d))
     → Gives s d (record { number = s.passed + 1; text = text } ∷ []) t d ending
 unfolding natural_to_come last_to_come
 gives-lines s t d ending text by h k m e = rw (h, k, m) (record {
@@ -193,18 +155,17 @@ line-plain : (s : ReaderState) (l : List ℕ) (c : ℕ) (rest d : List ℕ) (end
 line-plain s l c rest d ending h plain =
     let text = decoded_line s.encoding l in
     let t : ReaderState = after_line s c rest in
-    let y = characters (pieces_of s.encoding (rest ++ d)) in
+    let y = decoded_line s.encoding (rest ++ d) in
     let e : s.held ++ d ≡ l ++ (ascii_bytes s.encoding c ++ (rest ++ d)) =
     ap (λ v. v ++ d) h.held ∙ append_assoc l (ascii_bytes s.encoding c ++ rest) d ∙ ap (λ v. l ++ v) (append_assoc (ascii_bytes s.encoding c) rest d) in
     let f : text_to_come s d ≡ text ++ c ∷ y =
     text-decided s d h.decided
-    ∙ ap (λ v. rest_of_end v (characters (pieces_of s.encoding (s.held ++ d)))) h.passed
-    ∙ ap (λ v. characters (pieces_of s.encoding v)) e
-    ∙ characters-cut_ascii s.encoding c l (rest ++ d) (end-ascii c h.ends) h.aligned in
+    ∙ ap (λ v. rest_of_end v (decoded_line s.encoding (s.held ++ d))) h.passed
+    ∙ ap (λ v. decoded_line s.encoding v) e
+    ∙ decoded-end s.encoding c l (rest ++ d) h.ends h.aligned in
     let g : rest_of_end (c == carriage_return) y ≡ text_to_come t d = sym (text-decided t d h.decided) in
     let k = lines_of-ended text c y plain h.ends in
-    let lines : List ℕ → Lines = λ v. record { ended = record { text = text; by = k.0 } ∷ (lines_of v).ended; last = (lines_of v).last } in
-    gives-lines s t d ending text k.0 h.going h.going refl (ap lines_of f ∙ k.1 ∙ ap lines g)
+    gives-lines s t d ending text k.0 h.going h.going refl (ap lines_of f ∙ k.1 ∙ ap (λ v. line_before text k.0 (lines_of v)) g)
 
 -- A line among the held bytes comes next, and then what comes of the rest.
 pub gives-line : (s : ReaderState) (l : List ℕ) (c : ℕ) (rest d : List ℕ) (ending : InputEnd) → HoldsLine s l c rest
@@ -220,7 +181,7 @@ last-plain s h plain =
     let text = decoded_line s.encoding s.held in
     ap lines_of (
     text-decided s [] h.decided
-    ∙ ap (λ v. rest_of_end s.after_cr (characters (pieces_of s.encoding v))) (append-nil s.held)
+    ∙ ap (λ v. rest_of_end s.after_cr (decoded_line s.encoding v)) (append-nil s.held)
     ∙ rest_of_end-none s.after_cr text (plain-no_lf text plain)
     )
     ∙ lines_of-plain text plain

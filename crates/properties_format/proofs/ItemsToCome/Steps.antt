@@ -1,7 +1,9 @@
 -- Steps of a reader one after the other: natural lines to logical lines, and these to entries.
-use Rattle.std.proofs.Common.{◌≡◌, ℕ, true, false, List, [], ◌∷◌, ◌++◌, length, ◌≤◌, Option, Some, None, refl, ap, sym, ◌∙◌, subst, append_assoc, append-nil}
+use Rattle.std.proofs.Common.{◌≡◌, ℕ, true, false, List, [], ◌∷◌, ◌++◌, length, ◌<◌, Option, Some, None, refl, ap, sym, ◌∙◌, subst, append_assoc, append-nil}
 use Rattle.properties_format.specs.Text.{line_feed}
-use Rattle.properties_format.specs.Encoding.{ascii_bytes, begins_with}
+use Rattle.properties_format.specs.Encoding.{ascii_bytes}
+use Rattle.properties_format.specs.Cut.{units}
+use Rattle.properties_format.specs.Reading.Lines.{begins_with_lf}
 use Rattle.properties_format.specs.Reading.Waiting.{awaits_bom}
 use Rattle.properties_format.specs.Lines.{InputEnd, Line}
 use Rattle.properties_format.specs.Groups.{is_open, is_comment_line, without_open_backslash, addition}
@@ -27,6 +29,10 @@ pub lines-on : {s t u : ReaderState} {r q : List ℕ} {ls ms : List Line} → Re
 lines-on {s} {t} {u} {r} {q} {ls} {ms} h k =
     record { gives = λ d ending. subst (λ v. Gives s v (ls ++ ms) u d ending) (sym (append_assoc r q d)) (gives-on (h.gives (q ++ d) ending) (k.gives d ending)) }
 
+-- and a step that reads nothing
+pub lines-then : {s t u : ReaderState} {r : List ℕ} {ls ms : List Line} → ReadsLines s r ls t → ReadsLines t [] ms u → ReadsLines s r (ls ++ ms) u
+lines-then h k = record { gives = λ d ending. gives-on (h.gives d ending) (k.gives d ending) }
+
 -- bytes are read and held
 pub lines-read : (s : ReaderState) (r : List ℕ) → ReadsLines s r [] (after_read s r)
 lines-read s r = record { gives = λ d ending. gives-read s r d ending }
@@ -40,9 +46,8 @@ pub lines-passed_lf : (s : ReaderState) (rest : List ℕ) → s.is_decided ≡ t
     → ReadsLines s [] [] (after_passed s rest)
 lines-passed_lf s rest h k m = record { gives = λ d ending. gives-passed_lf s rest d ending h k m }
 
--- bytes that are as long as an LF unit, and don't begin with one, tell that none is to be passed over
-pub lines-passed_none : (s : ReaderState) → s.is_decided ≡ true → length (ascii_bytes s.encoding line_feed) ≤ length s.held
-    → begins_with (ascii_bytes s.encoding line_feed) s.held ≡ false
+-- bytes with a whole unit that is no LF tell that none is to be passed over
+pub lines-passed_none : (s : ReaderState) → s.is_decided ≡ true → 0 < length (units s.encoding s.held) → begins_with_lf (units s.encoding s.held) ≡ false
     → ReadsLines s [] [] (after_passed s s.held)
 lines-passed_none s h k m = record { gives = λ d ending. gives-passed_none s d ending h k m }
 
@@ -75,7 +80,8 @@ on-open {s} {t} {u} {r} {q} h k m o = record { items = λ d ending. regroup s r 
 -- each open line after it is one more of the join
 pub on-more : {s t u : ReaderState} {r q : List ℕ} {join l : Line} → ReadsOn s r (Some join) t → ReadsLines t q (l ∷ []) u → is_open l.text ≡ true
     → ReadsOn s (r ++ q) (Some (record { number = join.number; text = join.text ++ addition l.text })) u
-on-more {s} {t} {u} {r} {q} {join} h k o = record { items = λ d ending. regroup s r q d ending _ (h.items (q ++ d) ending ∙ joining-open join (k.gives d ending) o) }
+on-more {s} {t} {u} {r} {q} {join} h k o =
+    record { items = λ d ending. regroup s r q d ending _ (h.items (q ++ d) ending ∙ joining-open join (k.gives d ending) o) }
 
 -- ---- logical lines
 
@@ -88,19 +94,28 @@ none-open number text s d ending = ap (followed number (outcome_of text)) (sym (
 pub logical-comment_line : {s t u : ReaderState} {r q : List ℕ} {l : Line} → ReadsOn s r None t → ReadsLines t q (l ∷ []) u → is_comment_line l.text ≡ true
     → ReadsLogical s (r ++ q) l u
 logical-comment_line {s} {t} {u} {r} {q} {l} h k m =
-    record { items = λ d ending. regroup s r q d ending _ (h.items (q ++ d) ending ∙ pending-comment_line (k.gives d ending) m ∙ none-open l.number l.text u d ending) }
+    record {
+      items = λ d ending. regroup s r q d ending _
+          (h.items (q ++ d) ending ∙ pending-comment_line (k.gives d ending) m ∙ none-open l.number l.text u d ending);
+    }
 
 -- so is a line that is not open
 pub logical-closed : {s t u : ReaderState} {r q : List ℕ} {l : Line} → ReadsOn s r None t → ReadsLines t q (l ∷ []) u → is_open l.text ≡ false
     → ReadsLogical s (r ++ q) l u
 logical-closed {s} {t} {u} {r} {q} {l} h k o =
-    record { items = λ d ending. regroup s r q d ending _ (h.items (q ++ d) ending ∙ pending-closed (k.gives d ending) o ∙ none-open l.number l.text u d ending) }
+    record {
+      items = λ d ending. regroup s r q d ending _
+          (h.items (q ++ d) ending ∙ pending-closed (k.gives d ending) o ∙ none-open l.number l.text u d ending);
+    }
 
 -- where a join is open, a line that is not open is its last
 pub logical-joined : {s t u : ReaderState} {r q : List ℕ} {join l : Line} → ReadsOn s r (Some join) t → ReadsLines t q (l ∷ []) u → is_open l.text ≡ false
     → ReadsLogical s (r ++ q) (record { number = join.number; text = join.text ++ addition l.text }) u
 logical-joined {s} {t} {u} {r} {q} {join} {l} h k o =
-    record { items = λ d ending. regroup s r q d ending _ (h.items (q ++ d) ending ∙ joining-closed join (k.gives d ending) o ∙ none-open join.number (join.text ++ addition l.text) u d ending) }
+    record {
+      items = λ d ending. regroup s r q d ending _
+          (h.items (q ++ d) ending ∙ joining-closed join (k.gives d ending) o ∙ none-open join.number (join.text ++ addition l.text) u d ending);
+    }
 
 -- ---- entries
 
@@ -121,7 +136,9 @@ pub entry-broken : {s t : ReaderState} {r : List ℕ} {line : Line} {kind : Malf
 entry-broken {s} {t} {r} {line} {kind} h k done m =
     record {
       items = λ d ending.
-          h.items d ending ∙ followed-broken line.number line.text kind (items_to_come t d ending) k ∙ ap (λ v. malformed kind line.number ∷ v) (sym (items_to_come-done done d ending m));
+          h.items d ending
+          ∙ followed-broken line.number line.text kind (items_to_come t d ending) k
+          ∙ ap (λ v. malformed kind line.number ∷ v) (sym (items_to_come-done done d ending m));
     }
 
 -- ---- nothing comes

@@ -3,7 +3,7 @@ use Rattle.std.proofs.Common.{◌≡◌, ◌==◌, ℕ, ◌+◌, Bool, true, fal
 use Rattle.std.proofs.lemmas.Bool.{cases_Bool}
 use Rattle.std.proofs.lemmas.Bool.Decides.{eqb_tells}
 use Rattle.properties_format.specs.Text.{line_feed}
-use Rattle.properties_format.specs.Pieces.{characters}
+use Rattle.properties_format.specs.Pieces.{Piece, characters}
 use Rattle.properties_format.specs.Encoding.{Encoding, byte_order_mark}
 use Rattle.properties_format.specs.Reading.Encoding.{pieces_of}
 use Rattle.properties_format.specs.Lines.{InputEnd, line_ends, numbered}
@@ -63,11 +63,13 @@ further-meets s d ending =
 further-only : (s : ReaderState) (d : List ℕ) (ending : InputEnd) (entries : List Entry) → AreFurtherEntries s d ending entries
     → entries ≡ further_entries s.passed (lines_of (text_to_come s d)) ending
 further-only s d ending entries h =
+    let f = in_force s d in
+    let text : List Piece → List ℕ = λ v. rest_of_end s.after_cr (characters v) in
     entries_of-only (s.passed + line_ends h.lines) ending h.groups entries h.are_entries
-    ∙ ap (λ v. entries_of (s.passed + line_ends h.lines) ending v) (groups_of-only (numbered s.passed h.lines.ended h.lines.last ending) ending h.groups h.grouped)
+    ∙ ap (entries_of (s.passed + line_ends h.lines) ending) (groups_of-only (numbered s.passed h.lines.ended h.lines.last ending) ending h.groups h.grouped)
     ∙ ap (λ v. further_entries s.passed v ending) (lines_of-only h.text h.lines h.divided)
     ∙ ap (λ v. further_entries s.passed (lines_of v) ending) (rest_of_end-only s.after_cr (characters h.pieces) h.text h.after_end)
-    ∙ ap (λ v. further_entries s.passed (lines_of (rest_of_end s.after_cr (characters v))) ending) (pieces_of-only (in_force s d).encoding (in_force s d).body h.pieces h.are_pieces)
+    ∙ ap (λ v. further_entries s.passed (lines_of (text v)) ending) (pieces_of-only f.encoding f.body h.pieces h.are_pieces)
 
 -- at the end for good there is none
 pub items_to_come-done : (s : ReaderState) (d : List ℕ) (ending : InputEnd) → s.is_done ≡ true → items_to_come s d ending ≡ []

@@ -66,7 +66,8 @@ pub record ReadsOn (before : ReaderState) (r : List ℕ) (pending : Option Line)
 
 -- Reading r, the reader comes to this logical line.
 pub record ReadsLogical (before : ReaderState) (r : List ℕ) (line : Line) (after : ReaderState) : Type 0 where
-  pub items : (d : List ℕ) (ending : InputEnd) → items_to_come before (r ++ d) ending ≡ followed line.number (outcome_of line.text) (items_to_come after d ending)
+  pub items : (d : List ℕ) (ending : InputEnd)
+      → items_to_come before (r ++ d) ending ≡ followed line.number (outcome_of line.text) (items_to_come after d ending)
 
 -- Reading r, the reader gives this entry.
 pub record ReadsEntry (before : ReaderState) (r : List ℕ) (entry : Entry) (after : ReaderState) : Type 0 where
