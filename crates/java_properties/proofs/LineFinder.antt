@@ -3,8 +3,9 @@ use Rattle.std.proofs.Common.{◌≡◌, ◌<◌, ◌≤◌, ◌==◌, ◌&&◌,
 use Rattle.std.specs.Prelude.{Some, None}
 use Rattle.std.proofs.lemmas.Bool.{cases_Bool, and_parts}
 use Rattle.properties_format.specs.Text.{line_feed}
-use Rattle.properties_format.specs.Encoding.{Encoding, windows_1252, utf_8, utf_16le, utf_16be, ascii_bytes, begins_with}
-use Rattle.properties_format.specs.Cut.{HoldsNoLineEndUnit}
+use Rattle.properties_format.specs.Encoding.{Encoding, windows_1252, utf_8, utf_16le, utf_16be, ascii_bytes, begins_with, IsAligned}
+use Rattle.properties_format.specs.Cut.{units, HoldsNoLineEndUnit}
+use Rattle.properties_format.specs.Reading.Lines.{begins_with_lf}
 use Rattle.properties_format.specs.Lines.{InputEnd, end, fault, more}
 use Rattle.properties_format.specs.Reading.Waiting.{awaits_bom}
 use Rattle.properties_format.specs.ItemsToCome.{ReaderState}
@@ -12,11 +13,14 @@ use Rattle.properties_format.specs.Reading.ItemsToCome.{natural_to_come}
 use Rattle.properties_format.specs.Reading.ReaderSteps.{Gives, ReadsLines, HoldsNoEnd, after_decided, after_passed, after_read}
 use Rattle.properties_format.proofs.ItemsToCome.Lines.{gives-decided_last, gives-passed_last, natural-more}
 use Rattle.properties_format.proofs.ItemsToCome.Entries.{gives-on}
-use Rattle.properties_format.proofs.ItemsToCome.Steps.{lines-start, lines-on, lines-read, lines-decided, lines-passed_lf, lines-passed_none}
-use Rattle.properties_format.proofs.ItemsToCome.Waiting.{waiting-no_end}
+use Rattle.properties_format.proofs.ItemsToCome.Steps.{lines-start, lines-on, lines-then, lines-read, lines-decided, lines-passed_lf, lines-passed_none}
+use Rattle.properties_format.proofs.ItemsToCome.Waiting.{waiting-front, waiting-no_end, lf_first-bytes}
+use Rattle.properties_format.proofs.Cut.Units.{no_end_unit-right}
+use Rattle.counted_io.specs.Streams.{Reader, HasRead, HasFailed}
+use Rattle.counted_io.proofs.Streams.{read-none, read-more, failed-more}
 use Rattle.java_properties.specs.Decoding.{TellsBom}
 use Rattle.java_properties.specs.LineSearch.{unit_size}
-use Rattle.java_properties.specs.LineFinder.{IsSettled, IsAlike, SkipsFeed, PassesFeed, Settles, SettlesLast}
+use Rattle.java_properties.specs.LineFinder.{IsSettled, HoldsNoEndYet, IsAlike, SkipsFeed, PassesFeed, Settles, SettlesLast, Along, IsAtLast}
 use Rattle.java_properties.specs.declared.encoding.byte_order_mark.ByteOrderMark.{ByteOrderMark}
 use Rattle.java_properties.specs.declared.encoding.byte_order_mark.ByteOrderMark.TheVariants.{Present, Absent, Undecided}
 
@@ -24,13 +28,24 @@ and-false : (b : Bool) → (b && false) ≡ false
 and-false true = refl
 and-false false = refl
 
+unit-aligned : (e : Encoding) → IsAligned e (ascii_bytes e line_feed)
+unit-aligned windows_1252 = tt
+unit-aligned utf_8 = tt
+unit-aligned utf_16le = refl
+unit-aligned utf_16be = refl
+
 -- ---- the LF after a CR
 
-unit-length : (e : Encoding) → length (ascii_bytes e line_feed) ≡ unit_size e
-unit-length windows_1252 = refl
-unit-length utf_8 = refl
-unit-length utf_16le = refl
-unit-length utf_16be = refl
+-- bytes that are as long as a unit have one
+some-units : (e : Encoding) (d : List ℕ) → unit_size e ≤ length d → 0 < length (units e d)
+some-units windows_1252 d h = h
+some-units utf_8 d h = h
+some-units utf_16le [] h = absurd (omega arith)
+some-units utf_16le (a ∷ []) h = absurd (omega arith)
+some-units utf_16le (a ∷ b ∷ d) h = omega arith
+some-units utf_16be [] h = absurd (omega arith)
+some-units utf_16be (a ∷ []) h = absurd (omega arith)
+some-units utf_16be (a ∷ b ∷ d) h = omega arith
 
 -- what the bytes begin with stands at their front
 begins-front : (m d : List ℕ) → begins_with m d ≡ true → d ≡ m ++ drop (length m) d
@@ -53,13 +68,18 @@ alike-passed h = record { gives = h; passed = refl; done = refl }
 
 pub skips-lf : (s : ReaderState) (rest : List ℕ) → s.is_decided ≡ true → s.after_cr ≡ true → s.held ≡ ascii_bytes s.encoding line_feed ++ rest
     → SkipsFeed s (after_passed s rest)
-skips-lf s rest d a h = record { alike = alike-passed (lines-passed_lf s rest d a h); decided = d; after_end = refl }
+skips-lf s rest d a h = record {
+  alike = alike-passed (lines-passed_lf s rest d a h);
+  decided = d;
+  after_end = refl;
+  none = λ k. no_end_unit-right s.encoding (ascii_bytes s.encoding line_feed) rest (unit-aligned s.encoding) (rw h at k);
+}
 
 pub skips-none : (s : ReaderState) (r : Bool) → s.is_decided ≡ true → unit_size s.encoding ≤ length s.held
     → ((rest : List ℕ) → s.held ≡ ascii_bytes s.encoding line_feed ++ rest → r ≡ true) → r ≡ false → SkipsFeed s (after_passed s s.held)
 skips-none s r d l h k =
-    let m : length (ascii_bytes s.encoding line_feed) ≤ length s.held = rw (unit-length s.encoding) l in
-    record { alike = alike-passed (lines-passed_none s d m (not-begins _ _ r h k)); decided = d; after_end = refl }
+    let none : begins_with_lf (units s.encoding s.held) ≡ false = sym (lf_first-bytes s.encoding s.held) ∙ not-begins _ _ r h k in
+    record { alike = alike-passed (lines-passed_none s d (some-units s.encoding s.held l) none); decided = d; after_end = refl; none = λ m. m }
 
 -- ---- where it is settled
 
@@ -80,11 +100,11 @@ alike-decided s h k = record { gives = lines-decided s h k; passed = refl; done 
 
 -- no LF is sought
 pub passes-none : (s : ReaderState) → s.is_decided ≡ true → s.after_cr ≡ false → PassesFeed s true s
-passes-none s d a = (record { alike = alike-self s; decided = d; after_end = a }, λ h. refl)
+passes-none s d a = record { alike = alike-self s; decided = d; after_end = a; none = λ m. m }
 
 -- one is passed over
 pub passes-skipped : (s t : ReaderState) → s.after_cr ≡ true → SkipsFeed s t → PassesFeed s true t
-passes-skipped s t a h = (h, λ k. absurd (cc))
+passes-skipped s t a h = h
 
 -- fewer bytes than a unit hold no line end
 pub short-none : (e : Encoding) (d : List ℕ) → length d < unit_size e → HoldsNoLineEndUnit e d
@@ -99,31 +119,33 @@ short-none utf_16be [] h = tt
 short-none utf_16be (b ∷ []) h = tt
 short-none utf_16be (b ∷ c ∷ d) h = absurd (omega arith)
 
-short-no_end : (s : ReaderState) → s.is_done ≡ false → s.is_decided ≡ true → length s.held < unit_size s.encoding → HoldsNoEnd s
-short-no_end s g d h = record { going = g; decided = d; none = short-none s.encoding s.held h }
+-- a line end that is not held yet gives no line
+pub yet-more : (s : ReaderState) → s.is_done ≡ false → HoldsNoEndYet s → natural_to_come s [] more ≡ []
+yet-more s g (inl h) = (natural-more s (record { going = g; decided = h.0; none = h.1 })).0
+yet-more s g (inr h) = (gives-decided_last s more h.0).natural ∙ (natural-more (after_decided s) (waiting-no_end s g h.1)).0
 
 -- It waits for the byte order mark.
 pub settles-waiting : (s : ReaderState) → s.is_done ≡ false → s.is_decided ≡ false → awaits_bom s.held ≡ true → Settles s false s
 settles-waiting s g d h = record {
   alike = alike-self s;
   yes = λ e. absurd (cc);
-  no = λ e. (refl, (gives-decided_last s more d).natural ∙ (natural-more (after_decided s) (waiting-no_end s g h)).0);
+  no = λ e. (refl, inr (d, h));
 }
 
 -- The LF that is of an end before is passed, or waited for.
 pub settles-decided : (s t : ReaderState) (settled : Bool) → s.is_done ≡ false → s.is_decided ≡ true → PassesFeed s settled t → Settles s settled t
-settles-decided s t true g d (h, same) =
+settles-decided s t true g d h =
     record { alike = h.alike; yes = λ e. record { decided = h.decided; after_end = h.after_end }; no = λ e. absurd (cc) }
 settles-decided s t false g d (same, after, short) = rw same (record {
   alike = alike-self s;
   yes = λ e. absurd (cc);
-  no = λ e. (refl, (natural-more s (short-no_end s g d short)).0);
+  no = λ e. (refl, inl (d, short-none s.encoding s.held short));
 })
 
 -- The byte order mark was just decided, and no line end stands before.
 pub settles-deciding : (s t : ReaderState) (settled : Bool) → s.is_decided ≡ false → s.after_cr ≡ false → awaits_bom s.held ≡ false
     → PassesFeed (after_decided s) settled t → Settles s settled t
-settles-deciding s t true d a h (skips, same) = record {
+settles-deciding s t true d a h skips = record {
   alike = alike-on (alike-decided s d h) skips.alike;
   yes = λ e. record { decided = skips.decided; after_end = skips.after_end };
   no = λ e. absurd (cc);
@@ -144,9 +166,17 @@ short-not_begins utf_16be [] h = refl
 short-not_begins utf_16be (b ∷ []) h = and-false (0 == b)
 short-not_begins utf_16be (b ∷ c ∷ d) h = absurd (omega arith)
 
+yet-decided : (s : ReaderState) → s.is_decided ≡ true → HoldsNoEndYet s → HoldsNoLineEndUnit s.encoding s.held
+yet-decided s d (inl h) = h.1
+yet-decided s d (inr h) = absurd (cc)
+
+waiting-none : (s : ReaderState) → s.is_decided ≡ false → HoldsNoEndYet s → HoldsNoLineEndUnit (after_decided s).encoding (after_decided s).held
+waiting-none s d (inl h) = absurd (cc)
+waiting-none s d (inr h) = let f = waiting-front s.encoding s.held h.1 in rw f.0 f.1
+
 -- the LF of an end before was passed, or none can come
 last-passed : (s t : ReaderState) (settled : Bool) → s.is_decided ≡ true → PassesFeed s settled t → SettlesLast s (record t { after_cr = false })
-last-passed s t true d (h, same) =
+last-passed s t true d h =
     let e : t ≡ record t { after_cr = false } = ap (λ v. let w : ReaderState = record t { after_cr = v } in w) h.after_end in
     let P : ReaderState → Type 0 = SettlesLast s in
     subst P e (record {
@@ -154,14 +184,14 @@ last-passed s t true d (h, same) =
       passed = h.alike.passed;
       done = h.alike.done;
       settled = record { decided = h.decided; after_end = h.after_end };
-      held = λ k. same k.after_end;
+      none = λ k. h.none (yet-decided s d k);
     })
 last-passed s t false d (same, after, short) = rw same (record {
-  gives = λ ending. gives-passed_last s ending d (short-not_begins s.encoding s.held short);
+  gives = λ ending. gives-passed_last s ending d (sym (lf_first-bytes s.encoding s.held) ∙ short-not_begins s.encoding s.held short);
   passed = refl;
   done = refl;
   settled = record { decided = d; after_end = refl };
-  held = λ k. absurd (cc);
+  none = λ k. yet-decided s d k;
 })
 
 pub settles_last-decided : (s t : ReaderState) (settled : Bool) → s.is_decided ≡ true → PassesFeed s settled t → SettlesLast s (record t { after_cr = false })
@@ -176,5 +206,44 @@ settles_last-deciding s t settled d p =
       passed = k.passed;
       done = k.done;
       settled = k.settled;
-      held = λ h. absurd (cc);
+      none = λ h. k.none (inl (refl, waiting-none s d h));
     }
+
+-- ---- reading on
+
+module _ {R : Type 0} {reader : Reader R} where
+  pub along-start : (s : ReaderState) (from : R) → Along reader s from [] s from
+  along-start s from = record { read = read-none from; gives = lines-start s; passed = refl; done = refl; lazy = inl (refl, refl) }
+
+  -- a step that reads nothing
+  pub along-alike : {s t u : ReaderState} {from to : R} {r : List ℕ} → Along reader s from r t to → IsAlike t u → Along reader s from r u to
+  along-alike h k = record { read = h.read; gives = lines-then h.gives k.gives; passed = k.passed ∙ h.passed; done = k.done ∙ h.done; lazy = h.lazy }
+
+  -- where what is held gives no line, what was held at first gave none
+  pub along-none : {s t : ReaderState} {from to : R} {r : List ℕ} → Along reader s from r t to → natural_to_come t [] more ≡ [] → natural_to_come s [] more ≡ []
+  along-none {s} {t} h k = elim h.lazy [
+    | inl e ↦ let g : ReadsLines s [] [] t = rw e.1 at h.gives in (g.gives [] more).natural ∙ k
+    | inr e ↦ e
+  ]
+
+  -- bytes are read
+  pub along-read : {s t : ReaderState} {from to next : R} {r : List ℕ} (q : List ℕ) → Along reader s from r t to → natural_to_come t [] more ≡ [] → HasRead reader to q next
+      → Along reader s from (r ++ q) (after_read t q) next
+  along-read {t = t} q h k m = record {
+    read = read-more h.read m;
+    gives = lines-on h.gives (lines-read t q);
+    passed = h.passed;
+    done = h.done;
+    lazy = inr (along-none h k);
+  }
+
+  -- nothing comes any more
+  pub along-last : {s t u : ReaderState} {from to : R} {r : List ℕ} → Along reader s from r t to → s.is_done ≡ false → HoldsNoEndYet t → SettlesLast t u → IsAtLast s r u
+  along-last {s} {t} {u} {r = r} h g k m =
+      let last : (ending : InputEnd) → Gives s r [] t [] ending = λ ending. subst (λ v. Gives s v [] t [] ending) (append-nil r) (h.gives.gives [] ending) in
+      record {
+        gives = λ ending. gives-on (last ending) (m.gives ending);
+        passed = m.passed ∙ h.passed;
+        none = record { going = m.done ∙ h.done ∙ g; decided = m.settled.decided; none = m.none k };
+        lazy = along-none h (yet-more t (h.done ∙ g) k);
+      }

@@ -2,6 +2,8 @@
 use Rattle.std.specs.Prelude.{◌≡◌, ◌⊎◌, ◌+◌, ◌-◌, ◌^◌, ◌<◌, ◌≤◌, ℕ, Bool, true, false, if◌then◌else◌, List, [], ◌∷◌, ◌++◌, take, length, Option, Some, None, Result, Ok, Err}
 use Rattle.std.specs.declared.io.Error.{Error}
 use Rattle.counted_io.specs.Streams.{Reader, HasRead, HasFailed}
+use Rattle.properties_format.specs.Cut.{HoldsNoLineEndUnit}
+use Rattle.properties_format.specs.Reading.Waiting.{awaits_bom}
 use Rattle.properties_format.specs.Lines as format
 use Rattle.properties_format.specs.Lines.{InputEnd, end, fault, more}
 use Rattle.properties_format.specs.Pieces.{characters}
@@ -25,6 +27,11 @@ pub record IsSettled (s : ReaderState) : Type 0 where
   pub decided : s.is_decided ≡ true
   pub after_end : s.after_cr ≡ false
 
+-- No line end is among the bytes that are held, as far as it is known what they are.
+abbrev pub HoldsNoEndYet : ReaderState → Type 0
+HoldsNoEndYet s =
+    (s.is_decided ≡ true) × HoldsNoLineEndUnit s.encoding s.held ⊎ (s.is_decided ≡ false) × (awaits_bom s.held ≡ true)
+
 -- Nothing is read, and no line is passed: what is to come stays the same.
 pub record IsAlike (old new : ReaderState) : Type 0 where
   pub gives : ReadsLines old [] [] new
@@ -35,25 +42,26 @@ pub record IsAlike (old new : ReaderState) : Type 0 where
 pub record Settles (old : ReaderState) (settled : Bool) (new : ReaderState) : Type 0 where
   pub alike : IsAlike old new
   pub yes : settled ≡ true → IsSettled new
-  pub no : settled ≡ false → (new ≡ old) × (natural_to_come new [] more ≡ [])
+  pub no : settled ≡ false → (new ≡ old) × HoldsNoEndYet new
 
--- What is held settles it where nothing more comes. Held bytes without a line end still have none.
+-- What is held settles it where nothing more comes.
 pub record SettlesLast (old new : ReaderState) : Type 0 where
   pub gives : (ending : InputEnd) → Gives old [] [] new [] ending
   pub passed : new.passed ≡ old.passed
   pub done : new.is_done ≡ old.is_done
   pub settled : IsSettled new
-  pub held : IsSettled old → new ≡ old
+  pub none : HoldsNoEndYet old → HoldsNoLineEndUnit new.encoding new.held
 
 -- The LF that may stand at the front is passed over.
 pub record SkipsFeed (old new : ReaderState) : Type 0 where
   pub alike : IsAlike old new
   pub decided : new.is_decided ≡ true
   pub after_end : new.after_cr ≡ false
+  pub none : HoldsNoLineEndUnit old.encoding old.held → HoldsNoLineEndUnit new.encoding new.held
 
 -- It is known whether an LF comes that is of a line end before, and if so it was passed; or too little is held to tell.
 abbrev pub PassesFeed : ReaderState → Bool → ReaderState → Type 0
-PassesFeed old true new = SkipsFeed old new × (old.after_cr ≡ false → new ≡ old)
+PassesFeed old true new = SkipsFeed old new
 PassesFeed old false new = (new ≡ old) × (old.after_cr ≡ true) × (length old.held < unit_size old.encoding)
 
 -- ---- seeking

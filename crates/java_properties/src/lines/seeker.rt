@@ -1,6 +1,6 @@
 // Line ends, sought among the undecoded bytes that are held, and read on where none is.
 
-ghost use Rattle.std.specs.Prelude.{◌≡◌, ◌≤◌, false, true, drop, length};
+ghost use Rattle.std.specs.Prelude.{◌≡◌, ◌<◌, ◌≤◌, ◌^◌, false, true, drop, length};
 ghost use Rattle.counted_io.specs.Streams.{IsSameReader};
 ghost use Rattle.properties_format.specs.Text.{line_feed};
 ghost use Rattle.properties_format.specs.Encoding.{ascii_bytes};
@@ -8,6 +8,7 @@ ghost use Rattle.properties_format.specs.ItemsToCome.{ReaderState, start};
 ghost use Rattle.properties_format.specs.Reading.ReaderSteps.{after_decided};
 ghost use Rattle.java_properties.specs.Views.{encoding_of};
 ghost use Rattle.java_properties.specs.Decoding.{TellsBom};
+ghost use Rattle.java_properties.specs.InputBuffer.{Fills};
 ghost use Rattle.java_properties.specs.LineSearch.{unit_size};
 ghost use Rattle.java_properties.specs.LineFinder.{PassesFeed, SkipsFeed, Settles, SettlesLast, Seeks};
 
@@ -131,12 +132,14 @@ impl LineSeeker {
                 settled = self.settle();
             }
             if settled {
-                if let Some(end) = find_line_end(self.encoding, self.held(), searched) {
+                let encoding = self.encoding();
+                let held = self.held();
+                if let Some(end) = find_line_end(encoding, held, searched) {
                     return Ok(Some(end));
                 }
-                searched = whole_units(self.encoding, self.held().len());
+                searched = whole_units(encoding, held.len());
             }
-            match self.input.fill(reader) {
+            match self.read(reader) {
                 Ok(0) => {
                     self.settle_last();
                     return Ok(None);
@@ -148,6 +151,17 @@ impl LineSeeker {
                 }
             }
         }
+    }
+
+    // One read, whose bytes are held after the others.
+    fn read<R: CountedRead>(&mut self, reader: &mut R) -> Result<usize, FillError>
+        ensures fills { Fills R.CountedRead self.old.held reader.old result self.new.held reader.new }
+        ensures same { self.new ≡ record self.old { held = self.new.held } }
+        ensures same_reader { IsSameReader R.CountedRead reader.old reader.new }
+        ensures fits { length self.old.held < 2 ^ 64 }
+    {
+        let _length = self.held().len();
+        self.input.fill(reader)
     }
 
     // Decides the byte order mark and passes the LF of a line end before, where the bytes that are held allow it.
