@@ -2,6 +2,7 @@ pub mod Streams
 pub mod Calls
 pub mod Windows1252
 pub mod FirstPieces
+pub mod TextFronts
 pub mod Printing
 pub mod MarkLike
 pub mod SettingsTests
