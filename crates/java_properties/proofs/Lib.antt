@@ -12,3 +12,4 @@ pub mod LineTexts
 pub mod Making
 mod InputBuffer
 pub mod LineFinder
+pub mod LineSearch

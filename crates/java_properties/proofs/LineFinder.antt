@@ -1,26 +1,36 @@
 -- How a line is sought and found, step by step.
-use Rattle.std.proofs.Common.{◌≡◌, ◌<◌, ◌≤◌, ◌==◌, ◌&&◌, ℕ, Bool, true, false, List, [], ◌∷◌, ◌++◌, take, drop, length, refl, sym, ap, ◌∙◌, inl, inr, arith, eqb-true, append-nil, subst}
-use Rattle.std.specs.Prelude.{Some, None}
+use Rattle.std.proofs.Common.{◌≡◌, ◌<◌, ◌≤◌, ◌==◌, ◌&&◌, ◌+◌, ℕ, Bool, true, false, List, [], ◌∷◌, ◌++◌, take, drop, length, refl, sym, ap, ap₂, ◌∙◌, append_assoc, length-append, inl, inr, arith, eqb-true, append-nil, subst}
+use Rattle.std.specs.Prelude.{Option, Some, None, Err}
+use Rattle.std.proofs.Math.Seq.{drop-append_seam}
+use Rattle.std.proofs.lemmas.List.{length-take-le}
 use Rattle.std.proofs.lemmas.Bool.{cases_Bool, and_parts}
-use Rattle.properties_format.specs.Text.{line_feed}
+use Rattle.properties_format.specs.Text.{line_feed, carriage_return, is_line_end}
 use Rattle.properties_format.specs.Encoding.{Encoding, windows_1252, utf_8, utf_16le, utf_16be, ascii_bytes, begins_with, IsAligned}
 use Rattle.properties_format.specs.Cut.{units, HoldsNoLineEndUnit}
 use Rattle.properties_format.specs.Reading.Lines.{begins_with_lf}
 use Rattle.properties_format.specs.Lines.{InputEnd, end, fault, more}
+use Rattle.properties_format.specs.Entries.{read_fault}
+use Rattle.java_properties.specs.Errors.{IsStreamError}
 use Rattle.properties_format.specs.Reading.Waiting.{awaits_bom}
 use Rattle.properties_format.specs.ItemsToCome.{ReaderState}
 use Rattle.properties_format.specs.Reading.ItemsToCome.{natural_to_come}
-use Rattle.properties_format.specs.Reading.ReaderSteps.{Gives, ReadsLines, HoldsNoEnd, after_decided, after_passed, after_read}
-use Rattle.properties_format.proofs.ItemsToCome.Lines.{gives-decided_last, gives-passed_last, natural-more}
+use Rattle.properties_format.specs.Reading.ReaderSteps.{Gives, ReadsLines, HoldsNoEnd, after_decided, after_passed, after_read, after_line}
+use Rattle.properties_format.proofs.ItemsToCome.Lines.{gives-decided_last, gives-passed_last, gives-last, natural-fault, natural-more}
 use Rattle.properties_format.proofs.ItemsToCome.Entries.{gives-on}
-use Rattle.properties_format.proofs.ItemsToCome.Steps.{lines-start, lines-on, lines-then, lines-read, lines-decided, lines-passed_lf, lines-passed_none}
+use Rattle.properties_format.proofs.ItemsToCome.Steps.{lines-start, lines-on, lines-then, lines-read, lines-take, lines-decided, lines-passed_lf, lines-passed_none}
 use Rattle.properties_format.proofs.ItemsToCome.Waiting.{waiting-front, waiting-no_end, lf_first-bytes}
 use Rattle.properties_format.proofs.Cut.Units.{no_end_unit-right}
 use Rattle.counted_io.specs.Streams.{Reader, HasRead, HasFailed}
 use Rattle.counted_io.proofs.Streams.{read-none, read-more, failed-more}
 use Rattle.java_properties.specs.Decoding.{TellsBom}
-use Rattle.java_properties.specs.LineSearch.{unit_size}
-use Rattle.java_properties.specs.LineFinder.{IsSettled, HoldsNoEndYet, IsAlike, SkipsFeed, PassesFeed, Settles, SettlesLast, Along, IsAtLast}
+use Rattle.java_properties.specs.InputBuffer.{HasFilled, Fills}
+use Rattle.java_properties.specs.declared.input.FillError.{FillError}
+use Rattle.java_properties.specs.declared.input.FillError.TheVariants.{Memory, Io}
+use Rattle.java_properties.specs.LineSearch.{unit_size, whole_units, end_character, IsSearched, IsFirstLineEnd, FindsLineEnd}
+use Rattle.java_properties.proofs.LineSearch.{searched-more, length-ascii_bytes}
+use Rattle.java_properties.specs.declared.error.PropertiesError.{PropertiesError}
+use Rattle.java_properties.specs.declared.lines.search.LineEnd.{LineEnd}
+use Rattle.java_properties.specs.LineFinder.{IsSettled, HoldsNoEndYet, IsAlike, SkipsFeed, PassesFeed, Settles, SettlesLast, Along, IsAtLast, IsReady, HoldsLineEnd, LooksFor, Looks, HasFound, HasEnded, HasBroken, HasNoRoom, Seeks, Finder, Passes, FindsNext, FindsError, IsRefused}
 use Rattle.java_properties.specs.declared.encoding.byte_order_mark.ByteOrderMark.{ByteOrderMark}
 use Rattle.java_properties.specs.declared.encoding.byte_order_mark.ByteOrderMark.TheVariants.{Present, Absent, Undecided}
 
@@ -247,3 +257,184 @@ module _ {R : Type 0} {reader : Reader R} where
         none = record { going = m.done ∙ h.done ∙ g; decided = m.settled.decided; none = m.none k };
         lazy = along-none h (yet-more t (h.done ∙ g) k);
       }
+
+-- ---- looking among the bytes that are held
+
+ready-searched : (s : ReaderState) (bytes : List ℕ) → IsSettled s → HoldsNoLineEndUnit s.encoding s.held → (settled : Bool) → settled ≡ true
+    → IsReady (after_read s bytes) settled (whole_units s.encoding (length s.held))
+ready-searched s bytes h k settled e = record {
+  yes = λ y. (record { decided = h.decided; after_end = h.after_end }, searched-more s.encoding s.held bytes k);
+  no = λ n. absurd (cc);
+}
+
+found-line : (s : ReaderState) (line_end : LineEnd) → s.is_done ≡ false → IsSettled s → IsFirstLineEnd s.encoding s.held line_end → HoldsLineEnd s line_end
+found-line s line_end g h k = record {
+  rest = k.rest;
+  line = record {
+    going = g;
+    decided = h.decided;
+    passed = h.after_end;
+    held = k.stands;
+    ends = is-end line_end.is_cr;
+    aligned = k.whole_units;
+    none = k.none_before;
+  };
+  within = k.within;
+}
+  where
+    is-end : (is_cr : Bool) → is_line_end (end_character is_cr) ≡ true
+    is-end true = refl
+    is-end false = refl
+
+pub looks-for : (s : ReaderState) (found : Option LineEnd) (settled : Bool) → s.is_done ≡ false → settled ≡ true → IsSettled s
+    → FindsLineEnd s.encoding s.held found → LooksFor found s settled (whole_units s.encoding (length s.held))
+looks-for s (Some line_end) settled g e h k = found-line s line_end g h k
+looks-for s None settled g e h k = (inl (h.decided, k), λ bytes. ready-searched s bytes h k settled e)
+
+-- it was settled before
+pub looks-on : {s t : ReaderState} {was settled : Bool} {found : Option LineEnd} {n : ℕ} → t ≡ s → LooksFor found t settled n
+    → settled ≡ was → Looks s was found t settled n
+looks-on {s} h k e = record { alike = rw h (alike-self s); finds = k; progress = (λ y. e ∙ y, λ y. h) }
+
+-- it has just been settled
+pub looks-settled : {s t : ReaderState} {was settled told : Bool} {found : Option LineEnd} {n : ℕ} → Settles s told t → LooksFor found t settled n
+    → was ≡ false → settled ≡ true → Looks s was found t settled n
+looks-settled h k w e = record { alike = h.alike; finds = k; progress = (λ y. e, λ y. absurd (cc)) }
+
+pub looked-none : {s t : ReaderState} {was settled : Bool} {found : Option LineEnd} {n : ℕ} → Looks s was found t settled n
+    → ((line_end : LineEnd) → found ≡ Some line_end → ⊥) → LooksFor None t settled n
+looked-none {found = Some line_end} h k = absurd (k line_end refl)
+looked-none {found = None} h k = h.finds
+
+-- ---- seeking
+
+no-bytes : (bytes : List ℕ) (count : ℕ) → count ≡ length bytes → count ≡ 0 → bytes ≡ []
+no-bytes [] count h k = refl
+no-bytes (b ∷ bytes) count h k = absurd (omega arith)
+
+-- the same state, where no byte was added
+same-held : {t u : ReaderState} {held : List ℕ} → u ≡ record t { held = held } → held ≡ t.held → u ≡ t
+same-held {t} h k = h ∙ ap (λ v. let w : ReaderState = record t { held = v } in w) k
+
+module _ {R : Type 0} {reader : Reader R} where
+  -- a read added bytes
+  pub seek-read : {s t u : ReaderState} {from to next : R} {r held : List ℕ} {count : ℕ} → Along reader s from r t to → s.is_done ≡ false → HoldsNoEndYet t
+      → (fill : HasFilled reader t.held to held next count) → u ≡ record t { held = held } → Along reader s from (r ++ fill.bytes) u next
+  seek-read {s} {t} {from = from} {next = next} {r = r} h g k fill e =
+      let P : ReaderState → Type 0 = λ v. Along reader s from (r ++ fill.bytes) v next in
+      let same = e ∙ ap (λ v. let w : ReaderState = record t { held = v } in w) fill.added in
+      subst P (sym same) (along-read fill.bytes h (yet-more t (h.done ∙ g) k) fill.read)
+
+  pub ready-read : {t u : ReaderState} {to next : R} {held : List ℕ} {count n : ℕ} {settled : Bool} → ((bytes : List ℕ) → IsReady (after_read t bytes) settled n)
+      → HasFilled reader t.held to held next count → u ≡ record t { held = held } → IsReady u settled n
+  ready-read {t} {n = n} {settled = settled} h fill e =
+      let P : ReaderState → Type 0 = λ v. IsReady v settled n in
+      subst P (sym (e ∙ ap (λ v. let w : ReaderState = record t { held = v } in w) fill.added)) (h fill.bytes)
+
+  -- a read gave no byte
+  pub seek-ended : {s t u v : ReaderState} {from to next : R} {r held : List ℕ} {count : ℕ} → Along reader s from r t to → s.is_done ≡ false → HoldsNoEndYet t
+      → HasFilled reader t.held to held next count → count ≡ 0 → u ≡ record t { held = held } → SettlesLast u v → HasEnded reader s from v next
+  seek-ended {s} {t} {v = v} {to = to} {next = next} {r = r} h g k fill z e m =
+      let none = no-bytes fill.bytes _ fill.counted z in
+      let P : List ℕ → Type 0 = λ bytes. HasRead reader to bytes next in
+      let same = same-held e (fill.added ∙ ap (λ w. t.held ++ w) none ∙ append-nil t.held) in
+      let Q : ReaderState → Type 0 = λ w. SettlesLast w v in
+      let Last : List ℕ → Type 0 = λ bytes. IsAtLast s bytes v in
+      record {
+        bytes = r ++ [];
+        read = read-more h.read (subst P none fill.read);
+        ended = fill.ended none;
+        last = subst Last (sym (append-nil r)) (along-last h g k (subst Q same m));
+      }
+
+  -- a read failed, or could not be made
+  pub seek-refused : {s t u v : ReaderState} {from to : R} {r : List ℕ} (next : R) (held : List ℕ) (error : FillError) → Along reader s from r t to → s.is_done ≡ false → HoldsNoEndYet t
+      → Fills reader t.held to (Err error) held next → u ≡ record t { held = held } → SettlesLast u v → Seeks reader s from (Err error) v next
+  seek-refused {r = r} next held (Memory error) h g k (same, kept) e m = record { bytes = r; read = rw kept h.read; lazy = rw kept h.lazy }
+  seek-refused {s} {v = v} {r = r} next held (Io error) h g k (same, failed) e m =
+      let Q : ReaderState → Type 0 = λ w. SettlesLast w v in
+      let Last : List ℕ → Type 0 = λ bytes. IsAtLast s bytes v in
+      record { bytes = r ++ []; failed = failed-more h.read failed; last = subst Last (sym (append-nil r)) (along-last h g k (subst Q (same-held e same) m)) }
+
+-- ---- finding
+
+-- what stands after a line and its end
+after-end : (e : Encoding) (held rest : List ℕ) (at c : ℕ) → at ≤ length held → held ≡ take at held ++ (ascii_bytes e c ++ rest) → drop (at + unit_size e) held ≡ rest
+after-end e held rest at c h k =
+    let l : length (take at held ++ ascii_bytes e c) ≡ at + unit_size e = rw length-append (ap₂ (λ v w. v + w) (length-take-le at held h) (length-ascii_bytes e c)) in
+    let m : held ≡ (take at held ++ ascii_bytes e c) ++ rest = k ∙ sym (append_assoc (take at held) (ascii_bytes e c) rest) in
+    ap (λ v. drop (at + unit_size e) v) m
+    ∙ ap (λ n. drop n ((take at held ++ ascii_bytes e c) ++ rest)) (sym l)
+    ∙ drop-append_seam (take at held ++ ascii_bytes e c) rest
+
+is-cr : (is_cr : Bool) → (end_character is_cr == carriage_return) ≡ is_cr
+is-cr true = refl
+is-cr false = refl
+
+-- the finder after a line
+abbrev pub found_at : ReaderState → LineEnd → ℕ → Finder
+found_at t line_end number = record {
+  state = record t { held = drop (line_end.at + unit_size t.encoding) t.held; passed = number; after_cr = line_end.is_cr };
+  line = take line_end.at t.held;
+}
+
+found-state : (t : ReaderState) (line_end : LineEnd) (number : ℕ) (h : HoldsLineEnd t line_end) → number ≡ t.passed + 1
+    → after_line t (end_character line_end.is_cr) h.rest ≡ (found_at t line_end number).state
+found-state t line_end number h n =
+    let m : drop (line_end.at + unit_size t.encoding) t.held ≡ h.rest = after-end t.encoding t.held h.rest line_end.at (end_character line_end.is_cr) (omega (arith, h.within)) h.line.held in
+    rw (m, n, is-cr line_end.is_cr) refl
+
+-- the finder after the last line
+abbrev pub at_last_line : ReaderState → Finder
+at_last_line t = record { state = record t { held = []; is_done = true }; line = t.held }
+
+module _ {R : Type 0} {reader : Reader R} where
+  pub found-next : {old t : ReaderState} {from to : R} (line_end : LineEnd) (number : ℕ) (new : Finder) → HasFound reader old from line_end t to → old.is_done ≡ false
+      → number ≡ old.passed + 1 → new ≡ found_at t line_end number → FindsNext reader old from number new to
+  found-next {old} {t} {from} {to} line_end number new h g n e =
+      let k : number ≡ t.passed + 1 = n ∙ ap (λ v. v + 1) (sym h.along.passed) in
+      let c = end_character line_end.is_cr in
+      let took = lines-then h.along.gives (lines-take t (take line_end.at t.held) c h.held.rest h.held.line) in
+      let P : Finder → Type 0 = λ v. FindsNext reader old from number v to in
+      subst P (sym e) (record {
+        bytes = h.bytes;
+        read = h.along.read;
+        live = g;
+        numbered = n;
+        passes = Passes.going_on h.held.line.going (rw (← found-state t line_end number h.held k) (rw k took));
+        counted = λ d. refl;
+        ended = λ d. let b = h.held.line.going in absurd (cc);
+        lazy = h.along.lazy;
+      })
+
+  pub found-last : {old t : ReaderState} {from to : R} (number : ℕ) (new : Finder) → HasEnded reader old from t to → old.is_done ≡ false
+      → number ≡ old.passed + 1 → new ≡ at_last_line t → FindsNext reader old from number new to
+  found-last {old} {t} {from} {to} number new h g n e =
+      let k : number ≡ t.passed + 1 = n ∙ ap (λ v. v + 1) (sym h.last.passed) in
+      let u : ReaderState = record t { held = []; is_done = true } in
+      let P : Finder → Type 0 = λ v. FindsNext reader old from number v to in
+      subst P (sym e) (record {
+        bytes = h.bytes;
+        read = h.read;
+        live = g;
+        numbered = n;
+        passes = Passes.at_last refl (rw k (gives-on (h.last.gives end) (gives-last t u [] h.last.none refl)));
+        counted = λ d. absurd (cc);
+        ended = λ d. h.ended;
+        lazy = inr h.last.lazy;
+      })
+
+  pub found-none : {old : ReaderState} {from to : R} {number : ℕ} {e : PropertiesError} (t u : ReaderState) (error : FillError) → Seeks reader old from (Err error) t to
+      → number ≡ old.passed + 1 → IsRefused number error e → FindsError reader old from e u to
+  found-none t u (Memory error) h n is = inr (inr (record { room = h; is = is }))
+  found-none {old} {e = e} t u (Io error) h n is =
+      let k = natural-fault _ h.last.none in
+      inl (record {
+        bytes = h.bytes;
+        error = error;
+        failed = h.failed;
+        is = subst (λ v. IsStreamError (Some v) error e) n is;
+        natural = (h.last.gives fault).natural ∙ k.0;
+        last = (h.last.gives fault).last ∙ k.1 ∙ ap (λ v. read_fault (v + 1) ∷ []) h.last.passed;
+        lazy = h.last.lazy;
+      })

@@ -11,8 +11,8 @@ use Rattle.properties_format.specs.Reading.Encoding.{pieces_of}
 use Rattle.properties_format.specs.Entries.{Entry, read_fault}
 use Rattle.properties_format.specs.ItemsToCome.{ReaderState}
 use Rattle.properties_format.specs.Reading.ItemsToCome.{natural_to_come, last_to_come}
-use Rattle.properties_format.specs.Reading.ReaderSteps.{Gives, ReadsLines, HoldsLine, HoldsNoEnd}
-use Rattle.java_properties.specs.LineSearch.{unit_size, end_character}
+use Rattle.properties_format.specs.Reading.ReaderSteps.{Gives, ReadsLines, HoldsLine, HoldsNoEnd, after_read}
+use Rattle.java_properties.specs.LineSearch.{unit_size, end_character, IsSearched}
 use Rattle.java_properties.specs.Errors.{IsPlain, IsStreamError}
 use Rattle.java_properties.specs.declared.error.ErrorKind.TheVariants as kind
 use Rattle.java_properties.specs.declared.error.PropertiesError.{PropertiesError}
@@ -78,13 +78,33 @@ pub record Along {R : Type 0} (reader : Reader R) (old : ReaderState) (from : R)
   pub done : new.is_done ≡ old.is_done
   pub lazy : IsLazy old from bytes to
 
+-- What is held is ready to be searched from this place on; or it isn't settled, and nothing was searched.
+pub record IsReady (s : ReaderState) (settled : Bool) (searched : ℕ) : Type 0 where
+  pub yes : settled ≡ true → IsSettled s × IsSearched s.encoding s.held searched
+  pub no : settled ≡ false → searched ≡ 0
+
+-- the bytes that are held are a line, this end and a rest
+pub record HoldsLineEnd (s : ReaderState) (line_end : LineEnd) : Type 0 where
+  pub rest : List ℕ
+  pub line : HoldsLine s (take line_end.at s.held) (end_character line_end.is_cr) rest
+  pub within : line_end.at + unit_size s.encoding ≤ length s.held
+
+-- what looking for a line end among the bytes that are held finds
+abbrev pub LooksFor : Option LineEnd → ReaderState → Bool → ℕ → Type 0
+LooksFor (Some line_end) s settled searched = HoldsLineEnd s line_end
+LooksFor None s settled searched = HoldsNoEndYet s × ((bytes : List ℕ) → IsReady (after_read s bytes) settled searched)
+
+-- What is held was searched, as far as that is settled.
+pub record Looks (old : ReaderState) (was_settled : Bool) (found : Option LineEnd) (new : ReaderState) (settled : Bool) (searched : ℕ) : Type 0 where
+  pub alike : IsAlike old new
+  pub finds : LooksFor found new settled searched
+  pub progress : (was_settled ≡ true → settled ≡ true) × (settled ≡ was_settled → new ≡ old)
+
 -- A line end was found: the bytes that are held are a line, that end and a rest.
 pub record HasFound {R : Type 0} (reader : Reader R) (old : ReaderState) (from : R) (line_end : LineEnd) (new : ReaderState) (to : R) : Type 0 where
   pub bytes : List ℕ
   pub along : Along reader old from bytes new to
-  pub rest : List ℕ
-  pub line : HoldsLine new (take line_end.at new.held) (end_character line_end.is_cr) rest
-  pub within : line_end.at ≤ length new.held
+  pub held : HoldsLineEnd new line_end
 
 -- No bytes come any more, and none of those that are held is of a line end.
 pub record IsAtLast (old : ReaderState) (bytes : List ℕ) (new : ReaderState) : Type 0 where
@@ -161,8 +181,8 @@ pub record FindsFault {R : Type 0} (reader : Reader R) (old : ReaderState) (from
   pub lazy : natural_to_come old [] more ≡ []
 
 -- There was no number for another line, and nothing was read.
-pub record FindsTooMany {R : Type 0} (old : ReaderState) (from : R) (e : PropertiesError) (to : R) : Type 0 where
-  pub passed : old.passed + 1 ≡ 2 ^ 64
+pub record FindsTooMany {R : Type 0} (from : R) (e : PropertiesError) (new : ReaderState) (to : R) : Type 0 where
+  pub passed : new.passed + 1 ≡ 2 ^ 64
   pub is : IsPlain kind.TooManyLines e
   pub untouched : to ≡ from
 
@@ -177,11 +197,11 @@ IsRefused number (Memory error) e = IsPlain kind.Memory e
 IsRefused number (Io error) e = IsStreamError (Some number) error e
 
 -- Why no line was found.
-abbrev pub FindsError : {R : Type 0} → Reader R → ReaderState → R → PropertiesError → R → Type 0
-FindsError reader old from e to = FindsFault reader old from e to ⊎ (FindsTooMany old from e to ⊎ FindsNoRoom reader old from e to)
+abbrev pub FindsError : {R : Type 0} → Reader R → ReaderState → R → PropertiesError → ReaderState → R → Type 0
+FindsError reader old from e new to = FindsFault reader old from e to ⊎ (FindsTooMany from e new to ⊎ FindsNoRoom reader old from e to)
 
 -- What finding the next line does. At its end for good the finder reads nothing.
 abbrev pub Finds : {R : Type 0} → Reader R → Finder → R → Option (Result ℕ PropertiesError) → Finder → R → Type 0
 Finds reader old from None new to = (old.state.is_done ≡ true) × (new ≡ old) × (to ≡ from)
 Finds reader old from (Some (Ok number)) new to = FindsNext reader old.state from number new to
-Finds reader old from (Some (Err e)) new to = (old.state.is_done ≡ false) × (new.state.is_done ≡ true) × FindsError reader old.state from e to
+Finds reader old from (Some (Err e)) new to = (old.state.is_done ≡ false) × (new.state.is_done ≡ true) × FindsError reader old.state from e new.state to

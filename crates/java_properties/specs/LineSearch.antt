@@ -44,7 +44,7 @@ FindsLineEnd e bytes (Some end) = IsFirstLineEnd e bytes end
 abbrev pub FindsLineEndByte : List ℕ → Option LineEnd → Type 0
 FindsLineEndByte bytes found = (e : Encoding) → unit_size e ≡ 1 → FindsLineEnd e bytes found
 
--- the character that the two bytes of a unit are, where it is one whose high byte is zero
-abbrev pub IsCharacterOf : Encoding → ℕ → ℕ → Option ℕ → Type 0
-IsCharacterOf e first second None = (c : ℕ) → ascii_bytes e c ≡ first ∷ second ∷ [] → ⊥
-IsCharacterOf e first second (Some c) = ascii_bytes e c ≡ first ∷ second ∷ []
+-- whether a unit of these two bytes is a CR, where it is a line end
+abbrev pub IsLineEndUnit : Encoding → ℕ → ℕ → Option Bool → Type 0
+IsLineEndUnit e first second None = HoldsNoLineEndUnit e (first ∷ second ∷ [])
+IsLineEndUnit e first second (Some is_cr) = ascii_bytes e (end_character is_cr) ≡ first ∷ second ∷ []

@@ -10,7 +10,7 @@ ghost use Rattle.java_properties.specs.Views.{encoding_of};
 ghost use Rattle.java_properties.specs.Decoding.{TellsBom};
 ghost use Rattle.java_properties.specs.InputBuffer.{Fills};
 ghost use Rattle.java_properties.specs.LineSearch.{unit_size};
-ghost use Rattle.java_properties.specs.LineFinder.{PassesFeed, SkipsFeed, Settles, SettlesLast, Seeks};
+ghost use Rattle.java_properties.specs.LineFinder.{PassesFeed, SkipsFeed, Settles, SettlesLast, IsReady, Looks, Seeks};
 
 use crate::encoding::Encoding;
 use crate::encoding::byte_order_mark::{ByteOrderMark, byte_order_mark};
@@ -128,16 +128,8 @@ impl LineSeeker {
         let mut settled = false;
         let mut searched = 0;
         'reads: loop {
-            if !settled {
-                settled = self.settle();
-            }
-            if settled {
-                let encoding = self.encoding();
-                let held = self.held();
-                if let Some(end) = find_line_end(encoding, held, searched) {
-                    return Ok(Some(end));
-                }
-                searched = whole_units(encoding, held.len());
+            if let Some(end) = self.look(&mut settled, &mut searched) {
+                return Ok(Some(end));
             }
             match self.read(reader) {
                 Ok(0) => {
@@ -151,6 +143,25 @@ impl LineSeeker {
                 }
             }
         }
+    }
+
+    // The next line end among the bytes that are held, of which so many were searched where that is settled.
+    fn look(&mut self, settled: &mut bool, searched: &mut usize) -> Option<LineEnd>
+        requires going { self.old.is_done ≡ false }
+        requires ready { IsReady self.old settled.old searched.old }
+        ensures { Looks self.old settled.old result self.new settled.new searched.new }
+    {
+        if !*settled {
+            *settled = self.settle();
+        }
+        if !*settled {
+            return None;
+        }
+        let encoding = self.encoding();
+        let held = self.held();
+        let found = find_line_end(encoding, held, *searched);
+        *searched = whole_units(encoding, held.len());
+        found
     }
 
     // One read, whose bytes are held after the others.
