@@ -7,3 +7,4 @@ pub mod SettingsTests
 pub mod LineTexts
 pub mod Making
 mod InputBuffer
+pub mod LineSearch

@@ -12,3 +12,4 @@ pub mod Contents
 pub mod Writing
 pub mod Calls
 pub mod InputBuffer
+pub mod LineSearch

@@ -1,6 +1,8 @@
 -- The units of bytes put together, and bytes no unit of which is a CR or an LF.
-use Rattle.std.proofs.Common.{◌≡◌, ℕ, ◌%◌, true, List, [], ◌∷◌, ◌++◌, length, refl, ap, subst, arith}
-use Rattle.properties_format.specs.Text.{is_line_end}
+use Rattle.std.proofs.Common.{◌≡◌, ℕ, ◌%◌, ◌==◌, true, false, List, [], ◌∷◌, ◌++◌, length, refl, ap, subst, arith}
+use Rattle.std.proofs.lemmas.Bool.{or_parts}
+use Rattle.std.proofs.lemmas.Bool.Decides.{nat_tests}
+use Rattle.properties_format.specs.Text.{line_feed, carriage_return, is_line_end}
 use Rattle.properties_format.specs.Lines.{HoldsNoLineEnd}
 use Rattle.properties_format.specs.Utf16.{low_first, high_first}
 use Rattle.properties_format.specs.Encoding.{Encoding, windows_1252, utf_8, utf_16le, utf_16be, IsAligned, ascii_bytes}
@@ -43,3 +45,27 @@ no_end_unit-at e c x y h a k =
     let m : HoldsNoLineEnd (c ∷ units e y) = subst HoldsNoLineEnd (units-ascii e c y) (no_end_unit-right e x (ascii_bytes e c ++ y) a k) in
     let n = m.0 in
     cc
+
+-- where neither of its bytes is a CR or an LF, a unit of two bytes is none
+low-no_end : (a b : ℕ) → is_line_end a ≡ false → is_line_end (low_first a b) ≡ false
+low-no_end a b h = let p = or_parts (a == line_feed) (a == carriage_return) h in grind (arith, nat_tests)
+
+high-no_end : (a b : ℕ) → is_line_end b ≡ false → is_line_end (high_first a b) ≡ false
+high-no_end a b h = let p = or_parts (b == line_feed) (b == carriage_return) h in grind (arith, nat_tests)
+
+-- bytes none of which is a CR or an LF hold no such unit
+pub no_end_unit-bytes : (e : Encoding) (d : List ℕ) → HoldsNoLineEnd d → HoldsNoLineEndUnit e d
+no_end_unit-bytes windows_1252 d h = h
+no_end_unit-bytes utf_8 d h = h
+no_end_unit-bytes utf_16le d h = of_two d h
+  where
+    of_two : (d : List ℕ) → HoldsNoLineEnd d → HoldsNoLineEnd (units_of_two low_first d)
+    of_two [] h = tt
+    of_two (a ∷ []) h = tt
+    of_two (a ∷ b ∷ d) h = (low-no_end a b h.0, of_two d h.1.1)
+no_end_unit-bytes utf_16be d h = of_two d h
+  where
+    of_two : (d : List ℕ) → HoldsNoLineEnd d → HoldsNoLineEnd (units_of_two high_first d)
+    of_two [] h = tt
+    of_two (a ∷ []) h = tt
+    of_two (a ∷ b ∷ d) h = (high-no_end a b h.1.0, of_two d h.1.1)
