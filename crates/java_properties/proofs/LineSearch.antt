@@ -1,5 +1,6 @@
 -- The steps of a search for a line end among undecoded bytes.
-use Rattle.std.proofs.Common.{◌≡◌, ◌<◌, ◌≤◌, ◌+◌, ◌-◌, ◌%◌, ◌==◌, ℕ, suc, zero, true, false, Bool, List, [], ◌∷◌, ◌++◌, take, drop, drop-cons, length, get_or, length-append, length-drop, refl, sym, ap, subst, ◌∙◌, arith}
+use Rattle.std.proofs.Common.{◌≡◌, ◌<◌, ◌≤◌, ◌+◌, ◌-◌, ◌%◌, ◌==◌, ℕ, suc, zero, true, false, Bool, List, [], ◌∷◌, ◌++◌, take, drop, length, get_or}
+use Rattle.std.proofs.Common.{drop-cons, length-append, length-drop, refl, sym, ap, subst, ◌∙◌, arith}
 use Rattle.std.specs.Prelude.{Option, Some, None, option_map}
 use Rattle.std.proofs.Math.Seq.{take-add}
 use Rattle.std.proofs.lemmas.Bool.{false_from_ne_true}
@@ -17,6 +18,7 @@ use Rattle.java_properties.specs.declared.lines.search.LineEnd.{LineEnd}
 
 -- ---- Units.
 
+-- the bytes of an ASCII character are one unit
 pub length-ascii_bytes : (e : Encoding) (c : ℕ) → length (ascii_bytes e c) ≡ unit_size e
 length-ascii_bytes windows_1252 c = refl
 length-ascii_bytes utf_8 c = refl
@@ -37,9 +39,11 @@ length-aligned utf_8 d h = omega arith
 length-aligned utf_16le d h = h
 length-aligned utf_16be d h = h
 
+-- whole units are no more than there are bytes
 pub whole_units-le : (e : Encoding) (n : ℕ) → whole_units e n ≤ n
 whole_units-le e n = omega arith
 
+-- and the size of a unit divides them
 pub whole_units-whole : (e : Encoding) (n : ℕ) → whole_units e n % unit_size e ≡ 0
 whole_units-whole windows_1252 n = omega arith
 whole_units-whole utf_8 n = omega arith
@@ -50,7 +54,7 @@ whole_units-whole utf_16be n = omega arith
 
 -- before the first byte there is nothing to find
 pub nothing_searched : (e : Encoding) (bytes : List ℕ) → IsSearched e bytes 0
-nothing_searched e bytes = record { within = omega arith; whole_units = aligned-length e [] (nothing e); none_before = no_end-no_unit e [] tt }
+nothing_searched e bytes = record { within = omega arith; aligned = aligned-length e [] (nothing e); none_before = no_end-no_unit e [] tt }
   where
     nothing : (e : Encoding) → 0 % unit_size e ≡ 0
     nothing windows_1252 = refl
@@ -58,26 +62,41 @@ nothing_searched e bytes = record { within = omega arith; whole_units = aligned-
     nothing utf_16le = refl
     nothing utf_16be = refl
 
--- where some bytes hold no line end, and others come after them, the whole units of the former are searched
-pub searched-more : (e : Encoding) (bytes more : List ℕ) → HoldsNoLineEndUnit e bytes → IsSearched e (bytes ++ more) (whole_units e (length bytes))
-searched-more e bytes more h =
-    let n = whole_units e (length bytes) in
-    let le : n ≤ length bytes = whole_units-le e (length bytes) in
-    let same : take n (bytes ++ more) ≡ take n bytes = take-append-le n bytes more le in
-    let aligned : IsAligned e (take n bytes) = aligned-length e (take n bytes) (ap (λ m. m % unit_size e) (length-take-le n bytes le) ∙ whole_units-whole e (length bytes)) in
+-- what is searched stays so where more bytes come
+pub searched-grown : (e : Encoding) (bytes more : List ℕ) (from : ℕ) → IsSearched e bytes from → IsSearched e (bytes ++ more) from
+searched-grown e bytes more from s =
+    let same : take from bytes ≡ take from (bytes ++ more) = sym (take-append-le from bytes more s.within) in
+    let within = s.within in
     record {
       within = grind (arith, common_steps);
-      whole_units = subst (IsAligned e) (sym same) aligned;
-      none_before = subst (HoldsNoLineEndUnit e) (sym same) (no_end_unit-left e (take n bytes) (drop n bytes) aligned (subst (HoldsNoLineEndUnit e) (sym (take-append-drop n bytes)) h));
+      aligned = subst (IsAligned e) same s.aligned;
+      none_before = subst (HoldsNoLineEndUnit e) same s.none_before;
     }
 
+-- where bytes hold no line end, their whole units are searched
+pub searched-whole : (e : Encoding) (bytes : List ℕ) → HoldsNoLineEndUnit e bytes → IsSearched e bytes (whole_units e (length bytes))
+searched-whole e bytes h =
+    let n = whole_units e (length bytes) in
+    let le : n ≤ length bytes = whole_units-le e (length bytes) in
+    let size : length (take n bytes) % unit_size e ≡ 0 = ap (λ m. m % unit_size e) (length-take-le n bytes le) ∙ whole_units-whole e (length bytes) in
+    let aligned : IsAligned e (take n bytes) = aligned-length e (take n bytes) size in
+    let both : HoldsNoLineEndUnit e (take n bytes ++ drop n bytes) = subst (HoldsNoLineEndUnit e) (sym (take-append-drop n bytes)) h in
+    record { within = le; aligned = aligned; none_before = no_end_unit-left e (take n bytes) (drop n bytes) aligned both }
+
+-- and stay so where more bytes come
+pub searched-more : (e : Encoding) (bytes more : List ℕ) → HoldsNoLineEndUnit e bytes
+    → IsSearched e (bytes ++ more) (whole_units e (length bytes))
+searched-more e bytes more h = searched-grown e bytes more (whole_units e (length bytes)) (searched-whole e bytes h)
+
 -- the same of the first of some bytes
-pub searched-taken : (e : Encoding) (bytes : List ℕ) (count : ℕ) → count ≤ length bytes → HoldsNoLineEndUnit e (take count bytes) → IsSearched e bytes (whole_units e count)
+pub searched-taken : (e : Encoding) (bytes : List ℕ) (count : ℕ) → count ≤ length bytes → HoldsNoLineEndUnit e (take count bytes)
+    → IsSearched e bytes (whole_units e count)
 searched-taken e bytes count le h =
-    let all : take count bytes ++ drop count bytes ≡ bytes = take-append-drop count bytes in
-    let size : length (take count bytes) ≡ count = length-take-le count bytes le in
-    subst (λ v. IsSearched e v (whole_units e count)) all
-    (subst (λ n. IsSearched e (take count bytes ++ drop count bytes) (whole_units e n)) size (searched-more e (take count bytes) (drop count bytes) h))
+    let first = take count bytes in
+    let size : length first ≡ count = length-take-le count bytes le in
+    let more : IsSearched e (first ++ drop count bytes) (whole_units e (length first)) = searched-more e first (drop count bytes) h in
+    subst (λ v. IsSearched e v (whole_units e count)) (take-append-drop count bytes)
+    (subst (λ n. IsSearched e (first ++ drop count bytes) (whole_units e n)) size more)
 
 -- ---- Bytes that are no CR and no LF.
 
@@ -96,10 +115,13 @@ plain-between : (d : List ℕ) (from count : ℕ) → Nowhere (Passes is_line_en
 plain-between d from count h =
     plain-before (drop from d) count (λ k low high is. h (from + k) (omega arith) (omega arith) (ap is_line_end (sym (get_or-drop from d k 0)) ∙ is))
 
+-- a byte of what stands from a place on
 read-from : (d : List ℕ) (from k : ℕ) → from ≤ k → get_or (drop from d) (k - from) 0 ≡ get_or d k 0
 read-from d from k h = let is : from + (k - from) ≡ k = omega arith in get_or-drop from d (k - from) 0 ∙ ap (λ m. get_or d m 0) is
 
-nowhere-from : (d : List ℕ) (from count to : ℕ) → Nowhere (Passes is_line_end (drop from d)) 0 count → to ≤ from + count → Nowhere (Passes is_line_end d) from to
+-- where none is a CR or an LF there, none is from that place on
+nowhere-from : (d : List ℕ) (from count to : ℕ) → Nowhere (Passes is_line_end (drop from d)) 0 count → to ≤ from + count
+    → Nowhere (Passes is_line_end d) from to
 nowhere-from d from count to h le k low high is = h (k - from) (omega arith) (omega arith) (ap is_line_end (read-from d from k low) ∙ is)
 
 -- what was found in the bytes from a place on
@@ -107,8 +129,11 @@ pub first-from : (d : List ℕ) (from : ℕ) (found : Option ℕ) → IsFirstByt
     → from ≤ length d → IsFirst (Passes is_line_end d) from (length d) (option_map (λ k. from + k) found)
 first-from d from found h le = of_tail found (subst (λ v. IsFirstByte is_line_end v found) (take_rest d from) h)
   where
-    of_tail : (found : Option ℕ) → IsFirstByte is_line_end (drop from d) found → IsFirst (Passes is_line_end d) from (length d) (option_map (λ k. from + k) found)
-    of_tail None h = let l : length (drop from d) ≡ length d - from = length-drop from d in nowhere-from d from (length (drop from d)) (length d) h (omega arith)
+    of_tail : (found : Option ℕ) → IsFirstByte is_line_end (drop from d) found
+        → IsFirst (Passes is_line_end d) from (length d) (option_map (λ k. from + k) found)
+    of_tail None h =
+        let l : length (drop from d) ≡ length d - from = length-drop from d in
+        nowhere-from d from (length (drop from d)) (length d) h (omega arith)
     of_tail (Some k) h =
         let l : length (drop from d) ≡ length d - from = length-drop from d in
         let high : k < length (drop from d) = h.0.high in (
@@ -126,9 +151,9 @@ searched-up_to e bytes from at s h low within whole =
     let same : take at bytes ≡ take from bytes ++ take n (drop from bytes) = ap (λ m. take m bytes) (sym is) ∙ take-add from n bytes in
     record {
       within = within;
-      whole_units = aligned-length e (take at bytes) (ap (λ m. m % unit_size e) (length-take-le at bytes within) ∙ whole);
+      aligned = aligned-length e (take at bytes) (ap (λ m. m % unit_size e) (length-take-le at bytes within) ∙ whole);
       none_before = subst (HoldsNoLineEndUnit e) (sym same)
-          (no_end_unit-append e (take from bytes) (take n (drop from bytes)) s.whole_units s.none_before (no_end-no_unit e (take n (drop from bytes)) some));
+          (no_end_unit-append e (take from bytes) (take n (drop from bytes)) s.aligned s.none_before (no_end-no_unit e (take n (drop from bytes)) some));
     }
 
 -- a search that found no such byte
@@ -136,10 +161,11 @@ pub searched-all : (e : Encoding) (bytes : List ℕ) (from : ℕ) → IsSearched
     → Nowhere (Passes is_line_end bytes) from (length bytes) → HoldsNoLineEndUnit e bytes
 searched-all e bytes from s h =
     let n = length bytes - from in
-    let all : HoldsNoLineEnd (drop from bytes) =
-    subst HoldsNoLineEnd (take_rest bytes from) (plain-between bytes from n (λ k l r. h k l (let w = s.within in omega arith))) in
+    let within = s.within in
+    let rest : HoldsNoLineEnd (take n (drop from bytes)) = plain-between bytes from n (λ k l r. h k l (omega arith)) in
+    let all : HoldsNoLineEnd (drop from bytes) = subst HoldsNoLineEnd (take_rest bytes from) rest in
     subst (HoldsNoLineEndUnit e) (take-append-drop from bytes)
-    (no_end_unit-append e (take from bytes) (drop from bytes) s.whole_units s.none_before (no_end-no_unit e (drop from bytes) all))
+    (no_end_unit-append e (take from bytes) (drop from bytes) s.aligned s.none_before (no_end-no_unit e (drop from bytes) all))
 
 -- ---- The unit at a place.
 
@@ -147,39 +173,44 @@ searched-all e bytes from s h =
 pub found-at : (e : Encoding) (bytes : List ℕ) (end : LineEnd) (rest : List ℕ) → IsSearched e bytes end.at
     → drop end.at bytes ≡ ascii_bytes e (end_character end.is_cr) ++ rest → IsFirstLineEnd e bytes end
 found-at e bytes end rest s h =
-    let size : length (ascii_bytes e (end_character end.is_cr)) ≡ unit_size e = length-ascii_bytes e (end_character end.is_cr) in
-    let all : length (drop end.at bytes) ≡ length (ascii_bytes e (end_character end.is_cr)) + length rest = ap length h ∙ length-append (ascii_bytes e (end_character end.is_cr)) rest in
+    let unit = ascii_bytes e (end_character end.is_cr) in
+    let size : length unit ≡ unit_size e = length-ascii_bytes e (end_character end.is_cr) in
+    let all : length (drop end.at bytes) ≡ length unit + length rest = ap length h ∙ length-append unit rest in
     let left : length (drop end.at bytes) ≡ length bytes - end.at = length-drop end.at bytes in
     let within = s.within in
     record {
       rest = rest;
       stands = sym (take-append-drop end.at bytes) ∙ ap (λ v. take end.at bytes ++ v) h;
-      whole_units = s.whole_units;
+      aligned = s.aligned;
       none_before = s.none_before;
       within = omega arith;
     }
 
--- the units before such a place
+-- the size of a unit divides such a place
 searched-size : (e : Encoding) (bytes : List ℕ) (at : ℕ) → IsSearched e bytes at → at % unit_size e ≡ 0
-searched-size e bytes at s = ap (λ m. m % unit_size e) (sym (length-take-le at bytes s.within)) ∙ length-aligned e (take at bytes) s.whole_units
+searched-size e bytes at s = ap (λ m. m % unit_size e) (sym (length-take-le at bytes s.within)) ∙ length-aligned e (take at bytes) s.aligned
 
 -- ---- Units of one byte.
 
-pub searched-bytes : (e : Encoding) (bytes : List ℕ) (from : ℕ) → unit_size e ≡ 1 → from ≤ length bytes → HoldsNoLineEnd (take from bytes) → IsSearched e bytes from
+-- where no byte is a CR or an LF, no unit is
+pub searched-bytes : (e : Encoding) (bytes : List ℕ) (from : ℕ) → unit_size e ≡ 1 → from ≤ length bytes → HoldsNoLineEnd (take from bytes)
+    → IsSearched e bytes from
 searched-bytes e bytes from size le h =
     let one : length (take from bytes) % 1 ≡ 0 = omega arith in
     record {
       within = le;
-      whole_units = aligned-length e (take from bytes) (subst (λ n. length (take from bytes) % n ≡ 0) (sym size) one);
+      aligned = aligned-length e (take from bytes) (subst (λ n. length (take from bytes) % n ≡ 0) (sym size) one);
       none_before = no_end-no_unit e (take from bytes) h;
     }
 
+-- a unit of one byte is its character
 one-byte : (e : Encoding) (c : ℕ) → unit_size e ≡ 1 → ascii_bytes e c ≡ c ∷ []
 one-byte windows_1252 c h = refl
 one-byte utf_8 c h = refl
 one-byte utf_16le c h = absurd (omega arith)
 one-byte utf_16be c h = absurd (omega arith)
 
+-- a CR or an LF, told by whether it is a CR
 end_character-of : (c : ℕ) (is_cr : Bool) → (c == carriage_return) ≡ is_cr → is_line_end c ≡ true → end_character is_cr ≡ c
 end_character-of c true h is = grind (arith, nat_tests)
 end_character-of c false h is = grind (arith, nat_tests)
@@ -205,12 +236,16 @@ two-at d at h =
     let high : at + 1 < length d = omega arith in
     let one : suc at ≡ at + 1 = omega arith in
     let two : suc (at + 1) ≡ at + 2 = omega arith in
-    drop-cons d at 0 low ∙ ap (λ v. get_or d at 0 ∷ v) (ap (λ n. drop n d) one ∙ drop-cons d (at + 1) 0 high ∙ ap (λ n. get_or d (at + 1) 0 ∷ drop n d) two)
+    let second : drop (at + 1) d ≡ get_or d (at + 1) 0 ∷ drop (at + 2) d =
+    drop-cons d (at + 1) 0 high ∙ ap (λ n. get_or d (at + 1) 0 ∷ drop n d) two in
+    drop-cons d at 0 low ∙ ap (λ v. get_or d at 0 ∷ v) (ap (λ n. drop n d) one ∙ second)
 
 -- a unit of two bytes that is the character of a line end
 pub found-unit : (e : Encoding) (bytes : List ℕ) (end : LineEnd) → IsSearched e bytes end.at → end.at + 2 ≤ length bytes
     → ascii_bytes e (end_character end.is_cr) ≡ get_or bytes end.at 0 ∷ get_or bytes (end.at + 1) 0 ∷ [] → IsFirstLineEnd e bytes end
-found-unit e bytes end s le h = found-at e bytes end (drop (end.at + 2) bytes) s (two-at bytes end.at le ∙ ap (λ v. v ++ drop (end.at + 2) bytes) (sym h))
+found-unit e bytes end s le h =
+    let rest = drop (end.at + 2) bytes in
+    found-at e bytes end rest s (two-at bytes end.at le ∙ ap (λ v. v ++ rest) (sym h))
 
 -- a search goes on after a unit of two bytes that is no line end
 pub searched-past : (e : Encoding) (bytes : List ℕ) (at : ℕ) → unit_size e ≡ 2 → IsSearched e bytes at → at + 2 ≤ length bytes
@@ -222,11 +257,12 @@ searched-past e bytes at size s le none =
     let same : take (at + 2) bytes ≡ take at bytes ++ unit = take-add at 2 bytes ∙ ap (λ v. take at bytes ++ take 2 v) (two-at bytes at le) in
     record {
       within = le;
-      whole_units = aligned-length e (take (at + 2) bytes)
+      aligned = aligned-length e (take (at + 2) bytes)
           (ap (λ m. m % unit_size e) (length-take-le (at + 2) bytes le) ∙ subst (λ n. (at + 2) % n ≡ 0) (sym size) next);
-      none_before = subst (HoldsNoLineEndUnit e) (sym same) (no_end_unit-append e (take at bytes) unit s.whole_units s.none_before none);
+      none_before = subst (HoldsNoLineEndUnit e) (sym same) (no_end_unit-append e (take at bytes) unit s.aligned s.none_before none);
     }
 
+-- half a unit is none
 half-unit : (e : Encoding) (d : List ℕ) → unit_size e ≡ 2 → length d < 2 → HoldsNoLineEndUnit e d
 half-unit windows_1252 d size h = absurd (omega arith)
 half-unit utf_8 d size h = absurd (omega arith)
@@ -238,18 +274,21 @@ half-unit utf_16be (a ∷ []) size h = tt
 half-unit utf_16be (a ∷ b ∷ d) size h = absurd (omega arith)
 
 -- a last byte alone is no unit
-pub searched-last : (e : Encoding) (bytes : List ℕ) (at : ℕ) → unit_size e ≡ 2 → IsSearched e bytes at → length bytes - at < 2 → HoldsNoLineEndUnit e bytes
+pub searched-last : (e : Encoding) (bytes : List ℕ) (at : ℕ) → unit_size e ≡ 2 → IsSearched e bytes at → length bytes - at < 2
+    → HoldsNoLineEndUnit e bytes
 searched-last e bytes at size s last =
     let short : length (drop at bytes) < 2 = (let l : length (drop at bytes) ≡ length bytes - at = length-drop at bytes in omega arith) in
     subst (HoldsNoLineEndUnit e) (take-append-drop at bytes)
-    (no_end_unit-append e (take at bytes) (drop at bytes) s.whole_units s.none_before (half-unit e (drop at bytes) size short))
+    (no_end_unit-append e (take at bytes) (drop at bytes) s.aligned s.none_before (half-unit e (drop at bytes) size short))
 
 -- the unit in which such a byte stands, up to which there is none
 pub searched-hit : (e : Encoding) (bytes : List ℕ) (from hit : ℕ) → unit_size e ≡ 2 → IsSearched e bytes from
     → NoneBefore (Passes is_line_end bytes) from (length bytes) hit → IsSearched e bytes (hit - hit % 2)
 searched-hit e bytes from hit size s h =
+    let at = hit - hit % 2 in
     let even : from % 2 ≡ 0 = subst (λ n. from % n ≡ 0) size (searched-size e bytes from s) in
     let low = h.low in
     let high = h.high in
-    let whole : (hit - hit % 2) % 2 ≡ 0 = omega arith in
-    searched-up_to e bytes from (hit - hit % 2) s (λ k l r. h.before k l (omega arith)) (omega arith) (omega arith) (subst (λ n. (hit - hit % 2) % n ≡ 0) (sym size) whole)
+    let two : at % 2 ≡ 0 = omega arith in
+    let whole : at % unit_size e ≡ 0 = subst (λ n. at % n ≡ 0) (sym size) two in
+    searched-up_to e bytes from at s (λ k l r. h.before k l (omega arith)) (omega arith) (omega arith) whole

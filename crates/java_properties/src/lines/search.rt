@@ -5,7 +5,8 @@ ghost use Rattle.memchr.specs.Find.{IsFirst, Passes};
 ghost use Rattle.properties_format.specs.Text.{is_line_end};
 ghost use Rattle.properties_format.specs.Lines.{HoldsNoLineEnd};
 ghost use Rattle.java_properties.specs.Views.{encoding_of};
-ghost use Rattle.java_properties.specs.LineSearch.{unit_size, whole_units, IsSearched, FindsLineEnd, FindsLineEndByte, IsLineEndUnit};
+ghost use Rattle.java_properties.specs.LineSearch.{unit_size, whole_units, IsSearched, IsLineEndUnit};
+ghost use Rattle.java_properties.specs.LineSearch.{FindsLineEnd, FindsLineEndByte};
 
 use crate::encoding::Encoding;
 use memchr::memchr2;
@@ -29,14 +30,16 @@ pub fn unit_size(encoding: Encoding) -> usize
     }
 }
 
-/// How many of so many bytes are whole units. Where they hold no line end, a search of more bytes goes on from there.
+/// How many of so many bytes are whole units.
+///
+/// Where a search found no line end among them, the next goes on from there, over these bytes and more.
 pub fn whole_units(encoding: Encoding, length: usize) -> usize
     ensures { result ≡ whole_units (encoding_of encoding) length }
 {
     length - length % unit_size(encoding)
 }
 
-/// The first CR or LF among the units of the bytes, of which those before `from` hold none.
+/// The first CR or LF among the units of the bytes. Those before `from` are whole units that hold none.
 pub fn find_line_end(encoding: Encoding, bytes: &[u8], from: usize) -> Option<LineEnd>
     requires { IsSearched (encoding_of encoding) bytes.now from }
     ensures { FindsLineEnd (encoding_of encoding) bytes.now result }
