@@ -1,7 +1,8 @@
 -- How a line is sought and found, step by step.
 use Rattle.std.proofs.Common.{◌≡◌, ◌<◌, ◌≤◌, ◌==◌, ◌&&◌, ◌+◌, ℕ, Bool, true, false, List, [], ◌∷◌, ◌++◌, take, drop, length, refl, sym, ap, ap₂, ◌∙◌, append_assoc, length-append, inl, inr, arith, eqb-true, append-nil, subst}
 use Rattle.std.specs.Prelude.{Option, Some, None, Err}
-use Rattle.std.proofs.Math.Seq.{drop-append_seam}
+use Rattle.std.proofs.Math.Seq.{drop-append_seam, take-length}
+use Rattle.std.proofs.lemmas.Grind.{common_steps}
 use Rattle.std.proofs.lemmas.List.{length-take-le}
 use Rattle.std.proofs.lemmas.Bool.{cases_Bool, and_parts}
 use Rattle.properties_format.specs.Text.{line_feed, carriage_return, is_line_end}
@@ -276,7 +277,7 @@ found-line s line_end g h k = record {
     passed = h.after_end;
     held = k.stands;
     ends = is-end line_end.is_cr;
-    aligned = k.whole_units;
+    aligned = k.aligned;
     none = k.none_before;
   };
   within = k.within;
@@ -388,10 +389,18 @@ found-state t line_end number h n =
 abbrev pub at_last_line : ReaderState → Finder
 at_last_line t = record { state = record t { held = []; is_done = true }; line = t.held }
 
+pub last-state : (t w : ReaderState) (d : List ℕ) → w ≡ record t { is_done = true } → d ≡ t.held
+    → (let f : Finder = record { state = record w { held = drop (length d) w.held }; line = take (length d) w.held } in f) ≡ at_last_line t
+last-state t w d h k =
+    let none : drop (length t.held) t.held ≡ [] = grind (arith, common_steps) in
+    rw (h, k, none, take-length t.held) refl
+
 module _ {R : Type 0} {reader : Reader R} where
-  pub found-next : {old t : ReaderState} {from to : R} (line_end : LineEnd) (number : ℕ) (new : Finder) → HasFound reader old from line_end t to → old.is_done ≡ false
+  pub found-next : {old begun t : ReaderState} {from to : R} (line_end : LineEnd) (number : ℕ) (new : Finder) → begun ≡ old → HasFound reader begun from line_end t to → old.is_done ≡ false
       → number ≡ old.passed + 1 → new ≡ found_at t line_end number → FindsNext reader old from number new to
-  found-next {old} {t} {from} {to} line_end number new h g n e =
+  found-next {old} {t = t} {from} {to} line_end number new same sought g n e =
+      let Q : ReaderState → Type 0 = λ v. HasFound reader v from line_end t to in
+      let h = subst Q same sought in
       let k : number ≡ t.passed + 1 = n ∙ ap (λ v. v + 1) (sym h.along.passed) in
       let c = end_character line_end.is_cr in
       let took = lines-then h.along.gives (lines-take t (take line_end.at t.held) c h.held.rest h.held.line) in
@@ -407,9 +416,11 @@ module _ {R : Type 0} {reader : Reader R} where
         lazy = h.along.lazy;
       })
 
-  pub found-last : {old t : ReaderState} {from to : R} (number : ℕ) (new : Finder) → HasEnded reader old from t to → old.is_done ≡ false
+  pub found-last : {old begun t : ReaderState} {from to : R} (number : ℕ) (new : Finder) → begun ≡ old → HasEnded reader begun from t to → old.is_done ≡ false
       → number ≡ old.passed + 1 → new ≡ at_last_line t → FindsNext reader old from number new to
-  found-last {old} {t} {from} {to} number new h g n e =
+  found-last {old} {t = t} {from} {to} number new same sought g n e =
+      let Q : ReaderState → Type 0 = λ v. HasEnded reader v from t to in
+      let h = subst Q same sought in
       let k : number ≡ t.passed + 1 = n ∙ ap (λ v. v + 1) (sym h.last.passed) in
       let u : ReaderState = record t { held = []; is_done = true } in
       let P : Finder → Type 0 = λ v. FindsNext reader old from number v to in
@@ -424,10 +435,14 @@ module _ {R : Type 0} {reader : Reader R} where
         lazy = inr h.last.lazy;
       })
 
-  pub found-none : {old : ReaderState} {from to : R} {number : ℕ} {e : PropertiesError} (t u : ReaderState) (error : FillError) → Seeks reader old from (Err error) t to
+  pub found-none : {old : ReaderState} {from to : R} {number : ℕ} {e : PropertiesError} (begun t u : ReaderState) (error : FillError) → begun ≡ old → Seeks reader begun from (Err error) t to
       → number ≡ old.passed + 1 → IsRefused number error e → FindsError reader old from e u to
-  found-none t u (Memory error) h n is = inr (inr (record { room = h; is = is }))
-  found-none {old} {e = e} t u (Io error) h n is =
+  found-none {old} {from} {to} begun t u (Memory error) same sought n is =
+      let Q : ReaderState → Type 0 = λ v. HasNoRoom reader v from to in
+      inr (inr (record { room = subst Q same sought; is = is }))
+  found-none {old} {from} {to} {e = e} begun t u (Io error) same sought n is =
+      let Q : ReaderState → Type 0 = λ v. HasBroken reader v from error t to in
+      let h = subst Q same sought in
       let k = natural-fault _ h.last.none in
       inl (record {
         bytes = h.bytes;
