@@ -1,4 +1,6 @@
 pub mod Streams
+pub mod Texts
+pub mod Scanning
 pub mod Calls
 pub mod Windows1252
 pub mod Printing

@@ -1,0 +1,3 @@
+pub mod Characters
+pub mod Split
+pub mod Spans
