@@ -3,8 +3,11 @@ pub mod Texts
 pub mod Scanning
 pub mod Calls
 pub mod Windows1252
+pub mod FirstPieces
 pub mod Printing
 pub mod MarkLike
 pub mod SettingsTests
 pub mod LineTexts
 pub mod Making
+mod InputBuffer
+pub mod LineFinder

@@ -12,3 +12,6 @@ pub mod SettingsViews
 pub mod Contents
 pub mod Writing
 pub mod Calls
+pub mod InputBuffer
+pub mod LineSearch
+pub mod LineFinder

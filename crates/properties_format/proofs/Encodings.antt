@@ -6,6 +6,7 @@ pub mod PieceEnds
 pub mod Pieces
 pub mod Utf16
 pub mod Utf8Characters
+pub mod Utf8First
 pub mod Utf8Inverse
 pub mod Utf8Pieces
 pub mod Utf8Rows
