@@ -1,3 +1,4 @@
 pub mod Characters
 pub mod Split
 pub mod Spans
+pub mod Joins

@@ -6,6 +6,7 @@ ghost use Rattle.java_properties.specs.Reading.{CallLeaves, LineLeaves, most_lef
 ghost use Rattle.java_properties.specs.Cutting.{cutter_progress, fresh, lines_progress, lines_reader, IsNumbered};
 
 mod finder;
+mod join;
 mod search;
 mod seeker;
 
