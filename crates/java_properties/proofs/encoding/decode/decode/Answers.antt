@@ -1,6 +1,5 @@
-use Rattle.std.proofs.Common.{◌≡◌, rules, ◌++◌, [], ◌∷◌, ap, sym, ◌∙◌}
+use Rattle.std.proofs.Common.{◌≡◌, rules, ◌++◌, [], ◌∷◌, ap, ◌∙◌}
 use Rattle.std.specs.Str.{chars}
-use Rattle.std.specs.String.{string_bytes}
 use Rattle.std.proofs.lemmas.Str.{chars-nil}
 use Rattle.properties_format.specs.Pieces.{characters}
 use Rattle.properties_format.specs.Reading.Encoding.{pieces_of}

@@ -1,4 +1,3 @@
-use Rattle.std.specs.Prelude.{IsSome}
 use Rattle.properties_format.proofs.Encodings.WellFormed.{IsUtf8-from_well_formed, well_formed-from_IsUtf8}
 use Rattle.java_properties.proofs.TextFronts.{ok-exactly}
 use Rattle.java_properties.proofs.encoding.utf_8.as_text.Goals as goal
