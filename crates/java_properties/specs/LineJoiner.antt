@@ -7,7 +7,7 @@ use Rattle.std.specs.declared.io.Error.{Error}
 use Rattle.counted_io.specs.Streams.{Reader, HasRead, HasFailed}
 use Rattle.properties_format.specs.Lines as format
 use Rattle.properties_format.specs.Lines.{InputEnd, end, fault, more}
-use Rattle.properties_format.specs.Groups.{is_open, addition}
+use Rattle.properties_format.specs.Groups.{is_open, addition, without_open_backslash}
 use Rattle.properties_format.specs.Reading.Cut.{decoded_line}
 use Rattle.properties_format.specs.Entries.{read_fault}
 use Rattle.properties_format.specs.ItemsToCome.{ReaderState}
@@ -58,7 +58,7 @@ OnOkDecodes finder (Err e) = Unit {0}
 
 -- The line that was found is added to a join, and it is told whether it is open.
 abbrev pub Adds : {E : Type 0} → Finder → List ℕ → Result Bool E → List ℕ → Type 0
-Adds finder old (Ok open) new = (open ≡ is_open (line_text finder)) × (new ≡ old ++ addition (line_text finder))
+Adds finder old (Ok told) new = (told ≡ is_open (line_text finder)) × (new ≡ old ++ addition (line_text finder))
 Adds finder old (Err e) new = Unit {0}
 
 -- ---- logical lines
@@ -174,7 +174,12 @@ JoinError reader old from old_text e new to =
 -- What reading a join to its end does.
 abbrev pub JoinsOn : {R : Type 0} → Reader R → ReaderState → R → List ℕ → Result Unit PropertiesError → ReaderState → R → List ℕ → Type 0
 JoinsOn reader old from old_text (Ok done) new to text = JoinsAll reader old from old_text text new to
-JoinsOn reader old from old_text (Err e) new to text = (old.is_done ≡ false) × JoinError reader old from old_text e new to
+JoinsOn reader old from old_text (Err e) new to text = JoinError reader old from old_text e new to
+
+-- What joining the lines after an open one does, where they begin with it.
+abbrev pub JoinsAfter : {R : Type 0} → Reader R → Joiner → R → Result Unit PropertiesError → Joiner → R → Type 0
+JoinsAfter reader old from result new to =
+    JoinsOn reader old.state from (without_open_backslash (chars old.line)) result new.state to (chars new.line)
 
 -- A logical line came.
 pub record JoinsNext {R : Type 0} (reader : Reader R) (old : ReaderState) (from : R) (number : ℕ) (new : Joiner) (to : R) : Type 0 where

@@ -65,7 +65,7 @@ fn decode(alloc: Global, encoding: Encoding, bytes: &[u8]) -> Result<String, All
     }
 }
 
-fn push_text(text: &mut String, more: &str) -> Result<(), AllocError>
+pub fn push_text(text: &mut String, more: &str) -> Result<(), AllocError>
     ensures { OnOk result (chars (string_bytes text.new) ≡ chars (string_bytes text.old) ++ chars more.now) }
 {
     text.push_str(more)

@@ -37,12 +37,12 @@ impl Model for LineSeeker {
     ghost Value = { ReaderState };
 
     ghost view = { λ s. record {
-        encoding = encoding_of s.encoding;
-        is_decided = s.is_decided;
-        held = s.input.held;
-        passed = s.passed;
-        after_cr = s.after_cr;
-        is_done = s.is_done;
+      encoding = encoding_of s.encoding;
+      is_decided = s.is_decided;
+      held = s.input.held;
+      passed = s.passed;
+      after_cr = s.after_cr;
+      is_done = s.is_done;
     } };
 
     ghost invariant = { λ s. s.is_decided ≡ false → s.after_cr ≡ false };
@@ -117,10 +117,7 @@ impl LineSeeker {
 
     /// The next line end among the bytes that are held, which reads until there is one. `None` is the end of the
     /// input, where the bytes that are held are the last line. At an error too no line end is held.
-    pub fn seek<R: CountedRead>(
-        &mut self,
-        reader: &mut R,
-    ) -> Result<Option<LineEnd>, FillError>
+    pub fn seek<R: CountedRead>(&mut self, reader: &mut R) -> Result<Option<LineEnd>, FillError>
         requires going { self.old.is_done ≡ false }
         ensures seeks { Seeks R.CountedRead self.old reader.old result self.new reader.new }
         ensures same_reader { IsSameReader R.CountedRead reader.old reader.new }
