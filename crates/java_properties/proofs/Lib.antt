@@ -13,3 +13,4 @@ pub mod Making
 mod InputBuffer
 pub mod LineFinder
 pub mod LineSearch
+pub mod LineJoiner
