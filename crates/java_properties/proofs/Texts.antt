@@ -1,3 +1,6 @@
 pub mod Characters
 pub mod Split
 pub mod Spans
+pub mod Escapes
+pub mod Resolving
+pub mod Backslashes

@@ -18,6 +18,7 @@
 mod characters;
 mod encoding;
 mod error;
+mod escape;
 mod iter;
 mod line;
 mod lines;
