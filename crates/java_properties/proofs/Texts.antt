@@ -2,3 +2,6 @@ pub mod Characters
 pub mod Split
 pub mod Spans
 pub mod Joins
+pub mod Escapes
+pub mod Resolving
+pub mod Backslashes

@@ -6,6 +6,7 @@ pub mod Cutting
 pub mod Iterating
 pub mod Lines
 pub mod Parsing
+pub mod Escaping
 pub mod Views
 pub mod SettingsTexts
 pub mod SettingsViews
