@@ -8,3 +8,4 @@ pub mod SettingsTests
 pub mod LineTexts
 pub mod Making
 mod InputBuffer
+pub mod Comparisons

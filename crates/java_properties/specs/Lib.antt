@@ -4,7 +4,7 @@ pub mod Decoding
 pub mod Reading
 pub mod Cutting
 pub mod Iterating
-pub mod Lines
+pub mod Line
 pub mod Views
 pub mod SettingsTexts
 pub mod SettingsViews

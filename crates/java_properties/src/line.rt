@@ -1,10 +1,12 @@
 // The items of a file.
 
 ghost use Rattle.std.specs.Prelude.{◌≡◌};
-ghost use Rattle.java_properties.specs.Lines.{number_of, content_of};
+ghost use Rattle.java_properties.specs.Line.{number_of, content_of};
 
 /// What a line says.
-#[derive(Debug, PartialEq, Eq, Drop)]
+///
+/// Comments come before pairs. Of two comments, and of two pairs, the bytes of the texts decide.
+#[derive(Clone, Debug, PartialEq, Eq, PartialOrd, Ord, Hash, Drop)]
 pub enum LineContent {
     /// The text of a comment, without its mark and the blanks around it.
     Comment(String),
@@ -13,7 +15,9 @@ pub enum LineContent {
 }
 
 /// A comment or a pair, with the number of the line in which it begins. Lines are numbered from 1.
-#[derive(Debug, PartialEq, Eq, Drop)]
+///
+/// The number decides which of two comes first, and at equal numbers the content.
+#[derive(Clone, Debug, PartialEq, Eq, PartialOrd, Ord, Hash, Drop)]
 pub struct Line {
     line_number: usize,
     content: LineContent,
@@ -42,5 +46,20 @@ impl Line {
         ensures { result.now ≡ content_of self.now }
     {
         &self.content
+    }
+
+    /// What the line says, taken out of it.
+    pub fn consume_content(self) -> LineContent
+        ensures { result ≡ content_of self }
+    {
+        self.content
+    }
+}
+
+impl From<Line> for LineContent {
+    ghost from_gives = { λ line content. content ≡ content_of line };
+
+    fn from(line: Line) -> LineContent {
+        line.consume_content()
     }
 }

@@ -10,7 +10,7 @@ use crate::error::PropertiesError;
 use std::alloc::Global;
 
 /// What ends each line that is written.
-#[derive(Clone, Copy, Debug, PartialEq, Eq)]
+#[derive(Clone, Copy, Debug, PartialEq, Eq, PartialOrd, Ord, Hash)]
 pub enum LineEnding {
     /// A carriage return.
     CR,
