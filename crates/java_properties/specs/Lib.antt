@@ -5,6 +5,7 @@ pub mod Reading
 pub mod Cutting
 pub mod Iterating
 pub mod Line
+pub mod DisplayTexts
 pub mod Views
 pub mod SettingsTexts
 pub mod SettingsViews

@@ -3,6 +3,7 @@
 ghost use Rattle.std.specs.Prelude.{◌≡◌, Some, None};
 ghost use Rattle.std.specs.Str.{chars};
 ghost use Rattle.std.specs.String.{string_bytes};
+ghost use Rattle.java_properties.specs.DisplayTexts.{description, error_display};
 ghost use Rattle.java_properties.specs.Errors.{kind_of, line_of, cause_of, IsError, IsPlain, IsRefusal, IsStreamError};
 ghost use Rattle.java_properties.specs.declared.error.ErrorKind.TheVariants.{Io, BadCommentPrefix, BadKvSeparator, EmptyKey, TooManyLines, Failed, Memory};
 
@@ -185,6 +186,8 @@ impl<T: Drop> From<AllocFailed<T>> for PropertiesError {
 }
 
 impl fmt::Display for PropertiesError {
+    ghost output = { error_display };
+
     fn fmt<W: fmt::Write>(&self, f: &mut fmt::Formatter<W>) -> fmt::Result {
         write!(f, "{}", self.kind.description())?;
         if let Some(text) = &self.refused {
@@ -200,7 +203,9 @@ impl fmt::Display for PropertiesError {
 impl Error for PropertiesError {}
 
 impl ErrorKind {
-    fn description(self) -> &'static str {
+    fn description(self) -> &'static str
+        ensures { result.now ≡ description self }
+    {
         match self {
             ErrorKind::Io => "I/O error",
             ErrorKind::NotEnoughDigits => "Malformed \\uxxxx encoding: not enough digits.",

@@ -2,11 +2,14 @@
 
 ghost use Rattle.std.specs.Prelude.{◌≡◌};
 ghost use Rattle.java_properties.specs.Line.{number_of, content_of};
+ghost use Rattle.java_properties.specs.DisplayTexts.{content_display, line_display};
+
+use std::fmt;
 
 /// What a line says.
 ///
 /// Comments come before pairs. Of two comments, and of two pairs, the bytes of the texts decide.
-#[derive(Clone, Debug, PartialEq, Eq, PartialOrd, Ord, Hash, Drop)]
+#[derive(Debug, Clone, PartialEq, Eq, PartialOrd, Ord, Hash, Drop)]
 pub enum LineContent {
     /// The text of a comment, without its mark and the blanks around it.
     Comment(String),
@@ -63,3 +66,29 @@ impl From<Line> for LineContent {
         line.consume_content()
     }
 }
+
+impl fmt::Display for LineContent {
+    ghost output = { content_display };
+
+    fn fmt<W: fmt::Write>(&self, f: &mut fmt::Formatter<W>) -> fmt::Result {
+        match self {
+            LineContent::Comment(text) => write!(f, "Comment({text:?})"),
+            LineContent::KVPair(key, value) => write!(f, "KVPair({key:?}, {value:?})"),
+        }
+    }
+}
+
+impl fmt::Display for Line {
+    ghost output = { line_display };
+
+    fn fmt<W: fmt::Write>(&self, f: &mut fmt::Formatter<W>) -> fmt::Result {
+        let Line {
+            line_number,
+            content,
+        } = self;
+        write!(f, "Line {{line_number: {line_number}, content: {content}}}")
+    }
+}
+
+#[cfg(test)]
+mod tests;

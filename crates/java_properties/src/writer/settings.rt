@@ -8,6 +8,7 @@ ghost use Rattle.java_properties.specs.SettingsTexts.{ending_of, prefix_of, sepa
 
 use crate::error::PropertiesError;
 use std::alloc::Global;
+use std::fmt;
 
 /// What ends each line that is written.
 #[derive(Clone, Copy, Debug, PartialEq, Eq, PartialOrd, Ord, Hash)]
@@ -29,6 +30,21 @@ impl LineEnding {
             LineEnding::LF => "\n",
             LineEnding::CRLF => "\r\n",
         }
+    }
+}
+
+impl fmt::Display for LineEnding {
+    ghost use Rattle.std.specs.Prelude.{Some};
+    ghost use Rattle.java_properties.specs.DisplayTexts.{line_ending_display};
+
+    ghost output = { λ ending. Some (line_ending_display ending) };
+
+    fn fmt<W: fmt::Write>(&self, f: &mut fmt::Formatter<W>) -> fmt::Result {
+        f.write_str(match self {
+            LineEnding::CR => "LineEnding::CR",
+            LineEnding::LF => "LineEnding::LF",
+            LineEnding::CRLF => "LineEnding::CRLF",
+        })
     }
 }
 
