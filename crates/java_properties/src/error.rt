@@ -82,6 +82,13 @@ impl PropertiesError {
         &self.cause
     }
 
+    /// What it came from, taken out of it, so that a stream's own error can be handed on.
+    pub fn into_cause(self) -> Cause
+        ensures { result ≡ cause_of self }
+    {
+        self.cause
+    }
+
     /// A stream failed in the line of this number.
     pub(crate) fn io(line_number: usize, cause: Cause) -> PropertiesError
         ensures { IsError Io (Some line_number) cause result }
