@@ -14,3 +14,4 @@ mod InputBuffer
 pub mod LineFinder
 pub mod LineSearch
 pub mod LineJoiner
+pub mod Comparisons

@@ -4,9 +4,10 @@ pub mod Decoding
 pub mod Reading
 pub mod Cutting
 pub mod Iterating
-pub mod Lines
 pub mod Parsing
 pub mod Escaping
+pub mod Line
+pub mod DisplayTexts
 pub mod Views
 pub mod SettingsTexts
 pub mod SettingsViews
