@@ -18,3 +18,5 @@ pub mod InputBuffer
 pub mod LineSearch
 pub mod LineFinder
 pub mod LineJoiner
+pub mod PropertiesIter
+pub mod NaturalLines
