@@ -15,3 +15,4 @@ pub mod LineFinder
 pub mod LineSearch
 pub mod LineJoiner
 pub mod Comparisons
+pub mod Items

@@ -5,7 +5,9 @@ use Rattle.counted_io.specs.Streams.{Reader, HasRead, IsSameReader}
 use Rattle.properties_format.specs.Lines.{InputEnd, end}
 use Rattle.properties_format.specs.Entries as entry
 use Rattle.properties_format.specs.Entries.{Content, Entry, item, malformed}
-use Rattle.properties_format.specs.Escapes.{Malformed}
+use Rattle.properties_format.specs.Escapes.{Malformed, Means}
+use Rattle.java_properties.specs.Escaping.{IsRefused}
+use Rattle.std.specs.declared.string.String.{String}
 use Rattle.properties_format.specs.Items.{ignored, given, broken}
 use Rattle.properties_format.specs.Reading.Items.{outcome_of}
 use Rattle.properties_format.specs.ItemsToCome.{ReaderState}
@@ -33,6 +35,23 @@ said (KVPair key value) = entry.pair (chars (string_bytes key)) (chars (string_b
 abbrev pub entry_of : Line → Entry
 entry_of line = item (number_of line) (said (content_of line))
 
+-- the text with its escapes resolved, or why there is none
+abbrev pub IsResolved : {Z : Type 0} → List ℕ → ℕ → Result (String Z) PropertiesError → Type 0
+IsResolved text line (Ok meant) = Means text (chars (string_bytes meant))
+IsResolved text line (Err e) = IsRefused text line e
+
+-- the line of a comment, and of a pair, by their texts before escapes are resolved; of a pair the key breaks first
+abbrev pub IsCommentOf : ℕ → List ℕ → Result Line PropertiesError → Type 0
+IsCommentOf number raw (Ok line) = (number_of line ≡ number) × ((text : List ℕ) × Means raw text × (said (content_of line) ≡ entry.comment text))
+IsCommentOf number raw (Err e) = IsRefused raw number e
+
+abbrev pub IsPairOf : ℕ → List ℕ → List ℕ → Result Line PropertiesError → Type 0
+IsPairOf number raw_key raw_value (Ok line) =
+    (number_of line ≡ number)
+    × ((key : List ℕ) × (value : List ℕ) × Means raw_key key × Means raw_value value × (said (content_of line) ≡ entry.pair key value))
+IsPairOf number raw_key raw_value (Err e) =
+    IsRefused raw_key number e ⊎ ((key : List ℕ) × Means raw_key key × IsRefused raw_value number e)
+
 -- Why a logical line gave no item: its escapes are malformed, or there was no memory.
 abbrev pub IsNoItem : ℕ → List ℕ → PropertiesError → Type 0
 IsNoItem number text e =
@@ -51,9 +70,9 @@ pub data Gives (old : ReaderState) (bytes : List ℕ) (entry : Entry) (new : Rea
   at_last : new.is_done ≡ true → items_to_come old bytes end ≡ entry ∷ [] → Gives old bytes entry new
 
 -- The same of malformed escapes, after which nothing comes.
-pub data Breaks (old : ReaderState) (bytes : List ℕ) (entry : Entry) : Type 0 where
-  before_all : ((d : List ℕ) (ending : InputEnd) → items_to_come old (bytes ++ d) ending ≡ entry ∷ []) → Breaks old bytes entry
-  at_last : items_to_come old bytes end ≡ entry ∷ [] → Breaks old bytes entry
+pub data BreaksOff (old : ReaderState) (bytes : List ℕ) (entry : Entry) : Type 0 where
+  before_all : ((d : List ℕ) (ending : InputEnd) → items_to_come old (bytes ++ d) ending ≡ entry ∷ []) → BreaksOff old bytes entry
+  at_last : items_to_come old bytes end ≡ entry ∷ [] → BreaksOff old bytes entry
 
 -- An item came. Where what was held gave it already, nothing was read.
 pub record GivesNext {R : Type 0} (reader : Reader R) (old : ReaderState) (from : R) (line : Line) (new : ReaderState) (to : R) : Type 0 where
@@ -79,7 +98,7 @@ pub record GivesMalformed {R : Type 0} (reader : Reader R) (old : ReaderState) (
   pub kind : Malformed
   pub read : HasRead reader from bytes to
   pub is : IsMalformed kind number e
-  pub breaks : Breaks old bytes (malformed kind number)
+  pub breaks : BreaksOff old bytes (malformed kind number)
   pub lazy : IsLazyItems old from bytes to
 
 -- What the next item is, and what asking for it leaves. After `None` and after an error the iterator is at its end.

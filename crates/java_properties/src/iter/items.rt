@@ -6,7 +6,7 @@ ghost use Rattle.counted_io.specs.Streams.{IsSameReader};
 ghost use Rattle.properties_format.specs.ItemsToCome.{ReaderState, start};
 ghost use Rattle.java_properties.specs.Views.{encoding_of};
 ghost use Rattle.java_properties.specs.LineFinder.{lines_left};
-ghost use Rattle.java_properties.specs.PropertiesIter.{GivesItem, IsItemOf};
+ghost use Rattle.java_properties.specs.PropertiesIter.{GivesItem, IsItemOf, IsCommentOf, IsPairOf, IsResolved};
 
 use crate::encoding::Encoding;
 use crate::error::PropertiesError;
@@ -74,21 +74,45 @@ impl ItemReader {
 fn item_of(alloc: Global, number: usize, text: &str) -> Result<Option<Line>, PropertiesError>
     ensures { IsItemOf number (chars text.now) result }
 {
-    let content = match parse_line(text) {
-        None => return Ok(None),
-        Some(ParsedLine::Comment(comment)) => {
-            LineContent::Comment(resolved(alloc, comment, number)?)
-        }
-        Some(ParsedLine::KVPair(key, value)) => {
-            let key = resolved(alloc, key, number)?;
-            LineContent::KVPair(key, resolved(alloc, value, number)?)
-        }
+    match parse_line(text) {
+        None => Ok(None),
+        Some(ParsedLine::Comment(comment)) => match comment_of(alloc, number, comment) {
+            Ok(line) => Ok(Some(line)),
+            Err(error) => Err(error),
+        },
+        Some(ParsedLine::KVPair(key, value)) => match pair_of(alloc, number, key, value) {
+            Ok(line) => Ok(Some(line)),
+            Err(error) => Err(error),
+        },
+    }
+}
+
+fn comment_of(alloc: Global, number: usize, comment: &str) -> Result<Line, PropertiesError>
+    ensures { IsCommentOf number (chars comment.now) result }
+{
+    match resolved(alloc, comment, number) {
+        Ok(text) => Ok(Line::new(number, LineContent::Comment(text))),
+        Err(error) => Err(error),
+    }
+}
+
+fn pair_of(alloc: Global, number: usize, key: &str, value: &str) -> Result<Line, PropertiesError>
+    ensures { IsPairOf number (chars key.now) (chars value.now) result }
+{
+    let key = match resolved(alloc, key, number) {
+        Ok(key) => key,
+        Err(error) => return Err(error),
     };
-    Ok(Some(Line::new(number, content)))
+    match resolved(alloc, value, number) {
+        Ok(value) => Ok(Line::new(number, LineContent::KVPair(key, value))),
+        Err(error) => Err(error),
+    }
 }
 
 // The text with its escapes resolved.
-fn resolved(alloc: Global, text: &str, line: usize) -> Result<String, PropertiesError> {
+fn resolved(alloc: Global, text: &str, line: usize) -> Result<String, PropertiesError>
+    ensures { IsResolved (chars text.now) line result }
+{
     match unescape(alloc, text, line)? {
         CowStr::Borrowed(text) => Ok(String::from_str(alloc, text)?),
         CowStr::Owned(text) => Ok(text),
