@@ -179,7 +179,7 @@ module _ {R : Type 0} {reader : Reader R} where
       → (s.is_done ≡ false) × (GivesMalformed reader s from e next ⊎ JoinsError reader s from e u next)
   passed-no_item {r = r} number new u h n (inr is) =
       (passed-live h n.live, inr (inr (inr (record { bytes = r ++ n.bytes; read = read-more h.read n.read; is = is; lazy = passed-lazy h n.live n.lazy }))))
-  passed-no_item {s} {t} {r = r} number new u h n (inl (kind, o, is)) = (passed-live h n.live, inl (record {
+  passed-no_item {s} {t} {next = next} {r = r} number new u h n (inl (kind, o, is)) = (passed-live h n.live, inl (record {
     bytes = r ++ n.bytes;
     number = number;
     kind = kind;
@@ -189,10 +189,10 @@ module _ {R : Type 0} {reader : Reader R} where
     lazy = passed-lazy h n.live n.lazy;
   }))
     where
-      by-comes : Comes t n.bytes (numbered_line number new) new.state → BreaksOff s (r ++ n.bytes) (malformed kind number)
+      by-comes : Comes t n.bytes (numbered_line number new) new.state → BreaksOff s (r ++ n.bytes) (malformed kind number) (reader.at_end next)
       by-comes (Comes.going_on k logical) = BreaksOff.before_all (λ d ending.
           passed-after h n.live n.bytes d ending ∙ logical.items d ending ∙ followed-broken number (chars new.line) kind (items_to_come new.state d ending) o)
-      by-comes (Comes.at_last k items) = BreaksOff.at_last (passed-on h n.live n.bytes end ∙ items ∙ followed-broken number (chars new.line) kind [] o)
+      by-comes (Comes.at_last k items) = BreaksOff.at_last (n.ended k) (passed-on h n.live n.bytes end ∙ items ∙ followed-broken number (chars new.line) kind [] o)
 
   -- no line came
   pub passed-none : {s t u : ReaderState} {from to next : R} {r : List ℕ} → Passed reader s from r t to → t.is_done ≡ true → u ≡ t → next ≡ to
@@ -204,6 +204,7 @@ module _ {R : Type 0} {reader : Reader R} where
         read = h.read;
         items = k.1;
         done = d;
-        ended = elim k.2 [ inl e ↦ let l = h.live e in inl (e, l.0, l.1) | inr e ↦ inr e ];
+        idle = λ e. h.live e;
+        ended = λ f. elim k.2 [ inl e ↦ absurd (cc) | inr e ↦ e ];
       }
   ])

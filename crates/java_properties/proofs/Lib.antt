@@ -16,3 +16,4 @@ pub mod LineSearch
 pub mod LineJoiner
 pub mod Comparisons
 pub mod Items
+pub mod Readings

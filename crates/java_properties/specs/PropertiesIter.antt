@@ -1,5 +1,5 @@
 -- What a contract sees of the iterator over items, and what its calls give and leave.
-use Rattle.std.specs.Prelude.{◌≡◌, ◌⊎◌, ℕ, true, false, List, [], ◌∷◌, ◌++◌, Option, Some, None, Result, Ok, Err, string_bytes}
+use Rattle.std.specs.Prelude.{◌≡◌, ◌⊎◌, ℕ, Bool, true, false, List, [], ◌∷◌, ◌++◌, Option, Some, None, Result, Ok, Err, string_bytes}
 use Rattle.std.specs.Str.{chars}
 use Rattle.counted_io.specs.Streams.{Reader, HasRead, IsSameReader}
 use Rattle.properties_format.specs.Lines.{InputEnd, end}
@@ -70,9 +70,9 @@ pub data Gives (old : ReaderState) (bytes : List ℕ) (entry : Entry) (new : Rea
   at_last : new.is_done ≡ true → items_to_come old bytes end ≡ entry ∷ [] → Gives old bytes entry new
 
 -- The same of malformed escapes, after which nothing comes.
-pub data BreaksOff (old : ReaderState) (bytes : List ℕ) (entry : Entry) : Type 0 where
-  before_all : ((d : List ℕ) (ending : InputEnd) → items_to_come old (bytes ++ d) ending ≡ entry ∷ []) → BreaksOff old bytes entry
-  at_last : items_to_come old bytes end ≡ entry ∷ [] → BreaksOff old bytes entry
+pub data BreaksOff (old : ReaderState) (bytes : List ℕ) (entry : Entry) (at_end : Bool) : Type 0 where
+  before_all : ((d : List ℕ) (ending : InputEnd) → items_to_come old (bytes ++ d) ending ≡ entry ∷ []) → BreaksOff old bytes entry at_end
+  at_last : at_end ≡ true → items_to_come old bytes end ≡ entry ∷ [] → BreaksOff old bytes entry at_end
 
 -- An item came. Where what was held gave it already, nothing was read.
 pub record GivesNext {R : Type 0} (reader : Reader R) (old : ReaderState) (from : R) (line : Line) (new : ReaderState) (to : R) : Type 0 where
@@ -89,7 +89,8 @@ pub record GivesNone {R : Type 0} (reader : Reader R) (old : ReaderState) (from 
   pub read : HasRead reader from bytes to
   pub items : items_to_come old bytes end ≡ []
   pub done : new.is_done ≡ true
-  pub ended : (old.is_done ≡ true) × (new ≡ old) × (to ≡ from) ⊎ (reader.at_end to ≡ true)
+  pub idle : old.is_done ≡ true → (new ≡ old) × (to ≡ from) × (bytes ≡ [])
+  pub ended : old.is_done ≡ false → reader.at_end to ≡ true
 
 -- Malformed escapes came, in the logical line that begins at this number.
 pub record GivesMalformed {R : Type 0} (reader : Reader R) (old : ReaderState) (from : R) (e : PropertiesError) (to : R) : Type 0 where
@@ -98,7 +99,7 @@ pub record GivesMalformed {R : Type 0} (reader : Reader R) (old : ReaderState) (
   pub kind : Malformed
   pub read : HasRead reader from bytes to
   pub is : IsMalformed kind number e
-  pub breaks : BreaksOff old bytes (malformed kind number)
+  pub breaks : BreaksOff old bytes (malformed kind number) (reader.at_end to)
   pub lazy : IsLazyItems old from bytes to
 
 -- What the next item is, and what asking for it leaves. After `None` and after an error the iterator is at its end.

@@ -1,5 +1,9 @@
 // All items of an input.
 
+ghost use Rattle.counted_io.specs.Streams.{IsSameReader};
+ghost use Rattle.java_properties.specs.ReadLines.{ReadsLines};
+ghost use Rattle.java_properties.specs.Views.{encoding_of};
+
 use crate::encoding::Encoding;
 use crate::error::PropertiesError;
 use crate::iter::items::ItemReader;
@@ -33,7 +37,10 @@ pub fn read_lines<R: CountedRead>(
     alloc: Global,
     input: &mut R,
     encoding: Encoding,
-) -> Result<Vec<Line>, Stopped> {
+) -> Result<Vec<Line>, Stopped>
+    ensures reads { ReadsLines R.CountedRead (encoding_of encoding) input.old result input.new }
+    ensures same_reader { IsSameReader R.CountedRead input.old input.new }
+{
     let mut items = ItemReader::new(alloc, encoding);
     let mut lines = Vec::new(alloc);
     while let Some(item) = items.next_item(input) {
