@@ -15,6 +15,7 @@
 //! ```
 #![tactic(auto)]
 
+mod characters;
 mod encoding;
 mod error;
 mod iter;

@@ -13,12 +13,13 @@ ghost use Rattle.java_properties.specs.Writing.{printer_state, writer_state, wri
 ghost use Rattle.java_properties.specs.Streams.{CameFromSink};
 ghost use Rattle.java_properties.specs.Contents.{content_in};
 
+use crate::characters::is_blank;
 use crate::encoding::Encoding;
 use crate::error::PropertiesError;
 use counted_io::CountedWrite;
 use print::{Place, print_key, print_raw, print_text};
 use send::send;
-use settings::{Settings, is_blank};
+use settings::Settings;
 use std::alloc::{AllocError, Global};
 
 mod calls;

@@ -75,7 +75,11 @@ fn is_bom_like(encoding: Encoding, key: &str) -> bool
 }
 
 // A key with its first character as an escape.
-fn print_with_first_escaped(line: &mut Vec<u8>, encoding: Encoding, key: &str) -> Result<(), AllocError>
+fn print_with_first_escaped(
+    line: &mut Vec<u8>,
+    encoding: Encoding,
+    key: &str,
+) -> Result<(), AllocError>
     ensures printed { OnOk result (line.new.items ≡ line.old.items ++ encoded_text (encoding_of encoding) (with_first_escaped (encoding_of encoding) (chars key.now))) }
 {
     let mut characters = key.chars();

@@ -2,10 +2,11 @@
 
 ghost use Rattle.std.specs.Prelude.{◌≡◌, true};
 ghost use Rattle.std.specs.Str.{chars};
-ghost use Rattle.properties_format.specs.Text.{line_ending_text, is_blank, is_line_end, is_comment_sign, is_separator};
+ghost use Rattle.properties_format.specs.Text.{line_ending_text};
 ghost use Rattle.properties_format.specs.Reading.Settings.{is_good_prefix, is_good_separator};
 ghost use Rattle.java_properties.specs.SettingsTexts.{ending_of, prefix_of, separator_of};
 
+use crate::characters::{is_blank, is_comment_sign, is_line_end, is_separator};
 use crate::error::PropertiesError;
 use std::alloc::Global;
 
@@ -154,30 +155,6 @@ pub(crate) fn is_good_separator(text: &str) -> bool
         }
     }
     !text.is_empty()
-}
-
-pub(super) fn is_blank(character: char) -> bool
-    ensures { result ≡ is_blank character }
-{
-    matches!(character, ' ' | '\t' | '\x0c')
-}
-
-fn is_line_end(character: char) -> bool
-    ensures { result ≡ is_line_end character }
-{
-    matches!(character, '\n' | '\r')
-}
-
-fn is_comment_sign(character: char) -> bool
-    ensures { result ≡ is_comment_sign character }
-{
-    matches!(character, '#' | '!')
-}
-
-fn is_separator(character: char) -> bool
-    ensures { result ≡ is_separator character }
-{
-    matches!(character, '=' | ':')
 }
 
 #[cfg(test)]
