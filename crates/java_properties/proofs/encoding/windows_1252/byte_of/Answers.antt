@@ -2,8 +2,8 @@ use Rattle.std.proofs.Common.{◌+◌, ◌<◌, ◌≤◌, sym, ◌∙◌, ap, a
 use Rattle.std.specs.Result.{result_ok}
 use Rattle.std.proofs.lemmas.Result.{Ok-from_Ok_iff}
 use Rattle.java_properties.proofs.Windows1252.{byte_by_place}
-use Rattle.java_properties.proofs.encoding.windows_1252_byte.Goals as goal
-use Rattle.java_properties.proofs.encoding.windows_1252_byte.Goals.{in_default-via-then-character-lt160, in_default-via-else-character-lt160+else-character-lt256}
+use Rattle.java_properties.proofs.encoding.windows_1252.byte_of.Goals as goal
+use Rattle.java_properties.proofs.encoding.windows_1252.byte_of.Goals.{in_default-via-then-character-lt160, in_default-via-else-character-lt160+else-character-lt256}
 
 pub returns-in_ok-place-in_default : goal.returns-in_ok-place-in_default
 returns-in_ok-place-in_default c =
