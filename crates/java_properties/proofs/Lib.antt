@@ -1,8 +1,7 @@
-pub mod Streams
-pub mod Calls
 pub mod Windows1252
 pub mod Printing
-pub mod MarkLike
-pub mod SettingsTests
-pub mod LineTexts
-pub mod Making
+pub mod Settings
+pub mod Engine
+pub mod Calls
+pub mod OldStreams
+pub mod OldCalls

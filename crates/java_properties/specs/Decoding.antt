@@ -1,6 +1,6 @@
 -- What the iterator over characters is between calls, and what a call of it leaves.
 use Rattle.std.specs.Prelude.{◌≡◌, ℕ, Bool, true, false, List, Option, Some, None, Result, Ok, Err}
-use Rattle.java_properties.specs.Streams.{HasRead, HasFailed}
+use Rattle.java_properties.specs.OldStreams.{HasRead, HasFailed}
 use Rattle.java_properties.specs.declared.encoding.decode.DecodeIter.{DecodeIter}
 
 abbrev pub decoded_reader : {R : Type 0} → DecodeIter R → R

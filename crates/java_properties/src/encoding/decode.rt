@@ -1,7 +1,7 @@
 // Bytes to characters.
 
 ghost use Rattle.std.specs.Prelude.{◌≡◌, false, IfOk};
-ghost use Rattle.java_properties.specs.Streams.{TakesChar};
+ghost use Rattle.java_properties.specs.OldStreams.{TakesChar};
 ghost use Rattle.java_properties.specs.Decoding.{decoded_reader, decoded_all, DecodesNext};
 
 use super::windows_1252::character_of;

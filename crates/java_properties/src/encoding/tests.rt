@@ -2,6 +2,7 @@
 
 use super::*;
 use counted_io::{ScriptedReader, Tail};
+use std::io;
 use std::test::Fail;
 
 #[test]

@@ -9,7 +9,7 @@ fn in_line(line_number: usize, kind: ErrorKind, cause: Cause) -> PropertiesError
     PropertiesError {
         line_number: Some(line_number),
         cause,
-        ..PropertiesError::plain(kind)
+        ..PropertiesError::bare(kind)
     }
 }
 
@@ -112,7 +112,7 @@ fn prints_plain_errors(rt: HostRuntime) -> Result<(), Fail> {
         ),
     ];
     for (kind, wanted) in rows {
-        assert!(rt; is_printed(alloc, PropertiesError::plain(kind), wanted)?);
+        assert!(rt; is_printed(alloc, PropertiesError::bare(kind), wanted)?);
     }
     Ok(())
 }

@@ -3,7 +3,7 @@ use Rattle.java_properties.specs.declared.lines.NaturalLine.{NaturalLine}
 use Rattle.java_properties.specs.declared.line.Line.{Line}
 use Rattle.java_properties.specs.Iterating.{items_progress}
 use Rattle.java_properties.specs.Cutting.{cutter_progress}
-use Rattle.java_properties.proofs.Calls.{along-more, along-ok, along-end, along-error, along-refused}
+use Rattle.java_properties.proofs.OldCalls.{along-more, along-ok, along-end, along-error, along-refused}
 use Rattle.java_properties.proofs.iter.ItemReader.next_item.Goals as goal
 
 pub returns-in-Ok-Some-clause-leaves : goal.returns-in-Ok-Some-clause-leaves

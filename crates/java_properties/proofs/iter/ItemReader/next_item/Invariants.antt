@@ -1,7 +1,7 @@
 use Rattle.std.proofs.Common.{◌≡◌, ◌≤◌}
 use Rattle.java_properties.specs.Reading.{most_left}
 use Rattle.java_properties.specs.Iterating.{items_progress}
-use Rattle.java_properties.proofs.Calls.{Along}
+use Rattle.java_properties.proofs.OldCalls.{Along}
 use Rattle.java_properties.proofs.iter.ItemReader.next_item.Given as goal
 
 abbrev pub invariant-loop-answer : goal.invariant-loop-answer

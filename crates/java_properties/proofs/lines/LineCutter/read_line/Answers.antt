@@ -1,7 +1,7 @@
 use Rattle.std.proofs.Common.{arith, inl, inr}
 use Rattle.std.proofs.lemmas.Result.{err_from_is_err_and}
 use Rattle.std.proofs.lemmas.Str.{length-encode, len_utf8_bounds}
-use Rattle.java_properties.proofs.Streams.{has_read-more, has_failed-more}
+use Rattle.java_properties.proofs.OldStreams.{has_read-more, has_failed-more}
 use Rattle.java_properties.proofs.lines.LineCutter.read_line.Goals as goal
 
 pub returns-in-Ok-None-clause-leaves : goal.returns-in-Ok-None-clause-leaves

@@ -1,5 +1,5 @@
 use Rattle.std.proofs.Common.{◌≡◌, ◌+◌, ◌-◌, ◌^◌, cond, true, string_len}
-use Rattle.java_properties.specs.Streams.{HasRead}
+use Rattle.java_properties.specs.OldStreams.{HasRead}
 use Rattle.java_properties.proofs.lines.LineCutter.read_line.Given as goal
 
 abbrev pub invariant-characters : goal.invariant-characters
