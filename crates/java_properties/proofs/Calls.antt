@@ -1,3 +1,3 @@
 pub mod Made
-pub mod Single
+pub mod Setters
 pub mod Lists

@@ -59,9 +59,9 @@ is_not_accepted kind.EmptyKey = true
 is_not_accepted other = false
 
 -- whether a call was accepted, of what it returned, or the error that ends the calls
-abbrev pub Answers : Result Unit PropertiesError → Result Bool PropertiesError → Type 0
-Answers (Ok done) result = result ≡ Ok true
-Answers (Err error) result = result ≡ (if is_not_accepted (kind_of error) then Ok false else Err error)
+abbrev pub SaysAccepted : Result Unit PropertiesError → Result Bool PropertiesError → Type 0
+SaysAccepted (Ok done) result = result ≡ Ok true
+SaysAccepted (Err error) result = result ≡ (if is_not_accepted (kind_of error) then Ok false else Err error)
 
 -- The call was made, and this says whether it was accepted. One that writes no line and is no flush leaves the sink as it was.
 pub record HasMadeCall {W : Type 0} (sink : Sink W) (old : Writing W) (call : format.Call) (accepted : Bool) (new : Writing W) : Type 0 where
@@ -89,7 +89,7 @@ MakesCall sink old call (Err error) new = FailsInCall sink old call error new
 
 -- ---- all calls
 
--- All calls were made, and each was answered by whether it was accepted.
+-- All calls were made, and it is said of each whether it was accepted.
 pub record HasRun {W : Type 0} (sink : Sink W) (old : Writing W) (calls : List format.Call) (answers : List Bool) (new : Writing W) : Type 0 where
   pub answered : answers ≡ format.answers old.settings calls
   pub made : HasMade sink old calls new

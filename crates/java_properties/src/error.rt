@@ -31,7 +31,7 @@ pub enum ErrorKind {
     TooManyLines,
     /// A write failed before, so that the sink ends in a part of a line.
     Failed,
-    /// There was no memory.
+    /// Memory ran out.
     Memory,
     /// The encoding can't be edited.
     Unsupported,
@@ -50,7 +50,8 @@ pub enum Cause {
 
 /// Why a call failed, and in which line.
 ///
-/// It prints its kind in words and its line, as `I/O error (line_number = 3)`, and the text that was refused, where one was.
+/// It prints its kind in words and its line, as `I/O error (line_number = 3)`, and the text that was refused, where
+/// one was.
 #[derive(Debug, Drop)]
 pub struct PropertiesError {
     kind: ErrorKind,

@@ -26,7 +26,7 @@ pub use settings::LineEnding;
 /// Writes comments and pairs to a sink, one a line.
 ///
 /// A line is built whole before its first byte goes out. After a fault of the sink in a line, the sink holds a part
-/// of that line, and the writer has failed: nothing more is sent, and lines and flushes are answered by the kind
+/// of that line, and the writer has failed: nothing more is sent, and lines and flushes are refused by the kind
 /// Failed.
 ///
 /// ```text

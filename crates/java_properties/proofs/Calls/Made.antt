@@ -1,13 +1,13 @@
 -- Calls that were made, one after another.
-use Rattle.std.proofs.Common.{◌≡◌, Bool, true, false, List, [], ◌∷◌, ◌++◌, refl, ap, sym, ◌∙◌, append-nil, cond, subst}
+use Rattle.std.proofs.Common.{◌≡◌, Bool, true, false, ℕ, List, [], ◌∷◌, ◌++◌, refl, ap, sym, ◌∙◌, append-nil, cond, subst}
 use Rattle.std.specs.Prelude.{Some, None, is_some}
 use Rattle.counted_io.specs.Streams.{Sink}
-use Rattle.counted_io.proofs.Streams.{written-none, written-more, written-flushed}
+use Rattle.counted_io.proofs.Streams.{written-none, written-more}
 use Rattle.properties_format.specs.Entries.{Content, pair}
 use Rattle.properties_format.specs.Settings.{Settings}
 use Rattle.properties_format.specs.Writing.{Call, comment_call, pair_call, prefix_call, separator_call, ending_call, flush_call, is_accepted, settings_after_call, settings_after, line_count_after, written_line}
 use Rattle.properties_format.proofs.Writing.{settings_after-append, line_count_after-append, wrote-append}
-use Rattle.java_properties.specs.PropertiesWriter.{Writing, HasWrittenLine, HasFlushedSink, with_settings}
+use Rattle.java_properties.specs.PropertiesWriter.{Writing, HasWrittenLine, with_settings}
 use Rattle.java_properties.specs.Calls.{after_calls, flushed_after, HasMade, HasMadeCall}
 
 -- whether calls leave the sink flushed goes on from call to call
@@ -62,9 +62,15 @@ module _ {W : Type 0} {sink : Sink W} where
     after = rw (some, kept) h.after;
   }
 
-  -- a flush
-  pub made-flush : {old new : Writing W} → HasFlushedSink sink old new → HasMade sink old (flush_call ∷ []) new
-  made-flush {old = old} h = record { written = written-flushed (written-none old.sink) h.flushed; flushed = λ e. h.flushed.flushed; after = h.after }
+  -- a pair that was written
+  pub pair-made : {old new : Writing W} (key value : List ℕ) → HasWrittenLine sink old (pair key value) new → HasMadeCall sink old (pair_call key value) true new
+  pair-made key value h =
+      let some = ap (λ b. cond b (Some (pair key value)) None) h.takes.accepted in
+      record {
+        answer = sym h.takes.accepted;
+        made = made-line (pair_call key value) some (λ q. absurd (cc)) refl h;
+        quiet = λ e f. absurd (cc);
+      }
 
   -- what a call keeps of the flushing before it
   last-flushed : {old new : Writing W} {accepted : Bool} (b : Bool) (call : Call) → (b ≡ true → sink.is_flushed old.sink ≡ true)

@@ -29,7 +29,7 @@ past_last test whole last bs e h k = sym (h ∙ ap test (chars-empty bs e) ∙ k
 
 -- ---- prefixes
 
--- what is still to hold of a prefix, past its mark or before it
+-- what is still to hold of a prefix, past its sign or before it
 abbrev pub prefix_left : Bool → List ℕ → Bool
 prefix_left true cs = holds_no_line_end cs
 prefix_left false cs = is_good_prefix cs
@@ -63,10 +63,6 @@ separator_left false cs = is_signed_separator cs || is_blanks cs
 -- a text holds some character
 abbrev pub holds_some : List ℕ → Bool
 holds_some cs = not (is_empty cs)
-
-pub separator_left-start : (cs : List ℕ) → is_good_separator cs ≡ (holds_some cs && separator_left false cs)
-separator_left-start [] = refl
-separator_left-start (c ∷ cs) = refl
 
 pub separator_left-end : (signed : Bool) → separator_left signed [] ≡ true
 separator_left-end true = refl

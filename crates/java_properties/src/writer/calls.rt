@@ -1,7 +1,7 @@
 // Calls of a writer as values.
 
 ghost use Rattle.counted_io.specs.Streams.{IsSameSink};
-ghost use Rattle.java_properties.specs.Calls.{calls_in, call_in, Answers, MakesCall, RunsCalls, LeavesFailed};
+ghost use Rattle.java_properties.specs.Calls.{calls_in, call_in, SaysAccepted, MakesCall, RunsCalls, LeavesFailed};
 
 use crate::error::{ErrorKind, PropertiesError};
 use crate::writer::{LineEnding, PropertiesWriter};
@@ -61,23 +61,23 @@ fn run_call<W: CountedWrite>(
     ensures same_sink { IsSameSink W.CountedWrite writer.old.sink writer.new.sink }
 {
     match call {
-        Call::Comment(text) => answer_of(writer.write_comment(text.as_str())),
-        Call::Pair(key, value) => answer_of(writer.write(key.as_str(), value.as_str())),
-        Call::Prefix(prefix) => answer_of(writer.set_comment_prefix(prefix.as_str())),
-        Call::Separator(separator) => answer_of(writer.set_kv_separator(separator.as_str())),
-        Call::Ending(line_ending) => {
-            writer.set_line_ending(*line_ending);
+        Call::Comment(text) => was_accepted(writer.write_comment(text.as_str())),
+        Call::Pair(key, value) => was_accepted(writer.write(key.as_str(), value.as_str())),
+        Call::Prefix(prefix) => was_accepted(writer.set_comment_prefix(prefix.as_str())),
+        Call::Separator(separator) => was_accepted(writer.set_kv_separator(separator.as_str())),
+        Call::Ending(ending) => {
+            writer.set_line_ending(*ending);
             Ok(true)
         }
-        Call::Flush => answer_of(writer.flush()),
+        Call::Flush => was_accepted(writer.flush()),
     }
 }
 
 // Whether the call was accepted, or the error that ends the calls.
-fn answer_of(answer: Result<(), PropertiesError>) -> Result<bool, PropertiesError>
-    ensures { Answers answer result }
+fn was_accepted(done: Result<(), PropertiesError>) -> Result<bool, PropertiesError>
+    ensures { SaysAccepted done result }
 {
-    match answer {
+    match done {
         Ok(()) => Ok(true),
         Err(error) => match error.kind() {
             ErrorKind::BadCommentPrefix | ErrorKind::BadKvSeparator | ErrorKind::EmptyKey => {
