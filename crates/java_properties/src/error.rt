@@ -3,7 +3,7 @@
 ghost use Rattle.std.specs.Prelude.{◌≡◌, Some, None};
 ghost use Rattle.std.specs.Str.{chars};
 ghost use Rattle.std.specs.String.{string_bytes};
-ghost use Rattle.java_properties.specs.Errors.{kind_of, line_of, cause_of, cause_of_write, IsError, IsBareError, IsStreamError, RefusesText};
+ghost use Rattle.java_properties.specs.Errors.{kind_of, line_of, cause_of, cause_of_write, description_of, IsError, IsBareError, IsStreamError, RefusesText};
 ghost use Rattle.java_properties.specs.declared.error.ErrorKind.TheVariants.{Io, BadCommentPrefix, BadKvSeparator, EmptyKey, TooManyLines, Failed, Memory};
 
 use std::alloc::{AllocError, AllocFailed};
@@ -197,6 +197,10 @@ impl<T: Drop> From<AllocFailed<T>> for PropertiesError {
 }
 
 impl fmt::Display for PropertiesError {
+    ghost use Rattle.java_properties.specs.Errors.{error_text};
+
+    ghost output = { error_text };
+
     fn fmt<W: fmt::Write>(&self, f: &mut fmt::Formatter<W>) -> fmt::Result {
         write!(f, "{}", self.kind.description())?;
         if let Some(text) = &self.refused {
@@ -212,7 +216,9 @@ impl fmt::Display for PropertiesError {
 impl Error for PropertiesError {}
 
 impl ErrorKind {
-    fn description(self) -> &'static str {
+    fn description(self) -> &'static str
+        ensures { result.now ≡ description_of self }
+    {
         match self {
             ErrorKind::Io => "I/O error",
             ErrorKind::NotEnoughDigits => "Malformed \\uxxxx encoding: not enough digits.",

@@ -50,7 +50,7 @@ module _ {W : Type 0} (sink : Sink W) (old new : Writing W) (result : Result Boo
   prefix-makes prefix (Err error) (inl h) is =
       let bad = good-prefix prefix h.bad in
       let kept = ap (λ b. cond b (with_prefix old.settings prefix) old.settings) bad in
-      refused (prefix_call prefix) error (ap is_not_accepted h.refuses.is.its_kind) bad refl (λ q. absurd (cc)) kept h.same is
+      refused (prefix_call prefix) error (ap is_not_accepted h.refuses.its_kind) bad refl (λ q. absurd (cc)) kept h.same is
   prefix-makes prefix (Err error) (inr h) is = failed (prefix_call prefix) error (ap is_not_accepted h.is.its_kind) h is
 
   pub separator-makes : (separator : List ℕ) (answer : Result Unit PropertiesError) → SetsSeparator old separator answer new → SaysAccepted answer result
@@ -66,5 +66,5 @@ module _ {W : Type 0} (sink : Sink W) (old new : Writing W) (result : Result Boo
   separator-makes separator (Err error) (inl h) is =
       let bad = good-separator separator h.bad in
       let kept = ap (λ b. cond b (with_separator old.settings separator) old.settings) bad in
-      refused (separator_call separator) error (ap is_not_accepted h.refuses.is.its_kind) bad refl (λ q. absurd (cc)) kept h.same is
+      refused (separator_call separator) error (ap is_not_accepted h.refuses.its_kind) bad refl (λ q. absurd (cc)) kept h.same is
   separator-makes separator (Err error) (inr h) is = failed (separator_call separator) error (ap is_not_accepted h.is.its_kind) h is
