@@ -6,6 +6,7 @@ use Rattle.std.specs.declared.string.String.{String}
 use Rattle.std.specs.Option.{option_map}
 use Rattle.std.specs.Str.{chars}
 use Rattle.std.specs.String.{string_bytes}
+use Rattle.properties_format.specs.Escapes.{Malformed, not_enough_digits, not_hex, invalid_character}
 use Rattle.java_properties.specs.declared.error.ErrorKind.{ErrorKind}
 use Rattle.java_properties.specs.declared.error.Cause.{Cause}
 use Rattle.java_properties.specs.declared.error.ErrorKind.TheVariants as kind
@@ -46,6 +47,21 @@ IsStreamError line source error = IsError kind.Io line (cause.Io source) error
 abbrev pub cause_of_write : Option Error → Cause
 cause_of_write Option.None = cause.None
 cause_of_write (Option.Some source) = cause.Io source
+
+-- the kind that malformed escapes are, and what they came from
+abbrev pub malformed_kind : Malformed → ErrorKind
+malformed_kind not_enough_digits = kind.NotEnoughDigits
+malformed_kind not_hex = kind.NotHex
+malformed_kind invalid_character = kind.InvalidCharacter
+
+abbrev pub malformed_cause : Malformed → Cause
+malformed_cause not_enough_digits = cause.None
+malformed_cause not_hex = cause.NotHex
+malformed_cause invalid_character = cause.None
+
+-- escapes of this line are so malformed
+abbrev pub IsMalformed : Malformed → ℕ → PropertiesError → Type 0
+IsMalformed malformed line error = IsError (malformed_kind malformed) (Some line) (malformed_cause malformed) error
 
 -- A text was refused, and the error of this kind has it: no line, and nothing that it came from.
 pub record RefusesText (kind : ErrorKind) (text : List ℕ) (error : PropertiesError) : Type 0 where
