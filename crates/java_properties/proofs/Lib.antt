@@ -1,7 +1,16 @@
 pub mod Windows1252
+pub mod FirstPieces
+pub mod TextFronts
 pub mod Printing
 pub mod Settings
 pub mod Engine
 pub mod Calls
 pub mod OldStreams
 pub mod OldCalls
+pub mod Texts
+pub mod Scanning
+mod InputBuffer
+pub mod LineFinder
+pub mod LineSearch
+pub mod LineJoiner
+pub mod Comparisons

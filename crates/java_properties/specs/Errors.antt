@@ -1,8 +1,5 @@
 -- What a contract sees of an error.
-use Rattle.std.specs.Prelude.{◌≡◌, ℕ, List, [], ◌++◌, Option, Some, None, codes, decimal}
-use Rattle.std.specs.Fmt.{debug_str}
-use Rattle.std.specs.Global.{Global}
-use Rattle.std.specs.declared.string.String.{String}
+use Rattle.std.specs.Prelude.{◌≡◌, ℕ, List, Option, Some, None}
 use Rattle.std.specs.Option.{option_map}
 use Rattle.std.specs.Str.{chars}
 use Rattle.std.specs.String.{string_bytes}
@@ -74,33 +71,3 @@ pub record RefusesText (kind : ErrorKind) (text : List ℕ) (error : PropertiesE
 pub record Refuses {S : Type 0} (kind : ErrorKind) (old : S) (error : PropertiesError) (new : S) : Type 0 where
   pub is : IsBareError kind error
   pub same : new ≡ old
-
--- ---- what is printed
-
--- a kind in words
-abbrev pub description_of : ErrorKind → List ℕ
-description_of kind.Io = codes "I/O error"
-description_of kind.NotEnoughDigits = codes "Malformed \\uxxxx encoding: not enough digits."
-description_of kind.NotHex = codes "Malformed \\uxxxx encoding: not hex."
-description_of kind.InvalidCharacter = codes "Malformed \\uxxxx encoding: invalid character."
-description_of kind.BadCommentPrefix = codes "Bad comment prefix"
-description_of kind.BadKvSeparator = codes "Bad key/value separator"
-description_of kind.EmptyKey = codes "Empty key with a blank key/value separator."
-description_of kind.TooManyLines = codes "Too many lines."
-description_of kind.Failed = codes "The writer has failed."
-description_of kind.Memory = codes "Out of memory."
-description_of kind.Unsupported = codes "Encoding can't be edited."
-
--- a line's number, in decimal
-abbrev pub line_text : Option ℕ → List ℕ
-line_text None = codes " (line_number = unknown)"
-line_text (Some number) = codes " (line_number = " ++ decimal number ++ codes ")"
-
--- the text that was refused, in quotes, which is said of ASCII texts alone
-abbrev pub refused_text : Option (String Global) → Option (List ℕ)
-refused_text None = Some []
-refused_text (Some text) = option_map (λ quoted. codes ": " ++ quoted) (debug_str (string_bytes text))
-
--- what an error prints
-abbrev pub error_text : PropertiesError → Option (List ℕ)
-error_text e = option_map (λ refused. description_of (kind_of e) ++ refused ++ line_text (line_of e)) (refused_text e.refused)

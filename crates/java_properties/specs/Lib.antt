@@ -1,6 +1,5 @@
 pub mod Errors
 pub mod Encoding
-pub mod Lines
 pub mod Settings
 pub mod Printing
 pub mod PropertiesWriter
@@ -11,3 +10,11 @@ pub mod Decoding
 pub mod Reading
 pub mod Cutting
 pub mod Iterating
+pub mod Parsing
+pub mod Escaping
+pub mod Line
+pub mod DisplayTexts
+pub mod InputBuffer
+pub mod LineSearch
+pub mod LineFinder
+pub mod LineJoiner

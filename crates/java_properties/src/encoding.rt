@@ -4,8 +4,12 @@ ghost use Rattle.std.specs.Prelude.{◌≡◌};
 ghost use Rattle.properties_format.specs.Encoding.{output_encoding};
 ghost use Rattle.java_properties.specs.Encoding.{encoding_of};
 
-mod decode;
+pub mod byte_order_mark;
+pub mod decode;
 mod encode;
+mod first_piece;
+mod utf_16;
+mod utf_8;
 mod windows_1252;
 
 pub use decode::{DecodeIter, Decoder};

@@ -3,7 +3,9 @@
 ghost use Rattle.std.specs.Prelude.{◌≡◌, Some, None};
 ghost use Rattle.std.specs.Str.{chars};
 ghost use Rattle.std.specs.String.{string_bytes};
-ghost use Rattle.java_properties.specs.Errors.{kind_of, line_of, cause_of, cause_of_write, description_of, IsError, IsBareError, IsStreamError, RefusesText};
+ghost use Rattle.properties_format.specs.Escapes.{not_enough_digits, not_hex, invalid_character};
+ghost use Rattle.java_properties.specs.Errors.{kind_of, line_of, cause_of, cause_of_write, IsError, IsBareError, IsMalformed, IsStreamError, RefusesText};
+ghost use Rattle.java_properties.specs.DisplayTexts.{description, error_display};
 ghost use Rattle.java_properties.specs.declared.error.ErrorKind.TheVariants.{Io, BadCommentPrefix, BadKvSeparator, EmptyKey, TooManyLines, Failed, Memory};
 
 use std::alloc::{AllocError, AllocFailed};
@@ -82,16 +84,18 @@ impl PropertiesError {
         &self.cause
     }
 
+    /// What it came from, taken out of it, so that a stream's own error can be handed on.
+    pub fn into_cause(self) -> Cause
+        ensures { result ≡ cause_of self }
+    {
+        self.cause
+    }
+
     // A stream failed in the line of this number.
     fn io(line_number: usize, cause: Cause) -> PropertiesError
         ensures { IsError Io (Some line_number) cause result }
     {
-        PropertiesError {
-            kind: ErrorKind::Io,
-            line_number: Some(line_number),
-            cause,
-            refused: None,
-        }
+        PropertiesError::in_line(line_number, ErrorKind::Io, cause)
     }
 
     /// A write failed in the line of this number: by this error, or by taking no byte.
@@ -110,6 +114,27 @@ impl PropertiesError {
         ensures { IsStreamError (Some line_number) error result }
     {
         PropertiesError::io(line_number, Cause::Io(error))
+    }
+
+    /// In the line of this number fewer than four characters come after a `\u`.
+    pub(crate) fn not_enough_digits(line_number: usize) -> PropertiesError
+        ensures { IsMalformed not_enough_digits line_number result }
+    {
+        PropertiesError::in_line(line_number, ErrorKind::NotEnoughDigits, Cause::None)
+    }
+
+    /// In the line of this number one of the four characters after a `\u` is no hexadecimal digit.
+    pub(crate) fn not_hex(line_number: usize) -> PropertiesError
+        ensures { IsMalformed not_hex line_number result }
+    {
+        PropertiesError::in_line(line_number, ErrorKind::NotHex, Cause::NotHex)
+    }
+
+    /// In the line of this number an escape stands for a surrogate that has no partner.
+    pub(crate) fn invalid_character(line_number: usize) -> PropertiesError
+        ensures { IsMalformed invalid_character line_number result }
+    {
+        PropertiesError::in_line(line_number, ErrorKind::InvalidCharacter, Cause::None)
     }
 
     pub(crate) fn too_many_lines() -> PropertiesError
@@ -144,6 +169,16 @@ impl PropertiesError {
         ensures { RefusesText BadKvSeparator (chars (string_bytes separator)) result }
     {
         PropertiesError::refused(ErrorKind::BadKvSeparator, separator)
+    }
+
+    fn in_line(line_number: usize, kind: ErrorKind, cause: Cause) -> PropertiesError
+        ensures { IsError kind (Some line_number) cause result }
+    {
+        PropertiesError {
+            line_number: Some(line_number),
+            cause,
+            ..PropertiesError::bare(kind)
+        }
     }
 
     fn refused(kind: ErrorKind, text: String) -> PropertiesError
@@ -197,9 +232,7 @@ impl<T: Drop> From<AllocFailed<T>> for PropertiesError {
 }
 
 impl fmt::Display for PropertiesError {
-    ghost use Rattle.java_properties.specs.Errors.{error_text};
-
-    ghost output = { error_text };
+    ghost output = { error_display };
 
     fn fmt<W: fmt::Write>(&self, f: &mut fmt::Formatter<W>) -> fmt::Result {
         write!(f, "{}", self.kind.description())?;
@@ -217,7 +250,7 @@ impl Error for PropertiesError {}
 
 impl ErrorKind {
     fn description(self) -> &'static str
-        ensures { result.now ≡ description_of self }
+        ensures { result.now ≡ description self }
     {
         match self {
             ErrorKind::Io => "I/O error",

@@ -18,6 +18,8 @@
 mod characters;
 mod encoding;
 mod error;
+mod escape;
+mod input;
 mod iter;
 mod line;
 mod lines;

@@ -5,6 +5,12 @@ ghost use Rattle.std.specs.Iterator.{at_most};
 ghost use Rattle.java_properties.specs.Reading.{CallLeaves, LineLeaves, most_left};
 ghost use Rattle.java_properties.specs.Cutting.{cutter_progress, fresh, lines_progress, lines_reader, IsNumbered};
 
+mod finder;
+mod join;
+mod joiner;
+mod search;
+mod seeker;
+
 use crate::encoding::Decoder;
 use crate::error::PropertiesError;
 use counted_io::CountedRead;

@@ -1,8 +1,10 @@
 -- Worked rows of each page, computed.
+pub mod Cut
 pub mod Encodings
 pub mod Escapes
 pub mod Groups
 pub mod Items
+pub mod ItemsToCome
 pub mod Lines
 pub mod Maps
 pub mod Pieces

@@ -1,10 +1,12 @@
 pub mod Examples
 pub mod Encodings
 pub mod Lines
+pub mod Cut
 pub mod Groups
 pub mod Split
 pub mod Escapes
 pub mod Items
+pub mod ItemsToCome
 pub mod Settings
 pub mod Printing
 pub mod Writing

@@ -6,12 +6,14 @@ pub mod Surrogates
 pub mod Utf16
 pub mod Encoding
 pub mod Lines
+pub mod Cut
 pub mod Groups
 pub mod Split
 pub mod Hexadecimal
 pub mod Escapes
 pub mod Entries
 pub mod Items
+pub mod ItemsToCome
 pub mod Settings
 pub mod Printing
 pub mod Writing

@@ -3,10 +3,13 @@ pub mod Utf16
 pub mod Encoding
 pub mod Waiting
 pub mod Lines
+pub mod Cut
 pub mod Groups
 pub mod Logical
 pub mod Split
 pub mod Escapes
 pub mod Items
+pub mod ItemsToCome
+pub mod ReaderSteps
 pub mod Settings
 pub mod Maps

@@ -4,7 +4,7 @@ use Rattle.std.specs.declared.io.Error.{Error}
 use Rattle.counted_io.specs.Streams.{Reader, Sink, HasFlushed, HasFailedFlush, Sends}
 use Rattle.properties_format.specs.Encoding.{windows_1252}
 use Rattle.properties_format.specs.Text.{line_feed}
-use Rattle.java_properties.specs.Errors.{error_text}
+use Rattle.java_properties.specs.DisplayTexts.{error_display}
 use Rattle.java_properties.specs.declared.error.PropertiesError.{PropertiesError}
 use Rattle.propfilter.specs.Filter.{Filters}
 
@@ -31,7 +31,7 @@ status_of (Err error) = 1
 -- What is said of it: nothing, or the text of the error.
 abbrev pub SaysError : {W : Type 0} → Sink W → W → Result Unit PropertiesError → W → Type 0
 SaysError sink old (Ok done) new = new ≡ old
-SaysError sink old (Err error) new = (text : List ℕ) × (error_text error ≡ Some text) × Says sink old text new
+SaysError sink old (Err error) new = (text : List ℕ) × (error_display error ≡ Some text) × Says sink old text new
 
 -- The input was filtered to the output, and an error was said on `errors`.
 pub record HasRun {R W E : Type 0} (reader : Reader R) (sink : Sink W) (error_sink : Sink E) (input : R) (output : W) (errors : E)

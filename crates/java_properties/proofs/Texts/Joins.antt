@@ -1,0 +1,164 @@
+-- What decides how lines are joined, alike in bytes and in characters.
+use Rattle.std.proofs.Common.{◌≡◌, ℕ, zero, suc, ◌<◌, ◌≤◌, ◌+◌, ◌-◌, ◌==◌, true, false, List, [], ◌∷◌, ◌++◌, length, take, drop, get_or, refl, ap, sym, ◌∙◌, subst, inl, inr, append-nil, length-append, arith}
+use Rattle.std.specs.Prelude.{replicate, reverse, take_while, ◌%◌}
+use Rattle.std.specs.List.{prefix_len}
+use Rattle.std.proofs.Math.Seq.{take-append_seam}
+use lib.Utf8.{encode, encodes, scalars}
+use Rattle.std.specs.Str.{IsUtf8, IsCharBoundary, chars}
+use Rattle.std.proofs.lemmas.Str.{encodes-chars, encodes-append, IsCharBoundary-from_take}
+use Rattle.std.proofs.lemmas.List.{drop_more, drop_all}
+use Rattle.std.proofs.lemmas.List.Folds.{length-prefix_len}
+use Rattle.std.proofs.lemmas.Bool.{cases_Bool}
+use Rattle.std.proofs.lemmas.Bool.Decides.{eqb_tells}
+use Rattle.properties_format.specs.Text.{backslash, is_comment_sign, without_leading_blanks}
+use Rattle.properties_format.specs.Groups.{leading_backslashes, ending_backslashes, is_open, begins_with_comment_sign, is_comment_line, without_last, without_open_backslash}
+use Rattle.properties_format.proofs.Groups.Open.{ending_backslashes-more, ending_backslashes-none, ending_backslashes-after, ending_backslashes-run, ending_backslashes-split, last_character, open-ends, without_last-push}
+use Rattle.java_properties.proofs.Texts.Characters.{AreWide, IsEncoded, one, wide, encoded, wide-no_backslash, wide-no_comment_sign, scalars-parts, IsPart, part_by}
+use Rattle.java_properties.proofs.Texts.Split.{without_leading_blanks-part}
+
+-- ---- backslashes at the end
+
+-- bytes that are not ASCII end in no backslash
+ending-wide : (bs : List ℕ) → AreWide bs → ending_backslashes bs ≡ 0
+ending-wide [] w = refl
+ending-wide (b ∷ bs) w = ending_backslashes-after [] b bs (wide-no_backslash b w.0) ∙ ending-wide bs w.1
+
+-- a character that is no backslash ends in none
+ending-other : (front : List ℕ) (c : ℕ) (bytes : List ℕ) → IsEncoded c bytes → (c == backslash) ≡ false
+    → ending_backslashes (front ++ bytes) ≡ 0
+ending-other front c bytes (one e) h = rw e (ending_backslashes-none front c h)
+ending-other front c bytes (wide l b bs e k w) h = rw e (ending_backslashes-after front b bs (wide-no_backslash b k) ∙ ending-wide bs w)
+
+-- a text that ends in none has none in bytes
+ending-first : (p : List ℕ) → ending_backslashes p ≡ 0 → ending_backslashes (encodes p) ≡ 0
+ending-first p h = elim (last_character p) [
+  | inl k ↦ rw k refl
+  | inr k ↦ elim (eqb_tells k.1 backslash) [
+    | inl m ↦
+        let whole : p ≡ k.0 ++ backslash ∷ [] = k.2 ∙ ap (λ v. k.0 ++ v ∷ []) m.1 in
+        let some : suc (ending_backslashes k.0) ≡ 0 = sym (ending_backslashes-more k.0) ∙ ap ending_backslashes (sym whole) ∙ h in
+        absurd (omega arith)
+    | inr m ↦
+        ap (λ v. ending_backslashes (encodes v)) k.2
+        ∙ ap ending_backslashes (encodes-append k.0 (k.1 ∷ []) ∙ ap (λ v. encodes k.0 ++ v) (append-nil (encode k.1)))
+        ∙ ending-other (encodes k.0) k.1 (encode k.1) (encoded k.1) m.0
+  ]
+]
+
+encodes-run : (n : ℕ) → encodes (replicate n backslash) ≡ replicate n backslash
+unfolding encode
+encodes-run zero = refl
+encodes-run (suc n) = ap (λ v. backslash ∷ v) (encodes-run n)
+
+-- a text ends in as many backslashes in bytes as in characters
+ending_backslashes-encodes : (cs : List ℕ) → ending_backslashes (encodes cs) ≡ ending_backslashes cs
+ending_backslashes-encodes cs =
+    let s = ending_backslashes-split cs in
+    let n = ending_backslashes cs in
+    ap (λ v. ending_backslashes (encodes v)) s.1
+    ∙ ap ending_backslashes (encodes-append s.0 (replicate n backslash) ∙ ap (λ v. encodes s.0 ++ v) (encodes-run n))
+    ∙ ending_backslashes-run (encodes s.0) n (ending-first s.0 s.2)
+
+pub ending_backslashes-text : (bs : List ℕ) → IsUtf8 bs → ending_backslashes (chars bs) ≡ ending_backslashes bs
+ending_backslashes-text bs u = sym (ending_backslashes-encodes (chars bs)) ∙ ap ending_backslashes (encodes-chars bs u)
+
+-- the characters that are passed over at the front
+leading-prefix : (xs : List ℕ) → prefix_len (λ x. x == backslash) xs ≡ leading_backslashes xs
+leading-prefix [] = refl
+leading-prefix (x ∷ xs) = elim (cases_Bool (x == backslash)) [
+  | inl k ↦ rw k (one-add (prefix_len (λ v. v == backslash) xs) ∙ ap suc (leading-prefix xs))
+  | inr k ↦ rw k refl
+]
+  where
+    one-add : (n : ℕ) → 1 + n ≡ suc n
+    one-add n = omega arith
+
+-- what is counted from the end
+pub ending_backslashes-counted : (bs : List ℕ) → IsUtf8 bs → length (take_while (λ x. x == backslash) (reverse bs)) ≡ ending_backslashes (chars bs)
+ending_backslashes-counted bs u = length-prefix_len (λ x. x == backslash) (reverse bs) ∙ leading-prefix (reverse bs) ∙ sym (ending_backslashes-text bs u)
+
+-- ---- comment lines
+
+-- a comment sign stands first in bytes as in characters
+comment_line-encodes : (cs : List ℕ) → begins_with_comment_sign (encodes cs) ≡ begins_with_comment_sign cs
+comment_line-encodes [] = refl
+comment_line-encodes (c ∷ cs) = go (encode c) (encoded c)
+  where
+    go : (bytes : List ℕ) → IsEncoded c bytes → begins_with_comment_sign (bytes ++ encodes cs) ≡ is_comment_sign c
+    go bytes (one e) = rw e refl
+    go bytes (wide l b bs e k w) = rw (e, wide-no_comment_sign b k, wide-no_comment_sign c l) refl
+
+-- a comment line is one in bytes as in characters
+pub is_comment_line-text : (bs : List ℕ) → IsUtf8 bs → is_comment_line (chars bs) ≡ is_comment_line bs
+is_comment_line-text bs u =
+    let p = without_leading_blanks-part bs u in
+    sym (comment_line-encodes (without_leading_blanks (chars bs)))
+    ∙ ap (λ v. begins_with_comment_sign (encodes v)) (sym p.same)
+    ∙ ap begins_with_comment_sign (encodes-chars (without_leading_blanks bs) p.utf8)
+
+-- by the first byte that is no blank
+pub comment_line-first : (bs : List ℕ) (start : ℕ) → IsUtf8 bs → drop start bs ≡ without_leading_blanks bs → start < length bs
+    → is_comment_line (chars bs) ≡ is_comment_sign (get_or bs start 0)
+comment_line-first bs start u e l =
+    is_comment_line-text bs u ∙ ap begins_with_comment_sign (sym e) ∙ ap begins_with_comment_sign (drop_more bs start 0 l)
+
+-- or where there is none
+pub comment_line-blank : (bs : List ℕ) (start : ℕ) → IsUtf8 bs → drop start bs ≡ without_leading_blanks bs → length bs ≤ start
+    → is_comment_line (chars bs) ≡ false
+comment_line-blank bs start u e l =
+    is_comment_line-text bs u ∙ ap begins_with_comment_sign (sym e) ∙ ap begins_with_comment_sign (drop_all start bs l)
+
+-- ---- open backslashes
+
+-- a text is open in bytes as in characters
+is_open-encodes : (cs : List ℕ) → is_open (encodes cs) ≡ is_open cs
+is_open-encodes cs = ap (λ n. n % 2 == 1) (ending_backslashes-encodes cs)
+
+-- the characters in front of a backslash at the end, in bytes
+encodes-push : (cs : List ℕ) → encodes (cs ++ backslash ∷ []) ≡ encodes cs ++ backslash ∷ []
+unfolding encode
+encodes-push cs = encodes-append cs (backslash ∷ [])
+
+-- and is cut alike
+without_open_backslash-encodes : (cs : List ℕ) → without_open_backslash (encodes cs) ≡ encodes (without_open_backslash cs)
+without_open_backslash-encodes cs = elim (cases_Bool (is_open cs)) [
+  | inl k ↦
+      let bytes : encodes cs ≡ encodes (without_last cs) ++ backslash ∷ [] = ap encodes (open-ends cs k) ∙ encodes-push (without_last cs) in
+      rw (is_open-encodes cs, k) (ap without_last bytes ∙ without_last-push (encodes (without_last cs)) backslash)
+  | inr k ↦ rw (is_open-encodes cs, k) refl
+]
+
+without_open_backslash-scalars : (cs : List ℕ) → scalars cs ≡ true → scalars (without_open_backslash cs) ≡ true
+without_open_backslash-scalars cs h = elim (cases_Bool (is_open cs)) [
+  | inl k ↦ rw k ((scalars-parts (without_last cs) (backslash ∷ []) (rw (open-ends cs k) at h)).0)
+  | inr k ↦ rw k h
+]
+
+pub without_open_backslash-part : (bs : List ℕ) → IsUtf8 bs → IsPart without_open_backslash bs
+without_open_backslash-part = part_by without_open_backslash without_open_backslash-encodes without_open_backslash-scalars
+
+without_open_backslash-open : (x : List ℕ) → is_open x ≡ true → without_open_backslash x ≡ without_last x
+without_open_backslash-open x h = rw h refl
+
+-- An open text may be cut before its last byte, which leaves it without its open backslash.
+pub record IsCutOpen (bs : List ℕ) : Type 0 where
+  pub some : 1 ≤ length bs
+  pub boundary : IsCharBoundary bs (length bs - 1)
+  pub rest : chars (take (length bs - 1) bs) ≡ without_open_backslash (chars bs)
+
+pub cut_open : (bs : List ℕ) → IsUtf8 bs → is_open (chars bs) ≡ true → IsCutOpen bs
+cut_open bs u h =
+    let open_bytes : is_open bs ≡ true = ap (λ n. n % 2 == 1) (sym (ending_backslashes-text bs u)) ∙ h in
+    let whole = open-ends bs open_bytes in
+    let size : length bs ≡ length (without_last bs) + 1 = ap length whole ∙ length-append (without_last bs) (backslash ∷ []) in
+    let front : take (length bs - 1) bs ≡ without_open_backslash bs =
+    ap (λ n. take n bs) (let n : length bs - 1 ≡ length (without_last bs) = omega arith in n)
+    ∙ ap (take (length (without_last bs))) whole
+    ∙ take-append_seam (without_last bs) (backslash ∷ [])
+    ∙ sym (without_open_backslash-open bs open_bytes) in
+    let part = without_open_backslash-part bs u in
+    record {
+      some = omega arith;
+      boundary = IsCharBoundary-from_take bs (length bs - 1) u (omega arith) (subst IsUtf8 (sym front) part.utf8);
+      rest = ap chars front ∙ part.same;
+    }
