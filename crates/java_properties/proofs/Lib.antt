@@ -1,15 +1,14 @@
-pub mod Streams
-pub mod Texts
-pub mod Scanning
-pub mod Calls
 pub mod Windows1252
 pub mod FirstPieces
 pub mod TextFronts
 pub mod Printing
-pub mod MarkLike
-pub mod SettingsTests
-pub mod LineTexts
-pub mod Making
+pub mod Settings
+pub mod Engine
+pub mod Calls
+pub mod OldStreams
+pub mod OldCalls
+pub mod Texts
+pub mod Scanning
 mod InputBuffer
 pub mod LineFinder
 pub mod LineSearch

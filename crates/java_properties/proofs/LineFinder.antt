@@ -15,19 +15,19 @@ use Rattle.java_properties.specs.Errors.{IsStreamError}
 use Rattle.properties_format.specs.Reading.Waiting.{awaits_bom}
 use Rattle.properties_format.specs.ItemsToCome.{ReaderState}
 use Rattle.properties_format.specs.Reading.ItemsToCome.{natural_to_come}
-use Rattle.properties_format.specs.Reading.ReaderSteps.{Gives, ReadsLines, HoldsNoEnd, after_decided, after_passed, after_read, after_line}
+use Rattle.properties_format.specs.Reading.ReaderSteps.{Gives, ReadsLines, after_decided, after_passed, after_read, after_line}
 use Rattle.properties_format.proofs.ItemsToCome.Lines.{gives-decided_last, gives-passed_last, gives-last, natural-fault, natural-more}
 use Rattle.properties_format.proofs.ItemsToCome.Entries.{gives-on}
 use Rattle.properties_format.proofs.ItemsToCome.Steps.{lines-start, lines-on, lines-then, lines-read, lines-take, lines-decided, lines-passed_lf, lines-passed_none}
 use Rattle.properties_format.proofs.ItemsToCome.Waiting.{waiting-front, waiting-no_end, lf_first-bytes}
 use Rattle.properties_format.proofs.Cut.Units.{no_end_unit-right}
-use Rattle.counted_io.specs.Streams.{Reader, HasRead, HasFailed}
+use Rattle.counted_io.specs.Streams.{Reader, HasRead}
 use Rattle.counted_io.proofs.Streams.{read-none, read-more, failed-more}
 use Rattle.java_properties.specs.Decoding.{TellsBom}
 use Rattle.java_properties.specs.InputBuffer.{HasFilled, Fills}
 use Rattle.java_properties.specs.declared.input.FillError.{FillError}
 use Rattle.java_properties.specs.declared.input.FillError.TheVariants.{Memory, Io}
-use Rattle.java_properties.specs.LineSearch.{unit_size, whole_units, end_character, IsSearched, IsFirstLineEnd, FindsLineEnd}
+use Rattle.java_properties.specs.LineSearch.{unit_size, whole_units, end_character, IsFirstLineEnd, FindsLineEnd}
 use Rattle.java_properties.proofs.LineSearch.{searched-more, length-ascii_bytes}
 use Rattle.java_properties.specs.declared.error.PropertiesError.{PropertiesError}
 use Rattle.java_properties.specs.declared.lines.search.LineEnd.{LineEnd}

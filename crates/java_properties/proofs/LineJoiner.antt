@@ -1,9 +1,9 @@
 -- How natural lines are joined, step by step.
-use Rattle.std.proofs.Common.{◌≡◌, ◌+◌, ℕ, Bool, true, false, List, [], ◌∷◌, ◌++◌, refl, sym, ap, ap₂, ◌∙◌, inl, inr, subst, append_assoc, append-nil}
+use Rattle.std.proofs.Common.{◌≡◌, ◌+◌, ℕ, true, false, List, [], ◌∷◌, ◌++◌, refl, sym, ap, ap₂, ◌∙◌, inl, inr, subst, append_assoc, append-nil}
 use Rattle.std.specs.Prelude.{◌⊎◌, Option, Some, None, Err}
 use Rattle.std.specs.Str.{chars}
 use Rattle.std.proofs.lemmas.Bool.{cases_Bool}
-use Rattle.counted_io.specs.Streams.{Reader, HasRead, HasFailed}
+use Rattle.counted_io.specs.Streams.{Reader}
 use Rattle.counted_io.proofs.Streams.{read-none, read-more, failed-more}
 use Rattle.properties_format.specs.Lines as format
 use Rattle.properties_format.specs.Lines.{InputEnd, end, fault, more}
@@ -12,10 +12,9 @@ use Rattle.properties_format.specs.Entries.{Entry, read_fault}
 use Rattle.properties_format.specs.ItemsToCome.{ReaderState}
 use Rattle.properties_format.specs.Reading.Items.{outcome_of, followed}
 use Rattle.properties_format.specs.Reading.ItemsToCome.{items_to_come, natural_to_come, last_to_come, entries_pending, entries_of_logical, logical_pending}
-use Rattle.properties_format.specs.Reading.ReaderSteps.{Gives, ReadsLines}
 use Rattle.properties_format.proofs.ItemsToCome.Entries.{joining-open, joining-closed, joining-done, pending-comment_line, pending-closed, pending-open, pending-done, items_to_come-pending}
 use Rattle.properties_format.proofs.ItemsToCome.Steps.{on-start, on-open, logical-comment_line, logical-closed}
-use Rattle.java_properties.specs.Errors.{IsPlain}
+use Rattle.java_properties.specs.Errors.{IsBareError}
 use Rattle.java_properties.specs.LineFinder as finder
 use Rattle.java_properties.specs.LineFinder.{Finder, Passes, IsLazy, FindsError, FindsFault, FindsTooMany, FindsNoRoom}
 use Rattle.java_properties.specs.LineJoiner.{line_text, join_of, Pends, Closes, IsLazyJoin, IsLazyItems, GoesOn, JoinsAll, JoinError, Joiner, numbered_line, FindsNext, Comes, JoinsAfter, JoinsNext, JoinsError}
@@ -62,7 +61,7 @@ more-pends : {s t u : ReaderState} {old r q text new : List ℕ} (l : format.Lin
 more-pends l (Pends.at_last e m) h p o k = absurd (cc)
 more-pends {s} {u = u} {old} {r} {q} {text} l (Pends.going_on e m) h (Passes.going_on f reads) o k =
     rw k (Pends.going_on f (λ number d ending.
-      regroup (join_of number old) s r q d ending ∙ m number (q ++ d) ending ∙ joining-open (joined number text) (reads.gives d ending) o))
+    regroup (join_of number old) s r q d ending ∙ m number (q ++ d) ending ∙ joining-open (joined number text) (reads.gives d ending) o))
 more-pends {s} {u = u} {old} {r} {q} {text} l (Pends.going_on e m) h (Passes.at_last f gives) o k =
     rw k (Pends.at_last f (λ number. m number q end ∙ joining-open (joined number text) gives o))
 
@@ -72,15 +71,15 @@ more-closes : {s t u : ReaderState} {old r q text new : List ℕ} (l : format.Li
 more-closes l (Pends.at_last e m) h p o k = absurd (cc)
 more-closes {s} {u = u} {old} {r} {q} {text} l (Pends.going_on e m) h (Passes.going_on f reads) o k =
     rw k (Closes.going_on f (λ number d ending.
-      regroup (join_of number old) s r q d ending
-      ∙ m number (q ++ d) ending
-      ∙ joining-closed (joined number text) (reads.gives d ending) o
-      ∙ ap (followed number (outcome_of (text ++ addition l.text))) (sym (items_to_come-pending u d ending))))
+    regroup (join_of number old) s r q d ending
+    ∙ m number (q ++ d) ending
+    ∙ joining-closed (joined number text) (reads.gives d ending) o
+    ∙ ap (followed number (outcome_of (text ++ addition l.text))) (sym (items_to_come-pending u d ending))))
 more-closes {s} {u = u} {old} {r} {q} {text} l (Pends.going_on e m) h (Passes.at_last f gives) o k =
     rw k (Closes.at_last f (λ number.
-      m number q end
-      ∙ joining-closed (joined number text) gives o
-      ∙ ap (followed number (outcome_of (text ++ addition l.text))) (pending-done u [] end f)))
+    m number q end
+    ∙ joining-closed (joined number text) gives o
+    ∙ ap (followed number (outcome_of (text ++ addition l.text))) (pending-done u [] end f)))
 
 -- a fault comes in it
 more-broken : {s t : ReaderState} {old r text : List ℕ} (q : List ℕ) (entry : Entry) → Pends s old r text t → t.is_done ≡ false → natural_to_come t q fault ≡ []
@@ -170,7 +169,7 @@ module _ {R : Type 0} {reader : Reader R} where
 
   -- memory ran out
   pub join-no_room : {s t : ReaderState} {from to next : R} {old r text : List ℕ} {e : PropertiesError} (number : ℕ) (found : Finder) (u : ReaderState)
-      → GoesOn reader s from old r text t to → finder.FindsNext reader t to number found next → IsPlain kind.Memory e → JoinError reader s from old e u next
+      → GoesOn reader s from old r text t to → finder.FindsNext reader t to number found next → IsBareError kind.Memory e → JoinError reader s from old e u next
   join-no_room {r = r} number found u h n is =
       inr (inr (record { bytes = r ++ n.bytes; read = read-more h.read n.read; is = is; lazy = lazy-more h n.live n.lazy }))
 
@@ -223,12 +222,12 @@ join-comes l (Passes.at_last f gives) c o (Closes.going_on e m) i = let d = (i f
 join-comes {s} {t} {u} {r} {q} l (Passes.at_last f gives) c o (Closes.at_last e m) i =
     let none = (i f).1 in
     Comes.at_last e (
-      ap (λ v. items_to_come s (r ++ v) end) none
-      ∙ ap (λ v. items_to_come s v end) (append-nil r)
-      ∙ items-pending s r end
-      ∙ pending-open gives c o
-      ∙ ap (λ v. entries_pending (Some (join_line l.number l.text)) t v end) (sym none)
-      ∙ m l.number
+    ap (λ v. items_to_come s (r ++ v) end) none
+    ∙ ap (λ v. items_to_come s v end) (append-nil r)
+    ∙ items-pending s r end
+    ∙ pending-open gives c o
+    ∙ ap (λ v. entries_pending (Some (join_line l.number l.text)) t v end) (sym none)
+    ∙ m l.number
     )
 
 lazy-items : {R : Type 0} {from to : R} {r : List ℕ} (s : ReaderState) → IsLazy s from r to → IsLazyItems s from r to
@@ -327,7 +326,7 @@ module _ {R : Type 0} {reader : Reader R} where
 
   -- there was no memory for it
   pub joins-no_room : {s u : ReaderState} {from to : R} {e : PropertiesError} (number : ℕ) (mid : Joiner) → FindsNext reader s from number mid to
-      → IsPlain kind.Memory e → JoinsError reader s from e u to
+      → IsBareError kind.Memory e → JoinsError reader s from e u to
   joins-no_room {s} number mid n is = inr (inr (record { bytes = n.bytes; read = n.read; is = is; lazy = lazy-items s n.lazy }))
 
   -- only the number of line ends passed counts

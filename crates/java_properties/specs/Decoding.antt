@@ -1,14 +1,16 @@
 -- How bytes are decoded: what each part of the decoder gives, and what the iterator over characters is between calls.
 use Rattle.std.specs.Prelude.{◌≡◌, ℕ, ◌≤◌, Bool, true, false, List, length, drop, Option, Some, None, Result, Ok, Err}
 use Rattle.std.specs.Str.{IsAscii}
+use Rattle.std.specs.declared.borrow.CowStr.{CowStr}
+use Rattle.std.specs.declared.borrow.CowStr.TheVariants.{Borrowed, Owned}
 use Rattle.properties_format.specs.Encoding as format
 use Rattle.properties_format.specs.Pieces.{Piece}
 use Rattle.properties_format.specs.Utf8.{Range, from_to, IsWellFormedText}
 use Rattle.properties_format.specs.Utf16.{low_first, high_first}
 use Rattle.properties_format.specs.Reading.Encoding.{first_piece}
 use Rattle.properties_format.specs.Reading.Waiting.{awaits_bom, awaits_more}
-use Rattle.java_properties.specs.Views.{encoding_of}
-use Rattle.java_properties.specs.Streams.{HasRead, HasFailed}
+use Rattle.java_properties.specs.Encoding.{encoding_of}
+use Rattle.java_properties.specs.OldStreams.{HasRead, HasFailed}
 use Rattle.java_properties.specs.declared.encoding.byte_order_mark.ByteOrderMark.{ByteOrderMark}
 use Rattle.java_properties.specs.declared.encoding.byte_order_mark.ByteOrderMark.TheVariants.{Present, Absent, Undecided}
 use Rattle.java_properties.specs.declared.encoding.first_piece.FirstPiece.{FirstPiece}
@@ -60,6 +62,11 @@ IsText format.windows_1252 d = IsAscii d
 IsText format.utf_8 d = IsWellFormedText d
 IsText format.utf_16le d = ⊥
 IsText format.utf_16be d = ⊥
+
+-- the text is lent, and not one of its own
+abbrev pub IsBorrowed : {Z : Type 0} → CowStr Z → Type 0
+IsBorrowed (Borrowed text) = Unit {0}
+IsBorrowed (Owned text) = ⊥
 
 -- ---- The iterator over characters.
 

@@ -7,7 +7,7 @@ use Rattle.std.specs.declared.borrow.CowStr.TheVariants as cow
 use Rattle.properties_format.specs.Text.{backslash}
 use Rattle.properties_format.specs.Escapes as format
 use Rattle.properties_format.specs.Reading.Escapes.{in_front, meaning_of}
-use Rattle.java_properties.specs.Errors.{IsPlain, IsMalformed}
+use Rattle.java_properties.specs.Errors.{IsBareError, IsMalformed}
 use Rattle.java_properties.specs.declared.error.ErrorKind.TheVariants as kind
 use Rattle.java_properties.specs.declared.error.PropertiesError.{PropertiesError}
 use Rattle.java_properties.specs.declared.escape.Malformed.{Malformed}
@@ -29,7 +29,7 @@ is_lent (Err e) = false
 
 -- The text breaks, and the error says how, in this line; or there was no memory.
 abbrev pub IsRefused : List ℕ → ℕ → PropertiesError → Type 0
-IsRefused text line e = ((malformed : format.Malformed) × format.Breaks text malformed × IsMalformed malformed line e) ⊎ IsPlain kind.Memory e
+IsRefused text line e = ((malformed : format.Malformed) × format.Breaks text malformed × IsMalformed malformed line e) ⊎ IsBareError kind.Memory e
 
 -- What resolving the escapes of a text answers: the text that it means; or how it breaks, as an error of the line of this number; or that there was no memory.
 abbrev pub Unescapes : {Z : Type 0} → List ℕ → ℕ → Result (CowStr Z) PropertiesError → Type 0

@@ -1,5 +1,11 @@
 pub mod Errors
-pub mod Streams
+pub mod Encoding
+pub mod Settings
+pub mod Printing
+pub mod PropertiesWriter
+pub mod Engine
+pub mod Calls
+pub mod OldStreams
 pub mod Decoding
 pub mod Reading
 pub mod Cutting
@@ -8,12 +14,6 @@ pub mod Parsing
 pub mod Escaping
 pub mod Line
 pub mod DisplayTexts
-pub mod Views
-pub mod SettingsTexts
-pub mod SettingsViews
-pub mod Contents
-pub mod Writing
-pub mod Calls
 pub mod InputBuffer
 pub mod LineSearch
 pub mod LineFinder

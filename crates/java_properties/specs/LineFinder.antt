@@ -1,5 +1,5 @@
 -- What a contract sees of the line finder and of the seeker in it, and what their calls give and leave.
-use Rattle.std.specs.Prelude.{◌≡◌, ◌⊎◌, ◌+◌, ◌-◌, ◌^◌, ◌<◌, ◌≤◌, ℕ, Bool, true, false, if◌then◌else◌, List, [], ◌∷◌, ◌++◌, take, length, Option, Some, None, Result, Ok, Err}
+use Rattle.std.specs.Prelude.{◌≡◌, ◌⊎◌, ◌+◌, ◌-◌, ◌^◌, ◌<◌, ◌≤◌, ℕ, Bool, true, false, if◌then◌else◌, List, [], ◌∷◌, take, length, Option, Some, None, Result, Ok, Err}
 use Rattle.std.specs.declared.io.Error.{Error}
 use Rattle.counted_io.specs.Streams.{Reader, HasRead, HasFailed}
 use Rattle.properties_format.specs.Cut.{HoldsNoLineEndUnit}
@@ -8,12 +8,12 @@ use Rattle.properties_format.specs.Lines as format
 use Rattle.properties_format.specs.Lines.{InputEnd, end, fault, more}
 use Rattle.properties_format.specs.Pieces.{characters}
 use Rattle.properties_format.specs.Reading.Encoding.{pieces_of}
-use Rattle.properties_format.specs.Entries.{Entry, read_fault}
+use Rattle.properties_format.specs.Entries.{read_fault}
 use Rattle.properties_format.specs.ItemsToCome.{ReaderState}
 use Rattle.properties_format.specs.Reading.ItemsToCome.{natural_to_come, last_to_come}
 use Rattle.properties_format.specs.Reading.ReaderSteps.{Gives, ReadsLines, HoldsLine, HoldsNoEnd, after_read}
 use Rattle.java_properties.specs.LineSearch.{unit_size, end_character, IsSearched}
-use Rattle.java_properties.specs.Errors.{IsPlain, IsStreamError}
+use Rattle.java_properties.specs.Errors.{IsBareError, IsStreamError}
 use Rattle.java_properties.specs.declared.error.ErrorKind.TheVariants as kind
 use Rattle.java_properties.specs.declared.error.PropertiesError.{PropertiesError}
 use Rattle.java_properties.specs.declared.input.FillError.{FillError}
@@ -183,17 +183,17 @@ pub record FindsFault {R : Type 0} (reader : Reader R) (old : ReaderState) (from
 -- There was no number for another line, and nothing was read.
 pub record FindsTooMany {R : Type 0} (from : R) (e : PropertiesError) (new : ReaderState) (to : R) : Type 0 where
   pub passed : new.passed + 1 ≡ 2 ^ 64
-  pub is : IsPlain kind.TooManyLines e
+  pub is : IsBareError kind.TooManyLines e
   pub untouched : to ≡ from
 
 -- There was no memory.
 pub record FindsNoRoom {R : Type 0} (reader : Reader R) (old : ReaderState) (from : R) (e : PropertiesError) (to : R) : Type 0 where
   pub room : HasNoRoom reader old from to
-  pub is : IsPlain kind.Memory e
+  pub is : IsBareError kind.Memory e
 
 -- what is told of a read that could not be made in the line of this number
 abbrev pub IsRefused : ℕ → FillError → PropertiesError → Type 0
-IsRefused number (Memory error) e = IsPlain kind.Memory e
+IsRefused number (Memory error) e = IsBareError kind.Memory e
 IsRefused number (Io error) e = IsStreamError (Some number) error e
 
 -- Why no line was found.

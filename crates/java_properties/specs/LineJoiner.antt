@@ -14,7 +14,7 @@ use Rattle.properties_format.specs.ItemsToCome.{ReaderState}
 use Rattle.properties_format.specs.Reading.Items.{outcome_of, followed}
 use Rattle.properties_format.specs.Reading.ItemsToCome.{items_to_come, entries_pending}
 use Rattle.properties_format.specs.Reading.ReaderSteps.{ReadsLogical}
-use Rattle.java_properties.specs.Errors.{IsPlain, IsStreamError}
+use Rattle.java_properties.specs.Errors.{IsBareError, IsStreamError}
 use Rattle.java_properties.specs.LineFinder.{Finder, Passes, IsLazy, FindsError}
 use Rattle.java_properties.specs.declared.error.ErrorKind.TheVariants as kind
 use Rattle.java_properties.specs.declared.error.PropertiesError.{PropertiesError}
@@ -87,14 +87,14 @@ pub record JoinsTooMany {R : Type 0} (reader : Reader R) (old : ReaderState) (fr
   pub bytes : List ℕ
   pub read : HasRead reader from bytes to
   pub passed : new.passed + 1 ≡ 2 ^ 64
-  pub is : IsPlain kind.TooManyLines e
+  pub is : IsBareError kind.TooManyLines e
   pub lazy : IsLazyItems old from bytes to
 
 -- There was no memory.
 pub record JoinsNoRoom {R : Type 0} (reader : Reader R) (old : ReaderState) (from : R) (e : PropertiesError) (to : R) : Type 0 where
   pub bytes : List ℕ
   pub read : HasRead reader from bytes to
-  pub is : IsPlain kind.Memory e
+  pub is : IsBareError kind.Memory e
   pub lazy : IsLazyItems old from bytes to
 
 abbrev pub JoinsError : {R : Type 0} → Reader R → ReaderState → R → PropertiesError → ReaderState → R → Type 0
@@ -159,14 +159,14 @@ pub record JoinTooMany {R : Type 0} (reader : Reader R) (old : ReaderState) (fro
   pub bytes : List ℕ
   pub read : HasRead reader from bytes to
   pub passed : new.passed + 1 ≡ 2 ^ 64
-  pub is : IsPlain kind.TooManyLines e
+  pub is : IsBareError kind.TooManyLines e
   pub lazy : IsLazyJoin old from old_text bytes to
 
 -- There was no memory.
 pub record JoinNoRoom {R : Type 0} (reader : Reader R) (old : ReaderState) (from : R) (old_text : List ℕ) (e : PropertiesError) (to : R) : Type 0 where
   pub bytes : List ℕ
   pub read : HasRead reader from bytes to
-  pub is : IsPlain kind.Memory e
+  pub is : IsBareError kind.Memory e
   pub lazy : IsLazyJoin old from old_text bytes to
 
 abbrev pub JoinError : {R : Type 0} → Reader R → ReaderState → R → List ℕ → PropertiesError → ReaderState → R → Type 0
@@ -183,7 +183,7 @@ abbrev pub JoinsAfter : {R : Type 0} → Reader R → Joiner → R → Result Un
 JoinsAfter reader old from (Ok done) new to =
     JoinsAll reader old.state from (without_open_backslash (chars old.line)) (chars new.line) new.state to
 JoinsAfter reader old from (Err e) new to =
-    (to ≡ from) × IsPlain kind.Memory e
+    (to ≡ from) × IsBareError kind.Memory e
     ⊎ (old.state.is_done ≡ false) × JoinError reader old.state from (without_open_backslash (chars old.line)) e new.state to
 
 -- A logical line came.

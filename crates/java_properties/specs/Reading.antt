@@ -1,7 +1,7 @@
 -- What an iterator is between calls, and what a call of it leaves.
 use Rattle.std.specs.Prelude.{◌≡◌, ◌+◌, ◌-◌, ◌^◌, ◌⊎◌, ℕ, Bool, true, false, if◌then◌else◌, List, Option, Some, None, Result, Ok, Err}
-use Rattle.java_properties.specs.Streams.{HasRead, HasFailed}
-use Rattle.java_properties.specs.Errors.{IsPlain, IsStreamError}
+use Rattle.java_properties.specs.OldStreams.{HasRead, HasFailed}
+use Rattle.java_properties.specs.Errors.{IsBareError, IsStreamError}
 use Rattle.java_properties.specs.declared.error.ErrorKind.TheVariants as kind
 use Rattle.java_properties.specs.declared.error.PropertiesError.{PropertiesError}
 use Rattle.std.specs.declared.io.Error.{Error}
@@ -19,8 +19,8 @@ most_left s = if s.done then 0 else 2 ^ 64 - s.passed
 abbrev pub IsRefusal : {R : Type 0} → (R → Option (List ℕ)) → (R → ℕ) → R → ℕ → PropertiesError → R → Type 0
 IsRefusal rem faults from passed e to =
     (HasFailed rem faults from to × ((error : Error) × IsStreamError (Some (passed + 1)) error e))
-    ⊎ (HasRead rem faults from to × (passed + 1 ≡ 2 ^ 64) × IsPlain kind.TooManyLines e)
-    ⊎ (HasRead rem faults from to × IsPlain kind.Memory e)
+    ⊎ (HasRead rem faults from to × (passed + 1 ≡ 2 ^ 64) × IsBareError kind.TooManyLines e)
+    ⊎ (HasRead rem faults from to × IsBareError kind.Memory e)
 
 -- What reading one line after the line ends passed answers and leaves.
 abbrev pub LineLeaves : {R X : Type 0} → (R → Option (List ℕ)) → (R → Bool) → (R → ℕ) → ℕ → R → Result X PropertiesError → Progress → R → Type 0

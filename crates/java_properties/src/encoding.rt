@@ -2,7 +2,7 @@
 
 ghost use Rattle.std.specs.Prelude.{◌≡◌};
 ghost use Rattle.properties_format.specs.Encoding.{output_encoding};
-ghost use Rattle.java_properties.specs.Views.{encoding_of};
+ghost use Rattle.java_properties.specs.Encoding.{encoding_of};
 
 pub mod byte_order_mark;
 pub mod decode;
@@ -13,7 +13,7 @@ mod utf_8;
 mod windows_1252;
 
 pub use decode::{DecodeIter, Decoder};
-pub use encode::push_encoded;
+pub use encode::{OutputEncoding, push_encoded};
 
 /// The encodings of properties files, by the names of the WHATWG Encoding Standard.
 #[allow(non_camel_case_types)]

@@ -4,7 +4,7 @@ ghost use Rattle.std.specs.Prelude.{◌≡◌, Some, None};
 ghost use Rattle.std.specs.Str.{chars};
 ghost use Rattle.std.specs.String.{string_bytes};
 ghost use Rattle.properties_format.specs.Escapes.{not_enough_digits, not_hex, invalid_character};
-ghost use Rattle.java_properties.specs.Errors.{kind_of, line_of, cause_of, IsError, IsMalformed, IsPlain, IsRefusal, IsStreamError};
+ghost use Rattle.java_properties.specs.Errors.{kind_of, line_of, cause_of, cause_of_write, IsError, IsBareError, IsMalformed, IsStreamError, RefusesText};
 ghost use Rattle.java_properties.specs.DisplayTexts.{description, error_display};
 ghost use Rattle.java_properties.specs.declared.error.ErrorKind.TheVariants.{Io, BadCommentPrefix, BadKvSeparator, EmptyKey, TooManyLines, Failed, Memory};
 
@@ -33,7 +33,7 @@ pub enum ErrorKind {
     TooManyLines,
     /// A write failed before, so that the sink ends in a part of a line.
     Failed,
-    /// There was no memory.
+    /// Memory ran out.
     Memory,
     /// The encoding can't be edited.
     Unsupported,
@@ -52,7 +52,8 @@ pub enum Cause {
 
 /// Why a call failed, and in which line.
 ///
-/// It prints its kind in words and its line, as `I/O error (line_number = 3)`, and the text that was refused, where one was.
+/// It prints its kind in words and its line, as `I/O error (line_number = 3)`, and the text that was refused, where
+/// one was.
 #[derive(Debug, Drop)]
 pub struct PropertiesError {
     kind: ErrorKind,
@@ -90,11 +91,22 @@ impl PropertiesError {
         self.cause
     }
 
-    /// A stream failed in the line of this number.
-    pub(crate) fn io(line_number: usize, cause: Cause) -> PropertiesError
+    // A stream failed in the line of this number.
+    fn io(line_number: usize, cause: Cause) -> PropertiesError
         ensures { IsError Io (Some line_number) cause result }
     {
         PropertiesError::in_line(line_number, ErrorKind::Io, cause)
+    }
+
+    /// A write failed in the line of this number: by this error, or by taking no byte.
+    pub(crate) fn write_fault(line_number: usize, error: Option<io::Error>) -> PropertiesError
+        ensures { IsError Io (Some line_number) (cause_of_write error) result }
+    {
+        let cause = match error {
+            Some(error) => Cause::Io(error),
+            None => Cause::None,
+        };
+        PropertiesError::io(line_number, cause)
     }
 
     /// A read failed in the line of this number.
@@ -126,37 +138,37 @@ impl PropertiesError {
     }
 
     pub(crate) fn too_many_lines() -> PropertiesError
-        ensures { IsPlain TooManyLines result }
+        ensures { IsBareError TooManyLines result }
     {
-        PropertiesError::plain(ErrorKind::TooManyLines)
+        PropertiesError::bare(ErrorKind::TooManyLines)
     }
 
     /// A write failed before.
     pub(crate) fn failed() -> PropertiesError
-        ensures { IsPlain Failed result }
+        ensures { IsBareError Failed result }
     {
-        PropertiesError::plain(ErrorKind::Failed)
+        PropertiesError::bare(ErrorKind::Failed)
     }
 
     /// An empty key can't be written before blanks alone.
     pub(crate) fn empty_key() -> PropertiesError
-        ensures { IsPlain EmptyKey result }
+        ensures { IsBareError EmptyKey result }
     {
-        PropertiesError::plain(ErrorKind::EmptyKey)
+        PropertiesError::bare(ErrorKind::EmptyKey)
     }
 
     /// This text makes no comment.
     pub(crate) fn bad_comment_prefix(prefix: String) -> PropertiesError
-        ensures { IsRefusal BadCommentPrefix (chars (string_bytes prefix)) result }
+        ensures { RefusesText BadCommentPrefix (chars (string_bytes prefix)) result }
     {
-        PropertiesError::refusal(ErrorKind::BadCommentPrefix, prefix)
+        PropertiesError::refused(ErrorKind::BadCommentPrefix, prefix)
     }
 
     /// This text ends no key.
     pub(crate) fn bad_kv_separator(separator: String) -> PropertiesError
-        ensures { IsRefusal BadKvSeparator (chars (string_bytes separator)) result }
+        ensures { RefusesText BadKvSeparator (chars (string_bytes separator)) result }
     {
-        PropertiesError::refusal(ErrorKind::BadKvSeparator, separator)
+        PropertiesError::refused(ErrorKind::BadKvSeparator, separator)
     }
 
     fn in_line(line_number: usize, kind: ErrorKind, cause: Cause) -> PropertiesError
@@ -165,21 +177,21 @@ impl PropertiesError {
         PropertiesError {
             line_number: Some(line_number),
             cause,
-            ..PropertiesError::plain(kind)
+            ..PropertiesError::bare(kind)
         }
     }
 
-    fn refusal(kind: ErrorKind, text: String) -> PropertiesError
-        ensures { IsRefusal kind (chars (string_bytes text)) result }
+    fn refused(kind: ErrorKind, text: String) -> PropertiesError
+        ensures { RefusesText kind (chars (string_bytes text)) result }
     {
         PropertiesError {
             refused: Some(text),
-            ..PropertiesError::plain(kind)
+            ..PropertiesError::bare(kind)
         }
     }
 
-    fn plain(kind: ErrorKind) -> PropertiesError
-        ensures { IsPlain kind result }
+    fn bare(kind: ErrorKind) -> PropertiesError
+        ensures { IsBareError kind result }
     {
         PropertiesError {
             kind,
@@ -204,18 +216,18 @@ impl From<io::Error> for PropertiesError {
 }
 
 impl From<AllocError> for PropertiesError {
-    ghost from_gives = { λ _ e. IsPlain Memory e };
+    ghost from_gives = { λ _ e. IsBareError Memory e };
 
     fn from(_: AllocError) -> PropertiesError {
-        PropertiesError::plain(ErrorKind::Memory)
+        PropertiesError::bare(ErrorKind::Memory)
     }
 }
 
 impl<T: Drop> From<AllocFailed<T>> for PropertiesError {
-    ghost from_gives = { λ _ e. IsPlain Memory e };
+    ghost from_gives = { λ _ e. IsBareError Memory e };
 
     fn from(_: AllocFailed<T>) -> PropertiesError {
-        PropertiesError::plain(ErrorKind::Memory)
+        PropertiesError::bare(ErrorKind::Memory)
     }
 }
 

@@ -3,7 +3,7 @@
 ghost use Rattle.std.specs.Prelude.{◌≡◌, ℕ, ◌<◌, ◌≤◌, true, List, [], ◌∷◌, take, drop, length, IfOk, OnOk, OnErr, MatchResult, MatchOption};
 ghost use Rattle.std.specs.Io.KnownBytes.{Consumes};
 ghost use Rattle.counted_io.specs.Faults.{CountsFault};
-ghost use Rattle.java_properties.specs.Streams.{TakesByte};
+ghost use Rattle.java_properties.specs.OldStreams.{TakesByte};
 
 use counted_io::CountedRead;
 use std::alloc::{AllocError, Global};

@@ -1,129 +1,133 @@
 -- Pairs that go from a reader to a sink, call by call.
-use Rattle.std.proofs.Common.{◌≡◌, ◌⊎◌, ◌+◌, ◌^◌, ℕ, Bool, true, false, List, [], ◌∷◌, ◌++◌, refl, ap, sym, ◌∙◌, inl, inr}
+use Rattle.std.proofs.Common.{◌≡◌, ◌⊎◌, ℕ, Bool, true, false, List, [], ◌∷◌, refl, inl, inr}
 use Rattle.std.specs.Prelude.{Option, Some, None, Result, Ok, Err}
-use Rattle.std.specs.Io.KnownBytes.{Appends, Keeps}
+use Rattle.std.specs.Io.KnownBytes.{Appends}
 use Rattle.counted_io.specs.Faults.{one_more}
-use Rattle.java_properties.specs.Streams.{HasRead, HasFailed}
-use Rattle.java_properties.specs.Reading.{Progress, CallLeaves, IsRefusal}
+use Rattle.counted_io.specs.Streams.{Sink, HasWritten}
+use Rattle.counted_io.proofs.Streams.{written-none, written-more, faulted-more, written-flushed, written-failed_flush}
+use Rattle.java_properties.specs.OldStreams.{HasRead}
+use Rattle.java_properties.specs.Reading.{Progress, CallLeaves}
 use Rattle.properties_format.specs.Entries.{Content}
 use Rattle.properties_format.specs.Writing.{is_accepted, pair_call}
 use Rattle.properties_format.specs.Settings.{Settings, default_settings}
-use Rattle.java_properties.specs.Writing.{Writer, WritesLine, Flushes, call_of}
+use Rattle.java_properties.specs.PropertiesWriter.{Writing, WritesLine, IsRefusedBy, Flushes, call_of}
+use Rattle.java_properties.specs.Errors.{kind_of}
+use Rattle.java_properties.specs.declared.error.ErrorKind.{ErrorKind}
+use Rattle.java_properties.specs.declared.error.ErrorKind.TheVariants as kind
 use Rattle.java_properties.specs.declared.error.PropertiesError.{PropertiesError}
-use Rattle.java_properties.proofs.Streams.{has_read-none, has_read-more, has_failed-more, appends-none, appends-more}
-use Rattle.propfilter.specs.Filtering.{IsFlushedOrFaulty, FaultsAre, FilterLeaves}
+use Rattle.java_properties.proofs.OldStreams.{has_read-none, has_read-more, has_failed-more}
+use Rattle.propfilter.specs.Filtering.{IsFlushedOrFaulty, FilterLeaves}
 
-keeps-appends : (a b : Option (List ℕ)) → Keeps a b → Appends a b []
-keeps-appends None b h = tt
-keeps-appends (Some xs) None h = absurd h
-keeps-appends (Some xs) (Some ys) h = rw h (appends-none (Some xs))
+-- a line that is taken is refused by want of numbers or memory alone
+of-limits : {W : Type 0} (w : Writing W) (line : Content) (k : ErrorKind) → w.failed ≡ false → is_accepted w.settings (call_of line) ≡ true
+    → IsRefusedBy k w line → (k ≡ kind.TooManyLines) ⊎ (k ≡ kind.Memory)
+of-limits w line kind.Failed live good reason = absurd (cc)
+of-limits w line kind.EmptyKey live good reason = absurd (cc)
+of-limits w line kind.TooManyLines live good reason = inl refl
+of-limits w line kind.Memory live good reason = inr refl
+of-limits w line other live good reason = absurd reason
 
-module _ {R W : Type 0} (rem : R → Option (List ℕ)) (at_end : R → Bool) (read_faults : R → ℕ)
-    (contents : W → Option (List ℕ)) (write_faults : W → ℕ) (is_flushed : W → Bool) (input : R) (output : W) where
+module _ {R W : Type 0} (rem : R → Option (List ℕ)) (at_end : R → Bool) (read_faults : R → ℕ) (sink : Sink W) (input : R) (output : W) where
   -- so far no call failed, and the sink took some bytes
-  pub record Pumped (s : Progress) (reader : R) (sink : W) : Type 0 where
+  pub record Pumped (s : Progress) (reader : R) (to : W) : Type 0 where
     pub read : HasRead rem read_faults input reader
     pub ended : s.done ≡ true → at_end reader ≡ true
-    pub took : (taken : List ℕ) × Appends (contents output) (contents sink) taken
-    pub count : write_faults sink ≡ write_faults output
+    pub taken : List ℕ
+    pub written : HasWritten sink output taken to
 
   pub pumped-none : (s : Progress) → s.done ≡ false → Pumped s input output
   pumped-none s live = record {
     read = has_read-none rem read_faults input;
     ended = λ e. absurd (cc);
-    took = ([], appends-none (contents output));
-    count = refl;
+    taken = [];
+    written = written-none output;
   }
 
   -- an item came
-  pub pumped-read : {X : Type 0} (s : Progress) (reader : R) (sink : W) (x : X) (t : Progress) (next : R)
-      → Pumped s reader sink → CallLeaves rem at_end read_faults s reader (Some (Ok x)) t next → Pumped t next sink
-  pumped-read s reader sink x t next p (live, read, ended) = record {
+  pub pumped-read : {X : Type 0} (s : Progress) (reader : R) (to : W) (x : X) (t : Progress) (next : R)
+      → Pumped s reader to → CallLeaves rem at_end read_faults s reader (Some (Ok x)) t next → Pumped t next to
+  pumped-read s reader to x t next p (live, read, ended) = record {
     read = has_read-more rem read_faults input reader next p.read read;
     ended = ended;
-    took = p.took;
-    count = p.count;
+    taken = p.taken;
+    written = p.written;
   }
 
-  more-taken : (sink next : W) (line : List ℕ) → (taken : List ℕ) × Appends (contents output) (contents sink) taken
-      → Appends (contents sink) (contents next) line → (taken : List ℕ) × Appends (contents output) (contents next) taken
-  more-taken sink next line (taken, h) k = (taken ++ line, appends-more _ _ _ taken line h k)
-
   -- a line was written
-  pub pumped-written : (s : Progress) (reader : R) (sink : W) (w : Writer) (line : Content) (now : Writer) (next : W)
-      → Pumped s reader sink → w.failed ≡ false → WritesLine contents write_faults w line sink (Ok tt) now next → Pumped s reader next
-  pumped-written s reader sink w line now next p live (takes, counted, appended, same) = record {
+  pub pumped-written : (s : Progress) (reader : R) (old new : Writing W) (line : Content)
+      → Pumped s reader old.sink → WritesLine sink old line (Ok tt) new → Pumped s reader new.sink
+  pumped-written s reader old new line p h = record {
     read = p.read;
     ended = p.ended;
-    took = more-taken sink next _ p.took appended;
-    count = same ∙ p.count;
+    taken = _;
+    written = written-more p.written h.written;
   }
 
   abbrev Leaves : Result Unit PropertiesError → R → W → Type 0
-  Leaves answer reader sink = FilterLeaves rem at_end read_faults contents write_faults is_flushed input output answer reader sink
+  Leaves answer reader to = FilterLeaves rem at_end read_faults sink.contents sink.faults sink.is_flushed input output answer reader to
 
   -- a write was refused
-  pub leaves-write : (s : Progress) (reader : R) (sink : W) (w : Writer) (line : Content) (now : Writer) (e : PropertiesError) (next : W)
-      → Pumped s reader sink → w.failed ≡ false → is_accepted w.settings (call_of line) ≡ true → WritesLine contents write_faults w line sink (Err e) now next → Leaves (Err e) reader next
-  leaves-write s reader sink w line now e next p live good (inl (inl (failed, is), after, same)) = absurd (cc)
-  leaves-write s reader sink w line now e next p live good (inl (inr (inl (going, bad, is)), after, same)) = absurd (cc)
-  leaves-write s reader sink w line now e next p live good (inl (inr (inr (inl (takes, most, is))), after, same)) =
-      (p.read.0, rw same p.took, inr (inr (inl is.0, p.read.1, inl (ap write_faults same ∙ p.count))))
-  leaves-write s reader sink w line now e next p live good (inl (inr (inr (inr (takes, is))), after, same)) =
-      (p.read.0, rw same p.took, inr (inr (inr is.0, p.read.1, inl (ap write_faults same ∙ p.count))))
-  leaves-write s reader sink w line now e next p live good (inr (takes, after, (cause, is), (part, begins, appended), more)) =
-      (p.read.0, more-taken sink next part p.took appended, inr (inl (is.0, p.read.1, more ∙ ap one_more p.count)))
+  pub leaves-write : (s : Progress) (reader : R) (old new : Writing W) (line : Content) (e : PropertiesError)
+      → Pumped s reader old.sink → old.failed ≡ false → is_accepted old.settings (call_of line) ≡ true → WritesLine sink old line (Err e) new
+      → Leaves (Err e) reader new.sink
+  leaves-write s reader old new line e p live good (inl h) =
+      rw h.same (p.read.0, (p.taken, p.written.moved), inr (inr (of-limits old line (kind_of e) live good h.reason, p.read.1, inl p.written.faultless)))
+  leaves-write s reader old new line e p live good (inr h) =
+      let faulted = faulted-more p.written h.sent.faulted in
+      (p.read.0, (_, faulted.moved), inr (inl (h.is.its_kind, p.read.1, faulted.risen)))
 
-  -- what a flush, whose answer is dropped, leaves
-  flushed-or-faulty : (w : Writer) (sink : W) (flush : Result Unit PropertiesError) (now : Writer) (next : W)
-      → w.failed ≡ false → write_faults sink ≡ write_faults output → Flushes contents write_faults is_flushed w sink flush now next
-      → IsFlushedOrFaulty (is_flushed next) (write_faults output) (write_faults next)
-  flushed-or-faulty w sink (Ok done) now next live count (going, after, kept, same, flushed) = inl (flushed, same ∙ count)
-  flushed-or-faulty w sink (Err e) now next live count (inl (failed, is, after, same)) = absurd (cc)
-  flushed-or-faulty w sink (Err e) now next live count (inr (going, is, after, kept, more, flushed)) = inr (more ∙ ap one_more count)
+  -- A flush was made after some bytes were taken, and its answer may be dropped.
+  record Flushed (to : W) : Type 0 where
+    pub taken : List ℕ
+    pub moved : Appends (sink.contents output) (sink.contents to) taken
+    pub sure : IsFlushedOrFaulty (sink.is_flushed to) (sink.faults output) (sink.faults to)
+
+  flushed : (old new : Writing W) (bytes : List ℕ) (result : Result Unit PropertiesError) → old.failed ≡ false → HasWritten sink output bytes old.sink
+      → Flushes sink old result new → Flushed new.sink
+  flushed old new bytes (Ok done) live h k =
+      let w = written-flushed h k.flushed in record { taken = bytes; moved = w.moved; sure = inl (k.flushed.flushed, w.faultless) }
+  flushed old new bytes (Err e) live h (inl k) = absurd (cc (k.failed, live))
+  flushed old new bytes (Err e) live h (inr k) =
+      let w = written-failed_flush h k.flushed in record { taken = bytes; moved = w.moved; sure = inr w.risen }
 
   same-or-more : (flushed : Bool) (before now : ℕ) → IsFlushedOrFaulty flushed before now → (now ≡ before) ⊎ (now ≡ one_more before)
   same-or-more flushed before now (inl k) = inl k.1
   same-or-more flushed before now (inr k) = inr k
 
-  kept-by : (w : Writer) (sink : W) (flush : Result Unit PropertiesError) (now : Writer) (next : W)
-      → w.failed ≡ false → Flushes contents write_faults is_flushed w sink flush now next → Keeps (contents sink) (contents next)
-  kept-by w sink (Ok done) now next live h = h.2
-  kept-by w sink (Err e) now next live (inl (failed, is, after, same)) = absurd (cc)
-  kept-by w sink (Err e) now next live (inr h) = h.3
-
   -- the reader refused
-  pub leaves-read : (X : Type 0) (s : Progress) (reader : R) (sink : W) (e : PropertiesError) (t : Progress) (reader_now : R) (w : Writer) (flush : Result Unit PropertiesError) (now : Writer) (next : W)
-      → w.failed ≡ false → Pumped s reader sink → CallLeaves {X = X} rem at_end read_faults s reader (Some (Err e)) t reader_now
-      → Flushes contents write_faults is_flushed w sink flush now next → Leaves (Err e) reader_now next
-  leaves-read X s reader sink e t reader_now w flush now next going p (live, done, refused) flushed =
-      let took = more-taken sink next [] p.took (keeps-appends _ _ (kept-by w sink flush now next going flushed)) in
-      let sure = flushed-or-faulty w sink flush now next going p.count flushed in
+  pub leaves-read : (X : Type 0) (s : Progress) (reader : R) (e : PropertiesError) (t : Progress) (reader_now : R) (old new : Writing W) (flush : Result Unit PropertiesError)
+      → old.failed ≡ false → Pumped s reader old.sink → CallLeaves {X = X} rem at_end read_faults s reader (Some (Err e)) t reader_now
+      → Flushes sink old flush new → Leaves (Err e) reader_now new.sink
+  leaves-read X s reader e t reader_now old new flush going p (live, done, refused) k =
+      let f = flushed old new p.taken flush going p.written k in
+      let took : (taken : List ℕ) × Appends (sink.contents output) (sink.contents new.sink) taken = (f.taken, f.moved) in
       elim refused [
-        | inl k ↦ let failed = has_failed-more rem read_faults input reader reader_now p.read k.0 in (failed.0, took, inl (k.1.1.0, failed.1, sure))
+        | inl k ↦ let failed = has_failed-more rem read_faults input reader reader_now p.read k.0 in (failed.0, took, inl (k.1.1.its_kind, failed.1, f.sure))
         | inr k ↦ elim k [
-          | inl q ↦ let read = has_read-more rem read_faults input reader reader_now p.read q.0 in (read.0, took, inr (inr (inl q.2.0, read.1, same-or-more _ _ _ sure)))
-          | inr q ↦ let read = has_read-more rem read_faults input reader reader_now p.read q.0 in (read.0, took, inr (inr (inr q.1.0, read.1, same-or-more _ _ _ sure)))
+          | inl q ↦ let read = has_read-more rem read_faults input reader reader_now p.read q.0 in (read.0, took, inr (inr (inl q.2.its_kind, read.1, same-or-more _ _ _ f.sure)))
+          | inr q ↦ let read = has_read-more rem read_faults input reader reader_now p.read q.0 in (read.0, took, inr (inr (inr q.1.its_kind, read.1, same-or-more _ _ _ f.sure)))
         ]
       ]
 
-  end-reached : (X : Type 0) (s : Progress) (reader : R) (sink : W) (t : Progress) (next : R)
-      → Pumped s reader sink → CallLeaves {X = X} rem at_end read_faults s reader None t next
+  end-reached : (X : Type 0) (s : Progress) (reader : R) (to : W) (t : Progress) (next : R)
+      → Pumped s reader to → CallLeaves {X = X} rem at_end read_faults s reader None t next
       → HasRead rem read_faults input next × (at_end next ≡ true)
-  end-reached X s reader sink t next p (done, inl (was, kept)) = (rw kept p.read, rw kept (p.ended was))
-  end-reached X s reader sink t next p (done, inr (live, read, ended)) = (has_read-more rem read_faults input reader next p.read read, ended)
+  end-reached X s reader to t next p (done, inl (was, kept)) = (rw kept p.read, rw kept (p.ended was))
+  end-reached X s reader to t next p (done, inr (live, read, ended)) = (has_read-more rem read_faults input reader next p.read read, ended)
 
   -- no more items came, and the sink was flushed
-  pub leaves-end : (X : Type 0) (s : Progress) (reader : R) (sink : W) (t : Progress) (reader_now : R) (w : Writer) (flush : Result Unit PropertiesError) (now : Writer) (next : W)
-      → w.failed ≡ false → Pumped s reader sink → CallLeaves {X = X} rem at_end read_faults s reader None t reader_now
-      → Flushes contents write_faults is_flushed w sink flush now next → Leaves flush reader_now next
-  leaves-end X s reader sink t reader_now w (Ok done) now next going p none (still, after, kept, same, flushed) =
-      let q = end-reached X s reader sink t reader_now p none in
-      (q.0.0, more-taken sink next [] p.took (keeps-appends _ _ kept), (q.1, flushed, q.0.1, same ∙ p.count))
-  leaves-end X s reader sink t reader_now w (Err e) now next going p none (inl (failed, is, after, same)) = absurd (cc)
-  leaves-end X s reader sink t reader_now w (Err e) now next going p none (inr (still, (error, is), after, kept, more, flushed)) =
-      let q = end-reached X s reader sink t reader_now p none in
-      (q.0.0, more-taken sink next [] p.took (keeps-appends _ _ kept), inr (inl (is.0, q.0.1, more ∙ ap one_more p.count)))
+  pub leaves-end : (X : Type 0) (s : Progress) (reader : R) (t : Progress) (reader_now : R) (old new : Writing W) (flush : Result Unit PropertiesError)
+      → old.failed ≡ false → Pumped s reader old.sink → CallLeaves {X = X} rem at_end read_faults s reader None t reader_now
+      → Flushes sink old flush new → Leaves flush reader_now new.sink
+  leaves-end X s reader t reader_now old new (Ok done) going p none k =
+      let q = end-reached X s reader old.sink t reader_now p none in
+      let w = written-flushed p.written k.flushed in
+      (q.0.0, (p.taken, w.moved), (q.1, k.flushed.flushed, q.0.1, w.faultless))
+  leaves-end X s reader t reader_now old new (Err e) going p none (inl k) = absurd (cc (k.failed, going))
+  leaves-end X s reader t reader_now old new (Err e) going p none (inr k) =
+      let q = end-reached X s reader old.sink t reader_now p none in
+      let w = written-failed_flush p.written k.flushed in
+      (q.0.0, (p.taken, w.moved), inr (inl (k.is.its_kind, q.0.1, w.risen)))
 
 -- the writer of pairs takes every one
 pub takes-all : (s : Settings) (key value : List ℕ) → s ≡ default_settings → is_accepted s (pair_call key value) ≡ true

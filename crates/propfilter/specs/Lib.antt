@@ -1,2 +1,4 @@
+pub mod Filter
+pub mod Run
 pub mod Filtering
 pub mod Running

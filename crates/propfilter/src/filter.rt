@@ -3,7 +3,6 @@
 ghost use Rattle.propfilter.specs.Filtering.{FilterLeaves};
 ghost use Rattle.java_properties.specs.Iterating.{iter_reader, iter_progress};
 ghost use Rattle.properties_format.specs.Settings.{default_settings};
-ghost use Rattle.java_properties.specs.Writing.{writer_state, writer_sink};
 ghost use Rattle.std.specs.Prelude.{◌≡◌, false};
 
 use counted_io::{CountedRead, CountedWrite};
@@ -40,11 +39,11 @@ fn write_pairs<R: CountedRead, W: CountedWrite>(
     lines: &mut PropertiesWriter<W>,
 ) -> Result<(), PropertiesError>
     requires reading { (iter_progress items.old).done ≡ false }
-    requires writing { (writer_state lines.old).failed ≡ false }
-    requires settings { (writer_state lines.old).settings ≡ default_settings }
-    ensures leaves { FilterLeaves R.remaining R.at_end R.faults W.contents W.faults W.is_flushed (iter_reader items.old) (writer_sink lines.old) result (iter_reader items.new) (writer_sink lines.new) }
+    requires writing { lines.old.failed ≡ false }
+    requires settings { lines.old.settings ≡ default_settings }
+    ensures leaves { FilterLeaves R.remaining R.at_end R.faults W.contents W.faults W.is_flushed (iter_reader items.old) lines.old.sink result (iter_reader items.new) lines.new.sink }
     ensures same_reader { R.identity (iter_reader items.new) ≡ R.identity (iter_reader items.old) }
-    ensures same_sink { W.identity (writer_sink lines.new) ≡ W.identity (writer_sink lines.old) }
+    ensures same_sink { W.identity lines.new.sink ≡ W.identity lines.old.sink }
 {
     while let Some(item) = items.next() {
         match item {

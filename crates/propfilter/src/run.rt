@@ -1,9 +1,11 @@
 // The program, over any streams.
 
+ghost use Rattle.std.specs.Prelude.{IfSome};
 ghost use Rattle.propfilter.specs.Running.{RunLeaves};
+ghost use Rattle.propfilter.specs.Run.{Says};
 
 use crate::filter::filter;
-use counted_io::{CountedRead, CountedWrite};
+use counted_io::{CountedRead, CountedWrite, send};
 use std::alloc::Global;
 use std::fmt::Display;
 
@@ -35,21 +37,13 @@ pub fn run<R: CountedRead, W: CountedWrite, E: CountedWrite>(
     }
 }
 
-// Sends a text and a line feed. What fails is dropped.
-fn say<E: CountedWrite>(alloc: Global, errors: &mut E, text: impl Display + Drop) {
+// Says a text as a line. What fails is dropped: there is nowhere left to tell it.
+fn say<E: CountedWrite, T: Display + Drop>(alloc: Global, errors: &mut E, text: T)
+    ensures { IfSome (T.output text) (λ text. Says E.CountedWrite errors.old text errors.new) }
+{
     if let Ok(line) = format!(in alloc; "{text}\n") {
-        send(errors, line.as_bytes());
+        let _ = send(errors, line.as_bytes());
         let _ = errors.flush_counted();
-    }
-}
-
-fn send<E: CountedWrite>(errors: &mut E, bytes: &[u8]) {
-    let mut rest = bytes;
-    while !rest.is_empty() {
-        match errors.write_counted(rest) {
-            Ok(0) | Err(_) => return,
-            Ok(taken) => rest = &rest[taken..],
-        }
     }
 }
 

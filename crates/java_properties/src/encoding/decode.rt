@@ -6,9 +6,9 @@ ghost use Rattle.std.specs.String.{string_bytes};
 ghost use Rattle.std.specs.Cow.{cow_str_bytes};
 ghost use Rattle.properties_format.specs.Pieces.{characters};
 ghost use Rattle.properties_format.specs.Reading.Encoding.{pieces_of};
-ghost use Rattle.java_properties.specs.Views.{encoding_of, IsBorrowed};
-ghost use Rattle.java_properties.specs.Streams.{TakesChar};
-ghost use Rattle.java_properties.specs.Decoding.{decoded_reader, decoded_all, DecodesNext, IsText};
+ghost use Rattle.java_properties.specs.Encoding.{encoding_of};
+ghost use Rattle.java_properties.specs.OldStreams.{TakesChar};
+ghost use Rattle.java_properties.specs.Decoding.{decoded_reader, decoded_all, DecodesNext, IsBorrowed, IsText};
 
 use super::first_piece::first_piece;
 use super::windows_1252::{self, character_of};

@@ -2,7 +2,7 @@
 
 ghost use Rattle.std.specs.Prelude.{◌≡◌, ◌<◌, ◌≤◌, ◌+◌, length, false};
 ghost use Rattle.properties_format.specs.Text.{replacement, scalar};
-ghost use Rattle.java_properties.specs.Views.{encoding_of};
+ghost use Rattle.java_properties.specs.Encoding.{encoding_of};
 ghost use Rattle.java_properties.specs.Decoding.{IsFirstPiece};
 
 use super::utf_16::{self, ByteOrder};

@@ -103,7 +103,7 @@ fn prints_plain_errors(rt: HostRuntime) -> Result<(), Fail> {
         ),
     ];
     for (kind, wanted) in rows {
-        assert!(rt; is_printed(alloc, PropertiesError::plain(kind), wanted)?);
+        assert!(rt; is_printed(alloc, PropertiesError::bare(kind), wanted)?);
     }
     Ok(())
 }

@@ -4,7 +4,7 @@ ghost use Rattle.std.specs.Prelude.{◌≡◌, ◌≤◌, length, take};
 ghost use Rattle.memchr.specs.Find.{IsFirst, Passes};
 ghost use Rattle.properties_format.specs.Text.{is_line_end};
 ghost use Rattle.properties_format.specs.Lines.{HoldsNoLineEnd};
-ghost use Rattle.java_properties.specs.Views.{encoding_of};
+ghost use Rattle.java_properties.specs.Encoding.{encoding_of};
 ghost use Rattle.java_properties.specs.LineSearch.{unit_size, whole_units, IsSearched, IsLineEndUnit};
 ghost use Rattle.java_properties.specs.LineSearch.{FindsLineEnd, FindsLineEndByte};
 

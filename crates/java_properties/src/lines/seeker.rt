@@ -6,7 +6,7 @@ ghost use Rattle.properties_format.specs.Text.{line_feed};
 ghost use Rattle.properties_format.specs.Encoding.{ascii_bytes};
 ghost use Rattle.properties_format.specs.ItemsToCome.{ReaderState, start};
 ghost use Rattle.properties_format.specs.Reading.ReaderSteps.{after_decided};
-ghost use Rattle.java_properties.specs.Views.{encoding_of};
+ghost use Rattle.java_properties.specs.Encoding.{encoding_of};
 ghost use Rattle.java_properties.specs.Decoding.{TellsBom};
 ghost use Rattle.java_properties.specs.InputBuffer.{Fills};
 ghost use Rattle.java_properties.specs.LineSearch.{unit_size};

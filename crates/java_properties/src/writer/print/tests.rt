@@ -4,7 +4,7 @@ use super::*;
 
 fn text_of(
     rt: &HostRuntime,
-    encoding: Encoding,
+    encoding: OutputEncoding,
     place: Place,
     text: &str,
 ) -> Result<Vec<u8>, AllocError> {
@@ -28,7 +28,7 @@ fn keys_and_values(rt: HostRuntime) -> Result<(), AllocError> {
         ("\u{20ac}\u{85}", b"\x80\\u0085"),
     ];
     for (text, bytes) in rows {
-        let line = text_of(&rt, Encoding::WINDOWS_1252, Place::KeyOrValue, text)?;
+        let line = text_of(&rt, OutputEncoding::Windows1252, Place::KeyOrValue, text)?;
         assert_eq!(rt; line.as_slice(), bytes, "{text}");
     }
     Ok(())
@@ -44,7 +44,7 @@ fn comments(rt: HostRuntime) -> Result<(), AllocError> {
         ("\u{1f41e}", b"\\ud83d\\udc1e"),
     ];
     for (text, bytes) in rows {
-        let line = text_of(&rt, Encoding::WINDOWS_1252, Place::Comment, text)?;
+        let line = text_of(&rt, OutputEncoding::Windows1252, Place::Comment, text)?;
         assert_eq!(rt; line.as_slice(), bytes, "{text}");
     }
     Ok(())
@@ -58,7 +58,7 @@ fn prefixes(rt: HostRuntime) -> Result<(), AllocError> {
         (" !\u{1f41e}", b" !\\ud83d\\udc1e"),
     ];
     for (text, bytes) in rows {
-        let line = text_of(&rt, Encoding::WINDOWS_1252, Place::Prefix, text)?;
+        let line = text_of(&rt, OutputEncoding::Windows1252, Place::Prefix, text)?;
         assert_eq!(rt; line.as_slice(), bytes, "{text}");
     }
     Ok(())
@@ -66,10 +66,10 @@ fn prefixes(rt: HostRuntime) -> Result<(), AllocError> {
 
 #[test]
 fn unicode(rt: HostRuntime) -> Result<(), AllocError> {
-    let rows: [(Encoding, &str, &[u8]); 3] = [
-        (Encoding::UTF_8, "\u{1f41e}", b"\xf0\x9f\x90\x9e"),
-        (Encoding::UTF_16LE, "\u{e9}", b"\xc3\xa9"),
-        (Encoding::UTF_16BE, "\u{65e5}", b"\xe6\x97\xa5"),
+    let rows: [(OutputEncoding, &str, &[u8]); 3] = [
+        (OutputEncoding::Utf8, "\u{1f41e}", b"\xf0\x9f\x90\x9e"),
+        (OutputEncoding::Utf8, "\u{e9}", b"\xc3\xa9"),
+        (OutputEncoding::Utf8, "\u{65e5}", b"\xe6\x97\xa5"),
     ];
     for (encoding, text, bytes) in rows {
         let line = text_of(&rt, encoding, Place::KeyOrValue, text)?;
@@ -80,11 +80,21 @@ fn unicode(rt: HostRuntime) -> Result<(), AllocError> {
 
 #[test]
 fn keys_like_marks(rt: HostRuntime) -> Result<(), AllocError> {
-    let rows: [(Encoding, bool, &str, &[u8]); 4] = [
-        (Encoding::WINDOWS_1252, true, "\u{fe}\u{ff}", b"\\u00fe\xff"),
-        (Encoding::WINDOWS_1252, false, "\u{fe}\u{ff}", b"\xfe\xff"),
-        (Encoding::UTF_8, true, "\u{feff}", b"\\ufeff"),
-        (Encoding::UTF_8, true, "a", b"a"),
+    let rows: [(OutputEncoding, bool, &str, &[u8]); 4] = [
+        (
+            OutputEncoding::Windows1252,
+            true,
+            "\u{fe}\u{ff}",
+            b"\\u00fe\xff",
+        ),
+        (
+            OutputEncoding::Windows1252,
+            false,
+            "\u{fe}\u{ff}",
+            b"\xfe\xff",
+        ),
+        (OutputEncoding::Utf8, true, "\u{feff}", b"\\ufeff"),
+        (OutputEncoding::Utf8, true, "a", b"a"),
     ];
     for (encoding, first, key, bytes) in rows {
         let mut line = Vec::new(rt.alloc());

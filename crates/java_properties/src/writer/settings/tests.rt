@@ -5,10 +5,10 @@ use std::test::Fail;
 
 #[test]
 fn takes_good_prefixes(rt: HostRuntime) -> Result<(), Fail> {
-    let mut settings = Settings::new();
+    let mut settings = Settings::new(rt.alloc());
     assert_eq!(rt; settings.comment_prefix(), "# ");
     for prefix in ["#", "!", " #", " !", "#x", "!x", "\x0c#"] {
-        settings.set_comment_prefix(rt.alloc(), prefix)?;
+        settings.set_comment_prefix(prefix)?;
         assert_eq!(rt; settings.comment_prefix(), prefix);
     }
     Ok(())
@@ -33,9 +33,9 @@ fn refuses_bad_prefixes(rt: HostRuntime) -> Result<(), Fail> {
             r##"Bad comment prefix: "#\r" (line_number = unknown)"##,
         ),
     ];
-    let mut settings = Settings::new();
+    let mut settings = Settings::new(rt.alloc());
     for (prefix, wanted) in rows {
-        match settings.set_comment_prefix(rt.alloc(), prefix) {
+        match settings.set_comment_prefix(prefix) {
             Ok(()) => assert_eq!(rt; "taken", wanted),
             Err(error) => assert_eq!(rt; format!(in rt.alloc(); "{error}")?.as_str(), wanted),
         }
@@ -46,10 +46,10 @@ fn refuses_bad_prefixes(rt: HostRuntime) -> Result<(), Fail> {
 
 #[test]
 fn takes_good_separators(rt: HostRuntime) -> Result<(), Fail> {
-    let mut settings = Settings::new();
+    let mut settings = Settings::new(rt.alloc());
     assert_eq!(rt; settings.kv_separator(), "=");
     for separator in [":", "=", " ", " :", ": ", " =", "= ", "\x0c", "\t"] {
-        settings.set_kv_separator(rt.alloc(), separator)?;
+        settings.set_kv_separator(separator)?;
         assert_eq!(rt; settings.kv_separator(), separator);
     }
     Ok(())
@@ -80,9 +80,9 @@ fn refuses_bad_separators(rt: HostRuntime) -> Result<(), Fail> {
             r#"Bad key/value separator: "\r" (line_number = unknown)"#,
         ),
     ];
-    let mut settings = Settings::new();
+    let mut settings = Settings::new(rt.alloc());
     for (separator, wanted) in rows {
-        match settings.set_kv_separator(rt.alloc(), separator) {
+        match settings.set_kv_separator(separator) {
             Ok(()) => assert_eq!(rt; "taken", wanted),
             Err(error) => assert_eq!(rt; format!(in rt.alloc(); "{error}")?.as_str(), wanted),
         }
@@ -93,7 +93,7 @@ fn refuses_bad_separators(rt: HostRuntime) -> Result<(), Fail> {
 
 #[test]
 fn takes_line_endings(rt: HostRuntime) {
-    let mut settings = Settings::new();
+    let mut settings = Settings::new(rt.alloc());
     assert_eq!(rt; settings.line_ending().as_str(), "\n");
     let rows = [
         (LineEnding::CR, "\r"),

@@ -3,7 +3,7 @@ use Rattle.std.specs.Str.{chars}
 use Rattle.std.proofs.lemmas.Str.{chars-nil}
 use Rattle.properties_format.specs.Pieces.{characters}
 use Rattle.properties_format.specs.Reading.Encoding.{pieces_of}
-use Rattle.java_properties.specs.Views.{encoding_of}
+use Rattle.java_properties.specs.Encoding.{encoding_of}
 use Rattle.java_properties.proofs.TextFronts.{decoded-all, decoded-more, taken-rest}
 use Rattle.java_properties.proofs.encoding.decode.decode.Goals as goal
 

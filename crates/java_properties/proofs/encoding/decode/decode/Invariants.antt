@@ -3,7 +3,7 @@ use Rattle.std.specs.Str.{chars}
 use Rattle.std.specs.String.{string_bytes}
 use Rattle.properties_format.specs.Pieces.{characters}
 use Rattle.properties_format.specs.Reading.Encoding.{pieces_of}
-use Rattle.java_properties.specs.Views.{encoding_of}
+use Rattle.java_properties.specs.Encoding.{encoding_of}
 use Rattle.java_properties.proofs.encoding.decode.decode.Given as goal
 
 -- The text so far and the characters of the rest are those of all bytes.

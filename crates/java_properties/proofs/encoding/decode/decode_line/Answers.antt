@@ -1,6 +1,6 @@
 use Rattle.std.proofs.Common.{ap, ◌∙◌, refl}
 use Rattle.std.specs.Str.{chars}
-use Rattle.java_properties.specs.Views.{encoding_of}
+use Rattle.java_properties.specs.Encoding.{encoding_of}
 use Rattle.java_properties.proofs.TextFronts.{text-decoded}
 use Rattle.java_properties.proofs.encoding.decode.decode_line.Goals as goal
 

@@ -1,4 +1,4 @@
-use Rattle.std.proofs.Common.{◌≡◌, ◌++◌, ◌∙◌, sym, ap, arith}
+use Rattle.std.proofs.Common.{◌++◌, ◌∙◌, sym, ap, arith}
 use Rattle.java_properties.specs.LineFinder.{Finder}
 use Rattle.std.proofs.lemmas.Result.{err_from_is_err_and}
 use Rattle.java_properties.proofs.LineJoiner.{goes-more, joins-closed, joins-done, join-no_room, join-refused, goes-live}

@@ -1,4 +1,4 @@
-use Rattle.std.proofs.Common.{◌≡◌, ◌+◌, ◌∙◌, ℕ, sym, ap, ap₂, subst, take, drop, length, true, false, []}
+use Rattle.std.proofs.Common.{◌≡◌, ◌+◌, ◌∙◌, sym, ap, ap₂, take, drop}
 use Rattle.properties_format.specs.ItemsToCome.{ReaderState}
 use Rattle.java_properties.specs.LineSearch.{unit_size}
 use Rattle.java_properties.specs.LineFinder.{Finder}

@@ -1,7 +1,6 @@
-use Rattle.std.proofs.Common.{◌≡◌, ◌∙◌, sym, ap, subst, inl, inr}
+use Rattle.std.proofs.Common.{◌∙◌, sym, ap, inl, inr}
 use Rattle.std.specs.Str.{chars}
 use Rattle.properties_format.specs.Groups.{is_open, is_comment_line}
-use Rattle.properties_format.specs.ItemsToCome.{ReaderState}
 use Rattle.java_properties.specs.LineJoiner.{Joiner}
 use Rattle.java_properties.proofs.LineJoiner.{joins-alone, joins-joined, joins-refused, joins-stopped}
 use Rattle.java_properties.proofs.lines.joiner.LineJoiner.next_line.Goals as goal

@@ -1,4 +1,4 @@
-use Rattle.std.proofs.Common.{◌≡◌, ◌++◌, ◌∙◌}
+use Rattle.std.proofs.Common.{◌++◌, ◌∙◌}
 use Rattle.java_properties.proofs.LineFinder.{along-alike, seek-read, ready-read, seek-ended, seek-refused, looked-none}
 use Rattle.java_properties.proofs.lines.seeker.LineSeeker.seek.Goals as goal
 

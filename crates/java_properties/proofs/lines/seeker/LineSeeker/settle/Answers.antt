@@ -1,4 +1,4 @@
-use Rattle.std.proofs.Common.{◌≡◌, ap, sym, ◌∙◌, subst}
+use Rattle.std.proofs.Common.{ap, sym, ◌∙◌, subst}
 use Rattle.properties_format.specs.ItemsToCome.{ReaderState}
 use Rattle.java_properties.specs.LineFinder.{PassesFeed}
 use Rattle.java_properties.proofs.LineFinder.{settles-waiting, settles-decided, settles-deciding, tells-decided}

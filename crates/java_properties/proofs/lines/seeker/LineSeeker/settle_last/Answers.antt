@@ -1,4 +1,4 @@
-use Rattle.std.proofs.Common.{◌≡◌, false, ap, sym, ◌∙◌, subst}
+use Rattle.std.proofs.Common.{false, ap, sym, ◌∙◌, subst}
 use Rattle.properties_format.specs.ItemsToCome.{ReaderState}
 use Rattle.java_properties.specs.LineFinder.{PassesFeed, SettlesLast}
 use Rattle.java_properties.proofs.LineFinder.{settles_last-decided, settles_last-deciding}
