@@ -14,7 +14,7 @@ use Rattle.properties_format.proofs.Items.Unique.{items_of-meets, items_of-only}
 use Rattle.properties_format.proofs.Items.Numbers.{items_of-ascend}
 use Rattle.properties_format.proofs.Cut.Byline.{byline-is_lines, lines-is_byline}
 use Rattle.properties_format.proofs.ItemsToCome.Unique.{items_to_come-start}
-use Rattle.java_properties.specs.Errors.{IsPlain}
+use Rattle.java_properties.specs.Errors.{IsBareError}
 use Rattle.java_properties.specs.LineJoiner.{JoinsError}
 use Rattle.java_properties.specs.PropertiesIter.{entry_of, Gives, BreaksOff, GivesNext, GivesNone, GivesMalformed}
 use Rattle.java_properties.specs.ReadLines.{IsReading, BeginsItems, ReadsWhole, StopsMalformed, StopsFailed, StopsEarly}
@@ -87,7 +87,7 @@ module _ {R : Type 0} {reader : Reader R} where
 
   -- the items begin with those before a line that could not be kept
   pub collected-lost : {e : Encoding} {from to next : R} {r : List ℕ} {entries : List Entry} {s t : ReaderState} {error : PropertiesError} (line : Line)
-      → Collected reader e from r entries s to → GivesNext reader s to line t next → IsPlain kind.Memory error → StopsEarly reader e from entries error next
+      → Collected reader e from r entries s to → GivesNext reader s to line t next → IsBareError kind.Memory error → StopsEarly reader e from entries error next
   collected-lost {e} {to = to} {r = r} {entries} {s} {t} line h n is =
       record { bytes = r ++ n.bytes; read = read-more h.read n.read; is = inr is; begins = by-comes h.comes n.gives }
     where

@@ -13,7 +13,7 @@ use Rattle.properties_format.specs.Reading.Items.{outcome_of}
 use Rattle.properties_format.specs.ItemsToCome.{ReaderState}
 use Rattle.properties_format.specs.Reading.ItemsToCome.{items_to_come}
 use Rattle.properties_format.specs.Reading.ReaderSteps.{ReadsEntry}
-use Rattle.java_properties.specs.Errors.{IsPlain, IsMalformed}
+use Rattle.java_properties.specs.Errors.{IsBareError, IsMalformed}
 use Rattle.java_properties.specs.Line.{number_of, content_of}
 use Rattle.java_properties.specs.LineJoiner.{IsLazyItems, JoinsError}
 use Rattle.java_properties.specs.declared.error.ErrorKind.TheVariants as kind
@@ -55,7 +55,7 @@ IsPairOf number raw_key raw_value (Err e) =
 -- Why a logical line gave no item: its escapes are malformed, or there was no memory.
 abbrev pub IsNoItem : ℕ → List ℕ → PropertiesError → Type 0
 IsNoItem number text e =
-    ((kind : Malformed) × (outcome_of text ≡ broken kind) × IsMalformed kind number e) ⊎ IsPlain kind.Memory e
+    ((kind : Malformed) × (outcome_of text ≡ broken kind) × IsMalformed kind number e) ⊎ IsBareError kind.Memory e
 
 -- the item of a logical line, where it has one
 abbrev pub IsItemOf : ℕ → List ℕ → Result (Option Line) PropertiesError → Type 0

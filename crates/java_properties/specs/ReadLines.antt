@@ -9,7 +9,7 @@ use Rattle.properties_format.specs.Cut.{IsByline}
 use Rattle.properties_format.specs.Escapes.{Malformed}
 use Rattle.properties_format.specs.Entries.{Entry, malformed, read_fault, NumbersAscend}
 use Rattle.properties_format.specs.Items.{IsItems}
-use Rattle.java_properties.specs.Errors.{IsPlain, IsMalformed, IsStreamError}
+use Rattle.java_properties.specs.Errors.{IsBareError, IsMalformed, IsStreamError}
 use Rattle.java_properties.specs.PropertiesIter.{entry_of}
 use Rattle.java_properties.specs.declared.error.ErrorKind.TheVariants as kind
 use Rattle.java_properties.specs.declared.error.PropertiesError.{PropertiesError}
@@ -62,7 +62,7 @@ pub record StopsFailed {R : Type 0} (reader : Reader R) (e : Encoding) (from : R
 pub record StopsEarly {R : Type 0} (reader : Reader R) (e : Encoding) (from : R) (entries : List Entry) (error : PropertiesError) (to : R) : Type 0 where
   pub bytes : List ℕ
   pub read : HasRead reader from bytes to
-  pub is : IsPlain kind.TooManyLines error ⊎ IsPlain kind.Memory error
+  pub is : IsBareError kind.TooManyLines error ⊎ IsBareError kind.Memory error
   pub begins : BeginsItems e bytes entries
 
 -- What reading a whole input returns. Ok comes at the reader's own end alone.

@@ -4,7 +4,7 @@ ghost use Rattle.std.specs.Prelude.{◌≡◌, IsOkAnd};
 ghost use Rattle.std.specs.Iterator.{at_most};
 ghost use Rattle.properties_format.specs.Encoding.{windows_1252};
 ghost use Rattle.properties_format.specs.ItemsToCome.{start};
-ghost use Rattle.java_properties.specs.Views.{encoding_of};
+ghost use Rattle.java_properties.specs.Encoding.{encoding_of};
 ghost use Rattle.java_properties.specs.LineFinder.{lines_left};
 ghost use Rattle.java_properties.specs.PropertiesIter.{Reading, NextGives};
 

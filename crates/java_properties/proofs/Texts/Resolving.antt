@@ -111,12 +111,12 @@ split_at bytes bs at u same h =
     }
 
 -- A text that holds none.
-pub record IsPlain (bs : List ℕ) : Type 0 where
+pub record IsBareError (bs : List ℕ) : Type 0 where
   pub holds : holds_backslash (chars bs) ≡ false
   pub meaning : meaning_of (chars bs) ≡ means (chars bs)
 
 -- where a search has found none
-pub plain : (bytes bs : List ℕ) → IsUtf8 bs → bytes ≡ bs → IsFirstByte (is_byte backslash) bytes None → IsPlain bs
+pub plain : (bytes bs : List ℕ) → IsUtf8 bs → bytes ≡ bs → IsFirstByte (is_byte backslash) bytes None → IsBareError bs
 plain bytes bs u same h =
     let none = holds_backslash-text bs u ∙ found_none bs (subst (λ v. IsFirstByte (is_byte backslash) v None) same h) in
     record { holds = none; meaning = meaning_of-plain (chars bs) (no_backslash (chars bs) none) }

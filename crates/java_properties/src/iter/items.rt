@@ -4,7 +4,7 @@ ghost use Rattle.std.specs.Prelude.{◌≡◌, ◌<◌, OnSome};
 ghost use Rattle.std.specs.Str.{chars};
 ghost use Rattle.counted_io.specs.Streams.{IsSameReader};
 ghost use Rattle.properties_format.specs.ItemsToCome.{ReaderState, start};
-ghost use Rattle.java_properties.specs.Views.{encoding_of};
+ghost use Rattle.java_properties.specs.Encoding.{encoding_of};
 ghost use Rattle.java_properties.specs.LineFinder.{lines_left};
 ghost use Rattle.java_properties.specs.PropertiesIter.{GivesItem, IsItemOf, IsCommentOf, IsPairOf, IsResolved};
 

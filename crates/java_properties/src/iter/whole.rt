@@ -2,7 +2,7 @@
 
 ghost use Rattle.counted_io.specs.Streams.{IsSameReader};
 ghost use Rattle.java_properties.specs.ReadLines.{ReadsLines};
-ghost use Rattle.java_properties.specs.Views.{encoding_of};
+ghost use Rattle.java_properties.specs.Encoding.{encoding_of};
 
 use crate::encoding::Encoding;
 use crate::error::PropertiesError;

@@ -2,7 +2,7 @@ use Rattle.std.proofs.Common.{◌≡◌, ◌++◌, ◌∷◌, ◌∙◌, List, [
 use Rattle.properties_format.specs.Entries.{Entry}
 use Rattle.properties_format.specs.ItemsToCome.{ReaderState, start}
 use Rattle.counted_io.specs.Streams.{reader}
-use Rattle.java_properties.specs.Views.{encoding_of}
+use Rattle.java_properties.specs.Encoding.{encoding_of}
 use Rattle.java_properties.specs.ReadLines.{entries_in, StopsEarly}
 use Rattle.java_properties.specs.PropertiesIter.{entry_of}
 use Rattle.std.proofs.lemmas.List.{map-append}
