@@ -3,6 +3,7 @@ pub mod Calls
 pub mod Windows1252
 pub mod FirstPieces
 pub mod TextFronts
+pub mod ReadAhead
 pub mod Printing
 pub mod MarkLike
 pub mod SettingsTests

@@ -1,6 +1,9 @@
 -- How bytes are decoded: what each part of the decoder gives, and what the iterator over characters is between calls.
-use Rattle.std.specs.Prelude.{◌≡◌, ℕ, ◌≤◌, Bool, true, false, List, length, drop, Option, Some, None, Result, Ok, Err}
+use Rattle.std.specs.Prelude.{◌≡◌, ℕ, ◌≤◌, Bool, true, false, List, [], ◌++◌, length, drop, Option, Some, None, Result, Ok, Err}
 use Rattle.std.specs.Str.{IsAscii}
+use Rattle.std.specs.declared.io.Error.{Error}
+use Rattle.counted_io.specs.Streams.{Reader}
+use Rattle.counted_io.specs.Streams as streams
 use Rattle.properties_format.specs.Encoding as format
 use Rattle.properties_format.specs.Pieces.{Piece}
 use Rattle.properties_format.specs.Utf8.{Range, from_to, IsWellFormedText}
@@ -62,6 +65,21 @@ IsText format.utf_16le d = ⊥
 IsText format.utf_16be d = ⊥
 
 -- ---- The iterator over characters.
+
+-- how many bytes may be held
+abbrev pub room : ℕ
+room = 8192
+
+-- how many bytes came
+abbrev pub count_of : {E : Type 0} → Result ℕ E → ℕ
+count_of (Ok n) = n
+count_of (Err e) = 0
+
+-- a read after the bytes held: those that came, or a fault
+abbrev pub ReadsMore : {R : Type 0} → Reader R → R → List ℕ → Result ℕ Error → R → List ℕ → Type 0
+ReadsMore reader old held (Ok n) new left =
+    (r : List ℕ) × (left ≡ held ++ r) × (n ≡ length r) × streams.HasRead reader old r new × (n ≡ 0 → reader.at_end new ≡ true)
+ReadsMore reader old held (Err e) new left = (left ≡ held) × streams.HasFailed reader old [] e new
 
 abbrev pub decoded_reader : {R : Type 0} → DecodeIter R → R
 decoded_reader it = it.reader

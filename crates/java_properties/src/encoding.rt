@@ -8,6 +8,7 @@ mod byte_order_mark;
 mod decode;
 mod encode;
 mod first_piece;
+mod read_ahead;
 mod utf_16;
 mod utf_8;
 mod windows_1252;
