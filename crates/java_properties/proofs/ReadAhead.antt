@@ -10,7 +10,7 @@ use Rattle.std.proofs.Math.Seq.{take-append-add}
 use Rattle.std.proofs.lemmas.List.{take-append-le, length-take-le, drop-take}
 use Rattle.counted_io.specs.Faults.{CountsFault, ShowsEnd}
 use Rattle.counted_io.specs.Streams.{Reader}
-use Rattle.java_properties.specs.Decoding.{ReadsMore, count_of}
+use Rattle.java_properties.specs.ReadAhead.{ReadsMore, count_of}
 
 -- what a buffer holds after a read into its end: the bytes before the place, and those that came
 pub read-into : (buffer came rest : List ℕ) (place n : ℕ) → place ≤ length buffer → n ≤ length came → take (place + n) (take place buffer ++ (came ++ rest)) ≡ take place buffer ++ take n came

@@ -1,9 +1,6 @@
--- How bytes are decoded: what each part of the decoder gives, and what the iterator over characters is between calls.
-use Rattle.std.specs.Prelude.{◌≡◌, ℕ, ◌≤◌, Bool, true, false, List, [], ◌++◌, length, drop, Option, Some, None, Result, Ok, Err}
+-- What each part of the decoder gives: the byte order mark, the first piece, and text that stands as it is.
+use Rattle.std.specs.Prelude.{◌≡◌, ℕ, ◌≤◌, Bool, true, false, List, length, drop}
 use Rattle.std.specs.Str.{IsAscii}
-use Rattle.std.specs.declared.io.Error.{Error}
-use Rattle.counted_io.specs.Streams.{Reader}
-use Rattle.counted_io.specs.Streams as streams
 use Rattle.properties_format.specs.Encoding as format
 use Rattle.properties_format.specs.Pieces.{Piece}
 use Rattle.properties_format.specs.Utf8.{Range, from_to, IsWellFormedText}
@@ -11,14 +8,12 @@ use Rattle.properties_format.specs.Utf16.{low_first, high_first}
 use Rattle.properties_format.specs.Reading.Encoding.{first_piece}
 use Rattle.properties_format.specs.Reading.Waiting.{awaits_bom, awaits_more}
 use Rattle.java_properties.specs.Views.{encoding_of}
-use Rattle.java_properties.specs.Streams.{HasRead, HasFailed}
 use Rattle.java_properties.specs.declared.encoding.byte_order_mark.ByteOrderMark.{ByteOrderMark}
 use Rattle.java_properties.specs.declared.encoding.byte_order_mark.ByteOrderMark.TheVariants.{Present, Absent, Undecided}
 use Rattle.java_properties.specs.declared.encoding.first_piece.FirstPiece.{FirstPiece}
 use Rattle.java_properties.specs.declared.encoding.utf_8.ByteRange.{ByteRange}
 use Rattle.java_properties.specs.declared.encoding.utf_16.ByteOrder.{ByteOrder}
 use Rattle.java_properties.specs.declared.encoding.utf_16.ByteOrder.TheVariants.{LowFirst, HighFirst}
-use Rattle.java_properties.specs.declared.encoding.decode.DecodeIter.{DecodeIter}
 
 -- ---- The byte order mark.
 
@@ -63,34 +58,3 @@ IsText format.windows_1252 d = IsAscii d
 IsText format.utf_8 d = IsWellFormedText d
 IsText format.utf_16le d = ⊥
 IsText format.utf_16be d = ⊥
-
--- ---- The iterator over characters.
-
--- how many bytes may be held
-abbrev pub room : ℕ
-room = 8192
-
--- how many bytes came
-abbrev pub count_of : {E : Type 0} → Result ℕ E → ℕ
-count_of (Ok n) = n
-count_of (Err e) = 0
-
--- a read after the bytes held: those that came, or a fault
-abbrev pub ReadsMore : {R : Type 0} → Reader R → R → List ℕ → Result ℕ Error → R → List ℕ → Type 0
-ReadsMore reader old held (Ok n) new left =
-    (r : List ℕ) × (left ≡ held ++ r) × (n ≡ length r) × streams.HasRead reader old r new × (n ≡ 0 → reader.at_end new ≡ true)
-ReadsMore reader old held (Err e) new left = (left ≡ held) × streams.HasFailed reader old [] e new
-
-abbrev pub decoded_reader : {R : Type 0} → DecodeIter R → R
-decoded_reader it = it.reader
-
--- whether it is at its end
-abbrev pub decoded_all : {R : Type 0} → DecodeIter R → Bool
-decoded_all it = it.done
-
-abbrev pub DecodesNext : {R E : Type 0} → (R → Option (List ℕ)) → (R → Bool) → (R → ℕ) → Bool → R → Option (Result ℕ E) → Bool → R → Type 0
-DecodesNext rem at_end faults true from None t to = (t ≡ true) × (to ≡ from)
-DecodesNext rem at_end faults true from (Some answer) t to = ⊥
-DecodesNext rem at_end faults false from None t to = (t ≡ true) × HasRead rem faults from to × (at_end to ≡ true)
-DecodesNext rem at_end faults false from (Some (Ok c)) t to = (t ≡ false) × HasRead rem faults from to
-DecodesNext rem at_end faults false from (Some (Err e)) t to = (t ≡ true) × HasFailed rem faults from to

@@ -1,6 +1,8 @@
 pub mod Errors
 pub mod Streams
 pub mod Decoding
+pub mod ReadAhead
+pub mod DecodeIter
 pub mod Reading
 pub mod Cutting
 pub mod Iterating

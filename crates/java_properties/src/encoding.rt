@@ -6,6 +6,7 @@ ghost use Rattle.java_properties.specs.Views.{encoding_of};
 
 mod byte_order_mark;
 mod decode;
+mod decode_iter;
 mod encode;
 mod first_piece;
 mod read_ahead;
@@ -13,7 +14,8 @@ mod utf_16;
 mod utf_8;
 mod windows_1252;
 
-pub use decode::{DecodeIter, Decoder};
+pub use decode::Decoder;
+pub use decode_iter::DecodeIter;
 pub use encode::push_encoded;
 
 /// The encodings of properties files, by the names of the WHATWG Encoding Standard.

@@ -1,6 +1,6 @@
 // Bytes to characters.
 
-ghost use Rattle.std.specs.Prelude.{◌≡◌, [], ◌∷◌, OnOk, ◌≤◌, ◌++◌, ◌↔◌, false, length, IfOk, IfSome, IsSome};
+ghost use Rattle.std.specs.Prelude.{◌≡◌, [], ◌∷◌, OnOk, ◌≤◌, ◌++◌, ◌↔◌, length, IfOk, IfSome, IsSome};
 ghost use Rattle.std.specs.Str.{chars};
 ghost use Rattle.std.specs.String.{string_bytes};
 ghost use Rattle.std.specs.Cow.{cow_str_bytes};
@@ -8,7 +8,7 @@ ghost use Rattle.properties_format.specs.Pieces.{characters};
 ghost use Rattle.properties_format.specs.Reading.Encoding.{pieces_of};
 ghost use Rattle.java_properties.specs.Views.{encoding_of, IsBorrowed};
 ghost use Rattle.java_properties.specs.Streams.{TakesChar};
-ghost use Rattle.java_properties.specs.Decoding.{decoded_reader, decoded_all, DecodesNext, IsText};
+ghost use Rattle.java_properties.specs.Decoding.{IsText};
 
 use super::first_piece::first_piece;
 use super::windows_1252::{self, character_of};
@@ -112,42 +112,5 @@ impl Decoder {
             Some(byte) => Ok(Some(character_of(byte))),
             None => Ok(None),
         }
-    }
-}
-
-/// The characters of a reader. After the end or a fault there are none, and nothing is read.
-#[derive(Drop)]
-pub struct DecodeIter<R> {
-    reader: R,
-    decoder: Decoder,
-    done: bool,
-}
-
-impl<R: CountedRead> DecodeIter<R> {
-    /// At the start of a reader, of which nothing is read yet.
-    pub fn new(alloc: Global, reader: R) -> Result<DecodeIter<R>, AllocError>
-        ensures { IfOk result (λ it. (decoded_reader it ≡ reader) × (decoded_all it ≡ false)) }
-    {
-        let decoder = Decoder::new(alloc)?;
-        Ok(DecodeIter {
-            reader,
-            decoder,
-            done: false,
-        })
-    }
-}
-
-impl<R: CountedRead> Iterator for DecodeIter<R> {
-    type Item = Result<char, io::Error>;
-
-    ghost next_gives = { λ a answer b. DecodesNext R.remaining R.at_end R.faults (decoded_all a) (decoded_reader a) answer (decoded_all b) (decoded_reader b) };
-
-    fn next(&mut self) -> Option<Result<char, io::Error>> {
-        if self.done {
-            return None;
-        }
-        let answer = self.decoder.next_char(&mut self.reader).transpose();
-        self.done = !matches!(&answer, Some(Ok(_)));
-        answer
     }
 }
