@@ -127,7 +127,8 @@ module _ {R : Type 0} (reader : Reader R) where
   goes_on-along : (i j k : Ending) (a b c : R) (r q : List ℕ) → GoesOn reader a i r b j → (q ≡ []) × (c ≡ b) × (k ≡ j) → GoesOn reader a i (r ++ q) c k
   goes_on-along i j k a b c r q g h = rw (h.0, h.1, h.2, append-nil r) g
 
-  goes_on-over : (i j k : Ending) (a b c : R) (r q : List ℕ) → is_over i ≡ true → (r ≡ []) × (b ≡ a) × (j ≡ i) → GoesOn reader b j q c k → (r ++ q ≡ []) × (c ≡ a) × (k ≡ i)
+  goes_on-over : (i j k : Ending) (a b c : R) (r q : List ℕ)
+      → is_over i ≡ true → (r ≡ []) × (b ≡ a) × (j ≡ i) → GoesOn reader b j q c k → (r ++ q ≡ []) × (c ≡ a) × (k ≡ i)
   goes_on-over i j k a b c r q over g h =
       let s = goes_on-still j k b c q (ap is_over g.2 ∙ over) h in
       (rw g.0 s.0, s.1 ∙ g.1, s.2 ∙ g.2)
@@ -168,7 +169,8 @@ module _ {R : Type 0} {reader : Reader R} where
   }
 
   -- nothing is held, and nothing comes
-  pub ends-by : {a b : R} {s t : Undecoded} (ending : Ending) (u : Undecoded) → Decodes reader a s [] b t → t.held ≡ [] → t.ending ≡ ending → is_over ending ≡ true → u.held ≡ [] → u.ending ≡ End
+  pub ends-by : {a b : R} {s t : Undecoded} (ending : Ending) (u : Undecoded)
+      → Decodes reader a s [] b t → t.held ≡ [] → t.ending ≡ ending → is_over ending ≡ true → u.held ≡ [] → u.ending ≡ End
       → Ends reader a s ending b u
   ends-by {a} {b} {s} {t} ending u h empty same over after ended = record {
     read = h.read;
@@ -193,7 +195,8 @@ no-fault More over none = absurd (cc)
 no-fault End over none = refl
 no-fault (Fault e) over none = absurd (none e refl)
 
-module _ {R : Type 0} {reader : Reader R} {a b : R} {s t v : Undecoded} (u : Undecoded) (h : Decodes reader a s [] b t) (settled : (is_over t.ending ≡ true) ⊎ (waits t ≡ false))
+module _ {R : Type 0} {reader : Reader R} {a b : R} {s t v : Undecoded} (u : Undecoded)
+    (h : Decodes reader a s [] b t) (settled : (is_over t.ending ≡ true) ⊎ (waits t ≡ false))
     (kept : (v ≡ t) × (t.held ≡ [])) (after : u ≡ record v { ending = End }) where
   empty : u.held ≡ []
   empty = ap (λ w. w.held) after ∙ ap (λ w. w.held) kept.0 ∙ kept.1

@@ -10,7 +10,8 @@ returns-in-Some-clause-decodes g c =
 pub returns-in_err-error-clause-decodes : goal.returns-in_err-error-clause-decodes
 returns-in_err-error-clause-decodes g c =
     let read = decodes-more c.decide.ensures.decodes c.settle.ensures.decodes in
-    rw c.from_residual.ensures (ends-end _ read c.settle.ensures.settled c.in_default.ensures (ap undecoded c.take_fault.ensures.after) c.in_err-error.ensures.fault)
+    rw c.from_residual.ensures
+    (ends-end _ read c.settle.ensures.settled c.in_default.ensures (ap undecoded c.take_fault.ensures.after) c.in_err-error.ensures.fault)
 
 pub returns-clause-decodes : goal.returns-clause-decodes
 returns-clause-decodes g c =
