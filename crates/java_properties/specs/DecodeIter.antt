@@ -72,6 +72,10 @@ pub record Decodes {R : Type 0} (reader : Reader R) (old : R) (from : Undecoded)
   pub goes_on : GoesOn reader old from.ending read new to.ending
   pub comes : (d : List ℕ) → CanCome to.ending d → characters_to_come from (read ++ d) ≡ text ++ characters_to_come to d
 
+-- Some bytes were read, and no character was taken.
+abbrev pub ReadsOn : {R : Type 0} → Reader R → R → CharacterDecoder → R → CharacterDecoder → Type 0
+ReadsOn reader old from new to = Decodes reader old (undecoded from) [] new (undecoded to)
+
 -- Some bytes were read, up to this ending. No character comes of them, and from now on none is to come.
 pub record Ends {R : Type 0} (reader : Reader R) (old : R) (from : Undecoded) (ending : Ending) (new : R) (to : Undecoded) : Type 0 where
   pub read : List ℕ

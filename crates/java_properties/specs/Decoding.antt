@@ -2,12 +2,13 @@
 use Rattle.std.specs.Prelude.{◌≡◌, ℕ, ◌≤◌, Bool, true, false, List, length, drop}
 use Rattle.std.specs.Str.{IsAscii}
 use Rattle.properties_format.specs.Encoding as format
-use Rattle.properties_format.specs.Pieces.{Piece}
+use Rattle.properties_format.specs.Pieces.{Piece, characters}
 use Rattle.properties_format.specs.Utf8.{Range, from_to, IsWellFormedText}
 use Rattle.properties_format.specs.Utf16.{low_first, high_first}
-use Rattle.properties_format.specs.Reading.Encoding.{first_piece}
+use Rattle.properties_format.specs.Reading.Encoding.{first_piece, pieces_of}
 use Rattle.properties_format.specs.Reading.Waiting.{awaits_bom, awaits_more}
 use Rattle.java_properties.specs.Views.{encoding_of}
+use Rattle.java_properties.specs.declared.encoding.Encoding.{Encoding}
 use Rattle.java_properties.specs.declared.encoding.byte_order_mark.ByteOrderMark.{ByteOrderMark}
 use Rattle.java_properties.specs.declared.encoding.byte_order_mark.ByteOrderMark.TheVariants.{Present, Absent, Undecided}
 use Rattle.java_properties.specs.declared.encoding.first_piece.FirstPiece.{FirstPiece}
@@ -51,6 +52,10 @@ abbrev pub IsFirstPiece : format.Encoding → ℕ → List ℕ → FirstPiece �
 IsFirstPiece e b d shown = ShowsPiece (first_piece e b d) (awaits_more e b d) shown
 
 -- ---- Text.
+
+-- the characters of some bytes by themselves
+abbrev pub text_of : Encoding → List ℕ → List ℕ
+text_of encoding d = characters (pieces_of (encoding_of encoding) d)
 
 -- The bytes are text as they stand, in UTF-8: they are ASCII, or well-formed from the first to the last. In UTF-16 none are.
 abbrev pub IsText : format.Encoding → List ℕ → Type 0

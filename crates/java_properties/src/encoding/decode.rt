@@ -4,11 +4,9 @@ ghost use Rattle.std.specs.Prelude.{◌≡◌, [], ◌∷◌, OnOk, ◌≤◌, �
 ghost use Rattle.std.specs.Str.{chars};
 ghost use Rattle.std.specs.String.{string_bytes};
 ghost use Rattle.std.specs.Cow.{cow_str_bytes};
-ghost use Rattle.properties_format.specs.Pieces.{characters};
-ghost use Rattle.properties_format.specs.Reading.Encoding.{pieces_of};
 ghost use Rattle.java_properties.specs.Views.{encoding_of, IsBorrowed};
 ghost use Rattle.java_properties.specs.Streams.{TakesChar};
-ghost use Rattle.java_properties.specs.Decoding.{IsText};
+ghost use Rattle.java_properties.specs.Decoding.{IsText, text_of};
 
 use super::first_piece::first_piece;
 use super::windows_1252::{self, character_of};
@@ -25,7 +23,7 @@ pub fn decode_line(
     encoding: Encoding,
     bytes: &[u8],
 ) -> Result<CowStr<'_>, AllocError>
-    ensures characters { IfOk result (λ text. chars (cow_str_bytes text) ≡ characters (pieces_of (encoding_of encoding) bytes.now)) }
+    ensures text { IfOk result (λ text. chars (cow_str_bytes text) ≡ text_of encoding bytes.now) }
     ensures lent { IfOk result (λ text. IsBorrowed text ↔ IsText (encoding_of encoding) bytes.now) }
     ensures same { IfOk result (λ text. IsBorrowed text → cow_str_bytes text ≡ bytes.now) }
 {
@@ -49,7 +47,7 @@ fn as_text(encoding: Encoding, bytes: &[u8]) -> Option<&str>
 
 // The text of some bytes: what stands as text at the front, one piece, and so on.
 fn decode(alloc: Global, encoding: Encoding, bytes: &[u8]) -> Result<String, AllocError>
-    ensures { IfOk result (λ text. chars (string_bytes text) ≡ characters (pieces_of (encoding_of encoding) bytes.now)) }
+    ensures { IfOk result (λ text. chars (string_bytes text) ≡ text_of encoding bytes.now) }
 {
     let mut text = String::with_capacity(alloc, bytes.len())?;
     let mut rest = bytes;
@@ -66,21 +64,22 @@ fn decode(alloc: Global, encoding: Encoding, bytes: &[u8]) -> Result<String, All
 }
 
 fn push_text(text: &mut String, more: &str) -> Result<(), AllocError>
-    ensures { OnOk result (chars (string_bytes text.new) ≡ chars (string_bytes text.old) ++ chars more.now) }
+    ensures { OnOk result
+        (chars (string_bytes text.new) ≡ chars (string_bytes text.old) ++ chars more.now) }
 {
     text.push_str(more)
 }
 
 fn push_character(text: &mut String, character: char) -> Result<(), AllocError>
-    ensures { OnOk result (chars (string_bytes text.new) ≡ chars (string_bytes text.old) ++ character ∷ []) }
+    ensures { OnOk result
+        (chars (string_bytes text.new) ≡ chars (string_bytes text.old) ++ character ∷ []) }
 {
     text.push(character)
 }
 
 // What stands as text at the front, and what is after it.
 fn text_front(encoding: Encoding, bytes: &[u8]) -> (&str, &[u8])
-    ensures characters { characters (pieces_of (encoding_of encoding) bytes.now)
-        ≡ chars result.0.now ++ characters (pieces_of (encoding_of encoding) result.1.now) }
+    ensures text { text_of encoding bytes.now ≡ chars result.0.now ++ text_of encoding result.1.now }
     ensures within { length result.1.now ≤ length bytes.now }
 {
     match encoding {

@@ -6,7 +6,7 @@ ghost use Rattle.counted_io.specs.Streams.{IsSameReader};
 ghost use Rattle.properties_format.specs.Reading.Waiting.{awaits_bom};
 ghost use Rattle.java_properties.specs.Views.{encoding_of};
 ghost use Rattle.java_properties.specs.ReadAhead.{room};
-ghost use Rattle.java_properties.specs.DecodeIter.{Decoding, Decodes, DecodesNext, GivesOn, ShowsFault, TakesCharacter, decoding, fresh, is_over, undecoded, waits};
+ghost use Rattle.java_properties.specs.DecodeIter.{Decoding, DecodesNext, ReadsOn, GivesOn, ShowsFault, TakesCharacter, decoding, fresh, is_over, undecoded, waits};
 ghost use Rattle.java_properties.specs.declared.encoding.decode_iter.Ending.TheVariants.{End};
 
 use super::Encoding;
@@ -42,7 +42,8 @@ struct CharacterDecoder {
 impl CharacterDecoder {
     // The next character or the read fault, or `None` where none come.
     fn next_character<R: CountedRead>(&mut self, reader: &mut R) -> Option<Result<char, io::Error>>
-        ensures decodes { DecodesNext R.CountedRead (decoding reader.old self.old) result (decoding reader.new self.new) }
+        ensures decodes { DecodesNext R.CountedRead
+            (decoding reader.old self.old) result (decoding reader.new self.new) }
         ensures same_reader { IsSameReader R.CountedRead reader.old reader.new }
     {
         self.decide(reader);
@@ -67,7 +68,7 @@ impl CharacterDecoder {
 
     // Takes the byte order mark off, where it is not decided yet.
     fn decide<R: CountedRead>(&mut self, reader: &mut R)
-        ensures decodes { Decodes R.CountedRead reader.old (undecoded self.old) [] reader.new (undecoded self.new) }
+        ensures decodes { ReadsOn R.CountedRead reader.old self.old reader.new self.new }
         ensures decided { self.new.is_decided ≡ true }
         ensures same_reader { IsSameReader R.CountedRead reader.old reader.new }
     {
@@ -81,7 +82,7 @@ impl CharacterDecoder {
     // Reads until the byte order mark is decided, or until no bytes come.
     fn settle_byte_order_mark<R: CountedRead>(&mut self, reader: &mut R)
         requires { self.old.is_decided ≡ false }
-        ensures decodes { Decodes R.CountedRead reader.old (undecoded self.old) [] reader.new (undecoded self.new) }
+        ensures decodes { ReadsOn R.CountedRead reader.old self.old reader.new self.new }
         ensures settled { (is_over self.new.ending ≡ true) ⊎ (awaits_bom self.new.bytes ≡ false) }
         ensures undecided { self.new.is_decided ≡ false }
         ensures same_reader { IsSameReader R.CountedRead reader.old reader.new }
@@ -113,7 +114,7 @@ impl CharacterDecoder {
     // Reads until the first piece is decided, or until no bytes come.
     fn settle<R: CountedRead>(&mut self, reader: &mut R)
         requires { self.old.is_decided ≡ true }
-        ensures decodes { Decodes R.CountedRead reader.old (undecoded self.old) [] reader.new (undecoded self.new) }
+        ensures decodes { ReadsOn R.CountedRead reader.old self.old reader.new self.new }
         ensures settled { (is_over self.new.ending ≡ true) ⊎ (waits (undecoded self.new) ≡ false) }
         ensures decided { self.new.is_decided ≡ true }
         ensures same_reader { IsSameReader R.CountedRead reader.old reader.new }
@@ -150,7 +151,7 @@ impl CharacterDecoder {
     // Reads once, where bytes may come, and says whether any came.
     fn read<R: CountedRead>(&mut self, reader: &mut R) -> bool
         requires { length self.old.bytes < room }
-        ensures decodes { Decodes R.CountedRead reader.old (undecoded self.old) [] reader.new (undecoded self.new) }
+        ensures decodes { ReadsOn R.CountedRead reader.old self.old reader.new self.new }
         ensures decided { self.new.is_decided ≡ self.old.is_decided }
         ensures came { OnTrue result (length self.old.bytes < length self.new.bytes) }
         ensures over { OnFalse result (is_over self.new.ending ≡ true) }
@@ -189,7 +190,8 @@ impl<R> Model for DecodeIter<R> {
 impl<R: CountedRead> DecodeIter<R> {
     /// At the start of a reader, of which nothing is read yet. It takes no memory later.
     pub fn new(alloc: Global, reader: R, encoding: Encoding) -> Result<DecodeIter<R>, AllocError>
-        ensures { IfOk result (λ it. it ≡ record { reader = reader; undecoded = fresh (encoding_of encoding) }) }
+        ensures { IfOk result
+            (λ it. it ≡ record { reader = reader; undecoded = fresh (encoding_of encoding) }) }
     {
         let bytes = ReadAhead::new(alloc)?;
         Ok(DecodeIter {
@@ -207,7 +209,8 @@ impl<R: CountedRead> DecodeIter<R> {
 impl<R: CountedRead> Iterator for DecodeIter<R> {
     type Item = Result<char, io::Error>;
 
-    ghost next_gives = { λ old answer new. DecodesNext R.CountedRead old answer new × IsSameReader R.CountedRead old.reader new.reader };
+    ghost next_gives = { λ old answer new.
+        DecodesNext R.CountedRead old answer new × IsSameReader R.CountedRead old.reader new.reader };
 
     fn next(&mut self) -> Option<Result<char, io::Error>> {
         self.decoder.next_character(&mut self.reader)

@@ -15,7 +15,8 @@ pub fn push_encoded(
     character: char,
 ) -> Result<bool, AllocError>
     ensures said { IfOk result (λ done. done ≡ is_some (encoded (encoding_of encoding) character)) }
-    ensures appended { OnOk result (bytes.new.items ≡ bytes.old.items ++ unwrap_or (encoded (encoding_of encoding) character) []) }
+    ensures appended { OnOk result
+        (bytes.new.items ≡ bytes.old.items ++ unwrap_or (encoded (encoding_of encoding) character) []) }
 {
     match encoding {
         Encoding::WINDOWS_1252 => {

@@ -88,7 +88,8 @@ fn move_down(buffer: &mut [u8], start: usize, end: usize)
 // Reads once, from a place on.
 fn read_after<R: CountedRead>(reader: &mut R, buffer: &mut [u8], place: usize) -> io::Result<usize>
     requires { place < length buffer.old }
-    ensures reads { ReadsMore R.CountedRead reader.old (take place buffer.old) result reader.new (take (place + count_of result) buffer.new) }
+    ensures reads { ReadsMore R.CountedRead reader.old (take place buffer.old)
+        result reader.new (take (place + count_of result) buffer.new) }
     ensures within { place + count_of result ≤ length buffer.new }
     ensures same_reader { IsSameReader R.CountedRead reader.old reader.new }
 {
