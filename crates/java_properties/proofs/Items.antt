@@ -133,8 +133,10 @@ module _ {R : Type 0} {reader : Reader R} where
   }
     where
       by-comes : Comes t n.bytes (numbered_line number new) new.state → Gives s (r ++ n.bytes) (entry_of line) new.state
-      by-comes (Comes.going_on k logical) = rw same (Gives.going_on k (record { items = λ d ending.
-          passed-after h n.live n.bytes d ending ∙ logical.items d ending ∙ followed-given number (chars new.line) (said (content_of line)) (items_to_come new.state d ending) o }))
+      by-comes (Comes.going_on k logical) = rw same (Gives.going_on k (record {
+        items = λ d ending.
+            passed-after h n.live n.bytes d ending ∙ logical.items d ending ∙ followed-given number (chars new.line) (said (content_of line)) (items_to_come new.state d ending) o;
+      }))
       by-comes (Comes.at_last k items) = rw same (Gives.at_last k (
           passed-on h n.live n.bytes end ∙ items ∙ followed-given number (chars new.line) (said (content_of line)) [] o))
 
@@ -151,23 +153,29 @@ module _ {R : Type 0} {reader : Reader R} where
       by-comes : Comes t n.bytes (numbered_line number new) new.state
           → (new.state.is_done ≡ false) × ((d : List ℕ) (ending : InputEnd) → items_to_come s ((r ++ n.bytes) ++ d) ending ≡ items_to_come new.state d ending)
           ⊎ (new.state.is_done ≡ true) × (items_to_come s (r ++ n.bytes) end ≡ []) × ((s.is_done ≡ true) ⊎ (reader.at_end next ≡ true))
-      by-comes (Comes.going_on k logical) = inl (k, λ d ending.
-          passed-after h n.live n.bytes d ending ∙ logical.items d ending ∙ followed-ignored number (chars new.line) (items_to_come new.state d ending) o)
+      by-comes (Comes.going_on k logical) = inl (
+        k,
+        λ d ending.
+            passed-after h n.live n.bytes d ending ∙ logical.items d ending ∙ followed-ignored number (chars new.line) (items_to_come new.state d ending) o,
+      )
       by-comes (Comes.at_last k items) =
           inr (k, passed-on h n.live n.bytes end ∙ items ∙ followed-ignored number (chars new.line) [] o, inr (n.ended k))
 
   -- a line could not be read
   pub passed-error : {s t u : ReaderState} {from to next : R} {r : List ℕ} {e : PropertiesError} → Passed reader s from r t to → t.is_done ≡ false
       → JoinsError reader t to e u next → (s.is_done ≡ false) × JoinsError reader s from e u next
-  passed-error {r = r} h g (inl f) = (passed-live h g, inl (record {
-    bytes = r ++ f.bytes;
-    error = f.error;
-    number = f.number;
-    failed = failed-more h.read f.failed;
-    is = f.is;
-    items = passed-on h g f.bytes fault ∙ f.items;
-    lazy = elim h.lazy [ inl e ↦ passed-more h g e.1 f.lazy | inr e ↦ e ];
-  }))
+  passed-error {r = r} h g (inl f) = (
+    passed-live h g,
+    inl (record {
+      bytes = r ++ f.bytes;
+      error = f.error;
+      number = f.number;
+      failed = failed-more h.read f.failed;
+      is = f.is;
+      items = passed-on h g f.bytes fault ∙ f.items;
+      lazy = elim h.lazy [ inl e ↦ passed-more h g e.1 f.lazy | inr e ↦ e ];
+    }),
+  )
   passed-error {r = r} h g (inr (inl f)) =
       (passed-live h g, inr (inl (record { bytes = r ++ f.bytes; read = read-more h.read f.read; passed = f.passed; is = f.is; lazy = passed-lazy h g f.lazy })))
   passed-error {r = r} h g (inr (inr f)) =
@@ -179,15 +187,18 @@ module _ {R : Type 0} {reader : Reader R} where
       → (s.is_done ≡ false) × (GivesMalformed reader s from e next ⊎ JoinsError reader s from e u next)
   passed-no_item {r = r} number new u h n (inr is) =
       (passed-live h n.live, inr (inr (inr (record { bytes = r ++ n.bytes; read = read-more h.read n.read; is = is; lazy = passed-lazy h n.live n.lazy }))))
-  passed-no_item {s} {t} {next = next} {r = r} number new u h n (inl (kind, o, is)) = (passed-live h n.live, inl (record {
-    bytes = r ++ n.bytes;
-    number = number;
-    kind = kind;
-    read = read-more h.read n.read;
-    is = is;
-    breaks = by-comes n.comes;
-    lazy = passed-lazy h n.live n.lazy;
-  }))
+  passed-no_item {s} {t} {next = next} {r = r} number new u h n (inl (kind, o, is)) = (
+    passed-live h n.live,
+    inl (record {
+      bytes = r ++ n.bytes;
+      number = number;
+      kind = kind;
+      read = read-more h.read n.read;
+      is = is;
+      breaks = by-comes n.comes;
+      lazy = passed-lazy h n.live n.lazy;
+    }),
+  )
     where
       by-comes : Comes t n.bytes (numbered_line number new) new.state → BreaksOff s (r ++ n.bytes) (malformed kind number) (reader.at_end next)
       by-comes (Comes.going_on k logical) = BreaksOff.before_all (λ d ending.
@@ -200,11 +211,11 @@ module _ {R : Type 0} {reader : Reader R} where
   passed-none {s} {t} {from = from} {to} {r = r} h d same kept = rw (same, kept) (elim h.items [
     | inl k ↦ let g = k.0 in absurd (cc)
     | inr k ↦ record {
-        bytes = r;
-        read = h.read;
-        items = k.1;
-        done = d;
-        idle = λ e. h.live e;
-        ended = λ f. elim k.2 [ inl e ↦ absurd (cc) | inr e ↦ e ];
-      }
+      bytes = r;
+      read = h.read;
+      items = k.1;
+      done = d;
+      idle = λ e. h.live e;
+      ended = λ f. elim k.2 [ inl e ↦ absurd (cc) | inr e ↦ e ];
+    }
   ])

@@ -1,12 +1,12 @@
 pub mod Windows1252
 pub mod FirstPieces
 pub mod TextFronts
+pub mod ReadAhead
+pub mod DecodeIter
 pub mod Printing
 pub mod Settings
 pub mod Engine
 pub mod Calls
-pub mod OldStreams
-pub mod OldCalls
 pub mod Texts
 pub mod Scanning
 mod InputBuffer

@@ -96,8 +96,8 @@ module _ {R : Type 0} {reader : Reader R} where
       by-comes (Comes.going_on g m) (Gives.going_on k reads) = inl (λ d ending. (
         entry_of line ∷ items_to_come t d ending,
         items-are e ((r ++ n.bytes) ++ d) ending _ (
-          ap (λ v. items_of e v ending) (append_assoc r n.bytes d) ∙ m (n.bytes ++ d) ending ∙ ap (λ v. entries ++ v) (reads.items d ending)
-        ),
+            ap (λ v. items_of e v ending) (append_assoc r n.bytes d) ∙ m (n.bytes ++ d) ending ∙ ap (λ v. entries ++ v) (reads.items d ending)
+            ),
       ))
       by-comes (Comes.going_on g m) (Gives.at_last k items) =
           inr (entry_of line ∷ [], items-are e (r ++ n.bytes) end _ (m n.bytes end ∙ ap (λ v. entries ++ v) items))

@@ -22,7 +22,8 @@ use Rattle.properties_format.proofs.Encodings.WellFormed.{IsUtf8-from_well_forme
 use Rattle.java_properties.specs.Decoding.{IsText}
 
 -- an answer is there exactly where its fact holds
-pub ok-exactly : {X E : Type 0} (A : X → Type 0) (B : E → Type 0) (P : Type 0) (r : Result X E) → MatchResult r (λ x. A x × P) (λ e. ¬ P × B e) → IsSome (result_ok r) ↔ P
+pub ok-exactly : {X E : Type 0} (A : X → Type 0) (B : E → Type 0) (P : Type 0) (r : Result X E)
+    → MatchResult r (λ x. A x × P) (λ e. ¬ P × B e) → IsSome (result_ok r) ↔ P
 ok-exactly A B P (Ok x) h = (λ k. h.1, λ k. refl)
 ok-exactly A B P (Err e) h = (λ k. absurd (cc), λ k. absurd (h.0 k))
 
@@ -47,7 +48,8 @@ passing-front (b ∷ bs) = elim (cases_Bool (is_ascii b)) [
 -- the first of the bytes that are ASCII
 pub front-ascii : (n : ℕ) (bs : List ℕ) → n ≡ length (take_while is_ascii bs) → IsAscii (take n bs)
 front-ascii n bs h =
-    subst IsAscii (sym (ap (λ v. take v bs) h ∙ passing-front bs)) (IsAscii-from_all (take_while is_ascii bs) (All-from_recursion (λ b. b < 0x80) (take_while is_ascii bs) (passing bs)))
+    let front = take_while is_ascii bs in
+    subst IsAscii (sym (ap (λ v. take v bs) h ∙ passing-front bs)) (IsAscii-from_all front (All-from_recursion (λ b. b < 0x80) front (passing bs)))
 
 whole-front : (e : Encoding) (d : List ℕ) → characters (pieces_of e (d ++ [])) ≡ chars d ++ characters (pieces_of e []) → chars d ≡ characters (pieces_of e d)
 whole-front e d h =
@@ -64,7 +66,8 @@ text-decoded utf_16le d h = absurd h
 text-decoded utf_16be d h = absurd h
 
 -- A text or a character that is pushed.
-pub pushed-text : {E : Type 0} (r : Result Unit E) (old new more : List ℕ) → IsUtf8 old → new ≡ (if is_ok r then old ++ more else old) → OnOk r (chars new ≡ chars old ++ chars more)
+pub pushed-text : {E : Type 0} (r : Result Unit E) (old new more : List ℕ)
+    → IsUtf8 old → new ≡ (if is_ok r then old ++ more else old) → OnOk r (chars new ≡ chars old ++ chars more)
 pushed-text (Ok done) old new more u e = ap chars e ∙ chars-append old more u
 pushed-text (Err error) old new more u e = tt
 

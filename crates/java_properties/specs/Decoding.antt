@@ -1,23 +1,22 @@
--- How bytes are decoded: what each part of the decoder gives, and what the iterator over characters is between calls.
-use Rattle.std.specs.Prelude.{◌≡◌, ℕ, ◌≤◌, Bool, true, false, List, length, drop, Option, Some, None, Result, Ok, Err}
+-- What each part of the decoder gives: the byte order mark, the first piece, and text that stands as it is.
+use Rattle.std.specs.Prelude.{◌≡◌, ℕ, ◌≤◌, Bool, true, false, List, length, drop}
 use Rattle.std.specs.Str.{IsAscii}
 use Rattle.std.specs.declared.borrow.CowStr.{CowStr}
 use Rattle.std.specs.declared.borrow.CowStr.TheVariants.{Borrowed, Owned}
 use Rattle.properties_format.specs.Encoding as format
-use Rattle.properties_format.specs.Pieces.{Piece}
+use Rattle.properties_format.specs.Pieces.{Piece, characters}
 use Rattle.properties_format.specs.Utf8.{Range, from_to, IsWellFormedText}
 use Rattle.properties_format.specs.Utf16.{low_first, high_first}
-use Rattle.properties_format.specs.Reading.Encoding.{first_piece}
+use Rattle.properties_format.specs.Reading.Encoding.{first_piece, pieces_of}
 use Rattle.properties_format.specs.Reading.Waiting.{awaits_bom, awaits_more}
 use Rattle.java_properties.specs.Encoding.{encoding_of}
-use Rattle.java_properties.specs.OldStreams.{HasRead, HasFailed}
+use Rattle.java_properties.specs.declared.encoding.Encoding.{Encoding}
 use Rattle.java_properties.specs.declared.encoding.byte_order_mark.ByteOrderMark.{ByteOrderMark}
 use Rattle.java_properties.specs.declared.encoding.byte_order_mark.ByteOrderMark.TheVariants.{Present, Absent, Undecided}
 use Rattle.java_properties.specs.declared.encoding.first_piece.FirstPiece.{FirstPiece}
 use Rattle.java_properties.specs.declared.encoding.utf_8.ByteRange.{ByteRange}
 use Rattle.java_properties.specs.declared.encoding.utf_16.ByteOrder.{ByteOrder}
 use Rattle.java_properties.specs.declared.encoding.utf_16.ByteOrder.TheVariants.{LowFirst, HighFirst}
-use Rattle.java_properties.specs.declared.encoding.decode.DecodeIter.{DecodeIter}
 
 -- ---- The byte order mark.
 
@@ -56,6 +55,10 @@ IsFirstPiece e b d shown = ShowsPiece (first_piece e b d) (awaits_more e b d) sh
 
 -- ---- Text.
 
+-- the characters of some bytes by themselves
+abbrev pub text_of : Encoding → List ℕ → List ℕ
+text_of encoding d = characters (pieces_of (encoding_of encoding) d)
+
 -- The bytes are text as they stand, in UTF-8: they are ASCII, or well-formed from the first to the last. In UTF-16 none are.
 abbrev pub IsText : format.Encoding → List ℕ → Type 0
 IsText format.windows_1252 d = IsAscii d
@@ -67,19 +70,3 @@ IsText format.utf_16be d = ⊥
 abbrev pub IsBorrowed : {Z : Type 0} → CowStr Z → Type 0
 IsBorrowed (Borrowed text) = Unit {0}
 IsBorrowed (Owned text) = ⊥
-
--- ---- The iterator over characters.
-
-abbrev pub decoded_reader : {R : Type 0} → DecodeIter R → R
-decoded_reader it = it.reader
-
--- whether it is at its end
-abbrev pub decoded_all : {R : Type 0} → DecodeIter R → Bool
-decoded_all it = it.done
-
-abbrev pub DecodesNext : {R E : Type 0} → (R → Option (List ℕ)) → (R → Bool) → (R → ℕ) → Bool → R → Option (Result ℕ E) → Bool → R → Type 0
-DecodesNext rem at_end faults true from None t to = (t ≡ true) × (to ≡ from)
-DecodesNext rem at_end faults true from (Some answer) t to = ⊥
-DecodesNext rem at_end faults false from None t to = (t ≡ true) × HasRead rem faults from to × (at_end to ≡ true)
-DecodesNext rem at_end faults false from (Some (Ok c)) t to = (t ≡ false) × HasRead rem faults from to
-DecodesNext rem at_end faults false from (Some (Err e)) t to = (t ≡ true) × HasFailed rem faults from to

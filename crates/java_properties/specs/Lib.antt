@@ -5,11 +5,9 @@ pub mod Printing
 pub mod PropertiesWriter
 pub mod Engine
 pub mod Calls
-pub mod OldStreams
 pub mod Decoding
-pub mod Reading
-pub mod Cutting
-pub mod Iterating
+pub mod ReadAhead
+pub mod DecodeIter
 pub mod Parsing
 pub mod Escaping
 pub mod Line

@@ -6,13 +6,15 @@ ghost use Rattle.java_properties.specs.Encoding.{encoding_of};
 
 pub mod byte_order_mark;
 pub mod decode;
+mod decode_iter;
 mod encode;
 mod first_piece;
+mod read_ahead;
 mod utf_16;
 mod utf_8;
 mod windows_1252;
 
-pub use decode::{DecodeIter, Decoder};
+pub use decode_iter::DecodeIter;
 pub use encode::{OutputEncoding, push_encoded};
 
 /// The encodings of properties files, by the names of the WHATWG Encoding Standard.

@@ -11,8 +11,6 @@ ghost use Rattle.java_properties.specs.PropertiesIter.{Reading, NextGives};
 mod items;
 mod whole;
 
-pub use whole::{Stopped, read_lines};
-
 use crate::encoding::Encoding;
 use crate::error::PropertiesError;
 use crate::iter::items::ItemReader;
@@ -20,6 +18,7 @@ use crate::line::Line;
 use counted_io::CountedRead;
 use std::alloc::Global;
 use std::marker::Model;
+pub use whole::{Stopped, read_lines};
 
 /// The comments and the pairs of a file, in order, each under the number of its line.
 ///

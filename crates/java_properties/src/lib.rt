@@ -24,7 +24,6 @@ mod iter;
 mod line;
 mod lines;
 mod parse;
-mod window;
 mod writer;
 
 pub use encoding::Encoding;

@@ -1,6 +1,8 @@
 // Natural lines: those that a line end ends, and the last one.
 
-ghost use Rattle.std.specs.Prelude.{◌≡◌};
+ghost use Rattle.std.specs.Prelude.{◌≡◌, IfOk, string_bytes};
+ghost use Rattle.std.specs.Str.{chars};
+ghost use Rattle.java_properties.specs.LineJoiner.{line_text};
 ghost use Rattle.std.specs.Iterator.{at_most};
 ghost use Rattle.properties_format.specs.ItemsToCome.{start};
 ghost use Rattle.java_properties.specs.Encoding.{encoding_of};
@@ -76,7 +78,9 @@ impl<R: CountedRead> Iterator for NaturalLines<R> {
 }
 
 // The text of the line that was found.
-fn line_text(alloc: Global, finder: &LineFinder) -> Result<String, AllocError> {
+fn line_text(alloc: Global, finder: &LineFinder) -> Result<String, AllocError>
+    ensures { IfOk result (λ text. chars (string_bytes text) ≡ line_text finder.now) }
+{
     match decode_line(alloc, finder.encoding(), finder.line())? {
         CowStr::Borrowed(text) => String::from_str(alloc, text),
         CowStr::Owned(text) => Ok(text),

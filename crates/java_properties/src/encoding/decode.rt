@@ -1,23 +1,17 @@
 // Bytes to characters.
 
-ghost use Rattle.std.specs.Prelude.{◌≡◌, [], ◌∷◌, OnOk, ◌≤◌, ◌++◌, ◌↔◌, false, length, IfOk, IfSome, IsSome};
+ghost use Rattle.std.specs.Prelude.{◌≡◌, [], ◌∷◌, OnOk, ◌≤◌, ◌++◌, ◌↔◌, length, IfOk, IfSome, IsSome};
 ghost use Rattle.std.specs.Str.{chars};
 ghost use Rattle.std.specs.String.{string_bytes};
 ghost use Rattle.std.specs.Cow.{cow_str_bytes};
-ghost use Rattle.properties_format.specs.Pieces.{characters};
-ghost use Rattle.properties_format.specs.Reading.Encoding.{pieces_of};
 ghost use Rattle.java_properties.specs.Encoding.{encoding_of};
-ghost use Rattle.java_properties.specs.OldStreams.{TakesChar};
-ghost use Rattle.java_properties.specs.Decoding.{decoded_reader, decoded_all, DecodesNext, IsBorrowed, IsText};
+ghost use Rattle.java_properties.specs.Decoding.{IsBorrowed, IsText, text_of};
 
 use super::first_piece::first_piece;
 use super::windows_1252::{self, character_of};
 use super::{Encoding, utf_8};
-use crate::window::Window;
-use counted_io::CountedRead;
 use std::alloc::{AllocError, Global};
 use std::borrow::CowStr;
-use std::io;
 
 /// The text of some bytes by themselves, as of one line. It is lent where the bytes are that text already.
 pub fn decode_line(
@@ -25,7 +19,7 @@ pub fn decode_line(
     encoding: Encoding,
     bytes: &[u8],
 ) -> Result<CowStr<'_>, AllocError>
-    ensures characters { IfOk result (λ text. chars (cow_str_bytes text) ≡ characters (pieces_of (encoding_of encoding) bytes.now)) }
+    ensures text { IfOk result (λ text. chars (cow_str_bytes text) ≡ text_of encoding bytes.now) }
     ensures lent { IfOk result (λ text. IsBorrowed text ↔ IsText (encoding_of encoding) bytes.now) }
     ensures same { IfOk result (λ text. IsBorrowed text → cow_str_bytes text ≡ bytes.now) }
 {
@@ -49,7 +43,7 @@ fn as_text(encoding: Encoding, bytes: &[u8]) -> Option<&str>
 
 // The text of some bytes: what stands as text at the front, one piece, and so on.
 fn decode(alloc: Global, encoding: Encoding, bytes: &[u8]) -> Result<String, AllocError>
-    ensures { IfOk result (λ text. chars (string_bytes text) ≡ characters (pieces_of (encoding_of encoding) bytes.now)) }
+    ensures { IfOk result (λ text. chars (string_bytes text) ≡ text_of encoding bytes.now) }
 {
     let mut text = String::with_capacity(alloc, bytes.len())?;
     let mut rest = bytes;
@@ -65,89 +59,29 @@ fn decode(alloc: Global, encoding: Encoding, bytes: &[u8]) -> Result<String, All
     }
 }
 
+/// Appends a text.
 pub fn push_text(text: &mut String, more: &str) -> Result<(), AllocError>
-    ensures { OnOk result (chars (string_bytes text.new) ≡ chars (string_bytes text.old) ++ chars more.now) }
+    ensures { OnOk result
+        (chars (string_bytes text.new) ≡ chars (string_bytes text.old) ++ chars more.now) }
 {
     text.push_str(more)
 }
 
 fn push_character(text: &mut String, character: char) -> Result<(), AllocError>
-    ensures { OnOk result (chars (string_bytes text.new) ≡ chars (string_bytes text.old) ++ character ∷ []) }
+    ensures { OnOk result
+        (chars (string_bytes text.new) ≡ chars (string_bytes text.old) ++ character ∷ []) }
 {
     text.push(character)
 }
 
 // What stands as text at the front, and what is after it.
 fn text_front(encoding: Encoding, bytes: &[u8]) -> (&str, &[u8])
-    ensures characters { characters (pieces_of (encoding_of encoding) bytes.now)
-        ≡ chars result.0.now ++ characters (pieces_of (encoding_of encoding) result.1.now) }
+    ensures text { text_of encoding bytes.now ≡ chars result.0.now ++ text_of encoding result.1.now }
     ensures within { length result.1.now ≤ length bytes.now }
 {
     match encoding {
         Encoding::WINDOWS_1252 => windows_1252::text_front(bytes),
         Encoding::UTF_8 => utf_8::text_front(bytes),
         Encoding::UTF_16LE | Encoding::UTF_16BE => ("", bytes),
-    }
-}
-
-/// What is held between characters. It is passed its reader at each call, and takes its memory when it is made.
-#[derive(Drop)]
-pub struct Decoder {
-    window: Window,
-}
-
-impl Decoder {
-    /// At the start of a text.
-    pub fn new(alloc: Global) -> Result<Decoder, AllocError> {
-        let window = Window::new(alloc)?;
-        Ok(Decoder { window })
-    }
-
-    /// The next character, or `None` where a read gave no bytes.
-    pub fn next_char<R: CountedRead>(&mut self, reader: &mut R) -> io::Result<Option<char>>
-        ensures takes { TakesChar R.remaining R.at_end R.faults reader.old result reader.new }
-        ensures same_reference { R.identity reader.new ≡ R.identity reader.old }
-    {
-        match self.window.next_byte(reader)? {
-            Some(byte) => Ok(Some(character_of(byte))),
-            None => Ok(None),
-        }
-    }
-}
-
-/// The characters of a reader. After the end or a fault there are none, and nothing is read.
-#[derive(Drop)]
-pub struct DecodeIter<R> {
-    reader: R,
-    decoder: Decoder,
-    done: bool,
-}
-
-impl<R: CountedRead> DecodeIter<R> {
-    /// At the start of a reader, of which nothing is read yet.
-    pub fn new(alloc: Global, reader: R) -> Result<DecodeIter<R>, AllocError>
-        ensures { IfOk result (λ it. (decoded_reader it ≡ reader) × (decoded_all it ≡ false)) }
-    {
-        let decoder = Decoder::new(alloc)?;
-        Ok(DecodeIter {
-            reader,
-            decoder,
-            done: false,
-        })
-    }
-}
-
-impl<R: CountedRead> Iterator for DecodeIter<R> {
-    type Item = Result<char, io::Error>;
-
-    ghost next_gives = { λ a answer b. DecodesNext R.remaining R.at_end R.faults (decoded_all a) (decoded_reader a) answer (decoded_all b) (decoded_reader b) };
-
-    fn next(&mut self) -> Option<Result<char, io::Error>> {
-        if self.done {
-            return None;
-        }
-        let answer = self.decoder.next_char(&mut self.reader).transpose();
-        self.done = !matches!(&answer, Some(Ok(_)));
-        answer
     }
 }

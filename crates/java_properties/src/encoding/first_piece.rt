@@ -35,7 +35,8 @@ impl FirstPiece {
 
     /// So many bytes that stand for no character of their own.
     pub fn broken(length: usize, may_change: bool) -> FirstPiece
-        ensures { result ≡ record { character = replacement; length = length; may_change = may_change } }
+        ensures { result ≡
+            record { character = replacement; length = length; may_change = may_change } }
     {
         FirstPiece {
             character: char::REPLACEMENT_CHARACTER,

@@ -1,10 +1,12 @@
 // Characters of bytes.
 
+ghost use Rattle.std.specs.Prelude.{◌<◌};
+
 use super::byte_order_mark::{ByteOrderMark, byte_order_mark};
 use super::decode::decode_line;
 use super::first_piece::first_piece;
 use super::*;
-use counted_io::{ScriptedReader, Tail};
+use counted_io::{CountedRead, ScriptedReader, Tail};
 use std::alloc::{AllocError, Global};
 use std::borrow::CowStr;
 use std::io;
@@ -114,13 +116,70 @@ fn tells_which_pieces_may_change(rt: HostRuntime) {
     }
 }
 
+fn cut(alloc: Global, bytes: &[u8], size: usize) -> Result<Vec<Vec<u8>>, AllocError>
+    requires { 0 < size }
+{
+    let mut pieces = Vec::new(alloc);
+    for piece in bytes.chunks(size) {
+        pieces.push(Vec::from_slice(alloc, piece)?)?;
+    }
+    Ok(pieces)
+}
+
+// Whether the iterator gives this text.
+fn gives<R: CountedRead>(characters: &mut DecodeIter<R>, text: &str) -> bool {
+    for wanted in text.chars() {
+        let Some(Ok(character)) = characters.next() else {
+            return false;
+        };
+        if character != wanted {
+            return false;
+        }
+    }
+    true
+}
+
 #[test]
-fn ends_at_a_fault(rt: HostRuntime) -> Result<(), Fail> {
-    let pieces = vec![in rt.alloc(); vec![in rt.alloc(); b'a']?]?;
-    let reader = ScriptedReader::new(pieces, Tail::Fault(io::ErrorKind::Other));
-    let mut characters = DecodeIter::new(rt.alloc(), reader)?;
-    assert!(rt; matches!(characters.next(), Some(Ok('a'))));
-    assert!(rt; matches!(characters.next(), Some(Err(_))));
+fn decodes_in_any_pieces(rt: HostRuntime) -> Result<(), Fail> {
+    for (asked, bytes, text) in &ROWS {
+        for size in [1, 2, 3, 100] {
+            let pieces = cut(rt.alloc(), bytes, size)?;
+            let reader = ScriptedReader::new(pieces, Tail::End);
+            let mut characters = DecodeIter::new(rt.alloc(), reader, *asked)?;
+            assert!(rt; gives(&mut characters, text));
+            assert!(rt; characters.next().is_none());
+            assert!(rt; characters.next().is_none());
+        }
+    }
+    Ok(())
+}
+
+#[test]
+fn gives_a_fault_after_the_characters(rt: HostRuntime) -> Result<(), Fail> {
+    for (asked, bytes, text) in &ROWS {
+        for size in [1, 2, 3, 100] {
+            let pieces = cut(rt.alloc(), bytes, size)?;
+            let reader = ScriptedReader::new(pieces, Tail::Fault(io::ErrorKind::Other));
+            let mut characters = DecodeIter::new(rt.alloc(), reader, *asked)?;
+            assert!(rt; gives(&mut characters, text));
+            assert!(rt; matches!(characters.next(), Some(Err(_))));
+            assert!(rt; characters.next().is_none());
+        }
+    }
+    Ok(())
+}
+
+// A text longer than the buffer, with a character at its seam.
+#[test]
+fn decodes_past_its_buffer(rt: HostRuntime) -> Result<(), Fail> {
+    let mut text = String::new(rt.alloc());
+    for _ in 0..8190 {
+        text.push('a')?;
+    }
+    text.push_str("\u{1f41e}z")?;
+    let mut input: &[u8] = text.as_bytes();
+    let mut characters = DecodeIter::new(rt.alloc(), &mut input, Encoding::UTF_8)?;
+    assert!(rt; gives(&mut characters, &text));
     assert!(rt; characters.next().is_none());
     Ok(())
 }

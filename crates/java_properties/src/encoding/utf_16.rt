@@ -29,7 +29,8 @@ impl ByteOrder {
 
 /// The first piece of a first byte and those after it.
 pub fn first_piece(order: ByteOrder, first: u8, rest: &[u8]) -> FirstPiece
-    ensures { ShowsPiece (first_utf_16_piece (unit_of order) first rest.now) (awaits_unit (unit_of order) first rest.now) result }
+    ensures { let unit = unit_of order in
+        ShowsPiece (first_utf_16_piece unit first rest.now) (awaits_unit unit first rest.now) result }
 {
     let Some((&second, after)) = rest.split_first() else {
         return FirstPiece::broken(1, true);
@@ -45,8 +46,8 @@ pub fn first_piece(order: ByteOrder, first: u8, rest: &[u8]) -> FirstPiece
 // The piece of a high unit and what is after it.
 fn high_piece(order: ByteOrder, high: u16, after: &[u8]) -> FirstPiece
     requires { is_high high ≡ true }
-    ensures { (a b : ℕ) → unit_of order a b ≡ high
-        → ShowsPiece (high_piece (unit_of order) a b after.now) (awaits_unit (unit_of order) a (b ∷ after.now)) result }
+    ensures { (a b : ℕ) → let unit = unit_of order in unit a b ≡ high
+        → ShowsPiece (high_piece unit a b after.now) (awaits_unit unit a (b ∷ after.now)) result }
 {
     match after {
         [] => FirstPiece::broken(2, true),

@@ -3,9 +3,9 @@
 ghost use Rattle.std.specs.Prelude.{◌≡◌, ◌++◌, ◌+◌, ◌*◌, ◌%◌, ◌^◌, ◌<◌, ◌≤◌, ◌∷◌, map, length, Some, None, IsSome, IfSome, ◌↔◌, MatchOption};
 ghost use Rattle.std.specs.Str.{IsUtf8};
 ghost use Rattle.properties_format.specs.Utf8.{well_formed_rows, sequence_character, IsWellFormedText};
-ghost use Rattle.properties_format.specs.Reading.Utf8.{is_in, ranges_after, fitting, first_utf_8_piece};
-ghost use Rattle.properties_format.specs.Reading.Waiting.{awaits_byte};
-ghost use Rattle.java_properties.specs.Decoding.{ShowsPiece, range_of};
+ghost use Rattle.properties_format.specs.Reading.Utf8.{is_in, ranges_after, fitting};
+ghost use Rattle.properties_format.specs.Encoding.{utf_8};
+ghost use Rattle.java_properties.specs.Decoding.{IsFirstPiece, range_of};
 
 use super::first_piece::FirstPiece;
 
@@ -95,7 +95,7 @@ fn with_tail(bits: u32, tail: u8) -> u32
 
 /// The first piece of a first byte and those after it.
 pub fn first_piece(first: u8, rest: &[u8]) -> FirstPiece
-    ensures { ShowsPiece (first_utf_8_piece first rest.now) (awaits_byte (ranges_after well_formed_rows first) rest.now) result }
+    ensures { IsFirstPiece utf_8 first rest.now result }
 {
     let Some(ranges) = ranges_after(first) else {
         return FirstPiece::broken(1, false);

@@ -44,7 +44,8 @@ pub record IsWholeFirst (b : ℕ) (d : List ℕ) (n : ℕ) : Type 0 where
 fitted-row : (rs : List Range) (d : List ℕ) → length (fitting rs d) ≡ length rs → FitsRow rs (fitting rs d)
 fitted-row rs d h = elim ((fitting-fits rs d).2) [ inl k ↦ k | inr k ↦ absurd (let l = k.0 in omega arith) ]
 
-pub first_utf_8_piece-whole : (b : ℕ) (rs : List Range) (d : List ℕ) (n : ℕ) → ranges_after well_formed_rows b ≡ Some rs → n ≡ length (fitting rs d) → n ≡ length rs → IsWholeFirst b d n
+pub first_utf_8_piece-whole : (b : ℕ) (rs : List Range) (d : List ℕ) (n : ℕ)
+    → ranges_after well_formed_rows b ≡ Some rs → n ≡ length (fitting rs d) → n ≡ length rs → IsWholeFirst b d n
 first_utf_8_piece-whole b rs d n e h k =
     let t : take n d ≡ fitting rs d = ap (λ v. take v d) h ∙ fitting-take rs d in
     let l : length (fitting rs d) ≡ length rs = sym h ∙ k in
@@ -64,7 +65,8 @@ pub record IsBrokenFirst (b : ℕ) (d : List ℕ) (n : ℕ) : Type 0 where
   pub bytes : length (first_utf_8_piece b d).bytes ≡ suc n
   pub waits : awaits_byte (ranges_after well_formed_rows b) d ≡ (n == length d)
 
-pub first_utf_8_piece-broken : (b : ℕ) (rs : List Range) (d : List ℕ) (n : ℕ) → ranges_after well_formed_rows b ≡ Some rs → n ≡ length (fitting rs d) → n ≢ length rs → IsBrokenFirst b d n
+pub first_utf_8_piece-broken : (b : ℕ) (rs : List Range) (d : List ℕ) (n : ℕ)
+    → ranges_after well_formed_rows b ≡ Some rs → n ≡ length (fitting rs d) → n ≢ length rs → IsBrokenFirst b d n
 first_utf_8_piece-broken b rs d n e h k =
     let l : length (fitting rs d) ≢ length rs = λ q. k (h ∙ q) in
     record {

@@ -14,7 +14,7 @@ loop-text-init c =
 
 pub returns-in_default : goal.returns-in_default
 returns-in_default c =
-    c.in_ok-push_text.ensures ∙ decoded-all _ _ _ _ _ _ c.loop-text.invariant c.text_front.ensures.characters c.in_default.ensures.cases
+    c.in_ok-push_text.ensures ∙ decoded-all _ _ _ _ _ _ c.loop-text.invariant c.text_front.ensures.text c.in_default.ensures.cases
 
 pub loop-text-preserved : goal.loop-text-preserved
 loop-text-preserved c =
@@ -24,4 +24,5 @@ loop-text-preserved c =
     let pushed = c.in_ok-push_character.ensures ∙ ap (λ v. v ++ piece.character ∷ []) c.in_ok-push_text.ensures in
     let whole : c.text_front.result.1.now ≡ c.in-Some.first.now ∷ c.in-Some.others.now = search (rules, c.in-Some.ensures.cases) in
     rw (taken-rest, pushed)
-    (decoded-more _ _ _ _ _ _ c.loop-text.invariant c.text_front.ensures.characters c.in-Some.first.now c.in-Some.others.now piece.character piece.length whole shown.character_is shown.length_is)
+    (decoded-more _ _ _ _ _ _ c.loop-text.invariant c.text_front.ensures.text
+    c.in-Some.first.now c.in-Some.others.now piece.character piece.length whole shown.character_is shown.length_is)

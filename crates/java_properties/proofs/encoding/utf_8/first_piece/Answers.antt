@@ -15,7 +15,8 @@ pub returns-then-fitting-ranges : goal.returns-then-fitting-ranges
 returns-then-fitting-ranges c =
     let fitting = c.fitting_length-fitting in
     let all = c.if-fitting-ranges.true ∙ sym (length-map c.in-Some.ranges.now range_of) in
-    shows-whole c.args.first _ c.args.rest.now fitting.result c.in-Some.ensures fitting.ensures.value c.whole.result all (rw (← c.sequence_character.ensures) c.whole.ensures)
+    shows-whole c.args.first _ c.args.rest.now fitting.result c.in-Some.ensures fitting.ensures.value c.whole.result all
+    (rw (← c.sequence_character.ensures) c.whole.ensures)
 
 pub returns-else-fitting-ranges : goal.returns-else-fitting-ranges
 returns-else-fitting-ranges c =
