@@ -11,3 +11,4 @@ pub mod LineTexts
 pub mod Making
 mod InputBuffer
 pub mod LineFinder
+pub mod Joining

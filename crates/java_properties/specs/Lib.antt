@@ -3,6 +3,7 @@ pub mod Streams
 pub mod Decoding
 pub mod Reading
 pub mod Cutting
+pub mod Joining
 pub mod Iterating
 pub mod Lines
 pub mod Parsing

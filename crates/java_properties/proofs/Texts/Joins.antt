@@ -2,7 +2,7 @@
 use Rattle.std.proofs.Common.{◌≡◌, ℕ, zero, suc, ◌<◌, ◌≤◌, ◌+◌, ◌-◌, ◌==◌, true, false, List, [], ◌∷◌, ◌++◌, length, take, drop, get_or, refl, ap, sym, ◌∙◌, subst, inl, inr, append-nil, length-append, arith}
 use Rattle.std.specs.Prelude.{replicate, reverse, take_while, ◌%◌}
 use Rattle.std.specs.List.{prefix_len}
-use Rattle.std.proofs.Math.Seq.{take-append_seam}
+use Rattle.std.proofs.Math.Seq.{take-append_seam, get_or-append_seam}
 use lib.Utf8.{encode, encodes, scalars}
 use Rattle.std.specs.Str.{IsUtf8, IsCharBoundary, chars}
 use Rattle.std.proofs.lemmas.Str.{encodes-chars, encodes-append, IsCharBoundary-from_take}
@@ -143,6 +143,7 @@ without_open_backslash-open x h = rw h refl
 -- An open text may be cut before its last byte, which leaves it without its open backslash.
 pub record IsCutOpen (bs : List ℕ) : Type 0 where
   pub some : 1 ≤ length bs
+  pub last : get_or bs (length bs - 1) 0 ≡ backslash
   pub boundary : IsCharBoundary bs (length bs - 1)
   pub rest : chars (take (length bs - 1) bs) ≡ without_open_backslash (chars bs)
 
@@ -151,14 +152,26 @@ cut_open bs u h =
     let open_bytes : is_open bs ≡ true = ap (λ n. n % 2 == 1) (sym (ending_backslashes-text bs u)) ∙ h in
     let whole = open-ends bs open_bytes in
     let size : length bs ≡ length (without_last bs) + 1 = ap length whole ∙ length-append (without_last bs) (backslash ∷ []) in
+    let before : length bs - 1 ≡ length (without_last bs) = omega arith in
     let front : take (length bs - 1) bs ≡ without_open_backslash bs =
-    ap (λ n. take n bs) (let n : length bs - 1 ≡ length (without_last bs) = omega arith in n)
+    ap (λ n. take n bs) before
     ∙ ap (take (length (without_last bs))) whole
     ∙ take-append_seam (without_last bs) (backslash ∷ [])
     ∙ sym (without_open_backslash-open bs open_bytes) in
     let part = without_open_backslash-part bs u in
     record {
       some = omega arith;
+      last = ap (λ n. get_or bs n 0) before ∙ ap (λ v. get_or v (length (without_last bs)) 0) whole ∙ get_or-append_seam (without_last bs) backslash [] 0;
       boundary = IsCharBoundary-from_take bs (length bs - 1) u (omega arith) (subst IsUtf8 (sym front) part.utf8);
       rest = ap chars front ∙ part.same;
     }
+
+-- what is left where the last character of an open text was taken off
+pub popped : (bs rest : List ℕ) (n : ℕ) → IsUtf8 bs → is_open (chars bs) ≡ true → n ≡ length bs
+    → (0 < n → get_or bs (n - 1) 0 < 128 → rest ≡ take (n - 1) bs) → chars rest ≡ without_open_backslash (chars bs)
+popped bs rest n u h e taken =
+    let cut = cut_open bs u h in
+    let same : n - 1 ≡ length bs - 1 = ap (λ m. m - 1) e in
+    let some : 0 < n = omega (arith, cut.some) in
+    let ascii : get_or bs (n - 1) 0 < 128 = subst (λ m. get_or bs m 0 < 128) (sym same) (subst (λ c. c < 128) (sym cut.last) (omega arith)) in
+    ap chars (taken some ascii ∙ ap (λ m. take m bs) same) ∙ cut.rest
