@@ -12,3 +12,4 @@ pub mod Making
 mod InputBuffer
 pub mod LineFinder
 pub mod Joining
+pub mod JoinedRuns

@@ -1,10 +1,11 @@
 -- What a contract sees of logical lines, which are joined of what an iterator over natural lines gives.
 use Rattle.std.specs.Prelude.{◌≡◌, ◌⊎◌, true, false, List, ◌∷◌, map, Option, Some, None, Result, Ok, Err}
-use Rattle.std.specs.Iterator.{Yields, YieldsThen}
+use Rattle.std.specs.Iterator.{Yields, YieldsThen, Drains}
 use Rattle.std.specs.Str.{chars}
 use Rattle.std.specs.String.{string_bytes}
-use Rattle.properties_format.specs.Lines.{Line}
+use Rattle.properties_format.specs.Lines.{Line, end, fault}
 use Rattle.properties_format.specs.Groups.{IsWhole, IsUnfinished, joined}
+use Rattle.properties_format.specs.Reading.Logical.{logical_lines}
 use Rattle.java_properties.specs.Errors.{IsPlain}
 use Rattle.java_properties.specs.declared.error.ErrorKind.TheVariants as kind
 use Rattle.java_properties.specs.declared.error.PropertiesError.{PropertiesError}
@@ -33,15 +34,19 @@ GivesLines steps from lines to = Yields steps from (map Ok lines) to
 abbrev pub GivesThen : {I : Type 0} → Steps I → I → List NaturalLine → Option (Result NaturalLine PropertiesError) → I → Type 0
 GivesThen steps from lines answer to = YieldsThen steps from (map Ok lines) answer to
 
--- The line is a group of natural lines, joined, under the number of the first: a whole one, or one that stands open at their end.
+-- How a group ends: it is whole, or the natural lines end where it stands open.
+abbrev pub EndsGroup : {I : Type 0} → Steps I → I → List NaturalLine → LogicalLines I → Type 0
+EndsGroup steps from group to =
+    ((to.is_done ≡ false) × IsWhole (natural_lines group) × GivesLines steps from group to.lines)
+    ⊎ ((to.is_done ≡ true) × IsUnfinished (natural_lines group) × GivesThen steps from group None to.lines)
+
+-- The line is a group of natural lines, joined, under the number of the first.
 pub record TakesGroup {I : Type 0} (steps : Steps I) (from : I) (line : LogicalLine) (to : LogicalLines I) : Type 0 where
   pub first : NaturalLine
   pub others : List NaturalLine
   pub number : line.0 ≡ first.0
   pub text : chars (string_bytes line.1) ≡ joined (natural_lines (first ∷ others))
-  pub ends :
-      ((to.is_done ≡ false) × IsWhole (natural_lines (first ∷ others)) × GivesLines steps from (first ∷ others) to.lines)
-      ⊎ ((to.is_done ≡ true) × IsUnfinished (natural_lines (first ∷ others)) × GivesThen steps from (first ∷ others) None to.lines)
+  pub ends : EndsGroup steps from (first ∷ others) to
 
 -- The error came after lines of a group that stands open, which are lost.
 pub record TakesError {I : Type 0} (steps : Steps I) (from : I) (error : PropertiesError) (to : I) : Type 0 where
@@ -65,3 +70,29 @@ abbrev pub GivesNext : {I : Type 0} → Steps I → LogicalLines I → Option (R
 GivesNext steps from None to =
     (to.is_done ≡ true) × (((from.is_done ≡ true) × (to.lines ≡ from.lines)) ⊎ ((from.is_done ≡ false) × steps from.lines None to.lines))
 GivesNext steps from (Some answer) to = (from.is_done ≡ false) × TakesNext steps from.lines answer to
+
+-- ---- all that is given
+
+-- All lines up to the end are the logical lines of the natural lines up to their end.
+pub record JoinsToEnd {I : Type 0} (steps : Steps I) (from : I) (given : List LogicalLine) : Type 0 where
+  pub lines : List NaturalLine
+  pub drained : Drains steps from (map Ok lines)
+  pub joins : map logical_line given ≡ logical_lines (natural_lines lines) end
+
+-- All lines up to an error are the logical lines of the natural lines up to that error, as where a read fails.
+pub record JoinsToError {I : Type 0} (steps : Steps I) (from : I) (given : List LogicalLine) (error : PropertiesError) (to : I) : Type 0 where
+  pub lines : List NaturalLine
+  pub given_lines : GivesThen steps from lines (Some (Err error)) to
+  pub joins : map logical_line given ≡ logical_lines (natural_lines lines) fault
+
+-- up to the end, or up to an error, unless there was no memory
+abbrev pub JoinsUpTo : {I : Type 0} → Steps I → I → List LogicalLine → Option (Result LogicalLine PropertiesError) → I → Type 0
+JoinsUpTo steps from given None to = JoinsToEnd steps from given
+JoinsUpTo steps from given (Some (Ok line)) to = Unit {0}
+JoinsUpTo steps from given (Some (Err error)) to = JoinsToError steps from given error to ⊎ IsPlain kind.Memory error
+
+-- So it is whenever its calls give these lines and then the end, or an error.
+abbrev pub JoinsAll : {I : Type 0} → Steps I → LogicalLines I → Type 0
+JoinsAll {I} steps from =
+    (given : List LogicalLine) (answer : Option (Result LogicalLine PropertiesError)) (to : LogicalLines I)
+    → YieldsThen (GivesNext steps) from (map Ok given) answer to → JoinsUpTo steps from.lines given answer to.lines

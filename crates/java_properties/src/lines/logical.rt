@@ -2,7 +2,7 @@
 
 ghost use Rattle.std.specs.Prelude.{◌≡◌, ◌≤◌, true, false, Some, Ok};
 ghost use Rattle.std.specs.Iterator.{count_unless, size, IsFinite};
-ghost use Rattle.java_properties.specs.Joining.{GivesNext, TakesNext};
+ghost use Rattle.java_properties.specs.Joining.{GivesNext, JoinsAll, TakesNext};
 
 use crate::error::PropertiesError;
 use crate::lines::NaturalLine;
@@ -21,7 +21,8 @@ pub struct LogicalLines<I> {
 
 impl<I: Iterator<Item = Result<NaturalLine, PropertiesError>>> LogicalLines<I> {
     pub fn new(lines: I) -> LogicalLines<I>
-        ensures { result ≡ record { lines = lines; is_done = false } }
+        ensures start { result ≡ record { lines = lines; is_done = false } }
+        ensures joins { JoinsAll I.next_gives result }
     {
         LogicalLines {
             lines,
