@@ -1,8 +1,9 @@
 -- How bytes are decoded: what each part of the decoder gives, and what the iterator over characters is between calls.
 use Rattle.std.specs.Prelude.{◌≡◌, ℕ, ◌≤◌, Bool, true, false, List, length, drop, Option, Some, None, Result, Ok, Err}
+use Rattle.std.specs.Str.{IsAscii}
 use Rattle.properties_format.specs.Encoding as format
 use Rattle.properties_format.specs.Pieces.{Piece}
-use Rattle.properties_format.specs.Utf8.{Range, from_to}
+use Rattle.properties_format.specs.Utf8.{Range, from_to, IsWellFormedText}
 use Rattle.properties_format.specs.Utf16.{low_first, high_first}
 use Rattle.properties_format.specs.Reading.Encoding.{first_piece}
 use Rattle.properties_format.specs.Reading.Waiting.{awaits_bom, awaits_more}
@@ -39,7 +40,7 @@ unit_of LowFirst = low_first
 unit_of HighFirst = high_first
 
 abbrev pub range_of : ByteRange → Range
-range_of r = from_to r.least r.most
+range_of r = from_to r.0 r.1
 
 -- this piece is shown, and whether bytes that come may change it
 pub record ShowsPiece (p : Piece) (waits : Bool) (shown : FirstPiece) : Type 0 where
@@ -50,6 +51,15 @@ pub record ShowsPiece (p : Piece) (waits : Bool) (shown : FirstPiece) : Type 0 w
 -- the first piece of a first byte and those after it is shown
 abbrev pub IsFirstPiece : format.Encoding → ℕ → List ℕ → FirstPiece → Type 0
 IsFirstPiece e b d shown = ShowsPiece (first_piece e b d) (awaits_more e b d) shown
+
+-- ---- Text.
+
+-- The bytes are text as they stand, in UTF-8: they are ASCII, or well-formed from the first to the last. In UTF-16 none are.
+abbrev pub IsText : format.Encoding → List ℕ → Type 0
+IsText format.windows_1252 d = IsAscii d
+IsText format.utf_8 d = IsWellFormedText d
+IsText format.utf_16le d = ⊥
+IsText format.utf_16be d = ⊥
 
 -- ---- The iterator over characters.
 

@@ -16,3 +16,4 @@ pub mod Calls
 pub mod InputBuffer
 pub mod LineSearch
 pub mod LineFinder
+pub mod LineJoiner

@@ -2,6 +2,8 @@
 use Rattle.std.specs.Prelude.{◌≡◌, ◌⊎◌, ◌+◌, ◌-◌, ◌^◌, ◌<◌, ◌≤◌, ℕ, Bool, true, false, if◌then◌else◌, List, [], ◌∷◌, ◌++◌, take, length, Option, Some, None, Result, Ok, Err}
 use Rattle.std.specs.declared.io.Error.{Error}
 use Rattle.counted_io.specs.Streams.{Reader, HasRead, HasFailed}
+use Rattle.properties_format.specs.Cut.{HoldsNoLineEndUnit}
+use Rattle.properties_format.specs.Reading.Waiting.{awaits_bom}
 use Rattle.properties_format.specs.Lines as format
 use Rattle.properties_format.specs.Lines.{InputEnd, end, fault, more}
 use Rattle.properties_format.specs.Pieces.{characters}
@@ -9,8 +11,8 @@ use Rattle.properties_format.specs.Reading.Encoding.{pieces_of}
 use Rattle.properties_format.specs.Entries.{Entry, read_fault}
 use Rattle.properties_format.specs.ItemsToCome.{ReaderState}
 use Rattle.properties_format.specs.Reading.ItemsToCome.{natural_to_come, last_to_come}
-use Rattle.properties_format.specs.Reading.ReaderSteps.{Gives, ReadsLines, HoldsLine, HoldsNoEnd}
-use Rattle.java_properties.specs.LineSearch.{unit_size, end_character}
+use Rattle.properties_format.specs.Reading.ReaderSteps.{Gives, ReadsLines, HoldsLine, HoldsNoEnd, after_read}
+use Rattle.java_properties.specs.LineSearch.{unit_size, end_character, IsSearched}
 use Rattle.java_properties.specs.Errors.{IsPlain, IsStreamError}
 use Rattle.java_properties.specs.declared.error.ErrorKind.TheVariants as kind
 use Rattle.java_properties.specs.declared.error.PropertiesError.{PropertiesError}
@@ -25,6 +27,11 @@ pub record IsSettled (s : ReaderState) : Type 0 where
   pub decided : s.is_decided ≡ true
   pub after_end : s.after_cr ≡ false
 
+-- No line end is among the bytes that are held, as far as it is known what they are.
+abbrev pub HoldsNoEndYet : ReaderState → Type 0
+HoldsNoEndYet s =
+    (s.is_decided ≡ true) × HoldsNoLineEndUnit s.encoding s.held ⊎ (s.is_decided ≡ false) × (awaits_bom s.held ≡ true)
+
 -- Nothing is read, and no line is passed: what is to come stays the same.
 pub record IsAlike (old new : ReaderState) : Type 0 where
   pub gives : ReadsLines old [] [] new
@@ -35,25 +42,26 @@ pub record IsAlike (old new : ReaderState) : Type 0 where
 pub record Settles (old : ReaderState) (settled : Bool) (new : ReaderState) : Type 0 where
   pub alike : IsAlike old new
   pub yes : settled ≡ true → IsSettled new
-  pub no : settled ≡ false → (new ≡ old) × (natural_to_come new [] more ≡ [])
+  pub no : settled ≡ false → (new ≡ old) × HoldsNoEndYet new
 
--- What is held settles it where nothing more comes. Held bytes without a line end still have none.
+-- What is held settles it where nothing more comes.
 pub record SettlesLast (old new : ReaderState) : Type 0 where
   pub gives : (ending : InputEnd) → Gives old [] [] new [] ending
   pub passed : new.passed ≡ old.passed
   pub done : new.is_done ≡ old.is_done
   pub settled : IsSettled new
-  pub held : IsSettled old → new ≡ old
+  pub none : HoldsNoEndYet old → HoldsNoLineEndUnit new.encoding new.held
 
 -- The LF that may stand at the front is passed over.
 pub record SkipsFeed (old new : ReaderState) : Type 0 where
   pub alike : IsAlike old new
   pub decided : new.is_decided ≡ true
   pub after_end : new.after_cr ≡ false
+  pub none : HoldsNoLineEndUnit old.encoding old.held → HoldsNoLineEndUnit new.encoding new.held
 
 -- It is known whether an LF comes that is of a line end before, and if so it was passed; or too little is held to tell.
 abbrev pub PassesFeed : ReaderState → Bool → ReaderState → Type 0
-PassesFeed old true new = SkipsFeed old new × (old.after_cr ≡ false → new ≡ old)
+PassesFeed old true new = SkipsFeed old new
 PassesFeed old false new = (new ≡ old) × (old.after_cr ≡ true) × (length old.held < unit_size old.encoding)
 
 -- ---- seeking
@@ -70,13 +78,33 @@ pub record Along {R : Type 0} (reader : Reader R) (old : ReaderState) (from : R)
   pub done : new.is_done ≡ old.is_done
   pub lazy : IsLazy old from bytes to
 
+-- What is held is ready to be searched from this place on; or it isn't settled, and nothing was searched.
+pub record IsReady (s : ReaderState) (settled : Bool) (searched : ℕ) : Type 0 where
+  pub yes : settled ≡ true → IsSettled s × IsSearched s.encoding s.held searched
+  pub no : settled ≡ false → searched ≡ 0
+
+-- the bytes that are held are a line, this end and a rest
+pub record HoldsLineEnd (s : ReaderState) (line_end : LineEnd) : Type 0 where
+  pub rest : List ℕ
+  pub line : HoldsLine s (take line_end.at s.held) (end_character line_end.is_cr) rest
+  pub within : line_end.at + unit_size s.encoding ≤ length s.held
+
+-- what looking for a line end among the bytes that are held finds
+abbrev pub LooksFor : Option LineEnd → ReaderState → Bool → ℕ → Type 0
+LooksFor (Some line_end) s settled searched = HoldsLineEnd s line_end
+LooksFor None s settled searched = HoldsNoEndYet s × ((bytes : List ℕ) → IsReady (after_read s bytes) settled searched)
+
+-- What is held was searched, as far as that is settled.
+pub record Looks (old : ReaderState) (was_settled : Bool) (found : Option LineEnd) (new : ReaderState) (settled : Bool) (searched : ℕ) : Type 0 where
+  pub alike : IsAlike old new
+  pub finds : LooksFor found new settled searched
+  pub progress : (was_settled ≡ true → settled ≡ true) × (settled ≡ was_settled → new ≡ old)
+
 -- A line end was found: the bytes that are held are a line, that end and a rest.
 pub record HasFound {R : Type 0} (reader : Reader R) (old : ReaderState) (from : R) (line_end : LineEnd) (new : ReaderState) (to : R) : Type 0 where
   pub bytes : List ℕ
   pub along : Along reader old from bytes new to
-  pub rest : List ℕ
-  pub line : HoldsLine new (take line_end.at new.held) (end_character line_end.is_cr) rest
-  pub within : line_end.at ≤ length new.held
+  pub held : HoldsLineEnd new line_end
 
 -- No bytes come any more, and none of those that are held is of a line end.
 pub record IsAtLast (old : ReaderState) (bytes : List ℕ) (new : ReaderState) : Type 0 where
@@ -153,8 +181,8 @@ pub record FindsFault {R : Type 0} (reader : Reader R) (old : ReaderState) (from
   pub lazy : natural_to_come old [] more ≡ []
 
 -- There was no number for another line, and nothing was read.
-pub record FindsTooMany {R : Type 0} (old : ReaderState) (from : R) (e : PropertiesError) (to : R) : Type 0 where
-  pub passed : old.passed + 1 ≡ 2 ^ 64
+pub record FindsTooMany {R : Type 0} (from : R) (e : PropertiesError) (new : ReaderState) (to : R) : Type 0 where
+  pub passed : new.passed + 1 ≡ 2 ^ 64
   pub is : IsPlain kind.TooManyLines e
   pub untouched : to ≡ from
 
@@ -169,11 +197,11 @@ IsRefused number (Memory error) e = IsPlain kind.Memory e
 IsRefused number (Io error) e = IsStreamError (Some number) error e
 
 -- Why no line was found.
-abbrev pub FindsError : {R : Type 0} → Reader R → ReaderState → R → PropertiesError → R → Type 0
-FindsError reader old from e to = FindsFault reader old from e to ⊎ (FindsTooMany old from e to ⊎ FindsNoRoom reader old from e to)
+abbrev pub FindsError : {R : Type 0} → Reader R → ReaderState → R → PropertiesError → ReaderState → R → Type 0
+FindsError reader old from e new to = FindsFault reader old from e to ⊎ (FindsTooMany from e new to ⊎ FindsNoRoom reader old from e to)
 
 -- What finding the next line does. At its end for good the finder reads nothing.
 abbrev pub Finds : {R : Type 0} → Reader R → Finder → R → Option (Result ℕ PropertiesError) → Finder → R → Type 0
 Finds reader old from None new to = (old.state.is_done ≡ true) × (new ≡ old) × (to ≡ from)
 Finds reader old from (Some (Ok number)) new to = FindsNext reader old.state from number new to
-Finds reader old from (Some (Err e)) new to = (old.state.is_done ≡ false) × (new.state.is_done ≡ true) × FindsError reader old.state from e to
+Finds reader old from (Some (Err e)) new to = (old.state.is_done ≡ false) × (new.state.is_done ≡ true) × FindsError reader old.state from e new.state to

@@ -1,5 +1,6 @@
 -- What a search for a line end among undecoded bytes finds.
-use Rattle.std.specs.Prelude.{◌≡◌, ℕ, ◌+◌, ◌-◌, ◌%◌, ◌≤◌, Bool, true, false, List, [], ◌∷◌, ◌++◌, take, length, Option, Some, None}
+use Rattle.std.specs.Prelude.{◌≡◌, ℕ, ◌+◌, ◌-◌, ◌%◌, ◌≤◌, Bool, true, false, List, [], ◌∷◌, ◌++◌, take, length}
+use Rattle.std.specs.Prelude.{Option, Some, None}
 use Rattle.properties_format.specs.Text.{line_feed, carriage_return}
 use Rattle.properties_format.specs.Encoding.{Encoding, windows_1252, utf_8, utf_16le, utf_16be, IsAligned, ascii_bytes}
 use Rattle.properties_format.specs.Cut.{HoldsNoLineEndUnit}
@@ -19,7 +20,7 @@ whole_units e n = n - n % unit_size e
 -- The bytes before this place are whole units, and none of them is a CR or an LF.
 pub record IsSearched (e : Encoding) (bytes : List ℕ) (from : ℕ) : Type 0 where
   pub within : from ≤ length bytes
-  pub whole_units : IsAligned e (take from bytes)
+  pub aligned : IsAligned e (take from bytes)
   pub none_before : HoldsNoLineEndUnit e (take from bytes)
 
 -- the character of a line end that is a CR or an LF
@@ -31,7 +32,7 @@ end_character false = line_feed
 pub record IsFirstLineEnd (e : Encoding) (bytes : List ℕ) (end : LineEnd) : Type 0 where
   pub rest : List ℕ
   pub stands : bytes ≡ take end.at bytes ++ (ascii_bytes e (end_character end.is_cr) ++ rest)
-  pub whole_units : IsAligned e (take end.at bytes)
+  pub aligned : IsAligned e (take end.at bytes)
   pub none_before : HoldsNoLineEndUnit e (take end.at bytes)
   pub within : end.at + unit_size e ≤ length bytes
 
@@ -44,7 +45,7 @@ FindsLineEnd e bytes (Some end) = IsFirstLineEnd e bytes end
 abbrev pub FindsLineEndByte : List ℕ → Option LineEnd → Type 0
 FindsLineEndByte bytes found = (e : Encoding) → unit_size e ≡ 1 → FindsLineEnd e bytes found
 
--- the character that the two bytes of a unit are, where it is one whose high byte is zero
-abbrev pub IsCharacterOf : Encoding → ℕ → ℕ → Option ℕ → Type 0
-IsCharacterOf e first second None = (c : ℕ) → ascii_bytes e c ≡ first ∷ second ∷ [] → ⊥
-IsCharacterOf e first second (Some c) = ascii_bytes e c ≡ first ∷ second ∷ []
+-- whether a unit of these two bytes is a CR, where it is a line end
+abbrev pub IsLineEndUnit : Encoding → ℕ → ℕ → Option Bool → Type 0
+IsLineEndUnit e first second None = HoldsNoLineEndUnit e (first ∷ second ∷ [])
+IsLineEndUnit e first second (Some is_cr) = ascii_bytes e (end_character is_cr) ≡ first ∷ second ∷ []

@@ -1,4 +1,6 @@
 -- What the format's pages see of the types of this crate.
+use Rattle.std.specs.declared.borrow.CowStr.{CowStr}
+use Rattle.std.specs.declared.borrow.CowStr.TheVariants.{Borrowed, Owned}
 use Rattle.properties_format.specs.Encoding as format
 use Rattle.properties_format.specs.Printing as printing
 use Rattle.java_properties.specs.declared.encoding.Encoding.{Encoding}
@@ -16,3 +18,8 @@ abbrev pub place_of : Place → printing.Place
 place_of KeyOrValue = printing.in_key_or_value
 place_of Comment = printing.in_comment
 place_of Prefix = printing.in_prefix
+
+-- the text is lent, and not one of its own
+abbrev pub IsBorrowed : {Z : Type 0} → CowStr Z → Type 0
+IsBorrowed (Borrowed text) = Unit {0}
+IsBorrowed (Owned text) = ⊥

@@ -5,7 +5,7 @@ ghost use Rattle.properties_format.specs.Encoding.{output_encoding};
 ghost use Rattle.java_properties.specs.Views.{encoding_of};
 
 pub mod byte_order_mark;
-mod decode;
+pub mod decode;
 mod encode;
 mod first_piece;
 mod utf_16;

@@ -7,6 +7,7 @@ ghost use Rattle.java_properties.specs.Cutting.{cutter_progress, fresh, lines_pr
 
 mod finder;
 mod join;
+mod joiner;
 mod logical;
 mod search;
 mod seeker;

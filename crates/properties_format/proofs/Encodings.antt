@@ -12,4 +12,5 @@ pub mod Utf8Pieces
 pub mod Utf8Rows
 pub mod Utf8Sequences
 pub mod Waiting
+pub mod WellFormed
 pub mod Windows1252

@@ -1,6 +1,6 @@
 // The first piece of some bytes: those that stand for one character.
 
-ghost use Rattle.std.specs.Prelude.{◌≡◌, false};
+ghost use Rattle.std.specs.Prelude.{◌≡◌, ◌<◌, ◌≤◌, ◌+◌, length, false};
 ghost use Rattle.properties_format.specs.Text.{replacement, scalar};
 ghost use Rattle.java_properties.specs.Views.{encoding_of};
 ghost use Rattle.java_properties.specs.Decoding.{IsFirstPiece};
@@ -47,7 +47,9 @@ impl FirstPiece {
 
 /// The first piece of a first byte and those after it.
 pub fn first_piece(encoding: Encoding, first: u8, rest: &[u8]) -> FirstPiece
-    ensures { IsFirstPiece (encoding_of encoding) first rest.now result }
+    ensures shown { IsFirstPiece (encoding_of encoding) first rest.now result }
+    ensures some { 0 < result.length }
+    ensures within { result.length ≤ 1 + length rest.now }
 {
     match encoding {
         Encoding::WINDOWS_1252 => FirstPiece {

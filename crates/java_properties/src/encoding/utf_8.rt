@@ -1,54 +1,38 @@
 // Sequences of one to four bytes, which the first byte says.
 
-ghost use Rattle.std.specs.Prelude.{◌≡◌, ◌+◌, ◌*◌, ◌%◌, ◌^◌, ◌<◌, ◌≤◌, ◌∷◌, map, length, Some, None, MatchOption};
-ghost use Rattle.properties_format.specs.Utf8.{well_formed_rows, sequence_character};
+ghost use Rattle.std.specs.Prelude.{◌≡◌, ◌++◌, ◌+◌, ◌*◌, ◌%◌, ◌^◌, ◌<◌, ◌≤◌, ◌∷◌, map, length, Some, None, IsSome, IfSome, ◌↔◌, MatchOption};
+ghost use Rattle.std.specs.Str.{IsUtf8};
+ghost use Rattle.properties_format.specs.Utf8.{well_formed_rows, sequence_character, IsWellFormedText};
 ghost use Rattle.properties_format.specs.Reading.Utf8.{is_in, ranges_after, fitting, first_utf_8_piece};
 ghost use Rattle.properties_format.specs.Reading.Waiting.{awaits_byte};
 ghost use Rattle.java_properties.specs.Decoding.{ShowsPiece, range_of};
 
 use super::first_piece::FirstPiece;
 
-// The bytes from the least to the most.
+// The bytes from the first to the second.
 #[derive(Clone, Copy)]
-struct ByteRange {
-    least: u8,
-    most: u8,
-}
+struct ByteRange(u8, u8);
 
 impl ByteRange {
     fn contains(self, byte: u8) -> bool
         ensures { result ≡ is_in (range_of self) byte }
     {
-        self.least <= byte && byte <= self.most
+        let ByteRange(least, most) = self;
+        least <= byte && byte <= most
     }
 }
 
 // What most bytes after the first are.
-const TAIL: ByteRange = ByteRange {
-    least: 0x80,
-    most: 0xbf,
-};
+const TAIL: ByteRange = ByteRange(0x80, 0xbf);
 
 // What the byte after one of these first bytes is.
-const AFTER_E0: ByteRange = ByteRange {
-    least: 0xa0,
-    most: 0xbf,
-};
+const AFTER_E0: ByteRange = ByteRange(0xa0, 0xbf);
 
-const AFTER_ED: ByteRange = ByteRange {
-    least: 0x80,
-    most: 0x9f,
-};
+const AFTER_ED: ByteRange = ByteRange(0x80, 0x9f);
 
-const AFTER_F0: ByteRange = ByteRange {
-    least: 0x90,
-    most: 0xbf,
-};
+const AFTER_F0: ByteRange = ByteRange(0x90, 0xbf);
 
-const AFTER_F4: ByteRange = ByteRange {
-    least: 0x80,
-    most: 0x8f,
-};
+const AFTER_F4: ByteRange = ByteRange(0x80, 0x8f);
 
 // The ranges of the bytes after a first byte, where it begins a sequence.
 fn ranges_after(first: u8) -> Option<&'static [ByteRange]>
@@ -121,5 +105,27 @@ pub fn first_piece(first: u8, rest: &[u8]) -> FirstPiece
         FirstPiece::whole(sequence_character(first, &rest[..fitting]), 1 + fitting)
     } else {
         FirstPiece::broken(1 + fitting, fitting == rest.len())
+    }
+}
+
+/// The bytes, where they are well-formed from the first to the last.
+pub fn as_text(bytes: &[u8]) -> Option<&str>
+    ensures exactly { IsSome result ↔ IsWellFormedText bytes.now }
+    ensures same { IfSome result (λ text. text.now ≡ bytes.now) }
+{
+    str::from_utf8(bytes).ok()
+}
+
+/// The longest front that is well-formed, and what is after it.
+pub fn text_front(bytes: &[u8]) -> (&str, &[u8])
+    ensures whole { bytes.now ≡ result.0.now ++ result.1.now }
+    ensures text { IsUtf8 result.0.now }
+{
+    match str::from_utf8(bytes) {
+        Ok(text) => (text, &[]),
+        Err(error) => {
+            let (front, after) = bytes.split_at(error.valid_up_to());
+            (unsafe { str::from_utf8_unchecked(front) }, after)
+        }
     }
 }

@@ -90,21 +90,24 @@ impl LineFinder {
         self.taken = 0;
         match self.seeker.seek(reader) {
             Ok(Some(line_end)) => {
+                // The line and its end are held, so their sizes fit.
+                let _held = self.seeker.held().len();
                 self.line = line_end.at;
                 self.taken = line_end.at + unit_size(self.seeker.encoding());
                 self.seeker.pass(number, line_end.is_cr);
+                return Some(Ok(number));
             }
             Ok(None) => {
                 self.line = self.seeker.held().len();
                 self.taken = self.line;
                 self.seeker.end();
+                return Some(Ok(number));
             }
             Err(error) => {
                 self.seeker.end();
                 return Some(Err(refusal(number, error)));
             }
         }
-        Some(Ok(number))
     }
 }
 

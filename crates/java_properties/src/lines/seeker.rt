@@ -1,6 +1,6 @@
 // Line ends, sought among the undecoded bytes that are held, and read on where none is.
 
-ghost use Rattle.std.specs.Prelude.{◌≡◌, ◌≤◌, false, true, drop, length};
+ghost use Rattle.std.specs.Prelude.{◌≡◌, ◌<◌, ◌≤◌, ◌^◌, false, true, drop, length};
 ghost use Rattle.counted_io.specs.Streams.{IsSameReader};
 ghost use Rattle.properties_format.specs.Text.{line_feed};
 ghost use Rattle.properties_format.specs.Encoding.{ascii_bytes};
@@ -8,8 +8,9 @@ ghost use Rattle.properties_format.specs.ItemsToCome.{ReaderState, start};
 ghost use Rattle.properties_format.specs.Reading.ReaderSteps.{after_decided};
 ghost use Rattle.java_properties.specs.Views.{encoding_of};
 ghost use Rattle.java_properties.specs.Decoding.{TellsBom};
+ghost use Rattle.java_properties.specs.InputBuffer.{Fills};
 ghost use Rattle.java_properties.specs.LineSearch.{unit_size};
-ghost use Rattle.java_properties.specs.LineFinder.{PassesFeed, SkipsFeed, Settles, SettlesLast, Seeks};
+ghost use Rattle.java_properties.specs.LineFinder.{PassesFeed, SkipsFeed, Settles, SettlesLast, IsReady, Looks, Seeks};
 
 use crate::encoding::Encoding;
 use crate::encoding::byte_order_mark::{ByteOrderMark, byte_order_mark};
@@ -36,12 +37,12 @@ impl Model for LineSeeker {
     ghost Value = { ReaderState };
 
     ghost view = { λ s. record {
-        encoding = encoding_of s.encoding;
-        is_decided = s.is_decided;
-        held = s.input.held;
-        passed = s.passed;
-        after_cr = s.after_cr;
-        is_done = s.is_done;
+      encoding = encoding_of s.encoding;
+      is_decided = s.is_decided;
+      held = s.input.held;
+      passed = s.passed;
+      after_cr = s.after_cr;
+      is_done = s.is_done;
     } };
 
     ghost invariant = { λ s. s.is_decided ≡ false → s.after_cr ≡ false };
@@ -116,10 +117,7 @@ impl LineSeeker {
 
     /// The next line end among the bytes that are held, which reads until there is one. `None` is the end of the
     /// input, where the bytes that are held are the last line. At an error too no line end is held.
-    pub fn seek<R: CountedRead>(
-        &mut self,
-        reader: &mut R,
-    ) -> Result<Option<LineEnd>, FillError>
+    pub fn seek<R: CountedRead>(&mut self, reader: &mut R) -> Result<Option<LineEnd>, FillError>
         requires going { self.old.is_done ≡ false }
         ensures seeks { Seeks R.CountedRead self.old reader.old result self.new reader.new }
         ensures same_reader { IsSameReader R.CountedRead reader.old reader.new }
@@ -127,16 +125,10 @@ impl LineSeeker {
         let mut settled = false;
         let mut searched = 0;
         'reads: loop {
-            if !settled {
-                settled = self.settle();
+            if let Some(end) = self.look(&mut settled, &mut searched) {
+                return Ok(Some(end));
             }
-            if settled {
-                if let Some(end) = find_line_end(self.encoding, self.held(), searched) {
-                    return Ok(Some(end));
-                }
-                searched = whole_units(self.encoding, self.held().len());
-            }
-            match self.input.fill(reader) {
+            match self.read(reader) {
                 Ok(0) => {
                     self.settle_last();
                     return Ok(None);
@@ -148,6 +140,36 @@ impl LineSeeker {
                 }
             }
         }
+    }
+
+    // The next line end among the bytes that are held, of which so many were searched where that is settled.
+    fn look(&mut self, settled: &mut bool, searched: &mut usize) -> Option<LineEnd>
+        requires going { self.old.is_done ≡ false }
+        requires ready { IsReady self.old settled.old searched.old }
+        ensures { Looks self.old settled.old result self.new settled.new searched.new }
+    {
+        if !*settled {
+            *settled = self.settle();
+        }
+        if !*settled {
+            return None;
+        }
+        let encoding = self.encoding();
+        let held = self.held();
+        let found = find_line_end(encoding, held, *searched);
+        *searched = whole_units(encoding, held.len());
+        found
+    }
+
+    // One read, whose bytes are held after the others.
+    fn read<R: CountedRead>(&mut self, reader: &mut R) -> Result<usize, FillError>
+        ensures fills { Fills R.CountedRead self.old.held reader.old result self.new.held reader.new }
+        ensures same { self.new ≡ record self.old { held = self.new.held } }
+        ensures same_reader { IsSameReader R.CountedRead reader.old reader.new }
+        ensures fits { length self.old.held < 2 ^ 64 }
+    {
+        let _length = self.held().len();
+        self.input.fill(reader)
     }
 
     // Decides the byte order mark and passes the LF of a line end before, where the bytes that are held allow it.

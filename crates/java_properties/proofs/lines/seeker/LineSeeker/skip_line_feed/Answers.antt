@@ -14,7 +14,7 @@ pub returns : goal.returns
 returns c =
     let s = c.args.self.now in
     let feed : c.line_feed_of-feed.result.now ≡ ascii_bytes s.encoding line_feed =
-        c.line_feed_of-feed.ensures ∙ ap (λ v. let w : ReaderState = v in ascii_bytes w.encoding line_feed) c.self.view_is in
+    c.line_feed_of-feed.ensures ∙ ap (λ v. let w : ReaderState = v in ascii_bytes w.encoding line_feed) c.self.view_is in
     let same = ap₂ (starts_with (λ x y. x == y)) c.held.ensures feed in
     let tells = starts_is Decides-eqb s.held (ascii_bytes s.encoding line_feed) c.starts_with.result (c.starts_with.ensures.value ∙ same) in
     let P : ReaderState → Type 0 = λ v. SkipsFeed s (record v { after_cr = false }) in
