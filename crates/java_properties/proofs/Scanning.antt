@@ -38,7 +38,7 @@ ends-last (d ∷ []) c = refl
 ends-last (d ∷ e ∷ y) c = ends-last (e ∷ y) c
 
 -- the last character of a beginning of the text
-take-last : (xs : List ℕ) (e : ℕ) → 0 < e → e ≤ length xs → take e xs ≡ take (e - 1) xs ++ get_or xs (e - 1) 0 ∷ []
+pub take-last : (xs : List ℕ) (e : ℕ) → 0 < e → e ≤ length xs → take e xs ≡ take (e - 1) xs ++ get_or xs (e - 1) 0 ∷ []
 take-last xs e p h = ap (λ n. take n xs) (let k : e ≡ e - 1 + 1 = omega arith in k) ∙ take_more xs (e - 1) 0 (omega arith)
 
 -- a blank that stands last is left out

@@ -6,16 +6,12 @@ use lib.Utf8.{encodes}
 use Rattle.std.specs.Prelude.{encode_utf8}
 use Rattle.std.specs.Str.{IsUtf8, chars}
 use Rattle.std.proofs.lemmas.Bool.{cond-true, cond-false}
-use Rattle.std.proofs.lemmas.Str.{chars_past_char, chars-nil, encodes-chars, length-le-encodes}
-use Rattle.std.proofs.lemmas.List.{nil_from_length}
+use Rattle.std.proofs.lemmas.Str.{chars_past_char, encodes-chars, length-le-encodes}
 use Rattle.properties_format.specs.Text.{is_blank, is_line_end, is_comment_sign, is_separator}
 use Rattle.properties_format.specs.Reading.Settings.{holds_no_line_end}
 use Rattle.properties_format.specs.Reading.Settings.{is_blanks, is_good_prefix, is_signed_separator, is_good_separator}
+use Rattle.java_properties.proofs.Texts.Characters.{chars-empty}
 use Rattle.properties_format.proofs.Settings.Tests.{sign_not_blank, separator_not_blank}
-
--- a text is empty where it has no byte
-pub chars-empty : (bs : List ℕ) → length bs ≡ 0 → chars bs ≡ []
-chars-empty bs e = ap chars (nil_from_length bs e) ∙ chars-nil
 
 -- what a test says of the characters is what it says of the first and of the others
 pub past_first : (test : List ℕ → Bool) (whole last : Bool) (bs rest : List ℕ) (c : ℕ) → IsUtf8 bs → bs ≡ encode_utf8 c ++ rest

@@ -3,6 +3,7 @@ use Rattle.std.specs.Prelude.{◌≡◌, ℕ, List, Option, Some, None}
 use Rattle.std.specs.Option.{option_map}
 use Rattle.std.specs.Str.{chars}
 use Rattle.std.specs.String.{string_bytes}
+use Rattle.properties_format.specs.Escapes.{Malformed, not_enough_digits, not_hex, invalid_character}
 use Rattle.java_properties.specs.declared.error.ErrorKind.{ErrorKind}
 use Rattle.java_properties.specs.declared.error.Cause.{Cause}
 use Rattle.java_properties.specs.declared.error.ErrorKind.TheVariants as kind
@@ -39,3 +40,18 @@ IsStreamError line error e = IsError kind.Io line (cause.Io error) e
 -- this text was refused, as of this kind
 abbrev pub IsRefusal : ErrorKind → List ℕ → PropertiesError → Type 0
 IsRefusal kind text e = IsPlain kind e × (refused_of e ≡ Some text)
+
+-- the kind that malformed escapes are, and what they came from
+abbrev pub malformed_kind : Malformed → ErrorKind
+malformed_kind not_enough_digits = kind.NotEnoughDigits
+malformed_kind not_hex = kind.NotHex
+malformed_kind invalid_character = kind.InvalidCharacter
+
+abbrev pub malformed_cause : Malformed → Cause
+malformed_cause not_enough_digits = cause.None
+malformed_cause not_hex = cause.NotHex
+malformed_cause invalid_character = cause.None
+
+-- escapes of this line are so malformed
+abbrev pub IsMalformed : Malformed → ℕ → PropertiesError → Type 0
+IsMalformed malformed line e = IsError (malformed_kind malformed) (Some line) (malformed_cause malformed) e

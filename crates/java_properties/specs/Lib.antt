@@ -7,6 +7,7 @@ pub mod Joining
 pub mod Iterating
 pub mod Lines
 pub mod Parsing
+pub mod Escaping
 pub mod Views
 pub mod SettingsTexts
 pub mod SettingsViews

@@ -3,7 +3,8 @@
 ghost use Rattle.std.specs.Prelude.{◌≡◌, Some, None};
 ghost use Rattle.std.specs.Str.{chars};
 ghost use Rattle.std.specs.String.{string_bytes};
-ghost use Rattle.java_properties.specs.Errors.{kind_of, line_of, cause_of, IsError, IsPlain, IsRefusal, IsStreamError};
+ghost use Rattle.properties_format.specs.Escapes.{not_enough_digits, not_hex, invalid_character};
+ghost use Rattle.java_properties.specs.Errors.{kind_of, line_of, cause_of, IsError, IsMalformed, IsPlain, IsRefusal, IsStreamError};
 ghost use Rattle.java_properties.specs.declared.error.ErrorKind.TheVariants.{Io, BadCommentPrefix, BadKvSeparator, EmptyKey, TooManyLines, Failed, Memory};
 
 use std::alloc::{AllocError, AllocFailed};
@@ -85,12 +86,7 @@ impl PropertiesError {
     pub(crate) fn io(line_number: usize, cause: Cause) -> PropertiesError
         ensures { IsError Io (Some line_number) cause result }
     {
-        PropertiesError {
-            kind: ErrorKind::Io,
-            line_number: Some(line_number),
-            cause,
-            refused: None,
-        }
+        PropertiesError::in_line(line_number, ErrorKind::Io, cause)
     }
 
     /// A read failed in the line of this number.
@@ -98,6 +94,27 @@ impl PropertiesError {
         ensures { IsStreamError (Some line_number) error result }
     {
         PropertiesError::io(line_number, Cause::Io(error))
+    }
+
+    /// In the line of this number fewer than four characters come after a `\u`.
+    pub(crate) fn not_enough_digits(line_number: usize) -> PropertiesError
+        ensures { IsMalformed not_enough_digits line_number result }
+    {
+        PropertiesError::in_line(line_number, ErrorKind::NotEnoughDigits, Cause::None)
+    }
+
+    /// In the line of this number one of the four characters after a `\u` is no hexadecimal digit.
+    pub(crate) fn not_hex(line_number: usize) -> PropertiesError
+        ensures { IsMalformed not_hex line_number result }
+    {
+        PropertiesError::in_line(line_number, ErrorKind::NotHex, Cause::NotHex)
+    }
+
+    /// In the line of this number an escape stands for a surrogate that has no partner.
+    pub(crate) fn invalid_character(line_number: usize) -> PropertiesError
+        ensures { IsMalformed invalid_character line_number result }
+    {
+        PropertiesError::in_line(line_number, ErrorKind::InvalidCharacter, Cause::None)
     }
 
     pub(crate) fn too_many_lines() -> PropertiesError
@@ -132,6 +149,16 @@ impl PropertiesError {
         ensures { IsRefusal BadKvSeparator (chars (string_bytes separator)) result }
     {
         PropertiesError::refusal(ErrorKind::BadKvSeparator, separator)
+    }
+
+    fn in_line(line_number: usize, kind: ErrorKind, cause: Cause) -> PropertiesError
+        ensures { IsError kind (Some line_number) cause result }
+    {
+        PropertiesError {
+            line_number: Some(line_number),
+            cause,
+            ..PropertiesError::plain(kind)
+        }
     }
 
     fn refusal(kind: ErrorKind, text: String) -> PropertiesError

@@ -1,81 +1,18 @@
 -- What decides how lines are joined, alike in bytes and in characters.
-use Rattle.std.proofs.Common.{◌≡◌, ℕ, zero, suc, ◌<◌, ◌≤◌, ◌+◌, ◌-◌, ◌==◌, true, false, List, [], ◌∷◌, ◌++◌, length, take, drop, get_or, refl, ap, sym, ◌∙◌, subst, inl, inr, append-nil, length-append, arith}
-use Rattle.std.specs.Prelude.{replicate, reverse, take_while, ◌%◌}
-use Rattle.std.specs.List.{prefix_len}
+use Rattle.std.proofs.Common.{◌≡◌, ℕ, ◌<◌, ◌≤◌, ◌+◌, ◌-◌, ◌==◌, true, false, List, [], ◌∷◌, ◌++◌, length, take, drop, get_or, refl, ap, sym, ◌∙◌, subst, inl, inr, length-append, arith}
+use Rattle.std.specs.Prelude.{◌%◌}
 use Rattle.std.proofs.Math.Seq.{take-append_seam, get_or-append_seam}
 use lib.Utf8.{encode, encodes, scalars}
 use Rattle.std.specs.Str.{IsUtf8, IsCharBoundary, chars}
 use Rattle.std.proofs.lemmas.Str.{encodes-chars, encodes-append, IsCharBoundary-from_take}
 use Rattle.std.proofs.lemmas.List.{drop_more, drop_all}
-use Rattle.std.proofs.lemmas.List.Folds.{length-prefix_len}
 use Rattle.std.proofs.lemmas.Bool.{cases_Bool}
-use Rattle.std.proofs.lemmas.Bool.Decides.{eqb_tells}
 use Rattle.properties_format.specs.Text.{backslash, is_comment_sign, without_leading_blanks}
-use Rattle.properties_format.specs.Groups.{leading_backslashes, ending_backslashes, is_open, begins_with_comment_sign, is_comment_line, without_last, without_open_backslash}
-use Rattle.properties_format.proofs.Groups.Open.{ending_backslashes-more, ending_backslashes-none, ending_backslashes-after, ending_backslashes-run, ending_backslashes-split, last_character, open-ends, without_last-push}
-use Rattle.java_properties.proofs.Texts.Characters.{AreWide, IsEncoded, one, wide, encoded, wide-no_backslash, wide-no_comment_sign, scalars-parts, IsPart, part_by}
+use Rattle.properties_format.specs.Groups.{is_open, begins_with_comment_sign, is_comment_line, without_last, without_open_backslash}
+use Rattle.properties_format.proofs.Groups.Open.{open-ends, without_last-push}
+use Rattle.java_properties.proofs.Texts.Characters.{IsEncoded, one, wide, encoded, wide-no_comment_sign, scalars-parts, IsPart, part_by}
+use Rattle.java_properties.proofs.Texts.Backslashes.{ending_backslashes-encodes, ending_backslashes-text}
 use Rattle.java_properties.proofs.Texts.Split.{without_leading_blanks-part}
-
--- ---- backslashes at the end
-
--- bytes that are not ASCII end in no backslash
-ending-wide : (bs : List ℕ) → AreWide bs → ending_backslashes bs ≡ 0
-ending-wide [] w = refl
-ending-wide (b ∷ bs) w = ending_backslashes-after [] b bs (wide-no_backslash b w.0) ∙ ending-wide bs w.1
-
--- a character that is no backslash ends in none
-ending-other : (front : List ℕ) (c : ℕ) (bytes : List ℕ) → IsEncoded c bytes → (c == backslash) ≡ false
-    → ending_backslashes (front ++ bytes) ≡ 0
-ending-other front c bytes (one e) h = rw e (ending_backslashes-none front c h)
-ending-other front c bytes (wide l b bs e k w) h = rw e (ending_backslashes-after front b bs (wide-no_backslash b k) ∙ ending-wide bs w)
-
--- a text that ends in none has none in bytes
-ending-first : (p : List ℕ) → ending_backslashes p ≡ 0 → ending_backslashes (encodes p) ≡ 0
-ending-first p h = elim (last_character p) [
-  | inl k ↦ rw k refl
-  | inr k ↦ elim (eqb_tells k.1 backslash) [
-    | inl m ↦
-        let whole : p ≡ k.0 ++ backslash ∷ [] = k.2 ∙ ap (λ v. k.0 ++ v ∷ []) m.1 in
-        let some : suc (ending_backslashes k.0) ≡ 0 = sym (ending_backslashes-more k.0) ∙ ap ending_backslashes (sym whole) ∙ h in
-        absurd (omega arith)
-    | inr m ↦
-        ap (λ v. ending_backslashes (encodes v)) k.2
-        ∙ ap ending_backslashes (encodes-append k.0 (k.1 ∷ []) ∙ ap (λ v. encodes k.0 ++ v) (append-nil (encode k.1)))
-        ∙ ending-other (encodes k.0) k.1 (encode k.1) (encoded k.1) m.0
-  ]
-]
-
-encodes-run : (n : ℕ) → encodes (replicate n backslash) ≡ replicate n backslash
-unfolding encode
-encodes-run zero = refl
-encodes-run (suc n) = ap (λ v. backslash ∷ v) (encodes-run n)
-
--- a text ends in as many backslashes in bytes as in characters
-ending_backslashes-encodes : (cs : List ℕ) → ending_backslashes (encodes cs) ≡ ending_backslashes cs
-ending_backslashes-encodes cs =
-    let s = ending_backslashes-split cs in
-    let n = ending_backslashes cs in
-    ap (λ v. ending_backslashes (encodes v)) s.1
-    ∙ ap ending_backslashes (encodes-append s.0 (replicate n backslash) ∙ ap (λ v. encodes s.0 ++ v) (encodes-run n))
-    ∙ ending_backslashes-run (encodes s.0) n (ending-first s.0 s.2)
-
-pub ending_backslashes-text : (bs : List ℕ) → IsUtf8 bs → ending_backslashes (chars bs) ≡ ending_backslashes bs
-ending_backslashes-text bs u = sym (ending_backslashes-encodes (chars bs)) ∙ ap ending_backslashes (encodes-chars bs u)
-
--- the characters that are passed over at the front
-leading-prefix : (xs : List ℕ) → prefix_len (λ x. x == backslash) xs ≡ leading_backslashes xs
-leading-prefix [] = refl
-leading-prefix (x ∷ xs) = elim (cases_Bool (x == backslash)) [
-  | inl k ↦ rw k (one-add (prefix_len (λ v. v == backslash) xs) ∙ ap suc (leading-prefix xs))
-  | inr k ↦ rw k refl
-]
-  where
-    one-add : (n : ℕ) → 1 + n ≡ suc n
-    one-add n = omega arith
-
--- what is counted from the end
-pub ending_backslashes-counted : (bs : List ℕ) → IsUtf8 bs → length (take_while (λ x. x == backslash) (reverse bs)) ≡ ending_backslashes (chars bs)
-ending_backslashes-counted bs u = length-prefix_len (λ x. x == backslash) (reverse bs) ∙ leading-prefix (reverse bs) ∙ sym (ending_backslashes-text bs u)
 
 -- ---- comment lines
 

@@ -4,15 +4,6 @@ use super::*;
 use std::alloc::Global;
 use std::test::Fail;
 
-// An error in the line of this number.
-fn in_line(line_number: usize, kind: ErrorKind, cause: Cause) -> PropertiesError {
-    PropertiesError {
-        line_number: Some(line_number),
-        cause,
-        ..PropertiesError::plain(kind)
-    }
-}
-
 fn is_printed(alloc: Global, error: PropertiesError, wanted: &str) -> Result<bool, AllocError> {
     Ok(format!(in alloc; "{error}")?.as_str() == wanted)
 }
@@ -32,7 +23,7 @@ fn prints_faults(rt: HostRuntime) -> Result<(), Fail> {
 #[test]
 fn prints_malformed_escapes(rt: HostRuntime) -> Result<(), Fail> {
     let alloc = rt.alloc();
-    let error = in_line(4, ErrorKind::NotEnoughDigits, Cause::None);
+    let error = PropertiesError::not_enough_digits(4);
     assert!(rt;
         is_printed(
             alloc,
@@ -40,7 +31,7 @@ fn prints_malformed_escapes(rt: HostRuntime) -> Result<(), Fail> {
             r"Malformed \uxxxx encoding: not enough digits. (line_number = 4)"
         )?
     );
-    let error = in_line(1, ErrorKind::NotHex, Cause::NotHex);
+    let error = PropertiesError::not_hex(1);
     assert!(rt;
         is_printed(
             alloc,
@@ -48,7 +39,7 @@ fn prints_malformed_escapes(rt: HostRuntime) -> Result<(), Fail> {
             r"Malformed \uxxxx encoding: not hex. (line_number = 1)"
         )?
     );
-    let error = in_line(2, ErrorKind::InvalidCharacter, Cause::None);
+    let error = PropertiesError::invalid_character(2);
     assert!(rt;
         is_printed(
             alloc,

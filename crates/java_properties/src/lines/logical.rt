@@ -78,3 +78,6 @@ impl<I: Iterator<Item = Result<NaturalLine, PropertiesError>>> Iterator for Logi
         }
     }
 }
+
+#[cfg(test)]
+mod tests;
