@@ -1,6 +1,6 @@
 -- What a contract sees of logical lines, which are joined of what an iterator over natural lines gives.
-use Rattle.std.specs.Prelude.{◌≡◌, ◌⊎◌, true, false, List, ◌∷◌, map, Option, Some, None, Result, Ok, Err}
-use Rattle.std.specs.Iterator.{Yields, YieldsThen, Drains}
+use Rattle.std.specs.Prelude.{◌≡◌, ◌≤◌, ◌⊎◌, true, false, List, ◌∷◌, map, Option, Some, None, Result, Ok, Err}
+use Rattle.std.specs.Iterator.{Yields, YieldsThen, Drains, Count, IsFinite, size}
 use Rattle.std.specs.Str.{chars}
 use Rattle.std.specs.String.{string_bytes}
 use Rattle.properties_format.specs.Lines.{Line, end, fault}
@@ -64,6 +64,14 @@ pub record LacksMemory {I : Type 0} (steps : Steps I) (from : I) (error : Proper
 abbrev pub TakesNext : {I : Type 0} → Steps I → I → Result LogicalLine PropertiesError → LogicalLines I → Type 0
 TakesNext steps from (Ok line) to = TakesGroup steps from line to
 TakesNext steps from (Err error) to = (to.is_done ≡ true) × (TakesError steps from error to.lines ⊎ LacksMemory steps from error to.lines)
+
+-- the same after a call that gave the first line
+abbrev pub TakesAfter : {I : Type 0} → Steps I → NaturalLine → I → Result LogicalLine PropertiesError → LogicalLines I → Type 0
+TakesAfter {I} steps first after answer to = (from : I) → steps from (Some (Ok first)) after → TakesNext steps from answer to
+
+-- Unless it is at its end, it may be called on, and no more natural lines are left than before.
+abbrev pub MayGoOn : {I : Type 0} → (I → Type 0) → (I → Count) → I → LogicalLines I → Type 0
+MayGoOn can left from to = to.is_done ≡ false → can to.lines × IsFinite (left to.lines) × (size (left to.lines) ≤ size (left from))
 
 -- What a call gives. At the end, where it was before or where the natural lines end, there is nothing more.
 abbrev pub GivesNext : {I : Type 0} → Steps I → LogicalLines I → Option (Result LogicalLine PropertiesError) → LogicalLines I → Type 0

@@ -1,8 +1,8 @@
 // Logical lines, over any natural lines. Only tests call it: a reader joins the lines that it holds.
 
-ghost use Rattle.std.specs.Prelude.{◌≡◌, ◌≤◌, true, false, Some, Ok};
-ghost use Rattle.std.specs.Iterator.{count_unless, size, IsFinite};
-ghost use Rattle.java_properties.specs.Joining.{GivesNext, JoinsAll, TakesNext};
+ghost use Rattle.std.specs.Prelude.{◌≡◌, true, false};
+ghost use Rattle.std.specs.Iterator.{count_unless, IsFinite};
+ghost use Rattle.java_properties.specs.Joining.{GivesNext, JoinsAll, MayGoOn, TakesAfter};
 
 use crate::error::PropertiesError;
 use crate::lines::NaturalLine;
@@ -35,10 +35,8 @@ impl<I: Iterator<Item = Result<NaturalLine, PropertiesError>>> LogicalLines<I> {
         requires can { I.can_next self.old.lines }
         requires finite { IsFinite (I.remaining self.old.lines) }
         requires done { self.old.is_done ≡ true }
-        ensures takes { (from : I) → I.next_gives from (Some (Ok first)) self.old.lines → TakesNext I.next_gives from result self.new }
-        ensures can { self.new.is_done ≡ false → I.can_next self.new.lines }
-        ensures finite { self.new.is_done ≡ false → IsFinite (I.remaining self.new.lines) }
-        ensures fewer { self.new.is_done ≡ false → size (I.remaining self.new.lines) ≤ size (I.remaining self.old.lines) }
+        ensures takes { TakesAfter I.next_gives first self.old.lines result self.new }
+        ensures goes_on { MayGoOn I.can_next I.remaining self.old.lines self.new }
     {
         let NaturalLine(number, mut text) = first;
         if is_comment_line(text.as_str()) || !is_open(text.as_str()) {
@@ -61,11 +59,11 @@ impl<I: Iterator<Item = Result<NaturalLine, PropertiesError>>> LogicalLines<I> {
 impl<I: Iterator<Item = Result<NaturalLine, PropertiesError>>> Iterator for LogicalLines<I> {
     type Item = Result<LogicalLine, PropertiesError>;
 
-    ghost can_next = { λ it. it.is_done ≡ false → I.can_next it.lines × IsFinite (I.remaining it.lines) };
+    ghost can_next = { λ s. s.is_done ≡ false → I.can_next s.lines × IsFinite (I.remaining s.lines) };
 
     ghost next_gives = { GivesNext I.next_gives };
 
-    ghost remaining = { λ it. count_unless it.is_done (I.remaining it.lines) };
+    ghost remaining = { λ s. count_unless s.is_done (I.remaining s.lines) };
 
     fn next(&mut self) -> Option<Result<LogicalLine, PropertiesError>> {
         if self.is_done {
