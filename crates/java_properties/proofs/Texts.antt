@@ -4,3 +4,4 @@ pub mod Spans
 pub mod Escapes
 pub mod Resolving
 pub mod Backslashes
+pub mod Joins

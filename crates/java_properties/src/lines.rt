@@ -10,6 +10,8 @@ use crate::error::PropertiesError;
 use counted_io::CountedRead;
 use std::alloc::Global;
 
+mod join;
+
 /// A line with its number, which counts from 1, and without its line end.
 #[derive(Drop)]
 pub struct NaturalLine(pub usize, pub String);

@@ -106,8 +106,8 @@ impl Span {
     }
 }
 
-// How many blanks the text begins with.
-fn leading_blanks(text: &[u8]) -> usize
+/// How many blanks the text begins with.
+pub fn leading_blanks(text: &[u8]) -> usize
     ensures within { result ≤ length text.now }
     ensures rest { drop result text.now ≡ without_leading_blanks text.now }
 {
