@@ -13,5 +13,7 @@ pub mod Making
 mod InputBuffer
 pub mod LineFinder
 pub mod LineSearch
+pub mod LineJoiner
+pub mod Comparisons
 pub mod Joining
 pub mod JoinedRuns

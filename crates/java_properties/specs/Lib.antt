@@ -5,9 +5,10 @@ pub mod Reading
 pub mod Cutting
 pub mod Joining
 pub mod Iterating
-pub mod Lines
 pub mod Parsing
 pub mod Escaping
+pub mod Line
+pub mod DisplayTexts
 pub mod Views
 pub mod SettingsTexts
 pub mod SettingsViews
@@ -18,3 +19,5 @@ pub mod InputBuffer
 pub mod LineSearch
 pub mod LineFinder
 pub mod LineJoiner
+pub mod PropertiesIter
+pub mod NaturalLines

@@ -129,7 +129,8 @@ IsLazyJoin old from text bytes to = ((to ≡ from) × (bytes ≡ [])) ⊎ ((numb
 pub record GoesOn {R : Type 0} (reader : Reader R) (old : ReaderState) (from : R) (old_text bytes text : List ℕ) (new : ReaderState) (to : R) : Type 0 where
   pub read : HasRead reader from bytes to
   pub pends : Pends old old_text bytes text new
-  pub ended : new.is_done ≡ true → old.is_done ≡ true ⊎ (reader.at_end to ≡ true)
+  pub done : old.is_done ≡ true → new.is_done ≡ true
+  pub ended : new.is_done ≡ true → (old.is_done ≡ true) ⊎ (reader.at_end to ≡ true)
   pub idle : old.is_done ≡ true → (bytes ≡ []) × (to ≡ from)
   pub lazy : IsLazyJoin old from old_text bytes to
 
@@ -138,7 +139,8 @@ pub record JoinsAll {R : Type 0} (reader : Reader R) (old : ReaderState) (from :
   pub bytes : List ℕ
   pub read : HasRead reader from bytes to
   pub closes : Closes old old_text bytes text new
-  pub ended : new.is_done ≡ true → old.is_done ≡ true ⊎ (reader.at_end to ≡ true)
+  pub done : old.is_done ≡ true → new.is_done ≡ true
+  pub ended : new.is_done ≡ true → (old.is_done ≡ true) ⊎ (reader.at_end to ≡ true)
   pub idle : old.is_done ≡ true → (bytes ≡ []) × (to ≡ from)
   pub lazy : IsLazyJoin old from old_text bytes to
 
@@ -174,12 +176,15 @@ JoinError reader old from old_text e new to =
 -- What reading a join to its end does.
 abbrev pub JoinsOn : {R : Type 0} → Reader R → ReaderState → R → List ℕ → Result Unit PropertiesError → ReaderState → R → List ℕ → Type 0
 JoinsOn reader old from old_text (Ok done) new to text = JoinsAll reader old from old_text text new to
-JoinsOn reader old from old_text (Err e) new to text = JoinError reader old from old_text e new to
+JoinsOn reader old from old_text (Err e) new to text = (old.is_done ≡ false) × JoinError reader old from old_text e new to
 
--- What joining the lines after an open one does, where they begin with it.
+-- What joining the lines after an open one does. Where there is no memory for its text, nothing is read.
 abbrev pub JoinsAfter : {R : Type 0} → Reader R → Joiner → R → Result Unit PropertiesError → Joiner → R → Type 0
-JoinsAfter reader old from result new to =
-    JoinsOn reader old.state from (without_open_backslash (chars old.line)) result new.state to (chars new.line)
+JoinsAfter reader old from (Ok done) new to =
+    JoinsAll reader old.state from (without_open_backslash (chars old.line)) (chars new.line) new.state to
+JoinsAfter reader old from (Err e) new to =
+    (to ≡ from) × IsPlain kind.Memory e
+    ⊎ (old.state.is_done ≡ false) × JoinError reader old.state from (without_open_backslash (chars old.line)) e new.state to
 
 -- A logical line came.
 pub record JoinsNext {R : Type 0} (reader : Reader R) (old : ReaderState) (from : R) (number : ℕ) (new : Joiner) (to : R) : Type 0 where

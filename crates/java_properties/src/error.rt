@@ -5,6 +5,7 @@ ghost use Rattle.std.specs.Str.{chars};
 ghost use Rattle.std.specs.String.{string_bytes};
 ghost use Rattle.properties_format.specs.Escapes.{not_enough_digits, not_hex, invalid_character};
 ghost use Rattle.java_properties.specs.Errors.{kind_of, line_of, cause_of, IsError, IsMalformed, IsPlain, IsRefusal, IsStreamError};
+ghost use Rattle.java_properties.specs.DisplayTexts.{description, error_display};
 ghost use Rattle.java_properties.specs.declared.error.ErrorKind.TheVariants.{Io, BadCommentPrefix, BadKvSeparator, EmptyKey, TooManyLines, Failed, Memory};
 
 use std::alloc::{AllocError, AllocFailed};
@@ -80,6 +81,13 @@ impl PropertiesError {
         ensures { result.now ≡ cause_of self.now }
     {
         &self.cause
+    }
+
+    /// What it came from, taken out of it, so that a stream's own error can be handed on.
+    pub fn into_cause(self) -> Cause
+        ensures { result ≡ cause_of self }
+    {
+        self.cause
     }
 
     /// A stream failed in the line of this number.
@@ -212,6 +220,8 @@ impl<T: Drop> From<AllocFailed<T>> for PropertiesError {
 }
 
 impl fmt::Display for PropertiesError {
+    ghost output = { error_display };
+
     fn fmt<W: fmt::Write>(&self, f: &mut fmt::Formatter<W>) -> fmt::Result {
         write!(f, "{}", self.kind.description())?;
         if let Some(text) = &self.refused {
@@ -227,7 +237,9 @@ impl fmt::Display for PropertiesError {
 impl Error for PropertiesError {}
 
 impl ErrorKind {
-    fn description(self) -> &'static str {
+    fn description(self) -> &'static str
+        ensures { result.now ≡ description self }
+    {
         match self {
             ErrorKind::Io => "I/O error",
             ErrorKind::NotEnoughDigits => "Malformed \\uxxxx encoding: not enough digits.",

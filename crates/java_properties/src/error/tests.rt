@@ -107,3 +107,15 @@ fn prints_plain_errors(rt: HostRuntime) -> Result<(), Fail> {
     }
     Ok(())
 }
+
+#[test]
+fn gives_its_cause(rt: HostRuntime) -> Result<(), Fail> {
+    let fault = io::Error::from(io::ErrorKind::TimedOut);
+    let Cause::Io(fault) = PropertiesError::read_fault(3, fault).into_cause() else {
+        return Err(Fail::from("the fault is lost"));
+    };
+    assert_eq!(rt; fault.kind(), io::ErrorKind::TimedOut);
+    let refused = PropertiesError::bad_kv_separator(String::from_str(rt.alloc(), "x")?);
+    assert!(rt; matches!(refused.into_cause(), Cause::None));
+    Ok(())
+}

@@ -6,7 +6,7 @@ use std::test::Fail;
 // The lines of the bytes, each as its number, a bar, its text and a semicolon.
 fn lines(alloc: Global, bytes: &[u8]) -> Result<String, Fail> {
     let mut all = String::new(alloc);
-    for line in NaturalLines::new(alloc, bytes) {
+    for line in NaturalLines::new(alloc, bytes, Encoding::WINDOWS_1252) {
         let NaturalLine(number, text) = line?;
         all.push_str(format!(in alloc; "{number}|{text};")?.as_str())?;
     }

@@ -9,9 +9,10 @@ ghost use Rattle.java_properties.specs.SettingsTexts.{ending_of, prefix_of, sepa
 use crate::characters::{is_blank, is_comment_sign, is_line_end, is_separator};
 use crate::error::PropertiesError;
 use std::alloc::Global;
+use std::fmt;
 
 /// What ends each line that is written.
-#[derive(Clone, Copy, Debug, PartialEq, Eq)]
+#[derive(Clone, Copy, Debug, PartialEq, Eq, PartialOrd, Ord, Hash)]
 pub enum LineEnding {
     /// A carriage return.
     CR,
@@ -30,6 +31,21 @@ impl LineEnding {
             LineEnding::LF => "\n",
             LineEnding::CRLF => "\r\n",
         }
+    }
+}
+
+impl fmt::Display for LineEnding {
+    ghost use Rattle.std.specs.Prelude.{Some};
+    ghost use Rattle.java_properties.specs.DisplayTexts.{line_ending_display};
+
+    ghost output = { λ ending. Some (line_ending_display ending) };
+
+    fn fmt<W: fmt::Write>(&self, f: &mut fmt::Formatter<W>) -> fmt::Result {
+        f.write_str(match self {
+            LineEnding::CR => "LineEnding::CR",
+            LineEnding::LF => "LineEnding::LF",
+            LineEnding::CRLF => "LineEnding::CRLF",
+        })
     }
 }
 

@@ -1,0 +1,95 @@
+-- What a contract sees of the iterator over items, and what its calls give and leave.
+use Rattle.std.specs.Prelude.{◌≡◌, ◌⊎◌, ℕ, true, false, List, [], ◌∷◌, ◌++◌, Option, Some, None, Result, Ok, Err, string_bytes}
+use Rattle.std.specs.Str.{chars}
+use Rattle.counted_io.specs.Streams.{Reader, HasRead, IsSameReader}
+use Rattle.properties_format.specs.Lines.{InputEnd, end}
+use Rattle.properties_format.specs.Entries as entry
+use Rattle.properties_format.specs.Entries.{Content, Entry, item, malformed}
+use Rattle.properties_format.specs.Escapes.{Malformed}
+use Rattle.properties_format.specs.Items.{ignored, given, broken}
+use Rattle.properties_format.specs.Reading.Items.{outcome_of}
+use Rattle.properties_format.specs.ItemsToCome.{ReaderState}
+use Rattle.properties_format.specs.Reading.ItemsToCome.{items_to_come}
+use Rattle.properties_format.specs.Reading.ReaderSteps.{ReadsEntry}
+use Rattle.java_properties.specs.Errors.{IsPlain, IsMalformed}
+use Rattle.java_properties.specs.Line.{number_of, content_of}
+use Rattle.java_properties.specs.LineJoiner.{IsLazyItems, JoinsError}
+use Rattle.java_properties.specs.declared.error.ErrorKind.TheVariants as kind
+use Rattle.java_properties.specs.declared.error.PropertiesError.{PropertiesError}
+use Rattle.java_properties.specs.declared.line.Line.{Line}
+use Rattle.java_properties.specs.declared.line.LineContent.{LineContent}
+use Rattle.java_properties.specs.declared.line.LineContent.TheVariants.{Comment, KVPair}
+
+-- an iterator: its reader, and where it stands
+pub record Reading (R : Type 0) : Type 0 where
+  pub reader : R
+  pub state : ReaderState
+
+-- the entry that a line is
+abbrev pub said : LineContent → Content
+said (Comment text) = entry.comment (chars (string_bytes text))
+said (KVPair key value) = entry.pair (chars (string_bytes key)) (chars (string_bytes value))
+
+abbrev pub entry_of : Line → Entry
+entry_of line = item (number_of line) (said (content_of line))
+
+-- Why a logical line gave no item: its escapes are malformed, or there was no memory.
+abbrev pub IsNoItem : ℕ → List ℕ → PropertiesError → Type 0
+IsNoItem number text e =
+    ((kind : Malformed) × (outcome_of text ≡ broken kind) × IsMalformed kind number e) ⊎ IsPlain kind.Memory e
+
+-- the item of a logical line, where it has one
+abbrev pub IsItemOf : ℕ → List ℕ → Result (Option Line) PropertiesError → Type 0
+IsItemOf number text (Ok None) = outcome_of text ≡ ignored
+IsItemOf number text (Ok (Some line)) = (number_of line ≡ number) × (outcome_of text ≡ given (said (content_of line)))
+IsItemOf number text (Err e) = IsNoItem number text e
+
+-- After the bytes that were read this entry comes, whatever comes after them, and then what the new state gives; or it is
+-- the last, and the input ended.
+pub data Gives (old : ReaderState) (bytes : List ℕ) (entry : Entry) (new : ReaderState) : Type 0 where
+  going_on : new.is_done ≡ false → ReadsEntry old bytes entry new → Gives old bytes entry new
+  at_last : new.is_done ≡ true → items_to_come old bytes end ≡ entry ∷ [] → Gives old bytes entry new
+
+-- The same of malformed escapes, after which nothing comes.
+pub data Breaks (old : ReaderState) (bytes : List ℕ) (entry : Entry) : Type 0 where
+  before_all : ((d : List ℕ) (ending : InputEnd) → items_to_come old (bytes ++ d) ending ≡ entry ∷ []) → Breaks old bytes entry
+  at_last : items_to_come old bytes end ≡ entry ∷ [] → Breaks old bytes entry
+
+-- An item came. Where what was held gave it already, nothing was read.
+pub record GivesNext {R : Type 0} (reader : Reader R) (old : ReaderState) (from : R) (line : Line) (new : ReaderState) (to : R) : Type 0 where
+  pub bytes : List ℕ
+  pub read : HasRead reader from bytes to
+  pub live : old.is_done ≡ false
+  pub gives : Gives old bytes (entry_of line) new
+  pub ended : new.is_done ≡ true → reader.at_end to ≡ true
+  pub lazy : IsLazyItems old from bytes to
+
+-- No item comes any more: the input ended, or the iterator was at its end and reads nothing.
+pub record GivesNone {R : Type 0} (reader : Reader R) (old : ReaderState) (from : R) (new : ReaderState) (to : R) : Type 0 where
+  pub bytes : List ℕ
+  pub read : HasRead reader from bytes to
+  pub items : items_to_come old bytes end ≡ []
+  pub done : new.is_done ≡ true
+  pub ended : (old.is_done ≡ true) × (new ≡ old) × (to ≡ from) ⊎ (reader.at_end to ≡ true)
+
+-- Malformed escapes came, in the logical line that begins at this number.
+pub record GivesMalformed {R : Type 0} (reader : Reader R) (old : ReaderState) (from : R) (e : PropertiesError) (to : R) : Type 0 where
+  pub bytes : List ℕ
+  pub number : ℕ
+  pub kind : Malformed
+  pub read : HasRead reader from bytes to
+  pub is : IsMalformed kind number e
+  pub breaks : Breaks old bytes (malformed kind number)
+  pub lazy : IsLazyItems old from bytes to
+
+-- What the next item is, and what asking for it leaves. After `None` and after an error the iterator is at its end.
+abbrev pub GivesItem : {R : Type 0} → Reader R → ReaderState → R → Option (Result Line PropertiesError) → ReaderState → R → Type 0
+GivesItem reader old from None new to = GivesNone reader old from new to
+GivesItem reader old from (Some (Ok line)) new to = GivesNext reader old from line new to
+GivesItem reader old from (Some (Err e)) new to =
+    (old.is_done ≡ false) × (new.is_done ≡ true) × (GivesMalformed reader old from e to ⊎ JoinsError reader old from e new to)
+
+-- the same of an iterator, which keeps the reader that it was made of
+abbrev pub NextGives : {R : Type 0} → Reader R → Reading R → Option (Result Line PropertiesError) → Reading R → Type 0
+NextGives reader old answer new =
+    GivesItem reader old.state old.reader answer new.state new.reader × IsSameReader reader old.reader new.reader
