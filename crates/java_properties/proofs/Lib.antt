@@ -16,3 +16,5 @@ pub mod LineJoiner
 pub mod Comparisons
 pub mod Items
 pub mod Readings
+pub mod Joining
+pub mod JoinedRuns

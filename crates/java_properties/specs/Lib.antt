@@ -8,6 +8,7 @@ pub mod Calls
 pub mod Decoding
 pub mod ReadAhead
 pub mod DecodeIter
+pub mod Joining
 pub mod Parsing
 pub mod Escaping
 pub mod Line

@@ -12,6 +12,7 @@ ghost use Rattle.java_properties.specs.NaturalLines.{NaturalReading, NextLineGiv
 mod finder;
 mod join;
 pub mod joiner;
+mod logical;
 mod search;
 mod seeker;
 

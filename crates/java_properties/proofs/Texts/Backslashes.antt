@@ -30,12 +30,16 @@ ending-front front c cs bytes (wide h b bs e l k) ih =
     ∙ ih []
     ∙ sym (ending_backslashes-after front c cs (wide-no_backslash c h))
 
+-- a text ends in as many backslashes in bytes as in characters, whatever stands before it
 ending-encodes : (cs front : List ℕ) → ending_backslashes (front ++ encodes cs) ≡ ending_backslashes (front ++ cs)
 ending-encodes [] front = refl
 ending-encodes (c ∷ cs) front = ending-front front c cs (encode c) (encoded c) (ending-encodes cs)
 
-ending_backslashes-text : (bs : List ℕ) → IsUtf8 bs → ending_backslashes (chars bs) ≡ ending_backslashes bs
-ending_backslashes-text bs u = sym (ending-encodes (chars bs) []) ∙ ap ending_backslashes (encodes-chars bs u)
+pub ending_backslashes-encodes : (cs : List ℕ) → ending_backslashes (encodes cs) ≡ ending_backslashes cs
+ending_backslashes-encodes cs = ending-encodes cs []
+
+pub ending_backslashes-text : (bs : List ℕ) → IsUtf8 bs → ending_backslashes (chars bs) ≡ ending_backslashes bs
+ending_backslashes-text bs u = sym (ending_backslashes-encodes (chars bs)) ∙ ap ending_backslashes (encodes-chars bs u)
 
 -- ---- counted from the end
 

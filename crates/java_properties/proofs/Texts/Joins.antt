@@ -1,81 +1,18 @@
 -- What decides how lines are joined, alike in bytes and in characters.
-use Rattle.std.proofs.Common.{◌≡◌, ℕ, zero, suc, ◌<◌, ◌≤◌, ◌+◌, ◌-◌, ◌==◌, true, false, List, [], ◌∷◌, ◌++◌, length, take, drop, get_or, refl, ap, sym, ◌∙◌, subst, inl, inr, append-nil, length-append, arith}
-use Rattle.std.specs.Prelude.{replicate, reverse, take_while, ◌%◌}
-use Rattle.std.specs.List.{prefix_len}
-use Rattle.std.proofs.Math.Seq.{take-append_seam}
+use Rattle.std.proofs.Common.{◌≡◌, ℕ, ◌<◌, ◌≤◌, ◌+◌, ◌-◌, ◌==◌, true, false, List, [], ◌∷◌, ◌++◌, length, take, drop, get_or, refl, ap, sym, ◌∙◌, subst, inl, inr, length-append, arith}
+use Rattle.std.specs.Prelude.{◌%◌}
+use Rattle.std.proofs.Math.Seq.{take-append_seam, get_or-append_seam}
 use lib.Utf8.{encode, encodes, scalars}
 use Rattle.std.specs.Str.{IsUtf8, IsCharBoundary, chars}
 use Rattle.std.proofs.lemmas.Str.{encodes-chars, encodes-append, IsCharBoundary-from_take}
 use Rattle.std.proofs.lemmas.List.{drop_more, drop_all}
-use Rattle.std.proofs.lemmas.List.Folds.{length-prefix_len}
 use Rattle.std.proofs.lemmas.Bool.{cases_Bool}
-use Rattle.std.proofs.lemmas.Bool.Decides.{eqb_tells}
 use Rattle.properties_format.specs.Text.{backslash, is_comment_sign, without_leading_blanks}
-use Rattle.properties_format.specs.Groups.{leading_backslashes, ending_backslashes, is_open, begins_with_comment_sign, is_comment_line, without_last, without_open_backslash}
-use Rattle.properties_format.proofs.Groups.Open.{ending_backslashes-more, ending_backslashes-none, ending_backslashes-after, ending_backslashes-run, ending_backslashes-split, last_character, open-ends, without_last-push}
-use Rattle.java_properties.proofs.Texts.Characters.{AreWide, IsEncoded, one, wide, encoded, wide-no_backslash, wide-no_comment_sign, scalars-parts, IsPart, part_by}
+use Rattle.properties_format.specs.Groups.{is_open, begins_with_comment_sign, is_comment_line, without_last, without_open_backslash}
+use Rattle.properties_format.proofs.Groups.Open.{open-ends, without_last-push}
+use Rattle.java_properties.proofs.Texts.Characters.{IsEncoded, one, wide, encoded, wide-no_comment_sign, scalars-parts, IsPart, part_by}
+use Rattle.java_properties.proofs.Texts.Backslashes.{ending_backslashes-encodes, ending_backslashes-text}
 use Rattle.java_properties.proofs.Texts.Split.{without_leading_blanks-part}
-
--- ---- backslashes at the end
-
--- bytes that are not ASCII end in no backslash
-ending-wide : (bs : List ℕ) → AreWide bs → ending_backslashes bs ≡ 0
-ending-wide [] w = refl
-ending-wide (b ∷ bs) w = ending_backslashes-after [] b bs (wide-no_backslash b w.0) ∙ ending-wide bs w.1
-
--- a character that is no backslash ends in none
-ending-other : (front : List ℕ) (c : ℕ) (bytes : List ℕ) → IsEncoded c bytes → (c == backslash) ≡ false
-    → ending_backslashes (front ++ bytes) ≡ 0
-ending-other front c bytes (one e) h = rw e (ending_backslashes-none front c h)
-ending-other front c bytes (wide l b bs e k w) h = rw e (ending_backslashes-after front b bs (wide-no_backslash b k) ∙ ending-wide bs w)
-
--- a text that ends in none has none in bytes
-ending-first : (p : List ℕ) → ending_backslashes p ≡ 0 → ending_backslashes (encodes p) ≡ 0
-ending-first p h = elim (last_character p) [
-  | inl k ↦ rw k refl
-  | inr k ↦ elim (eqb_tells k.1 backslash) [
-    | inl m ↦
-        let whole : p ≡ k.0 ++ backslash ∷ [] = k.2 ∙ ap (λ v. k.0 ++ v ∷ []) m.1 in
-        let some : suc (ending_backslashes k.0) ≡ 0 = sym (ending_backslashes-more k.0) ∙ ap ending_backslashes (sym whole) ∙ h in
-        absurd (omega arith)
-    | inr m ↦
-        ap (λ v. ending_backslashes (encodes v)) k.2
-        ∙ ap ending_backslashes (encodes-append k.0 (k.1 ∷ []) ∙ ap (λ v. encodes k.0 ++ v) (append-nil (encode k.1)))
-        ∙ ending-other (encodes k.0) k.1 (encode k.1) (encoded k.1) m.0
-  ]
-]
-
-encodes-run : (n : ℕ) → encodes (replicate n backslash) ≡ replicate n backslash
-unfolding encode
-encodes-run zero = refl
-encodes-run (suc n) = ap (λ v. backslash ∷ v) (encodes-run n)
-
--- a text ends in as many backslashes in bytes as in characters
-ending_backslashes-encodes : (cs : List ℕ) → ending_backslashes (encodes cs) ≡ ending_backslashes cs
-ending_backslashes-encodes cs =
-    let s = ending_backslashes-split cs in
-    let n = ending_backslashes cs in
-    ap (λ v. ending_backslashes (encodes v)) s.1
-    ∙ ap ending_backslashes (encodes-append s.0 (replicate n backslash) ∙ ap (λ v. encodes s.0 ++ v) (encodes-run n))
-    ∙ ending_backslashes-run (encodes s.0) n (ending-first s.0 s.2)
-
-pub ending_backslashes-text : (bs : List ℕ) → IsUtf8 bs → ending_backslashes (chars bs) ≡ ending_backslashes bs
-ending_backslashes-text bs u = sym (ending_backslashes-encodes (chars bs)) ∙ ap ending_backslashes (encodes-chars bs u)
-
--- the characters that are passed over at the front
-leading-prefix : (xs : List ℕ) → prefix_len (λ x. x == backslash) xs ≡ leading_backslashes xs
-leading-prefix [] = refl
-leading-prefix (x ∷ xs) = elim (cases_Bool (x == backslash)) [
-  | inl k ↦ rw k (one-add (prefix_len (λ v. v == backslash) xs) ∙ ap suc (leading-prefix xs))
-  | inr k ↦ rw k refl
-]
-  where
-    one-add : (n : ℕ) → 1 + n ≡ suc n
-    one-add n = omega arith
-
--- what is counted from the end
-pub ending_backslashes-counted : (bs : List ℕ) → IsUtf8 bs → length (take_while (λ x. x == backslash) (reverse bs)) ≡ ending_backslashes (chars bs)
-ending_backslashes-counted bs u = length-prefix_len (λ x. x == backslash) (reverse bs) ∙ leading-prefix (reverse bs) ∙ sym (ending_backslashes-text bs u)
 
 -- ---- comment lines
 
@@ -143,6 +80,7 @@ without_open_backslash-open x h = rw h refl
 -- An open text may be cut before its last byte, which leaves it without its open backslash.
 pub record IsCutOpen (bs : List ℕ) : Type 0 where
   pub some : 1 ≤ length bs
+  pub last : get_or bs (length bs - 1) 0 ≡ backslash
   pub boundary : IsCharBoundary bs (length bs - 1)
   pub rest : chars (take (length bs - 1) bs) ≡ without_open_backslash (chars bs)
 
@@ -151,14 +89,26 @@ cut_open bs u h =
     let open_bytes : is_open bs ≡ true = ap (λ n. n % 2 == 1) (sym (ending_backslashes-text bs u)) ∙ h in
     let whole = open-ends bs open_bytes in
     let size : length bs ≡ length (without_last bs) + 1 = ap length whole ∙ length-append (without_last bs) (backslash ∷ []) in
+    let before : length bs - 1 ≡ length (without_last bs) = omega arith in
     let front : take (length bs - 1) bs ≡ without_open_backslash bs =
-    ap (λ n. take n bs) (let n : length bs - 1 ≡ length (without_last bs) = omega arith in n)
+    ap (λ n. take n bs) before
     ∙ ap (take (length (without_last bs))) whole
     ∙ take-append_seam (without_last bs) (backslash ∷ [])
     ∙ sym (without_open_backslash-open bs open_bytes) in
     let part = without_open_backslash-part bs u in
     record {
       some = omega arith;
+      last = ap (λ n. get_or bs n 0) before ∙ ap (λ v. get_or v (length (without_last bs)) 0) whole ∙ get_or-append_seam (without_last bs) backslash [] 0;
       boundary = IsCharBoundary-from_take bs (length bs - 1) u (omega arith) (subst IsUtf8 (sym front) part.utf8);
       rest = ap chars front ∙ part.same;
     }
+
+-- what is left where the last character of an open text was taken off
+pub popped : (bs rest : List ℕ) (n : ℕ) → IsUtf8 bs → is_open (chars bs) ≡ true → n ≡ length bs
+    → (0 < n → get_or bs (n - 1) 0 < 128 → rest ≡ take (n - 1) bs) → chars rest ≡ without_open_backslash (chars bs)
+popped bs rest n u h e taken =
+    let cut = cut_open bs u h in
+    let same : n - 1 ≡ length bs - 1 = ap (λ m. m - 1) e in
+    let some : 0 < n = omega (arith, cut.some) in
+    let ascii : get_or bs (n - 1) 0 < 128 = subst (λ m. get_or bs m 0 < 128) (sym same) (subst (λ c. c < 128) (sym cut.last) (omega arith)) in
+    ap chars (taken some ascii ∙ ap (λ m. take m bs) same) ∙ cut.rest
