@@ -110,10 +110,12 @@ with_settings w settings = record w { settings = settings }
 
 -- What the setters do: a good text is set, a bad one is refused with the text in the error, and where memory ran out nothing changes either.
 abbrev pub SetsPrefix : {W : Type 0} → Writing W → List ℕ → Result Unit PropertiesError → Writing W → Type 0
-SetsPrefix old prefix = SetsText (IsGoodPrefix prefix) kind.BadCommentPrefix prefix old (with_settings old (with_prefix old.settings prefix))
+SetsPrefix old prefix =
+    SetsText (IsGoodPrefix prefix) kind.BadCommentPrefix prefix old (with_settings old (with_prefix old.settings prefix))
 
 abbrev pub SetsSeparator : {W : Type 0} → Writing W → List ℕ → Result Unit PropertiesError → Writing W → Type 0
-SetsSeparator old separator = SetsText (IsGoodSeparator separator) kind.BadKvSeparator separator old (with_settings old (with_separator old.settings separator))
+SetsSeparator old separator =
+    SetsText (IsGoodSeparator separator) kind.BadKvSeparator separator old (with_settings old (with_separator old.settings separator))
 
 abbrev pub SetsEnding : {W : Type 0} → Writing W → LineEnding → Writing W → Type 0
 SetsEnding old ending new = new ≡ with_settings old (with_ending old.settings ending)

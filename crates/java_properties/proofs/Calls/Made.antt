@@ -33,11 +33,15 @@ never-flushed s (separator_call separator) other e = absurd (cc)
 never-flushed s (ending_call line_ending) other e = absurd (cc)
 never-flushed s flush_call other e = other refl
 
+-- the writer with these changed
+abbrev changed : {W : Type 0} → Writing W → W → Settings → ℕ → Writing W
+changed w to settings lines = record w { sink = to; settings = settings; lines = lines }
+
 -- the writer after two lists of calls
 after-append : {W : Type 0} (w : Writing W) (xs ys : List Call) (middle to : W) → after_calls w (xs ++ ys) to ≡ after_calls (after_calls w xs middle) ys to
-after-append {W} w xs ys middle to =
-    ap (λ s. let x : Writing W = record w { sink = to; settings = s; lines = line_count_after w.settings w.lines (xs ++ ys) } in x) (settings_after-append w.settings xs ys)
-    ∙ ap (λ n. let x : Writing W = record w { sink = to; settings = settings_after (settings_after w.settings xs) ys; lines = n } in x) (line_count_after-append w.settings w.lines xs ys)
+after-append w xs ys middle to =
+    ap (λ s. changed w to s (line_count_after w.settings w.lines (xs ++ ys))) (settings_after-append w.settings xs ys)
+    ∙ ap (changed w to (settings_after (settings_after w.settings xs) ys)) (line_count_after-append w.settings w.lines xs ys)
 
 module _ {W : Type 0} {sink : Sink W} where
   -- no call makes nothing
@@ -50,7 +54,7 @@ module _ {W : Type 0} {sink : Sink W} where
   made-quiet {old = old} {new = new} call none other after = record {
     written = rw (none, after) (written-none old.sink);
     flushed = λ e. absurd (never-flushed old.settings call other e);
-    after = rw none (after ∙ ap (λ (w : W). let x : Writing W = record old { sink = w; settings = settings_after_call old.settings call } in x) (sym (ap (λ (v : Writing W). v.sink) after)));
+    after = rw none (after ∙ ap (λ (to : W). changed old to (settings_after_call old.settings call) old.lines) (sym (ap (λ (v : Writing W). v.sink) after)));
   }
 
   -- a call that writes a line
@@ -63,7 +67,8 @@ module _ {W : Type 0} {sink : Sink W} where
   }
 
   -- a pair that was written
-  pub pair-made : {old new : Writing W} (key value : List ℕ) → HasWrittenLine sink old (pair key value) new → HasMadeCall sink old (pair_call key value) true new
+  pub pair-made : {old new : Writing W} (key value : List ℕ) → HasWrittenLine sink old (pair key value) new
+      → HasMadeCall sink old (pair_call key value) true new
   pair-made key value h =
       let some = ap (λ b. cond b (Some (pair key value)) None) h.takes.accepted in
       record {
@@ -96,8 +101,9 @@ module _ {W : Type 0} {sink : Sink W} where
       → HasMadeCall sink middle call accepted new → HasMade sink old (calls ++ (call ∷ [])) new
   made-more {old = old} {middle = middle} {new = new} {calls = calls} {call = call} m k =
       let next = from-after m k in
+      let whole = flushed-append old.settings false calls (call ∷ []) in
       record {
         written = rw wrote-append (written-more m.written next.made.written);
-        flushed = λ e. last-flushed (flushed_after old.settings false calls) call m.flushed next (sym (flushed-append old.settings false calls (call ∷ [])) ∙ e);
+        flushed = λ e. last-flushed (flushed_after old.settings false calls) call m.flushed next (sym whole ∙ e);
         after = next.made.after ∙ sym (after-append old calls (call ∷ []) middle.sink new.sink);
       }

@@ -20,6 +20,8 @@ pub returns : goal.returns
 returns c =
     let e = output_of c.args.encoding in
     let place = place_of c.args.place in
-    let t = YieldsList-end (YieldsList-from_chars c.args.text.now c.utf8.text cc) c.loop-character.yielded _ c.loop-character.yielded_by _ _ c.in-None.is c.next.ensures.steps in
-    let all = sym (map-id c.loop-character.yielded) ∙ t.0 in
+    let loop = c.loop-character in
+    let yields = YieldsList-from_chars c.args.text.now c.utf8.text cc in
+    let last = YieldsList-end yields loop.yielded _ loop.yielded_by _ _ c.in-None.is c.next.ensures.steps in
+    let all = sym (map-id loop.yielded) ∙ last.0 in
     c.loop-character.invariant ∙ ap (λ v. c.args.line.now.items ++ encoded_text e (spelt_text e place v)) all

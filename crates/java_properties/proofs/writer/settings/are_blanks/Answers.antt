@@ -8,18 +8,23 @@ use Rattle.java_properties.proofs.writer.settings.are_blanks.Goals as goal
 
 pub returns-then-not-is_blank : goal.returns-then-not-is_blank
 returns-then-not-is_blank c =
+    let here = c.in-Some.character in
+    let rest = chars (chars_rest c.next.new.self) in
+    let parts = c.in-Some.ensures.steps.0 in
     let held = c.loop-character.invariant in
     let blank = sym c.is_blank.ensures ∙ c.if-not-is_blank.true in
-    sym (past_first is_blanks _ false _ _ c.in-Some.character held.utf8 c.in-Some.ensures.steps.0 held.same (ap (λ v. v && is_blanks (chars (chars_rest c.next.new.self))) blank))
+    sym (past_first is_blanks _ false _ _ here held.utf8 parts held.same (ap (λ v. v && is_blanks rest) blank))
 
 pub loop-character-preserved : goal.loop-character-preserved
 loop-character-preserved c =
-    let held = c.loop-character.invariant in
+    let here = c.in-Some.character in
+    let rest = chars (chars_rest c.next.new.self) in
     let parts = c.in-Some.ensures.steps.0 in
+    let held = c.loop-character.invariant in
     let blank = sym c.is_blank.ensures ∙ c.if-not-is_blank.false in
     record {
-      utf8 = IsUtf8-past_char _ _ c.in-Some.character held.utf8 parts;
-      same = past_first is_blanks _ _ _ _ c.in-Some.character held.utf8 parts held.same (ap (λ v. v && is_blanks (chars (chars_rest c.next.new.self))) blank);
+      utf8 = IsUtf8-past_char _ _ here held.utf8 parts;
+      same = past_first is_blanks _ _ _ _ here held.utf8 parts held.same (ap (λ v. v && is_blanks rest) blank);
     }
 
 pub returns : goal.returns
