@@ -1,2 +1,2 @@
-pub mod Pumping
 pub mod Pairs
+pub mod Filtered

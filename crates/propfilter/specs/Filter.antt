@@ -3,7 +3,7 @@ use Rattle.std.specs.Prelude.{◌≡◌, ◌⊎◌, ◌+◌, ◌==◌, ℕ, true
 use Rattle.std.specs.declared.io.Error.{Error}
 use Rattle.counted_io.specs.Streams.{Reader, HasRead, HasFailed, Sink, HasWritten, HasFaulted, HasFailedFlush, IsProperPrefix, CameFromWrite}
 use Rattle.properties_format.specs.Encoding.{Encoding, output_encoding}
-use Rattle.properties_format.specs.Entries.{comment, pair, Entry, item, malformed, read_fault}
+use Rattle.properties_format.specs.Entries.{Content, comment, pair, Entry, item, malformed, read_fault}
 use Rattle.properties_format.specs.Escapes.{Malformed}
 use Rattle.properties_format.specs.Items.{IsItems}
 use Rattle.properties_format.specs.Lines.{InputEnd, end, fault}
@@ -11,6 +11,7 @@ use Rattle.properties_format.specs.Printing.{printed}
 use Rattle.properties_format.specs.Settings.{default_settings}
 use Rattle.properties_format.specs.Writing.{Call, pair_call, wrote}
 use Rattle.java_properties.specs.Errors.{cause_of_write, IsError, IsBareError, IsStreamError, IsMalformed}
+use Rattle.java_properties.specs.PropertiesWriter.{Writing, WritesLine}
 use Rattle.java_properties.specs.declared.error.ErrorKind.TheVariants as kind
 use Rattle.java_properties.specs.declared.error.PropertiesError.{PropertiesError}
 
@@ -80,6 +81,11 @@ pub record FailsAfterPairs {W : Type 0} (sink : Sink W) (e : Encoding) (old : W)
   pub source : Error
   pub flushed : HasFailedFlush sink middle source new
   pub is : IsStreamError None source error
+
+-- What writing an item does: a pair is written as a line, and a comment is not written.
+abbrev pub WritesItem : {W : Type 0} → Sink W → Writing W → Content → Result Unit PropertiesError → Writing W → Type 0
+WritesItem sink old (comment text) result new = (result ≡ Ok tt) × (new ≡ old)
+WritesItem sink old (pair key value) result new = WritesLine sink old (pair key value) result new
 
 -- ---- how it ends
 
