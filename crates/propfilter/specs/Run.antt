@@ -1,5 +1,5 @@
 -- What the program does, over any streams.
-use Rattle.std.specs.Prelude.{◌≡◌, ◌⊎◌, ℕ, List, [], ◌∷◌, ◌++◌, Option, Some, None, Result, Ok, Err, codes, map, string_bytes}
+use Rattle.std.specs.Prelude.{IfSome, ◌≡◌, ◌⊎◌, ℕ, List, [], ◌∷◌, ◌++◌, Option, Some, None, Result, Ok, Err, codes, map, string_bytes}
 use Rattle.std.specs.declared.string.String.{String}
 use Rattle.std.specs.declared.io.Error.{Error}
 use Rattle.counted_io.specs.Streams.{Reader, Sink, HasFlushed, HasFailedFlush, Sends}
@@ -62,10 +62,10 @@ abbrev pub status_of : Result Unit PropertiesError → ℕ
 status_of (Ok done) = 0
 status_of (Err error) = 1
 
--- What is said of it: nothing, or the text of the error.
+-- What is said of it: nothing, or the text of the error, where that is known.
 abbrev pub SaysError : {W : Type 0} → Sink W → W → Result Unit PropertiesError → W → Type 0
 SaysError sink old (Ok done) new = new ≡ old
-SaysError sink old (Err error) new = (text : List ℕ) × (error_display error ≡ Some text) × Says sink old text new
+SaysError sink old (Err error) new = IfSome (error_display error) (λ text. Says sink old text new)
 
 -- The input was filtered to the output, and an error was said on `errors`.
 pub record HasRun {R W E : Type 0} (reader : Reader R) (sink : Sink W) (error_sink : Sink E) (e : format.Encoding) (input : R) (output : W) (errors : E)
