@@ -108,19 +108,12 @@ pub fn check_pieces(
     Ok(())
 }
 
-/// The bytes in pieces of this size.
-pub fn pieces<'a>(
-    alloc: Global,
-    bytes: &'a [u8],
-    size: usize,
-) -> Result<Vec<&'a [u8]>, AllocError> {
+// The bytes in pieces of this size.
+fn pieces<'a>(alloc: Global, bytes: &'a [u8], size: usize) -> Result<Vec<&'a [u8]>, AllocError> {
     let mut pieces = Vec::new(alloc);
-    let mut rest = bytes;
-    while let Some((piece, others)) = rest.split_at_checked(size.max(1)) {
+    for piece in bytes.chunks(size.max(1)) {
         pieces.push(piece)?;
-        rest = others;
     }
-    pieces.push(rest)?;
     Ok(pieces)
 }
 
