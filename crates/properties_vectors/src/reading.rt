@@ -1,6 +1,7 @@
 // What is read.
 
 mod before_fault;
+mod displays;
 mod encodings;
 mod escapes;
 mod faults;

@@ -172,6 +172,3 @@ pub(crate) fn is_good_separator(text: &str) -> bool
     }
     !text.is_empty()
 }
-
-#[cfg(test)]
-mod tests;
