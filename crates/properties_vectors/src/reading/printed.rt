@@ -45,6 +45,37 @@ fn printed_pairs_are_read(rt: HostRuntime) -> Result<(), Fail> {
 }
 
 #[test]
+fn good_settings_are_read(rt: HostRuntime) -> Result<(), Fail> {
+    let rows: [Row<'_>; 2] = [
+        (
+            b"x:y\nx=y\nx y\nx: y\nx =y\nx= y\nx\ty\n",
+            &[
+                Pair(1, "x", "y"),
+                Pair(2, "x", "y"),
+                Pair(3, "x", "y"),
+                Pair(4, "x", "y"),
+                Pair(5, "x", "y"),
+                Pair(6, "x", "y"),
+                Pair(7, "x", "y"),
+            ],
+        ),
+        (
+            b"#c\n!c\n #c\n !c\n#xc\n!xc\n\x0c#c\n",
+            &[
+                Comment(1, "c"),
+                Comment(2, "c"),
+                Comment(3, "c"),
+                Comment(4, "c"),
+                Comment(5, "xc"),
+                Comment(6, "xc"),
+                Comment(7, "c"),
+            ],
+        ),
+    ];
+    check_rows(&rt, rt.alloc(), Encoding::WINDOWS_1252, &rows)
+}
+
+#[test]
 fn printed_comments_are_read(rt: HostRuntime) -> Result<(), Fail> {
     let rows: [Row<'_>; 13] = [
         (b"# \n", &[Comment(1, "")]),
@@ -66,8 +97,14 @@ fn printed_comments_are_read(rt: HostRuntime) -> Result<(), Fail> {
 
 #[test]
 fn printed_utf_8_is_read(rt: HostRuntime) -> Result<(), Fail> {
-    let rows: [Row<'_>; 5] = [
+    let rows: [Row<'_>; 8] = [
         (b"=\n", &[Pair(1, "", "")]),
+        (b"a=b\n", &[Pair(1, "a", "b")]),
+        (b"\\!=\\#\n", &[Pair(1, "!", "#")]),
+        (
+            b"\\u00e9=\\ud83d\\udc1e\n",
+            &[Pair(1, "\u{e9}", "\u{1f41e}")],
+        ),
         (b"\\ \\:\\==\\ \\:\\=\n", &[Pair(1, " :=", " :=")]),
         (b"\\ufeff=\n", &[Pair(1, "\u{feff}", "")]),
         (
