@@ -54,6 +54,16 @@ impl<R: CountedRead> NaturalLines<R> {
             alloc,
         }
     }
+
+    // The same as if so many line ends had been passed.
+    #[cfg(test)]
+    fn after_lines(alloc: Global, reader: R, encoding: Encoding, passed: usize) -> NaturalLines<R>
+        ensures { result ≡ record { reader = reader; state = record (start (encoding_of encoding)) { passed = passed } } }
+    {
+        let mut lines = NaturalLines::new(alloc, reader, encoding);
+        lines.finder.count_from(passed);
+        lines
+    }
 }
 
 impl<R: CountedRead> Iterator for NaturalLines<R> {

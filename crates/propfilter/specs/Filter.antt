@@ -63,7 +63,9 @@ pub record HasFailedAfter {R : Type 0} (reader : Reader R) (e : Encoding) (old :
 
 -- The bytes were taken, and then the sink was flushed, or its flush failed.
 abbrev pub TakesAndFlushes : {W : Type 0} → Sink W → W → List ℕ → W → Type 0
-TakesAndFlushes sink old bytes new = (HasWritten sink old bytes new × (sink.is_flushed new ≡ true)) ⊎ HasFaulted sink old bytes new
+TakesAndFlushes {W} sink old bytes new =
+    (HasWritten sink old bytes new × (sink.is_flushed new ≡ true))
+    ⊎ ((middle : W) × HasWritten sink old bytes middle × ((source : Error) × HasFailedFlush sink middle source new))
 
 -- The pairs of these items were written, and a proper prefix of the line of this pair. Then a write failed, and the error has the number of that line and what the sink said.
 pub record FailsInPair {W : Type 0} (sink : Sink W) (e : Encoding) (old : W) (items : List Entry) (key value : List ℕ) (error : PropertiesError) (new : W) : Type 0 where

@@ -1,4 +1,4 @@
-// Lines as they are printed, ordered, hashed, cloned and taken apart.
+// Lines as they are ordered, hashed, cloned and taken apart.
 
 use super::*;
 use std::alloc::{AllocError, Global};
@@ -21,36 +21,6 @@ fn hash_of<T: Hash>(value: &T) -> u64 {
     let mut state = DefaultHasher::new();
     value.hash(&mut state);
     state.finish()
-}
-
-#[test]
-fn prints_lines(rt: HostRuntime) -> Result<(), Fail> {
-    let alloc = rt.alloc();
-    let line = Line::new(1, pair(alloc, "foo", "bar")?);
-    let wanted = r#"Line {line_number: 1, content: KVPair("foo", "bar")}"#;
-    assert_eq!(rt; line.to_string(alloc)?.as_str(), wanted);
-    let line = Line::new(1, comment(alloc, "baz")?);
-    let wanted = r#"Line {line_number: 1, content: Comment("baz")}"#;
-    assert_eq!(rt; line.to_string(alloc)?.as_str(), wanted);
-    Ok(())
-}
-
-#[test]
-fn prints_contents(rt: HostRuntime) -> Result<(), Fail> {
-    let alloc = rt.alloc();
-    let rows = [
-        (pair(alloc, "a\"", "\x0c")?, r#"KVPair("a\"", "\u{c}")"#),
-        (comment(alloc, "x\0\\")?, r#"Comment("x\0\\")"#),
-        (
-            comment(alloc, "\t\r\n\x1f\x7f")?,
-            r#"Comment("\t\r\n\u{1f}\u{7f}")"#,
-        ),
-        (comment(alloc, "caf\u{e9}")?, "Comment(\"caf\u{e9}\")"),
-    ];
-    for (content, wanted) in rows {
-        assert_eq!(rt; content.to_string(alloc)?.as_str(), wanted);
-    }
-    Ok(())
 }
 
 #[test]

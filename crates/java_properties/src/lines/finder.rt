@@ -67,6 +67,14 @@ impl LineFinder {
         self.seeker.end();
     }
 
+    /// Counts on from so many line ends, so that a test comes to the last number.
+    #[cfg(test)]
+    pub fn count_from(&mut self, passed: usize)
+        ensures { self.new ≡ record self.old { state = record self.old.state { passed = passed } } }
+    {
+        self.seeker.count_from(passed);
+    }
+
     /// Finds the next line, and returns its number; or an error, or `None` where no more come.
     ///
     /// A line that a CR ends is found at once: an LF that comes next belongs to its end.

@@ -107,6 +107,14 @@ impl LineSeeker {
         self.after_cr = is_cr;
     }
 
+    /// Counts on from so many line ends, so that a test comes to the last number.
+    #[cfg(test)]
+    pub fn count_from(&mut self, passed: usize)
+        ensures { self.new ≡ record self.old { passed = passed } }
+    {
+        self.passed = passed;
+    }
+
     /// Lets go of so many bytes.
     pub fn take(&mut self, count: usize)
         requires { count ≤ length self.old.held }

@@ -202,6 +202,3 @@ fn hexadecimal_digit(value: u32) -> u8
 {
     HEXADECIMAL[value as usize]
 }
-
-#[cfg(test)]
-mod tests;

@@ -203,6 +203,3 @@ fn are_blanks(text: &str) -> bool
     }
     true
 }
-
-#[cfg(test)]
-mod tests;
