@@ -56,17 +56,17 @@ module _ {X W : Type 0} (now : X → W) (name : X → ℕ) (sink : Sink W) where
   failed_flush-behind : {old new : X} {error : Error} → HasFailedFlush (sink_behind now name sink) old error new → HasFailedFlush sink (now old) error (now new)
   failed_flush-behind h = record { kept = h.kept; risen = h.risen; same = h.same; given = (now h.given.0, h.given.1) }
 
-  came-behind : {new : X} (cause : Option Error) → CameFromWrite (sink_behind now name sink) cause new → CameFromWrite sink cause (now new)
-  came-behind None h = (now h.0, h.1, h.2.0, h.2.1)
-  came-behind (Some error) h = (now h.0, h.1, h.2)
+  came-behind : (new : X) (cause : Option Error) → CameFromWrite (sink_behind now name sink) cause new → CameFromWrite sink cause (now new)
+  came-behind new None h = (now h.0, h.1, h.2, h.3)
+  came-behind new (Some error) h = (now h.0, h.1, h.2)
 
   flushes-behind : {old new : X} {bytes : List ℕ} → TakesAndFlushes (sink_behind now name sink) old bytes new → TakesAndFlushes sink (now old) bytes (now new)
   flushes-behind (inl h) = inl (written-behind h.0, h.1)
-  flushes-behind (inr h) = inr (now h.0, written-behind h.1, h.2.0, failed_flush-behind h.2.1)
+  flushes-behind (inr h) = inr (now h.0, written-behind h.1, (h.2.0, failed_flush-behind h.2.1))
 
   in_pair-behind : {old new : X} {e : Encoding} {items : List Entry} {key value : List ℕ} {error : PropertiesError}
       → FailsInPair (sink_behind now name sink) e old items key value error new → FailsInPair sink e (now old) items key value error (now new)
-  in_pair-behind h = record { part = h.part; begins = h.begins; faulted = faulted-behind h.faulted; cause = h.cause; given = came-behind h.cause h.given; is = h.is }
+  in_pair-behind {new = new} h = record { part = h.part; begins = h.begins; faulted = faulted-behind h.faulted; cause = h.cause; given = came-behind new h.cause h.given; is = h.is }
 
   after_pairs-behind : {old new : X} {e : Encoding} {items : List Entry} {error : PropertiesError}
       → FailsAfterPairs (sink_behind now name sink) e old items error new → FailsAfterPairs sink e (now old) items error (now new)
@@ -74,17 +74,17 @@ module _ {X W : Type 0} (now : X → W) (name : X → ℕ) (sink : Sink W) where
 
 module _ {X R : Type 0} (now-r : X → R) (name-r : X → ℕ) (reader : Reader R) where
   module _ {Y W : Type 0} (now-w : Y → W) (name-w : Y → ℕ) (sink : Sink W) where
-    pub filters-behind : {e : Encoding} {input input' : X} {output output' : Y} (result : Result Unit PropertiesError)
+    pub filters-behind : (e : Encoding) (input : X) (output : Y) (input' : X) (output' : Y) (result : Result Unit PropertiesError)
         → Filters (reader_behind now-r name-r reader) (sink_behind now-w name-w sink) e input output result input' output'
         → Filters reader sink e (now-r input) (now-w output) result (now-r input') (now-w output')
-    filters-behind (Ok done) h = record {
+    filters-behind e input output input' output' (Ok done) h = record {
       entries = h.entries;
       read = entries-behind now-r name-r reader h.read;
       faultless = h.faultless;
       written = written-behind now-w name-w sink h.written;
       flushed = h.flushed;
     }
-    filters-behind (Err error) (inl h) = inl (record {
+    filters-behind e input output input' output' (Err error) (inl h) = inl (record {
       items = h.items;
       number = h.number;
       source = h.source;
@@ -93,7 +93,7 @@ module _ {X R : Type 0} (now-r : X → R) (name-r : X → ℕ) (reader : Reader 
       is = h.is;
       written = flushes-behind now-w name-w sink h.written;
     })
-    filters-behind (Err error) (inr (inl h)) = inr (inl (record {
+    filters-behind e input output input' output' (Err error) (inr (inl h)) = inr (inl (record {
       items = h.items;
       how = h.how;
       number = h.number;
@@ -103,7 +103,7 @@ module _ {X R : Type 0} (now-r : X → R) (name-r : X → ℕ) (reader : Reader 
       is = h.is;
       written = flushes-behind now-w name-w sink h.written;
     }))
-    filters-behind (Err error) (inr (inr (inl h))) = inr (inr (inl (record {
+    filters-behind e input output input' output' (Err error) (inr (inr (inl h))) = inr (inr (inl (record {
       items = h.items;
       number = h.number;
       key = h.key;
@@ -114,13 +114,13 @@ module _ {X R : Type 0} (now-r : X → R) (name-r : X → ℕ) (reader : Reader 
       faultless = h.faultless;
       fails = in_pair-behind now-w name-w sink h.fails;
     })))
-    filters-behind (Err error) (inr (inr (inr (inl h)))) = inr (inr (inr (inl (record {
+    filters-behind e input output input' output' (Err error) (inr (inr (inr (inl h)))) = inr (inr (inr (inl (record {
       entries = h.entries;
       read = entries-behind now-r name-r reader h.read;
       faultless = h.faultless;
       fails = after_pairs-behind now-w name-w sink h.fails;
     }))))
-    filters-behind (Err error) (inr (inr (inr (inr h)))) = inr (inr (inr (inr (record {
+    filters-behind e input output input' output' (Err error) (inr (inr (inr (inr h)))) = inr (inr (inr (inr (record {
       items = h.items;
       others = h.others;
       ending = h.ending;

@@ -128,7 +128,7 @@ module _ {W : Type 0} {sink : Sink W} {e : Encoding} {output : W} where
       → Flushes sink w result new → TakesAndFlushes sink output (pair_lines e items) new.sink
   pairs-flush new (Ok done) h k = inl (pairs-flushed h k)
   pairs-flush new (Err error) h (inl k) = absurd (let live = pairs-live h in let failed = k.failed in cc)
-  pairs-flush {w = w} new (Err error) h (inr k) = inr (w.sink, pairs-written h, k.cause, k.flushed)
+  pairs-flush {w = w} new (Err error) h (inr k) = inr (w.sink, pairs-written h, (k.cause, k.flushed))
 
 -- before the first pair
 pub pairs-none : {W : Type 0} (sink : Sink W) (e : Encoding) (output : W) → HasWrittenPairs sink e output [] (new_writer (output_encoding e) output)
