@@ -1,4 +1,2 @@
 pub mod Filter
 pub mod Run
-pub mod Filtering
-pub mod Running
