@@ -33,7 +33,7 @@ reading-of e bytes ending entries h =
       splitting = λ text lines d. (λ k. byline-is_lines e bytes text lines k d, λ k. lines-is_byline e bytes text lines k d);
     })
 
-items-are : (e : Encoding) (bytes : List ℕ) (ending : InputEnd) (entries : List Entry) → items_of e bytes ending ≡ entries → IsItems e bytes ending entries
+pub items-are : (e : Encoding) (bytes : List ℕ) (ending : InputEnd) (entries : List Entry) → items_of e bytes ending ≡ entries → IsItems e bytes ending entries
 items-are e bytes ending entries h = subst (IsItems e bytes ending) h (items_of-meets e bytes ending)
 
 -- After the bytes that were read these items came; and others still come, or the input ended.
@@ -45,7 +45,7 @@ pub record Collected {R : Type 0} (reader : Reader R) (e : Encoding) (from : R) 
   pub read : HasRead reader from bytes to
   pub comes : Comes e bytes entries (reader.at_end to) new
 
-live-on : {e : Encoding} {r : List ℕ} {entries : List Entry} {s : ReaderState} {at_end : Bool} → Comes e r entries at_end s → s.is_done ≡ false
+pub live-on : {e : Encoding} {r : List ℕ} {entries : List Entry} {s : ReaderState} {at_end : Bool} → Comes e r entries at_end s → s.is_done ≡ false
     → (d : List ℕ) (ending : InputEnd) → items_of e (r ++ d) ending ≡ entries ++ items_to_come s d ending
 live-on (Comes.going_on g m) h = m
 live-on (Comes.at_last d k m) h = absurd (cc)

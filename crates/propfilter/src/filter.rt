@@ -16,7 +16,8 @@ use std::alloc::Global;
 /// Reads the items of an input in this encoding, and writes each pair as one line in its output encoding. Comments are
 /// dropped.
 ///
-/// At a reader's error the pairs before it have been written, and the sink is flushed once.
+/// A byte order mark changes how the input is read, and never how the pairs are written. At a reader's error the pairs
+/// before it have been written, and the sink is flushed once.
 ///
 /// ```text
 /// let mut input: &[u8] = b"# a comment\nb = 2\na";
