@@ -1,3 +1,4 @@
 pub mod Pairs
-pub mod Filtered
-pub mod Borrowed
+pub mod Filtering
+pub mod Lent
+pub mod Errors

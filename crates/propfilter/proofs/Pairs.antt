@@ -1,8 +1,8 @@
 -- Pairs that are written one after another.
-use Rattle.std.proofs.Common.{◌≡◌, ◌⊎◌, ◌+◌, ◌==◌, ◌++◌, ℕ, true, false, List, [], ◌∷◌, refl, ap, sym, ◌∙◌, inl, inr, append-nil, add-zero, zero-add, arith}
+use Rattle.std.proofs.Common.{◌≡◌, ◌⊎◌, ◌+◌, ◌^◌, ◌==◌, ◌++◌, ℕ, true, false, List, [], ◌∷◌, refl, ap, sym, ◌∙◌, inl, inr, append-nil, add-zero, zero-add, arith}
 use Rattle.std.specs.Prelude.{Result, Ok, Err}
 use Rattle.counted_io.specs.Streams.{Sink, HasWritten}
-use Rattle.counted_io.proofs.Streams.{faulted-more, written-flushed}
+use Rattle.counted_io.proofs.Streams.{faulted-more, written-flushed, written-failed_flush}
 use Rattle.properties_format.specs.Printing.{printed}
 use Rattle.properties_format.specs.Encoding.{Encoding, output_encoding}
 use Rattle.properties_format.specs.Entries.{comment, pair, Entry, item, malformed, read_fault}
@@ -15,7 +15,7 @@ use Rattle.java_properties.specs.declared.error.ErrorKind.{ErrorKind}
 use Rattle.java_properties.specs.declared.error.ErrorKind.TheVariants as kind
 use Rattle.java_properties.specs.declared.error.PropertiesError.{PropertiesError}
 use Rattle.java_properties.proofs.Calls.Made.{made-none, pair-made, made-more}
-use Rattle.propfilter.specs.Filter.{pair_calls, pair_count, pair_lines, next_pair_line, TakesAndFlushes, FailsInPair, FailsAfterPairs}
+use Rattle.propfilter.specs.Filter.{pair_calls, pair_count, pair_lines, next_pair_line, TakesAndFlushes, FailsInPair, FailsAfterPairs, RefusesPair}
 
 -- the pairs of two lists of entries
 pub pair_calls-append : (xs ys : List Entry) → pair_calls (xs ++ ys) ≡ pair_calls xs ++ pair_calls ys
@@ -49,10 +49,10 @@ lines-counted n (read_fault number ∷ entries) = lines-counted n entries
 
 -- a pair is refused by want of line numbers or of memory alone
 refused-kind : {W : Type 0} (w : Writing W) (key value : List ℕ) (k : ErrorKind) → w.failed ≡ false → w.settings ≡ default_settings
-    → IsRefusedBy k w (pair key value) → (k ≡ kind.Memory) ⊎ (k ≡ kind.TooManyLines)
+    → IsRefusedBy k w (pair key value) → (k ≡ kind.Memory) ⊎ ((k ≡ kind.TooManyLines) × (w.lines + 1 ≡ 2 ^ 64))
 refused-kind w key value kind.Failed live same reason = absurd (cc)
 refused-kind w key value kind.EmptyKey live same reason = absurd (let yes = pair-accepted key value in cc)
-refused-kind w key value kind.TooManyLines live same reason = inr refl
+refused-kind w key value kind.TooManyLines live same reason = inr (refl, reason.2)
 refused-kind w key value kind.Memory live same reason = inl refl
 refused-kind w key value other live same reason = absurd reason
 
@@ -109,10 +109,14 @@ module _ {W : Type 0} {sink : Sink W} {e : Encoding} {output : W} where
 
   -- a pair was refused, and nothing was written
   pub pairs-refused : {items : List Entry} {w new : Writing W} {error : PropertiesError} (key value : List ℕ) → HasWrittenPairs sink e output items w
-      → RefusesLine w (pair key value) error new
-      → HasWritten sink output (pair_lines e items) new.sink × (IsBareError kind.Memory error ⊎ IsBareError kind.TooManyLines error)
-  pairs-refused {w = w} {error = error} key value h k =
-      (rw k.same (pairs-written h), elim (refused-kind w key value (kind_of error) (pairs-live h) (pairs-settings h) k.reason) [ inl is ↦ inl (bare is k.is) | inr is ↦ inr (bare is k.is) ])
+      → RefusesLine w (pair key value) error new → RefusesPair sink e output items error new.sink
+  pairs-refused {w = w} {error = error} key value h k = record {
+    written = rw k.same (pairs-written h);
+    is = elim (refused-kind w key value (kind_of error) (pairs-live h) (pairs-settings h) k.reason) [
+      | inl is ↦ inl (bare is k.is)
+      | inr is ↦ inr (bare is.0 k.is, ap (λ n. n + 1) (sym (pairs-lines h)) ∙ is.1)
+    ];
+  }
 
   -- the flush after the last pair
   pub pairs-flushed : {items : List Entry} {w new : Writing W} → HasWrittenPairs sink e output items w → HasFlushedSink sink w new
@@ -128,7 +132,7 @@ module _ {W : Type 0} {sink : Sink W} {e : Encoding} {output : W} where
       → Flushes sink w result new → TakesAndFlushes sink output (pair_lines e items) new.sink
   pairs-flush new (Ok done) h k = inl (pairs-flushed h k)
   pairs-flush new (Err error) h (inl k) = absurd (let live = pairs-live h in let failed = k.failed in cc)
-  pairs-flush {w = w} new (Err error) h (inr k) = inr (w.sink, pairs-written h, (k.cause, k.flushed))
+  pairs-flush new (Err error) h (inr k) = inr (written-failed_flush (pairs-written h) k.flushed)
 
 -- before the first pair
 pub pairs-none : {W : Type 0} (sink : Sink W) (e : Encoding) (output : W) → HasWrittenPairs sink e output [] (new_writer (output_encoding e) output)

@@ -1,17 +1,15 @@
--- What `filter` does: it reads the entries of an input, and writes each pair as one line.
-use Rattle.std.specs.Prelude.{◌≡◌, ◌⊎◌, ◌+◌, ◌==◌, ℕ, true, List, [], ◌∷◌, ◌++◌, length, Option, Some, None, Result, Ok, Err}
+-- What `filter` does: it reads the items of an input, and writes each pair as one line.
+use Rattle.std.specs.Prelude.{◌≡◌, ◌⊎◌, ◌+◌, ◌^◌, ◌==◌, ℕ, true, List, [], ◌∷◌, ◌++◌, length, Option, Some, None, Result, Ok, Err}
 use Rattle.std.specs.declared.io.Error.{Error}
-use Rattle.counted_io.specs.Streams.{Reader, HasRead, HasFailed, Sink, HasWritten, HasFaulted, HasFailedFlush, IsProperPrefix, CameFromWrite}
+use Rattle.counted_io.specs.Streams.{Reader, HasRead, Sink, HasWritten, HasFaulted, HasFailedFlush, IsProperPrefix, CameFromWrite}
 use Rattle.properties_format.specs.Encoding.{Encoding, output_encoding}
 use Rattle.properties_format.specs.Entries.{Content, comment, pair, Entry, item, malformed, read_fault}
-use Rattle.properties_format.specs.Escapes.{Malformed}
-use Rattle.properties_format.specs.Items.{IsItems}
-use Rattle.properties_format.specs.Lines.{InputEnd, end, fault}
 use Rattle.properties_format.specs.Printing.{printed}
 use Rattle.properties_format.specs.Settings.{default_settings}
 use Rattle.properties_format.specs.Writing.{Call, pair_call, wrote}
-use Rattle.java_properties.specs.Errors.{cause_of_write, IsError, IsBareError, IsStreamError, IsMalformed}
+use Rattle.java_properties.specs.Errors.{cause_of_write, IsError, IsBareError, IsStreamError}
 use Rattle.java_properties.specs.PropertiesWriter.{Writing, WritesLine}
+use Rattle.java_properties.specs.ReadLines.{BeginsItems, ReadsWhole, StopsMalformed, StopsFailed, StopsEarly}
 use Rattle.java_properties.specs.declared.error.ErrorKind.TheVariants as kind
 use Rattle.java_properties.specs.declared.error.PropertiesError.{PropertiesError}
 
@@ -44,28 +42,16 @@ AreItems (item number content ∷ entries) = AreItems entries
 AreItems (malformed kind number ∷ entries) = ⊥
 AreItems (read_fault number ∷ entries) = ⊥
 
--- ---- what was read
-
--- No read failed, and these are the entries of the bytes that were read, at this ending. It is the end only where the reader is at its own.
-pub record HasReadEntries {R : Type 0} (reader : Reader R) (e : Encoding) (old : R) (ending : InputEnd) (entries : List Entry) (new : R) : Type 0 where
-  pub bytes : List ℕ
-  pub read : HasRead reader old bytes new
-  pub items : IsItems e bytes ending entries
-  pub ended : ending ≡ end → reader.at_end new ≡ true
-
--- A read failed by this error, and these are the entries of the bytes that were read before, the fault among them.
-pub record HasFailedAfter {R : Type 0} (reader : Reader R) (e : Encoding) (old : R) (source : Error) (entries : List Entry) (new : R) : Type 0 where
-  pub bytes : List ℕ
-  pub failed : HasFailed reader old bytes source new
-  pub items : IsItems e bytes fault entries
-
 -- ---- what was written
+
+-- A pair is written as one line, and a comment isn't.
+abbrev pub WritesIfPair : {W : Type 0} → Sink W → Writing W → Content → Result Unit PropertiesError → Writing W → Type 0
+WritesIfPair sink old (comment text) result new = (result ≡ Ok tt) × (new ≡ old)
+WritesIfPair sink old (pair key value) result new = WritesLine sink old (pair key value) result new
 
 -- The bytes were taken, and then the sink was flushed, or its flush failed.
 abbrev pub TakesAndFlushes : {W : Type 0} → Sink W → W → List ℕ → W → Type 0
-TakesAndFlushes {W} sink old bytes new =
-    (HasWritten sink old bytes new × (sink.is_flushed new ≡ true))
-    ⊎ ((middle : W) × HasWritten sink old bytes middle × ((source : Error) × HasFailedFlush sink middle source new))
+TakesAndFlushes sink old bytes new = (HasWritten sink old bytes new × (sink.is_flushed new ≡ true)) ⊎ HasFaulted sink old bytes new
 
 -- The pairs of these items were written, and a proper prefix of the line of this pair. Then a write failed, and the error has the number of that line and what the sink said.
 pub record FailsInPair {W : Type 0} (sink : Sink W) (e : Encoding) (old : W) (items : List Entry) (key value : List ℕ) (error : PropertiesError) (new : W) : Type 0 where
@@ -84,77 +70,50 @@ pub record FailsAfterPairs {W : Type 0} (sink : Sink W) (e : Encoding) (old : W)
   pub flushed : HasFailedFlush sink middle source new
   pub is : IsStreamError None source error
 
--- What writing an item does: a pair is written as a line, and a comment is not written.
-abbrev pub WritesItem : {W : Type 0} → Sink W → Writing W → Content → Result Unit PropertiesError → Writing W → Type 0
-WritesItem sink old (comment text) result new = (result ≡ Ok tt) × (new ≡ old)
-WritesItem sink old (pair key value) result new = WritesLine sink old (pair key value) result new
+-- The pairs of these items were written, but not this one, for which memory ran out or the numbers for lines.
+pub record RefusesPair {W : Type 0} (sink : Sink W) (e : Encoding) (old : W) (items : List Entry) (error : PropertiesError) (new : W) : Type 0 where
+  pub written : HasWritten sink old (pair_lines e items) new
+  pub is : IsBareError kind.Memory error ⊎ IsBareError kind.TooManyLines error × (pair_count items + 1 ≡ 2 ^ 64)
 
 -- ---- how it ends
 
 -- The input was read to its end, its pairs were written, and the sink was flushed.
 pub record HasFiltered {R W : Type 0} (reader : Reader R) (sink : Sink W) (e : Encoding) (input : R) (output : W) (input' : R) (output' : W) : Type 0 where
-  pub entries : List Entry
-  pub read : HasReadEntries reader e input end entries input'
-  pub faultless : AreItems entries
-  pub written : HasWritten sink output (pair_lines e entries) output'
+  pub items : List Entry
+  pub whole : AreItems items
+  pub reads : ReadsWhole reader e input items input'
+  pub written : HasWritten sink output (pair_lines e items) output'
   pub flushed : sink.is_flushed output' ≡ true
 
--- A read failed: the pairs before it were written.
-pub record StopsAtFault {R W : Type 0} (reader : Reader R) (sink : Sink W) (e : Encoding) (input : R) (output : W) (error : PropertiesError) (input' : R) (output' : W) : Type 0 where
+-- Reading stopped after these items: at malformed escapes, at a fault, or since memory ran out or the numbers for lines. Their pairs were written, and the sink was flushed, or its flush failed.
+pub record StopsInReading {R W : Type 0} (reader : Reader R) (sink : Sink W) (e : Encoding) (input : R) (output : W) (error : PropertiesError) (input' : R) (output' : W) : Type 0 where
   pub items : List Entry
-  pub number : ℕ
-  pub source : Error
-  pub read : HasFailedAfter reader e input source (items ++ (read_fault number ∷ [])) input'
-  pub faultless : AreItems items
-  pub is : IsStreamError (Some number) source error
+  pub whole : AreItems items
+  pub stops : StopsMalformed reader e input items error input' ⊎ (StopsFailed reader e input items error input' ⊎ StopsEarly reader e input items error input')
   pub written : TakesAndFlushes sink output (pair_lines e items) output'
 
--- A text was malformed: the pairs before it were written.
-pub record StopsAtMalformed {R W : Type 0} (reader : Reader R) (sink : Sink W) (e : Encoding) (input : R) (output : W) (error : PropertiesError) (input' : R) (output' : W) : Type 0 where
-  pub items : List Entry
-  pub how : Malformed
-  pub number : ℕ
-  pub ending : InputEnd
-  pub read : HasReadEntries reader e input ending (items ++ (malformed how number ∷ [])) input'
-  pub faultless : AreItems items
-  pub is : IsMalformed how number error
-  pub written : TakesAndFlushes sink output (pair_lines e items) output'
-
--- A write failed in the line of a pair.
-pub record StopsAtWrite {R W : Type 0} (reader : Reader R) (sink : Sink W) (e : Encoding) (input : R) (output : W) (error : PropertiesError) (input' : R) (output' : W) : Type 0 where
+-- Writing stopped at a pair, which comes after these items.
+pub record StopsInWriting {R W : Type 0} (reader : Reader R) (sink : Sink W) (e : Encoding) (input : R) (output : W) (error : PropertiesError) (input' : R) (output' : W) : Type 0 where
   pub items : List Entry
   pub number : ℕ
   pub key : List ℕ
   pub value : List ℕ
-  pub others : List Entry
-  pub ending : InputEnd
-  pub read : HasReadEntries reader e input ending (items ++ (item number (pair key value) ∷ others)) input'
-  pub faultless : AreItems items
-  pub fails : FailsInPair sink e output items key value error output'
+  pub whole : AreItems items
+  pub bytes : List ℕ
+  pub read : HasRead reader input bytes input'
+  pub begins : BeginsItems e bytes (items ++ (item number (pair key value) ∷ []))
+  pub fails : FailsInPair sink e output items key value error output' ⊎ RefusesPair sink e output items error output'
 
--- The input was read to its end, but the flush failed.
-pub record StopsAtFlush {R W : Type 0} (reader : Reader R) (sink : Sink W) (e : Encoding) (input : R) (output : W) (error : PropertiesError) (input' : R) (output' : W) : Type 0 where
-  pub entries : List Entry
-  pub read : HasReadEntries reader e input end entries input'
-  pub faultless : AreItems entries
-  pub fails : FailsAfterPairs sink e output entries error output'
-
--- Memory ran out, or the numbers for lines: the pairs of some items at the front were written.
-pub record RunsOut {R W : Type 0} (reader : Reader R) (sink : Sink W) (e : Encoding) (input : R) (output : W) (error : PropertiesError) (input' : R) (output' : W) : Type 0 where
+-- The input was read to its end and its pairs were written, but the flush failed.
+pub record StopsInFlush {R W : Type 0} (reader : Reader R) (sink : Sink W) (e : Encoding) (input : R) (output : W) (error : PropertiesError) (input' : R) (output' : W) : Type 0 where
   pub items : List Entry
-  pub others : List Entry
-  pub ending : InputEnd
-  pub read : HasReadEntries reader e input ending (items ++ others) input'
-  pub faultless : AreItems items
-  pub is : IsBareError kind.Memory error ⊎ IsBareError kind.TooManyLines error
-  pub written : HasWritten sink output (pair_lines e items) output' ⊎ TakesAndFlushes sink output (pair_lines e items) output'
+  pub whole : AreItems items
+  pub reads : ReadsWhole reader e input items input'
+  pub fails : FailsAfterPairs sink e output items error output'
 
 -- What filtering an input to an output does.
 abbrev pub Filters : {R W : Type 0} → Reader R → Sink W → Encoding → R → W → Result Unit PropertiesError → R → W → Type 0
 Filters reader sink e input output (Ok done) input' output' = HasFiltered reader sink e input output input' output'
 Filters reader sink e input output (Err error) input' output' =
-    StopsAtFault reader sink e input output error input' output'
-    ⊎ (StopsAtMalformed reader sink e input output error input' output'
-    ⊎ (StopsAtWrite reader sink e input output error input' output'
-    ⊎ (StopsAtFlush reader sink e input output error input' output'
-    ⊎ RunsOut reader sink e input output error input' output')))
+    StopsInReading reader sink e input output error input' output'
+    ⊎ (StopsInWriting reader sink e input output error input' output' ⊎ StopsInFlush reader sink e input output error input' output')

@@ -2,22 +2,19 @@
 
 ghost use Rattle.std.specs.Prelude.{◌≡◌};
 ghost use Rattle.counted_io.specs.Streams.{IsSameReader, IsSameSink};
-ghost use Rattle.properties_format.specs.Encoding as format;
 ghost use Rattle.properties_format.specs.Encoding.{output_encoding};
 ghost use Rattle.properties_format.specs.ItemsToCome.{start};
 ghost use Rattle.java_properties.specs.Encoding.{encoding_of};
-ghost use Rattle.java_properties.specs.Line.{content_of};
 ghost use Rattle.java_properties.specs.PropertiesIter.{said};
 ghost use Rattle.java_properties.specs.PropertiesWriter.{new_writer};
-ghost use Rattle.propfilter.specs.Filter.{Filters, WritesItem};
+ghost use Rattle.propfilter.specs.Filter.{Filters, WritesIfPair};
 
 use counted_io::{CountedRead, CountedWrite};
-use java_properties::{
-    Encoding, Line, LineContent, PropertiesError, PropertiesIter, PropertiesWriter,
-};
+use java_properties::{Encoding, LineContent, PropertiesError, PropertiesIter, PropertiesWriter};
 use std::alloc::Global;
 
-/// Reads in an encoding, and writes each pair as one line, in the output encoding of that one. Comments are dropped.
+/// Reads the items of an input in this encoding, and writes each pair as one line in its output encoding. Comments are
+/// dropped.
 ///
 /// A byte order mark changes how the input is read, and never how the pairs are written. At a reader's error the pairs
 /// before it have been written, and the sink is flushed once.
@@ -25,7 +22,7 @@ use std::alloc::Global;
 /// ```text
 /// let mut input: &[u8] = b"# a comment\nb = 2\na";
 /// let mut output = Counted::new(Vec::new(alloc));
-/// filter(alloc, &mut input, &mut output, Encoding::UTF_8)?;
+/// filter(alloc, &mut input, &mut output, Encoding::WINDOWS_1252)?;
 /// // The sink holds `b=2` and `a=`, each ended by a line feed.
 /// ```
 pub fn filter<R: CountedRead, W: CountedWrite>(
@@ -34,7 +31,8 @@ pub fn filter<R: CountedRead, W: CountedWrite>(
     writer: &mut W,
     encoding: Encoding,
 ) -> Result<(), PropertiesError>
-    ensures { Filters R.CountedRead W.CountedWrite (encoding_of encoding) input.old writer.old result input.new writer.new }
+    ensures { let e = encoding_of encoding in
+        Filters R.CountedRead W.CountedWrite e input.old writer.old result input.new writer.new }
 {
     let mut items = PropertiesIter::new_with_encoding(alloc, input, encoding)?;
     let mut lines = PropertiesWriter::new_with_encoding(alloc, writer, encoding)?;
@@ -44,22 +42,23 @@ pub fn filter<R: CountedRead, W: CountedWrite>(
     result
 }
 
+// Both are new, and of one encoding.
 fn write_pairs<R: CountedRead, W: CountedWrite>(
     items: &mut PropertiesIter<R>,
     lines: &mut PropertiesWriter<W>,
 ) -> Result<(), PropertiesError>
-    ensures filters { (e : format.Encoding) → items.old.state ≡ start e → lines.old ≡ new_writer (output_encoding e) lines.old.sink
-        → Filters R.CountedRead W.CountedWrite e items.old.reader lines.old.sink result items.new.reader lines.new.sink }
+    requires reading { items.old.state ≡ start items.old.state.encoding }
+    requires writing { lines.old ≡ new_writer (output_encoding items.old.state.encoding) lines.old.sink }
+    ensures filters { let e = items.old.state.encoding in
+        let input = items.old.reader in
+        let output = lines.old.sink in
+        Filters R.CountedRead W.CountedWrite e input output result items.new.reader lines.new.sink }
     ensures same_reader { IsSameReader R.CountedRead items.old.reader items.new.reader }
     ensures same_sink { IsSameSink W.CountedWrite lines.old.sink lines.new.sink }
 {
     while let Some(item) = items.next() {
         match item {
-            Ok(line) => {
-                if let Err(error) = write_item(&line, lines) {
-                    return Err(error);
-                }
-            }
+            Ok(line) => write_if_pair(&mut *lines, line.content())?,
             Err(error) => {
                 // The reader's error is returned, whatever the flush says.
                 let _ = lines.flush();
@@ -70,15 +69,15 @@ fn write_pairs<R: CountedRead, W: CountedWrite>(
     lines.finish()
 }
 
-fn write_item<W: CountedWrite>(
-    line: &Line,
+fn write_if_pair<W: CountedWrite>(
     lines: &mut PropertiesWriter<W>,
+    content: &LineContent,
 ) -> Result<(), PropertiesError>
-    ensures writes { WritesItem W.CountedWrite lines.old (said (content_of line.now)) result lines.new }
+    ensures writes { WritesIfPair W.CountedWrite lines.old (said content.now) result lines.new }
     ensures same_sink { IsSameSink W.CountedWrite lines.old.sink lines.new.sink }
 {
-    match line.content() {
-        LineContent::Comment(_) => Ok(()),
+    match content {
         LineContent::KVPair(key, value) => lines.write(key.as_str(), value.as_str()),
+        LineContent::Comment(_) => Ok(()),
     }
 }

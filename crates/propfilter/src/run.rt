@@ -1,7 +1,9 @@
 // The program, over any streams.
 
-ghost use Rattle.std.specs.Prelude.{IfSome};
-ghost use Rattle.propfilter.specs.Run.{IsAsked, IsNamed, Runs, Says, bytes_of};
+ghost use Rattle.std.specs.Prelude.{◌∷◌, [], IfSome, map, string_bytes};
+ghost use Rattle.std.specs.Option.{option_map};
+ghost use Rattle.java_properties.specs.Encoding.{encoding_of};
+ghost use Rattle.propfilter.specs.Run.{IsAsked, Runs, Says};
 
 use crate::filter::filter;
 use counted_io::{CountedRead, CountedWrite, send};
@@ -30,9 +32,11 @@ pub fn run<R: CountedRead, W: CountedWrite, E: CountedWrite>(
     output: &mut W,
     errors: &mut E,
 ) -> u8
-    ensures { Runs R.CountedRead W.CountedWrite E.CountedWrite arguments.now input.old output.old errors.old result input.new output.new errors.new }
+    ensures { let names = map string_bytes arguments.now in
+        Runs R.CountedRead W.CountedWrite E.CountedWrite names
+        input.old output.old errors.old result input.new output.new errors.new }
 {
-    let Some(encoding) = asked(arguments) else {
+    let Some(encoding) = encoding_asked(arguments) else {
         say(alloc, errors, USAGE);
         return 2;
     };
@@ -45,19 +49,18 @@ pub fn run<R: CountedRead, W: CountedWrite, E: CountedWrite>(
     }
 }
 
-// The encoding that the arguments ask for.
-fn asked(arguments: &[String]) -> Option<Encoding>
-    ensures { IsAsked (bytes_of arguments.now) result }
+fn encoding_asked(arguments: &[String]) -> Option<Encoding>
+    ensures { IsAsked (map string_bytes arguments.now) (option_map encoding_of result) }
 {
     match arguments {
         [] => Some(Encoding::WINDOWS_1252),
-        [name] => named(name.as_str()),
+        [name] => encoding_named(name.as_str()),
         _ => None,
     }
 }
 
-fn named(name: &str) -> Option<Encoding>
-    ensures { IsNamed name.now result }
+fn encoding_named(name: &str) -> Option<Encoding>
+    ensures { IsAsked (name.now ∷ []) (option_map encoding_of result) }
 {
     match name {
         "windows-1252" => Some(Encoding::WINDOWS_1252),

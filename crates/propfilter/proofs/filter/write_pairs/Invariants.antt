@@ -1,15 +1,14 @@
-use Rattle.std.proofs.Common.{◌≡◌}
-use Rattle.properties_format.specs.Encoding.{Encoding, output_encoding}
-use Rattle.properties_format.specs.ItemsToCome.{start}
-use Rattle.java_properties.specs.PropertiesWriter.{new_writer}
 use Rattle.counted_io.specs.Streams.{reader, sink, IsSameReader, IsSameSink}
-use Rattle.propfilter.proofs.Filtered.{Filtered}
+use Rattle.java_properties.specs.LineFinder.{lines_left}
+use Rattle.propfilter.proofs.Filtering.{HasPassed}
 use Rattle.propfilter.proofs.filter.write_pairs.Given as goal
 
 abbrev pub invariant-loop-item : goal.invariant-loop-item
 invariant-loop-item g l = record {
-  filtered : (e : Encoding) → l.fn.items.state ≡ start e → l.fn.lines ≡ new_writer (output_encoding e) l.fn.lines.sink
-      → Filtered (reader g.R.Read g.R.CountedRead) (sink g.W.Write g.W.CountedWrite) e l.fn.items.reader l.fn.lines.sink l.items.state l.items.reader l.lines;
+  passed : HasPassed (reader g.R.Read g.R.CountedRead) (sink g.W.Write g.W.CountedWrite) l.fn.items.state.encoding l.fn.items.reader l.fn.lines.sink l.items l.lines;
   same_reader : IsSameReader (reader g.R.Read g.R.CountedRead) l.fn.items.reader l.items.reader;
   same_sink : IsSameSink (sink g.W.Write g.W.CountedWrite) l.fn.lines.sink l.lines.sink;
 }
+
+abbrev pub decreases-loop-item : goal.decreases-loop-item
+decreases-loop-item g l = lines_left l.items.state
