@@ -43,8 +43,22 @@ flushed_after s flushed (format.flush_call ∷ calls) = flushed_after s true cal
 flushed_after s flushed (call ∷ calls) =
     flushed_after (format.settings_after_call s call) (if is_some (format.written_line s call) then false else flushed) calls
 
--- The calls were made, and none failed: the sink has what they write, and is flushed where they flushed it after their last line.
+-- when a call is made, by whether a write failed before: a line or a flush only where none did, and a setting always
+abbrev pub MayMake : Bool → format.Call → Type 0
+MayMake failed (format.comment_call text) = failed ≡ false
+MayMake failed (format.pair_call key value) = failed ≡ false
+MayMake failed (format.prefix_call prefix) = Unit {0}
+MayMake failed (format.separator_call separator) = Unit {0}
+MayMake failed (format.ending_call ending) = Unit {0}
+MayMake failed format.flush_call = failed ≡ false
+
+abbrev pub MayMakeAll : Bool → List format.Call → Type 0
+MayMakeAll failed [] = Unit {0}
+MayMakeAll failed (call ∷ calls) = MayMake failed call × MayMakeAll failed calls
+
+-- The calls were made, and none failed: no line or flush is among them if a write failed before, the sink has what they write, and is flushed where they flushed it after their last line.
 pub record HasMade {W : Type 0} (sink : Sink W) (old : Writing W) (calls : List format.Call) (new : Writing W) : Type 0 where
+  pub live : MayMakeAll old.failed calls
   pub written : HasWritten sink old.sink (format.wrote old.encoding old.settings old.lines calls) new.sink
   pub flushed : flushed_after old.settings false calls ≡ true → sink.is_flushed new.sink ≡ true
   pub after : new ≡ after_calls old calls new.sink

@@ -8,7 +8,12 @@ use Rattle.properties_format.specs.Settings.{Settings}
 use Rattle.properties_format.specs.Writing.{Call, comment_call, pair_call, prefix_call, separator_call, ending_call, flush_call, is_accepted, settings_after_call, settings_after, line_count_after, written_line}
 use Rattle.properties_format.proofs.Writing.{settings_after-append, line_count_after-append, wrote-append}
 use Rattle.java_properties.specs.PropertiesWriter.{Writing, HasWrittenLine, with_settings}
-use Rattle.java_properties.specs.Calls.{after_calls, flushed_after, HasMade, HasMadeCall}
+use Rattle.java_properties.specs.Calls.{after_calls, flushed_after, MayMake, MayMakeAll, HasMade, HasMadeCall}
+
+-- calls that may be made, and others after them
+may-append : (failed : Bool) (xs ys : List Call) → MayMakeAll failed xs → MayMakeAll failed ys → MayMakeAll failed (xs ++ ys)
+may-append failed [] ys h k = k
+may-append failed (x ∷ xs) ys h k = (h.0, may-append failed xs ys h.1 k)
 
 -- whether calls leave the sink flushed goes on from call to call
 flushed-append : (s : Settings) (b : Bool) (xs ys : List Call) → flushed_after s b (xs ++ ys) ≡ flushed_after (settings_after s xs) (flushed_after s b xs) ys
@@ -46,21 +51,23 @@ after-append w xs ys middle to =
 module _ {W : Type 0} {sink : Sink W} where
   -- no call makes nothing
   pub made-none : (w : Writing W) → HasMade sink w [] w
-  made-none w = record { written = written-none w.sink; flushed = λ e. absurd (cc); after = refl }
+  made-none w = record { live = tt; written = written-none w.sink; flushed = λ e. absurd (cc); after = refl }
 
   -- a call that writes no line, and is no flush
-  pub made-quiet : {old new : Writing W} (call : Call) → written_line old.settings call ≡ None → (call ≡ flush_call → ⊥)
+  pub made-quiet : {old new : Writing W} (call : Call) → MayMake old.failed call → written_line old.settings call ≡ None → (call ≡ flush_call → ⊥)
       → new ≡ with_settings old (settings_after_call old.settings call) → HasMade sink old (call ∷ []) new
-  made-quiet {old = old} {new = new} call none other after = record {
+  made-quiet {old = old} {new = new} call live none other after = record {
+    live = (live, tt);
     written = rw (none, after) (written-none old.sink);
     flushed = λ e. absurd (never-flushed old.settings call other e);
     after = rw none (after ∙ ap (λ (to : W). changed old to (settings_after_call old.settings call) old.lines) (sym (ap (λ (v : Writing W). v.sink) after)));
   }
 
   -- a call that writes a line
-  pub made-line : {old new : Writing W} {line : Content} (call : Call) → written_line old.settings call ≡ Some line → (call ≡ flush_call → ⊥)
+  pub made-line : {old new : Writing W} {line : Content} (call : Call) → MayMake old.failed call → written_line old.settings call ≡ Some line → (call ≡ flush_call → ⊥)
       → settings_after_call old.settings call ≡ old.settings → HasWrittenLine sink old line new → HasMade sink old (call ∷ []) new
-  made-line {line = line} call some other kept h = record {
+  made-line {line = line} call live some other kept h = record {
+    live = (live, tt);
     written = rw (some, append-nil) h.written;
     flushed = λ e. absurd (never-flushed _ call other e);
     after = rw (some, kept) h.after;
@@ -73,7 +80,7 @@ module _ {W : Type 0} {sink : Sink W} where
       let some = ap (λ b. cond b (Some (pair key value)) None) h.takes.accepted in
       record {
         answer = sym h.takes.accepted;
-        made = made-line (pair_call key value) some (λ q. absurd (cc)) refl h;
+        made = made-line (pair_call key value) h.takes.live some (λ q. absurd (cc)) refl h;
         quiet = λ e f. absurd (cc);
       }
 
@@ -103,6 +110,7 @@ module _ {W : Type 0} {sink : Sink W} where
       let next = from-after m k in
       let whole = flushed-append old.settings false calls (call ∷ []) in
       record {
+        live = may-append old.failed calls (call ∷ []) m.live next.made.live;
         written = rw wrote-append (written-more m.written next.made.written);
         flushed = λ e. last-flushed (flushed_after old.settings false calls) call m.flushed next (sym whole ∙ e);
         after = next.made.after ∙ sym (after-append old calls (call ∷ []) middle.sink new.sink);

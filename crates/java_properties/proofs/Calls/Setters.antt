@@ -10,7 +10,7 @@ use Rattle.properties_format.proofs.Settings.Tests.{is_good_prefix-from, IsGoodP
 use Rattle.java_properties.specs.Errors.{kind_of}
 use Rattle.java_properties.specs.Settings.{with_prefix, with_separator}
 use Rattle.java_properties.specs.PropertiesWriter.{Writing, SetsPrefix, SetsSeparator, with_settings}
-use Rattle.java_properties.specs.Calls.{is_not_accepted, SaysAccepted, Fails, MakesCall}
+use Rattle.java_properties.specs.Calls.{is_not_accepted, SaysAccepted, MayMake, Fails, MakesCall}
 use Rattle.java_properties.specs.declared.error.PropertiesError.{PropertiesError}
 use Rattle.java_properties.proofs.Calls.Made.{made-quiet}
 
@@ -29,11 +29,11 @@ module _ {W : Type 0} (sink : Sink W) (old new : Writing W) (result : Result Boo
   failed call error final fails is = rw (is, final) (record { fails = fails; final = final })
 
   -- the call was not accepted, and nothing changed
-  refused : (call : Call) (error : PropertiesError) → is_not_accepted (kind_of error) ≡ true → is_accepted old.settings call ≡ false → written_line old.settings call ≡ None
+  refused : (call : Call) (error : PropertiesError) → MayMake old.failed call → is_not_accepted (kind_of error) ≡ true → is_accepted old.settings call ≡ false → written_line old.settings call ≡ None
       → (call ≡ flush_call → ⊥) → settings_after_call old.settings call ≡ old.settings → new ≡ old → SaysAccepted (Err error) result → MakesCall sink old call result new
-  refused call error said unaccepted none other kept same is = rw (is, said) (record {
+  refused call error live said unaccepted none other kept same is = rw (is, said) (record {
     answer = sym unaccepted;
-    made = made-quiet call none other (same ∙ ap (with_settings old) (sym kept));
+    made = made-quiet call live none other (same ∙ ap (with_settings old) (sym kept));
     quiet = λ e f. ap (λ (v : Writing W). v.sink) same;
   })
 
@@ -44,13 +44,13 @@ module _ {W : Type 0} (sink : Sink W) (old new : Writing W) (result : Result Boo
       let set = ap (λ b. cond b (with_prefix old.settings prefix) old.settings) good in
       rw is (record {
         answer = sym good;
-        made = made-quiet (prefix_call prefix) refl (λ q. absurd (cc)) (h.after ∙ ap (with_settings old) (sym set));
+        made = made-quiet (prefix_call prefix) tt refl (λ q. absurd (cc)) (h.after ∙ ap (with_settings old) (sym set));
         quiet = λ e f. ap (λ (v : Writing W). v.sink) h.after;
       })
   prefix-makes prefix (Err error) (inl h) is =
       let bad = good-prefix prefix h.bad in
       let kept = ap (λ b. cond b (with_prefix old.settings prefix) old.settings) bad in
-      refused (prefix_call prefix) error (ap is_not_accepted h.refuses.its_kind) bad refl (λ q. absurd (cc)) kept h.same is
+      refused (prefix_call prefix) error tt (ap is_not_accepted h.refuses.its_kind) bad refl (λ q. absurd (cc)) kept h.same is
   prefix-makes prefix (Err error) (inr h) is = failed (prefix_call prefix) error (ap is_not_accepted h.is.its_kind) h is
 
   pub separator-makes : (separator : List ℕ) (answer : Result Unit PropertiesError) → SetsSeparator old separator answer new → SaysAccepted answer result
@@ -60,11 +60,11 @@ module _ {W : Type 0} (sink : Sink W) (old new : Writing W) (result : Result Boo
       let set = ap (λ b. cond b (with_separator old.settings separator) old.settings) good in
       rw is (record {
         answer = sym good;
-        made = made-quiet (separator_call separator) refl (λ q. absurd (cc)) (h.after ∙ ap (with_settings old) (sym set));
+        made = made-quiet (separator_call separator) tt refl (λ q. absurd (cc)) (h.after ∙ ap (with_settings old) (sym set));
         quiet = λ e f. ap (λ (v : Writing W). v.sink) h.after;
       })
   separator-makes separator (Err error) (inl h) is =
       let bad = good-separator separator h.bad in
       let kept = ap (λ b. cond b (with_separator old.settings separator) old.settings) bad in
-      refused (separator_call separator) error (ap is_not_accepted h.refuses.its_kind) bad refl (λ q. absurd (cc)) kept h.same is
+      refused (separator_call separator) error tt (ap is_not_accepted h.refuses.its_kind) bad refl (λ q. absurd (cc)) kept h.same is
   separator-makes separator (Err error) (inr h) is = failed (separator_call separator) error (ap is_not_accepted h.is.its_kind) h is
