@@ -1,19 +1,19 @@
 -- How items come of logical lines.
-use Rattle.std.proofs.Common.{◌≡◌, ℕ, Bool, true, false, List, [], ◌∷◌, ◌++◌, refl, sym, ap, ap₂, ◌∙◌, inl, inr, subst, append_assoc, append-nil}
-use Rattle.std.specs.Prelude.{Option, Some, None, Result, Ok, Err, ◌⊎◌, string_bytes}
+use Rattle.std.proofs.Common.{◌≡◌, ℕ, true, false, List, [], ◌++◌, refl, sym, ap, ap₂, ◌∙◌, inl, inr, append_assoc}
+use Rattle.std.specs.Prelude.{Ok, Err, ◌⊎◌}
 use Rattle.std.specs.Str.{chars}
 use Rattle.std.proofs.lemmas.Bool.{cases_Bool}
 use Rattle.properties_format.specs.Split as split
 use Rattle.properties_format.specs.Split.{IsSplit}
-use Rattle.properties_format.specs.Escapes.{Malformed, Means, Breaks}
-use Rattle.properties_format.specs.Entries.{Content, comment, pair}
+use Rattle.properties_format.specs.Escapes.{Means}
+use Rattle.properties_format.specs.Entries.{comment, pair}
 use Rattle.properties_format.specs.Items.{ignored, given, broken}
 use Rattle.properties_format.specs.Reading.Items.{outcome_of}
 use Rattle.properties_format.specs.Entries.{malformed}
 use Rattle.properties_format.proofs.Items.Unique.{outcome_of-only}
 use Rattle.properties_format.proofs.Items.Outcomes.{followed-ignored, followed-given, followed-broken}
 use Rattle.java_properties.specs.Escaping.{IsRefused}
-use Rattle.counted_io.specs.Streams.{Reader, HasRead, HasFailed}
+use Rattle.counted_io.specs.Streams.{Reader, HasRead}
 use Rattle.counted_io.proofs.Streams.{read-none, read-more, failed-more}
 use Rattle.properties_format.specs.Lines.{InputEnd, end, fault, more}
 use Rattle.properties_format.specs.ItemsToCome.{ReaderState}
@@ -21,7 +21,7 @@ use Rattle.properties_format.specs.Reading.ItemsToCome.{items_to_come}
 use Rattle.properties_format.proofs.ItemsToCome.Unique.{items_to_come-done}
 use Rattle.java_properties.specs.Line.{number_of, content_of}
 use Rattle.java_properties.specs.LineJoiner.{IsLazyItems, JoinsError, JoinsNext, Comes, Joiner, numbered_line}
-use Rattle.java_properties.specs.PropertiesIter.{said, entry_of, IsNoItem, IsCommentOf, IsPairOf, Gives, BreaksOff, GivesNext, GivesNone, GivesMalformed, GivesItem}
+use Rattle.java_properties.specs.PropertiesIter.{said, entry_of, IsNoItem, IsCommentOf, IsPairOf, Gives, BreaksOff, GivesNext, GivesNone, GivesMalformed}
 use Rattle.java_properties.specs.declared.line.Line.{Line}
 use Rattle.java_properties.specs.declared.error.PropertiesError.{PropertiesError}
 

@@ -1,11 +1,11 @@
 -- How a whole input is read, item after item.
-use Rattle.std.proofs.Common.{◌≡◌, ℕ, Bool, true, false, List, [], ◌∷◌, ◌++◌, refl, sym, ap, ◌∙◌, inl, inr, subst, append_assoc, append-nil, map}
-use Rattle.std.specs.Prelude.{Option, Some, None, Result, Ok, Err, ◌⊎◌}
-use Rattle.counted_io.specs.Streams.{Reader, HasRead, HasFailed}
+use Rattle.std.proofs.Common.{◌≡◌, ℕ, Bool, true, false, List, [], ◌∷◌, ◌++◌, refl, sym, ap, ◌∙◌, inl, inr, subst, append_assoc, append-nil}
+use Rattle.std.specs.Prelude.{◌⊎◌}
+use Rattle.counted_io.specs.Streams.{Reader, HasRead}
 use Rattle.counted_io.proofs.Streams.{read-none, read-more, failed-more}
 use Rattle.properties_format.specs.Encoding.{Encoding}
 use Rattle.properties_format.specs.Lines.{InputEnd, end, fault}
-use Rattle.properties_format.specs.Entries.{Entry, malformed, read_fault}
+use Rattle.properties_format.specs.Entries.{Entry, malformed}
 use Rattle.properties_format.specs.Items.{IsItems}
 use Rattle.properties_format.specs.Reading.Items.{items_of}
 use Rattle.properties_format.specs.ItemsToCome.{ReaderState, start}
@@ -88,10 +88,10 @@ module _ {R : Type 0} {reader : Reader R} where
   -- the items begin with those before a line that could not be kept
   pub collected-lost : {e : Encoding} {from to next : R} {r : List ℕ} {entries : List Entry} {s t : ReaderState} {error : PropertiesError} (line : Line)
       → Collected reader e from r entries s to → GivesNext reader s to line t next → IsBareError kind.Memory error → StopsEarly reader e from entries error next
-  collected-lost {e} {to = to} {r = r} {entries} {s} {t} line h n is =
+  collected-lost {e} {to = to} {next = next} {r = r} {entries} {s} {t} line h n is =
       record { bytes = r ++ n.bytes; read = read-more h.read n.read; is = inr is; begins = by-comes h.comes n.gives }
     where
-      by-comes : Comes e r entries (reader.at_end to) s → Gives s n.bytes (entry_of line) t → BeginsItems e (r ++ n.bytes) entries
+      by-comes : Comes e r entries (reader.at_end to) s → Gives s n.bytes (entry_of line) t → BeginsItems e (r ++ n.bytes) entries (reader.at_end next)
       by-comes (Comes.at_last d k m) g = let l = n.live in absurd (cc)
       by-comes (Comes.going_on g m) (Gives.going_on k reads) = inl (λ d ending. (
         entry_of line ∷ items_to_come t d ending,
@@ -100,7 +100,7 @@ module _ {R : Type 0} {reader : Reader R} where
             ),
       ))
       by-comes (Comes.going_on g m) (Gives.at_last k items) =
-          inr (entry_of line ∷ [], items-are e (r ++ n.bytes) end _ (m n.bytes end ∙ ap (λ v. entries ++ v) items))
+          inr (n.ended k, (entry_of line ∷ [], items-are e (r ++ n.bytes) end _ (m n.bytes end ∙ ap (λ v. entries ++ v) items)))
 
   -- malformed escapes came
   pub collected-malformed : {e : Encoding} {from to next : R} {r : List ℕ} {entries : List Entry} {s : ReaderState} {error : PropertiesError} → Collected reader e from r entries s to
@@ -125,7 +125,7 @@ module _ {R : Type 0} {reader : Reader R} where
       by-breaks (BreaksOff.at_last k m) = inr (k, reading-of e (r ++ n.bytes) end _ (live-on h.comes g n.bytes end ∙ ap (λ v. entries ++ v) m))
 
   early : {e : Encoding} {from to : R} {r : List ℕ} {entries : List Entry} {s : ReaderState} → Collected reader e from r entries s to → s.is_done ≡ false
-      → (q : List ℕ) → BeginsItems e (r ++ q) entries
+      → (q : List ℕ) {at_end : Bool} → BeginsItems e (r ++ q) entries at_end
   early {e} {r = r} {entries} {s} h g q = inl (λ d ending. (
     items_to_come s (q ++ d) ending,
     items-are e ((r ++ q) ++ d) ending _ (ap (λ v. items_of e v ending) (append_assoc r q d) ∙ live-on h.comes g (q ++ d) ending),
