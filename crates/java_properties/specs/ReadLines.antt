@@ -10,6 +10,8 @@ use Rattle.properties_format.specs.Escapes.{Malformed}
 use Rattle.properties_format.specs.Entries.{Entry, malformed, read_fault, NumbersAscend}
 use Rattle.properties_format.specs.Items.{IsItems}
 use Rattle.java_properties.specs.Errors.{IsBareError, IsMalformed, IsStreamError}
+use Rattle.properties_format.specs.ItemsToCome.{start}
+use Rattle.java_properties.specs.LineFinder.{PassesAll}
 use Rattle.java_properties.specs.PropertiesIter.{entry_of}
 use Rattle.java_properties.specs.declared.error.ErrorKind.TheVariants as kind
 use Rattle.java_properties.specs.declared.error.PropertiesError.{PropertiesError}
@@ -59,11 +61,12 @@ pub record StopsFailed {R : Type 0} (reader : Reader R) (e : Encoding) (from : R
   pub is : IsStreamError (Some number) cause error
   pub reading : IsReading e bytes fault (entries ++ read_fault number ∷ [])
 
--- There was no number for another line, or no memory: what was read begins with these items.
+-- So many lines were read that there was no number for another, or there was no memory: what was read begins with these
+-- items.
 pub record StopsEarly {R : Type 0} (reader : Reader R) (e : Encoding) (from : R) (entries : List Entry) (error : PropertiesError) (to : R) : Type 0 where
   pub bytes : List ℕ
   pub read : HasRead reader from bytes to
-  pub is : IsBareError kind.TooManyLines error ⊎ IsBareError kind.Memory error
+  pub is : IsBareError kind.TooManyLines error × PassesAll (start e) bytes ⊎ IsBareError kind.Memory error
   pub begins : BeginsItems e bytes entries (reader.at_end to)
 
 -- What reading a whole input returns. Ok comes at the reader's own end alone.
