@@ -1,27 +1,29 @@
 -- How items come of logical lines.
-use Rattle.std.proofs.Common.{◌≡◌, ℕ, Bool, true, false, List, [], ◌∷◌, ◌++◌, refl, sym, ap, ap₂, ◌∙◌, inl, inr, subst, append_assoc, append-nil}
-use Rattle.std.specs.Prelude.{Option, Some, None, Result, Ok, Err, ◌⊎◌, string_bytes}
+use Rattle.std.proofs.Common.{◌≡◌, ℕ, true, false, List, [], ◌++◌, refl, sym, ap, ap₂, ◌∙◌, inl, inr, append_assoc}
+use Rattle.std.specs.Prelude.{Ok, Err, ◌⊎◌}
 use Rattle.std.specs.Str.{chars}
 use Rattle.std.proofs.lemmas.Bool.{cases_Bool}
 use Rattle.properties_format.specs.Split as split
 use Rattle.properties_format.specs.Split.{IsSplit}
-use Rattle.properties_format.specs.Escapes.{Malformed, Means, Breaks}
-use Rattle.properties_format.specs.Entries.{Content, comment, pair}
+use Rattle.properties_format.specs.Escapes.{Means}
+use Rattle.properties_format.specs.Entries.{comment, pair}
 use Rattle.properties_format.specs.Items.{ignored, given, broken}
 use Rattle.properties_format.specs.Reading.Items.{outcome_of}
 use Rattle.properties_format.specs.Entries.{malformed}
 use Rattle.properties_format.proofs.Items.Unique.{outcome_of-only}
 use Rattle.properties_format.proofs.Items.Outcomes.{followed-ignored, followed-given, followed-broken}
 use Rattle.java_properties.specs.Escaping.{IsRefused}
-use Rattle.counted_io.specs.Streams.{Reader, HasRead, HasFailed}
+use Rattle.counted_io.specs.Streams.{Reader, HasRead}
 use Rattle.counted_io.proofs.Streams.{read-none, read-more, failed-more}
 use Rattle.properties_format.specs.Lines.{InputEnd, end, fault, more}
 use Rattle.properties_format.specs.ItemsToCome.{ReaderState}
 use Rattle.properties_format.specs.Reading.ItemsToCome.{items_to_come}
 use Rattle.properties_format.proofs.ItemsToCome.Unique.{items_to_come-done}
 use Rattle.java_properties.specs.Line.{number_of, content_of}
+use Rattle.java_properties.specs.LineFinder.{PassesSome}
+use Rattle.java_properties.proofs.LineJoiner.{some-start, some-on, all-on}
 use Rattle.java_properties.specs.LineJoiner.{IsLazyItems, JoinsError, JoinsNext, Comes, Joiner, numbered_line}
-use Rattle.java_properties.specs.PropertiesIter.{said, entry_of, IsNoItem, IsCommentOf, IsPairOf, Gives, BreaksOff, GivesNext, GivesNone, GivesMalformed, GivesItem}
+use Rattle.java_properties.specs.PropertiesIter.{said, entry_of, IsNoItem, IsCommentOf, IsPairOf, Gives, BreaksOff, GivesNext, GivesNone, GivesMalformed}
 use Rattle.java_properties.specs.declared.line.Line.{Line}
 use Rattle.java_properties.specs.declared.error.PropertiesError.{PropertiesError}
 
@@ -77,6 +79,7 @@ pub record Passed {R : Type 0} (reader : Reader R) (old : ReaderState) (from : R
   pub live : old.is_done ≡ true → (new ≡ old) × (to ≡ from) × (bytes ≡ [])
   pub items : (new.is_done ≡ false) × ((d : List ℕ) (ending : InputEnd) → items_to_come old (bytes ++ d) ending ≡ items_to_come new d ending)
       ⊎ (new.is_done ≡ true) × (items_to_come old bytes end ≡ []) × ((old.is_done ≡ true) ⊎ (reader.at_end to ≡ true))
+  pub passes : new.is_done ≡ false → PassesSome old bytes new
   pub lazy : IsLazyItems old from bytes to
 
 passed-items : (s : ReaderState) (R : Type 0) (reader : Reader R) (from : R)
@@ -89,7 +92,7 @@ passed-items s R reader from = elim (cases_Bool s.is_done) [
 
 module _ {R : Type 0} {reader : Reader R} where
   pub passed-start : (s : ReaderState) (from : R) → Passed reader s from [] s from
-  passed-start s from = record { read = read-none from; live = λ h. (refl, refl, refl); items = passed-items s R reader from; lazy = inl (refl, refl) }
+  passed-start s from = record { read = read-none from; live = λ h. (refl, refl, refl); items = passed-items s R reader from; passes = λ g. some-start s; lazy = inl (refl, refl) }
 
   passed-live : {s t : ReaderState} {from to : R} {r : List ℕ} → Passed reader s from r t to → t.is_done ≡ false → s.is_done ≡ false
   passed-live {s} h g = elim (cases_Bool s.is_done) [
@@ -128,6 +131,7 @@ module _ {R : Type 0} {reader : Reader R} where
     read = read-more h.read n.read;
     live = passed-live h n.live;
     gives = by-comes n.comes;
+    passes = λ g. some-on (h.passes n.live) (n.passes g);
     ended = n.ended;
     lazy = passed-lazy h n.live n.lazy;
   }
@@ -147,6 +151,7 @@ module _ {R : Type 0} {reader : Reader R} where
     read = read-more h.read n.read;
     live = λ e. let l = passed-live h n.live in absurd (cc);
     items = by-comes n.comes;
+    passes = λ g. some-on (h.passes n.live) (n.passes g);
     lazy = passed-lazy h n.live n.lazy;
   }
     where
@@ -177,7 +182,7 @@ module _ {R : Type 0} {reader : Reader R} where
     }),
   )
   passed-error {r = r} h g (inr (inl f)) =
-      (passed-live h g, inr (inl (record { bytes = r ++ f.bytes; read = read-more h.read f.read; passed = f.passed; is = f.is; lazy = passed-lazy h g f.lazy })))
+      (passed-live h g, inr (inl (record { bytes = r ++ f.bytes; read = read-more h.read f.read; passes = all-on (h.passes g) f.passes; is = f.is; lazy = passed-lazy h g f.lazy })))
   passed-error {r = r} h g (inr (inr f)) =
       (passed-live h g, inr (inr (record { bytes = r ++ f.bytes; read = read-more h.read f.read; is = f.is; lazy = passed-lazy h g f.lazy })))
 

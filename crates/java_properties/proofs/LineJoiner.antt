@@ -13,10 +13,10 @@ use Rattle.properties_format.specs.ItemsToCome.{ReaderState}
 use Rattle.properties_format.specs.Reading.Items.{outcome_of, followed}
 use Rattle.properties_format.specs.Reading.ItemsToCome.{items_to_come, natural_to_come, last_to_come, entries_pending, entries_of_logical, logical_pending}
 use Rattle.properties_format.proofs.ItemsToCome.Entries.{joining-open, joining-closed, joining-done, pending-comment_line, pending-closed, pending-open, pending-done, items_to_come-pending}
-use Rattle.properties_format.proofs.ItemsToCome.Steps.{on-start, on-open, logical-comment_line, logical-closed}
+use Rattle.properties_format.proofs.ItemsToCome.Steps.{lines-start, lines-on, on-start, on-open, logical-comment_line, logical-closed}
 use Rattle.java_properties.specs.Errors.{IsBareError}
 use Rattle.java_properties.specs.LineFinder as finder
-use Rattle.java_properties.specs.LineFinder.{Finder, Passes, IsLazy, FindsError, FindsFault, FindsTooMany, FindsNoRoom}
+use Rattle.java_properties.specs.LineFinder.{Finder, Passes, PassesSome, PassesAll, IsLazy, FindsError, FindsFault, FindsTooMany, FindsNoRoom}
 use Rattle.java_properties.specs.LineJoiner.{line_text, join_of, Pends, Closes, IsLazyJoin, IsLazyItems, GoesOn, JoinsAll, JoinError, Joiner, numbered_line, FindsNext, Comes, JoinsAfter, JoinsNext, JoinsError}
 use Rattle.java_properties.specs.declared.error.ErrorKind.TheVariants as kind
 use Rattle.java_properties.specs.declared.error.PropertiesError.{PropertiesError}
@@ -39,6 +39,23 @@ pub pending-broken : (pending : Option format.Line) (s : ReaderState) (d : List 
 unfolding entries_pending
 pending-broken None s d entry h k = ap₂ (λ v w. entries_of_logical (logical_pending None v fault) w) h k
 pending-broken (Some join) s d entry h k = ap₂ (λ v w. entries_of_logical (logical_pending (Some join) v fault) w) h k
+
+-- ---- the lines that are passed
+
+pub some-start : (s : ReaderState) → PassesSome s [] s
+some-start s = record { lines = []; reads = lines-start s }
+
+pub some-on : {s t u : ReaderState} {r q : List ℕ} → PassesSome s r t → PassesSome t q u → PassesSome s (r ++ q) u
+some-on h k = record { lines = h.lines ++ k.lines; reads = lines-on h.reads k.reads }
+
+-- those that came, where the reading goes on
+some-come : {s t : ReaderState} {r : List ℕ} {lines : List format.Line} → Passes s r lines t → t.is_done ≡ false → PassesSome s r t
+some-come {lines = lines} (Passes.going_on f reads) g = record { lines = lines; reads = reads }
+some-come (Passes.at_last f gives) g = absurd (cc)
+
+-- no number is left after them
+pub all-on : {s t : ReaderState} {r q : List ℕ} → PassesSome s r t → PassesAll t q → PassesAll s (r ++ q)
+all-on h k = record { last = k.last; passes = some-on h k.passes; passed = k.passed }
 
 -- ---- lines are added to a join
 
@@ -98,6 +115,7 @@ module _ {R : Type 0} {reader : Reader R} where
   goes-start s from text = record {
     read = read-none from;
     pends = start-pends s text;
+    passes = λ g. some-start s;
     done = λ e. e;
     ended = λ e. inl e;
     idle = λ e. (refl, refl);
@@ -134,6 +152,7 @@ module _ {R : Type 0} {reader : Reader R} where
   goes-more number found h n o e = record {
     read = read-more h.read n.read;
     pends = more-pends (finder.found_line number found) h.pends n.live n.passes o e;
+    passes = λ g. some-on (h.passes n.live) (some-come n.passes g);
     done = λ k. let d = h.done k in let l = n.live in absurd (cc);
     ended = λ k. inr (n.ended k);
     idle = λ k. let d = h.done k in let l = n.live in absurd (cc);
@@ -148,6 +167,7 @@ module _ {R : Type 0} {reader : Reader R} where
     bytes = r ++ n.bytes;
     read = read-more h.read n.read;
     closes = more-closes (finder.found_line number found) h.pends n.live n.passes o e;
+    passes = λ g. some-on (h.passes n.live) (some-come n.passes g);
     done = λ k. let d = h.done k in let l = n.live in absurd (cc);
     ended = λ k. inr (n.ended k);
     idle = λ k. let d = h.done k in let l = n.live in absurd (cc);
@@ -161,6 +181,7 @@ module _ {R : Type 0} {reader : Reader R} where
     bytes = r;
     read = h.read;
     closes = done-closes h.pends d;
+    passes = h.passes;
     done = λ k. d;
     ended = h.ended;
     idle = h.idle;
@@ -185,7 +206,13 @@ module _ {R : Type 0} {reader : Reader R} where
     entries = more-broken f.bytes (read_fault (t.passed + 1)) h.pends g f.natural f.last;
     lazy = lazy-none h g f.lazy;
   })
-  join-refused {r = r} h g (inr (inl f)) = rw f.untouched (inr (inl (record { bytes = r; read = h.read; passed = f.passed; is = f.is; lazy = h.lazy })))
+  join-refused {t = t} {r = r} h g (inr (inl f)) = rw f.untouched (inr (inl (record {
+    bytes = r;
+    read = h.read;
+    passes = record { last = t; passes = h.passes g; passed = f.passed };
+    is = f.is;
+    lazy = h.lazy;
+  })))
   join-refused {r = r} h g (inr (inr f)) =
       inr (inr (record { bytes = r ++ f.room.bytes; read = read-more h.read f.room.read; is = f.is; lazy = lazy-more h g f.room.lazy }))
 
@@ -243,6 +270,7 @@ module _ {R : Type 0} {reader : Reader R} where
     read = n.read;
     live = n.live;
     comes = alone-comes (numbered_line number new) n.passes c;
+    passes = λ g. some-come n.passes g;
     ended = n.ended;
     lazy = lazy-items s n.lazy;
   }
@@ -275,6 +303,7 @@ module _ {R : Type 0} {reader : Reader R} where
     read = read-more n.read j.read;
     live = n.live;
     comes = join-comes (numbered_line number mid) n.passes c o j.closes (λ e. (j.done e, (j.idle e).0));
+    passes = λ g. some-on (some-come n.passes (elim (cases_Bool mid.state.is_done) [ inl e ↦ let d = j.done e in absurd (cc) | inr e ↦ e ])) (j.passes g);
     ended = λ e. elim (j.ended e) [ inl k ↦ let P : R → Type 0 = λ v. reader.at_end v ≡ true in subst P (sym (j.idle k).1) (n.ended k) | inr k ↦ k ];
     lazy = lazy-join number mid n c o j.idle j.lazy;
   }
@@ -290,7 +319,13 @@ module _ {R : Type 0} {reader : Reader R} where
     items = items-pending s f.bytes fault ∙ pending-broken None s f.bytes (read_fault (s.passed + 1)) f.natural f.last;
     lazy = items-pending s [] more ∙ pending-lazy None s f.lazy;
   })
-  joins-refused {from = from} (inr (inl f)) = rw f.untouched (inr (inl (record { bytes = []; read = read-none from; passed = f.passed; is = f.is; lazy = inl (refl, refl) })))
+  joins-refused {s} {from = from} (inr (inl f)) = rw f.untouched (inr (inl (record {
+    bytes = [];
+    read = read-none from;
+    passes = record { last = s; passes = some-start s; passed = f.passed };
+    is = f.is;
+    lazy = inl (refl, refl);
+  })))
   joins-refused {s} (inr (inr f)) = inr (inr (record { bytes = f.room.bytes; read = f.room.read; is = f.is; lazy = lazy-items s f.room.lazy }))
 
   -- a join was not read to its end
@@ -320,7 +355,13 @@ module _ {R : Type 0} {reader : Reader R} where
       none (inr h) = items-pending s [] more ∙ pending-lazy None s h
       none (inl h) = on-more h.1 n.passes
   joins-broken number mid n c o g (inr (inl f)) =
-      inr (inl (record { bytes = n.bytes ++ f.bytes; read = read-more n.read f.read; passed = f.passed; is = f.is; lazy = lazy-join number mid n c o (λ e. absurd (cc)) f.lazy }))
+      inr (inl (record {
+        bytes = n.bytes ++ f.bytes;
+        read = read-more n.read f.read;
+        passes = all-on (some-come n.passes g) f.passes;
+        is = f.is;
+        lazy = lazy-join number mid n c o (λ e. absurd (cc)) f.lazy;
+      }))
   joins-broken number mid n c o g (inr (inr f)) =
       inr (inr (record { bytes = n.bytes ++ f.bytes; read = read-more n.read f.read; is = f.is; lazy = lazy-join number mid n c o (λ e. absurd (cc)) f.lazy }))
 
@@ -333,7 +374,7 @@ module _ {R : Type 0} {reader : Reader R} where
   joins-passed : {s t u : ReaderState} {from to : R} {e : PropertiesError} → u.passed ≡ t.passed → JoinsError reader s from e t to → JoinsError reader s from e u to
   joins-passed h (inl f) = inl f
   joins-passed h (inr (inl f)) =
-      inr (inl (record { bytes = f.bytes; read = f.read; passed = ap (λ v. v + 1) h ∙ f.passed; is = f.is; lazy = f.lazy }))
+      inr (inl (record { bytes = f.bytes; read = f.read; passes = f.passes; is = f.is; lazy = f.lazy }))
   joins-passed h (inr (inr f)) = inr (inr f)
 
   -- as the errors of a join say it

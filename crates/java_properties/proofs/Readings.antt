@@ -1,11 +1,11 @@
 -- How a whole input is read, item after item.
-use Rattle.std.proofs.Common.{◌≡◌, ℕ, Bool, true, false, List, [], ◌∷◌, ◌++◌, refl, sym, ap, ◌∙◌, inl, inr, subst, append_assoc, append-nil, map}
-use Rattle.std.specs.Prelude.{Option, Some, None, Result, Ok, Err, ◌⊎◌}
-use Rattle.counted_io.specs.Streams.{Reader, HasRead, HasFailed}
+use Rattle.std.proofs.Common.{◌≡◌, ℕ, Bool, true, false, List, [], ◌∷◌, ◌++◌, refl, sym, ap, ◌∙◌, inl, inr, subst, append_assoc, append-nil}
+use Rattle.std.specs.Prelude.{◌⊎◌}
+use Rattle.counted_io.specs.Streams.{Reader, HasRead}
 use Rattle.counted_io.proofs.Streams.{read-none, read-more, failed-more}
 use Rattle.properties_format.specs.Encoding.{Encoding}
 use Rattle.properties_format.specs.Lines.{InputEnd, end, fault}
-use Rattle.properties_format.specs.Entries.{Entry, malformed, read_fault}
+use Rattle.properties_format.specs.Entries.{Entry, malformed}
 use Rattle.properties_format.specs.Items.{IsItems}
 use Rattle.properties_format.specs.Reading.Items.{items_of}
 use Rattle.properties_format.specs.ItemsToCome.{ReaderState, start}
@@ -15,6 +15,8 @@ use Rattle.properties_format.proofs.Items.Numbers.{items_of-ascend}
 use Rattle.properties_format.proofs.Cut.Byline.{byline-is_lines, lines-is_byline}
 use Rattle.properties_format.proofs.ItemsToCome.Unique.{items_to_come-start}
 use Rattle.java_properties.specs.Errors.{IsBareError}
+use Rattle.java_properties.specs.LineFinder.{PassesSome}
+use Rattle.java_properties.proofs.LineJoiner.{some-start, some-on, all-on}
 use Rattle.java_properties.specs.LineJoiner.{JoinsError}
 use Rattle.java_properties.specs.PropertiesIter.{entry_of, Gives, BreaksOff, GivesNext, GivesNone, GivesMalformed}
 use Rattle.java_properties.specs.ReadLines.{IsReading, BeginsItems, ReadsWhole, StopsMalformed, StopsFailed, StopsEarly}
@@ -44,6 +46,7 @@ pub data Comes (e : Encoding) (bytes : List ℕ) (entries : List Entry) (at_end 
 pub record Collected {R : Type 0} (reader : Reader R) (e : Encoding) (from : R) (bytes : List ℕ) (entries : List Entry) (new : ReaderState) (to : R) : Type 0 where
   pub read : HasRead reader from bytes to
   pub comes : Comes e bytes entries (reader.at_end to) new
+  pub passes : new.is_done ≡ false → PassesSome (start e) bytes new
 
 pub live-on : {e : Encoding} {r : List ℕ} {entries : List Entry} {s : ReaderState} {at_end : Bool} → Comes e r entries at_end s → s.is_done ≡ false
     → (d : List ℕ) (ending : InputEnd) → items_of e (r ++ d) ending ≡ entries ++ items_to_come s d ending
@@ -52,12 +55,16 @@ live-on (Comes.at_last d k m) h = absurd (cc)
 
 module _ {R : Type 0} {reader : Reader R} where
   pub collected-start : (e : Encoding) (from : R) → Collected reader e from [] [] (start e) from
-  collected-start e from = record { read = read-none from; comes = Comes.going_on refl (λ d ending. sym (items_to_come-start e d ending)) }
+  collected-start e from = record { read = read-none from; comes = Comes.going_on refl (λ d ending. sym (items_to_come-start e d ending)); passes = λ g. some-start (start e) }
 
   -- an item came
   pub collected-next : {e : Encoding} {from to next : R} {r : List ℕ} {entries : List Entry} {s t : ReaderState} (line : Line) → Collected reader e from r entries s to
       → (n : GivesNext reader s to line t next) → Collected reader e from (r ++ n.bytes) (entries ++ entry_of line ∷ []) t next
-  collected-next {e} {to = to} {next = next} {r = r} {entries} {s} {t} line h n = record { read = read-more h.read n.read; comes = by-comes h.comes n.gives }
+  collected-next {e} {to = to} {next = next} {r = r} {entries} {s} {t} line h n = record {
+    read = read-more h.read n.read;
+    comes = by-comes h.comes n.gives;
+    passes = λ g. some-on (h.passes n.live) (n.passes g);
+  }
     where
       by-comes : Comes e r entries (reader.at_end to) s → Gives s n.bytes (entry_of line) t → Comes e (r ++ n.bytes) (entries ++ entry_of line ∷ []) (reader.at_end next) t
       by-comes (Comes.at_last d k m) g = let l = n.live in absurd (cc)
@@ -88,10 +95,10 @@ module _ {R : Type 0} {reader : Reader R} where
   -- the items begin with those before a line that could not be kept
   pub collected-lost : {e : Encoding} {from to next : R} {r : List ℕ} {entries : List Entry} {s t : ReaderState} {error : PropertiesError} (line : Line)
       → Collected reader e from r entries s to → GivesNext reader s to line t next → IsBareError kind.Memory error → StopsEarly reader e from entries error next
-  collected-lost {e} {to = to} {r = r} {entries} {s} {t} line h n is =
+  collected-lost {e} {to = to} {next = next} {r = r} {entries} {s} {t} line h n is =
       record { bytes = r ++ n.bytes; read = read-more h.read n.read; is = inr is; begins = by-comes h.comes n.gives }
     where
-      by-comes : Comes e r entries (reader.at_end to) s → Gives s n.bytes (entry_of line) t → BeginsItems e (r ++ n.bytes) entries
+      by-comes : Comes e r entries (reader.at_end to) s → Gives s n.bytes (entry_of line) t → BeginsItems e (r ++ n.bytes) entries (reader.at_end next)
       by-comes (Comes.at_last d k m) g = let l = n.live in absurd (cc)
       by-comes (Comes.going_on g m) (Gives.going_on k reads) = inl (λ d ending. (
         entry_of line ∷ items_to_come t d ending,
@@ -100,7 +107,7 @@ module _ {R : Type 0} {reader : Reader R} where
             ),
       ))
       by-comes (Comes.going_on g m) (Gives.at_last k items) =
-          inr (entry_of line ∷ [], items-are e (r ++ n.bytes) end _ (m n.bytes end ∙ ap (λ v. entries ++ v) items))
+          inr (n.ended k, (entry_of line ∷ [], items-are e (r ++ n.bytes) end _ (m n.bytes end ∙ ap (λ v. entries ++ v) items)))
 
   -- malformed escapes came
   pub collected-malformed : {e : Encoding} {from to next : R} {r : List ℕ} {entries : List Entry} {s : ReaderState} {error : PropertiesError} → Collected reader e from r entries s to
@@ -125,7 +132,7 @@ module _ {R : Type 0} {reader : Reader R} where
       by-breaks (BreaksOff.at_last k m) = inr (k, reading-of e (r ++ n.bytes) end _ (live-on h.comes g n.bytes end ∙ ap (λ v. entries ++ v) m))
 
   early : {e : Encoding} {from to : R} {r : List ℕ} {entries : List Entry} {s : ReaderState} → Collected reader e from r entries s to → s.is_done ≡ false
-      → (q : List ℕ) → BeginsItems e (r ++ q) entries
+      → (q : List ℕ) {at_end : Bool} → BeginsItems e (r ++ q) entries at_end
   early {e} {r = r} {entries} {s} h g q = inl (λ d ending. (
     items_to_come s (q ++ d) ending,
     items-are e ((r ++ q) ++ d) ending _ (ap (λ v. items_of e v ending) (append_assoc r q d) ∙ live-on h.comes g (q ++ d) ending),
@@ -142,5 +149,5 @@ module _ {R : Type 0} {reader : Reader R} where
     is = f.is;
     reading = reading-of e (r ++ f.bytes) fault _ (live-on h.comes g f.bytes fault ∙ ap (λ v. entries ++ v) f.items);
   })
-  collected-error {r = r} h g (inr (inl f)) = inr (record { bytes = r ++ f.bytes; read = read-more h.read f.read; is = inl f.is; begins = early h g f.bytes })
+  collected-error {r = r} h g (inr (inl f)) = inr (record { bytes = r ++ f.bytes; read = read-more h.read f.read; is = inl (f.is, all-on (h.passes g) f.passes); begins = early h g f.bytes })
   collected-error {r = r} h g (inr (inr f)) = inr (record { bytes = r ++ f.bytes; read = read-more h.read f.read; is = inr f.is; begins = early h g f.bytes })

@@ -155,6 +155,18 @@ pub data Passes (old : ReaderState) (bytes : List ℕ) (lines : List format.Line
   going_on : new.is_done ≡ false → ReadsLines old bytes lines new → Passes old bytes lines new
   at_last : new.is_done ≡ true → Gives old bytes lines new [] end → Passes old bytes lines new
 
+-- These bytes hold some lines at their front, and whatever comes after them, the old state goes on after those lines as
+-- the new one does.
+pub record PassesSome (old : ReaderState) (bytes : List ℕ) (new : ReaderState) : Type 0 where
+  pub lines : List format.Line
+  pub reads : ReadsLines old bytes lines new
+
+-- The bytes hold so many lines that no number is left for another: as many are passed as there are numbers.
+pub record PassesAll (old : ReaderState) (bytes : List ℕ) : Type 0 where
+  pub last : ReaderState
+  pub passes : PassesSome old bytes last
+  pub passed : last.passed + 1 ≡ 2 ^ 64
+
 -- the line that was found, decoded, under its number
 abbrev pub found_line : ℕ → Finder → format.Line
 found_line number finder = record { number = number; text = characters (pieces_of finder.state.encoding finder.line) }
@@ -181,8 +193,8 @@ pub record FindsFault {R : Type 0} (reader : Reader R) (old : ReaderState) (from
   pub lazy : natural_to_come old [] more ≡ []
 
 -- There was no number for another line, and nothing was read.
-pub record FindsTooMany {R : Type 0} (from : R) (e : PropertiesError) (new : ReaderState) (to : R) : Type 0 where
-  pub passed : new.passed + 1 ≡ 2 ^ 64
+pub record FindsTooMany {R : Type 0} (old : ReaderState) (from : R) (e : PropertiesError) (new : ReaderState) (to : R) : Type 0 where
+  pub passed : old.passed + 1 ≡ 2 ^ 64
   pub is : IsBareError kind.TooManyLines e
   pub untouched : to ≡ from
 
@@ -198,7 +210,7 @@ IsRefused number (Io error) e = IsStreamError (Some number) error e
 
 -- Why no line was found.
 abbrev pub FindsError : {R : Type 0} → Reader R → ReaderState → R → PropertiesError → ReaderState → R → Type 0
-FindsError reader old from e new to = FindsFault reader old from e to ⊎ (FindsTooMany from e new to ⊎ FindsNoRoom reader old from e to)
+FindsError reader old from e new to = FindsFault reader old from e to ⊎ (FindsTooMany old from e new to ⊎ FindsNoRoom reader old from e to)
 
 -- What finding the next line does. At its end for good the finder reads nothing.
 abbrev pub Finds : {R : Type 0} → Reader R → Finder → R → Option (Result ℕ PropertiesError) → Finder → R → Type 0

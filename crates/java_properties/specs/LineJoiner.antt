@@ -15,7 +15,7 @@ use Rattle.properties_format.specs.Reading.Items.{outcome_of, followed}
 use Rattle.properties_format.specs.Reading.ItemsToCome.{items_to_come, entries_pending}
 use Rattle.properties_format.specs.Reading.ReaderSteps.{ReadsLogical}
 use Rattle.java_properties.specs.Errors.{IsBareError, IsStreamError}
-use Rattle.java_properties.specs.LineFinder.{Finder, Passes, IsLazy, FindsError}
+use Rattle.java_properties.specs.LineFinder.{Finder, Passes, PassesSome, PassesAll, IsLazy, FindsError}
 use Rattle.java_properties.specs.declared.error.ErrorKind.TheVariants as kind
 use Rattle.java_properties.specs.declared.error.PropertiesError.{PropertiesError}
 
@@ -86,7 +86,7 @@ pub record JoinsFault {R : Type 0} (reader : Reader R) (old : ReaderState) (from
 pub record JoinsTooMany {R : Type 0} (reader : Reader R) (old : ReaderState) (from : R) (e : PropertiesError) (new : ReaderState) (to : R) : Type 0 where
   pub bytes : List ℕ
   pub read : HasRead reader from bytes to
-  pub passed : new.passed + 1 ≡ 2 ^ 64
+  pub passes : PassesAll old bytes
   pub is : IsBareError kind.TooManyLines e
   pub lazy : IsLazyItems old from bytes to
 
@@ -129,6 +129,7 @@ IsLazyJoin old from text bytes to = ((to ≡ from) × (bytes ≡ [])) ⊎ ((numb
 pub record GoesOn {R : Type 0} (reader : Reader R) (old : ReaderState) (from : R) (old_text bytes text : List ℕ) (new : ReaderState) (to : R) : Type 0 where
   pub read : HasRead reader from bytes to
   pub pends : Pends old old_text bytes text new
+  pub passes : new.is_done ≡ false → PassesSome old bytes new
   pub done : old.is_done ≡ true → new.is_done ≡ true
   pub ended : new.is_done ≡ true → (old.is_done ≡ true) ⊎ (reader.at_end to ≡ true)
   pub idle : old.is_done ≡ true → (bytes ≡ []) × (to ≡ from)
@@ -139,6 +140,7 @@ pub record JoinsAll {R : Type 0} (reader : Reader R) (old : ReaderState) (from :
   pub bytes : List ℕ
   pub read : HasRead reader from bytes to
   pub closes : Closes old old_text bytes text new
+  pub passes : new.is_done ≡ false → PassesSome old bytes new
   pub done : old.is_done ≡ true → new.is_done ≡ true
   pub ended : new.is_done ≡ true → (old.is_done ≡ true) ⊎ (reader.at_end to ≡ true)
   pub idle : old.is_done ≡ true → (bytes ≡ []) × (to ≡ from)
@@ -158,7 +160,7 @@ pub record JoinFault {R : Type 0} (reader : Reader R) (old : ReaderState) (from 
 pub record JoinTooMany {R : Type 0} (reader : Reader R) (old : ReaderState) (from : R) (old_text : List ℕ) (e : PropertiesError) (new : ReaderState) (to : R) : Type 0 where
   pub bytes : List ℕ
   pub read : HasRead reader from bytes to
-  pub passed : new.passed + 1 ≡ 2 ^ 64
+  pub passes : PassesAll old bytes
   pub is : IsBareError kind.TooManyLines e
   pub lazy : IsLazyJoin old from old_text bytes to
 
@@ -192,6 +194,7 @@ pub record JoinsNext {R : Type 0} (reader : Reader R) (old : ReaderState) (from 
   pub read : HasRead reader from bytes to
   pub live : old.is_done ≡ false
   pub comes : Comes old bytes (numbered_line number new) new.state
+  pub passes : new.state.is_done ≡ false → PassesSome old bytes new.state
   pub ended : new.state.is_done ≡ true → reader.at_end to ≡ true
   pub lazy : IsLazyItems old from bytes to
 

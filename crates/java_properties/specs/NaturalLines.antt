@@ -1,5 +1,5 @@
 -- What a contract sees of the iterator over natural lines.
-use Rattle.std.specs.Prelude.{◌≡◌, ◌⊎◌, ℕ, true, false, List, [], ◌∷◌, Option, Some, None, Result, Ok, Err, string_bytes}
+use Rattle.std.specs.Prelude.{◌≡◌, ℕ, true, false, List, [], ◌∷◌, Option, Some, None, Result, Ok, Err, string_bytes}
 use Rattle.std.specs.Str.{chars}
 use Rattle.counted_io.specs.Streams.{Reader, HasRead, IsSameReader}
 use Rattle.properties_format.specs.Lines as format

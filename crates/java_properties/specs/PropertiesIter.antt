@@ -15,6 +15,7 @@ use Rattle.properties_format.specs.Reading.ItemsToCome.{items_to_come}
 use Rattle.properties_format.specs.Reading.ReaderSteps.{ReadsEntry}
 use Rattle.java_properties.specs.Errors.{IsBareError, IsMalformed}
 use Rattle.java_properties.specs.Line.{number_of, content_of}
+use Rattle.java_properties.specs.LineFinder.{PassesSome}
 use Rattle.java_properties.specs.LineJoiner.{IsLazyItems, JoinsError}
 use Rattle.java_properties.specs.declared.error.ErrorKind.TheVariants as kind
 use Rattle.java_properties.specs.declared.error.PropertiesError.{PropertiesError}
@@ -80,6 +81,7 @@ pub record GivesNext {R : Type 0} (reader : Reader R) (old : ReaderState) (from 
   pub read : HasRead reader from bytes to
   pub live : old.is_done ≡ false
   pub gives : Gives old bytes (entry_of line) new
+  pub passes : new.is_done ≡ false → PassesSome old bytes new
   pub ended : new.is_done ≡ true → reader.at_end to ≡ true
   pub lazy : IsLazyItems old from bytes to
 

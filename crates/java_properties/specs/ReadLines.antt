@@ -1,5 +1,5 @@
 -- What reading an input to its end returns, and what it leaves of the reader.
-use Rattle.std.specs.Prelude.{◌≡◌, ◌⊎◌, ◌+◌, ◌^◌, ℕ, true, List, [], ◌∷◌, ◌++◌, map, Some, Result, Ok, Err}
+use Rattle.std.specs.Prelude.{◌≡◌, ◌⊎◌, ℕ, Bool, true, List, [], ◌∷◌, ◌++◌, map, Some, Result, Ok, Err}
 use Rattle.std.specs.declared.io.Error.{Error}
 use Rattle.std.specs.declared.vec.Vec.{Vec}
 use Rattle.counted_io.specs.Streams.{Reader, HasRead, HasFailed}
@@ -10,6 +10,8 @@ use Rattle.properties_format.specs.Escapes.{Malformed}
 use Rattle.properties_format.specs.Entries.{Entry, malformed, read_fault, NumbersAscend}
 use Rattle.properties_format.specs.Items.{IsItems}
 use Rattle.java_properties.specs.Errors.{IsBareError, IsMalformed, IsStreamError}
+use Rattle.properties_format.specs.ItemsToCome.{start}
+use Rattle.java_properties.specs.LineFinder.{PassesAll}
 use Rattle.java_properties.specs.PropertiesIter.{entry_of}
 use Rattle.java_properties.specs.declared.error.ErrorKind.TheVariants as kind
 use Rattle.java_properties.specs.declared.error.PropertiesError.{PropertiesError}
@@ -26,11 +28,12 @@ pub record IsReading (e : Encoding) (bytes : List ℕ) (ending : InputEnd) (entr
   pub ascend : NumbersAscend 0 entries
   pub splitting : (text : List ℕ) (lines : Lines) → IsDecoded e bytes text → (IsByline e bytes lines → IsLines text lines) × (IsLines text lines → IsByline e bytes lines)
 
--- The items of the bytes begin with these, whatever comes after them; or the input ended, and its items begin with these.
-abbrev pub BeginsItems : Encoding → List ℕ → List Entry → Type 0
-BeginsItems e bytes entries =
+-- The items of the bytes begin with these, whatever comes after them; or the reader is at its end, and the items of the
+-- bytes as the whole input begin with these.
+abbrev pub BeginsItems : Encoding → List ℕ → List Entry → Bool → Type 0
+BeginsItems e bytes entries at_end =
     ((d : List ℕ) (ending : InputEnd) → (others : List Entry) × IsItems e (bytes ++ d) ending (entries ++ others))
-    ⊎ ((others : List Entry) × IsItems e bytes end (entries ++ others))
+    ⊎ (at_end ≡ true) × ((others : List Entry) × IsItems e bytes end (entries ++ others))
 
 -- The reader was read to its end, and these are its items.
 pub record ReadsWhole {R : Type 0} (reader : Reader R) (e : Encoding) (from : R) (entries : List Entry) (to : R) : Type 0 where
@@ -58,12 +61,13 @@ pub record StopsFailed {R : Type 0} (reader : Reader R) (e : Encoding) (from : R
   pub is : IsStreamError (Some number) cause error
   pub reading : IsReading e bytes fault (entries ++ read_fault number ∷ [])
 
--- There was no number for another line, or no memory: what was read begins with these items.
+-- So many lines were read that there was no number for another, or there was no memory: what was read begins with these
+-- items.
 pub record StopsEarly {R : Type 0} (reader : Reader R) (e : Encoding) (from : R) (entries : List Entry) (error : PropertiesError) (to : R) : Type 0 where
   pub bytes : List ℕ
   pub read : HasRead reader from bytes to
-  pub is : IsBareError kind.TooManyLines error ⊎ IsBareError kind.Memory error
-  pub begins : BeginsItems e bytes entries
+  pub is : IsBareError kind.TooManyLines error × PassesAll (start e) bytes ⊎ IsBareError kind.Memory error
+  pub begins : BeginsItems e bytes entries (reader.at_end to)
 
 -- What reading a whole input returns. Ok comes at the reader's own end alone.
 abbrev pub ReadsLines : {R Z : Type 0} → Reader R → Encoding → R → Result (Vec Line Z) Stopped → R → Type 0

@@ -1,4 +1,3 @@
-use Rattle.std.proofs.Common.{◌≡◌, ap}
 use Rattle.java_properties.proofs.Items.{blank-item, comment-line, pair-line, comment-no_item, pair-no_item}
 use Rattle.java_properties.proofs.iter.items.item_of.Goals as goal
 

@@ -1,6 +1,6 @@
-use Rattle.std.proofs.Common.{◌≡◌, ◌++◌, ◌∷◌, ◌∙◌, List, [], ℕ, sym, ap, subst, refl, inl, inr}
+use Rattle.std.proofs.Common.{◌++◌, ◌∷◌, ◌∙◌, List, [], sym, ap, subst, refl, inl, inr}
 use Rattle.properties_format.specs.Entries.{Entry}
-use Rattle.properties_format.specs.ItemsToCome.{ReaderState, start}
+use Rattle.properties_format.specs.ItemsToCome.{ReaderState}
 use Rattle.counted_io.specs.Streams.{reader}
 use Rattle.java_properties.specs.Encoding.{encoding_of}
 use Rattle.java_properties.specs.ReadLines.{entries_in, StopsEarly}

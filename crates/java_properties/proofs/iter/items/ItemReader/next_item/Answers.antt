@@ -1,4 +1,4 @@
-use Rattle.std.proofs.Common.{◌≡◌, ◌≤◌, ◌++◌, ◌∙◌, sym, ap, subst, List, ℕ, [], arith, refl, inr}
+use Rattle.std.proofs.Common.{◌++◌, ◌∙◌, sym, ap, subst, List, ℕ, [], arith, refl, inr}
 use Rattle.std.specs.Str.{chars}
 use Rattle.properties_format.specs.Reading.Items.{outcome_of}
 use Rattle.java_properties.specs.PropertiesIter.{IsNoItem}
@@ -6,7 +6,7 @@ use Rattle.properties_format.specs.ItemsToCome.{ReaderState}
 use Rattle.counted_io.specs.Streams.{reader}
 use Rattle.java_properties.specs.LineFinder.{lines_left}
 use Rattle.java_properties.specs.LineJoiner.{Joiner}
-use Rattle.java_properties.proofs.Items.{Passed, passed-start, gives-line, passed-blank, passed-error, passed-no_item, passed-none}
+use Rattle.java_properties.proofs.Items.{Passed, passed-start, gives-line, passed-blank, passed-error, passed-no_item}
 use Rattle.java_properties.proofs.iter.items.ItemReader.next_item.Goals as goal
 
 pub loop-found-init : goal.loop-found-init
