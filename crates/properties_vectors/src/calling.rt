@@ -1,6 +1,6 @@
-// What callers write. docs/CALLING.md shows these texts and explains them.
+//! What callers write. docs/CALLING.md shows these texts and explains them.
 
-mod convert;
-mod count;
-mod lint;
-mod load;
+pub mod convert;
+pub mod count;
+pub mod lint;
+pub mod load;

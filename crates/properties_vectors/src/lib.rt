@@ -4,8 +4,7 @@
 //! port of.
 #![tactic(auto)]
 
-#[cfg(test)]
-mod calling;
+pub mod calling;
 #[cfg(test)]
 mod reading;
 #[cfg(test)]

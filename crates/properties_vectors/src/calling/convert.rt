@@ -1,9 +1,8 @@
 // A converter between encodings.
 
-use counted_io::{Counted, CountedRead, CountedWrite};
+use counted_io::{CountedRead, CountedWrite};
 use java_properties::{Encoding, LineContent, PropertiesError, PropertiesWriter, read_lines};
 use std::alloc::Global;
-use std::test::Fail;
 
 /// Reads comments and pairs in one encoding, and writes them in another. Nothing is written where the input can't
 /// be read to its end.
@@ -28,34 +27,41 @@ pub fn convert<R: CountedRead, W: CountedWrite>(
     writer.finish()
 }
 
-#[test]
-fn converts_between_encodings(rt: HostRuntime) -> Result<(), Fail> {
-    let alloc = rt.alloc();
-    let rows: [(&[u8], Encoding, Encoding, &[u8]); 3] = [
-        (
-            b"# caf\xe9\nprice = 3 \x80",
-            Encoding::WINDOWS_1252,
-            Encoding::UTF_8,
-            "# café\nprice=3\\ €\n".as_bytes(),
-        ),
-        (
-            "k=\u{65e5}".as_bytes(),
-            Encoding::UTF_8,
-            Encoding::WINDOWS_1252,
-            b"k=\\u65e5\n",
-        ),
-        (
-            b"\xff\xfek\0=\0v\0",
-            Encoding::UTF_8,
-            Encoding::UTF_8,
-            b"k=v\n",
-        ),
-    ];
-    for (bytes, from, to, wanted) in rows {
-        let mut input = bytes;
-        let mut output = Counted::new(Vec::new(alloc));
-        convert(alloc, &mut input, from, &mut output, to)?;
-        assert_eq!(rt; output.into_inner().as_slice(), wanted);
+#[cfg(test)]
+mod tests {
+    use super::*;
+    use counted_io::Counted;
+    use std::test::Fail;
+
+    #[test]
+    fn converts_between_encodings(rt: HostRuntime) -> Result<(), Fail> {
+        let alloc = rt.alloc();
+        let rows: [(&[u8], Encoding, Encoding, &[u8]); 3] = [
+            (
+                b"# caf\xe9\nprice = 3 \x80",
+                Encoding::WINDOWS_1252,
+                Encoding::UTF_8,
+                "# café\nprice=3\\ €\n".as_bytes(),
+            ),
+            (
+                "k=\u{65e5}".as_bytes(),
+                Encoding::UTF_8,
+                Encoding::WINDOWS_1252,
+                b"k=\\u65e5\n",
+            ),
+            (
+                b"\xff\xfek\0=\0v\0",
+                Encoding::UTF_8,
+                Encoding::UTF_8,
+                b"k=v\n",
+            ),
+        ];
+        for (bytes, from, to, wanted) in rows {
+            let mut input = bytes;
+            let mut output = Counted::new(Vec::new(alloc));
+            convert(alloc, &mut input, from, &mut output, to)?;
+            assert_eq!(rt; output.into_inner().as_slice(), wanted);
+        }
+        Ok(())
     }
-    Ok(())
 }

@@ -5,11 +5,9 @@ ghost use Rattle.counted_io.specs.Streams.{IsSameReader};
 ghost use Rattle.java_properties.specs.Encoding.{encoding_of};
 ghost use Rattle.properties_vectors.specs.Counts.{CountsItems};
 
-use counted_io::{CountedRead, ScriptedReader, Tail};
+use counted_io::CountedRead;
 use java_properties::{Encoding, PropertiesError, read_lines};
 use std::alloc::Global;
-use std::io::ErrorKind;
-use std::test::Fail;
 
 /// How many comments and pairs an input has.
 pub fn count_items<R: CountedRead>(
@@ -26,13 +24,21 @@ pub fn count_items<R: CountedRead>(
     }
 }
 
-#[test]
-fn counts_items(rt: HostRuntime) -> Result<(), Fail> {
-    let alloc = rt.alloc();
-    let mut input: &[u8] = b"# x\na = \\\n  1\n\nb";
-    assert_eq!(rt; count_items(alloc, &mut input, Encoding::UTF_8)?, 3);
-    let mut broken = ScriptedReader::new(Vec::new(alloc), Tail::Fault(ErrorKind::Other));
-    assert!(rt; count_items(alloc, &mut broken, Encoding::UTF_8).is_err());
-    assert_eq!(rt; broken.faults(), 1);
-    Ok(())
+#[cfg(test)]
+mod tests {
+    use super::*;
+    use counted_io::{ScriptedReader, Tail};
+    use std::io::ErrorKind;
+    use std::test::Fail;
+
+    #[test]
+    fn counts_items(rt: HostRuntime) -> Result<(), Fail> {
+        let alloc = rt.alloc();
+        let mut input: &[u8] = b"# x\na = \\\n  1\n\nb";
+        assert_eq!(rt; count_items(alloc, &mut input, Encoding::UTF_8)?, 3);
+        let mut broken = ScriptedReader::new(Vec::new(alloc), Tail::Fault(ErrorKind::Other));
+        assert!(rt; count_items(alloc, &mut broken, Encoding::UTF_8).is_err());
+        assert_eq!(rt; broken.faults(), 1);
+        Ok(())
+    }
 }

@@ -7,7 +7,6 @@ use std::collections::HashMap;
 use std::fs::File;
 use std::io::BufReader;
 use std::rt::Files;
-use std::test::Fail;
 
 /// What is wrong with a file of this name: escapes that are malformed, and keys that stand twice.
 pub fn lint<R: CountedRead>(
@@ -55,22 +54,28 @@ pub fn lint_file(
     Ok(())
 }
 
-#[test]
-fn finds_what_is_wrong(rt: HostRuntime) -> Result<(), Fail> {
-    let mut input: &[u8] = b"a = 1\nb = 2\na : 3\nc = \\uzzzz\nd";
-    let messages = lint(rt.alloc(), "my.properties", &mut input)?;
-    let wanted = [
-        "my.properties:3: this key stands in line 1 too",
-        "my.properties:4: Malformed \\uxxxx encoding: not hex. (line_number = 4)",
-    ];
-    assert_eq!(rt; messages.len(), wanted.len());
-    for (message, text) in messages.iter().zip(wanted) {
-        assert_eq!(rt; message.as_str(), text);
-    }
-    Ok(())
-}
+#[cfg(test)]
+mod tests {
+    use super::*;
+    use std::test::Fail;
 
-#[test]
-fn prints_nothing_of_a_file_that_is_not_there(rt: HostRuntime) {
-    assert!(rt; lint_file(&rt, rt.alloc(), "no/such.properties").is_err());
+    #[test]
+    fn finds_what_is_wrong(rt: HostRuntime) -> Result<(), Fail> {
+        let mut input: &[u8] = b"a = 1\nb = 2\na : 3\nc = \\uzzzz\nd";
+        let messages = lint(rt.alloc(), "my.properties", &mut input)?;
+        let wanted = [
+            "my.properties:3: this key stands in line 1 too",
+            "my.properties:4: Malformed \\uxxxx encoding: not hex. (line_number = 4)",
+        ];
+        assert_eq!(rt; messages.len(), wanted.len());
+        for (message, text) in messages.iter().zip(wanted) {
+            assert_eq!(rt; message.as_str(), text);
+        }
+        Ok(())
+    }
+
+    #[test]
+    fn prints_nothing_of_a_file_that_is_not_there(rt: HostRuntime) {
+        assert!(rt; lint_file(&rt, rt.alloc(), "no/such.properties").is_err());
+    }
 }

@@ -3,7 +3,6 @@
 use counted_io::CountedRead;
 use java_properties::{Encoding, LineContent, PropertiesError, PropertiesIter};
 use std::alloc::{AllocError, Global};
-use std::test::Fail;
 
 /// The settings of a server.
 #[derive(Debug, Drop)]
@@ -53,22 +52,28 @@ fn default_server(alloc: Global) -> Result<Server, AllocError> {
     })
 }
 
-#[test]
-fn loads_settings(rt: HostRuntime) -> Result<(), Fail> {
-    let alloc = rt.alloc();
-    let mut input: &[u8] = b"# the front end\nport : 8080\n";
-    match load(alloc, &mut input) {
-        Ok(server) => {
-            assert_eq!(rt; server.host.as_str(), "localhost");
-            assert_eq!(rt; server.port, 8080);
+#[cfg(test)]
+mod tests {
+    use super::*;
+    use std::test::Fail;
+
+    #[test]
+    fn loads_settings(rt: HostRuntime) -> Result<(), Fail> {
+        let alloc = rt.alloc();
+        let mut input: &[u8] = b"# the front end\nport : 8080\n";
+        match load(alloc, &mut input) {
+            Ok(server) => {
+                assert_eq!(rt; server.host.as_str(), "localhost");
+                assert_eq!(rt; server.port, 8080);
+            }
+            Err(error) => panic!(rt; "{error:?}"),
         }
-        Err(error) => panic!(rt; "{error:?}"),
+        let mut input: &[u8] = b"host = a\n\nport = many\n";
+        assert!(rt; matches!(load(alloc, &mut input), Err(LoadError::BadPort(3))));
+        let mut input: &[u8] = b"hots = a\n";
+        assert!(rt; matches!(load(alloc, &mut input), Err(LoadError::UnknownKey(1))));
+        let mut input: &[u8] = b"host = \\u00\n";
+        assert!(rt; matches!(load(alloc, &mut input), Err(LoadError::Unreadable(_))));
+        Ok(())
     }
-    let mut input: &[u8] = b"host = a\n\nport = many\n";
-    assert!(rt; matches!(load(alloc, &mut input), Err(LoadError::BadPort(3))));
-    let mut input: &[u8] = b"hots = a\n";
-    assert!(rt; matches!(load(alloc, &mut input), Err(LoadError::UnknownKey(1))));
-    let mut input: &[u8] = b"host = \\u00\n";
-    assert!(rt; matches!(load(alloc, &mut input), Err(LoadError::Unreadable(_))));
-    Ok(())
 }
