@@ -22,7 +22,7 @@ pub filter-shown : {R W : Type 0} (reader : Reader R) (sink : Sink W) (e : Encod
     → Filters reader sink e input output (Err error) input' output' → (text : List ℕ) × (error_display error ≡ Some text)
 filter-shown reader sink e input input' output output' error (inl h) = elim h.stops [
   | inl k ↦ shown error k.is.its_text
-  | inr k ↦ elim k [ inl f ↦ shown error f.is.its_text | inr f ↦ elim f.is [ inl is ↦ shown error is.its_text | inr is ↦ shown error is.its_text ] ]
+  | inr k ↦ elim k [ inl f ↦ shown error f.is.its_text | inr f ↦ elim f.is [ inl is ↦ shown error is.0.its_text | inr is ↦ shown error is.its_text ] ]
 ]
 filter-shown reader sink e input input' output output' error (inr (inl h)) = elim h.fails [
   | inl k ↦ shown error k.is.its_text

@@ -47,11 +47,11 @@ passed-none reader sink e it w fresh new = record {
 }
 
 -- what came so far is a beginning of the items
-begins : {e : Encoding} {bytes : List ℕ} {items : List Entry} {at_end : Bool} {s : ReaderState} → Comes e bytes items at_end s → BeginsItems e bytes items
+begins : {e : Encoding} {bytes : List ℕ} {items : List Entry} {at_end : Bool} {s : ReaderState} → Comes e bytes items at_end s → BeginsItems e bytes items at_end
 begins {e} {bytes} {items} {s = s} (Comes.going_on g m) =
     inl (λ d ending. (items_to_come s d ending, subst (IsItems e (bytes ++ d) ending) (m d ending) (items_of-meets e (bytes ++ d) ending)))
 begins {e} {bytes} {items} (Comes.at_last d k m) =
-    inr ([], subst (IsItems e bytes end) (m ∙ sym (append-nil items)) (items_of-meets e bytes end))
+    inr (k, ([], subst (IsItems e bytes end) (m ∙ sym (append-nil items)) (items_of-meets e bytes end)))
 
 module _ {R W : Type 0} {reader : Reader R} {sink : Sink W} {e : Encoding} {input : R} {output : W} {it next : Reading R} {w : Writing W} where
   -- An item came, and was written if it is a pair.
@@ -79,7 +79,8 @@ module _ {R W : Type 0} {reader : Reader R} {sink : Sink W} {e : Encoding} {inpu
       came : Collected reader e input (h.bytes ++ n.bytes) (h.items ++ (entry_of line ∷ [])) next.state next.reader
       came = collected-next line h.collected n
 
-      by-content : (c : Content) → BeginsItems e (h.bytes ++ n.bytes) (h.items ++ (item (number_of line) c ∷ [])) → WritesIfPair sink w c (Err error) new
+      by-content : (c : Content) → BeginsItems e (h.bytes ++ n.bytes) (h.items ++ (item (number_of line) c ∷ [])) (reader.at_end next.reader)
+          → WritesIfPair sink w c (Err error) new
           → StopsInWriting reader sink e input output error next.reader new.sink
       by-content (comment text) b k = absurd (let same = k.0 in cc)
       by-content (pair key value) b k = record {

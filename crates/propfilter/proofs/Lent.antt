@@ -66,10 +66,6 @@ module _ {W : Type 0} {sink : Sink W} {old new : MutBor W} where
   flush-lent : {error : Error} → HasFailedFlush (lent_sink sink) old error new → HasFailedFlush sink old.now error new.now
   flush-lent h = record { kept = h.kept; risen = h.risen; same = h.same; given = (h.given.0.now, h.given.1) }
 
-  takes-lent : (bytes : List ℕ) → TakesAndFlushes (lent_sink sink) old bytes new → TakesAndFlushes sink old.now bytes new.now
-  takes-lent bytes (inl h) = inl (written-lent h.0, h.1)
-  takes-lent bytes (inr h) = inr (faulted-lent h)
-
   pair-lent : {e : Encoding} {items : List Entry} {key value : List ℕ} {error : PropertiesError} → FailsInPair (lent_sink sink) e old items key value error new
       → FailsInPair sink e old.now items key value error new.now
   pair-lent h =
@@ -82,6 +78,11 @@ module _ {W : Type 0} {sink : Sink W} {old new : MutBor W} where
   refused-lent : {e : Encoding} {items : List Entry} {error : PropertiesError} → RefusesPair (lent_sink sink) e old items error new
       → RefusesPair sink e old.now items error new.now
   refused-lent h = record { written = written-lent h.written; is = h.is }
+
+takes-lent : {W : Type 0} {sink : Sink W} {old new : MutBor W} (bytes : List ℕ) → TakesAndFlushes (lent_sink sink) old bytes new
+    → TakesAndFlushes sink old.now bytes new.now
+takes-lent bytes (inl h) = inl (written-lent h.0, h.1)
+takes-lent bytes (inr h) = inr (h.0.now, written-lent h.1, (h.2.0, flush-lent h.2.1))
 
 -- ---- both
 

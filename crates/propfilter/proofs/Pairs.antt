@@ -2,7 +2,7 @@
 use Rattle.std.proofs.Common.{◌≡◌, ◌⊎◌, ◌+◌, ◌^◌, ◌==◌, ◌++◌, ℕ, true, false, List, [], ◌∷◌, refl, ap, sym, ◌∙◌, inl, inr, append-nil, add-zero, zero-add, arith}
 use Rattle.std.specs.Prelude.{Result, Ok, Err}
 use Rattle.counted_io.specs.Streams.{Sink, HasWritten}
-use Rattle.counted_io.proofs.Streams.{faulted-more, written-flushed, written-failed_flush}
+use Rattle.counted_io.proofs.Streams.{faulted-more, written-flushed}
 use Rattle.properties_format.specs.Printing.{printed}
 use Rattle.properties_format.specs.Encoding.{Encoding, output_encoding}
 use Rattle.properties_format.specs.Entries.{comment, pair, Entry, item, malformed, read_fault}
@@ -132,7 +132,7 @@ module _ {W : Type 0} {sink : Sink W} {e : Encoding} {output : W} where
       → Flushes sink w result new → TakesAndFlushes sink output (pair_lines e items) new.sink
   pairs-flush new (Ok done) h k = inl (pairs-flushed h k)
   pairs-flush new (Err error) h (inl k) = absurd (let live = pairs-live h in let failed = k.failed in cc)
-  pairs-flush new (Err error) h (inr k) = inr (written-failed_flush (pairs-written h) k.flushed)
+  pairs-flush {w = w} new (Err error) h (inr k) = inr (w.sink, pairs-written h, (k.cause, k.flushed))
 
 -- before the first pair
 pub pairs-none : {W : Type 0} (sink : Sink W) (e : Encoding) (output : W) → HasWrittenPairs sink e output [] (new_writer (output_encoding e) output)

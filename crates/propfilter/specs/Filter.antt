@@ -51,7 +51,9 @@ WritesIfPair sink old (pair key value) result new = WritesLine sink old (pair ke
 
 -- The bytes were taken, and then the sink was flushed, or its flush failed.
 abbrev pub TakesAndFlushes : {W : Type 0} → Sink W → W → List ℕ → W → Type 0
-TakesAndFlushes sink old bytes new = (HasWritten sink old bytes new × (sink.is_flushed new ≡ true)) ⊎ HasFaulted sink old bytes new
+TakesAndFlushes {W} sink old bytes new =
+    (HasWritten sink old bytes new × (sink.is_flushed new ≡ true))
+    ⊎ ((middle : W) × HasWritten sink old bytes middle × ((source : Error) × HasFailedFlush sink middle source new))
 
 -- The pairs of these items were written, and a proper prefix of the line of this pair. Then a write failed, and the error has the number of that line and what the sink said.
 pub record FailsInPair {W : Type 0} (sink : Sink W) (e : Encoding) (old : W) (items : List Entry) (key value : List ℕ) (error : PropertiesError) (new : W) : Type 0 where
@@ -101,7 +103,7 @@ pub record StopsInWriting {R W : Type 0} (reader : Reader R) (sink : Sink W) (e 
   pub whole : AreItems items
   pub bytes : List ℕ
   pub read : HasRead reader input bytes input'
-  pub begins : BeginsItems e bytes (items ++ (item number (pair key value) ∷ []))
+  pub begins : BeginsItems e bytes (items ++ (item number (pair key value) ∷ [])) (reader.at_end input')
   pub fails : FailsInPair sink e output items key value error output' ⊎ RefusesPair sink e output items error output'
 
 -- The input was read to its end and its pairs were written, but the flush failed.
