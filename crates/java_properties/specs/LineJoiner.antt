@@ -82,7 +82,7 @@ pub record JoinsFault {R : Type 0} (reader : Reader R) (old : ReaderState) (from
   pub items : items_to_come old bytes fault ≡ read_fault number ∷ []
   pub lazy : items_to_come old [] more ≡ []
 
--- There was no number for another line. Where there was none before, nothing was read.
+-- There was no number for another line.
 pub record JoinsTooMany {R : Type 0} (reader : Reader R) (old : ReaderState) (from : R) (e : PropertiesError) (new : ReaderState) (to : R) : Type 0 where
   pub bytes : List ℕ
   pub read : HasRead reader from bytes to
