@@ -6,6 +6,7 @@ pub mod Surrogates
 pub mod Utf16
 pub mod Encoding
 pub mod Lines
+pub mod Cut
 pub mod Groups
 pub mod Split
 pub mod Hexadecimal
@@ -16,4 +17,5 @@ pub mod Settings
 pub mod Printing
 pub mod Writing
 pub mod Maps
+pub mod Edited
 pub mod Reading

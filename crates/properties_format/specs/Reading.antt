@@ -10,3 +10,4 @@ pub mod Escapes
 pub mod Items
 pub mod Settings
 pub mod Maps
+pub mod Edited

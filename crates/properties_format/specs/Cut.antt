@@ -1,0 +1,72 @@
+-- The lines of bytes that are not decoded yet: line ends are sought among the units, and each line is decoded by itself.
+-- A unit is a byte, or in UTF-16 two bytes. The text of an ended line is here its bytes, until it is decoded.
+-- Source: java.util.Properties of Java SE 7, load (what ends a line); The Unicode Standard, D77 (code units).
+use Rattle.std.specs.Prelude.{◌≡◌, ℕ, List, [], ◌∷◌, ◌++◌}
+use Rattle.properties_format.specs.Text.{line_feed, carriage_return, LineEnding, lf, cr, crlf}
+use Rattle.properties_format.specs.Lines.{Ended, Lines, HoldsNoLineEnd, BeginsWithNoLoneLf}
+use Rattle.properties_format.specs.Pieces.{Piece, characters}
+use Rattle.properties_format.specs.Utf16.{low_first, high_first}
+use Rattle.properties_format.specs.Encoding.{Encoding, windows_1252, utf_8, utf_16le, utf_16be, IsPieces, IsAligned, ascii_bytes, byte_order_mark}
+
+-- ---- Units.
+
+-- the units of two bytes each; a last odd byte is none
+abbrev pub units_of_two : (ℕ → ℕ → ℕ) → List ℕ → List ℕ
+units_of_two unit [] = []
+units_of_two unit (a ∷ []) = []
+units_of_two unit (a ∷ b ∷ d) = unit a b ∷ units_of_two unit d
+
+-- the units of some bytes, as numbers
+abbrev pub units : Encoding → List ℕ → List ℕ
+units windows_1252 d = d
+units utf_8 d = d
+units utf_16le d = units_of_two low_first d
+units utf_16be d = units_of_two high_first d
+
+-- no unit of the bytes is a CR or an LF
+abbrev pub HoldsNoLineEndUnit : Encoding → List ℕ → Type 0
+HoldsNoLineEndUnit e d = HoldsNoLineEnd (units e d)
+
+-- ---- The cut: lines of bytes.
+
+-- the bytes of a line end
+abbrev pub line_ending_bytes : Encoding → LineEnding → List ℕ
+line_ending_bytes e lf = ascii_bytes e line_feed
+line_ending_bytes e cr = ascii_bytes e carriage_return
+line_ending_bytes e crlf = ascii_bytes e carriage_return ++ ascii_bytes e line_feed
+
+-- lines of bytes and their ends, put back together
+abbrev pub bytes_together : Encoding → List Ended → List ℕ → List ℕ
+bytes_together e [] last = last
+bytes_together e (l ∷ ls) last = l.text ++ (line_ending_bytes e l.by ++ bytes_together e ls last)
+
+-- no unit of a line is a CR or an LF; a line with an end has whole units only, so that its end is one or two units; and
+-- where a CR ends a line, the next is not an empty one that an LF alone ends, since that LF would be of the same end
+abbrev pub AreCut : Encoding → List Ended → List ℕ → Type 0
+AreCut e [] last = HoldsNoLineEndUnit e last
+AreCut e (l ∷ ls) last = HoldsNoLineEndUnit e l.text × IsAligned e l.text × (l.by ≡ cr → BeginsWithNoLoneLf ls) × AreCut e ls last
+
+-- The bytes d, all in the encoding e, have these lines of bytes.
+pub record IsCut (e : Encoding) (d : List ℕ) (lines : Lines) : Type 0 where
+  pub bytes : d ≡ bytes_together e lines.ended lines.last
+  pub are_cut : AreCut e lines.ended lines.last
+
+-- ---- By line: lines of bytes, each decoded by itself.
+
+-- the bytes of a line, by themselves, are decoded to this text
+abbrev pub IsDecodedLine : Encoding → List ℕ → List ℕ → Type 0
+IsDecodedLine e d x = (ps : List Piece) × IsPieces e d ps × (x ≡ characters ps)
+
+-- lines of bytes are decoded to these lines, one by one, and keep their ends
+abbrev pub AreDecodedLines : Encoding → List Ended → List Ended → Type 0
+AreDecodedLines e [] [] = Unit {0}
+AreDecodedLines e [] (t ∷ ts) = ⊥
+AreDecodedLines e (l ∷ ls) [] = ⊥
+AreDecodedLines e (l ∷ ls) (t ∷ ts) = IsDecodedLine e l.text t.text × (l.by ≡ t.by) × AreDecodedLines e ls ts
+
+-- The bytes b, after a byte order mark, are cut into lines, which are decoded one by one to these.
+pub record IsByline (e : Encoding) (b : List ℕ) (lines : Lines) : Type 0 where
+  pub cut : Lines
+  pub is_cut : IsCut (byte_order_mark e b).encoding (byte_order_mark e b).body cut
+  pub ended : AreDecodedLines (byte_order_mark e b).encoding cut.ended lines.ended
+  pub last : IsDecodedLine (byte_order_mark e b).encoding cut.last lines.last

@@ -1,0 +1,231 @@
+-- A source with a key set or removed: which of its bytes are replaced or left out, which are added, and which stand as they were.
+-- Source: java.util.Properties of Java SE 7, load (natural lines make up a logical line, and a later pair takes the place of an earlier one) and store (how a pair is written).
+use Rattle.std.specs.Prelude.{◌≡◌, ◌⊎◌, ℕ, ◌&&◌, not, Bool, true, false, if◌then◌else◌, List, [], ◌∷◌, ◌++◌, Option, Some, None}
+use Rattle.properties_format.specs.Text.{line_feed, equals_sign, LineEnding, lf, cr, line_ending_text}
+use Rattle.properties_format.specs.Encoding.{Encoding, windows_1252, utf_8, utf_16le, utf_16be, byte_order_mark, begins_with, begins_like_bom, utf_8_bom, utf_16be_bom, utf_16le_bom}
+use Rattle.properties_format.specs.Lines.{Ended, Lines, end, Line}
+use Rattle.properties_format.specs.Cut.{IsCut, IsDecodedLine}
+use Rattle.properties_format.specs.Groups.{is_open, is_comment_line, IsGroups, joined}
+use Rattle.properties_format.specs.Reading.Lines.{ends_in_cr}
+use Rattle.properties_format.specs.Escapes.{Malformed}
+use Rattle.properties_format.specs.Entries.{pair, Entry, item, malformed, read_fault}
+use Rattle.properties_format.specs.Items.{given, IsOutcome, IsItems}
+use Rattle.properties_format.specs.Printing.{in_key_or_value, spelt_text, encoded_text, spelt_key}
+use Rattle.properties_format.specs.Writing.{is_empty}
+
+-- ---- The groups of a body, as spans of its bytes.
+
+-- a natural line as a body holds it: its bytes, the text that they are decoded to, and its line ending, of which the last line has none
+pub record HeldLine : Type 0 where
+  pub bytes : List ℕ
+  pub text : List ℕ
+  pub ending : Option LineEnding
+
+-- these are the lines of bytes in order, each decoded by itself
+abbrev pub AreHeld : Encoding → List Ended → List ℕ → List HeldLine → Type 0
+AreHeld e [] last held = (text : List ℕ) × IsDecodedLine e last text × (held ≡ record { bytes = last; text = text; ending = None } ∷ [])
+AreHeld e (l ∷ ls) last held =
+    (text : List ℕ) × (rest : List HeldLine) × IsDecodedLine e l.text text
+    × (held ≡ record { bytes = l.text; text = text; ending = Some l.by } ∷ rest)
+    × AreHeld e ls last rest
+
+-- the texts of the lines. A group does not hang on the numbers of its lines, and so all are 0 here
+abbrev pub as_lines : List HeldLine → List Line
+as_lines [] = []
+as_lines (h ∷ hs) = record { number = 0; text = h.text } ∷ as_lines hs
+
+abbrev pub as_groups : List (List HeldLine) → List (List Line)
+as_groups [] = []
+as_groups (g ∷ gs) = as_lines g ∷ as_groups gs
+
+-- the lines of the groups
+abbrev pub held_in : List (List HeldLine) → List HeldLine
+held_in [] = []
+held_in (g ∷ gs) = g ++ held_in gs
+
+-- The body has these groups: its lines of bytes, decoded one by one, and divided as the lines of a text are.
+pub record IsHeldIn (e : Encoding) (body : List ℕ) (groups : List (List HeldLine)) : Type 0 where
+  pub cut : Lines
+  pub is_cut : IsCut e body cut
+  pub are_held : AreHeld e cut.ended cut.last (held_in groups)
+  pub grouped : IsGroups (as_lines (held_in groups)) end (as_groups groups)
+
+-- the bytes of a line ending, where there is one
+abbrev pub ending_bytes : Option LineEnding → List ℕ
+ending_bytes None = []
+ending_bytes (Some by) = line_ending_text by
+
+-- the bytes of a group: its lines with their line endings
+abbrev pub group_bytes : List HeldLine → List ℕ
+group_bytes [] = []
+group_bytes (h ∷ hs) = h.bytes ++ (ending_bytes h.ending ++ group_bytes hs)
+
+abbrev pub groups_bytes : List (List HeldLine) → List ℕ
+groups_bytes [] = []
+groups_bytes (g ∷ gs) = group_bytes g ++ groups_bytes gs
+
+-- the line ending of a group's last line
+abbrev pub last_ending : List HeldLine → Option LineEnding
+last_ending [] = None
+last_ending (h ∷ []) = h.ending
+last_ending (h ∷ i ∷ hs) = last_ending (i ∷ hs)
+
+-- The group is a pair with this key.
+abbrev pub HasKey : List ℕ → List HeldLine → Type 0
+HasKey key group = (value : List ℕ) × IsOutcome (joined (as_lines group)) (given (pair key value))
+
+-- none of the groups is one
+abbrev pub NoneHasKey : List ℕ → List (List HeldLine) → Type 0
+NoneHasKey key [] = Unit {0}
+NoneHasKey key (g ∷ gs) = ¬ (HasKey key g) × NoneHasKey key gs
+
+-- ---- A key is set.
+
+-- the bytes of a pair without a line ending; at the front of a body a key that begins like a byte order mark has its first character escaped
+abbrev pub pair_bytes : Encoding → Bool → List ℕ → List ℕ → List ℕ
+pair_bytes e first key value = encoded_text e (spelt_key e first key ++ (equals_sign ∷ spelt_text e in_key_or_value value))
+
+-- The last pair with the key gives way to the printed pair, which takes over its line ending.
+pub record IsReplaced (e : Encoding) (groups : List (List HeldLine)) (key value result : List ℕ) : Type 0 where
+  pub before : List (List HeldLine)
+  pub group : List HeldLine
+  pub after : List (List HeldLine)
+  pub division : groups ≡ before ++ group ∷ after
+  pub has_key : HasKey key group
+  pub no_later : NoneHasKey key after
+  pub bytes : result ≡ groups_bytes before ++ (pair_bytes e (is_empty (groups_bytes before)) key value ++ (ending_bytes (last_ending group) ++ groups_bytes after))
+
+-- the last of the groups
+abbrev pub final_group : List (List HeldLine) → List HeldLine
+final_group [] = []
+final_group (g ∷ []) = g
+final_group (g ∷ h ∷ gs) = final_group (h ∷ gs)
+
+-- the group is one line without bytes
+abbrev pub is_empty_line : List HeldLine → Bool
+is_empty_line [] = false
+is_empty_line (h ∷ []) = is_empty h.bytes
+is_empty_line (h ∷ i ∷ hs) = false
+
+-- the last line of the group is open
+abbrev pub is_last_open : List HeldLine → Bool
+is_last_open [] = false
+is_last_open (h ∷ []) = is_open h.text
+is_last_open (h ∷ i ∷ hs) = is_last_open (i ∷ hs)
+
+-- the group begins with no comment line, and its last line is open, so that a line after it would be joined to it
+abbrev pub is_left_open : List HeldLine → Bool
+is_left_open [] = false
+is_left_open (h ∷ hs) = not (is_comment_line h.text) && is_last_open (h ∷ hs)
+
+-- a line ending that is added: a CR where the source ends in one, so that the two are two ends, and else an LF
+abbrev pub added_ending : List ℕ → List ℕ
+added_ending source = line_ending_text (if ends_in_cr source then cr else lf)
+
+-- what parts a pair from this last group before it: nothing, one line ending, or the two that close a group that is left open
+abbrev pub parting : List ℕ → List HeldLine → List ℕ
+parting source group = if is_empty_line group then [] else (if is_left_open group then added_ending source ++ added_ending source else added_ending source)
+
+-- No pair has the key, and the printed pair stands at the end, with an LF.
+pub record IsAppended (e : Encoding) (source : List ℕ) (groups : List (List HeldLine)) (key value result : List ℕ) : Type 0 where
+  pub no_pair : NoneHasKey key groups
+  pub bytes : let front : List ℕ = groups_bytes groups ++ parting source (final_group groups) in result ≡ front ++ (pair_bytes e (is_empty front) key value ++ line_feed ∷ [])
+
+-- the byte order mark that the bytes begin with, if there is one
+abbrev pub mark_of : List ℕ → List ℕ
+mark_of b =
+    if begins_with utf_8_bom b then utf_8_bom
+    else (if begins_with utf_16be_bom b then utf_16be_bom else (if begins_with utf_16le_bom b then utf_16le_bom else []))
+
+-- The result is the source with the key set to the value: the byte order mark stays, and in the body the last pair is replaced or a new one appended.
+pub record IsKeySet (e : Encoding) (source key value result : List ℕ) : Type 0 where
+  pub groups : List (List HeldLine)
+  pub held : IsHeldIn (byte_order_mark e source).encoding (byte_order_mark e source).body groups
+  pub body : List ℕ
+  pub edited : IsReplaced (byte_order_mark e source).encoding groups key value body ⊎ IsAppended (byte_order_mark e source).encoding source groups key value body
+  pub whole : result ≡ mark_of source ++ body
+
+-- ---- A key is removed.
+
+-- the bytes of the groups that are no pair with the key, in order
+abbrev pub IsWithout : List ℕ → List (List HeldLine) → List ℕ → Type 0
+IsWithout key [] rest = rest ≡ []
+IsWithout key (g ∷ gs) rest =
+    HasKey key g × IsWithout key gs rest ⊎ ¬ (HasKey key g) × (more : List ℕ) × (rest ≡ group_bytes g ++ more) × IsWithout key gs more
+
+-- an LF, where without it the rest would begin like a byte order mark that the source has not
+abbrev pub guard : List ℕ → List ℕ → List ℕ
+guard source rest = if not (begins_like_bom source) && begins_like_bom rest then line_feed ∷ [] else []
+
+-- The result is the source without the key: the byte order mark stays, and in the body every group that is no pair with the key.
+pub record IsKeyRemoved (e : Encoding) (source key result : List ℕ) : Type 0 where
+  pub groups : List (List HeldLine)
+  pub held : IsHeldIn (byte_order_mark e source).encoding (byte_order_mark e source).body groups
+  pub rest : List ℕ
+  pub without : IsWithout key groups rest
+  pub whole : result ≡ mark_of source ++ (guard source rest ++ rest)
+
+-- ---- Edits in turn.
+
+pub data Edit : Type 0 where
+  put : List ℕ → List ℕ → Edit
+  remove : List ℕ → Edit
+
+-- the result is the source after this edit
+abbrev pub IsEdited : Encoding → List ℕ → Edit → List ℕ → Type 0
+IsEdited e source (put key value) result = IsKeySet e source key value result
+IsEdited e source (remove key) result = IsKeyRemoved e source key result
+
+-- the result is the source after these edits, each made to what the one before it gave
+abbrev pub AreEdited : Encoding → List ℕ → List Edit → List ℕ → Type 0
+AreEdited e source [] result = result ≡ source
+AreEdited e source (edit ∷ edits) result = (next : List ℕ) × IsEdited e source edit next × AreEdited e next edits result
+
+-- ---- Which sources are edited.
+
+-- What an editor returns: the edited bytes; that the encoding in force is not one that it writes; or the first fault of the source, with its line.
+pub data Answer : Type 0 where
+  edited : List ℕ → Answer
+  unsupported : Answer
+  unreadable : Malformed → ℕ → Answer
+
+-- the encodings that are edited
+abbrev pub is_editable : Encoding → Bool
+is_editable windows_1252 = true
+is_editable utf_8 = true
+is_editable utf_16le = false
+is_editable utf_16be = false
+
+-- no entry is malformed
+abbrev pub HoldsNoMalformed : List Entry → Type 0
+HoldsNoMalformed [] = Unit {0}
+HoldsNoMalformed (item n content ∷ entries) = HoldsNoMalformed entries
+HoldsNoMalformed (malformed kind n ∷ entries) = ⊥
+HoldsNoMalformed (read_fault n ∷ entries) = HoldsNoMalformed entries
+
+-- the first malformed entry is of this kind and names this line
+abbrev pub IsFirstMalformed : Malformed → ℕ → List Entry → Type 0
+IsFirstMalformed kind n [] = ⊥
+IsFirstMalformed kind n (item m content ∷ entries) = IsFirstMalformed kind n entries
+IsFirstMalformed kind n (malformed other m ∷ entries) = (other ≡ kind) × (m ≡ n)
+IsFirstMalformed kind n (read_fault m ∷ entries) = IsFirstMalformed kind n entries
+
+-- the items of the source, to its end, are such
+abbrev pub ItemsAre : Encoding → List ℕ → (List Entry → Type 0) → Type 0
+ItemsAre e source Such = (entries : List Entry) × IsItems e source end entries × Such entries
+
+-- The answer of an edit that makes these results of the source: whether the encoding can be edited comes first, and then the source's first fault.
+abbrev pub IsAnswer : Encoding → List ℕ → (List ℕ → Type 0) → Answer → Type 0
+IsAnswer e source Makes unsupported = is_editable (byte_order_mark e source).encoding ≡ false
+IsAnswer e source Makes (unreadable kind n) = (is_editable (byte_order_mark e source).encoding ≡ true) × ItemsAre e source (IsFirstMalformed kind n)
+IsAnswer e source Makes (edited result) = (is_editable (byte_order_mark e source).encoding ≡ true) × ItemsAre e source HoldsNoMalformed × Makes result
+
+-- the answers of the three editors
+abbrev pub IsSetKeyAnswer : Encoding → List ℕ → List ℕ → List ℕ → Answer → Type 0
+IsSetKeyAnswer e source key value answer = IsAnswer e source (IsKeySet e source key value) answer
+
+abbrev pub IsRemoveKeyAnswer : Encoding → List ℕ → List ℕ → Answer → Type 0
+IsRemoveKeyAnswer e source key answer = IsAnswer e source (IsKeyRemoved e source key) answer
+
+abbrev pub IsEditAllAnswer : Encoding → List ℕ → List Edit → Answer → Type 0
+IsEditAllAnswer e source edits answer = IsAnswer e source (AreEdited e source edits) answer

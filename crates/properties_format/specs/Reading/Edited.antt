@@ -1,0 +1,132 @@
+-- The edited source, computed group by group.
+use Rattle.std.specs.Prelude.{ℕ, Bool, true, false, if◌then◌else◌, List, [], ◌∷◌, ◌++◌, Option, Some, None, bytes_eq}
+use Rattle.properties_format.specs.Text.{line_feed}
+use Rattle.properties_format.specs.Encoding.{Encoding, InForce, byte_order_mark, characters}
+use Rattle.properties_format.specs.Reading.Encoding.{pieces_of}
+use Rattle.properties_format.specs.Lines.{Ended, end}
+use Rattle.properties_format.specs.Reading.Lines.{lines_of}
+use Rattle.properties_format.specs.Groups.{joined}
+use Rattle.properties_format.specs.Reading.Groups.{closes}
+use Rattle.properties_format.specs.Entries.{comment, pair, Entry, item, malformed, read_fault}
+use Rattle.properties_format.specs.Items.{Outcome, ignored, given, broken}
+use Rattle.properties_format.specs.Reading.Items.{outcome_of, items_of}
+use Rattle.properties_format.specs.Writing.{is_empty}
+use Rattle.properties_format.specs.Edited.{HeldLine, as_lines, ending_bytes, group_bytes, groups_bytes, last_ending, pair_bytes, final_group, parting, mark_of, guard, Edit, put, remove, Answer, edited, unsupported, unreadable, is_editable}
+
+-- ---- the groups
+
+-- the lines of bytes, each decoded by itself
+abbrev pub held_of : Encoding → List Ended → List ℕ → List HeldLine
+held_of e [] last = record { bytes = last; text = characters (pieces_of e last); ending = None } ∷ []
+held_of e (l ∷ ls) last = record { bytes = l.text; text = characters (pieces_of e l.text); ending = Some l.by } ∷ held_of e ls last
+
+abbrev pub held_lines_of : Encoding → List ℕ → List HeldLine
+held_lines_of e body = held_of e (lines_of body).ended (lines_of body).last
+
+-- the last group, where one is open
+abbrev pub last_held : List HeldLine → List (List HeldLine)
+last_held [] = []
+last_held (h ∷ hs) = (h ∷ hs) ∷ []
+
+-- the groups of the lines after those of a group that is still open
+abbrev pub held_groups_after : List HeldLine → List HeldLine → List (List HeldLine)
+held_groups_after open_lines [] = last_held open_lines
+held_groups_after open_lines (h ∷ hs) =
+    elim (closes (as_lines open_lines) (record { number = 0; text = h.text })) [
+      | true ↦ (open_lines ++ h ∷ []) ∷ held_groups_after [] hs
+      | false ↦ held_groups_after (open_lines ++ h ∷ []) hs
+    ]
+
+-- the groups of a body, in an encoding that is edited
+unfoldable pub held_groups_of : Encoding → List ℕ → List (List HeldLine)
+held_groups_of e body = held_groups_after [] (held_lines_of e body)
+
+-- whether this is a pair with the key
+abbrev pub is_pair_with : List ℕ → Outcome → Bool
+is_pair_with key ignored = false
+is_pair_with key (given (comment text)) = false
+is_pair_with key (given (pair k v)) = bytes_eq k key
+is_pair_with key (broken kind) = false
+
+abbrev pub has_key : List ℕ → List HeldLine → Bool
+has_key key group = is_pair_with key (outcome_of (joined (as_lines group)))
+
+-- ---- a key is set
+
+-- a group, and those before and after it
+pub record Place : Type 0 where
+  pub before : List (List HeldLine)
+  pub group : List HeldLine
+  pub after : List (List HeldLine)
+
+-- the place with one more group before it; and where there is none, this group if it is a pair with the key
+abbrev pub place_after : List ℕ → List HeldLine → List (List HeldLine) → Option Place → Option Place
+place_after key g gs (Some p) = Some record { before = g ∷ p.before; group = p.group; after = p.after }
+place_after key g gs None = if has_key key g then Some record { before = []; group = g; after = gs } else None
+
+-- the place of the last pair with the key
+abbrev pub last_place : List ℕ → List (List HeldLine) → Option Place
+last_place key [] = None
+last_place key (g ∷ gs) = place_after key g gs (last_place key gs)
+
+-- the body with the pair in that place, or at the end
+abbrev pub set_at : Encoding → List ℕ → List (List HeldLine) → List ℕ → List ℕ → Option Place → List ℕ
+set_at e source groups key value (Some p) =
+    groups_bytes p.before ++ (pair_bytes e (is_empty (groups_bytes p.before)) key value ++ (ending_bytes (last_ending p.group) ++ groups_bytes p.after))
+set_at e source groups key value None =
+    let front : List ℕ = groups_bytes groups ++ parting source (final_group groups) in
+    front ++ (pair_bytes e (is_empty front) key value ++ line_feed ∷ [])
+
+-- the source with the key set
+abbrev pub key_set_in : InForce → List ℕ → List ℕ → List ℕ → List ℕ
+key_set_in f source key value =
+    let groups = held_groups_of f.encoding f.body in
+    mark_of source ++ set_at f.encoding source groups key value (last_place key groups)
+
+abbrev pub key_set : Encoding → List ℕ → List ℕ → List ℕ → List ℕ
+key_set e source key value = key_set_in (byte_order_mark e source) source key value
+
+-- ---- a key is removed
+
+-- the bytes of the groups that are no pair with the key
+abbrev pub without : List ℕ → List (List HeldLine) → List ℕ
+without key [] = []
+without key (g ∷ gs) = if has_key key g then without key gs else group_bytes g ++ without key gs
+
+-- the source without the key
+abbrev pub key_removed_in : InForce → List ℕ → List ℕ → List ℕ
+key_removed_in f source key = let rest = without key (held_groups_of f.encoding f.body) in mark_of source ++ (guard source rest ++ rest)
+
+abbrev pub key_removed : Encoding → List ℕ → List ℕ → List ℕ
+key_removed e source key = key_removed_in (byte_order_mark e source) source key
+
+-- ---- edits in turn
+
+abbrev pub edit_made : Encoding → List ℕ → Edit → List ℕ
+edit_made e source (put key value) = key_set e source key value
+edit_made e source (remove key) = key_removed e source key
+
+abbrev pub edits_made : Encoding → List ℕ → List Edit → List ℕ
+edits_made e source [] = source
+edits_made e source (edit ∷ edits) = edits_made e (edit_made e source edit) edits
+
+-- ---- answers
+
+-- the answer by the items of the source: its first fault, or else these bytes
+abbrev pub answer_by : List Entry → List ℕ → Answer
+answer_by [] result = edited result
+answer_by (item n content ∷ entries) result = answer_by entries result
+answer_by (malformed kind n ∷ entries) result = unreadable kind n
+answer_by (read_fault n ∷ entries) result = answer_by entries result
+
+abbrev pub answer_of : Encoding → List ℕ → List ℕ → Answer
+answer_of e source result = if is_editable (byte_order_mark e source).encoding then answer_by (items_of e source end) result else unsupported
+
+abbrev pub set_key_answer : Encoding → List ℕ → List ℕ → List ℕ → Answer
+set_key_answer e source key value = answer_of e source (key_set e source key value)
+
+abbrev pub remove_key_answer : Encoding → List ℕ → List ℕ → Answer
+remove_key_answer e source key = answer_of e source (key_removed e source key)
+
+abbrev pub edit_all_answer : Encoding → List ℕ → List Edit → Answer
+edit_all_answer e source edits = answer_of e source (edits_made e source edits)
