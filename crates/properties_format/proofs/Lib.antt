@@ -10,3 +10,4 @@ pub mod Printing
 pub mod Writing
 pub mod ReadBack
 pub mod Maps
+pub mod Edited

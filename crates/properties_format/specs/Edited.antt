@@ -1,14 +1,14 @@
 -- A source with a key set or removed: which of its bytes are replaced or left out, which are added, and which stand as they were.
 -- Source: java.util.Properties of Java SE 7, load (natural lines make up a logical line, and a later pair takes the place of an earlier one) and store (how a pair is written).
-use Rattle.std.specs.Prelude.{◌≡◌, ◌⊎◌, ℕ, ◌&&◌, not, Bool, true, false, if◌then◌else◌, List, [], ◌∷◌, ◌++◌, Option, Some, None}
-use Rattle.properties_format.specs.Text.{line_feed, equals_sign, LineEnding, lf, cr, line_ending_text}
+use Rattle.std.specs.Prelude.{◌≡◌, ◌≢◌, ◌⊎◌, All, bytes_eq, ℕ, ◌&&◌, not, Bool, true, false, if◌then◌else◌, List, [], ◌∷◌, ◌++◌, Option, Some, None}
+use Rattle.properties_format.specs.Text.{scalar, line_feed, equals_sign, LineEnding, lf, cr, line_ending_text}
 use Rattle.properties_format.specs.Encoding.{Encoding, windows_1252, utf_8, utf_16le, utf_16be, byte_order_mark, begins_with, begins_like_bom, utf_8_bom, utf_16be_bom, utf_16le_bom}
 use Rattle.properties_format.specs.Lines.{Ended, Lines, end, Line}
 use Rattle.properties_format.specs.Cut.{IsCut, IsDecodedLine}
 use Rattle.properties_format.specs.Groups.{is_open, is_comment_line, IsGroups, joined}
 use Rattle.properties_format.specs.Reading.Lines.{ends_in_cr}
 use Rattle.properties_format.specs.Escapes.{Malformed}
-use Rattle.properties_format.specs.Entries.{pair, Entry, item, malformed, read_fault}
+use Rattle.properties_format.specs.Entries.{Content, comment, pair, Entry, item, malformed, read_fault}
 use Rattle.properties_format.specs.Items.{given, IsOutcome, IsItems}
 use Rattle.properties_format.specs.Printing.{in_key_or_value, spelt_text, encoded_text, spelt_key}
 use Rattle.properties_format.specs.Writing.{is_empty}
@@ -229,3 +229,68 @@ IsRemoveKeyAnswer e source key answer = IsAnswer e source (IsKeyRemoved e source
 
 abbrev pub IsEditAllAnswer : Encoding → List ℕ → List Edit → Answer → Type 0
 IsEditAllAnswer e source edits answer = IsAnswer e source (AreEdited e source edits) answer
+
+-- ---- What an edit does to what a source says.
+
+-- what the items say, in order
+abbrev pub contents : List Entry → List Content
+contents [] = []
+contents (item n content ∷ entries) = content ∷ contents entries
+contents (malformed kind n ∷ entries) = contents entries
+contents (read_fault n ∷ entries) = contents entries
+
+-- none of these is a pair with the key
+abbrev pub HoldNoPair : List ℕ → List Content → Type 0
+HoldNoPair key [] = Unit {0}
+HoldNoPair key (comment text ∷ cs) = HoldNoPair key cs
+HoldNoPair key (pair k v ∷ cs) = (k ≢ key) × HoldNoPair key cs
+
+-- The last pair with the key has this value instead of its old one, and all else is the same.
+pub record IsLastChanged (key value : List ℕ) (old new : List Content) : Type 0 where
+  pub before : List Content
+  pub old_value : List ℕ
+  pub after : List Content
+  pub was : old ≡ before ++ pair key old_value ∷ after
+  pub no_later : HoldNoPair key after
+  pub now : new ≡ before ++ pair key value ∷ after
+
+-- The key is set: its last pair is changed, or where it has none there is a new last pair.
+abbrev pub IsSetIn : List ℕ → List ℕ → List Content → List Content → Type 0
+IsSetIn key value old new = IsLastChanged key value old new ⊎ HoldNoPair key old × (new ≡ old ++ pair key value ∷ [])
+
+-- The key is removed: its pairs are left out, and all else is the same.
+abbrev pub IsRemovedIn : List ℕ → List Content → List Content → Type 0
+IsRemovedIn key [] new = new ≡ []
+IsRemovedIn key (comment text ∷ cs) new = (more : List Content) × (new ≡ comment text ∷ more) × IsRemovedIn key cs more
+IsRemovedIn key (pair k v ∷ cs) new =
+    (k ≡ key) × IsRemovedIn key cs new ⊎ (k ≢ key) × (more : List Content) × (new ≡ pair k v ∷ more) × IsRemovedIn key cs more
+
+-- an edit, and edits in turn
+abbrev pub IsEditedIn : Edit → List Content → List Content → Type 0
+IsEditedIn (put key value) old new = IsSetIn key value old new
+IsEditedIn (remove key) old new = IsRemovedIn key old new
+
+abbrev pub AreEditedIn : List Edit → List Content → List Content → Type 0
+AreEditedIn [] old new = new ≡ old
+AreEditedIn (edit ∷ edits) old new = (next : List Content) × IsEditedIn edit old next × AreEditedIn edits next new
+
+-- ---- and to its map
+
+-- the map with a key set or removed
+abbrev pub map_edited : Edit → (List ℕ → Option (List ℕ)) → List ℕ → Option (List ℕ)
+map_edited (put key value) value_at k = if bytes_eq k key then Some value else value_at k
+map_edited (remove key) value_at k = if bytes_eq k key then None else value_at k
+
+-- and after edits in turn
+abbrev pub map_after : List Edit → (List ℕ → Option (List ℕ)) → List ℕ → Option (List ℕ)
+map_after [] value_at k = value_at k
+map_after (edit ∷ edits) value_at k = map_after edits (map_edited edit value_at) k
+
+-- the texts of an edit are of scalar values
+abbrev pub IsScalarEdit : Edit → Type 0
+IsScalarEdit (put key value) = All scalar key × All scalar value
+IsScalarEdit (remove key) = All scalar key
+
+abbrev pub AreScalarEdits : List Edit → Type 0
+AreScalarEdits [] = Unit {0}
+AreScalarEdits (edit ∷ edits) = IsScalarEdit edit × AreScalarEdits edits
