@@ -1,3 +1,5 @@
 pub mod Decoded
 pub mod Told
 pub mod Items
+pub mod Groups
+pub mod Made
