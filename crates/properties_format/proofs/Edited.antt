@@ -3,3 +3,5 @@ pub mod Told
 pub mod Items
 pub mod Groups
 pub mod Made
+pub mod Pair
+pub mod Marks
