@@ -5,3 +5,4 @@ pub mod Groups
 pub mod Made
 pub mod Pair
 pub mod Marks
+pub mod Contents

@@ -243,9 +243,9 @@ pub record IsHeldLast (e : Encoding) (g : List HeldLine) : Type 0 where
   pub fits : IsLastFit g
   pub ending : last_ending g ≡ None
 
--- Each group is such.
+-- There is a group at least, and each is such.
 abbrev pub AreHeldGroups : Encoding → List (List HeldLine) → Type 0
-AreHeldGroups e [] = Unit {0}
+AreHeldGroups e [] = ⊥
 AreHeldGroups e (g ∷ []) = IsHeldLast e g
 AreHeldGroups e (g ∷ h ∷ gs) = IsHeldFront e g × AreHeldGroups e (h ∷ gs)
 
@@ -277,7 +277,8 @@ fit-some [] (i ∷ gs) k q = k.0
 fit-some (a ∷ h) gs k q = cc
 
 groups-fit : (e : Encoding) (gs : List (List HeldLine)) (ls : List Ended) (last : List ℕ) → AreLines ls last → held_in gs ≡ held_of e ls last → AreFit gs → AreHeldGroups e gs
-groups-fit e [] ls last h s k = tt
+groups-fit e [] [] last h s k = absurd (cc)
+groups-fit e [] (l ∷ ls) last h s k = absurd (cc)
 groups-fit e (g ∷ []) ls last h s k =
     let q : g ≡ held_of e ls last = sym (append-nil g) ∙ s in
     subst (IsHeldLast e) (sym q) (last-of e ls last h (rw q at k))

@@ -118,7 +118,7 @@ replaced-unmarked e gs key value body k h r = of_before r.before r.division r.by
         (ap begins_like_bom (sym (groups_bytes-append (g ∷ before) (r.group ∷ r.after))) ∙ ap (λ v. begins_like_bom (groups_bytes v)) (sym s) ∙ h)
 
 -- the line without bytes
-empty-last : (g : List HeldLine) → is_empty_line g ≡ true → last_ending g ≡ None → group_bytes g ≡ []
+pub empty-last : (g : List HeldLine) → is_empty_line g ≡ true → last_ending g ≡ None → group_bytes g ≡ []
 empty-last [] h k = refl
 empty-last (l ∷ []) h k = of_bytes l.bytes refl
   where

@@ -96,7 +96,8 @@ front-told e x d g h =
 empty_line : Line
 empty_line = record { number = 0; text = [] }
 
-outcome-empty : outcome_of [] ≡ ignored
+-- an empty line comes to nothing
+pub outcome-empty : outcome_of [] ≡ ignored
 outcome-empty = ap split_outcome (split_of-blank [] tt)
 
 lf-front : (e : Encoding) → IsFront e (line_feed ∷ []) (record { number = 0; text = [] } ∷ [])
