@@ -358,7 +358,7 @@ appended-told e source gs key value body old ok k v h a t r = (
   ap (told e) r.bytes
   ∙ ap (told e) (append_assoc (groups_bytes gs) (parting source (final_group gs)) tail)
   ∙ told-after e source gs tail h a
-  ∙ ap₂ (λ x y. x ++ y) t (told-pair e first key value lf [] ok k v ∙ ap (λ w. given (pair key value) ∷ w) (told-nil e))
+  ∙ ap₂ (λ x y. x ++ y) t (told-pair e (is_empty (groups_bytes gs ++ parting source (final_group gs))) key value lf [] ok k v ∙ ap (λ w. given (pair key value) ∷ w) (told-nil e))
   ∙ sym (givens-append old (pair key value ∷ [])),
 )
   where
