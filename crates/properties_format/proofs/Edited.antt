@@ -6,3 +6,4 @@ pub mod Made
 pub mod Pair
 pub mod Marks
 pub mod Contents
+pub mod Laws

@@ -180,7 +180,8 @@ replaced-told e gs key value body old ok k v h t r =
 
 -- ---- a pair is appended
 
-ends-right : (x y : List ℕ) → ends_in_cr y ≡ true → ends_in_cr (x ++ y) ≡ true
+-- a CR at the end of the last part
+pub ends-right : (x y : List ℕ) → ends_in_cr y ≡ true → ends_in_cr (x ++ y) ≡ true
 ends-right x [] h = absurd (cc)
 ends-right x (c ∷ y) h = ends_in_cr-append x c y ∙ h
 

@@ -1,7 +1,7 @@
 -- An edited source is in force as the source was: the byte order mark stays, and where there was none, none comes to be.
-use Rattle.std.proofs.Common.{◌≡◌, ◌<◌, ◌⊎◌, ℕ, ◌==◌, ◌&&◌, ◌||◌, not, Bool, true, false, if◌then◌else◌, List, [], ◌∷◌, ◌++◌, refl, ap, ap₂, sym, ◌∙◌, inl, inr, append_assoc, append-nil, subst, lit<}
+use Rattle.std.proofs.Common.{◌≡◌, ◌<◌, ◌⊎◌, ℕ, ◌==◌, ◌&&◌, ◌||◌, not, Bool, true, false, if◌then◌else◌, List, [], ◌∷◌, ◌++◌, length, drop, eqb-true, refl, ap, ap₂, sym, ◌∙◌, inl, inr, append_assoc, append-nil, subst, lit<}
 use Rattle.std.specs.Prelude.{unwrap_or, None}
-use Rattle.std.proofs.lemmas.Bool.{cases_Bool, cond-true, cond-false, or_parts}
+use Rattle.std.proofs.lemmas.Bool.{cases_Bool, and_parts}
 use Rattle.properties_format.specs.Text.{line_feed, carriage_return, equals_sign, LineEnding, lf, cr, crlf, line_ending_text}
 use Rattle.properties_format.specs.Encoding.{Encoding, utf_8, utf_16le, utf_16be, InForce, byte_order_mark, begins_with, begins_like_bom, utf_8_bom, utf_16be_bom, utf_16le_bom}
 use Rattle.properties_format.specs.Reading.Lines.{ends_in_cr}
@@ -30,6 +30,26 @@ marked e source ok = elim (cases_Bool (begins_with utf_8_bom source)) [
     | inr k ↦ elim (cases_Bool (begins_with utf_16le_bom source)) [
       | inl l ↦ let m : (byte_order_mark e source).encoding ≡ utf_16le = rw (h, k, l) refl in absurd (cc (ap is_editable m, ok))
       | inr l ↦ inr (rw (h, k, l) refl, rw (h, k, l) refl, rw (h, k, l) refl)
+    ]
+  ]
+]
+
+begins-drop : (m b : List ℕ) → begins_with m b ≡ true → b ≡ m ++ drop (length m) b
+begins-drop [] b h = refl
+begins-drop (m ∷ ms) [] h = absurd (cc)
+begins-drop (m ∷ ms) (x ∷ b) h =
+    let p = and_parts (m == x) (begins_with ms b) h in
+    ap₂ (λ v w. v ∷ w) (sym (eqb-true m x p.0)) (begins-drop ms b p.1)
+
+-- A source is its mark and its body.
+pub source-whole : (e : Encoding) (source : List ℕ) → source ≡ mark_of source ++ (byte_order_mark e source).body
+source-whole e source = elim (cases_Bool (begins_with utf_8_bom source)) [
+  | inl h ↦ rw h (begins-drop utf_8_bom source h)
+  | inr h ↦ elim (cases_Bool (begins_with utf_16be_bom source)) [
+    | inl k ↦ rw (h, k) (begins-drop utf_16be_bom source k)
+    | inr k ↦ elim (cases_Bool (begins_with utf_16le_bom source)) [
+      | inl l ↦ rw (h, k, l) (begins-drop utf_16le_bom source l)
+      | inr l ↦ rw (h, k, l) refl
     ]
   ]
 ]
