@@ -7,3 +7,4 @@ pub mod Pair
 pub mod Marks
 pub mod Contents
 pub mod Laws
+pub mod Answers

@@ -12,6 +12,7 @@ use Rattle.properties_format.specs.Entries.{Content, comment, pair, Entry, item,
 use Rattle.properties_format.specs.Items.{given, IsOutcome, IsItems}
 use Rattle.properties_format.specs.Printing.{in_key_or_value, spelt_text, encoded_text, spelt_key}
 use Rattle.properties_format.specs.Writing.{is_empty}
+use Rattle.properties_format.specs.Maps.{IsMap}
 
 -- ---- The groups of a body, as spans of its bytes.
 
@@ -294,3 +295,42 @@ IsScalarEdit (remove key) = All scalar key
 abbrev pub AreScalarEdits : List Edit → Type 0
 AreScalarEdits [] = Unit {0}
 AreScalarEdits (edit ∷ edits) = IsScalarEdit edit × AreScalarEdits edits
+
+-- ---- What is promised of a result.
+
+-- Read as entries, a result has no malformed one, says what was said before with this edit, and has the map that was with this change.
+pub record IsReadAfter (IsEdit : List Content → List Content → Type 0) (change : (List ℕ → Option (List ℕ)) → List ℕ → Option (List ℕ)) (old new : List Entry) : Type 0 where
+  pub readable : HoldsNoMalformed new
+  pub said : IsEdit (contents old) (contents new)
+  pub mapped : (value_at : List ℕ → Option (List ℕ)) → IsMap old value_at → IsMap new (change value_at)
+
+-- read in the same encoding, the result is so to the source
+abbrev pub ReadsAfter :
+    (List Content → List Content → Type 0) → ((List ℕ → Option (List ℕ)) → List ℕ → Option (List ℕ)) → Encoding → List ℕ → List ℕ → Type 0
+ReadsAfter IsEdit change e source result = (old new : List Entry) → IsItems e source end old → IsItems e result end new → IsReadAfter IsEdit change old new
+
+-- the bytes of these groups stand here in order, with other bytes between them or none
+abbrev pub StandIn : List (List HeldLine) → List ℕ → Type 0
+StandIn [] bytes = Unit {0}
+StandIn (g ∷ gs) bytes = (front : List ℕ) × (back : List ℕ) × (bytes ≡ front ++ (group_bytes g ++ back)) × StandIn gs back
+
+-- the groups other than the last pair with the key
+abbrev pub AreOthersThanLast : List ℕ → List (List HeldLine) → List (List HeldLine) → Type 0
+AreOthersThanLast key groups others =
+    NoneHasKey key groups × (others ≡ groups)
+    ⊎ (before : List (List HeldLine)) × (group : List HeldLine) × (after : List (List HeldLine)) × (groups ≡ before ++ group ∷ after) × HasKey key group
+    × NoneHasKey key after
+    × (others ≡ before ++ after)
+
+-- the groups other than the pairs with the key
+abbrev pub AreOthers : List ℕ → List (List HeldLine) → List (List HeldLine) → Type 0
+AreOthers key [] others = others ≡ []
+AreOthers key (g ∷ gs) others =
+    HasKey key g × AreOthers key gs others ⊎ ¬ (HasKey key g) × (more : List (List HeldLine)) × (others ≡ g ∷ more) × AreOthers key gs more
+
+-- such groups of the source stand in the result
+abbrev pub KeepsOthers : (List (List HeldLine) → List (List HeldLine) → Type 0) → Encoding → List ℕ → List ℕ → Type 0
+KeepsOthers Others e source result =
+    (groups : List (List HeldLine)) × (others : List (List HeldLine)) × IsHeldIn (byte_order_mark e source).encoding (byte_order_mark e source).body groups
+    × Others groups others
+    × StandIn others result
