@@ -8,3 +8,6 @@ pub mod Marks
 pub mod Contents
 pub mod Laws
 pub mod Answers
+pub mod Maps
+pub mod Stand
+pub mod Read

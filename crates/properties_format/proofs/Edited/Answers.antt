@@ -1,11 +1,10 @@
 -- What is computed for an editor's answer is that answer, and the only one.
-use Rattle.std.proofs.Common.{◌≡◌, ℕ, true, false, List, [], ◌∷◌, refl, ap, ap₂, sym, ◌∙◌, inl, inr, subst}
+use Rattle.std.proofs.Common.{◌≡◌, ℕ, true, List, [], ◌∷◌, refl, ap, ap₂, sym, ◌∙◌, inl, inr, subst}
 use Rattle.std.proofs.lemmas.Bool.{cases_Bool, cond-true, cond-false}
 use Rattle.properties_format.specs.Encoding.{Encoding, InForce, byte_order_mark}
 use Rattle.properties_format.specs.Lines.{end}
 use Rattle.properties_format.specs.Escapes.{Malformed}
 use Rattle.properties_format.specs.Entries.{Content, Entry, item, malformed, read_fault}
-use Rattle.properties_format.specs.Items.{IsItems}
 use Rattle.properties_format.specs.Reading.Items.{items_of}
 use Rattle.properties_format.specs.Edited.{IsKeySet, IsKeyRemoved, Edit, put, remove, IsEdited, AreEdited, Answer, edited, unsupported, unreadable, is_editable, HoldsNoMalformed, IsFirstMalformed, IsAnswer, IsSetKeyAnswer, IsRemoveKeyAnswer, IsEditAllAnswer}
 use Rattle.properties_format.specs.Reading.Edited.{key_set, key_removed, edit_made, edits_made, answer_by, answer_of, set_key_answer, remove_key_answer, edit_all_answer}

@@ -1,17 +1,17 @@
 -- What the groups of an edited body come to, from what those of the body came to.
-use Rattle.std.proofs.Common.{◌≡◌, ◌≢◌, ◌⊎◌, ℕ, ◌&&◌, not, Bool, true, false, List, [], ◌∷◌, ◌++◌, Some, None, refl, ap, ap₂, sym, ◌∙◌, inl, inr, append_assoc, append-nil, subst, All}
+use Rattle.std.proofs.Common.{◌≡◌, ◌⊎◌, ℕ, ◌&&◌, not, Bool, true, false, List, [], ◌∷◌, ◌++◌, refl, ap, ap₂, sym, ◌∙◌, inl, inr, append_assoc, append-nil, All}
 use Rattle.std.proofs.lemmas.Bool.{cases_Bool, and_parts, and_from, not-true}
-use Rattle.properties_format.specs.Text.{scalar, line_feed, LineEnding, lf, cr, crlf, line_ending_text}
+use Rattle.properties_format.specs.Text.{scalar, line_feed, LineEnding, lf, cr, line_ending_text}
 use Rattle.properties_format.specs.Encoding.{Encoding, begins_like_bom}
-use Rattle.properties_format.specs.Lines.{Ended, Lines, end, Line, HoldsNoLineEnd}
+use Rattle.properties_format.specs.Lines.{Ended, Lines, end, Line}
 use Rattle.properties_format.specs.Reading.Lines.{lines_of, begins_with_lf, ends_in_cr}
-use Rattle.properties_format.specs.Groups.{is_open, is_comment_line, EndsClosed, AreOpen, IsWhole, IsUnfinished, joined}
-use Rattle.properties_format.specs.Reading.Groups.{closes, groups_of}
+use Rattle.properties_format.specs.Groups.{is_comment_line, EndsClosed, AreOpen, IsWhole, joined}
+use Rattle.properties_format.specs.Reading.Groups.{groups_of}
 use Rattle.properties_format.specs.Entries.{Content, comment, pair}
-use Rattle.properties_format.specs.Items.{Outcome, ignored, given, broken, IsOutcome}
+use Rattle.properties_format.specs.Items.{Outcome, ignored, given, broken}
 use Rattle.properties_format.specs.Reading.Items.{outcome_of}
 use Rattle.properties_format.specs.Writing.{is_empty}
-use Rattle.properties_format.specs.Edited.{HeldLine, as_lines, as_groups, ending_bytes, group_bytes, groups_bytes, last_ending, HasKey, NoneHasKey, pair_bytes, IsReplaced, IsAppended, final_group, is_empty_line, is_last_open, is_left_open, added_ending, parting, IsWithout, guard, is_editable, HoldNoPair, IsLastChanged, IsSetIn, IsRemovedIn}
+use Rattle.properties_format.specs.Edited.{HeldLine, as_lines, as_groups, ending_bytes, group_bytes, groups_bytes, last_ending, HasKey, NoneHasKey, pair_bytes, IsReplaced, IsAppended, final_group, is_empty_line, is_last_open, is_left_open, added_ending, parting, IsWithout, guard, is_editable, HoldNoPair, IsSetIn, IsRemovedIn}
 use Rattle.properties_format.proofs.Lines.Plain.{ends_in_cr-append, last-plain}
 use Rattle.properties_format.proofs.Lines.Steps.{lines_of-line}
 use Rattle.properties_format.proofs.Lines.Cut.{PartsNoEnd, lines_on, lines_of-append}
@@ -161,8 +161,7 @@ replaced-told e gs key value body old ok k v h t r =
     of_back front [] old_value w ft bt fs hs = absurd (cc)
     of_back front (c ∷ back) old_value w ft bt fs hs =
         let p : pair key old_value ≡ c = cc in
-        let q : told_by (as_groups r.after) ≡ givens back = cc in
-        (
+        let q : told_by (as_groups r.after) ≡ givens back = cc in (
           front ++ pair key value ∷ back,
           inl (record {
             before = front;
@@ -173,9 +172,9 @@ replaced-told e gs key value body old ok k v h t r =
             now = refl;
           }),
           ap (told e) r.bytes
-          ∙ told-fronts e r.before _ fs
-          ∙ ap₂ (λ x y. x ++ y) ft (told-in_place e (is_empty (groups_bytes r.before)) key value r.group r.after ok k v hs ∙ ap (λ x. given (pair key value) ∷ x) q)
-          ∙ sym (givens-append front (pair key value ∷ back)),
+              ∙ told-fronts e r.before _ fs
+              ∙ ap₂ (λ x y. x ++ y) ft (told-in_place e (is_empty (groups_bytes r.before)) key value r.group r.after ok k v hs ∙ ap (λ x. given (pair key value) ∷ x) q)
+              ∙ sym (givens-append front (pair key value ∷ back)),
         )
 
 -- ---- a pair is appended
@@ -357,10 +356,10 @@ appended-told e source gs key value body old ok k v h a t r = (
   old ++ pair key value ∷ [],
   inr (none-hold key gs old r.no_pair t, refl),
   ap (told e) r.bytes
-  ∙ ap (told e) (append_assoc (groups_bytes gs) (parting source (final_group gs)) tail)
-  ∙ told-after e source gs tail h a
-  ∙ ap₂ (λ x y. x ++ y) t (told-pair e (is_empty (groups_bytes gs ++ parting source (final_group gs))) key value lf [] ok k v ∙ ap (λ w. given (pair key value) ∷ w) (told-nil e))
-  ∙ sym (givens-append old (pair key value ∷ [])),
+      ∙ ap (told e) (append_assoc (groups_bytes gs) (parting source (final_group gs)) tail)
+      ∙ told-after e source gs tail h a
+      ∙ ap₂ (λ x y. x ++ y) t (told-pair e (is_empty (groups_bytes gs ++ parting source (final_group gs))) key value lf [] ok k v ∙ ap (λ w. given (pair key value) ∷ w) (told-nil e))
+      ∙ sym (givens-append old (pair key value ∷ [])),
 )
   where
     tail : List ℕ

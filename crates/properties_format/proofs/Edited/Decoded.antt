@@ -1,5 +1,5 @@
 -- In an encoding that is edited the lines of a body's bytes, decoded one by one, are the lines of its text.
-use Rattle.std.proofs.Common.{◌≡◌, ◌<◌, ◌⊎◌, ◌==◌, eqb-true, ℕ, true, false, List, [], ◌∷◌, ◌++◌, refl, ap, sym, ◌∙◌, inl, inr, lit<}
+use Rattle.std.proofs.Common.{◌≡◌, ◌<◌, ◌⊎◌, ◌==◌, eqb-true, ℕ, true, List, [], ◌∷◌, ◌++◌, refl, ap, sym, ◌∙◌, inl, inr, lit<}
 use Rattle.std.proofs.lemmas.Bool.{cases_Bool, or_cases}
 use Rattle.properties_format.specs.Text.{line_feed, carriage_return, is_line_end, LineEnding, lf, cr, crlf, line_ending_text}
 use Rattle.properties_format.specs.Lines.{Ended, Lines, put_together, HoldsNoLineEnd, BeginsWithNoLoneLf, AreLines, IsLines}
@@ -9,11 +9,11 @@ use Rattle.properties_format.specs.Encoding.{Encoding, windows_1252, utf_8, utf_
 use Rattle.properties_format.specs.Reading.Encoding.{pieces_of}
 use Rattle.properties_format.specs.Cut.{bytes_together, AreCut, IsCut}
 use Rattle.properties_format.specs.Edited.{is_editable}
-use Rattle.properties_format.proofs.Encodings.Cuts.{characters-cut_ascii, IsCutAt, cut-at_ascii}
+use Rattle.properties_format.proofs.Encodings.Cuts.{characters-cut_ascii, cut-at_ascii}
 use Rattle.properties_format.proofs.Encodings.Pieces.{pieces_of-nil}
 use Rattle.properties_format.proofs.Encodings.Waiting.{pieces_of-step}
 use Rattle.properties_format.proofs.Lines.Meets.{lines_of-meets}
-use Rattle.properties_format.proofs.Lines.Only.{lines_of-only, lines_of-together}
+use Rattle.properties_format.proofs.Lines.Only.{lines_of-together}
 
 -- the text of some bytes, by themselves
 abbrev pub text_of : Encoding → List ℕ → List ℕ

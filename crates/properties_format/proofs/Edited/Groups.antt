@@ -5,13 +5,13 @@ use Rattle.properties_format.specs.Text.{line_feed, carriage_return, LineEnding,
 use Rattle.properties_format.specs.Encoding.{Encoding}
 use Rattle.properties_format.specs.Reading.Encoding.{pieces_of}
 use Rattle.properties_format.specs.Pieces.{characters}
-use Rattle.properties_format.specs.Lines.{Ended, Lines, end, Line, put_together, HoldsNoLineEnd, BeginsWithNoLoneLf, AreLines, IsLines}
+use Rattle.properties_format.specs.Lines.{Ended, Lines, end, Line, put_together, BeginsWithNoLoneLf, AreLines}
 use Rattle.properties_format.specs.Reading.Lines.{lines_of}
 use Rattle.properties_format.specs.Cut.{IsDecodedLine}
-use Rattle.properties_format.specs.Groups.{IsWhole, AreWhole, IsUnfinished, last_group, IsGroups, joined}
+use Rattle.properties_format.specs.Groups.{IsWhole, AreWhole, IsUnfinished, last_group}
 use Rattle.properties_format.specs.Reading.Groups.{closes, groups_after, groups_of}
 use Rattle.properties_format.specs.Edited.{HeldLine, AreHeld, as_lines, as_groups, held_in, IsHeldIn, ending_bytes, group_bytes, groups_bytes, last_ending, is_editable}
-use Rattle.properties_format.specs.Reading.Edited.{held_of, held_lines_of, last_held, held_groups_after, held_groups_of}
+use Rattle.properties_format.specs.Reading.Edited.{held_of, held_lines_of, held_groups_after, held_groups_of}
 use Rattle.properties_format.proofs.Encodings.Pieces.{pieces_of-meets, pieces_of-only}
 use Rattle.properties_format.proofs.Lines.Meets.{lines_of-meets}
 use Rattle.properties_format.proofs.Lines.Only.{lines_of-only, lines_of-together}
@@ -284,8 +284,7 @@ groups-fit e (g ∷ []) ls last h s k =
     subst (IsHeldLast e) (sym q) (last-of e ls last h (rw q at k))
 groups-fit e (g ∷ i ∷ gs) ls last h s k =
     let c = cut-off e g (held_in (i ∷ gs)) ls last (fit-some i gs k.1) s in
-    let m : AreLines (c.front ++ c.back) last = rw c.all at h in
-    (
+    let m : AreLines (c.front ++ c.back) last = rw c.all at h in (
       subst (IsHeldFront e) (sym c.group) (front-of e c.front (lines-front c.front c.back last m) (rw c.group at k.0)),
       groups-fit e (i ∷ gs) c.back last (lines-back c.front c.back last m) c.others k.1,
     )

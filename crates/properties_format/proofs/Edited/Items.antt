@@ -1,18 +1,18 @@
 -- What the groups of a body come to is what the items of its source say.
-use Rattle.std.proofs.Common.{◌≡◌, ℕ, ◌+◌, List, [], ◌∷◌, ◌++◌, true, false, refl, ap, ap₂, sym, ◌∙◌, inl, inr}
+use Rattle.std.proofs.Common.{◌≡◌, ℕ, ◌+◌, List, [], ◌∷◌, ◌++◌, true, refl, ap, ap₂, sym, ◌∙◌, inl, inr}
 use Rattle.std.proofs.lemmas.Bool.{cases_Bool}
 use Rattle.properties_format.specs.Encoding.{Encoding, byte_order_mark}
-use Rattle.properties_format.specs.Lines.{Ended, Lines, end, Line, numbered, numbered_lines, line_ends}
+use Rattle.properties_format.specs.Lines.{Ended, end, Line, numbered, numbered_lines, line_ends}
 use Rattle.properties_format.specs.Reading.Lines.{lines_of}
 use Rattle.properties_format.specs.Groups.{joined_after, joined, first_number}
 use Rattle.properties_format.specs.Reading.Groups.{closes, groups_after, groups_of}
-use Rattle.properties_format.specs.Entries.{Content, Entry, item, malformed, read_fault}
+use Rattle.properties_format.specs.Entries.{Content, Entry}
 use Rattle.properties_format.specs.Items.{Outcome, ignored, given, broken}
-use Rattle.properties_format.specs.Reading.Items.{outcome_of, followed, entries_of, items_of_lines, items_of}
+use Rattle.properties_format.specs.Reading.Items.{outcome_of, followed, entries_of, items_of}
 use Rattle.properties_format.specs.Edited.{is_editable, HoldsNoMalformed, contents}
 use Rattle.properties_format.proofs.Groups.Steps.{groups_after-close, groups_after-leave}
 use Rattle.properties_format.proofs.Edited.Decoded.{text_of, ended_texts, lines_of-decoded}
-use Rattle.properties_format.proofs.Edited.Told.{told_before, told_by, decoded_ended, line_texts_in, line_texts, told}
+use Rattle.properties_format.proofs.Edited.Told.{told_before, told_by, line_texts_in, line_texts, told}
 
 -- ---- groups do not hang on the numbers of lines
 

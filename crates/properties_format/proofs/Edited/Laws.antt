@@ -1,14 +1,12 @@
 -- What an edited source says: the items of the source with the edit made to what they say.
-use Rattle.std.proofs.Common.{◌≡◌, ◌⊎◌, ℕ, true, false, List, [], ◌∷◌, ◌++◌, refl, ap, sym, ◌∙◌, inl, inr, subst, All}
+use Rattle.std.proofs.Common.{◌≡◌, ℕ, true, List, [], ◌∷◌, ◌++◌, ap, sym, ◌∙◌, inl, inr, subst, All}
 use Rattle.properties_format.specs.Text.{scalar}
 use Rattle.properties_format.specs.Encoding.{Encoding, InForce, byte_order_mark}
 use Rattle.properties_format.specs.Lines.{end}
 use Rattle.properties_format.specs.Reading.Lines.{ends_in_cr}
-use Rattle.properties_format.specs.Entries.{Content, Entry}
-use Rattle.properties_format.specs.Items.{IsItems}
+use Rattle.properties_format.specs.Entries.{Content}
 use Rattle.properties_format.specs.Reading.Items.{items_of}
-use Rattle.properties_format.specs.Edited.{HeldLine, as_groups, IsHeldIn, groups_bytes, IsReplaced, IsAppended, mark_of, IsKeySet, guard, IsKeyRemoved, Edit, put, remove, IsEdited, AreEdited, is_editable, HoldsNoMalformed, contents, IsSetIn, IsRemovedIn, IsEditedIn, AreEditedIn, IsScalarEdit, AreScalarEdits}
-use Rattle.properties_format.proofs.Items.Unique.{items_of-only}
+use Rattle.properties_format.specs.Edited.{HeldLine, as_groups, IsHeldIn, groups_bytes, mark_of, IsKeySet, guard, IsKeyRemoved, Edit, put, remove, IsEdited, AreEdited, is_editable, HoldsNoMalformed, contents, IsSetIn, IsRemovedIn, IsEditedIn, AreEditedIn, IsScalarEdit, AreScalarEdits}
 use Rattle.properties_format.proofs.Edited.Told.{told_by, told}
 use Rattle.properties_format.proofs.Edited.Items.{givens, items-told, told-items}
 use Rattle.properties_format.proofs.Edited.Groups.{held-groups, held-body}

@@ -1,5 +1,5 @@
 -- An edited source is in force as the source was: the byte order mark stays, and where there was none, none comes to be.
-use Rattle.std.proofs.Common.{◌≡◌, ◌<◌, ◌⊎◌, ℕ, ◌==◌, ◌&&◌, ◌||◌, not, Bool, true, false, if◌then◌else◌, List, [], ◌∷◌, ◌++◌, length, drop, eqb-true, refl, ap, ap₂, sym, ◌∙◌, inl, inr, append_assoc, append-nil, subst, lit<}
+use Rattle.std.proofs.Common.{◌≡◌, ◌⊎◌, ℕ, ◌==◌, Bool, true, false, if◌then◌else◌, List, [], ◌∷◌, ◌++◌, length, drop, eqb-true, refl, ap, ap₂, sym, ◌∙◌, inl, inr, append_assoc, append-nil, lit<}
 use Rattle.std.specs.Prelude.{unwrap_or, None}
 use Rattle.std.proofs.lemmas.Bool.{cases_Bool, and_parts}
 use Rattle.properties_format.specs.Text.{line_feed, carriage_return, equals_sign, LineEnding, lf, cr, crlf, line_ending_text}
@@ -12,7 +12,7 @@ use Rattle.properties_format.proofs.Encodings.ByteOrderMarks.{byte_order_mark-no
 use Rattle.properties_format.proofs.Printing.Characters.{encoded-ascii, encoded_text-append}
 use Rattle.properties_format.proofs.ReadBack.Law.{default_settings-good}
 use Rattle.properties_format.proofs.ReadBack.Unmarked.{byte_order_mark-cut, pair-unmarked}
-use Rattle.properties_format.proofs.Edited.Groups.{HasAscii, IsHeldFront, IsHeldLast, AreHeldGroups, held-groups, held-body}
+use Rattle.properties_format.proofs.Edited.Groups.{HasAscii, AreHeldGroups, held-groups, held-body}
 
 -- ---- the mark of a source
 

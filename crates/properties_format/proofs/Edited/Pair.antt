@@ -8,14 +8,13 @@ use Rattle.properties_format.specs.Text.{scalar, line_feed, equals_sign, LineEnd
 use Rattle.properties_format.specs.Encoding.{Encoding, windows_1252, utf_8, utf_16le, utf_16be, output_encoding}
 use Rattle.properties_format.specs.Lines.{Lines, HoldsNoLineEnd, Line, end}
 use Rattle.properties_format.specs.Reading.Lines.{lines_of}
-use Rattle.properties_format.specs.Groups.{is_open, is_comment_line, IsWhole, joined}
-use Rattle.properties_format.specs.Reading.Groups.{groups_of}
+use Rattle.properties_format.specs.Groups.{is_comment_line, IsWhole, joined}
 use Rattle.properties_format.specs.Entries.{pair}
-use Rattle.properties_format.specs.Items.{Outcome, given}
+use Rattle.properties_format.specs.Items.{given}
 use Rattle.properties_format.specs.Reading.Items.{outcome_of}
 use Rattle.properties_format.specs.Settings.{default_settings}
 use Rattle.properties_format.specs.Printing.{in_key_or_value, spelt_text, encoded_text, spelt_key, printed_text}
-use Rattle.properties_format.specs.Writing.{Call, pair_call, AreGoodSettings}
+use Rattle.properties_format.specs.Writing.{pair_call}
 use Rattle.properties_format.specs.Edited.{is_editable, pair_bytes}
 use Rattle.properties_format.proofs.Lines.Only.{lines_of-plain}
 use Rattle.properties_format.proofs.Lines.Steps.{lines_of-line}
@@ -29,7 +28,7 @@ use Rattle.properties_format.proofs.ReadBack.Lines.{wrote_text}
 use Rattle.properties_format.proofs.ReadBack.Bytes.{AreWritable, text-decoded, wrote_text-writable}
 use Rattle.properties_format.proofs.ReadBack.Law.{default_settings-good}
 use Rattle.properties_format.proofs.Edited.Decoded.{text_of, plain-bytes}
-use Rattle.properties_format.proofs.Edited.Told.{told_before, told_by, decoded_ended, line_texts_in, line_texts, told, IsFront, told-front, told-one}
+use Rattle.properties_format.proofs.Edited.Told.{told_before, decoded_ended, line_texts_in, line_texts, told, IsFront, told-front, told-one}
 
 -- the characters of the printed pair
 abbrev pub pair_text : Encoding → Bool → List ℕ → List ℕ → List ℕ

@@ -1,20 +1,18 @@
 -- What the groups of some bytes come to, in order: a whole group in front of any bytes comes first, and the bytes come to what they come to by themselves.
-use Rattle.std.proofs.Common.{◌≡◌, ℕ, ◌+◌, ◌==◌, Bool, true, false, List, [], ◌∷◌, ◌++◌, length, refl, ap, ap₂, sym, ◌∙◌, inl, inr, append_assoc, append-nil, subst, eqb-true}
-use Rattle.std.proofs.lemmas.Bool.{cases_Bool}
+use Rattle.std.proofs.Common.{◌≡◌, ℕ, ◌+◌, Bool, true, false, List, [], ◌∷◌, ◌++◌, refl, ap, ap₂, sym, ◌∙◌, inl, inr}
 use Rattle.std.proofs.lemmas.Bool.Decides.{eqb_tells}
-use Rattle.properties_format.specs.Text.{line_feed, carriage_return, LineEnding, lf, cr, crlf, line_ending_text}
+use Rattle.properties_format.specs.Text.{line_feed}
 use Rattle.properties_format.specs.Encoding.{Encoding}
-use Rattle.properties_format.specs.Lines.{Ended, Lines, end, more, Line, numbered, numbered_lines, line_ends}
-use Rattle.properties_format.specs.Reading.Lines.{lines_of, begins_with_lf, ends_in_cr, without_leading_lf, rest_of_end, lines_to_come}
-use Rattle.properties_format.specs.Groups.{is_open, is_comment_line, IsWhole, joined}
-use Rattle.properties_format.specs.Reading.Groups.{closes, groups_after, groups_of}
-use Rattle.properties_format.specs.Entries.{Content}
+use Rattle.properties_format.specs.Lines.{Ended, Lines, end, more, Line, numbered, line_ends}
+use Rattle.properties_format.specs.Reading.Lines.{lines_of, ends_in_cr, rest_of_end, lines_to_come}
+use Rattle.properties_format.specs.Groups.{IsWhole, joined}
+use Rattle.properties_format.specs.Reading.Groups.{groups_of}
 use Rattle.properties_format.specs.Items.{Outcome, ignored, given, broken}
 use Rattle.properties_format.specs.Reading.Items.{outcome_of, split_outcome}
 use Rattle.properties_format.proofs.Lines.Append.{lines_to_come-append}
 use Rattle.properties_format.proofs.Groups.Only.{groups_of-before}
 use Rattle.properties_format.proofs.Split.Unique.{split_of-blank}
-use Rattle.properties_format.proofs.Edited.Decoded.{text_of, text_of-nil, ended_texts}
+use Rattle.properties_format.proofs.Edited.Decoded.{text_of, text_of-nil}
 
 -- ---- what groups come to
 

@@ -1,0 +1,44 @@
+-- What is promised of an editor's result, where it has one.
+use Rattle.std.proofs.Common.{◌≡◌, ℕ, true, List, All, subst, sym, Option}
+use Rattle.properties_format.specs.Text.{scalar}
+use Rattle.properties_format.specs.Encoding.{Encoding, byte_order_mark}
+use Rattle.properties_format.specs.Lines.{end}
+use Rattle.properties_format.specs.Entries.{Content, Entry}
+use Rattle.properties_format.specs.Maps.{IsMap}
+use Rattle.properties_format.specs.Edited.{Edit, put, remove, edited, is_editable, HoldsNoMalformed, ItemsAre, IsSetKeyAnswer, IsRemoveKeyAnswer, IsEditAllAnswer, contents, IsSetIn, IsRemovedIn, AreEditedIn, map_edited, map_after, AreScalarEdits, ReadsAfter}
+use Rattle.properties_format.proofs.Items.Unique.{items_of-only}
+use Rattle.properties_format.proofs.Edited.Laws.{IsReadable, says, IsReadTo, key_set-says, key_removed-says, edits-say}
+use Rattle.properties_format.proofs.Edited.Maps.{map-edited, map-after}
+
+-- a source that is edited is readable
+readable : (e : Encoding) (source : List ℕ) → is_editable (byte_order_mark e source).encoding ≡ true → ItemsAre e source HoldsNoMalformed → IsReadable e source
+readable e source ok h = record { editable = ok; no_fault = subst HoldsNoMalformed (items_of-only e source end h.0 h.1) h.2 }
+
+-- what is computed, in the words of what it is
+reads-after : (e : Encoding) (source result : List ℕ) (IsEdit : List Content → List Content → Type 0) (change : (List ℕ → Option (List ℕ)) → List ℕ → Option (List ℕ))
+    → IsReadTo e result (IsEdit (says e source))
+    → ((old new : List Entry) → IsEdit (contents old) (contents new) → (value_at : List ℕ → Option (List ℕ)) → IsMap old value_at → IsMap new (change value_at))
+    → ReadsAfter IsEdit change e source result
+reads-after e source result IsEdit change r m old new h k =
+    let s = items_of-only e source end old h in
+    let t = items_of-only e result end new k in
+    let f : IsEdit (contents old) (contents new) =
+    subst (λ v. IsEdit (contents v) (contents new)) (sym s) (subst (λ v. IsEdit (says e source) (contents v)) (sym t) r.such) in
+    record { readable = subst HoldsNoMalformed (sym t) r.readable.no_fault; said = f; mapped = m old new f }
+
+-- The result of setting a key reads as the source with that key set: its last pair has the new value, or a new last pair comes after all.
+pub set_key-reads : (e : Encoding) (source key value result : List ℕ) → All scalar key → All scalar value → IsSetKeyAnswer e source key value (edited result)
+    → ReadsAfter (IsSetIn key value) (map_edited (put key value)) e source result
+set_key-reads e source key value result k v h =
+    reads-after e source result (IsSetIn key value) (map_edited (put key value)) (key_set-says e source key value result (readable e source h.0 h.1) k v h.2) (map-edited (put key value))
+
+-- The result of removing a key reads as the source without the pairs with that key.
+pub remove_key-reads : (e : Encoding) (source key result : List ℕ) → IsRemoveKeyAnswer e source key (edited result) → ReadsAfter (IsRemovedIn key) (map_edited (remove key)) e source result
+remove_key-reads e source key result h =
+    reads-after e source result (IsRemovedIn key) (map_edited (remove key)) (key_removed-says e source key result (readable e source h.0 h.1) h.2) (map-edited (remove key))
+
+-- The result of edits in turn reads as the source after them.
+pub edit_all-reads : (e : Encoding) (source : List ℕ) (edits : List Edit) (result : List ℕ) → AreScalarEdits edits → IsEditAllAnswer e source edits (edited result)
+    → ReadsAfter (AreEditedIn edits) (map_after edits) e source result
+edit_all-reads e source edits result k h =
+    reads-after e source result (AreEditedIn edits) (map_after edits) (edits-say e source edits result (readable e source h.0 h.1) k h.2) (map-after edits)
