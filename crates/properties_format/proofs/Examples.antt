@@ -1,4 +1,5 @@
 -- Worked rows of each page, computed.
+pub mod Cut
 pub mod Edited
 pub mod Encodings
 pub mod Escapes

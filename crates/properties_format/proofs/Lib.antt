@@ -1,6 +1,7 @@
 pub mod Examples
 pub mod Encodings
 pub mod Lines
+pub mod Cut
 pub mod Groups
 pub mod Split
 pub mod Escapes

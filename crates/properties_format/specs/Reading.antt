@@ -3,6 +3,7 @@ pub mod Utf16
 pub mod Encoding
 pub mod Waiting
 pub mod Lines
+pub mod Cut
 pub mod Groups
 pub mod Logical
 pub mod Split

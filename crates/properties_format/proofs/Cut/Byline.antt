@@ -1,0 +1,163 @@
+-- Splitting commutes with decoding: lines that are sought among undecoded bytes, and decoded one by one, are the lines of the decoded text.
+use Rattle.std.proofs.Common.{◌≡◌, ℕ, suc, length, ◌<◌, ◌⊎◌, ◌==◌, eqb-true, true, List, [], ◌∷◌, ◌++◌, refl, ap, ap₂, sym, ◌∙◌, subst, inl, inr, lit<, append_assoc}
+use Rattle.std.proofs.lemmas.Bool.{cases_Bool, or_cases}
+use Rattle.properties_format.specs.Text.{line_feed, carriage_return, is_line_end, LineEnding, lf, cr, crlf, line_ending_text}
+use Rattle.properties_format.specs.Lines.{Ended, Lines, put_together, HoldsNoLineEnd, BeginsWithNoLoneLf, AreLines, IsLines, line_ends}
+use Rattle.properties_format.specs.Pieces.{characters}
+use Rattle.properties_format.specs.Encoding.{Encoding, IsAligned, IsDecoded, ascii_bytes, byte_order_mark}
+use Rattle.properties_format.specs.Cut.{HoldsNoLineEndUnit, line_ending_bytes, bytes_together, AreCut, IsCut, IsDecodedLine, AreDecodedLines, IsByline}
+use Rattle.properties_format.specs.Reading.Encoding.{pieces_of, decoded_of}
+use Rattle.properties_format.specs.Reading.Lines.{lines_of}
+use Rattle.properties_format.specs.Reading.Cut.{cut_of, decoded_line, decoded_ended, decoded_lines, byline_of}
+use Rattle.properties_format.proofs.Encodings.Pieces.{pieces_of-meets, pieces_of-only, decoded_of-only}
+use Rattle.properties_format.proofs.Encodings.Characters.{pieces_of-ascii}
+use Rattle.properties_format.proofs.Encodings.Cuts.{characters-cut_ascii, cut-at_ascii}
+use Rattle.properties_format.proofs.Encodings.Waiting.{pieces_of-step}
+use Rattle.properties_format.proofs.Lines.Meets.{lines_of-meets}
+use Rattle.properties_format.proofs.Lines.Only.{lines_of-plain, lines_of-only}
+use Rattle.properties_format.proofs.Cut.Units.{no_end_unit-at}
+use Rattle.properties_format.proofs.Cut.Only.{cut_of-only}
+use Rattle.properties_format.proofs.Cut.Meets.{cut_of-meets}
+
+-- ---- The decoded text.
+
+-- a line and its end in front, decoded
+pub decoded-line : (e : Encoding) (text : List ℕ) (by : LineEnding) (y : List ℕ) → IsAligned e text
+    → decoded_line e (text ++ (line_ending_bytes e by ++ y)) ≡ decoded_line e text ++ (line_ending_text by ++ decoded_line e y)
+decoded-line e text lf y a = characters-cut_ascii e line_feed text y (lit< tt) a
+decoded-line e text cr y a = characters-cut_ascii e carriage_return text y (lit< tt) a
+decoded-line e text crlf y a =
+    ap (λ v. decoded_line e (text ++ v)) (append_assoc (ascii_bytes e carriage_return) (ascii_bytes e line_feed) y)
+    ∙ characters-cut_ascii e carriage_return text (ascii_bytes e line_feed ++ y) (lit< tt) a
+    ∙ ap (λ v. decoded_line e text ++ carriage_return ∷ characters v) (pieces_of-ascii e line_feed y (lit< tt))
+
+decoded-together : (e : Encoding) (ls : List Ended) (last : List ℕ) → AreCut e ls last
+    → decoded_line e (bytes_together e ls last) ≡ put_together (decoded_ended e ls) (decoded_line e last)
+decoded-together e [] last h = refl
+decoded-together e (l ∷ ls) last h =
+    decoded-line e l.text l.by (bytes_together e ls last) h.1
+    ∙ ap (λ v. decoded_line e l.text ++ (line_ending_text l.by ++ v)) (decoded-together e ls last h.3)
+
+-- ---- Its lines.
+
+first-end : (x : List ℕ) → HoldsNoLineEnd x ⊎ ((t : List ℕ) × (c : ℕ) × (s : List ℕ) × (is_line_end c ≡ true) × (x ≡ t ++ c ∷ s))
+first-end [] = inl tt
+first-end (c ∷ x) = elim (cases_Bool (is_line_end c)) [
+  | inl h ↦ inr ([], c, x, h, refl)
+  | inr h ↦ elim (first-end x) [ inl p ↦ inl (h, p) | inr q ↦ inr (c ∷ q.0, q.1, q.2, q.3, ap (λ v. c ∷ v) q.4) ]
+]
+
+-- a line end is an ASCII character
+pub end-ascii : (c : ℕ) → is_line_end c ≡ true → c < 0x80
+end-ascii c h = elim (or_cases (c == line_feed) (c == carriage_return) h) [
+  | inl e ↦ rw (eqb-true c line_feed e) (lit< tt)
+  | inr e ↦ rw (eqb-true c carriage_return e) (lit< tt)
+]
+
+-- Bytes without a line end unit are decoded to a text without a line end.
+pub no_end-decoded : (e : Encoding) (d : List ℕ) → HoldsNoLineEndUnit e d → HoldsNoLineEnd (decoded_line e d)
+no_end-decoded e d h = elim (first-end (decoded_line e d)) [
+  | inl p ↦ p
+  | inr q ↦
+      let k = cut-at_ascii e d q.0 q.1 q.2 (end-ascii q.1 q.3) q.4 in
+      absurd (no_end_unit-at e q.1 k.0 k.1 q.3 k.2.aligned (subst (HoldsNoLineEndUnit e) k.2.joins h))
+]
+
+-- only no bytes are decoded to no text
+pub nothing-decoded : (e : Encoding) (d : List ℕ) → decoded_line e d ≡ [] → d ≡ []
+nothing-decoded e [] h = refl
+nothing-decoded e (b ∷ d) h = let k = ap characters (pieces_of-step e b d) in absurd (cc)
+
+no_lone-decoded : (e : Encoding) (ls : List Ended) → BeginsWithNoLoneLf ls → BeginsWithNoLoneLf (decoded_ended e ls)
+no_lone-decoded e [] h = tt
+no_lone-decoded e (l ∷ ls) h = λ k. h (nothing-decoded e l.text k.0, k.1)
+
+lines-decoded : (e : Encoding) (ls : List Ended) (last : List ℕ) → AreCut e ls last → AreLines (decoded_ended e ls) (decoded_line e last)
+lines-decoded e [] last h = no_end-decoded e last h
+lines-decoded e (l ∷ ls) last h = (no_end-decoded e l.text h.0, (λ k. no_lone-decoded e ls (h.2 k)), lines-decoded e ls last h.3)
+
+-- lines of bytes, each decoded by itself, are lines of the text of these bytes
+pub decoded_lines-meets : (e : Encoding) (d : List ℕ) (lines : Lines) → IsCut e d lines → IsLines (decoded_line e d) (decoded_lines e lines)
+decoded_lines-meets e d lines h = record {
+  text = ap (decoded_line e) h.bytes ∙ decoded-together e lines.ended lines.last h.are_cut;
+  are_lines = lines-decoded e lines.ended lines.last h.are_cut;
+}
+
+-- the lines of bytes, each decoded by itself, are the lines of their text
+pub decoded_lines-cut : (e : Encoding) (d : List ℕ) → decoded_lines e (cut_of e d) ≡ lines_of (decoded_line e d)
+decoded_lines-cut e d = lines_of-only (decoded_line e d) (decoded_lines e (cut_of e d)) (decoded_lines-meets e d (cut_of e d) (cut_of-meets e d))
+
+-- there are as many line ends among the bytes as in their text
+ended-length : (e : Encoding) (ls : List Ended) → length (decoded_ended e ls) ≡ length ls
+ended-length e [] = refl
+ended-length e (l ∷ ls) = ap suc (ended-length e ls)
+
+pub line_ends-cut : (e : Encoding) (d : List ℕ) → line_ends (cut_of e d) ≡ line_ends (lines_of (decoded_line e d))
+line_ends-cut e d = sym (ended-length e (cut_of e d).ended) ∙ ap line_ends (decoded_lines-cut e d)
+
+no_ended : (e : Encoding) (ls : List Ended) (last : List ℕ) → decoded_ended e ls ≡ [] → AreCut e ls last → HoldsNoLineEndUnit e (bytes_together e ls last)
+no_ended e [] last h k = k
+no_ended e (l ∷ ls) last h k = absurd (cc)
+
+-- Bytes that are decoded to a text without a line end hold no line end unit.
+pub no_end-undecoded : (e : Encoding) (d : List ℕ) → HoldsNoLineEnd (decoded_line e d) → HoldsNoLineEndUnit e d
+no_end-undecoded e d h =
+    let c = cut_of-meets e d in
+    let k = ap (λ v. v.ended) (decoded_lines-cut e d ∙ lines_of-plain (decoded_line e d) h) in
+    subst (HoldsNoLineEndUnit e) (sym c.bytes) (no_ended e (cut_of e d).ended (cut_of e d).last k c.are_cut)
+
+-- ---- Splitting commutes with decoding.
+
+pub byline-lines : (e : Encoding) (b : List ℕ) → byline_of e b ≡ lines_of (decoded_of e b)
+byline-lines e b = decoded_lines-cut (byte_order_mark e b).encoding (byte_order_mark e b).body
+
+-- ---- What is computed by line, and nothing else is.
+
+decoded_line-meets : (e : Encoding) (d : List ℕ) → IsDecodedLine e d (decoded_line e d)
+decoded_line-meets e d = (pieces_of e d, pieces_of-meets e d, refl)
+
+decoded_line-only : (e : Encoding) (d x : List ℕ) → IsDecodedLine e d x → x ≡ decoded_line e d
+decoded_line-only e d x (ps, h, s) = s ∙ ap characters (pieces_of-only e d ps h)
+
+decoded_ended-meets : (e : Encoding) (ls : List Ended) → AreDecodedLines e ls (decoded_ended e ls)
+decoded_ended-meets e [] = tt
+decoded_ended-meets e (l ∷ ls) = (decoded_line-meets e l.text, refl, decoded_ended-meets e ls)
+
+decoded_ended-only : (e : Encoding) (ls ts : List Ended) → AreDecodedLines e ls ts → ts ≡ decoded_ended e ls
+decoded_ended-only e [] [] h = refl
+decoded_ended-only e [] (t ∷ ts) h = absurd h
+decoded_ended-only e (l ∷ ls) [] h = absurd h
+decoded_ended-only e (l ∷ ls) (t ∷ ts) h =
+    let p : t ≡ record { text = decoded_line e l.text; by = l.by } =
+    ap₂ (λ v w. let s : Ended = record { text = v; by = w } in s) (decoded_line-only e l.text t.text h.0) (sym h.1) in
+    ap₂ (λ v vs. v ∷ vs) p (decoded_ended-only e ls ts h.2)
+
+pub byline_of-meets : (e : Encoding) (b : List ℕ) → IsByline e b (byline_of e b)
+byline_of-meets e b =
+    let m = byte_order_mark e b in
+    let c = cut_of m.encoding m.body in
+    record {
+      cut = c;
+      is_cut = cut_of-meets m.encoding m.body;
+      ended = decoded_ended-meets m.encoding c.ended;
+      last = decoded_line-meets m.encoding c.last;
+    }
+
+pub byline_of-only : (e : Encoding) (b : List ℕ) (lines : Lines) → IsByline e b lines → lines ≡ byline_of e b
+byline_of-only e b lines h =
+    let m = byte_order_mark e b in
+    let p = decoded_ended-only m.encoding h.cut.ended lines.ended h.ended in
+    let q = decoded_line-only m.encoding h.cut.last lines.last h.last in
+    ap₂ (λ v w. let s : Lines = record { ended = v; last = w } in s) p q
+    ∙ ap (decoded_lines m.encoding) (cut_of-only m.encoding m.body h.cut h.is_cut)
+
+-- ---- The same of any lines, by line or of the text.
+
+-- lines by line are the lines of the text
+pub byline-is_lines : (e : Encoding) (b x : List ℕ) (lines : Lines) → IsByline e b lines → IsDecoded e b x → IsLines x lines
+byline-is_lines e b x lines h k = rw (byline_of-only e b lines h ∙ byline-lines e b, decoded_of-only e b x k) (lines_of-meets (decoded_of e b))
+
+-- and the lines of the text are those by line
+pub lines-is_byline : (e : Encoding) (b x : List ℕ) (lines : Lines) → IsLines x lines → IsDecoded e b x → IsByline e b lines
+lines-is_byline e b x lines h k =
+    rw (lines_of-only x lines h ∙ ap lines_of (decoded_of-only e b x k) ∙ sym (byline-lines e b)) (byline_of-meets e b)

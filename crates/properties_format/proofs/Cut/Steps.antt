@@ -1,0 +1,52 @@
+-- How the lines of undecoded bytes are found from the front: a line and its end, and then the lines of what follows.
+use Rattle.std.proofs.Common.{◌≡◌, ℕ, false, List, [], ◌∷◌, ◌++◌, refl, ap, sym, ◌∙◌, append_assoc}
+use Rattle.properties_format.specs.Text.{line_feed, carriage_return, LineEnding, lf, cr, crlf}
+use Rattle.properties_format.specs.Lines.{Ended, Lines, BeginsWithNoLoneLf}
+use Rattle.properties_format.specs.Encoding.{Encoding, IsAligned, ascii_bytes}
+use Rattle.properties_format.specs.Cut.{units, HoldsNoLineEndUnit, line_ending_bytes, bytes_together}
+use Rattle.properties_format.specs.Reading.Lines.{begins_with_lf}
+use Rattle.properties_format.specs.Reading.Cut.{cut_of}
+use Rattle.properties_format.proofs.Cut.Units.{units-ascii}
+use Rattle.properties_format.proofs.Cut.Only.{cut_of-before}
+use Rattle.properties_format.proofs.Cut.Meets.{cut_of-meets}
+
+-- a line in front of lines
+abbrev pub line_in_front : List ℕ → LineEnding → Lines → Lines
+line_in_front text by lines = record { ended = record { text = text; by = by } ∷ lines.ended; last = lines.last }
+
+-- where no LF unit comes first, no lone LF is the first line
+no_lone : (e : Encoding) (ls : List Ended) (last : List ℕ) → begins_with_lf (units e (bytes_together e ls last)) ≡ false → BeginsWithNoLoneLf ls
+no_lone e [] last h = tt
+no_lone e (l ∷ ls) last h = of_line l.text l.by (bytes_together e ls last) h
+  where
+    of_line : (text : List ℕ) (by : LineEnding) (y : List ℕ) → begins_with_lf (units e (text ++ (line_ending_bytes e by ++ y))) ≡ false
+        → ¬ ((text ≡ []) × (by ≡ lf))
+    of_line [] lf y h = let k = ap begins_with_lf (units-ascii e line_feed y) in absurd (cc)
+    of_line [] cr y h = λ p. absurd (cc p.1)
+    of_line [] crlf y h = λ p. absurd (cc p.1)
+    of_line (c ∷ text) by y h = λ p. absurd (cc p.0)
+
+pub cut_of-no_lone : (e : Encoding) (y : List ℕ) → begins_with_lf (units e y) ≡ false → BeginsWithNoLoneLf (cut_of e y).ended
+cut_of-no_lone e y h = no_lone e (cut_of e y).ended (cut_of e y).last (sym (ap (λ v. begins_with_lf (units e v)) (cut_of-meets e y).bytes) ∙ h)
+
+-- a line and its end, before any bytes; a CR is an end by itself only where no LF unit comes
+pub cut_of-line : (e : Encoding) (text : List ℕ) (by : LineEnding) (y : List ℕ) → HoldsNoLineEndUnit e text → IsAligned e text
+    → (by ≡ cr → begins_with_lf (units e y) ≡ false) → cut_of e (text ++ (line_ending_bytes e by ++ y)) ≡ line_in_front text by (cut_of e y)
+cut_of-line e text by y h a k = cut_of-before e text by y (cut_of e y).ended (cut_of e y).last h a (λ q. cut_of-no_lone e y (k q)) refl
+
+-- an LF ends a line
+pub cut_of-lf : (e : Encoding) (text y : List ℕ) → HoldsNoLineEndUnit e text → IsAligned e text
+    → cut_of e (text ++ (ascii_bytes e line_feed ++ y)) ≡ line_in_front text lf (cut_of e y)
+cut_of-lf e text y h a = cut_of-line e text lf y h a (λ k. absurd (cc))
+
+-- a CR ends a line
+pub cut_of-cr : (e : Encoding) (text y : List ℕ) → HoldsNoLineEndUnit e text → IsAligned e text → begins_with_lf (units e y) ≡ false
+    → cut_of e (text ++ (ascii_bytes e carriage_return ++ y)) ≡ line_in_front text cr (cut_of e y)
+cut_of-cr e text y h a k = cut_of-line e text cr y h a (λ q. k)
+
+-- a CR and an LF end a line together
+pub cut_of-crlf : (e : Encoding) (text y : List ℕ) → HoldsNoLineEndUnit e text → IsAligned e text
+    → cut_of e (text ++ (ascii_bytes e carriage_return ++ (ascii_bytes e line_feed ++ y))) ≡ line_in_front text crlf (cut_of e y)
+cut_of-crlf e text y h a =
+    ap (λ v. cut_of e (text ++ v)) (sym (append_assoc (ascii_bytes e carriage_return) (ascii_bytes e line_feed) y))
+    ∙ cut_of-line e text crlf y h a (λ k. absurd (cc))

@@ -1,0 +1,120 @@
+-- The units of bytes put together, and bytes no unit of which is a CR or an LF.
+use Rattle.std.proofs.Common.{◌≡◌, ℕ, zero, suc, ◌%◌, ◌<◌, ◌≤◌, ◌==◌, ◌&&◌, true, false, List, [], ◌∷◌, ◌++◌, length, take, get_or, refl, ap, ◌∙◌, subst, inl, inr, arith}
+use Rattle.std.proofs.lemmas.Bool.{or_from, and_right, ne_eqb, eqb-false, false_from_ne_true}
+use Rattle.std.proofs.lemmas.Bool.Decides.{eqb_tells}
+use Rattle.properties_format.specs.Text.{line_feed, carriage_return, is_line_end}
+use Rattle.properties_format.specs.Lines.{HoldsNoLineEnd}
+use Rattle.properties_format.specs.Utf16.{low_first, high_first}
+use Rattle.properties_format.specs.Encoding.{Encoding, windows_1252, utf_8, utf_16le, utf_16be, IsAligned, ascii_bytes}
+use Rattle.properties_format.specs.Reading.Lines.{begins_with_lf}
+use Rattle.properties_format.specs.Cut.{units_of_two, units, HoldsNoLineEndUnit}
+use Rattle.properties_format.proofs.Lines.Plain.{plain-append, plain-left, plain-right}
+
+-- the first unit of the bytes of an ASCII character is its number
+pub units-ascii : (e : Encoding) (c : ℕ) (y : List ℕ) → units e (ascii_bytes e c ++ y) ≡ c ∷ units e y
+units-ascii windows_1252 c y = refl
+units-ascii utf_8 c y = refl
+units-ascii utf_16le c y = let k : low_first c 0 ≡ c = omega arith in ap (λ v. v ∷ units_of_two low_first y) k
+units-ascii utf_16be c y = let k : high_first 0 c ≡ c = omega arith in ap (λ v. v ∷ units_of_two high_first y) k
+
+two-append : (unit : ℕ → ℕ → ℕ) (x y : List ℕ) → length x % 2 ≡ 0 → units_of_two unit (x ++ y) ≡ units_of_two unit x ++ units_of_two unit y
+two-append unit [] y h = refl
+two-append unit (a ∷ []) y h = absurd (omega arith)
+two-append unit (a ∷ b ∷ x) y h = ap (λ v. unit a b ∷ v) (two-append unit x y (omega arith))
+
+-- the units of whole units and then of what follows
+pub units-append : (e : Encoding) (x y : List ℕ) → IsAligned e x → units e (x ++ y) ≡ units e x ++ units e y
+units-append windows_1252 x y h = refl
+units-append utf_8 x y h = refl
+units-append utf_16le x y h = two-append low_first x y h
+units-append utf_16be x y h = two-append high_first x y h
+
+-- no bytes hold no line end unit
+pub no_end_unit-nil : (e : Encoding) → HoldsNoLineEndUnit e []
+no_end_unit-nil windows_1252 = tt
+no_end_unit-nil utf_8 = tt
+no_end_unit-nil utf_16le = tt
+no_end_unit-nil utf_16be = tt
+
+-- where neither part holds a line end unit, the whole holds none
+pub no_end_unit-append : (e : Encoding) (x y : List ℕ) → IsAligned e x → HoldsNoLineEndUnit e x → HoldsNoLineEndUnit e y → HoldsNoLineEndUnit e (x ++ y)
+no_end_unit-append e x y a h k = rw (units-append e x y a) (plain-append (units e x) (units e y) h k)
+
+-- and the other way round
+pub no_end_unit-left : (e : Encoding) (x y : List ℕ) → IsAligned e x → HoldsNoLineEndUnit e (x ++ y) → HoldsNoLineEndUnit e x
+no_end_unit-left e x y a h = plain-left (units e x) (units e y) (rw (units-append e x y a) at h)
+
+pub no_end_unit-right : (e : Encoding) (x y : List ℕ) → IsAligned e x → HoldsNoLineEndUnit e (x ++ y) → HoldsNoLineEndUnit e y
+no_end_unit-right e x y a h = plain-right (units e x) (units e y) (rw (units-append e x y a) at h)
+
+-- the bytes of a CR or an LF don't stand among such bytes where a unit may begin
+pub no_end_unit-at : (e : Encoding) (c : ℕ) (x y : List ℕ) → is_line_end c ≡ true → IsAligned e x → HoldsNoLineEndUnit e (x ++ (ascii_bytes e c ++ y)) → ⊥
+no_end_unit-at e c x y h a k =
+    let m : HoldsNoLineEnd (c ∷ units e y) = subst HoldsNoLineEnd (units-ascii e c y) (no_end_unit-right e x (ascii_bytes e c ++ y) a k) in
+    let n = m.0 in
+    cc
+
+-- ---- Line ends sought among the bytes.
+
+above-byte : (u : ℕ) → 0x80 ≤ u → is_line_end u ≡ false
+above-byte u h = or_from (u == line_feed) (u == carriage_return) (ne_eqb u line_feed (λ k. omega arith)) (ne_eqb u carriage_return (λ k. omega arith))
+
+-- a unit is a CR or an LF exactly where its low byte is one and its high byte is 0
+pub low_first-line_end : (a b : ℕ) → is_line_end (low_first a b) ≡ (b == 0 && is_line_end a)
+low_first-line_end a b = elim (eqb_tells b 0) [
+  | inl k ↦ rw k.1 (let e : low_first a 0 ≡ a = omega arith in ap is_line_end e)
+  | inr k ↦ rw k.0 (above-byte (low_first a b) (let m = eqb-false b 0 k.0 in omega arith))
+]
+
+pub high_first-line_end : (a b : ℕ) → is_line_end (high_first a b) ≡ (a == 0 && is_line_end b)
+high_first-line_end a b = elim (eqb_tells a 0) [
+  | inl k ↦ rw k.1 (let e : high_first 0 b ≡ b = omega arith in ap is_line_end e)
+  | inr k ↦ rw k.0 (above-byte (high_first a b) (let m = eqb-false a 0 k.0 in omega arith))
+]
+
+no_low : (d : List ℕ) → HoldsNoLineEnd d → HoldsNoLineEnd (units_of_two low_first d)
+no_low [] h = tt
+no_low (a ∷ []) h = tt
+no_low (a ∷ b ∷ d) h = (low_first-line_end a b ∙ and_right (b == 0) (is_line_end a) h.0, no_low d h.1.1)
+
+no_high : (d : List ℕ) → HoldsNoLineEnd d → HoldsNoLineEnd (units_of_two high_first d)
+no_high [] h = tt
+no_high (a ∷ []) h = tt
+no_high (a ∷ b ∷ d) h = (high_first-line_end a b ∙ and_right (a == 0) (is_line_end b) h.1.0, no_high d h.1.1)
+
+-- where no byte is a CR or an LF, no unit is
+pub no_end-no_unit : (e : Encoding) (d : List ℕ) → HoldsNoLineEnd d → HoldsNoLineEndUnit e d
+no_end-no_unit windows_1252 d h = h
+no_end-no_unit utf_8 d h = h
+no_end-no_unit utf_16le d h = no_low d h
+no_end-no_unit utf_16be d h = no_high d h
+
+-- no byte at any index is a CR or an LF
+pub no_end-each : (d : List ℕ) → ((k : ℕ) → k < length d → is_line_end (get_or d k 0) ≡ true → ⊥) → HoldsNoLineEnd d
+no_end-each [] h = tt
+no_end-each (c ∷ d) h = (false_from_ne_true (is_line_end c) (h 0 (omega arith)), no_end-each d (λ k l. h (suc k) (omega arith)))
+
+-- no byte below an index is
+pub no_end-front : (d : List ℕ) (i : ℕ) → ((k : ℕ) → k < i → k < length d → is_line_end (get_or d k 0) ≡ true → ⊥) → HoldsNoLineEnd (take i d)
+no_end-front [] zero h = tt
+no_end-front [] (suc i) h = tt
+no_end-front (c ∷ d) zero h = tt
+no_end-front (c ∷ d) (suc i) h =
+    let first = false_from_ne_true (is_line_end c) (h 0 (omega arith) (omega arith)) in
+    (first, no_end-front d i (λ k l m. h (suc k) (omega arith) (omega arith)))
+
+-- whether an LF comes first is decided by the first whole unit, whatever follows
+pub lf_first-append : (e : Encoding) (x y : List ℕ) → 0 < length (units e x) → begins_with_lf (units e (x ++ y)) ≡ begins_with_lf (units e x)
+lf_first-append e [] y h = absurd (none e (omega arith))
+  where
+    none : (e : Encoding) → 0 < length (units e []) → ⊥
+    none windows_1252 h = omega arith
+    none utf_8 h = omega arith
+    none utf_16le h = omega arith
+    none utf_16be h = omega arith
+lf_first-append windows_1252 (a ∷ x) y h = refl
+lf_first-append utf_8 (a ∷ x) y h = refl
+lf_first-append utf_16le (a ∷ []) y h = absurd (omega arith)
+lf_first-append utf_16be (a ∷ []) y h = absurd (omega arith)
+lf_first-append utf_16le (a ∷ b ∷ x) y h = refl
+lf_first-append utf_16be (a ∷ b ∷ x) y h = refl

@@ -1,0 +1,127 @@
+-- Bytes that are cut into lines before they are decoded, and the lines decoded one by one.
+use Rattle.std.proofs.Common.{◌≡◌, ℕ, List, [], ◌∷◌, refl}
+use Rattle.properties_format.specs.Text.{LineEnding, lf, cr, crlf}
+use Rattle.properties_format.specs.Lines.{Ended, Lines}
+use Rattle.properties_format.specs.Encoding.{windows_1252, utf_8, utf_16le, utf_16be}
+use Rattle.properties_format.specs.Cut.{IsCut}
+use Rattle.properties_format.specs.Reading.Encoding.{pieces_of, decoded_of}
+use Rattle.properties_format.specs.Reading.Lines.{lines_of}
+use Rattle.properties_format.specs.Reading.Cut.{cut_of, byline_of}
+
+abbrev ended : List ℕ → LineEnding → Ended
+ended text by = record { text = text; by = by }
+
+abbrev lines : List Ended → List ℕ → Lines
+lines ls last = record { ended = ls; last = last }
+
+-- no bytes are one empty line
+of_none : cut_of utf_16le [] ≡ lines [] []
+of_none = refl
+
+-- CR LF is one line end, CR CR LF and LF CR are two
+windows_1252-crlf : cut_of windows_1252 (0xe9 ∷ 0x0d ∷ 0x0a ∷ 0x80 ∷ []) ≡ lines (ended (0xe9 ∷ []) crlf ∷ []) (0x80 ∷ [])
+windows_1252-crlf = refl
+
+windows_1252-cr_crlf : cut_of windows_1252 (0x0d ∷ 0x0d ∷ 0x0a ∷ []) ≡ lines (ended [] cr ∷ ended [] crlf ∷ []) []
+windows_1252-cr_crlf = refl
+
+utf_8-crlf : cut_of utf_8 (0x61 ∷ 0x0d ∷ 0x0a ∷ 0x62 ∷ []) ≡ lines (ended (0x61 ∷ []) crlf ∷ []) (0x62 ∷ [])
+utf_8-crlf = refl
+
+utf_8-cr_crlf : cut_of utf_8 (0x0d ∷ 0x0d ∷ 0x0a ∷ []) ≡ lines (ended [] cr ∷ ended [] crlf ∷ []) []
+utf_8-cr_crlf = refl
+
+utf_8-lf_cr : cut_of utf_8 (0x0a ∷ 0x0d ∷ []) ≡ lines (ended [] lf ∷ ended [] cr ∷ []) []
+utf_8-lf_cr = refl
+
+utf_16le-crlf : cut_of utf_16le (0x61 ∷ 0x00 ∷ 0x0d ∷ 0x00 ∷ 0x0a ∷ 0x00 ∷ 0x62 ∷ 0x00 ∷ []) ≡ lines (ended (0x61 ∷ 0x00 ∷ []) crlf ∷ []) (0x62 ∷ 0x00 ∷ [])
+utf_16le-crlf = refl
+
+utf_16le-cr_crlf : cut_of utf_16le (0x0d ∷ 0x00 ∷ 0x0d ∷ 0x00 ∷ 0x0a ∷ 0x00 ∷ []) ≡ lines (ended [] cr ∷ ended [] crlf ∷ []) []
+utf_16le-cr_crlf = refl
+
+utf_16be-crlf : cut_of utf_16be (0x00 ∷ 0x61 ∷ 0x00 ∷ 0x0d ∷ 0x00 ∷ 0x0a ∷ 0x00 ∷ 0x62 ∷ []) ≡ lines (ended (0x00 ∷ 0x61 ∷ []) crlf ∷ []) (0x00 ∷ 0x62 ∷ [])
+utf_16be-crlf = refl
+
+utf_16be-cr_crlf : cut_of utf_16be (0x00 ∷ 0x0d ∷ 0x00 ∷ 0x0d ∷ 0x00 ∷ 0x0a ∷ []) ≡ lines (ended [] cr ∷ ended [] crlf ∷ []) []
+utf_16be-cr_crlf = refl
+
+-- a last odd byte ends no line, be it CR or LF
+utf_16le-odd : cut_of utf_16le (0x0a ∷ 0x00 ∷ 0x0a ∷ []) ≡ lines (ended [] lf ∷ []) (0x0a ∷ [])
+utf_16le-odd = refl
+
+utf_16be-odd : cut_of utf_16be (0x00 ∷ 0x0d ∷ 0x00 ∷ []) ≡ lines (ended [] cr ∷ []) (0x00 ∷ [])
+utf_16be-odd = refl
+
+-- the bytes 0A and 00 end a line only where a unit may begin
+utf_16be-crossed : cut_of utf_16be (0x61 ∷ 0x00 ∷ 0x0a ∷ 0x00 ∷ []) ≡ lines [] (0x61 ∷ 0x00 ∷ 0x0a ∷ 0x00 ∷ [])
+utf_16be-crossed = refl
+
+utf_16le-crossed : cut_of utf_16le (0x00 ∷ 0x0a ∷ 0x00 ∷ 0x0d ∷ []) ≡ lines [] (0x00 ∷ 0x0a ∷ 0x00 ∷ 0x0d ∷ [])
+utf_16le-crossed = refl
+
+-- the unit 0A0A is a character and no line end
+aligned-units : byline_of windows_1252 (0xff ∷ 0xfe ∷ 0x61 ∷ 0x00 ∷ 0x3d ∷ 0x00 ∷ 0x0a ∷ 0x0a ∷ []) ≡ lines [] (0x61 ∷ 0x3d ∷ 0x0a0a ∷ [])
+unfolding pieces_of
+aligned-units = refl
+
+-- the unit 0A0D is none either
+aligned-units-be : byline_of utf_8 (0xfe ∷ 0xff ∷ 0x0a ∷ 0x0d ∷ 0x00 ∷ 0x0a ∷ 0x00 ∷ 0x61 ∷ []) ≡ lines (ended (0x0a0d ∷ []) lf ∷ []) (0x61 ∷ [])
+unfolding pieces_of
+aligned-units-be = refl
+
+-- and neither are the units 0D00 and 0A00
+aligned-units-le : byline_of utf_8 (0xff ∷ 0xfe ∷ 0x00 ∷ 0x0d ∷ 0x00 ∷ 0x0a ∷ 0x0d ∷ 0x00 ∷ 0x0a ∷ 0x00 ∷ 0x62 ∷ 0x00 ∷ [])
+    ≡ lines (ended (0x0d00 ∷ 0x0a00 ∷ []) crlf ∷ []) (0x62 ∷ [])
+unfolding pieces_of
+aligned-units-le = refl
+
+-- a sequence of UTF-8 that a CR breaks off is one U+FFFD in the line before it
+utf_8-broken : byline_of utf_8 (0x61 ∷ 0x3d ∷ 0xf0 ∷ 0x9f ∷ 0x90 ∷ 0x0d ∷ 0xf0 ∷ 0x9f ∷ 0x90 ∷ 0x9e ∷ 0x0a ∷ [])
+    ≡ lines (ended (0x61 ∷ 0x3d ∷ 0xfffd ∷ []) cr ∷ ended (0x1_f41e ∷ []) lf ∷ []) []
+unfolding pieces_of
+utf_8-broken = refl
+
+-- and so is a high unit of UTF-16; the low one after the CR is another
+utf_16le-broken : byline_of utf_16le (0x3d ∷ 0xd8 ∷ 0x0d ∷ 0x00 ∷ 0x1e ∷ 0xdc ∷ []) ≡ lines (ended (0xfffd ∷ []) cr ∷ []) (0xfffd ∷ [])
+unfolding pieces_of
+utf_16le-broken = refl
+
+-- a high unit and a last odd byte are one U+FFFD, in the last line
+utf_16be-last : byline_of utf_16be (0x00 ∷ 0x0a ∷ 0xd8 ∷ 0x3d ∷ 0x0a ∷ []) ≡ lines (ended [] lf ∷ []) (0xfffd ∷ [])
+unfolding pieces_of
+utf_16be-last = refl
+
+-- each byte of windows-1252 is decoded
+windows_1252-decoded : byline_of windows_1252 (0x80 ∷ 0x0a ∷ 0x81 ∷ []) ≡ lines (ended (0x20ac ∷ []) lf ∷ []) (0x81 ∷ [])
+unfolding pieces_of
+windows_1252-decoded = refl
+
+-- the text that is decoded first has the same lines
+utf_8-commutes : lines_of (decoded_of utf_8 (0x61 ∷ 0x3d ∷ 0xf0 ∷ 0x9f ∷ 0x90 ∷ 0x0d ∷ 0xf0 ∷ 0x9f ∷ 0x90 ∷ 0x9e ∷ 0x0a ∷ []))
+    ≡ lines (ended (0x61 ∷ 0x3d ∷ 0xfffd ∷ []) cr ∷ ended (0x1_f41e ∷ []) lf ∷ []) []
+unfolding pieces_of
+utf_8-commutes = refl
+
+utf_16le-commutes : lines_of (decoded_of utf_8 (0xff ∷ 0xfe ∷ 0x00 ∷ 0x0d ∷ 0x00 ∷ 0x0a ∷ 0x0d ∷ 0x00 ∷ 0x0a ∷ 0x00 ∷ 0x62 ∷ 0x00 ∷ []))
+    ≡ lines (ended (0x0d00 ∷ 0x0a00 ∷ []) crlf ∷ []) (0x62 ∷ [])
+unfolding pieces_of
+utf_16le-commutes = refl
+
+-- ---- What is no cut.
+
+-- an LF byte by itself is no unit of UTF-16
+not-any_byte : ¬ IsCut utf_16le (0x0a ∷ 0x0a ∷ []) (lines (ended [] lf ∷ ended [] lf ∷ []) [])
+not-any_byte = λ h. let k = h.bytes in absurd (cc)
+
+-- a line of UTF-16 with an end has whole units
+not-odd : ¬ IsCut utf_16le (0x61 ∷ 0x0a ∷ 0x00 ∷ []) (lines (ended (0x61 ∷ []) lf ∷ []) [])
+not-odd = λ h. let k = h.are_cut.1 in absurd (cc)
+
+-- a CR and an LF after it are not parted
+not-parted : ¬ IsCut utf_8 (0x0d ∷ 0x0a ∷ []) (lines (ended [] cr ∷ ended [] lf ∷ []) [])
+not-parted = λ h. h.are_cut.2 refl (refl, refl)
+
+-- no line end is left in a line
+not-left : ¬ IsCut utf_16be (0x00 ∷ 0x0a ∷ []) (lines [] (0x00 ∷ 0x0a ∷ []))
+not-left = λ h. let k = h.are_cut.0 in absurd (cc)
