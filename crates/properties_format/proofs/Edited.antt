@@ -7,7 +7,7 @@ pub mod Pair
 pub mod Marks
 pub mod Contents
 pub mod Laws
-pub mod Answers
+pub mod Results
 pub mod Maps
 pub mod Stand
 pub mod Read

@@ -45,7 +45,7 @@ held_in [] = []
 held_in (g ∷ gs) = g ++ held_in gs
 
 -- The body has these groups: its lines of bytes, decoded one by one, and divided as the lines of a text are.
-pub record IsHeldIn (e : Encoding) (body : List ℕ) (groups : List (List HeldLine)) : Type 0 where
+pub record AreGroupsOf (e : Encoding) (body : List ℕ) (groups : List (List HeldLine)) : Type 0 where
   pub cut : Lines
   pub is_cut : IsCut e body cut
   pub are_held : AreHeld e cut.ended cut.last (held_in groups)
@@ -133,18 +133,18 @@ pub record IsAppended (e : Encoding) (source : List ℕ) (groups : List (List He
   pub bytes : let front : List ℕ = groups_bytes groups ++ parting source (final_group groups) in result ≡ front ++ (pair_bytes e (is_empty front) key value ++ line_feed ∷ [])
 
 -- the byte order mark that the bytes begin with, if there is one
-abbrev pub mark_of : List ℕ → List ℕ
-mark_of b =
+abbrev pub bom_of : List ℕ → List ℕ
+bom_of b =
     if begins_with utf_8_bom b then utf_8_bom
     else (if begins_with utf_16be_bom b then utf_16be_bom else (if begins_with utf_16le_bom b then utf_16le_bom else []))
 
 -- The result is the source with the key set to the value: the byte order mark stays, and in the body the last pair is replaced or a new one appended.
 pub record IsKeySet (e : Encoding) (source key value result : List ℕ) : Type 0 where
   pub groups : List (List HeldLine)
-  pub held : IsHeldIn (byte_order_mark e source).encoding (byte_order_mark e source).body groups
+  pub held : AreGroupsOf (byte_order_mark e source).encoding (byte_order_mark e source).body groups
   pub body : List ℕ
   pub edited : IsReplaced (byte_order_mark e source).encoding groups key value body ⊎ IsAppended (byte_order_mark e source).encoding source groups key value body
-  pub whole : result ≡ mark_of source ++ body
+  pub whole : result ≡ bom_of source ++ body
 
 -- ---- A key is removed.
 
@@ -155,16 +155,16 @@ IsWithout key (g ∷ gs) rest =
     HasKey key g × IsWithout key gs rest ⊎ ¬ (HasKey key g) × (more : List ℕ) × (rest ≡ group_bytes g ++ more) × IsWithout key gs more
 
 -- an LF, where without it the rest would begin like a byte order mark that the source has not
-abbrev pub guard : List ℕ → List ℕ → List ℕ
-guard source rest = if not (begins_like_bom source) && begins_like_bom rest then line_feed ∷ [] else []
+abbrev pub guarding_lf : List ℕ → List ℕ → List ℕ
+guarding_lf source rest = if not (begins_like_bom source) && begins_like_bom rest then line_feed ∷ [] else []
 
 -- The result is the source without the key: the byte order mark stays, and in the body every group that is no pair with the key.
 pub record IsKeyRemoved (e : Encoding) (source key result : List ℕ) : Type 0 where
   pub groups : List (List HeldLine)
-  pub held : IsHeldIn (byte_order_mark e source).encoding (byte_order_mark e source).body groups
+  pub held : AreGroupsOf (byte_order_mark e source).encoding (byte_order_mark e source).body groups
   pub rest : List ℕ
   pub without : IsWithout key groups rest
-  pub whole : result ≡ mark_of source ++ (guard source rest ++ rest)
+  pub whole : result ≡ bom_of source ++ (guarding_lf source rest ++ rest)
 
 -- ---- Edits in turn.
 
@@ -185,10 +185,10 @@ AreEdited e source (edit ∷ edits) result = (next : List ℕ) × IsEdited e sou
 -- ---- Which sources are edited.
 
 -- What an editor returns: the edited bytes; that the encoding in force is not one that it writes; or the first fault of the source, with its line.
-pub data Answer : Type 0 where
-  edited : List ℕ → Answer
-  unsupported : Answer
-  unreadable : Malformed → ℕ → Answer
+pub data EditResult : Type 0 where
+  edited : List ℕ → EditResult
+  unsupported : EditResult
+  unreadable : Malformed → ℕ → EditResult
 
 -- the encodings that are edited
 abbrev pub is_editable : Encoding → Bool
@@ -216,20 +216,20 @@ abbrev pub ItemsAre : Encoding → List ℕ → (List Entry → Type 0) → Type
 ItemsAre e source Such = (entries : List Entry) × IsItems e source end entries × Such entries
 
 -- The answer of an edit that makes these results of the source: whether the encoding can be edited comes first, and then the source's first fault.
-abbrev pub IsAnswer : Encoding → List ℕ → (List ℕ → Type 0) → Answer → Type 0
-IsAnswer e source Makes unsupported = is_editable (byte_order_mark e source).encoding ≡ false
-IsAnswer e source Makes (unreadable kind n) = (is_editable (byte_order_mark e source).encoding ≡ true) × ItemsAre e source (IsFirstMalformed kind n)
-IsAnswer e source Makes (edited result) = (is_editable (byte_order_mark e source).encoding ≡ true) × ItemsAre e source HoldsNoMalformed × Makes result
+abbrev pub IsEditResult : Encoding → List ℕ → (List ℕ → Type 0) → EditResult → Type 0
+IsEditResult e source Makes unsupported = is_editable (byte_order_mark e source).encoding ≡ false
+IsEditResult e source Makes (unreadable kind n) = (is_editable (byte_order_mark e source).encoding ≡ true) × ItemsAre e source (IsFirstMalformed kind n)
+IsEditResult e source Makes (edited result) = (is_editable (byte_order_mark e source).encoding ≡ true) × ItemsAre e source HoldsNoMalformed × Makes result
 
 -- the answers of the three editors
-abbrev pub IsSetKeyAnswer : Encoding → List ℕ → List ℕ → List ℕ → Answer → Type 0
-IsSetKeyAnswer e source key value answer = IsAnswer e source (IsKeySet e source key value) answer
+abbrev pub IsSetKeyResult : Encoding → List ℕ → List ℕ → List ℕ → EditResult → Type 0
+IsSetKeyResult e source key value answer = IsEditResult e source (IsKeySet e source key value) answer
 
-abbrev pub IsRemoveKeyAnswer : Encoding → List ℕ → List ℕ → Answer → Type 0
-IsRemoveKeyAnswer e source key answer = IsAnswer e source (IsKeyRemoved e source key) answer
+abbrev pub IsRemoveKeyResult : Encoding → List ℕ → List ℕ → EditResult → Type 0
+IsRemoveKeyResult e source key answer = IsEditResult e source (IsKeyRemoved e source key) answer
 
-abbrev pub IsEditAllAnswer : Encoding → List ℕ → List Edit → Answer → Type 0
-IsEditAllAnswer e source edits answer = IsAnswer e source (AreEdited e source edits) answer
+abbrev pub IsEditAllResult : Encoding → List ℕ → List Edit → EditResult → Type 0
+IsEditAllResult e source edits answer = IsEditResult e source (AreEdited e source edits) answer
 
 -- ---- What an edit does to what a source says.
 
@@ -331,6 +331,6 @@ AreOthers key (g ∷ gs) others =
 -- such groups of the source stand in the result
 abbrev pub KeepsOthers : (List (List HeldLine) → List (List HeldLine) → Type 0) → Encoding → List ℕ → List ℕ → Type 0
 KeepsOthers Others e source result =
-    (groups : List (List HeldLine)) × (others : List (List HeldLine)) × IsHeldIn (byte_order_mark e source).encoding (byte_order_mark e source).body groups
+    (groups : List (List HeldLine)) × (others : List (List HeldLine)) × AreGroupsOf (byte_order_mark e source).encoding (byte_order_mark e source).body groups
     × Others groups others
     × StandIn others result

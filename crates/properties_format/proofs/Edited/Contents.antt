@@ -11,7 +11,7 @@ use Rattle.properties_format.specs.Entries.{Content, comment, pair}
 use Rattle.properties_format.specs.Items.{Outcome, ignored, given, broken}
 use Rattle.properties_format.specs.Reading.Items.{outcome_of}
 use Rattle.properties_format.specs.Writing.{is_empty}
-use Rattle.properties_format.specs.Edited.{HeldLine, as_lines, as_groups, ending_bytes, group_bytes, groups_bytes, last_ending, HasKey, NoneHasKey, pair_bytes, IsReplaced, IsAppended, final_group, is_empty_line, is_last_open, is_left_open, added_ending, parting, IsWithout, guard, is_editable, HoldNoPair, IsSetIn, IsRemovedIn}
+use Rattle.properties_format.specs.Edited.{HeldLine, as_lines, as_groups, ending_bytes, group_bytes, groups_bytes, last_ending, HasKey, NoneHasKey, pair_bytes, IsReplaced, IsAppended, final_group, is_empty_line, is_last_open, is_left_open, added_ending, parting, IsWithout, guarding_lf, is_editable, HoldNoPair, IsSetIn, IsRemovedIn}
 use Rattle.properties_format.proofs.Lines.Plain.{ends_in_cr-append, last-plain}
 use Rattle.properties_format.proofs.Lines.Steps.{lines_of-line}
 use Rattle.properties_format.proofs.Lines.Cut.{PartsNoEnd, lines_on, lines_of-append}
@@ -423,10 +423,10 @@ left-told e key (g ∷ i ∷ gs) rest old h (inr w) t =
     (λ cs k. left-told e key (i ∷ gs) w.1 cs h.1 w.3 k))
 
 pub removed-told : (e : Encoding) (source key : List ℕ) (gs : List (List HeldLine)) (rest : List ℕ) (old : List Content) → AreHeldGroups e gs → told_by (as_groups gs) ≡ givens old
-    → IsWithout key gs rest → ComesTo e (guard source rest ++ rest) (IsRemovedIn key old)
+    → IsWithout key gs rest → ComesTo e (guarding_lf source rest ++ rest) (IsRemovedIn key old)
 removed-told e source key gs rest old h t w =
     let m = left-told e key gs rest old h w t in
-    (m.0, m.1, told-guard ∙ m.2)
+    (m.0, m.1, told-guarding_lf ∙ m.2)
   where
-    told-guard : told e (guard source rest ++ rest) ≡ told e rest
-    told-guard = elim (cases_Bool (not (begins_like_bom source) && begins_like_bom rest)) [ inl k ↦ rw k (told-lf e rest) | inr k ↦ rw k refl ]
+    told-guarding_lf : told e (guarding_lf source rest ++ rest) ≡ told e rest
+    told-guarding_lf = elim (cases_Bool (not (begins_like_bom source) && begins_like_bom rest)) [ inl k ↦ rw k (told-lf e rest) | inr k ↦ rw k refl ]

@@ -10,7 +10,7 @@ use Rattle.properties_format.specs.Reading.Lines.{lines_of}
 use Rattle.properties_format.specs.Cut.{IsDecodedLine}
 use Rattle.properties_format.specs.Groups.{IsWhole, AreWhole, IsUnfinished, last_group}
 use Rattle.properties_format.specs.Reading.Groups.{closes, groups_after, groups_of}
-use Rattle.properties_format.specs.Edited.{HeldLine, AreHeld, as_lines, as_groups, held_in, IsHeldIn, ending_bytes, group_bytes, groups_bytes, last_ending, is_editable}
+use Rattle.properties_format.specs.Edited.{HeldLine, AreHeld, as_lines, as_groups, held_in, AreGroupsOf, ending_bytes, group_bytes, groups_bytes, last_ending, is_editable}
 use Rattle.properties_format.specs.Reading.Edited.{held_of, held_lines_of, held_groups_after, held_groups_of}
 use Rattle.properties_format.proofs.Encodings.Pieces.{pieces_of-meets, pieces_of-only}
 use Rattle.properties_format.proofs.Lines.Meets.{lines_of-meets}
@@ -78,7 +78,7 @@ groups-lines p (h ∷ hs) = elim (cases_Bool (closes (as_lines p) (record { numb
 ]
 
 -- what is computed are the groups of the body
-pub held_groups_of-meets : (e : Encoding) (body : List ℕ) → is_editable e ≡ true → IsHeldIn e body (held_groups_of e body)
+pub held_groups_of-meets : (e : Encoding) (body : List ℕ) → is_editable e ≡ true → AreGroupsOf e body (held_groups_of e body)
 unfolding held_groups_of
 held_groups_of-meets e body ok =
     let hs = held_lines_of e body in
@@ -113,13 +113,13 @@ groups-same (g ∷ gs) (h ∷ hs) t s =
     ap₂ (λ v w. v ∷ w) m.0 (groups-same gs hs r m.1)
 
 -- groups of the body have the lines of its bytes
-held-lines : (e : Encoding) (body : List ℕ) (gs : List (List HeldLine)) → is_editable e ≡ true → IsHeldIn e body gs → held_in gs ≡ held_lines_of e body
+held-lines : (e : Encoding) (body : List ℕ) (gs : List (List HeldLine)) → is_editable e ≡ true → AreGroupsOf e body gs → held_in gs ≡ held_lines_of e body
 held-lines e body gs ok h =
     held_of-only e h.cut.ended h.cut.last (held_in gs) h.are_held
     ∙ ap (λ v. let w : Lines = v in held_of e w.ended w.last) (lines_of-only body h.cut (IsCut-lines e body h.cut ok h.is_cut))
 
 -- groups of the body are what is computed
-pub held_groups_of-only : (e : Encoding) (body : List ℕ) (gs : List (List HeldLine)) → is_editable e ≡ true → IsHeldIn e body gs → gs ≡ held_groups_of e body
+pub held_groups_of-only : (e : Encoding) (body : List ℕ) (gs : List (List HeldLine)) → is_editable e ≡ true → AreGroupsOf e body gs → gs ≡ held_groups_of e body
 unfolding held_groups_of
 held_groups_of-only e body gs ok h =
     let same = held-lines e body gs ok h in
@@ -290,7 +290,7 @@ groups-fit e (g ∷ i ∷ gs) ls last h s k =
     )
 
 -- The groups of a body are such.
-pub held-groups : (e : Encoding) (body : List ℕ) (gs : List (List HeldLine)) → is_editable e ≡ true → IsHeldIn e body gs → AreHeldGroups e gs
+pub held-groups : (e : Encoding) (body : List ℕ) (gs : List (List HeldLine)) → is_editable e ≡ true → AreGroupsOf e body gs → AreHeldGroups e gs
 held-groups e body gs ok h =
     groups-fit e gs h.cut.ended h.cut.last (IsCut-lines e body h.cut ok h.is_cut).are_lines (held_of-only e h.cut.ended h.cut.last (held_in gs) h.are_held)
     (fit gs h.grouped.whole h.grouped.unfinished h.grouped.are_groups h.grouped.are_whole h.grouped.is_unfinished)
@@ -309,7 +309,7 @@ groups-bytes [] = refl
 groups-bytes (g ∷ gs) = ap (λ v. group_bytes g ++ v) (groups-bytes gs) ∙ sym (group_bytes-append g (held_in gs))
 
 -- The bytes of the groups of a body are the body.
-pub held-body : (e : Encoding) (body : List ℕ) (gs : List (List HeldLine)) → is_editable e ≡ true → IsHeldIn e body gs → groups_bytes gs ≡ body
+pub held-body : (e : Encoding) (body : List ℕ) (gs : List (List HeldLine)) → is_editable e ≡ true → AreGroupsOf e body gs → groups_bytes gs ≡ body
 held-body e body gs ok h =
     groups-bytes gs
     ∙ ap group_bytes (held_of-only e h.cut.ended h.cut.last (held_in gs) h.are_held)

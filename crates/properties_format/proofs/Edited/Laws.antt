@@ -6,7 +6,7 @@ use Rattle.properties_format.specs.Lines.{end}
 use Rattle.properties_format.specs.Reading.Lines.{ends_in_cr}
 use Rattle.properties_format.specs.Entries.{Content}
 use Rattle.properties_format.specs.Reading.Items.{items_of}
-use Rattle.properties_format.specs.Edited.{HeldLine, as_groups, IsHeldIn, groups_bytes, mark_of, IsKeySet, guard, IsKeyRemoved, Edit, put, remove, IsEdited, AreEdited, is_editable, HoldsNoMalformed, contents, IsSetIn, IsRemovedIn, IsEditedIn, AreEditedIn, IsScalarEdit, AreScalarEdits}
+use Rattle.properties_format.specs.Edited.{HeldLine, as_groups, AreGroupsOf, groups_bytes, bom_of, IsKeySet, guarding_lf, IsKeyRemoved, Edit, put, remove, IsEdited, AreEdited, is_editable, HoldsNoMalformed, contents, IsSetIn, IsRemovedIn, IsEditedIn, AreEditedIn, IsScalarEdit, AreScalarEdits}
 use Rattle.properties_format.proofs.Edited.Told.{told_by, told}
 use Rattle.properties_format.proofs.Edited.Items.{givens, items-told, told-items}
 use Rattle.properties_format.proofs.Edited.Groups.{held-groups, held-body}
@@ -39,7 +39,7 @@ read-to e result f Such ok same c =
     record { readable = record { editable = g; no_fault = m.0 }; such = subst Such (sym m.1) c.1 }
 
 -- the groups of a readable source come to what it says
-groups-say : (e : Encoding) (source : List ℕ) (gs : List (List HeldLine)) → IsReadable e source → IsHeldIn (byte_order_mark e source).encoding (byte_order_mark e source).body gs
+groups-say : (e : Encoding) (source : List ℕ) (gs : List (List HeldLine)) → IsReadable e source → AreGroupsOf (byte_order_mark e source).encoding (byte_order_mark e source).body gs
     → told_by (as_groups gs) ≡ givens (says e source)
 groups-say e source gs r h =
     let f = byte_order_mark e source in
@@ -48,11 +48,11 @@ groups-say e source gs r h =
     ∙ items-told e source r.editable r.no_fault
 
 -- a CR at the end of the body is at the end of the source
-ends-alike : (e : Encoding) (source : List ℕ) (gs : List (List HeldLine)) → IsReadable e source → IsHeldIn (byte_order_mark e source).encoding (byte_order_mark e source).body gs
+ends-alike : (e : Encoding) (source : List ℕ) (gs : List (List HeldLine)) → IsReadable e source → AreGroupsOf (byte_order_mark e source).encoding (byte_order_mark e source).body gs
     → ends_in_cr (groups_bytes gs) ≡ true → ends_in_cr source ≡ true
 ends-alike e source gs r h k =
     let f = byte_order_mark e source in
-    ap ends_in_cr (source-whole e source) ∙ ends-right (mark_of source) f.body (ap ends_in_cr (sym (held-body f.encoding f.body gs r.editable h)) ∙ k)
+    ap ends_in_cr (source-whole e source) ∙ ends-right (bom_of source) f.body (ap ends_in_cr (sym (held-body f.encoding f.body gs r.editable h)) ∙ k)
 
 -- ---- one edit
 
@@ -74,7 +74,7 @@ pub key_removed-says : (e : Encoding) (source key result : List ℕ) → IsReada
 key_removed-says e source key result r h =
     let f = byte_order_mark e source in
     let gs = held-groups f.encoding f.body h.groups r.editable h.held in
-    read-to e result (record { encoding = f.encoding; body = guard source h.rest ++ h.rest }) (IsRemovedIn key (says e source)) r.editable (key_removed-in_force e source key result r.editable h)
+    read-to e result (record { encoding = f.encoding; body = guarding_lf source h.rest ++ h.rest }) (IsRemovedIn key (says e source)) r.editable (key_removed-in_force e source key result r.editable h)
     (removed-told f.encoding source key h.groups h.rest (says e source) gs (groups-say e source h.groups r h.held) h.without)
 
 -- ---- edits in turn

@@ -7,7 +7,7 @@ use Rattle.properties_format.specs.Groups.{joined}
 use Rattle.properties_format.specs.Entries.{comment, pair}
 use Rattle.properties_format.specs.Items.{Outcome, ignored, given, broken}
 use Rattle.properties_format.specs.Reading.Items.{outcome_of}
-use Rattle.properties_format.specs.Edited.{HeldLine, as_lines, group_bytes, HasKey, NoneHasKey, IsReplaced, IsAppended, IsKeySet, IsWithout, IsKeyRemoved, is_editable, mark_of, guard}
+use Rattle.properties_format.specs.Edited.{HeldLine, as_lines, group_bytes, HasKey, NoneHasKey, IsReplaced, IsAppended, IsKeySet, IsWithout, IsKeyRemoved, is_editable, bom_of, guarding_lf}
 use Rattle.properties_format.specs.Reading.Edited.{held_groups_of, is_pair_with, has_key, Place, place_after, last_place, set_at, key_set, without, key_removed}
 use Rattle.properties_format.proofs.Items.Unique.{outcome_of-meets, outcome_of-only}
 use Rattle.properties_format.proofs.Edited.Groups.{held_groups_of-meets, held_groups_of-only}
@@ -101,8 +101,8 @@ pub key_set-only : (e : Encoding) (source key value result : List ℕ) → is_ed
 key_set-only e source key value result ok h =
     let f = byte_order_mark e source in
     h.whole
-    ∙ ap (λ v. mark_of source ++ v) (set-only f.encoding source key value h.groups h.body h.edited)
-    ∙ ap (λ v. mark_of source ++ set_at f.encoding source v key value (last_place key v)) (held_groups_of-only f.encoding f.body h.groups ok h.held)
+    ∙ ap (λ v. bom_of source ++ v) (set-only f.encoding source key value h.groups h.body h.edited)
+    ∙ ap (λ v. bom_of source ++ set_at f.encoding source v key value (last_place key v)) (held_groups_of-only f.encoding f.body h.groups ok h.held)
 
 -- ---- a key is removed
 
@@ -131,5 +131,5 @@ pub key_removed-only : (e : Encoding) (source key result : List ℕ) → is_edit
 key_removed-only e source key result ok h =
     let f = byte_order_mark e source in
     h.whole
-    ∙ ap (λ v. mark_of source ++ (guard source v ++ v)) (without-only key h.groups h.rest h.without)
-    ∙ ap (λ v. mark_of source ++ (guard source (without key v) ++ without key v)) (held_groups_of-only f.encoding f.body h.groups ok h.held)
+    ∙ ap (λ v. bom_of source ++ (guarding_lf source v ++ v)) (without-only key h.groups h.rest h.without)
+    ∙ ap (λ v. bom_of source ++ (guarding_lf source (without key v) ++ without key v)) (held_groups_of-only f.encoding f.body h.groups ok h.held)

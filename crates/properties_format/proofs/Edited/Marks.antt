@@ -7,7 +7,7 @@ use Rattle.properties_format.specs.Encoding.{Encoding, utf_8, utf_16le, utf_16be
 use Rattle.properties_format.specs.Reading.Lines.{ends_in_cr}
 use Rattle.properties_format.specs.Printing.{in_key_or_value, spelt_text, encoded_text, spelt_key}
 use Rattle.properties_format.specs.Writing.{is_empty}
-use Rattle.properties_format.specs.Edited.{HeldLine, IsHeldIn, ending_bytes, group_bytes, groups_bytes, last_ending, pair_bytes, IsReplaced, IsAppended, final_group, is_empty_line, is_left_open, added_ending, parting, mark_of, IsKeySet, guard, IsKeyRemoved, is_editable}
+use Rattle.properties_format.specs.Edited.{HeldLine, AreGroupsOf, ending_bytes, group_bytes, groups_bytes, last_ending, pair_bytes, IsReplaced, IsAppended, final_group, is_empty_line, is_left_open, added_ending, parting, bom_of, IsKeySet, guarding_lf, IsKeyRemoved, is_editable}
 use Rattle.properties_format.proofs.Encodings.ByteOrderMarks.{byte_order_mark-none}
 use Rattle.properties_format.proofs.Printing.Characters.{encoded-ascii, encoded_text-append}
 use Rattle.properties_format.proofs.ReadBack.Law.{default_settings-good}
@@ -19,8 +19,8 @@ use Rattle.properties_format.proofs.Edited.Groups.{HasAscii, AreHeldGroups, held
 -- a source that is edited has the mark of UTF-8, or none
 abbrev pub IsMarked : Encoding → List ℕ → Type 0
 IsMarked e source =
-    (mark_of source ≡ utf_8_bom) × ((byte_order_mark e source).encoding ≡ utf_8)
-    ⊎ (begins_like_bom source ≡ false) × (mark_of source ≡ []) × (byte_order_mark e source ≡ record { encoding = e; body = source })
+    (bom_of source ≡ utf_8_bom) × ((byte_order_mark e source).encoding ≡ utf_8)
+    ⊎ (begins_like_bom source ≡ false) × (bom_of source ≡ []) × (byte_order_mark e source ≡ record { encoding = e; body = source })
 
 pub marked : (e : Encoding) (source : List ℕ) → is_editable (byte_order_mark e source).encoding ≡ true → IsMarked e source
 marked e source ok = elim (cases_Bool (begins_with utf_8_bom source)) [
@@ -42,7 +42,7 @@ begins-drop (m ∷ ms) (x ∷ b) h =
     ap₂ (λ v w. v ∷ w) (sym (eqb-true m x p.0)) (begins-drop ms b p.1)
 
 -- A source is its mark and its body.
-pub source-whole : (e : Encoding) (source : List ℕ) → source ≡ mark_of source ++ (byte_order_mark e source).body
+pub source-whole : (e : Encoding) (source : List ℕ) → source ≡ bom_of source ++ (byte_order_mark e source).body
 source-whole e source = elim (cases_Bool (begins_with utf_8_bom source)) [
   | inl h ↦ rw h (begins-drop utf_8_bom source h)
   | inr h ↦ elim (cases_Bool (begins_with utf_16be_bom source)) [
@@ -56,7 +56,7 @@ source-whole e source = elim (cases_Bool (begins_with utf_8_bom source)) [
 
 -- The mark and a body, which begins like no mark where there is none, are in force as the source was.
 pub in_force : (e : Encoding) (source body : List ℕ) → is_editable (byte_order_mark e source).encoding ≡ true → (begins_like_bom source ≡ false → begins_like_bom body ≡ false)
-    → byte_order_mark e (mark_of source ++ body) ≡ record { encoding = (byte_order_mark e source).encoding; body = body }
+    → byte_order_mark e (bom_of source ++ body) ≡ record { encoding = (byte_order_mark e source).encoding; body = body }
 in_force e source body ok h = elim (marked e source ok) [
   | inl m ↦ ap (λ v. byte_order_mark e (v ++ body)) m.0 ∙ ap (λ v. let w : InForce = record { encoding = v; body = body } in w) (sym m.1)
   | inr m ↦
@@ -189,7 +189,7 @@ appended-unmarked e source gs key value body k h r = elim (parting-cases source 
 
 -- where the source has no mark, its groups begin like none
 groups-unmarked : (e : Encoding) (source : List ℕ) (gs : List (List HeldLine)) → is_editable (byte_order_mark e source).encoding ≡ true
-    → IsHeldIn (byte_order_mark e source).encoding (byte_order_mark e source).body gs → begins_like_bom source ≡ false → begins_like_bom (groups_bytes gs) ≡ false
+    → AreGroupsOf (byte_order_mark e source).encoding (byte_order_mark e source).body gs → begins_like_bom source ≡ false → begins_like_bom (groups_bytes gs) ≡ false
 groups-unmarked e source gs ok h n =
     ap begins_like_bom (held-body (byte_order_mark e source).encoding (byte_order_mark e source).body gs ok h) ∙ ap begins_like_bom (unmarked-body e source n) ∙ n
 
@@ -207,11 +207,11 @@ key_set-in_force e source key value result ok h =
 
 -- ---- a key is removed
 
-guard-unmarked : (source rest : List ℕ) → begins_like_bom source ≡ false → begins_like_bom (guard source rest ++ rest) ≡ false
-guard-unmarked source rest n = elim (cases_Bool (begins_like_bom rest)) [ inl h ↦ rw (n, h) refl | inr h ↦ rw (n, h) h ]
+guarding_lf-unmarked : (source rest : List ℕ) → begins_like_bom source ≡ false → begins_like_bom (guarding_lf source rest ++ rest) ≡ false
+guarding_lf-unmarked source rest n = elim (cases_Bool (begins_like_bom rest)) [ inl h ↦ rw (n, h) refl | inr h ↦ rw (n, h) h ]
 
 -- What is in force after a key is removed.
 pub key_removed-in_force : (e : Encoding) (source key result : List ℕ) → is_editable (byte_order_mark e source).encoding ≡ true → (h : IsKeyRemoved e source key result)
-    → byte_order_mark e result ≡ record { encoding = (byte_order_mark e source).encoding; body = guard source h.rest ++ h.rest }
+    → byte_order_mark e result ≡ record { encoding = (byte_order_mark e source).encoding; body = guarding_lf source h.rest ++ h.rest }
 key_removed-in_force e source key result ok h =
-    ap (byte_order_mark e) h.whole ∙ in_force e source (guard source h.rest ++ h.rest) ok (λ n. guard-unmarked source h.rest n)
+    ap (byte_order_mark e) h.whole ∙ in_force e source (guarding_lf source h.rest ++ h.rest) ok (λ n. guarding_lf-unmarked source h.rest n)

@@ -1,7 +1,7 @@
 -- The other groups of a source stand in the edited one, in order.
 use Rattle.std.proofs.Common.{ℕ, List, [], ◌∷◌, ◌++◌, refl, ap, sym, ◌∙◌, inl, inr, append_assoc, subst}
 use Rattle.properties_format.specs.Encoding.{Encoding}
-use Rattle.properties_format.specs.Edited.{HeldLine, group_bytes, groups_bytes, mark_of, IsKeySet, IsWithout, guard, IsKeyRemoved, StandIn, AreOthersThanLast, AreOthers, KeepsOthers}
+use Rattle.properties_format.specs.Edited.{HeldLine, group_bytes, groups_bytes, bom_of, IsKeySet, IsWithout, guarding_lf, IsKeyRemoved, StandIn, AreOthersThanLast, AreOthers, KeepsOthers}
 
 -- other bytes before them
 stand-after : (gs : List (List HeldLine)) (x y : List ℕ) → StandIn gs y → StandIn gs (x ++ y)
@@ -30,16 +30,16 @@ key_set-keeps e source key value result h = elim h.edited [
     r.before ++ r.after,
     h.held,
     inr (r.before, r.group, r.after, r.division, r.has_key, r.no_later, refl),
-    subst (StandIn (r.before ++ r.after)) (sym (h.whole ∙ ap (λ v. mark_of source ++ v) r.bytes))
-        (stand-after (r.before ++ r.after) (mark_of source) _ (stand-before r.before r.after _ (stand-after r.after _ _ (stand-after r.after _ (groups_bytes r.after) (stand-alone r.after))))),
+    subst (StandIn (r.before ++ r.after)) (sym (h.whole ∙ ap (λ v. bom_of source ++ v) r.bytes))
+        (stand-after (r.before ++ r.after) (bom_of source) _ (stand-before r.before r.after _ (stand-after r.after _ _ (stand-after r.after _ (groups_bytes r.after) (stand-alone r.after))))),
   )
   | inr r ↦ (
     h.groups,
     h.groups,
     h.held,
     inl (r.no_pair, refl),
-    subst (StandIn h.groups) (sym (h.whole ∙ ap (λ v. mark_of source ++ v) (r.bytes ∙ append_assoc (groups_bytes h.groups) _ _)))
-        (stand-after h.groups (mark_of source) _ (stand-all h.groups _)),
+    subst (StandIn h.groups) (sym (h.whole ∙ ap (λ v. bom_of source ++ v) (r.bytes ∙ append_assoc (groups_bytes h.groups) _ _)))
+        (stand-after h.groups (bom_of source) _ (stand-all h.groups _)),
   )
 ]
 
@@ -56,5 +56,5 @@ key_removed-keeps e source key result h =
       m.0,
       h.held,
       m.1,
-      subst (StandIn m.0) (sym h.whole) (stand-after m.0 (mark_of source) (guard source h.rest ++ h.rest) (stand-after m.0 (guard source h.rest) h.rest m.2)),
+      subst (StandIn m.0) (sym h.whole) (stand-after m.0 (bom_of source) (guarding_lf source h.rest ++ h.rest) (stand-after m.0 (guarding_lf source h.rest) h.rest m.2)),
     )

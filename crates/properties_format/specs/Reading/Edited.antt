@@ -11,7 +11,7 @@ use Rattle.properties_format.specs.Entries.{comment, pair, Entry, item, malforme
 use Rattle.properties_format.specs.Items.{Outcome, ignored, given, broken}
 use Rattle.properties_format.specs.Reading.Items.{outcome_of, items_of}
 use Rattle.properties_format.specs.Writing.{is_empty}
-use Rattle.properties_format.specs.Edited.{HeldLine, as_lines, ending_bytes, group_bytes, groups_bytes, last_ending, pair_bytes, final_group, parting, mark_of, guard, Edit, put, remove, Answer, edited, unsupported, unreadable, is_editable}
+use Rattle.properties_format.specs.Edited.{HeldLine, as_lines, ending_bytes, group_bytes, groups_bytes, last_ending, pair_bytes, final_group, parting, bom_of, guarding_lf, Edit, put, remove, EditResult, edited, unsupported, unreadable, is_editable}
 
 -- ---- the groups
 
@@ -81,7 +81,7 @@ set_at e source groups key value None =
 abbrev pub key_set_in : InForce → List ℕ → List ℕ → List ℕ → List ℕ
 key_set_in f source key value =
     let groups = held_groups_of f.encoding f.body in
-    mark_of source ++ set_at f.encoding source groups key value (last_place key groups)
+    bom_of source ++ set_at f.encoding source groups key value (last_place key groups)
 
 abbrev pub key_set : Encoding → List ℕ → List ℕ → List ℕ → List ℕ
 key_set e source key value = key_set_in (byte_order_mark e source) source key value
@@ -95,7 +95,7 @@ without key (g ∷ gs) = if has_key key g then without key gs else group_bytes g
 
 -- the source without the key
 abbrev pub key_removed_in : InForce → List ℕ → List ℕ → List ℕ
-key_removed_in f source key = let rest = without key (held_groups_of f.encoding f.body) in mark_of source ++ (guard source rest ++ rest)
+key_removed_in f source key = let rest = without key (held_groups_of f.encoding f.body) in bom_of source ++ (guarding_lf source rest ++ rest)
 
 abbrev pub key_removed : Encoding → List ℕ → List ℕ → List ℕ
 key_removed e source key = key_removed_in (byte_order_mark e source) source key
@@ -113,20 +113,20 @@ edits_made e source (edit ∷ edits) = edits_made e (edit_made e source edit) ed
 -- ---- answers
 
 -- the answer by the items of the source: its first fault, or else these bytes
-abbrev pub answer_by : List Entry → List ℕ → Answer
-answer_by [] result = edited result
-answer_by (item n content ∷ entries) result = answer_by entries result
-answer_by (malformed kind n ∷ entries) result = unreadable kind n
-answer_by (read_fault n ∷ entries) result = answer_by entries result
+abbrev pub result_by : List Entry → List ℕ → EditResult
+result_by [] result = edited result
+result_by (item n content ∷ entries) result = result_by entries result
+result_by (malformed kind n ∷ entries) result = unreadable kind n
+result_by (read_fault n ∷ entries) result = result_by entries result
 
-abbrev pub answer_of : Encoding → List ℕ → List ℕ → Answer
-answer_of e source result = if is_editable (byte_order_mark e source).encoding then answer_by (items_of e source end) result else unsupported
+abbrev pub result_of : Encoding → List ℕ → List ℕ → EditResult
+result_of e source result = if is_editable (byte_order_mark e source).encoding then result_by (items_of e source end) result else unsupported
 
-abbrev pub set_key_answer : Encoding → List ℕ → List ℕ → List ℕ → Answer
-set_key_answer e source key value = answer_of e source (key_set e source key value)
+abbrev pub set_key_result : Encoding → List ℕ → List ℕ → List ℕ → EditResult
+set_key_result e source key value = result_of e source (key_set e source key value)
 
-abbrev pub remove_key_answer : Encoding → List ℕ → List ℕ → Answer
-remove_key_answer e source key = answer_of e source (key_removed e source key)
+abbrev pub remove_key_result : Encoding → List ℕ → List ℕ → EditResult
+remove_key_result e source key = result_of e source (key_removed e source key)
 
-abbrev pub edit_all_answer : Encoding → List ℕ → List Edit → Answer
-edit_all_answer e source edits = answer_of e source (edits_made e source edits)
+abbrev pub edit_all_result : Encoding → List ℕ → List Edit → EditResult
+edit_all_result e source edits = result_of e source (edits_made e source edits)
