@@ -20,8 +20,9 @@ use Rattle.properties_format.proofs.Groups.Meets.{close-whole}
 use Rattle.properties_format.proofs.Groups.Only.{groups_of-before, groups_of-unfinished}
 use Rattle.properties_format.proofs.Groups.Joined.{joined-push}
 use Rattle.properties_format.proofs.Items.Unique.{outcome_of-meets, outcome_of-only}
-use Rattle.properties_format.proofs.Edited.Decoded.{text_of, text_of-nil}
-use Rattle.properties_format.proofs.Edited.Told.{told_before, told_by, decoded_ended, line_texts_in, line_texts, outcome-empty, told, IsFront, told-front, told-lf, told-nil, told-one}
+use Rattle.properties_format.specs.Reading.Cut.{decoded_line}
+use Rattle.properties_format.proofs.Edited.Decoded.{decoded-nil}
+use Rattle.properties_format.proofs.Edited.Told.{told_before, told_by, ended_lines, line_texts_in, line_texts, outcome-empty, told, IsFront, told-front, told-lf, told-nil, told-one}
 use Rattle.properties_format.proofs.Edited.Items.{givens}
 use Rattle.properties_format.proofs.Edited.Groups.{EndsOpen, IsLastFit, IsHeldFront, IsHeldLast, AreHeldGroups}
 use Rattle.properties_format.proofs.Edited.Marks.{empty-last}
@@ -184,9 +185,9 @@ pub ends-right : (x y : List ℕ) → ends_in_cr y ≡ true → ends_in_cr (x ++
 ends-right x [] h = absurd (cc)
 ends-right x (c ∷ y) h = ends_in_cr-append x c y ∙ h
 
-decoded_ended-append : (e : Encoding) (ls ms : List Ended) → decoded_ended e (ls ++ ms) ≡ decoded_ended e ls ++ decoded_ended e ms
-decoded_ended-append e [] ms = refl
-decoded_ended-append e (l ∷ ls) ms = ap (λ v. record { number = 0; text = text_of e l.text } ∷ v) (decoded_ended-append e ls ms)
+ended_lines-append : (e : Encoding) (ls ms : List Ended) → ended_lines e (ls ++ ms) ≡ ended_lines e ls ++ ended_lines e ms
+ended_lines-append e [] ms = refl
+ended_lines-append e (l ∷ ls) ms = ap (λ v. record { number = 0; text = decoded_line e l.text } ∷ v) (ended_lines-append e ls ms)
 
 -- the bytes with a line ending added, where their last line has none
 ending-added : (x : List ℕ) (by : LineEnding) → PartsNoEnd x (line_ending_text by)
@@ -284,8 +285,8 @@ one-front e source g h k a =
     record {
       ended = ap (λ v. let w : Lines = v in w.last) same;
       texts =
-          ap (λ v. let w : Lines = v in decoded_ended e w.ended) same
-          ∙ decoded_ended-append e (lines_of x).ended (record { text = (lines_of x).last; by = a.by } ∷ [])
+          ap (λ v. let w : Lines = v in ended_lines e w.ended) same
+          ∙ ended_lines-append e (lines_of x).ended (record { text = (lines_of x).last; by = a.by } ∷ [])
           ∙ last-texts e g h;
       whole = fit-closed g h.fits k;
     }
@@ -302,16 +303,16 @@ two-front e source g h k a =
     record {
       ended = ap (λ v. let w : Lines = v in w.last) same;
       texts =
-          ap (λ v. let w : Lines = v in decoded_ended e w.ended) same
-          ∙ decoded_ended-append e (lines_of x).ended (l ∷ m ∷ [])
-          ∙ sym (append_assoc (decoded_ended e (lines_of x).ended) (record { number = 0; text = text_of e (lines_of x).last } ∷ []) (record { number = 0; text = text_of e [] } ∷ []))
-          ∙ ap₂ (λ v w. v ++ record { number = 0; text = w } ∷ []) (last-texts e g h) (text_of-nil e);
+          ap (λ v. let w : Lines = v in ended_lines e w.ended) same
+          ∙ ended_lines-append e (lines_of x).ended (l ∷ m ∷ [])
+          ∙ sym (append_assoc (ended_lines e (lines_of x).ended) (record { number = 0; text = decoded_line e (lines_of x).last } ∷ []) (record { number = 0; text = decoded_line e [] } ∷ []))
+          ∙ ap₂ (λ v w. v ++ record { number = 0; text = w } ∷ []) (last-texts e g h) (decoded-nil e);
       whole = (closed-by_empty (as_lines g) (fit-open g h.fits k)).0;
     }
 
 empty-texts : (e : Encoding) → line_texts e [] ≡ record { number = 0; text = [] } ∷ []
 unfolding line_texts
-empty-texts e = ap (λ v. record { number = 0; text = v } ∷ []) (text_of-nil e)
+empty-texts e = ap (λ v. record { number = 0; text = v } ∷ []) (decoded-nil e)
 
 -- the last group and what parts the bytes after it from it
 told-parted : (e : Encoding) (source : List ℕ) (g : List HeldLine) (d : List ℕ) → IsHeldLast e g → EndsAlike (group_bytes g) source

@@ -13,25 +13,27 @@ use Rattle.properties_format.specs.Reading.Groups.{closes, groups_after, groups_
 use Rattle.properties_format.specs.Edited.{HeldLine, AreHeld, as_lines, as_groups, held_in, AreGroupsOf, ending_bytes, group_bytes, groups_bytes, last_ending, is_editable}
 use Rattle.properties_format.specs.Reading.Edited.{held_of, held_lines_of, held_groups_after, held_groups_of}
 use Rattle.properties_format.proofs.Encodings.Pieces.{pieces_of-meets, pieces_of-only}
-use Rattle.properties_format.proofs.Lines.Meets.{lines_of-meets}
-use Rattle.properties_format.proofs.Lines.Only.{lines_of-only, lines_of-together}
+use Rattle.properties_format.proofs.Lines.Only.{lines_of-together}
 use Rattle.properties_format.proofs.Groups.Steps.{groups_after-close, groups_after-leave}
 use Rattle.properties_format.proofs.Groups.Meets.{groups_of-meets}
 use Rattle.properties_format.proofs.Groups.Only.{groups_of-only}
-use Rattle.properties_format.proofs.Edited.Decoded.{text_of, IsCut-lines, IsLines-cut}
-use Rattle.properties_format.proofs.Edited.Told.{decoded_ended, line_texts_in, line_texts, IsFront}
+use Rattle.properties_format.specs.Reading.Cut.{cut_of, decoded_line}
+use Rattle.properties_format.proofs.Cut.Meets.{cut_of-meets}
+use Rattle.properties_format.proofs.Cut.Only.{cut_of-only}
+use Rattle.properties_format.proofs.Edited.Decoded.{IsCut-lines}
+use Rattle.properties_format.proofs.Edited.Told.{ended_lines, line_texts_in, line_texts, IsFront}
 
 -- ---- the lines that a body holds
 
-decoded-is : (e : Encoding) (d : List ℕ) → IsDecodedLine e d (text_of e d)
+decoded-is : (e : Encoding) (d : List ℕ) → IsDecodedLine e d (decoded_line e d)
 decoded-is e d = (pieces_of e d, pieces_of-meets e d, refl)
 
-decoded-only : (e : Encoding) (d x : List ℕ) → IsDecodedLine e d x → x ≡ text_of e d
+decoded-only : (e : Encoding) (d x : List ℕ) → IsDecodedLine e d x → x ≡ decoded_line e d
 decoded-only e d x (ps, h, s) = s ∙ ap characters (pieces_of-only e d ps h)
 
 held_of-meets : (e : Encoding) (ls : List Ended) (last : List ℕ) → AreHeld e ls last (held_of e ls last)
-held_of-meets e [] last = (text_of e last, decoded-is e last, refl)
-held_of-meets e (l ∷ ls) last = (text_of e l.text, held_of e ls last, decoded-is e l.text, refl, held_of-meets e ls last)
+held_of-meets e [] last = (decoded_line e last, decoded-is e last, refl)
+held_of-meets e (l ∷ ls) last = (decoded_line e l.text, held_of e ls last, decoded-is e l.text, refl, held_of-meets e ls last)
 
 held_of-only : (e : Encoding) (ls : List Ended) (last : List ℕ) (held : List HeldLine) → AreHeld e ls last held → held ≡ held_of e ls last
 held_of-only e [] last held (x, h, s) = s ∙ ap (λ v. record { bytes = last; text = v; ending = None } ∷ []) (decoded-only e last x h)
@@ -78,15 +80,15 @@ groups-lines p (h ∷ hs) = elim (cases_Bool (closes (as_lines p) (record { numb
 ]
 
 -- what is computed are the groups of the body
-pub held_groups_of-meets : (e : Encoding) (body : List ℕ) → is_editable e ≡ true → AreGroupsOf e body (held_groups_of e body)
+pub held_groups_of-meets : (e : Encoding) (body : List ℕ) → AreGroupsOf e body (held_groups_of e body)
 unfolding held_groups_of
-held_groups_of-meets e body ok =
+held_groups_of-meets e body =
     let hs = held_lines_of e body in
     let same = groups-lines [] hs in
     record {
-      cut = lines_of body;
-      is_cut = IsLines-cut e body (lines_of body) ok (lines_of-meets body);
-      are_held = subst (AreHeld e (lines_of body).ended (lines_of body).last) (sym same) (held_of-meets e (lines_of body).ended (lines_of body).last);
+      cut = cut_of e body;
+      is_cut = cut_of-meets e body;
+      are_held = subst (AreHeld e (cut_of e body).ended (cut_of e body).last) (sym same) (held_of-meets e (cut_of e body).ended (cut_of e body).last);
       grouped = rw (same, groups-texts [] hs) (groups_of-meets (as_lines hs) end);
     }
 
@@ -113,16 +115,16 @@ groups-same (g ∷ gs) (h ∷ hs) t s =
     ap₂ (λ v w. v ∷ w) m.0 (groups-same gs hs r m.1)
 
 -- groups of the body have the lines of its bytes
-held-lines : (e : Encoding) (body : List ℕ) (gs : List (List HeldLine)) → is_editable e ≡ true → AreGroupsOf e body gs → held_in gs ≡ held_lines_of e body
-held-lines e body gs ok h =
+held-lines : (e : Encoding) (body : List ℕ) (gs : List (List HeldLine)) → AreGroupsOf e body gs → held_in gs ≡ held_lines_of e body
+held-lines e body gs h =
     held_of-only e h.cut.ended h.cut.last (held_in gs) h.are_held
-    ∙ ap (λ v. let w : Lines = v in held_of e w.ended w.last) (lines_of-only body h.cut (IsCut-lines e body h.cut ok h.is_cut))
+    ∙ ap (λ v. let w : Lines = v in held_of e w.ended w.last) (cut_of-only e body h.cut h.is_cut)
 
 -- groups of the body are what is computed
-pub held_groups_of-only : (e : Encoding) (body : List ℕ) (gs : List (List HeldLine)) → is_editable e ≡ true → AreGroupsOf e body gs → gs ≡ held_groups_of e body
+pub held_groups_of-only : (e : Encoding) (body : List ℕ) (gs : List (List HeldLine)) → AreGroupsOf e body gs → gs ≡ held_groups_of e body
 unfolding held_groups_of
-held_groups_of-only e body gs ok h =
-    let same = held-lines e body gs ok h in
+held_groups_of-only e body gs h =
+    let same = held-lines e body gs h in
     groups-same gs (held_groups_of e body)
     (groups_of-only (as_lines (held_in gs)) end (as_groups gs) h.grouped ∙ ap (λ v. groups_of (as_lines v) end) same ∙ sym (groups-texts [] (held_lines_of e body)))
     (same ∙ sym (groups-lines [] (held_lines_of e body)))
@@ -159,7 +161,7 @@ fit (g ∷ i ∷ gs) (w ∷ whole) u t h k =
 -- lines with their endings, as the body holds them
 abbrev held_ended : Encoding → List Ended → List HeldLine
 held_ended e [] = []
-held_ended e (l ∷ ls) = record { bytes = l.text; text = text_of e l.text; ending = Some l.by } ∷ held_ended e ls
+held_ended e (l ∷ ls) = record { bytes = l.text; text = decoded_line e l.text; ending = Some l.by } ∷ held_ended e ls
 
 none-right : (x y : List HeldLine) → x ++ y ≡ [] → y ≡ []
 none-right [] y h = h
@@ -178,7 +180,7 @@ cut-off e [] rest ls last some h = record { front = []; back = ls; all = refl; g
 cut-off e (a ∷ g) rest [] last some h = let q : g ++ rest ≡ [] = cc in absurd (some (none-right g rest q))
 cut-off e (a ∷ g) rest (l ∷ ls) last some h =
     let q : g ++ rest ≡ held_of e ls last = cc in
-    let p : a ≡ record { bytes = l.text; text = text_of e l.text; ending = Some l.by } = cc in
+    let p : a ≡ record { bytes = l.text; text = decoded_line e l.text; ending = Some l.by } = cc in
     let m = cut-off e g rest ls last some q in
     record { front = l ∷ m.front; back = m.back; all = ap (λ v. l ∷ v) {y = m.front ++ m.back} m.all; group = ap₂ (λ v w. v ∷ w) p m.group; others = m.others }
 
@@ -198,9 +200,9 @@ ended-bytes : (e : Encoding) (ls : List Ended) → group_bytes (held_ended e ls)
 ended-bytes e [] = refl
 ended-bytes e (l ∷ ls) = ap (λ v. l.text ++ (line_ending_text l.by ++ v)) (ended-bytes e ls)
 
-ended-texts : (e : Encoding) (ls : List Ended) → decoded_ended e ls ≡ as_lines (held_ended e ls)
+ended-texts : (e : Encoding) (ls : List Ended) → ended_lines e ls ≡ as_lines (held_ended e ls)
 ended-texts e [] = refl
-ended-texts e (l ∷ ls) = ap (λ v. record { number = 0; text = text_of e l.text } ∷ v) (ended-texts e ls)
+ended-texts e (l ∷ ls) = ap (λ v. record { number = 0; text = decoded_line e l.text } ∷ v) (ended-texts e ls)
 
 held-bytes : (e : Encoding) (ls : List Ended) (last : List ℕ) → group_bytes (held_of e ls last) ≡ put_together ls last
 held-bytes e [] last = append-nil last
@@ -208,7 +210,7 @@ held-bytes e (l ∷ ls) last = ap (λ v. l.text ++ (line_ending_text l.by ++ v))
 
 held-texts : (e : Encoding) (ls : List Ended) (last : List ℕ) → line_texts_in e (record { ended = ls; last = last }) ≡ as_lines (held_of e ls last)
 held-texts e [] last = refl
-held-texts e (l ∷ ls) last = ap (λ v. record { number = 0; text = text_of e l.text } ∷ v) (held-texts e ls last)
+held-texts e (l ∷ ls) last = ap (λ v. record { number = 0; text = decoded_line e l.text } ∷ v) (held-texts e ls last)
 
 held-last : (e : Encoding) (ls : List Ended) (last : List ℕ) → last_ending (held_of e ls last) ≡ None
 held-last e [] last = refl
@@ -255,7 +257,7 @@ front-of e (l ∷ ls) h k =
     let same : lines_of (group_bytes (held_ended e (l ∷ ls))) ≡ record { ended = l ∷ ls; last = [] } = ap lines_of (ended-bytes e (l ∷ ls)) ∙ lines_of-together (l ∷ ls) [] h in
     let a = ended-last e l ls in
     record {
-      front = record { ended = ap (λ v. let w : Lines = v in w.last) same; texts = ap (λ v. let w : Lines = v in decoded_ended e w.ended) same ∙ ended-texts e (l ∷ ls); whole = k };
+      front = record { ended = ap (λ v. let w : Lines = v in w.last) same; texts = ap (λ v. let w : Lines = v in ended_lines e w.ended) same ∙ ended-texts e (l ∷ ls); whole = k };
       by = a.0;
       ending = a.1;
       ascii = line-ascii l.text l.by (group_bytes (held_ended e ls));

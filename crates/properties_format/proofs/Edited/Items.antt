@@ -11,7 +11,8 @@ use Rattle.properties_format.specs.Items.{Outcome, ignored, given, broken}
 use Rattle.properties_format.specs.Reading.Items.{outcome_of, followed, entries_of, items_of}
 use Rattle.properties_format.specs.Edited.{is_editable, HoldsNoMalformed, contents}
 use Rattle.properties_format.proofs.Groups.Steps.{groups_after-close, groups_after-leave}
-use Rattle.properties_format.proofs.Edited.Decoded.{text_of, ended_texts, lines_of-decoded}
+use Rattle.properties_format.specs.Reading.Cut.{decoded_line, decoded_ended}
+use Rattle.properties_format.proofs.Edited.Decoded.{lines_of-decoded}
 use Rattle.properties_format.proofs.Edited.Told.{told_before, told_by, line_texts_in, line_texts, told}
 
 -- ---- groups do not hang on the numbers of lines
@@ -61,18 +62,18 @@ told_by-zeroed (g ∷ gs) = ap₂ (λ v w. told_before (outcome_of v) w) (joined
 
 -- ---- the lines of the text
 
-zeroed-texts : (e : Encoding) (n : ℕ) (ls : List Ended) (last : List ℕ) → zeroed (numbered n (ended_texts e ls) (text_of e last) end) ≡ line_texts_in e (record { ended = ls; last = last })
+zeroed-texts : (e : Encoding) (n : ℕ) (ls : List Ended) (last : List ℕ) → zeroed (numbered n (decoded_ended e ls) (decoded_line e last) end) ≡ line_texts_in e (record { ended = ls; last = last })
 zeroed-texts e n [] last = refl
-zeroed-texts e n (l ∷ ls) last = ap (λ v. record { number = 0; text = text_of e l.text } ∷ v) (zeroed-texts e (n + 1) ls last)
+zeroed-texts e n (l ∷ ls) last = ap (λ v. record { number = 0; text = decoded_line e l.text } ∷ v) (zeroed-texts e (n + 1) ls last)
 
 -- what the groups of a body come to, from the lines of its text
-told-text : (e : Encoding) (d : List ℕ) → is_editable e ≡ true → told e d ≡ told_by (groups_of (numbered_lines (lines_of (text_of e d)) end) end)
+told-text : (e : Encoding) (d : List ℕ) → is_editable e ≡ true → told e d ≡ told_by (groups_of (numbered_lines (lines_of (decoded_line e d)) end) end)
 unfolding told line_texts
 told-text e d ok =
     let ls = lines_of d in
     ap (λ v. told_by (groups_of v end)) (sym (zeroed-texts e 0 ls.ended ls.last))
-    ∙ ap told_by (groups_after-zeroed [] (numbered 0 (ended_texts e ls.ended) (text_of e ls.last) end))
-    ∙ told_by-zeroed (groups_of (numbered 0 (ended_texts e ls.ended) (text_of e ls.last) end) end)
+    ∙ ap told_by (groups_after-zeroed [] (numbered 0 (decoded_ended e ls.ended) (decoded_line e ls.last) end))
+    ∙ told_by-zeroed (groups_of (numbered 0 (decoded_ended e ls.ended) (decoded_line e ls.last) end) end)
     ∙ ap (λ v. told_by (groups_of (numbered_lines v end) end)) (sym (lines_of-decoded e d ok))
 
 -- ---- items
@@ -119,7 +120,7 @@ pub items-told : (e : Encoding) (source : List ℕ) → is_editable (byte_order_
 unfolding items_of
 items-told e source ok h =
     let f = byte_order_mark e source in
-    let lines = lines_of (text_of f.encoding f.body) in
+    let lines = lines_of (decoded_line f.encoding f.body) in
     told-text f.encoding f.body ok ∙ entries-told (line_ends lines) (groups_of (numbered_lines lines end) end) h
 
 -- And where they come to contents alone, no item is malformed, and these are what the items say.
@@ -129,5 +130,5 @@ pub told-items : (e : Encoding) (source : List ℕ) (cs : List Content) → is_e
 unfolding items_of
 told-items e source cs ok h =
     let f = byte_order_mark e source in
-    let lines = lines_of (text_of f.encoding f.body) in
+    let lines = lines_of (decoded_line f.encoding f.body) in
     told-entries (line_ends lines) (groups_of (numbered_lines lines end) end) cs (sym (told-text f.encoding f.body ok) ∙ h)

@@ -7,7 +7,7 @@ use Rattle.properties_format.specs.Groups.{joined}
 use Rattle.properties_format.specs.Entries.{comment, pair}
 use Rattle.properties_format.specs.Items.{Outcome, ignored, given, broken}
 use Rattle.properties_format.specs.Reading.Items.{outcome_of}
-use Rattle.properties_format.specs.Edited.{HeldLine, as_lines, group_bytes, HasKey, NoneHasKey, IsReplaced, IsAppended, IsKeySet, IsWithout, IsKeyRemoved, is_editable, bom_of, guarding_lf}
+use Rattle.properties_format.specs.Edited.{HeldLine, as_lines, group_bytes, HasKey, NoneHasKey, IsReplaced, IsAppended, IsKeySet, IsWithout, IsKeyRemoved, bom_of, guarding_lf}
 use Rattle.properties_format.specs.Reading.Edited.{held_groups_of, is_pair_with, has_key, Place, place_after, last_place, set_at, key_set, without, key_removed}
 use Rattle.properties_format.proofs.Items.Unique.{outcome_of-meets, outcome_of-only}
 use Rattle.properties_format.proofs.Edited.Groups.{held_groups_of-meets, held_groups_of-only}
@@ -85,24 +85,24 @@ set-only e source key value gs body (inl h) =
 set-only e source key value gs body (inr h) = h.bytes ∙ ap (set_at e source gs key value) (sym (last_place-none key gs h.no_pair))
 
 -- What is computed is the source with the key set.
-pub key_set-meets : (e : Encoding) (source key value : List ℕ) → is_editable (byte_order_mark e source).encoding ≡ true → IsKeySet e source key value (key_set e source key value)
-key_set-meets e source key value ok =
+pub key_set-meets : (e : Encoding) (source key value : List ℕ) → IsKeySet e source key value (key_set e source key value)
+key_set-meets e source key value =
     let f = byte_order_mark e source in
     let gs = held_groups_of f.encoding f.body in
     record {
       groups = gs;
-      held = held_groups_of-meets f.encoding f.body ok;
+      held = held_groups_of-meets f.encoding f.body;
       body = set_at f.encoding source gs key value (last_place key gs);
       edited = set-meets f.encoding source key value gs (last_place key gs) (last_place-meets key gs);
       whole = refl;
     }
 
-pub key_set-only : (e : Encoding) (source key value result : List ℕ) → is_editable (byte_order_mark e source).encoding ≡ true → IsKeySet e source key value result → result ≡ key_set e source key value
-key_set-only e source key value result ok h =
+pub key_set-only : (e : Encoding) (source key value result : List ℕ) → IsKeySet e source key value result → result ≡ key_set e source key value
+key_set-only e source key value result h =
     let f = byte_order_mark e source in
     h.whole
     ∙ ap (λ v. bom_of source ++ v) (set-only f.encoding source key value h.groups h.body h.edited)
-    ∙ ap (λ v. bom_of source ++ set_at f.encoding source v key value (last_place key v)) (held_groups_of-only f.encoding f.body h.groups ok h.held)
+    ∙ ap (λ v. bom_of source ++ set_at f.encoding source v key value (last_place key v)) (held_groups_of-only f.encoding f.body h.groups h.held)
 
 -- ---- a key is removed
 
@@ -121,15 +121,15 @@ without-only key (g ∷ gs) rest (inr h) =
     h.2 ∙ ap (λ v. group_bytes g ++ v) (without-only key gs h.1 h.3) ∙ sym (cond-false (has_key key g) (without key gs) (group_bytes g ++ without key gs) (no_key-test key g h.0))
 
 -- What is computed is the source without the key.
-pub key_removed-meets : (e : Encoding) (source key : List ℕ) → is_editable (byte_order_mark e source).encoding ≡ true → IsKeyRemoved e source key (key_removed e source key)
-key_removed-meets e source key ok =
+pub key_removed-meets : (e : Encoding) (source key : List ℕ) → IsKeyRemoved e source key (key_removed e source key)
+key_removed-meets e source key =
     let f = byte_order_mark e source in
     let gs = held_groups_of f.encoding f.body in
-    record { groups = gs; held = held_groups_of-meets f.encoding f.body ok; rest = without key gs; without = without-meets key gs; whole = refl }
+    record { groups = gs; held = held_groups_of-meets f.encoding f.body; rest = without key gs; without = without-meets key gs; whole = refl }
 
-pub key_removed-only : (e : Encoding) (source key result : List ℕ) → is_editable (byte_order_mark e source).encoding ≡ true → IsKeyRemoved e source key result → result ≡ key_removed e source key
-key_removed-only e source key result ok h =
+pub key_removed-only : (e : Encoding) (source key result : List ℕ) → IsKeyRemoved e source key result → result ≡ key_removed e source key
+key_removed-only e source key result h =
     let f = byte_order_mark e source in
     h.whole
     ∙ ap (λ v. bom_of source ++ (guarding_lf source v ++ v)) (without-only key h.groups h.rest h.without)
-    ∙ ap (λ v. bom_of source ++ (guarding_lf source (without key v) ++ without key v)) (held_groups_of-only f.encoding f.body h.groups ok h.held)
+    ∙ ap (λ v. bom_of source ++ (guarding_lf source (without key v) ++ without key v)) (held_groups_of-only f.encoding f.body h.groups h.held)

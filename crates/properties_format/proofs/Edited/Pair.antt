@@ -27,8 +27,9 @@ use Rattle.properties_format.proofs.ReadBack.Pairs.{IsReadAs, key-spelt, pair-re
 use Rattle.properties_format.proofs.ReadBack.Lines.{wrote_text}
 use Rattle.properties_format.proofs.ReadBack.Bytes.{AreWritable, text-decoded, wrote_text-writable}
 use Rattle.properties_format.proofs.ReadBack.Law.{default_settings-good}
-use Rattle.properties_format.proofs.Edited.Decoded.{text_of, plain-bytes}
-use Rattle.properties_format.proofs.Edited.Told.{told_before, decoded_ended, line_texts_in, line_texts, told, IsFront, told-front, told-one}
+use Rattle.properties_format.specs.Reading.Cut.{decoded_line}
+use Rattle.properties_format.proofs.Edited.Decoded.{plain-bytes}
+use Rattle.properties_format.proofs.Edited.Told.{told_before, ended_lines, line_texts_in, line_texts, told, IsFront, told-front, told-one}
 
 -- the characters of the printed pair
 abbrev pub pair_text : Encoding → Bool → List ℕ → List ℕ → List ℕ
@@ -79,11 +80,11 @@ editable-own utf_16le h = absurd (cc)
 editable-own utf_16be h = absurd (cc)
 
 pub pair-decoded : (e : Encoding) (first : Bool) (key value : List ℕ) → is_editable e ≡ true → All scalar key → All scalar value
-    → text_of e (pair_bytes e first key value) ≡ pair_text e first key value
+    → decoded_line e (pair_bytes e first key value) ≡ pair_text e first key value
 pair-decoded e first key value ok h k =
     let w = pair-writable e first key value h k in
     let x = pair_text e first key value in
-    subst (λ a. text_of a (encoded_text e x) ≡ x) (editable-own e ok) (text-decoded e x w.scalars w.encodable)
+    subst (λ a. decoded_line a (encoded_text e x) ≡ x) (editable-own e ok) (text-decoded e x w.scalars w.encodable)
 
 -- ---- it is a group
 
@@ -123,7 +124,7 @@ pair-front e first key value by ok h k =
     record {
       ended = ap (λ v. let w : Lines = v in w.last) same;
       texts =
-          ap (λ v. let w : Lines = v in decoded_ended e w.ended) same
+          ap (λ v. let w : Lines = v in ended_lines e w.ended) same
           ∙ ap (λ v. record { number = 0; text = v } ∷ []) (pair-decoded e first key value ok h k);
       whole = pair-whole e first key value h k;
     }

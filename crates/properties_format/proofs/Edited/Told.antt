@@ -12,7 +12,8 @@ use Rattle.properties_format.specs.Reading.Items.{outcome_of, split_outcome}
 use Rattle.properties_format.proofs.Lines.Append.{lines_to_come-append}
 use Rattle.properties_format.proofs.Groups.Only.{groups_of-before}
 use Rattle.properties_format.proofs.Split.Unique.{split_of-blank}
-use Rattle.properties_format.proofs.Edited.Decoded.{text_of, text_of-nil}
+use Rattle.properties_format.specs.Reading.Cut.{decoded_line}
+use Rattle.properties_format.proofs.Edited.Decoded.{decoded-nil}
 
 -- ---- what groups come to
 
@@ -32,14 +33,14 @@ told_by (g ∷ gs) = told_before (outcome_of (joined g)) (told_by gs)
 -- lines of bytes with their texts, whatever their numbers
 abbrev pub decoded_each : Encoding → List Line → List Line
 decoded_each e [] = []
-decoded_each e (l ∷ ls) = record { number = 0; text = text_of e l.text } ∷ decoded_each e ls
+decoded_each e (l ∷ ls) = record { number = 0; text = decoded_line e l.text } ∷ decoded_each e ls
 
-abbrev pub decoded_ended : Encoding → List Ended → List Line
-decoded_ended e [] = []
-decoded_ended e (l ∷ ls) = record { number = 0; text = text_of e l.text } ∷ decoded_ended e ls
+abbrev pub ended_lines : Encoding → List Ended → List Line
+ended_lines e [] = []
+ended_lines e (l ∷ ls) = record { number = 0; text = decoded_line e l.text } ∷ ended_lines e ls
 
 abbrev pub line_texts_in : Encoding → Lines → List Line
-line_texts_in e lines = decoded_ended e lines.ended ++ record { number = 0; text = text_of e lines.last } ∷ []
+line_texts_in e lines = ended_lines e lines.ended ++ record { number = 0; text = decoded_line e lines.last } ∷ []
 
 -- the texts of the lines of some bytes
 unfoldable pub line_texts : Encoding → List ℕ → List Line
@@ -51,22 +52,22 @@ told e d = told_by (groups_of (line_texts e d) end)
 
 decoded_each-append : (e : Encoding) (ls ms : List Line) → decoded_each e (ls ++ ms) ≡ decoded_each e ls ++ decoded_each e ms
 decoded_each-append e [] ms = refl
-decoded_each-append e (l ∷ ls) ms = ap (λ v. record { number = 0; text = text_of e l.text } ∷ v) (decoded_each-append e ls ms)
+decoded_each-append e (l ∷ ls) ms = ap (λ v. record { number = 0; text = decoded_line e l.text } ∷ v) (decoded_each-append e ls ms)
 
-decoded-more : (e : Encoding) (n : ℕ) (ls : List Ended) (last : List ℕ) → decoded_each e (numbered n ls last more) ≡ decoded_ended e ls
+decoded-more : (e : Encoding) (n : ℕ) (ls : List Ended) (last : List ℕ) → decoded_each e (numbered n ls last more) ≡ ended_lines e ls
 decoded-more e n [] last = refl
-decoded-more e n (l ∷ ls) last = ap (λ v. record { number = 0; text = text_of e l.text } ∷ v) (decoded-more e (n + 1) ls last)
+decoded-more e n (l ∷ ls) last = ap (λ v. record { number = 0; text = decoded_line e l.text } ∷ v) (decoded-more e (n + 1) ls last)
 
 decoded-end : (e : Encoding) (n : ℕ) (ls : List Ended) (last : List ℕ) → decoded_each e (numbered n ls last end) ≡ line_texts_in e (record { ended = ls; last = last })
 decoded-end e n [] last = refl
-decoded-end e n (l ∷ ls) last = ap (λ v. record { number = 0; text = text_of e l.text } ∷ v) (decoded-end e (n + 1) ls last)
+decoded-end e n (l ∷ ls) last = ap (λ v. record { number = 0; text = decoded_line e l.text } ∷ v) (decoded-end e (n + 1) ls last)
 
 line_texts-numbered : (e : Encoding) (n : ℕ) (d : List ℕ) → decoded_each e (lines_to_come n false [] d end) ≡ line_texts e d
 unfolding line_texts
 line_texts-numbered e n d = decoded-end e n (lines_of d).ended (lines_of d).last
 
 -- The lines of bytes that end in a line end stand before those of what comes after, less an LF that belongs to a CR.
-pub line_texts-append : (e : Encoding) (x d : List ℕ) → (lines_of x).last ≡ [] → line_texts e (x ++ d) ≡ decoded_ended e (lines_of x).ended ++ line_texts e (rest_of_end (ends_in_cr x) d)
+pub line_texts-append : (e : Encoding) (x d : List ℕ) → (lines_of x).last ≡ [] → line_texts e (x ++ d) ≡ ended_lines e (lines_of x).ended ++ line_texts e (rest_of_end (ends_in_cr x) d)
 line_texts-append e x d h =
     let ls = lines_of x in
     sym (line_texts-numbered e 0 (x ++ d))
@@ -80,7 +81,7 @@ line_texts-append e x d h =
 -- the bytes end in a line end, and their lines are one whole group
 pub record IsFront (e : Encoding) (x : List ℕ) (g : List Line) : Type 0 where
   pub ended : (lines_of x).last ≡ []
-  pub texts : decoded_ended e (lines_of x).ended ≡ g
+  pub texts : ended_lines e (lines_of x).ended ≡ g
   pub whole : IsWhole g
 
 front-told : (e : Encoding) (x d : List ℕ) (g : List Line) → IsFront e x g → told e (x ++ d) ≡ told_before (outcome_of (joined g)) (told e (rest_of_end (ends_in_cr x) d))
@@ -99,7 +100,7 @@ pub outcome-empty : outcome_of [] ≡ ignored
 outcome-empty = ap split_outcome (split_of-blank [] tt)
 
 lf-front : (e : Encoding) → IsFront e (line_feed ∷ []) (record { number = 0; text = [] } ∷ [])
-lf-front e = record { ended = refl; texts = ap (λ v. record { number = 0; text = v } ∷ []) (text_of-nil e); whole = inr (refl, refl) }
+lf-front e = record { ended = refl; texts = ap (λ v. record { number = 0; text = v } ∷ []) (decoded-nil e); whole = inr (refl, refl) }
 
 -- an LF at the front gives nothing
 pub told-lf : (e : Encoding) (d : List ℕ) → told e (line_feed ∷ d) ≡ told e d
@@ -120,7 +121,7 @@ told-front e x d g h = front-told e x d g h ∙ ap (told_before (outcome_of (joi
 -- no bytes come to nothing
 pub told-nil : (e : Encoding) → told e [] ≡ []
 unfolding told line_texts
-told-nil e = ap (λ v. told_by (groups_of (record { number = 0; text = v } ∷ []) end)) (text_of-nil e) ∙ ap (λ v. told_before v []) outcome-empty
+told-nil e = ap (λ v. told_by (groups_of (record { number = 0; text = v } ∷ []) end)) (decoded-nil e) ∙ ap (λ v. told_before v []) outcome-empty
 
 -- bytes that are one group come to what it comes to
 pub told-one : (e : Encoding) (d : List ℕ) (g : List Line) → line_texts e d ≡ g → groups_of g end ≡ g ∷ [] → told e d ≡ told_before (outcome_of (joined g)) []

@@ -1,10 +1,9 @@
 -- The edited source, computed group by group.
 use Rattle.std.specs.Prelude.{ℕ, Bool, true, false, if◌then◌else◌, List, [], ◌∷◌, ◌++◌, Option, Some, None, bytes_eq}
 use Rattle.properties_format.specs.Text.{line_feed}
-use Rattle.properties_format.specs.Encoding.{Encoding, InForce, byte_order_mark, characters}
-use Rattle.properties_format.specs.Reading.Encoding.{pieces_of}
+use Rattle.properties_format.specs.Encoding.{Encoding, InForce, byte_order_mark}
 use Rattle.properties_format.specs.Lines.{Ended, end}
-use Rattle.properties_format.specs.Reading.Lines.{lines_of}
+use Rattle.properties_format.specs.Reading.Cut.{cut_of, decoded_line}
 use Rattle.properties_format.specs.Groups.{joined}
 use Rattle.properties_format.specs.Reading.Groups.{closes}
 use Rattle.properties_format.specs.Entries.{comment, pair, Entry, item, malformed, read_fault}
@@ -17,11 +16,11 @@ use Rattle.properties_format.specs.Edited.{HeldLine, as_lines, ending_bytes, gro
 
 -- the lines of bytes, each decoded by itself
 abbrev pub held_of : Encoding → List Ended → List ℕ → List HeldLine
-held_of e [] last = record { bytes = last; text = characters (pieces_of e last); ending = None } ∷ []
-held_of e (l ∷ ls) last = record { bytes = l.text; text = characters (pieces_of e l.text); ending = Some l.by } ∷ held_of e ls last
+held_of e [] last = record { bytes = last; text = decoded_line e last; ending = None } ∷ []
+held_of e (l ∷ ls) last = record { bytes = l.text; text = decoded_line e l.text; ending = Some l.by } ∷ held_of e ls last
 
 abbrev pub held_lines_of : Encoding → List ℕ → List HeldLine
-held_lines_of e body = held_of e (lines_of body).ended (lines_of body).last
+held_lines_of e body = held_of e (cut_of e body).ended (cut_of e body).last
 
 -- the last group, where one is open
 abbrev pub last_held : List HeldLine → List (List HeldLine)
