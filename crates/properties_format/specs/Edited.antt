@@ -2,7 +2,8 @@
 -- Source: java.util.Properties of Java SE 7, load (natural lines make up a logical line, and a later pair takes the place of an earlier one) and store (how a pair is written).
 use Rattle.std.specs.Prelude.{◌≡◌, ◌≢◌, ◌⊎◌, All, bytes_eq, ℕ, ◌&&◌, not, Bool, true, false, if◌then◌else◌, List, [], ◌∷◌, ◌++◌, Option, Some, None}
 use Rattle.properties_format.specs.Text.{scalar, line_feed, equals_sign, LineEnding, lf, cr, line_ending_text}
-use Rattle.properties_format.specs.Encoding.{Encoding, windows_1252, utf_8, utf_16le, utf_16be, byte_order_mark, begins_with, begins_like_bom, utf_8_bom, utf_16be_bom, utf_16le_bom}
+use Rattle.properties_format.specs.Encoding.{Encoding, windows_1252, utf_8, utf_16le, utf_16be, byte_order_mark, begins_with, begins_like_bom, utf_8_bom}
+use Rattle.properties_format.specs.Encoding.{utf_16be_bom, utf_16le_bom}
 use Rattle.properties_format.specs.Lines.{Ended, Lines, end, Line}
 use Rattle.properties_format.specs.Cut.{IsCut, IsDecodedLine}
 use Rattle.properties_format.specs.Groups.{is_open, is_comment_line, IsGroups, joined}

@@ -1,5 +1,6 @@
 -- What the groups of an edited body come to, from what those of the body came to.
-use Rattle.std.proofs.Common.{◌≡◌, ◌⊎◌, ℕ, ◌&&◌, not, Bool, true, false, List, [], ◌∷◌, ◌++◌, refl, ap, ap₂, sym, ◌∙◌, inl, inr, append_assoc, append-nil, All}
+use Rattle.std.proofs.Common.{◌≡◌, ◌⊎◌, ℕ, ◌&&◌, not, Bool, true, false, List, [], ◌∷◌, ◌++◌, refl, ap, ap₂, sym, ◌∙◌, inl, inr, append_assoc, append-nil}
+use Rattle.std.proofs.Common.{All}
 use Rattle.std.proofs.lemmas.Bool.{cases_Bool, and_parts, and_from, not-true}
 use Rattle.properties_format.specs.Text.{scalar, line_feed, LineEnding, lf, cr, line_ending_text}
 use Rattle.properties_format.specs.Encoding.{Encoding, begins_like_bom}
@@ -11,7 +12,9 @@ use Rattle.properties_format.specs.Entries.{Content, comment, pair}
 use Rattle.properties_format.specs.Items.{Outcome, ignored, given, broken}
 use Rattle.properties_format.specs.Reading.Items.{outcome_of}
 use Rattle.properties_format.specs.Writing.{is_empty}
-use Rattle.properties_format.specs.Edited.{HeldLine, as_lines, as_groups, ending_bytes, group_bytes, groups_bytes, last_ending, HasKey, NoneHasKey, pair_bytes, IsReplaced, IsAppended, final_group, is_empty_line, is_last_open, is_left_open, added_ending, parting, IsWithout, guarding_lf, is_editable, HoldNoPair, IsSetIn, IsRemovedIn}
+use Rattle.properties_format.specs.Edited.{HeldLine, as_lines, as_groups, ending_bytes, group_bytes, groups_bytes, last_ending, HasKey, NoneHasKey}
+use Rattle.properties_format.specs.Edited.{pair_bytes, IsReplaced, IsAppended, final_group, is_empty_line, is_last_open, is_left_open, added_ending, parting}
+use Rattle.properties_format.specs.Edited.{IsWithout, guarding_lf, is_editable, HoldNoPair, IsSetIn, IsRemovedIn}
 use Rattle.properties_format.proofs.Lines.Plain.{ends_in_cr-append, last-plain}
 use Rattle.properties_format.proofs.Lines.Steps.{lines_of-line}
 use Rattle.properties_format.proofs.Lines.Cut.{PartsNoEnd, lines_on, lines_of-append}
@@ -22,7 +25,8 @@ use Rattle.properties_format.proofs.Groups.Joined.{joined-push}
 use Rattle.properties_format.proofs.Items.Unique.{outcome_of-meets, outcome_of-only}
 use Rattle.properties_format.specs.Reading.Cut.{decoded_line}
 use Rattle.properties_format.proofs.Edited.Decoded.{decoded-nil}
-use Rattle.properties_format.proofs.Edited.Told.{told_before, told_by, ended_lines, line_texts_in, line_texts, outcome-empty, told, IsFront, told-front, told-lf, told-nil, told-one}
+use Rattle.properties_format.proofs.Edited.Told.{told_before, told_by, ended_lines, line_texts_in, line_texts, outcome-empty, told, IsFront, told-front}
+use Rattle.properties_format.proofs.Edited.Told.{told-lf, told-nil, told-one}
 use Rattle.properties_format.proofs.Edited.Items.{givens}
 use Rattle.properties_format.proofs.Edited.Groups.{EndsOpen, IsLastFit, IsHeldFront, IsHeldLast, AreHeldGroups}
 use Rattle.properties_format.proofs.Edited.Marks.{empty-last}
@@ -74,11 +78,13 @@ told-last e g h = told-one e (group_bytes g) (as_lines g) h.texts (fit-group (as
 pub told-groups : (e : Encoding) (gs : List (List HeldLine)) → AreHeldGroups e gs → told e (groups_bytes gs) ≡ told_by (as_groups gs)
 told-groups e [] h = absurd h
 told-groups e (g ∷ []) h = ap (told e) (append-nil (group_bytes g)) ∙ told-last e g h
-told-groups e (g ∷ i ∷ gs) h = told-front e (group_bytes g) (groups_bytes (i ∷ gs)) (as_lines g) h.0.front ∙ ap (told_before (outcome g)) (told-groups e (i ∷ gs) h.1)
+told-groups e (g ∷ i ∷ gs) h =
+    told-front e (group_bytes g) (groups_bytes (i ∷ gs)) (as_lines g) h.0.front ∙ ap (told_before (outcome g)) (told-groups e (i ∷ gs) h.1)
 
 told_by-append : (gs hs : List (List HeldLine)) → told_by (as_groups (gs ++ hs)) ≡ told_by (as_groups gs) ++ told_by (as_groups hs)
 told_by-append [] hs = refl
-told_by-append (g ∷ gs) hs = ap (told_before (outcome g)) (told_by-append gs hs) ∙ told_before-append (outcome g) (told_by (as_groups gs)) (told_by (as_groups hs))
+told_by-append (g ∷ gs) hs =
+    ap (told_before (outcome g)) (told_by-append gs hs) ∙ told_before-append (outcome g) (told_by (as_groups gs)) (told_by (as_groups hs))
 
 -- ---- contents in order
 
@@ -109,7 +115,8 @@ key-outcome key g (old, h) = (old, sym (outcome_of-only (joined (as_lines g)) (g
 other-outcome : (key : List ℕ) (g : List HeldLine) → ¬ (HasKey key g) → (v : List ℕ) → outcome g ≡ given (pair key v) → ⊥
 other-outcome key g h v s = h (v, rw s at (outcome_of-meets (joined (as_lines g))))
 
-hold-step : (key : List ℕ) (o : Outcome) (os : List Outcome) (cs : List Content) → ((v : List ℕ) → o ≡ given (pair key v) → ⊥) → ((ds : List Content) → os ≡ givens ds → HoldNoPair key ds)
+hold-step : (key : List ℕ) (o : Outcome) (os : List Outcome) (cs : List Content) → ((v : List ℕ) → o ≡ given (pair key v) → ⊥)
+    → ((ds : List Content) → os ≡ givens ds → HoldNoPair key ds)
     → told_before o os ≡ givens cs → HoldNoPair key cs
 hold-step key ignored os cs other rest h = rest cs h
 hold-step key (given content) os [] other rest h = absurd (cc)
@@ -129,11 +136,13 @@ none-hold key (g ∷ gs) cs h s = hold-step key (outcome g) (told_by (as_groups 
 -- ---- the last pair is replaced
 
 -- the printed pair in the place of a group
-told-in_place : (e : Encoding) (first : Bool) (key value : List ℕ) (g : List HeldLine) (after : List (List HeldLine)) → is_editable e ≡ true → All scalar key → All scalar value
+told-in_place : (e : Encoding) (first : Bool) (key value : List ℕ) (g : List HeldLine) (after : List (List HeldLine)) → is_editable e ≡ true → All scalar key
+    → All scalar value
     → AreHeldGroups e (g ∷ after)
     → told e (pair_bytes e first key value ++ (ending_bytes (last_ending g) ++ groups_bytes after)) ≡ given (pair key value) ∷ told_by (as_groups after)
 told-in_place e first key value g [] ok k v h =
-    ap (λ o. told e (pair_bytes e first key value ++ (ending_bytes o ++ []))) h.ending ∙ ap (told e) (append-nil (pair_bytes e first key value)) ∙ told-last_pair e first key value ok k v
+    ap (λ o. told e (pair_bytes e first key value ++ (ending_bytes o ++ []))) h.ending ∙ ap (told e) (append-nil (pair_bytes e first key value))
+    ∙ told-last_pair e first key value ok k v
 told-in_place e first key value g (i ∷ after) ok k v h =
     ap (λ o. told e (pair_bytes e first key value ++ (ending_bytes o ++ groups_bytes (i ∷ after)))) h.0.ending
     ∙ told-pair e first key value h.0.by (groups_bytes (i ∷ after)) ok k v
@@ -143,7 +152,8 @@ told-in_place e first key value g (i ∷ after) ok k v h =
 abbrev pub ComesTo : Encoding → List ℕ → (List Content → Type 0) → Type 0
 ComesTo e body Such = (new : List Content) × Such new × (told e body ≡ givens new)
 
-pub replaced-told : (e : Encoding) (gs : List (List HeldLine)) (key value body : List ℕ) (old : List Content) → is_editable e ≡ true → All scalar key → All scalar value → AreHeldGroups e gs
+pub replaced-told : (e : Encoding) (gs : List (List HeldLine)) (key value body : List ℕ) (old : List Content) → is_editable e ≡ true → All scalar key
+    → All scalar value → AreHeldGroups e gs
     → told_by (as_groups gs) ≡ givens old → IsReplaced e gs key value body → ComesTo e body (IsSetIn key value old)
 replaced-told e gs key value body old ok k v h t r =
     let both = groups-before e r.before r.group r.after (rw r.division at h) in
@@ -198,7 +208,8 @@ ending-added x by h =
     ∙ ap (lines_on (lines_of x).ended) (lines_of-line (lines_of x).last by [] (last-plain x) (λ q. refl))
 
 -- and with two
-endings-added : (x : List ℕ) (by : LineEnding) → PartsNoEnd x (line_ending_text by ++ line_ending_text by) → (by ≡ cr → begins_with_lf (line_ending_text by) ≡ false)
+endings-added : (x : List ℕ) (by : LineEnding) → PartsNoEnd x (line_ending_text by ++ line_ending_text by)
+    → (by ≡ cr → begins_with_lf (line_ending_text by) ≡ false)
     → lines_of (x ++ (line_ending_text by ++ line_ending_text by))
     ≡ record { ended = (lines_of x).ended ++ record { text = (lines_of x).last; by = by } ∷ record { text = []; by = by } ∷ []; last = [] }
 endings-added x by h k =
@@ -228,14 +239,16 @@ fit-closed (h ∷ hs) (inr u) k =
 fit-open : (g : List HeldLine) → IsLastFit g → is_left_open g ≡ true → EndsOpen (as_lines g)
 fit-open g (inr h) k = h
 fit-open [] (inl h) k = absurd h
-fit-open (h ∷ hs) (inl (inl w)) k = let a = and_parts (not (is_comment_line h.text)) (is_last_open (h ∷ hs)) k in absurd (cc (not-true (is_comment_line h.text) a.0, w.0))
+fit-open (h ∷ hs) (inl (inl w)) k =
+    let a = and_parts (not (is_comment_line h.text)) (is_last_open (h ∷ hs)) k in absurd (cc (not-true (is_comment_line h.text) a.0, w.0))
 fit-open (h ∷ hs) (inl (inr w)) k =
     let a = and_parts (not (is_comment_line h.text)) (is_last_open (h ∷ hs)) k in
     let b = last-closed h hs w.1 in
     absurd (cc)
 
 -- an empty line after a group that is left open closes it, and adds nothing to it
-closed-by_empty : (x : List Line) → EndsOpen x → IsWhole (x ++ record { number = 0; text = [] } ∷ []) × (joined (x ++ record { number = 0; text = [] } ∷ []) ≡ joined x)
+closed-by_empty : (x : List Line) → EndsOpen x
+    → IsWhole (x ++ record { number = 0; text = [] } ∷ []) × (joined (x ++ record { number = 0; text = [] } ∷ []) ≡ joined x)
 closed-by_empty [] h = absurd h
 closed-by_empty (l ∷ ls) h = (
   close-whole (l ∷ ls) (record { number = 0; text = [] }) h (closes-closed (l ∷ ls) (record { number = 0; text = [] }) refl),
@@ -265,7 +278,8 @@ is-added x source h = elim (cases_Bool (ends_in_cr source)) [
 parting-none : (source : List ℕ) (g : List HeldLine) → is_empty_line g ≡ true → parting source g ≡ []
 parting-none source g h = rw h refl
 
-parting-two : (source : List ℕ) (g : List HeldLine) → is_empty_line g ≡ false → is_left_open g ≡ true → parting source g ≡ added_ending source ++ added_ending source
+parting-two : (source : List ℕ) (g : List HeldLine) → is_empty_line g ≡ false → is_left_open g ≡ true
+    → parting source g ≡ added_ending source ++ added_ending source
 parting-two source g h k = rw (h, k) refl
 
 parting-one : (source : List ℕ) (g : List HeldLine) → is_empty_line g ≡ false → is_left_open g ≡ false → parting source g ≡ added_ending source
@@ -277,7 +291,8 @@ unfolding line_texts
 last-texts e g h = h.texts
 
 -- the last group with one line ending after it, where it is not left open
-one-front : (e : Encoding) (source : List ℕ) (g : List HeldLine) → IsHeldLast e g → is_left_open g ≡ false → IsAdded (group_bytes g) source → IsFront e (group_bytes g ++ added_ending source) (as_lines g)
+one-front : (e : Encoding) (source : List ℕ) (g : List HeldLine) → IsHeldLast e g → is_left_open g ≡ false → IsAdded (group_bytes g) source
+    → IsFront e (group_bytes g ++ added_ending source) (as_lines g)
 one-front e source g h k a =
     let x = group_bytes g in
     let same : lines_of (x ++ added_ending source) ≡ record { ended = (lines_of x).ended ++ record { text = (lines_of x).last; by = a.by } ∷ []; last = [] } =
@@ -321,7 +336,8 @@ told-parted e source g d h a = elim (cases_Bool (is_empty_line g)) [
   | inl k ↦
       let x : group_bytes g ≡ [] = empty-last g k h.ending in
       let t : as_lines g ≡ record { number = 0; text = [] } ∷ [] = sym h.texts ∙ ap (line_texts e) x ∙ empty-texts e in
-      ap₂ (λ v w. told e (v ++ (w ++ d))) x (parting-none source g k) ∙ ap (λ v. told_before v (told e d)) (sym (ap (λ v. outcome_of (joined v)) t ∙ outcome-empty))
+      ap₂ (λ v w. told e (v ++ (w ++ d))) x (parting-none source g k)
+      ∙ ap (λ v. told_before v (told e d)) (sym (ap (λ v. outcome_of (joined v)) t ∙ outcome-empty))
   | inr k ↦ elim (cases_Bool (is_left_open g)) [
     | inl m ↦
         let y = added_ending source ++ added_ending source in
@@ -350,8 +366,10 @@ told-after e source (g ∷ i ∷ gs) d h a =
     ∙ ap (told_before (outcome g)) (told-after e source (i ∷ gs) d h.1 (λ q. a (ends-right (group_bytes g) (groups_bytes (i ∷ gs)) q)))
     ∙ told_before-append (outcome g) (told_by (as_groups (i ∷ gs))) (told e d)
 
-pub appended-told : (e : Encoding) (source : List ℕ) (gs : List (List HeldLine)) (key value body : List ℕ) (old : List Content) → is_editable e ≡ true → All scalar key → All scalar value
-    → AreHeldGroups e gs → (ends_in_cr (groups_bytes gs) ≡ true → ends_in_cr source ≡ true) → told_by (as_groups gs) ≡ givens old → IsAppended e source gs key value body
+pub appended-told : (e : Encoding) (source : List ℕ) (gs : List (List HeldLine)) (key value body : List ℕ) (old : List Content) → is_editable e ≡ true
+    → All scalar key → All scalar value
+    → AreHeldGroups e gs → (ends_in_cr (groups_bytes gs) ≡ true → ends_in_cr source ≡ true) → told_by (as_groups gs) ≡ givens old
+    → IsAppended e source gs key value body
     → ComesTo e body (IsSetIn key value old)
 appended-told e source gs key value body old ok k v h a t r = (
   old ++ pair key value ∷ [],
@@ -373,7 +391,8 @@ abbrev IsLeft : List ℕ → List Content → List Outcome → Type 0
 IsLeft key old os = (new : List Content) × IsRemovedIn key old new × (os ≡ givens new)
 
 -- a group with another key, or none, stays
-left-kept : (key : List ℕ) (o : Outcome) (os left : List Outcome) (old : List Content) → ((v : List ℕ) → o ≡ given (pair key v) → ⊥) → told_before o os ≡ givens old
+left-kept : (key : List ℕ) (o : Outcome) (os left : List Outcome) (old : List Content) → ((v : List ℕ) → o ≡ given (pair key v) → ⊥)
+    → told_before o os ≡ givens old
     → ((cs : List Content) → os ≡ givens cs → IsLeft key cs left) → IsLeft key old (told_before o left)
 left-kept key ignored os left old other h rest = rest old h
 left-kept key (given content) os left [] other h rest = absurd (cc)
@@ -391,7 +410,8 @@ left-kept key (broken kind) os left [] other h rest = absurd (cc)
 left-kept key (broken kind) os left (c ∷ cs) other h rest = absurd (cc)
 
 -- a group with the key goes
-left-out : (key value : List ℕ) (os left : List Outcome) (old : List Content) → given (pair key value) ∷ os ≡ givens old → ((cs : List Content) → os ≡ givens cs → IsLeft key cs left) → IsLeft key old left
+left-out : (key value : List ℕ) (os left : List Outcome) (old : List Content) → given (pair key value) ∷ os ≡ givens old
+    → ((cs : List Content) → os ≡ givens cs → IsLeft key cs left) → IsLeft key old left
 left-out key value os left [] h rest = absurd (cc)
 left-out key value os left (comment text ∷ cs) h rest = absurd (cc)
 left-out key value os left (pair k v ∷ cs) h rest =
@@ -404,7 +424,8 @@ nothing-left : (key : List ℕ) (cs : List Content) → [] ≡ givens cs → IsL
 nothing-left key [] h = ([], refl, refl)
 nothing-left key (c ∷ cs) h = absurd (cc)
 
-left-told : (e : Encoding) (key : List ℕ) (gs : List (List HeldLine)) (rest : List ℕ) (old : List Content) → AreHeldGroups e gs → IsWithout key gs rest → told_by (as_groups gs) ≡ givens old
+left-told : (e : Encoding) (key : List ℕ) (gs : List (List HeldLine)) (rest : List ℕ) (old : List Content) → AreHeldGroups e gs → IsWithout key gs rest
+    → told_by (as_groups gs) ≡ givens old
     → IsLeft key old (told e rest)
 left-told e key [] rest old h w t = absurd h
 left-told e key (g ∷ []) rest old h (inl w) t =
@@ -423,7 +444,8 @@ left-told e key (g ∷ i ∷ gs) rest old h (inr w) t =
     (left-kept key (outcome g) (told_by (as_groups (i ∷ gs))) (told e w.1) old (other-outcome key g w.0) t
     (λ cs k. left-told e key (i ∷ gs) w.1 cs h.1 w.3 k))
 
-pub removed-told : (e : Encoding) (source key : List ℕ) (gs : List (List HeldLine)) (rest : List ℕ) (old : List Content) → AreHeldGroups e gs → told_by (as_groups gs) ≡ givens old
+pub removed-told : (e : Encoding) (source key : List ℕ) (gs : List (List HeldLine)) (rest : List ℕ) (old : List Content) → AreHeldGroups e gs
+    → told_by (as_groups gs) ≡ givens old
     → IsWithout key gs rest → ComesTo e (guarding_lf source rest ++ rest) (IsRemovedIn key old)
 removed-told e source key gs rest old h t w =
     let m = left-told e key gs rest old h w t in

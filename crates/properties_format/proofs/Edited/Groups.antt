@@ -1,5 +1,6 @@
 -- The groups of a body: what is computed are such groups, and the only ones; all but the last end in a line ending, and are groups by themselves.
-use Rattle.std.proofs.Common.{◌≡◌, ◌≢◌, ◌<◌, ◌⊎◌, ℕ, true, false, List, [], ◌∷◌, ◌++◌, Some, None, refl, ap, ap₂, sym, ◌∙◌, inl, inr, append_assoc, append-nil, subst, lit<}
+use Rattle.std.proofs.Common.{◌≡◌, ◌≢◌, ◌<◌, ◌⊎◌, ℕ, true, false, List, [], ◌∷◌, ◌++◌, Some, None, refl, ap, ap₂, sym, ◌∙◌, inl, inr, append_assoc}
+use Rattle.std.proofs.Common.{append-nil, subst, lit<}
 use Rattle.std.proofs.lemmas.Bool.{cases_Bool}
 use Rattle.properties_format.specs.Text.{line_feed, carriage_return, LineEnding, lf, cr, crlf, line_ending_text}
 use Rattle.properties_format.specs.Encoding.{Encoding}
@@ -10,7 +11,8 @@ use Rattle.properties_format.specs.Reading.Lines.{lines_of}
 use Rattle.properties_format.specs.Cut.{IsDecodedLine}
 use Rattle.properties_format.specs.Groups.{IsWhole, AreWhole, IsUnfinished, last_group}
 use Rattle.properties_format.specs.Reading.Groups.{closes, groups_after, groups_of}
-use Rattle.properties_format.specs.Edited.{HeldLine, AreHeld, as_lines, as_groups, held_in, AreGroupsOf, ending_bytes, group_bytes, groups_bytes, last_ending, is_editable}
+use Rattle.properties_format.specs.Edited.{HeldLine, AreHeld, as_lines, as_groups, held_in, AreGroupsOf, ending_bytes, group_bytes, groups_bytes, last_ending}
+use Rattle.properties_format.specs.Edited.{is_editable}
 use Rattle.properties_format.specs.Reading.Edited.{held_of, held_lines_of, held_groups_after, held_groups_of}
 use Rattle.properties_format.proofs.Encodings.Pieces.{pieces_of-meets, pieces_of-only}
 use Rattle.properties_format.proofs.Lines.Only.{lines_of-together}
@@ -144,7 +146,8 @@ AreFit [] = Unit {0}
 AreFit (g ∷ []) = IsLastFit g
 AreFit (g ∷ h ∷ gs) = IsWhole (as_lines g) × AreFit (h ∷ gs)
 
-fit : (gs : List (List HeldLine)) (whole : List (List Line)) (u : List Line) → as_groups gs ≡ whole ++ last_group u end → AreWhole whole → IsUnfinished u → AreFit gs
+fit : (gs : List (List HeldLine)) (whole : List (List Line)) (u : List Line) → as_groups gs ≡ whole ++ last_group u end → AreWhole whole → IsUnfinished u
+    → AreFit gs
 fit [] whole u t h k = tt
 fit (g ∷ []) [] [] t h k = absurd (cc)
 fit (g ∷ []) [] (l ∷ ls) t h k = let q : as_lines g ≡ l ∷ ls = cc in inr (rw q k)
@@ -254,7 +257,8 @@ AreHeldGroups e (g ∷ h ∷ gs) = IsHeldFront e g × AreHeldGroups e (h ∷ gs)
 front-of : (e : Encoding) (ls : List Ended) → AreLines ls [] → IsWhole (as_lines (held_ended e ls)) → IsHeldFront e (held_ended e ls)
 front-of e [] h k = absurd k
 front-of e (l ∷ ls) h k =
-    let same : lines_of (group_bytes (held_ended e (l ∷ ls))) ≡ record { ended = l ∷ ls; last = [] } = ap lines_of (ended-bytes e (l ∷ ls)) ∙ lines_of-together (l ∷ ls) [] h in
+    let same : lines_of (group_bytes (held_ended e (l ∷ ls))) ≡ record { ended = l ∷ ls; last = [] } = ap lines_of (ended-bytes e (l ∷ ls))
+    ∙ lines_of-together (l ∷ ls) [] h in
     let a = ended-last e l ls in
     record {
       front = record { ended = ap (λ v. let w : Lines = v in w.last) same; texts = ap (λ v. let w : Lines = v in ended_lines e w.ended) same ∙ ended-texts e (l ∷ ls); whole = k };
@@ -278,7 +282,8 @@ fit-some [] [] (inr k) q = k
 fit-some [] (i ∷ gs) k q = k.0
 fit-some (a ∷ h) gs k q = cc
 
-groups-fit : (e : Encoding) (gs : List (List HeldLine)) (ls : List Ended) (last : List ℕ) → AreLines ls last → held_in gs ≡ held_of e ls last → AreFit gs → AreHeldGroups e gs
+groups-fit : (e : Encoding) (gs : List (List HeldLine)) (ls : List Ended) (last : List ℕ) → AreLines ls last → held_in gs ≡ held_of e ls last → AreFit gs
+    → AreHeldGroups e gs
 groups-fit e [] [] last h s k = absurd (cc)
 groups-fit e [] (l ∷ ls) last h s k = absurd (cc)
 groups-fit e (g ∷ []) ls last h s k =

@@ -62,7 +62,8 @@ told_by-zeroed (g ∷ gs) = ap₂ (λ v w. told_before (outcome_of v) w) (joined
 
 -- ---- the lines of the text
 
-zeroed-texts : (e : Encoding) (n : ℕ) (ls : List Ended) (last : List ℕ) → zeroed (numbered n (decoded_ended e ls) (decoded_line e last) end) ≡ line_texts_in e (record { ended = ls; last = last })
+zeroed-texts : (e : Encoding) (n : ℕ) (ls : List Ended) (last : List ℕ)
+    → zeroed (numbered n (decoded_ended e ls) (decoded_line e last) end) ≡ line_texts_in e (record { ended = ls; last = last })
 zeroed-texts e n [] last = refl
 zeroed-texts e n (l ∷ ls) last = ap (λ v. record { number = 0; text = decoded_line e l.text } ∷ v) (zeroed-texts e (n + 1) ls last)
 
@@ -97,7 +98,8 @@ entries-told n (g ∷ gs) h = followed-told (first_number g) (outcome_of (joined
 abbrev Say : List Entry → List Content → Type 0
 Say entries cs = HoldsNoMalformed entries × (contents entries ≡ cs)
 
-told-followed : (number : ℕ) (o : Outcome) (entries : List Entry) (os : List Outcome) (cs : List Content) → ((ds : List Content) → os ≡ givens ds → Say entries ds)
+told-followed : (number : ℕ) (o : Outcome) (entries : List Entry) (os : List Outcome) (cs : List Content)
+    → ((ds : List Content) → os ≡ givens ds → Say entries ds)
     → told_before o os ≡ givens cs → Say (followed number o entries) cs
 told-followed number ignored entries os cs h k = h cs k
 told-followed number (given content) entries os [] h k = absurd (cc)

@@ -6,7 +6,9 @@ use Rattle.properties_format.specs.Lines.{end}
 use Rattle.properties_format.specs.Reading.Lines.{ends_in_cr}
 use Rattle.properties_format.specs.Entries.{Content}
 use Rattle.properties_format.specs.Reading.Items.{items_of}
-use Rattle.properties_format.specs.Edited.{HeldLine, as_groups, AreGroupsOf, groups_bytes, bom_of, IsKeySet, guarding_lf, IsKeyRemoved, Edit, put, remove, IsEdited, AreEdited, is_editable, HoldsNoMalformed, contents, IsSetIn, IsRemovedIn, IsEditedIn, AreEditedIn, IsScalarEdit, AreScalarEdits}
+use Rattle.properties_format.specs.Edited.{HeldLine, as_groups, AreGroupsOf, groups_bytes, bom_of, IsKeySet, guarding_lf, IsKeyRemoved, Edit, put, remove}
+use Rattle.properties_format.specs.Edited.{IsEdited, AreEdited, is_editable, HoldsNoMalformed, contents, IsSetIn, IsRemovedIn, IsEditedIn, AreEditedIn}
+use Rattle.properties_format.specs.Edited.{IsScalarEdit, AreScalarEdits}
 use Rattle.properties_format.proofs.Edited.Told.{told_by, told}
 use Rattle.properties_format.proofs.Edited.Items.{givens, items-told, told-items}
 use Rattle.properties_format.proofs.Edited.Groups.{held-groups, held-body}
@@ -30,7 +32,8 @@ pub record IsReadTo (e : Encoding) (result : List ℕ) (Such : List Content → 
   pub such : Such (says e result)
 
 -- a body in force that comes to contents
-read-to : (e : Encoding) (result : List ℕ) (f : InForce) (Such : List Content → Type 0) → is_editable f.encoding ≡ true → byte_order_mark e result ≡ f → ComesTo f.encoding f.body Such
+read-to : (e : Encoding) (result : List ℕ) (f : InForce) (Such : List Content → Type 0) → is_editable f.encoding ≡ true → byte_order_mark e result ≡ f
+    → ComesTo f.encoding f.body Such
     → IsReadTo e result Such
 read-to e result f Such ok same c =
     let g : is_editable (byte_order_mark e result).encoding ≡ true = ap (λ v. let w : InForce = v in is_editable w.encoding) same ∙ ok in
@@ -39,7 +42,8 @@ read-to e result f Such ok same c =
     record { readable = record { editable = g; no_fault = m.0 }; such = subst Such (sym m.1) c.1 }
 
 -- the groups of a readable source come to what it says
-groups-say : (e : Encoding) (source : List ℕ) (gs : List (List HeldLine)) → IsReadable e source → AreGroupsOf (byte_order_mark e source).encoding (byte_order_mark e source).body gs
+groups-say : (e : Encoding) (source : List ℕ) (gs : List (List HeldLine)) → IsReadable e source
+    → AreGroupsOf (byte_order_mark e source).encoding (byte_order_mark e source).body gs
     → told_by (as_groups gs) ≡ givens (says e source)
 groups-say e source gs r h =
     let f = byte_order_mark e source in
@@ -48,7 +52,8 @@ groups-say e source gs r h =
     ∙ items-told e source r.editable r.no_fault
 
 -- a CR at the end of the body is at the end of the source
-ends-alike : (e : Encoding) (source : List ℕ) (gs : List (List HeldLine)) → IsReadable e source → AreGroupsOf (byte_order_mark e source).encoding (byte_order_mark e source).body gs
+ends-alike : (e : Encoding) (source : List ℕ) (gs : List (List HeldLine)) → IsReadable e source
+    → AreGroupsOf (byte_order_mark e source).encoding (byte_order_mark e source).body gs
     → ends_in_cr (groups_bytes gs) ≡ true → ends_in_cr source ≡ true
 ends-alike e source gs r h k =
     let f = byte_order_mark e source in
@@ -57,7 +62,8 @@ ends-alike e source gs r h k =
 -- ---- one edit
 
 -- After a key is set, the last pair with the key has the value, or where there is none there is a new last pair; all else is said as before.
-pub key_set-says : (e : Encoding) (source key value result : List ℕ) → IsReadable e source → All scalar key → All scalar value → IsKeySet e source key value result
+pub key_set-says : (e : Encoding) (source key value result : List ℕ) → IsReadable e source → All scalar key → All scalar value
+    → IsKeySet e source key value result
     → IsReadTo e result (IsSetIn key value (says e source))
 key_set-says e source key value result r k v h =
     let f = byte_order_mark e source in
@@ -70,7 +76,8 @@ key_set-says e source key value result r k v h =
     ])
 
 -- After a key is removed, the pairs with the key are gone; all else is said as before.
-pub key_removed-says : (e : Encoding) (source key result : List ℕ) → IsReadable e source → IsKeyRemoved e source key result → IsReadTo e result (IsRemovedIn key (says e source))
+pub key_removed-says : (e : Encoding) (source key result : List ℕ) → IsReadable e source → IsKeyRemoved e source key result
+    → IsReadTo e result (IsRemovedIn key (says e source))
 key_removed-says e source key result r h =
     let f = byte_order_mark e source in
     let gs = held-groups f.encoding f.body h.groups r.editable h.held in
@@ -85,7 +92,8 @@ edit-says e source (put key value) result r k h = key_set-says e source key valu
 edit-says e source (remove key) result r k h = key_removed-says e source key result r h
 
 -- After edits in turn the source says what it said after the same edits.
-pub edits-say : (e : Encoding) (source : List ℕ) (edits : List Edit) (result : List ℕ) → IsReadable e source → AreScalarEdits edits → AreEdited e source edits result
+pub edits-say : (e : Encoding) (source : List ℕ) (edits : List Edit) (result : List ℕ) → IsReadable e source → AreScalarEdits edits
+    → AreEdited e source edits result
     → IsReadTo e result (AreEditedIn edits (says e source))
 edits-say e source [] result r k h = record { readable = subst (IsReadable e) (sym h) r; such = ap (says e) h }
 edits-say e source (edit ∷ edits) result r k h =

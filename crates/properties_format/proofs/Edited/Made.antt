@@ -7,8 +7,10 @@ use Rattle.properties_format.specs.Groups.{joined}
 use Rattle.properties_format.specs.Entries.{comment, pair}
 use Rattle.properties_format.specs.Items.{Outcome, ignored, given, broken}
 use Rattle.properties_format.specs.Reading.Items.{outcome_of}
-use Rattle.properties_format.specs.Edited.{HeldLine, as_lines, group_bytes, HasKey, NoneHasKey, IsReplaced, IsAppended, IsKeySet, IsWithout, IsKeyRemoved, bom_of, guarding_lf}
-use Rattle.properties_format.specs.Reading.Edited.{held_groups_of, is_pair_with, has_key, Place, place_after, last_place, set_at, key_set, without, key_removed}
+use Rattle.properties_format.specs.Edited.{HeldLine, as_lines, group_bytes, HasKey, NoneHasKey, IsReplaced, IsAppended, IsKeySet, IsWithout, IsKeyRemoved}
+use Rattle.properties_format.specs.Edited.{bom_of, guarding_lf}
+use Rattle.properties_format.specs.Reading.Edited.{held_groups_of, is_pair_with, has_key, Place, place_after, last_place, set_at, key_set, without}
+use Rattle.properties_format.specs.Reading.Edited.{key_removed}
 use Rattle.properties_format.proofs.Items.Unique.{outcome_of-meets, outcome_of-only}
 use Rattle.properties_format.proofs.Edited.Groups.{held_groups_of-meets, held_groups_of-only}
 
@@ -27,7 +29,8 @@ has_key-true key g h =
     (m.0, rw m.1 at (outcome_of-meets (joined (as_lines g))))
 
 pub HasKey-test : (key : List ℕ) (g : List HeldLine) → HasKey key g → has_key key g ≡ true
-HasKey-test key g (value, h) = ap (is_pair_with key) (sym (outcome_of-only (joined (as_lines g)) (given (pair key value)) h)) ∙ (bytes_eq-Decides key key).1 refl
+HasKey-test key g (value, h) =
+    ap (is_pair_with key) (sym (outcome_of-only (joined (as_lines g)) (given (pair key value)) h)) ∙ (bytes_eq-Decides key key).1 refl
 
 -- and one that does not has another
 pub has_key-false : (key : List ℕ) (g : List HeldLine) → has_key key g ≡ false → ¬ (HasKey key g)
@@ -48,11 +51,13 @@ abbrev IsPlace : List ℕ → List (List HeldLine) → Option Place → Type 0
 IsPlace key gs None = NoneHasKey key gs
 IsPlace key gs (Some p) = IsLastPlace key gs p
 
-place-here : (key : List ℕ) (g : List HeldLine) (gs : List (List HeldLine)) (b : Bool) → has_key key g ≡ b → NoneHasKey key gs → IsPlace key (g ∷ gs) (place_after key g gs None)
+place-here : (key : List ℕ) (g : List HeldLine) (gs : List (List HeldLine)) (b : Bool) → has_key key g ≡ b → NoneHasKey key gs
+    → IsPlace key (g ∷ gs) (place_after key g gs None)
 place-here key g gs true e h = rw e (record { division = refl; has = has_key-true key g e; no_later = h })
 place-here key g gs false e h = rw e (has_key-false key g e, h)
 
-place-meets : (key : List ℕ) (g : List HeldLine) (gs : List (List HeldLine)) (o : Option Place) → IsPlace key gs o → IsPlace key (g ∷ gs) (place_after key g gs o)
+place-meets : (key : List ℕ) (g : List HeldLine) (gs : List (List HeldLine)) (o : Option Place) → IsPlace key gs o
+    → IsPlace key (g ∷ gs) (place_after key g gs o)
 place-meets key g gs None h = place-here key g gs (has_key key g) refl h
 place-meets key g gs (Some p) h = record { division = ap (λ v. g ∷ v) h.division; has = h.has; no_later = h.no_later }
 
@@ -62,12 +67,15 @@ last_place-meets key (g ∷ gs) = place-meets key g gs (last_place key gs) (last
 
 last_place-none : (key : List ℕ) (gs : List (List HeldLine)) → NoneHasKey key gs → last_place key gs ≡ None
 last_place-none key [] h = refl
-last_place-none key (g ∷ gs) h = ap (place_after key g gs) (last_place-none key gs h.1) ∙ cond-false (has_key key g) (Some (record { before = []; group = g; after = gs })) None (no_key-test key g h.0)
+last_place-none key (g ∷ gs) h =
+    ap (place_after key g gs) (last_place-none key gs h.1)
+    ∙ cond-false (has_key key g) (Some (record { before = []; group = g; after = gs })) None (no_key-test key g h.0)
 
 last_place-some : (key : List ℕ) (before : List (List HeldLine)) (g : List HeldLine) (after : List (List HeldLine)) → HasKey key g → NoneHasKey key after
     → last_place key (before ++ g ∷ after) ≡ Some (record { before = before; group = g; after = after })
 last_place-some key [] g after h k =
-    ap (place_after key g after) (last_place-none key after k) ∙ cond-true (has_key key g) (Some (record { before = []; group = g; after = after })) None (HasKey-test key g h)
+    ap (place_after key g after) (last_place-none key after k)
+    ∙ cond-true (has_key key g) (Some (record { before = []; group = g; after = after })) None (HasKey-test key g h)
 last_place-some key (f ∷ before) g after h k = ap (place_after key f (before ++ g ∷ after)) (last_place-some key before g after h k)
 
 -- ---- a key is set
@@ -78,7 +86,8 @@ set-meets e source key value gs None h = inr (record { no_pair = h; bytes = refl
 set-meets e source key value gs (Some p) h =
     inl (record { before = p.before; group = p.group; after = p.after; division = h.division; has_key = h.has; no_later = h.no_later; bytes = refl })
 
-set-only : (e : Encoding) (source key value : List ℕ) (gs : List (List HeldLine)) (body : List ℕ) → IsReplaced e gs key value body ⊎ IsAppended e source gs key value body
+set-only : (e : Encoding) (source key value : List ℕ) (gs : List (List HeldLine)) (body : List ℕ)
+    → IsReplaced e gs key value body ⊎ IsAppended e source gs key value body
     → body ≡ set_at e source gs key value (last_place key gs)
 set-only e source key value gs body (inl h) =
     h.bytes ∙ ap (set_at e source gs key value) (sym (ap (last_place key) h.division ∙ last_place-some key h.before h.group h.after h.has_key h.no_later))
@@ -106,7 +115,8 @@ key_set-only e source key value result h =
 
 -- ---- a key is removed
 
-without-step : (key : List ℕ) (g : List HeldLine) (gs : List (List HeldLine)) (b : Bool) → has_key key g ≡ b → IsWithout key gs (without key gs) → IsWithout key (g ∷ gs) (without key (g ∷ gs))
+without-step : (key : List ℕ) (g : List HeldLine) (gs : List (List HeldLine)) (b : Bool) → has_key key g ≡ b → IsWithout key gs (without key gs)
+    → IsWithout key (g ∷ gs) (without key (g ∷ gs))
 without-step key g gs true e h = rw e (inl (has_key-true key g e, h))
 without-step key g gs false e h = rw e (inr (has_key-false key g e, without key gs, refl, h))
 
@@ -116,9 +126,11 @@ without-meets key (g ∷ gs) = without-step key g gs (has_key key g) refl (witho
 
 pub without-only : (key : List ℕ) (gs : List (List HeldLine)) (rest : List ℕ) → IsWithout key gs rest → rest ≡ without key gs
 without-only key [] rest h = h
-without-only key (g ∷ gs) rest (inl h) = without-only key gs rest h.1 ∙ sym (cond-true (has_key key g) (without key gs) (group_bytes g ++ without key gs) (HasKey-test key g h.0))
+without-only key (g ∷ gs) rest (inl h) =
+    without-only key gs rest h.1 ∙ sym (cond-true (has_key key g) (without key gs) (group_bytes g ++ without key gs) (HasKey-test key g h.0))
 without-only key (g ∷ gs) rest (inr h) =
-    h.2 ∙ ap (λ v. group_bytes g ++ v) (without-only key gs h.1 h.3) ∙ sym (cond-false (has_key key g) (without key gs) (group_bytes g ++ without key gs) (no_key-test key g h.0))
+    h.2 ∙ ap (λ v. group_bytes g ++ v) (without-only key gs h.1 h.3)
+    ∙ sym (cond-false (has_key key g) (without key gs) (group_bytes g ++ without key gs) (no_key-test key g h.0))
 
 -- What is computed is the source without the key.
 pub key_removed-meets : (e : Encoding) (source key : List ℕ) → IsKeyRemoved e source key (key_removed e source key)

@@ -6,7 +6,8 @@ use Rattle.std.proofs.lemmas.Slice.Eq.{bytes_eq-Decides}
 use Rattle.properties_format.specs.Entries.{Content, comment, pair, Entry, item, malformed, read_fault}
 use Rattle.properties_format.specs.Maps.{IsValue, IsMap}
 use Rattle.properties_format.specs.Reading.Maps.{first_value, value_in}
-use Rattle.properties_format.specs.Edited.{Edit, put, remove, contents, HoldNoPair, IsLastChanged, IsSetIn, IsRemovedIn, IsEditedIn, AreEditedIn, map_edited, map_after}
+use Rattle.properties_format.specs.Edited.{Edit, put, remove, contents, HoldNoPair, IsLastChanged, IsSetIn, IsRemovedIn, IsEditedIn, AreEditedIn, map_edited}
+use Rattle.properties_format.specs.Edited.{map_after}
 use Rattle.properties_format.proofs.Maps.{value_in-meets, map-only}
 
 -- ---- the value of a key among contents
@@ -36,7 +37,8 @@ first-assoc (Some v) b c = refl
 
 value-append : (cs ds : List Content) (key : List ℕ) → value_among (cs ++ ds) key ≡ first_value (value_among ds key) (value_among cs key)
 value-append [] ds key = sym (first-none (value_among ds key))
-value-append (c ∷ cs) ds key = ap (λ o. first_value o (content_value c key)) (value-append cs ds key) ∙ first-assoc (value_among ds key) (value_among cs key) (content_value c key)
+value-append (c ∷ cs) ds key =
+    ap (λ o. first_value o (content_value c key)) (value-append cs ds key) ∙ first-assoc (value_among ds key) (value_among cs key) (content_value c key)
 
 same-test : (k key : List ℕ) → k ≡ key → bytes_eq k key ≡ true
 same-test k key h = (bytes_eq-Decides k key).1 h
@@ -68,13 +70,15 @@ set-last cs ds key value k h s =
     ∙ value-append cs (pair key value ∷ ds) key
     ∙ ap₂ (λ x y. first_value (first_value x y) (value_among cs key)) (no-value key ds h) (own-value key value)
 
-set-other : (cs ds : List Content) (key value k : List ℕ) → (key ≢ k) → value_among (cs ++ pair key value ∷ ds) k ≡ first_value (value_among ds k) (value_among cs k)
+set-other : (cs ds : List Content) (key value k : List ℕ) → (key ≢ k)
+    → value_among (cs ++ pair key value ∷ ds) k ≡ first_value (value_among ds k) (value_among cs k)
 set-other cs ds key value k h =
     value-append cs (pair key value ∷ ds) k
     ∙ ap (λ y. first_value (first_value (value_among ds k) y) (value_among cs k)) (other-value key value k h)
     ∙ ap (λ y. first_value y (value_among cs k)) (first-none (value_among ds k))
 
-changed-value : (key value : List ℕ) (old new : List Content) (k : List ℕ) → IsLastChanged key value old new → value_among new k ≡ map_edited (put key value) (value_among old) k
+changed-value : (key value : List ℕ) (old new : List Content) (k : List ℕ) → IsLastChanged key value old new
+    → value_among new k ≡ map_edited (put key value) (value_among old) k
 changed-value key value old new k h = elim (cases_Bool (bytes_eq k key)) [
   | inl t ↦
       ap (λ v. value_among v k) h.now
@@ -88,7 +92,8 @@ changed-value key value old new k h = elim (cases_Bool (bytes_eq k key)) [
       ∙ sym (cond-false (bytes_eq k key) (Some value) (value_among old k) t)
 ]
 
-appended-value : (key value : List ℕ) (old new : List Content) (k : List ℕ) → new ≡ old ++ pair key value ∷ [] → value_among new k ≡ map_edited (put key value) (value_among old) k
+appended-value : (key value : List ℕ) (old new : List Content) (k : List ℕ) → new ≡ old ++ pair key value ∷ []
+    → value_among new k ≡ map_edited (put key value) (value_among old) k
 appended-value key value old new k h = elim (cases_Bool (bytes_eq k key)) [
   | inl t ↦
       ap (λ v. value_among v k) h
@@ -98,7 +103,8 @@ appended-value key value old new k h = elim (cases_Bool (bytes_eq k key)) [
       ap (λ v. value_among v k) h ∙ set-other old [] key value k (not-back k key t) ∙ sym (cond-false (bytes_eq k key) (Some value) (value_among old k) t)
 ]
 
-set-value : (key value : List ℕ) (old new : List Content) (k : List ℕ) → IsSetIn key value old new → value_among new k ≡ map_edited (put key value) (value_among old) k
+set-value : (key value : List ℕ) (old new : List Content) (k : List ℕ) → IsSetIn key value old new
+    → value_among new k ≡ map_edited (put key value) (value_among old) k
 set-value key value old new k (inl h) = changed-value key value old new k h
 set-value key value old new k (inr h) = appended-value key value old new k h.1
 
@@ -109,16 +115,19 @@ removed-same key [] new h = ap (λ v. value_among v key) h
 removed-same key (comment text ∷ cs) new h = ap (λ v. value_among v key) h.1 ∙ first-none (value_among h.0 key) ∙ removed-same key cs h.0 h.2
 removed-same key (pair k v ∷ cs) new (inl h) = removed-same key cs new h.1
 removed-same key (pair k v ∷ cs) new (inr h) =
-    ap (λ v. value_among v key) h.2 ∙ ap (first_value (value_among h.1 key)) (other-value k v key h.0) ∙ first-none (value_among h.1 key) ∙ removed-same key cs h.1 h.3
+    ap (λ v. value_among v key) h.2 ∙ ap (first_value (value_among h.1 key)) (other-value k v key h.0) ∙ first-none (value_among h.1 key)
+    ∙ removed-same key cs h.1 h.3
 
 removed-other : (key : List ℕ) (old new : List Content) (k : List ℕ) → key ≢ k → IsRemovedIn key old new → value_among new k ≡ value_among old k
 removed-other key [] new k n h = ap (λ v. value_among v k) h
 removed-other key (comment text ∷ cs) new k n h = ap (λ v. value_among v k) h.1 ∙ ap (λ o. first_value o None) (removed-other key cs h.0 k n h.2)
 removed-other key (pair l v ∷ cs) new k n (inl h) =
     removed-other key cs new k n h.1 ∙ sym (ap (first_value (value_among cs k)) (other-value l v k (λ s. n (sym h.0 ∙ s))) ∙ first-none (value_among cs k))
-removed-other key (pair l v ∷ cs) new k n (inr h) = ap (λ v. value_among v k) h.2 ∙ ap (λ o. first_value o (content_value (pair l v) k)) (removed-other key cs h.1 k n h.3)
+removed-other key (pair l v ∷ cs) new k n (inr h) =
+    ap (λ v. value_among v k) h.2 ∙ ap (λ o. first_value o (content_value (pair l v) k)) (removed-other key cs h.1 k n h.3)
 
-removed-value : (key : List ℕ) (old new : List Content) (k : List ℕ) → IsRemovedIn key old new → value_among new k ≡ map_edited (remove key) (value_among old) k
+removed-value : (key : List ℕ) (old new : List Content) (k : List ℕ) → IsRemovedIn key old new
+    → value_among new k ≡ map_edited (remove key) (value_among old) k
 removed-value key old new k h = elim (cases_Bool (bytes_eq k key)) [
   | inl t ↦ ap (value_among new) ((bytes_eq-Decides k key).0 t) ∙ removed-same key old new h ∙ sym (cond-true (bytes_eq k key) None (value_among old k) t)
   | inr t ↦ removed-other key old new k (not-back k key t) h ∙ sym (cond-false (bytes_eq k key) None (value_among old k) t)

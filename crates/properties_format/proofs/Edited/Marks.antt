@@ -1,13 +1,17 @@
 -- An edited source is in force as the source was: the byte order mark stays, and where there was none, none comes to be.
-use Rattle.std.proofs.Common.{◌≡◌, ◌⊎◌, ℕ, ◌==◌, Bool, true, false, if◌then◌else◌, List, [], ◌∷◌, ◌++◌, length, drop, eqb-true, refl, ap, ap₂, sym, ◌∙◌, inl, inr, append_assoc, append-nil, lit<}
+use Rattle.std.proofs.Common.{◌≡◌, ◌⊎◌, ℕ, ◌==◌, Bool, true, false, if◌then◌else◌, List, [], ◌∷◌, ◌++◌, length, drop, eqb-true, refl, ap, ap₂, sym, ◌∙◌, inl}
+use Rattle.std.proofs.Common.{inr, append_assoc, append-nil, lit<}
 use Rattle.std.specs.Prelude.{unwrap_or, None}
 use Rattle.std.proofs.lemmas.Bool.{cases_Bool, and_parts}
 use Rattle.properties_format.specs.Text.{line_feed, carriage_return, equals_sign, LineEnding, lf, cr, crlf, line_ending_text}
-use Rattle.properties_format.specs.Encoding.{Encoding, utf_8, utf_16le, utf_16be, InForce, byte_order_mark, begins_with, begins_like_bom, utf_8_bom, utf_16be_bom, utf_16le_bom}
+use Rattle.properties_format.specs.Encoding.{Encoding, utf_8, utf_16le, utf_16be, InForce, byte_order_mark, begins_with, begins_like_bom, utf_8_bom}
+use Rattle.properties_format.specs.Encoding.{utf_16be_bom, utf_16le_bom}
 use Rattle.properties_format.specs.Reading.Lines.{ends_in_cr}
 use Rattle.properties_format.specs.Printing.{in_key_or_value, spelt_text, encoded_text, spelt_key}
 use Rattle.properties_format.specs.Writing.{is_empty}
-use Rattle.properties_format.specs.Edited.{HeldLine, AreGroupsOf, ending_bytes, group_bytes, groups_bytes, last_ending, pair_bytes, IsReplaced, IsAppended, final_group, is_empty_line, is_left_open, added_ending, parting, bom_of, IsKeySet, guarding_lf, IsKeyRemoved, is_editable}
+use Rattle.properties_format.specs.Edited.{HeldLine, AreGroupsOf, ending_bytes, group_bytes, groups_bytes, last_ending, pair_bytes, IsReplaced, IsAppended}
+use Rattle.properties_format.specs.Edited.{final_group, is_empty_line, is_left_open, added_ending, parting, bom_of, IsKeySet, guarding_lf, IsKeyRemoved}
+use Rattle.properties_format.specs.Edited.{is_editable}
 use Rattle.properties_format.proofs.Encodings.ByteOrderMarks.{byte_order_mark-none}
 use Rattle.properties_format.proofs.Printing.Characters.{encoded-ascii, encoded_text-append}
 use Rattle.properties_format.proofs.ReadBack.Law.{default_settings-good}
@@ -55,7 +59,8 @@ source-whole e source = elim (cases_Bool (begins_with utf_8_bom source)) [
 ]
 
 -- The mark and a body, which begins like no mark where there is none, are in force as the source was.
-pub in_force : (e : Encoding) (source body : List ℕ) → is_editable (byte_order_mark e source).encoding ≡ true → (begins_like_bom source ≡ false → begins_like_bom body ≡ false)
+pub in_force : (e : Encoding) (source body : List ℕ) → is_editable (byte_order_mark e source).encoding ≡ true
+    → (begins_like_bom source ≡ false → begins_like_bom body ≡ false)
     → byte_order_mark e (bom_of source ++ body) ≡ record { encoding = (byte_order_mark e source).encoding; body = body }
 in_force e source body ok h = elim (marked e source ok) [
   | inl m ↦ ap (λ v. byte_order_mark e (v ++ body)) m.0 ∙ ap (λ v. let w : InForce = record { encoding = v; body = body } in w) (sym m.1)
@@ -95,7 +100,8 @@ pair-parts e first key value =
     ∙ ap (λ o. encoded_text e (spelt_key e first key) ++ (unwrap_or o [] ++ encoded_text e (spelt_text e in_key_or_value value))) (encoded-ascii e equals_sign (lit< tt))
 
 pair-ascii : (e : Encoding) (first : Bool) (key value : List ℕ) → HasAscii (pair_bytes e first key value)
-pair-ascii e first key value = (encoded_text e (spelt_key e first key), equals_sign, encoded_text e (spelt_text e in_key_or_value value), pair-parts e first key value, lit< tt)
+pair-ascii e first key value =
+    (encoded_text e (spelt_key e first key), equals_sign, encoded_text e (spelt_text e in_key_or_value value), pair-parts e first key value, lit< tt)
 
 -- A pair at the front begins like no mark.
 first-unmarked : (e : Encoding) (key value rest : List ℕ) → begins_like_bom (pair_bytes e true key value ++ rest) ≡ false
@@ -107,7 +113,8 @@ first-unmarked e key value rest =
 -- ---- a key is set
 
 -- the bytes of some groups, and those of the first
-front-unmarked : (g : List HeldLine) (gs : List (List HeldLine)) (y z : List ℕ) → HasAscii (group_bytes g) → begins_like_bom (groups_bytes (g ∷ gs) ++ z) ≡ false
+front-unmarked : (g : List HeldLine) (gs : List (List HeldLine)) (y z : List ℕ) → HasAscii (group_bytes g)
+    → begins_like_bom (groups_bytes (g ∷ gs) ++ z) ≡ false
     → begins_like_bom (groups_bytes (g ∷ gs) ++ y) ≡ false
 front-unmarked g gs y z a h =
     ap begins_like_bom (append_assoc (group_bytes g) (groups_bytes gs) y)
@@ -117,14 +124,17 @@ front-unmarked g gs y z a h =
 
 groups_bytes-append : (gs hs : List (List HeldLine)) → groups_bytes (gs ++ hs) ≡ groups_bytes gs ++ groups_bytes hs
 groups_bytes-append [] hs = refl
-groups_bytes-append (g ∷ gs) hs = ap (λ v. group_bytes g ++ v) (groups_bytes-append gs hs) ∙ sym (append_assoc (group_bytes g) (groups_bytes gs) (groups_bytes hs))
+groups_bytes-append (g ∷ gs) hs =
+    ap (λ v. group_bytes g ++ v) (groups_bytes-append gs hs) ∙ sym (append_assoc (group_bytes g) (groups_bytes gs) (groups_bytes hs))
 
 -- a group before others has an ASCII byte
-first-ascii : (e : Encoding) (g : List HeldLine) (gs : List (List HeldLine)) (h : List HeldLine) (hs : List (List HeldLine)) → AreHeldGroups e (g ∷ gs ++ h ∷ hs) → HasAscii (group_bytes g)
+first-ascii : (e : Encoding) (g : List HeldLine) (gs : List (List HeldLine)) (h : List HeldLine) (hs : List (List HeldLine))
+    → AreHeldGroups e (g ∷ gs ++ h ∷ hs) → HasAscii (group_bytes g)
 first-ascii e g [] h hs k = k.0.ascii
 first-ascii e g (i ∷ gs) h hs k = k.0.ascii
 
-replaced-unmarked : (e : Encoding) (gs : List (List HeldLine)) (key value body : List ℕ) → AreHeldGroups e gs → begins_like_bom (groups_bytes gs) ≡ false → IsReplaced e gs key value body
+replaced-unmarked : (e : Encoding) (gs : List (List HeldLine)) (key value body : List ℕ) → AreHeldGroups e gs → begins_like_bom (groups_bytes gs) ≡ false
+    → IsReplaced e gs key value body
     → begins_like_bom body ≡ false
 replaced-unmarked e gs key value body k h r = of_before r.before r.division r.bytes
   where
@@ -158,7 +168,8 @@ parting-cases source g = elim (cases_Bool (is_empty_line g)) [
   ]
 ]
 
-appended-unmarked : (e : Encoding) (source : List ℕ) (gs : List (List HeldLine)) (key value body : List ℕ) → AreHeldGroups e gs → begins_like_bom (groups_bytes gs) ≡ false
+appended-unmarked : (e : Encoding) (source : List ℕ) (gs : List (List HeldLine)) (key value body : List ℕ) → AreHeldGroups e gs
+    → begins_like_bom (groups_bytes gs) ≡ false
     → IsAppended e source gs key value body → begins_like_bom body ≡ false
 appended-unmarked e source gs key value body k h r = elim (parting-cases source (final_group gs)) [
   | inl p ↦ none gs k h p.0 (ap (λ v. groups_bytes gs ++ v) p.1 ∙ append-nil (groups_bytes gs))
@@ -181,7 +192,8 @@ appended-unmarked e source gs key value body k h r = elim (parting-cases source 
     none [] k h m s = absurd (cc)
     none (g ∷ []) k h m s =
         let q : groups_bytes gs ++ parting source (final_group gs) ≡ [] = s ∙ append-nil (group_bytes g) ∙ empty-last g m k.ending in
-        ap begins_like_bom r.bytes ∙ ap (λ v. begins_like_bom (v ++ (pair_bytes e (is_empty v) key value ++ line_feed ∷ []))) q ∙ first-unmarked e key value (line_feed ∷ [])
+        ap begins_like_bom r.bytes ∙ ap (λ v. begins_like_bom (v ++ (pair_bytes e (is_empty v) key value ++ line_feed ∷ []))) q
+        ∙ first-unmarked e key value (line_feed ∷ [])
     none (g ∷ i ∷ hs) k h m s =
         ap begins_like_bom r.bytes
         ∙ ap (λ v. begins_like_bom (v ++ (pair_bytes e (is_empty v) key value ++ line_feed ∷ []))) s
@@ -189,12 +201,15 @@ appended-unmarked e source gs key value body k h r = elim (parting-cases source 
 
 -- where the source has no mark, its groups begin like none
 groups-unmarked : (e : Encoding) (source : List ℕ) (gs : List (List HeldLine)) → is_editable (byte_order_mark e source).encoding ≡ true
-    → AreGroupsOf (byte_order_mark e source).encoding (byte_order_mark e source).body gs → begins_like_bom source ≡ false → begins_like_bom (groups_bytes gs) ≡ false
+    → AreGroupsOf (byte_order_mark e source).encoding (byte_order_mark e source).body gs → begins_like_bom source ≡ false
+    → begins_like_bom (groups_bytes gs) ≡ false
 groups-unmarked e source gs ok h n =
-    ap begins_like_bom (held-body (byte_order_mark e source).encoding (byte_order_mark e source).body gs ok h) ∙ ap begins_like_bom (unmarked-body e source n) ∙ n
+    ap begins_like_bom (held-body (byte_order_mark e source).encoding (byte_order_mark e source).body gs ok h) ∙ ap begins_like_bom (unmarked-body e source n)
+    ∙ n
 
 -- What is in force after a key is set: the encoding that was, and the edited body.
-pub key_set-in_force : (e : Encoding) (source key value result : List ℕ) → is_editable (byte_order_mark e source).encoding ≡ true → (h : IsKeySet e source key value result)
+pub key_set-in_force : (e : Encoding) (source key value result : List ℕ) → is_editable (byte_order_mark e source).encoding ≡ true
+    → (h : IsKeySet e source key value result)
     → byte_order_mark e result ≡ record { encoding = (byte_order_mark e source).encoding; body = h.body }
 key_set-in_force e source key value result ok h =
     let f = byte_order_mark e source in
@@ -211,7 +226,8 @@ guarding_lf-unmarked : (source rest : List ℕ) → begins_like_bom source ≡ f
 guarding_lf-unmarked source rest n = elim (cases_Bool (begins_like_bom rest)) [ inl h ↦ rw (n, h) refl | inr h ↦ rw (n, h) h ]
 
 -- What is in force after a key is removed.
-pub key_removed-in_force : (e : Encoding) (source key result : List ℕ) → is_editable (byte_order_mark e source).encoding ≡ true → (h : IsKeyRemoved e source key result)
+pub key_removed-in_force : (e : Encoding) (source key result : List ℕ) → is_editable (byte_order_mark e source).encoding ≡ true
+    → (h : IsKeyRemoved e source key result)
     → byte_order_mark e result ≡ record { encoding = (byte_order_mark e source).encoding; body = guarding_lf source h.rest ++ h.rest }
 key_removed-in_force e source key result ok h =
     ap (byte_order_mark e) h.whole ∙ in_force e source (guarding_lf source h.rest ++ h.rest) ok (λ n. guarding_lf-unmarked source h.rest n)

@@ -39,7 +39,8 @@ by_recursion : (x : List ℕ) → All scalar x → AllByRecursion scalar x
 by_recursion x h = recursion_from_All scalar x h
 
 -- its text is read as the pair
-pair-read_as : (e : Encoding) (first : Bool) (key value : List ℕ) → All scalar key → All scalar value → IsReadAs (pair_text e first key value) (pair key value)
+pair-read_as : (e : Encoding) (first : Bool) (key value : List ℕ) → All scalar key → All scalar value
+    → IsReadAs (pair_text e first key value) (pair key value)
 pair-read_as e first key value h k =
     pair-read (spelt_key e first key) (spelt_text e in_key_or_value value) (equals_sign ∷ []) key value (key-spelt e first key (by_recursion key h))
     (texts-spelt e value (by_recursion value k)) default_settings-good.separator (λ q. refl)
@@ -58,9 +59,11 @@ writable-left : (e : Encoding) (x y : List ℕ) → AreWritable e (x ++ y) → A
 writable-left e x y h = record { scalars = scalars-left x y h.scalars; encodable = encodable-left e x y h.encodable }
 
 -- the line of the pair, as a writer writes it after n lines
-line-text : (e : Encoding) (n : ℕ) (key value : List ℕ) → wrote_text e default_settings n (pair_call key value ∷ []) ≡ pair_text e (n == 0) key value ++ line_feed ∷ []
+line-text : (e : Encoding) (n : ℕ) (key value : List ℕ)
+    → wrote_text e default_settings n (pair_call key value ∷ []) ≡ pair_text e (n == 0) key value ++ line_feed ∷ []
 line-text e n [] value =
-    append-nil (printed_text e default_settings (n == 0) (pair [] value)) ∙ sym (append_assoc (spelt_key e (n == 0) []) (equals_sign ∷ spelt_text e in_key_or_value value) (line_feed ∷ []))
+    append-nil (printed_text e default_settings (n == 0) (pair [] value))
+    ∙ sym (append_assoc (spelt_key e (n == 0) []) (equals_sign ∷ spelt_text e in_key_or_value value) (line_feed ∷ []))
 line-text e n (c ∷ key) value =
     append-nil (printed_text e default_settings (n == 0) (pair (c ∷ key) value))
     ∙ sym (append_assoc (spelt_key e (n == 0) (c ∷ key)) (equals_sign ∷ spelt_text e in_key_or_value value) (line_feed ∷ []))
@@ -103,11 +106,13 @@ pair_line e first key value = record { number = 0; text = pair_text e first key 
 pair-whole : (e : Encoding) (first : Bool) (key value : List ℕ) → All scalar key → All scalar value → IsWhole (pair_line e first key value ∷ [])
 pair-whole e first key value h k = alone-whole (pair_line e first key value) (pair-read_as e first key value h k).alone
 
-pair-outcome : (e : Encoding) (first : Bool) (key value : List ℕ) → All scalar key → All scalar value → outcome_of (joined (pair_line e first key value ∷ [])) ≡ given (pair key value)
+pair-outcome : (e : Encoding) (first : Bool) (key value : List ℕ) → All scalar key → All scalar value
+    → outcome_of (joined (pair_line e first key value ∷ [])) ≡ given (pair key value)
 pair-outcome e first key value h k =
     let r = pair-read_as e first key value h k in ap outcome_of (alone-joined (pair_line e first key value) r.alone) ∙ r.outcome
 
-pair-plain : (e : Encoding) (first : Bool) (key value : List ℕ) → is_editable e ≡ true → All scalar key → All scalar value → HoldsNoLineEnd (pair_bytes e first key value)
+pair-plain : (e : Encoding) (first : Bool) (key value : List ℕ) → is_editable e ≡ true → All scalar key → All scalar value
+    → HoldsNoLineEnd (pair_bytes e first key value)
 pair-plain e first key value ok h k =
     plain-bytes e (pair_bytes e first key value) ok (subst HoldsNoLineEnd (sym (pair-decoded e first key value ok h k)) (pair-read_as e first key value h k).plain)
 

@@ -5,13 +5,15 @@ use Rattle.properties_format.specs.Encoding.{Encoding, byte_order_mark}
 use Rattle.properties_format.specs.Lines.{end}
 use Rattle.properties_format.specs.Entries.{Content, Entry}
 use Rattle.properties_format.specs.Maps.{IsMap}
-use Rattle.properties_format.specs.Edited.{Edit, put, remove, edited, is_editable, HoldsNoMalformed, ItemsAre, IsSetKeyResult, IsRemoveKeyResult, IsEditAllResult, contents, IsSetIn, IsRemovedIn, AreEditedIn, map_edited, map_after, AreScalarEdits, ReadsAfter}
+use Rattle.properties_format.specs.Edited.{Edit, put, remove, edited, is_editable, HoldsNoMalformed, ItemsAre, IsSetKeyResult, IsRemoveKeyResult}
+use Rattle.properties_format.specs.Edited.{IsEditAllResult, contents, IsSetIn, IsRemovedIn, AreEditedIn, map_edited, map_after, AreScalarEdits, ReadsAfter}
 use Rattle.properties_format.proofs.Items.Unique.{items_of-only}
 use Rattle.properties_format.proofs.Edited.Laws.{IsReadable, says, IsReadTo, key_set-says, key_removed-says, edits-say}
 use Rattle.properties_format.proofs.Edited.Maps.{map-edited, map-after}
 
 -- a source that is edited is readable
-readable : (e : Encoding) (source : List ℕ) → is_editable (byte_order_mark e source).encoding ≡ true → ItemsAre e source HoldsNoMalformed → IsReadable e source
+readable : (e : Encoding) (source : List ℕ) → is_editable (byte_order_mark e source).encoding ≡ true → ItemsAre e source HoldsNoMalformed
+    → IsReadable e source
 readable e source ok h = record { editable = ok; no_fault = subst HoldsNoMalformed (items_of-only e source end h.0 h.1) h.2 }
 
 -- what is computed, in the words of what it is
@@ -33,12 +35,14 @@ set_key-reads e source key value result k v h =
     reads-after e source result (IsSetIn key value) (map_edited (put key value)) (key_set-says e source key value result (readable e source h.0 h.1) k v h.2) (map-edited (put key value))
 
 -- The result of removing a key reads as the source without the pairs with that key.
-pub remove_key-reads : (e : Encoding) (source key result : List ℕ) → IsRemoveKeyResult e source key (edited result) → ReadsAfter (IsRemovedIn key) (map_edited (remove key)) e source result
+pub remove_key-reads : (e : Encoding) (source key result : List ℕ) → IsRemoveKeyResult e source key (edited result)
+    → ReadsAfter (IsRemovedIn key) (map_edited (remove key)) e source result
 remove_key-reads e source key result h =
     reads-after e source result (IsRemovedIn key) (map_edited (remove key)) (key_removed-says e source key result (readable e source h.0 h.1) h.2) (map-edited (remove key))
 
 -- The result of edits in turn reads as the source after them.
-pub edit_all-reads : (e : Encoding) (source : List ℕ) (edits : List Edit) (result : List ℕ) → AreScalarEdits edits → IsEditAllResult e source edits (edited result)
+pub edit_all-reads : (e : Encoding) (source : List ℕ) (edits : List Edit) (result : List ℕ) → AreScalarEdits edits
+    → IsEditAllResult e source edits (edited result)
     → ReadsAfter (AreEditedIn edits) (map_after edits) e source result
 edit_all-reads e source edits result k h =
     reads-after e source result (AreEditedIn edits) (map_after edits) (edits-say e source edits result (readable e source h.0 h.1) k h.2) (map-after edits)

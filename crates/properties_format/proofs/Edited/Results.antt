@@ -81,7 +81,8 @@ result-editable e source made ok = cond-true (is_editable (byte_order_mark e sou
 result-unsupported : (e : Encoding) (source made : List ℕ) → is_editable (byte_order_mark e source).encoding ≡ false → result_of e source made ≡ unsupported
 result-unsupported e source made h = cond-false (is_editable (byte_order_mark e source).encoding) (result_by (items_of e source end) made) unsupported h
 
-by-result : (e : Encoding) (source made : List ℕ) (Makes : List ℕ → Type 0) (r : EditResult) → is_editable (byte_order_mark e source).encoding ≡ true → Makes made
+by-result : (e : Encoding) (source made : List ℕ) (Makes : List ℕ → Type 0) (r : EditResult) → is_editable (byte_order_mark e source).encoding ≡ true
+    → Makes made
     → IsBy (items_of e source end) made r → IsEditResult e source Makes r
 by-result e source made Makes (edited result) ok m h = (ok, (items_of e source end, items_of-meets e source end, h.0), subst Makes (sym h.1) m)
 by-result e source made Makes unsupported ok m h = absurd h
@@ -108,9 +109,11 @@ result_of-only e source made Makes (unreadable kind n) one (ok, items) =
 
 -- The result of setting a key is what is computed, and nothing else is.
 pub set_key_result-meets : (e : Encoding) (source key value : List ℕ) → IsSetKeyResult e source key value (set_key_result e source key value)
-set_key_result-meets e source key value = result_of-meets e source (key_set e source key value) (IsKeySet e source key value) (key_set-meets e source key value)
+set_key_result-meets e source key value =
+    result_of-meets e source (key_set e source key value) (IsKeySet e source key value) (key_set-meets e source key value)
 
-pub set_key_result-only : (e : Encoding) (source key value : List ℕ) (r : EditResult) → IsSetKeyResult e source key value r → r ≡ set_key_result e source key value
+pub set_key_result-only : (e : Encoding) (source key value : List ℕ) (r : EditResult) → IsSetKeyResult e source key value r
+    → r ≡ set_key_result e source key value
 set_key_result-only e source key value r h =
     result_of-only e source (key_set e source key value) (IsKeySet e source key value) r (key_set-only e source key value) h
 
@@ -125,5 +128,6 @@ remove_key_result-only e source key r h = result_of-only e source (key_removed e
 pub edit_all_result-meets : (e : Encoding) (source : List ℕ) (edits : List Edit) → IsEditAllResult e source edits (edit_all_result e source edits)
 edit_all_result-meets e source edits = result_of-meets e source (edits_made e source edits) (AreEdited e source edits) (edits_made-meets e source edits)
 
-pub edit_all_result-only : (e : Encoding) (source : List ℕ) (edits : List Edit) (r : EditResult) → IsEditAllResult e source edits r → r ≡ edit_all_result e source edits
+pub edit_all_result-only : (e : Encoding) (source : List ℕ) (edits : List Edit) (r : EditResult) → IsEditAllResult e source edits r
+    → r ≡ edit_all_result e source edits
 edit_all_result-only e source edits r h = result_of-only e source (edits_made e source edits) (AreEdited e source edits) r (edits_made-only e source edits) h

@@ -1,7 +1,8 @@
 -- The other groups of a source stand in the edited one, in order.
 use Rattle.std.proofs.Common.{ℕ, List, [], ◌∷◌, ◌++◌, refl, ap, sym, ◌∙◌, inl, inr, append_assoc, subst}
 use Rattle.properties_format.specs.Encoding.{Encoding}
-use Rattle.properties_format.specs.Edited.{HeldLine, group_bytes, groups_bytes, bom_of, IsKeySet, IsWithout, guarding_lf, IsKeyRemoved, StandIn, AreOthersThanLast, AreOthers, KeepsOthers}
+use Rattle.properties_format.specs.Edited.{HeldLine, group_bytes, groups_bytes, bom_of, IsKeySet, IsWithout, guarding_lf, IsKeyRemoved, StandIn}
+use Rattle.properties_format.specs.Edited.{AreOthersThanLast, AreOthers, KeepsOthers}
 
 -- other bytes before them
 stand-after : (gs : List (List HeldLine)) (x y : List ℕ) → StandIn gs y → StandIn gs (x ++ y)
@@ -23,7 +24,8 @@ stand-alone [] = tt
 stand-alone (g ∷ gs) = ([], groups_bytes gs, refl, stand-alone gs)
 
 -- Where a key is set, every group but the last pair with the key stands as it was.
-pub key_set-keeps : (e : Encoding) (source key value result : List ℕ) → IsKeySet e source key value result → KeepsOthers (AreOthersThanLast key) e source result
+pub key_set-keeps : (e : Encoding) (source key value result : List ℕ) → IsKeySet e source key value result
+    → KeepsOthers (AreOthersThanLast key) e source result
 key_set-keeps e source key value result h = elim h.edited [
   | inl r ↦ (
     h.groups,
@@ -43,7 +45,8 @@ key_set-keeps e source key value result h = elim h.edited [
   )
 ]
 
-others-stand : (key : List ℕ) (gs : List (List HeldLine)) (rest : List ℕ) → IsWithout key gs rest → (others : List (List HeldLine)) × AreOthers key gs others × StandIn others rest
+others-stand : (key : List ℕ) (gs : List (List HeldLine)) (rest : List ℕ) → IsWithout key gs rest
+    → (others : List (List HeldLine)) × AreOthers key gs others × StandIn others rest
 others-stand key [] rest h = ([], refl, tt)
 others-stand key (g ∷ gs) rest (inl h) = let m = others-stand key gs rest h.1 in (m.0, inl (h.0, m.1), m.2)
 others-stand key (g ∷ gs) rest (inr h) = let m = others-stand key gs h.1 h.3 in (g ∷ m.0, inr (h.0, m.0, refl, m.1), ([], h.1, h.2, m.2))

@@ -58,7 +58,8 @@ decoded-more : (e : Encoding) (n : ℕ) (ls : List Ended) (last : List ℕ) → 
 decoded-more e n [] last = refl
 decoded-more e n (l ∷ ls) last = ap (λ v. record { number = 0; text = decoded_line e l.text } ∷ v) (decoded-more e (n + 1) ls last)
 
-decoded-end : (e : Encoding) (n : ℕ) (ls : List Ended) (last : List ℕ) → decoded_each e (numbered n ls last end) ≡ line_texts_in e (record { ended = ls; last = last })
+decoded-end : (e : Encoding) (n : ℕ) (ls : List Ended) (last : List ℕ)
+    → decoded_each e (numbered n ls last end) ≡ line_texts_in e (record { ended = ls; last = last })
 decoded-end e n [] last = refl
 decoded-end e n (l ∷ ls) last = ap (λ v. record { number = 0; text = decoded_line e l.text } ∷ v) (decoded-end e (n + 1) ls last)
 
@@ -67,7 +68,8 @@ unfolding line_texts
 line_texts-numbered e n d = decoded-end e n (lines_of d).ended (lines_of d).last
 
 -- The lines of bytes that end in a line end stand before those of what comes after, less an LF that belongs to a CR.
-pub line_texts-append : (e : Encoding) (x d : List ℕ) → (lines_of x).last ≡ [] → line_texts e (x ++ d) ≡ ended_lines e (lines_of x).ended ++ line_texts e (rest_of_end (ends_in_cr x) d)
+pub line_texts-append : (e : Encoding) (x d : List ℕ) → (lines_of x).last ≡ []
+    → line_texts e (x ++ d) ≡ ended_lines e (lines_of x).ended ++ line_texts e (rest_of_end (ends_in_cr x) d)
 line_texts-append e x d h =
     let ls = lines_of x in
     sym (line_texts-numbered e 0 (x ++ d))
@@ -84,7 +86,8 @@ pub record IsFront (e : Encoding) (x : List ℕ) (g : List Line) : Type 0 where
   pub texts : ended_lines e (lines_of x).ended ≡ g
   pub whole : IsWhole g
 
-front-told : (e : Encoding) (x d : List ℕ) (g : List Line) → IsFront e x g → told e (x ++ d) ≡ told_before (outcome_of (joined g)) (told e (rest_of_end (ends_in_cr x) d))
+front-told : (e : Encoding) (x d : List ℕ) (g : List Line) → IsFront e x g
+    → told e (x ++ d) ≡ told_before (outcome_of (joined g)) (told e (rest_of_end (ends_in_cr x) d))
 unfolding told
 front-told e x d g h =
     ap (λ v. told_by (groups_of v end)) (line_texts-append e x d h.ended ∙ ap (λ v. v ++ line_texts e (rest_of_end (ends_in_cr x) d)) h.texts)

@@ -10,7 +10,8 @@ use Rattle.properties_format.specs.Entries.{comment, pair, Entry, item, malforme
 use Rattle.properties_format.specs.Items.{Outcome, ignored, given, broken}
 use Rattle.properties_format.specs.Reading.Items.{outcome_of, items_of}
 use Rattle.properties_format.specs.Writing.{is_empty}
-use Rattle.properties_format.specs.Edited.{HeldLine, as_lines, ending_bytes, group_bytes, groups_bytes, last_ending, pair_bytes, final_group, parting, bom_of, guarding_lf, Edit, put, remove, EditResult, edited, unsupported, unreadable, is_editable}
+use Rattle.properties_format.specs.Edited.{HeldLine, as_lines, ending_bytes, group_bytes, groups_bytes, last_ending, pair_bytes, final_group, parting, bom_of}
+use Rattle.properties_format.specs.Edited.{guarding_lf, Edit, put, remove, EditResult, edited, unsupported, unreadable, is_editable}
 
 -- ---- the groups
 
