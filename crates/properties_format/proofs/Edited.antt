@@ -11,3 +11,4 @@ pub mod Results
 pub mod Maps
 pub mod Stand
 pub mod Read
+pub mod Numbers

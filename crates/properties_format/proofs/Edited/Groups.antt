@@ -48,11 +48,12 @@ as_lines-append : (a b : List HeldLine) → as_lines (a ++ b) ≡ as_lines a ++ 
 as_lines-append [] b = refl
 as_lines-append (h ∷ a) b = ap (λ v. record { number = 0; text = h.text } ∷ v) (as_lines-append a b)
 
-groups-close : (p : List HeldLine) (h : HeldLine) (hs : List HeldLine) → closes (as_lines p) (record { number = 0; text = h.text }) ≡ true
+-- a line that closes its group, and one that leaves it open
+pub groups-close : (p : List HeldLine) (h : HeldLine) (hs : List HeldLine) → closes (as_lines p) (record { number = 0; text = h.text }) ≡ true
     → held_groups_after p (h ∷ hs) ≡ (p ++ h ∷ []) ∷ held_groups_after [] hs
 groups-close p h hs k = rw (k, held_groups_after) refl
 
-groups-leave : (p : List HeldLine) (h : HeldLine) (hs : List HeldLine) → closes (as_lines p) (record { number = 0; text = h.text }) ≡ false
+pub groups-leave : (p : List HeldLine) (h : HeldLine) (hs : List HeldLine) → closes (as_lines p) (record { number = 0; text = h.text }) ≡ false
     → held_groups_after p (h ∷ hs) ≡ held_groups_after (p ++ h ∷ []) hs
 groups-leave p h hs k = rw (k, held_groups_after) refl
 

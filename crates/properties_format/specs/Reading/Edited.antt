@@ -1,5 +1,5 @@
 -- The edited source, computed group by group.
-use Rattle.std.specs.Prelude.{ℕ, Bool, true, false, if◌then◌else◌, List, [], ◌∷◌, ◌++◌, Option, Some, None, bytes_eq}
+use Rattle.std.specs.Prelude.{ℕ, ◌+◌, length, Bool, true, false, if◌then◌else◌, List, [], ◌∷◌, ◌++◌, Option, Some, None, bytes_eq}
 use Rattle.properties_format.specs.Text.{line_feed}
 use Rattle.properties_format.specs.Encoding.{Encoding, InForce, byte_order_mark}
 use Rattle.properties_format.specs.Lines.{Ended, end}
@@ -8,7 +8,7 @@ use Rattle.properties_format.specs.Groups.{joined}
 use Rattle.properties_format.specs.Reading.Groups.{closes}
 use Rattle.properties_format.specs.Entries.{comment, pair, Entry, item, malformed, read_fault}
 use Rattle.properties_format.specs.Items.{Outcome, ignored, given, broken}
-use Rattle.properties_format.specs.Reading.Items.{outcome_of, items_of}
+use Rattle.properties_format.specs.Reading.Items.{outcome_of, followed, items_of}
 use Rattle.properties_format.specs.Writing.{is_empty}
 use Rattle.properties_format.specs.Edited.{HeldLine, as_lines, ending_bytes, group_bytes, groups_bytes, last_ending, pair_bytes, final_group, parting, bom_of}
 use Rattle.properties_format.specs.Edited.{guarding_lf, Edit, put, remove, EditResult, edited, unsupported, unreadable, is_editable}
@@ -130,3 +130,10 @@ remove_key_result e source key = result_of e source (key_removed e source key)
 
 abbrev pub edit_all_result : Encoding → List ℕ → List Edit → EditResult
 edit_all_result e source edits = result_of e source (edits_made e source edits)
+
+-- ---- the items of a body's groups
+
+-- what the groups say, each under the number of its first line, from this number on
+abbrev pub entries_in : ℕ → List (List HeldLine) → List Entry
+entries_in n [] = []
+entries_in n (g ∷ gs) = followed n (outcome_of (joined (as_lines g))) (entries_in (n + length g) gs)
