@@ -27,7 +27,7 @@ use Rattle.properties_format.specs.Reading.Cut.{decoded_line}
 use Rattle.properties_format.proofs.Edited.Decoded.{decoded-nil}
 use Rattle.properties_format.proofs.Edited.Told.{told_before, told_by, ended_lines, line_texts_in, line_texts, outcome-empty, told, IsFront, told-front}
 use Rattle.properties_format.proofs.Edited.Told.{told-lf, told-nil, told-one}
-use Rattle.properties_format.proofs.Edited.Items.{givens}
+use Rattle.properties_format.proofs.Edited.Told.{givens}
 use Rattle.properties_format.proofs.Edited.Groups.{EndsOpen, IsLastFit, IsHeldFront, IsHeldLast, AreHeldGroups}
 use Rattle.properties_format.proofs.Edited.Marks.{empty-last}
 use Rattle.properties_format.proofs.Edited.Pair.{told-pair, told-last_pair}

@@ -5,12 +5,12 @@ use Rattle.properties_format.specs.Encoding.{Encoding, windows_1252, utf_8, utf_
 use Rattle.properties_format.specs.Lines.{Lines, HoldsNoLineEnd, IsLines}
 use Rattle.properties_format.specs.Reading.Lines.{lines_of}
 use Rattle.properties_format.specs.Cut.{HoldsNoLineEndUnit, IsCut}
-use Rattle.properties_format.specs.Reading.Cut.{cut_of, decoded_line, decoded_lines}
+use Rattle.properties_format.specs.Reading.Cut.{cut_of, decoded_line}
 use Rattle.properties_format.specs.Edited.{is_editable}
 use Rattle.properties_format.proofs.Encodings.Pieces.{pieces_of-nil}
 use Rattle.properties_format.proofs.Lines.Meets.{lines_of-meets}
 use Rattle.properties_format.proofs.Cut.Only.{cut_of-only}
-use Rattle.properties_format.proofs.Cut.Byline.{decoded_lines-cut, no_end-undecoded}
+use Rattle.properties_format.proofs.Cut.Byline.{no_end-undecoded}
 
 -- no bytes are no text
 pub decoded-nil : (e : Encoding) → decoded_line e [] ≡ []
@@ -33,9 +33,6 @@ cut_of-lines utf_8 d ok = refl
 cut_of-lines utf_16le d ok = absurd (cc)
 cut_of-lines utf_16be d ok = absurd (cc)
 
--- The lines of a body's text are the lines of its bytes, decoded one by one.
-pub lines_of-decoded : (e : Encoding) (d : List ℕ) → is_editable e ≡ true → lines_of (decoded_line e d) ≡ decoded_lines e (lines_of d)
-lines_of-decoded e d ok = sym (decoded_lines-cut e d) ∙ ap (decoded_lines e) (cut_of-lines e d ok)
-
+-- Lines of undecoded bytes are lines of a text of these numbers.
 pub IsCut-lines : (e : Encoding) (d : List ℕ) (lines : Lines) → is_editable e ≡ true → IsCut e d lines → IsLines d lines
 IsCut-lines e d lines ok h = subst (IsLines d) (sym (cut_of-only e d lines h ∙ cut_of-lines e d ok)) (lines_of-meets d)

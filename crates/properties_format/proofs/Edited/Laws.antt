@@ -10,10 +10,11 @@ use Rattle.properties_format.specs.Edited.{HeldLine, as_groups, AreGroupsOf, gro
 use Rattle.properties_format.specs.Edited.{IsEdited, AreEdited, is_editable, HoldsNoMalformed, contents, IsSetIn, IsRemovedIn, IsEditedIn, AreEditedIn}
 use Rattle.properties_format.specs.Edited.{IsScalarEdit, AreScalarEdits}
 use Rattle.properties_format.proofs.Edited.Told.{told_by, told}
-use Rattle.properties_format.proofs.Edited.Items.{givens, items-told, told-items}
+use Rattle.properties_format.proofs.Edited.Told.{givens}
+use Rattle.properties_format.proofs.Edited.Items.{items-told, told-items}
 use Rattle.properties_format.proofs.Edited.Groups.{held-groups, held-body}
 use Rattle.properties_format.proofs.Edited.Marks.{source-whole, key_set-in_force, key_removed-in_force}
-use Rattle.properties_format.proofs.Edited.Contents.{told-groups, ends-right, ComesTo, replaced-told, appended-told, removed-told}
+use Rattle.properties_format.proofs.Edited.Contents.{ends-right, ComesTo, replaced-told, appended-told, removed-told}
 
 -- ---- what a source is read to
 
@@ -43,13 +44,8 @@ read-to e result f Such ok same c =
 
 -- the groups of a readable source come to what it says
 groups-say : (e : Encoding) (source : List ℕ) (gs : List (List HeldLine)) → IsReadable e source
-    → AreGroupsOf (byte_order_mark e source).encoding (byte_order_mark e source).body gs
-    → told_by (as_groups gs) ≡ givens (says e source)
-groups-say e source gs r h =
-    let f = byte_order_mark e source in
-    sym (told-groups f.encoding gs (held-groups f.encoding f.body gs r.editable h))
-    ∙ ap (told f.encoding) (held-body f.encoding f.body gs r.editable h)
-    ∙ items-told e source r.editable r.no_fault
+    → AreGroupsOf (byte_order_mark e source).encoding (byte_order_mark e source).body gs → told_by (as_groups gs) ≡ givens (says e source)
+groups-say e source gs r h = items-told e source gs h r.no_fault
 
 -- a CR at the end of the body is at the end of the source
 ends-alike : (e : Encoding) (source : List ℕ) (gs : List (List HeldLine)) → IsReadable e source

@@ -1,8 +1,8 @@
 -- The items of a source are what the groups of its body say, each under the number of its first line.
-use Rattle.std.proofs.Common.{◌≡◌, ℕ, suc, ◌+◌, true, false, List, [], ◌∷◌, ◌++◌, length, refl, ap, ap₂, sym, ◌∙◌, inl, inr, arith}
+use Rattle.std.proofs.Common.{◌≡◌, ℕ, ◌+◌, List, [], ◌∷◌, ◌++◌, length, refl, ap, ap₂, sym, ◌∙◌, inl, inr, arith}
 use Rattle.std.proofs.lemmas.Bool.{cases_Bool}
 use Rattle.properties_format.specs.Encoding.{Encoding, byte_order_mark}
-use Rattle.properties_format.specs.Lines.{Ended, Lines, end, Line, numbered, numbered_lines, line_ends}
+use Rattle.properties_format.specs.Lines.{Ended, end, Line, numbered, line_ends}
 use Rattle.properties_format.specs.Reading.Cut.{cut_of, decoded_line, decoded_ended, decoded_lines}
 use Rattle.properties_format.specs.Groups.{joined_after, joined, first_number}
 use Rattle.properties_format.specs.Reading.Groups.{closes, groups_after, groups_of}

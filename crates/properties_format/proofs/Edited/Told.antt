@@ -7,6 +7,7 @@ use Rattle.properties_format.specs.Lines.{Ended, Lines, end, more, Line, numbere
 use Rattle.properties_format.specs.Reading.Lines.{lines_of, ends_in_cr, rest_of_end, lines_to_come}
 use Rattle.properties_format.specs.Groups.{IsWhole, joined}
 use Rattle.properties_format.specs.Reading.Groups.{groups_of}
+use Rattle.properties_format.specs.Entries.{Content}
 use Rattle.properties_format.specs.Items.{Outcome, ignored, given, broken}
 use Rattle.properties_format.specs.Reading.Items.{outcome_of, split_outcome}
 use Rattle.properties_format.proofs.Lines.Append.{lines_to_come-append}
@@ -27,6 +28,11 @@ told_before (broken kind) os = broken kind ∷ os
 abbrev pub told_by : List (List Line) → List Outcome
 told_by [] = []
 told_by (g ∷ gs) = told_before (outcome_of (joined g)) (told_by gs)
+
+-- contents, and no fault among them
+abbrev pub givens : List Content → List Outcome
+givens [] = []
+givens (c ∷ cs) = given c ∷ givens cs
 
 -- ---- the lines of some bytes, each decoded by itself
 
