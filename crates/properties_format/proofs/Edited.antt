@@ -12,3 +12,4 @@ pub mod Laws
 pub mod Maps
 pub mod Stand
 pub mod Read
+pub mod Steps

@@ -65,13 +65,13 @@ last_place-meets : (key : List ℕ) (gs : List (List HeldLine)) → IsPlace key 
 last_place-meets key [] = tt
 last_place-meets key (g ∷ gs) = place-meets key g gs (last_place key gs) (last_place-meets key gs)
 
-last_place-none : (key : List ℕ) (gs : List (List HeldLine)) → NoneHasKey key gs → last_place key gs ≡ None
+pub last_place-none : (key : List ℕ) (gs : List (List HeldLine)) → NoneHasKey key gs → last_place key gs ≡ None
 last_place-none key [] h = refl
 last_place-none key (g ∷ gs) h =
     ap (place_after key g gs) (last_place-none key gs h.1)
     ∙ cond-false (has_key key g) (Some (record { before = []; group = g; after = gs })) None (no_key-test key g h.0)
 
-last_place-some : (key : List ℕ) (before : List (List HeldLine)) (g : List HeldLine) (after : List (List HeldLine)) → HasKey key g → NoneHasKey key after
+pub last_place-some : (key : List ℕ) (before : List (List HeldLine)) (g : List HeldLine) (after : List (List HeldLine)) → HasKey key g → NoneHasKey key after
     → last_place key (before ++ g ∷ after) ≡ Some (record { before = before; group = g; after = after })
 last_place-some key [] g after h k =
     ap (place_after key g after) (last_place-none key after k)
