@@ -1,85 +1,17 @@
 -- A source with a key set or removed: which of its bytes are replaced or left out, which are added, and which stand as they were.
--- Source: java.util.Properties of Java SE 7, load (natural lines make up a logical line, and a later pair takes the place of an earlier one) and store (how a pair is written).
-use Rattle.std.specs.Prelude.{◌≡◌, ◌≢◌, ◌⊎◌, All, bytes_eq, ℕ, ◌&&◌, not, Bool, true, false, if◌then◌else◌, List, [], ◌∷◌, ◌++◌, Option, Some, None}
-use Rattle.properties_format.specs.Text.{scalar, line_feed, equals_sign, LineEnding, lf, cr, line_ending_text}
-use Rattle.properties_format.specs.Encoding.{Encoding, windows_1252, utf_8, utf_16le, utf_16be, byte_order_mark, begins_with, begins_like_bom, utf_8_bom}
-use Rattle.properties_format.specs.Encoding.{utf_16be_bom, utf_16le_bom}
-use Rattle.properties_format.specs.Lines.{Ended, Lines, end, Line}
-use Rattle.properties_format.specs.Cut.{IsCut, IsDecodedLine}
-use Rattle.properties_format.specs.Groups.{is_open, is_comment_line, IsGroups, joined}
+-- Source: java.util.Properties of Java SE 7, load (a later pair takes the place of an earlier one) and store (how a pair is written).
+use Rattle.std.specs.Prelude.{◌≡◌, ◌⊎◌, All, ℕ, ◌&&◌, not, Bool, true, false, if◌then◌else◌, List, [], ◌∷◌, ◌++◌}
+use Rattle.properties_format.specs.Text.{scalar, line_feed, equals_sign, lf, cr, line_ending_text}
+use Rattle.properties_format.specs.Encoding.{Encoding, windows_1252, utf_8, utf_16le, utf_16be, byte_order_mark, begins_with, begins_like_bom, utf_8_bom, utf_16be_bom, utf_16le_bom}
+use Rattle.properties_format.specs.Lines.{end}
+use Rattle.properties_format.specs.Groups.{is_open, is_comment_line}
 use Rattle.properties_format.specs.Reading.Lines.{ends_in_cr}
 use Rattle.properties_format.specs.Escapes.{Malformed}
-use Rattle.properties_format.specs.Entries.{Content, comment, pair, Entry, item, malformed, read_fault}
-use Rattle.properties_format.specs.Items.{given, IsOutcome, IsItems}
+use Rattle.properties_format.specs.Entries.{Entry, item, malformed, read_fault}
+use Rattle.properties_format.specs.Items.{IsItems}
 use Rattle.properties_format.specs.Printing.{in_key_or_value, spelt_text, encoded_text, spelt_key}
 use Rattle.properties_format.specs.Writing.{is_empty}
-use Rattle.properties_format.specs.Maps.{IsMap}
-
--- ---- The groups of a body, as spans of its bytes.
-
--- a natural line as a body holds it: its bytes, the text that they are decoded to, and its line ending, of which the last line has none
-pub record HeldLine : Type 0 where
-  pub bytes : List ℕ
-  pub text : List ℕ
-  pub ending : Option LineEnding
-
--- these are the lines of bytes in order, each decoded by itself
-abbrev pub AreHeld : Encoding → List Ended → List ℕ → List HeldLine → Type 0
-AreHeld e [] last held = (text : List ℕ) × IsDecodedLine e last text × (held ≡ record { bytes = last; text = text; ending = None } ∷ [])
-AreHeld e (l ∷ ls) last held =
-    (text : List ℕ) × (rest : List HeldLine) × IsDecodedLine e l.text text
-    × (held ≡ record { bytes = l.text; text = text; ending = Some l.by } ∷ rest)
-    × AreHeld e ls last rest
-
--- the texts of the lines. A group does not hang on the numbers of its lines, and so all are 0 here
-abbrev pub as_lines : List HeldLine → List Line
-as_lines [] = []
-as_lines (h ∷ hs) = record { number = 0; text = h.text } ∷ as_lines hs
-
-abbrev pub as_groups : List (List HeldLine) → List (List Line)
-as_groups [] = []
-as_groups (g ∷ gs) = as_lines g ∷ as_groups gs
-
--- the lines of the groups
-abbrev pub held_in : List (List HeldLine) → List HeldLine
-held_in [] = []
-held_in (g ∷ gs) = g ++ held_in gs
-
--- The body has these groups: its lines of bytes, decoded one by one, and divided as the lines of a text are.
-pub record AreGroupsOf (e : Encoding) (body : List ℕ) (groups : List (List HeldLine)) : Type 0 where
-  pub cut : Lines
-  pub is_cut : IsCut e body cut
-  pub are_held : AreHeld e cut.ended cut.last (held_in groups)
-  pub grouped : IsGroups (as_lines (held_in groups)) end (as_groups groups)
-
--- the bytes of a line ending, where there is one
-abbrev pub ending_bytes : Option LineEnding → List ℕ
-ending_bytes None = []
-ending_bytes (Some by) = line_ending_text by
-
--- the bytes of a group: its lines with their line endings
-abbrev pub group_bytes : List HeldLine → List ℕ
-group_bytes [] = []
-group_bytes (h ∷ hs) = h.bytes ++ (ending_bytes h.ending ++ group_bytes hs)
-
-abbrev pub groups_bytes : List (List HeldLine) → List ℕ
-groups_bytes [] = []
-groups_bytes (g ∷ gs) = group_bytes g ++ groups_bytes gs
-
--- the line ending of a group's last line
-abbrev pub last_ending : List HeldLine → Option LineEnding
-last_ending [] = None
-last_ending (h ∷ []) = h.ending
-last_ending (h ∷ i ∷ hs) = last_ending (i ∷ hs)
-
--- The group is a pair with this key.
-abbrev pub HasKey : List ℕ → List HeldLine → Type 0
-HasKey key group = (value : List ℕ) × IsOutcome (joined (as_lines group)) (given (pair key value))
-
--- none of the groups is one
-abbrev pub NoneHasKey : List ℕ → List (List HeldLine) → Type 0
-NoneHasKey key [] = Unit {0}
-NoneHasKey key (g ∷ gs) = ¬ (HasKey key g) × NoneHasKey key gs
+use Rattle.properties_format.specs.Body.{AreGroupsOf, HasKey, HeldLine, NoneHasKey, ending_bytes, group_bytes, groups_bytes, last_ending}
 
 -- ---- A key is set.
 
@@ -183,6 +115,15 @@ abbrev pub AreEdited : Encoding → List ℕ → List Edit → List ℕ → Type
 AreEdited e source [] result = result ≡ source
 AreEdited e source (edit ∷ edits) result = (next : List ℕ) × IsEdited e source edit next × AreEdited e next edits result
 
+-- the texts of an edit are of scalar values
+abbrev pub IsScalarEdit : Edit → Type 0
+IsScalarEdit (put key value) = All scalar key × All scalar value
+IsScalarEdit (remove key) = All scalar key
+
+abbrev pub AreScalarEdits : List Edit → Type 0
+AreScalarEdits [] = Unit {0}
+AreScalarEdits (edit ∷ edits) = IsScalarEdit edit × AreScalarEdits edits
+
 -- ---- Which sources are edited.
 
 -- What an editor returns: the edited bytes; that the encoding in force is not one that it writes; or the first fault of the source, with its line.
@@ -216,122 +157,18 @@ IsFirstMalformed kind n (read_fault m ∷ entries) = IsFirstMalformed kind n ent
 abbrev pub ItemsAre : Encoding → List ℕ → (List Entry → Type 0) → Type 0
 ItemsAre e source Such = (entries : List Entry) × IsItems e source end entries × Such entries
 
--- The answer of an edit that makes these results of the source: whether the encoding can be edited comes first, and then the source's first fault.
+-- The result of an edit that makes such bytes of the source: whether the encoding can be edited comes first, and then the source's first fault.
 abbrev pub IsEditResult : Encoding → List ℕ → (List ℕ → Type 0) → EditResult → Type 0
 IsEditResult e source Makes unsupported = is_editable (byte_order_mark e source).encoding ≡ false
 IsEditResult e source Makes (unreadable kind n) = (is_editable (byte_order_mark e source).encoding ≡ true) × ItemsAre e source (IsFirstMalformed kind n)
 IsEditResult e source Makes (edited result) = (is_editable (byte_order_mark e source).encoding ≡ true) × ItemsAre e source HoldsNoMalformed × Makes result
 
--- the answers of the three editors
+-- the results of the three editors
 abbrev pub IsSetKeyResult : Encoding → List ℕ → List ℕ → List ℕ → EditResult → Type 0
-IsSetKeyResult e source key value answer = IsEditResult e source (IsKeySet e source key value) answer
+IsSetKeyResult e source key value result = IsEditResult e source (IsKeySet e source key value) result
 
 abbrev pub IsRemoveKeyResult : Encoding → List ℕ → List ℕ → EditResult → Type 0
-IsRemoveKeyResult e source key answer = IsEditResult e source (IsKeyRemoved e source key) answer
+IsRemoveKeyResult e source key result = IsEditResult e source (IsKeyRemoved e source key) result
 
 abbrev pub IsEditAllResult : Encoding → List ℕ → List Edit → EditResult → Type 0
-IsEditAllResult e source edits answer = IsEditResult e source (AreEdited e source edits) answer
-
--- ---- What an edit does to what a source says.
-
--- what the items say, in order
-abbrev pub contents : List Entry → List Content
-contents [] = []
-contents (item n content ∷ entries) = content ∷ contents entries
-contents (malformed kind n ∷ entries) = contents entries
-contents (read_fault n ∷ entries) = contents entries
-
--- none of these is a pair with the key
-abbrev pub HoldNoPair : List ℕ → List Content → Type 0
-HoldNoPair key [] = Unit {0}
-HoldNoPair key (comment text ∷ cs) = HoldNoPair key cs
-HoldNoPair key (pair k v ∷ cs) = (k ≢ key) × HoldNoPair key cs
-
--- The last pair with the key has this value instead of its old one, and all else is the same.
-pub record IsLastChanged (key value : List ℕ) (old new : List Content) : Type 0 where
-  pub before : List Content
-  pub old_value : List ℕ
-  pub after : List Content
-  pub was : old ≡ before ++ pair key old_value ∷ after
-  pub no_later : HoldNoPair key after
-  pub now : new ≡ before ++ pair key value ∷ after
-
--- The key is set: its last pair is changed, or where it has none there is a new last pair.
-abbrev pub IsSetIn : List ℕ → List ℕ → List Content → List Content → Type 0
-IsSetIn key value old new = IsLastChanged key value old new ⊎ HoldNoPair key old × (new ≡ old ++ pair key value ∷ [])
-
--- The key is removed: its pairs are left out, and all else is the same.
-abbrev pub IsRemovedIn : List ℕ → List Content → List Content → Type 0
-IsRemovedIn key [] new = new ≡ []
-IsRemovedIn key (comment text ∷ cs) new = (more : List Content) × (new ≡ comment text ∷ more) × IsRemovedIn key cs more
-IsRemovedIn key (pair k v ∷ cs) new =
-    (k ≡ key) × IsRemovedIn key cs new ⊎ (k ≢ key) × (more : List Content) × (new ≡ pair k v ∷ more) × IsRemovedIn key cs more
-
--- an edit, and edits in turn
-abbrev pub IsEditedIn : Edit → List Content → List Content → Type 0
-IsEditedIn (put key value) old new = IsSetIn key value old new
-IsEditedIn (remove key) old new = IsRemovedIn key old new
-
-abbrev pub AreEditedIn : List Edit → List Content → List Content → Type 0
-AreEditedIn [] old new = new ≡ old
-AreEditedIn (edit ∷ edits) old new = (next : List Content) × IsEditedIn edit old next × AreEditedIn edits next new
-
--- ---- and to its map
-
--- the map with a key set or removed
-abbrev pub map_edited : Edit → (List ℕ → Option (List ℕ)) → List ℕ → Option (List ℕ)
-map_edited (put key value) value_at k = if bytes_eq k key then Some value else value_at k
-map_edited (remove key) value_at k = if bytes_eq k key then None else value_at k
-
--- and after edits in turn
-abbrev pub map_after : List Edit → (List ℕ → Option (List ℕ)) → List ℕ → Option (List ℕ)
-map_after [] value_at k = value_at k
-map_after (edit ∷ edits) value_at k = map_after edits (map_edited edit value_at) k
-
--- the texts of an edit are of scalar values
-abbrev pub IsScalarEdit : Edit → Type 0
-IsScalarEdit (put key value) = All scalar key × All scalar value
-IsScalarEdit (remove key) = All scalar key
-
-abbrev pub AreScalarEdits : List Edit → Type 0
-AreScalarEdits [] = Unit {0}
-AreScalarEdits (edit ∷ edits) = IsScalarEdit edit × AreScalarEdits edits
-
--- ---- What is promised of a result.
-
--- Read as entries, a result has no malformed one, says what was said before with this edit, and has the map that was with this change.
-pub record IsReadAfter (IsEdit : List Content → List Content → Type 0) (change : (List ℕ → Option (List ℕ)) → List ℕ → Option (List ℕ)) (old new : List Entry) : Type 0 where
-  pub readable : HoldsNoMalformed new
-  pub said : IsEdit (contents old) (contents new)
-  pub mapped : (value_at : List ℕ → Option (List ℕ)) → IsMap old value_at → IsMap new (change value_at)
-
--- read in the same encoding, the result is so to the source
-abbrev pub ReadsAfter :
-    (List Content → List Content → Type 0) → ((List ℕ → Option (List ℕ)) → List ℕ → Option (List ℕ)) → Encoding → List ℕ → List ℕ → Type 0
-ReadsAfter IsEdit change e source result = (old new : List Entry) → IsItems e source end old → IsItems e result end new → IsReadAfter IsEdit change old new
-
--- the bytes of these groups stand here in order, with other bytes between them or none
-abbrev pub StandIn : List (List HeldLine) → List ℕ → Type 0
-StandIn [] bytes = Unit {0}
-StandIn (g ∷ gs) bytes = (front : List ℕ) × (back : List ℕ) × (bytes ≡ front ++ (group_bytes g ++ back)) × StandIn gs back
-
--- the groups other than the last pair with the key
-abbrev pub AreOthersThanLast : List ℕ → List (List HeldLine) → List (List HeldLine) → Type 0
-AreOthersThanLast key groups others =
-    NoneHasKey key groups × (others ≡ groups)
-    ⊎ (before : List (List HeldLine)) × (group : List HeldLine) × (after : List (List HeldLine)) × (groups ≡ before ++ group ∷ after) × HasKey key group
-    × NoneHasKey key after
-    × (others ≡ before ++ after)
-
--- the groups other than the pairs with the key
-abbrev pub AreOthers : List ℕ → List (List HeldLine) → List (List HeldLine) → Type 0
-AreOthers key [] others = others ≡ []
-AreOthers key (g ∷ gs) others =
-    HasKey key g × AreOthers key gs others ⊎ ¬ (HasKey key g) × (more : List (List HeldLine)) × (others ≡ g ∷ more) × AreOthers key gs more
-
--- such groups of the source stand in the result
-abbrev pub KeepsOthers : (List (List HeldLine) → List (List HeldLine) → Type 0) → Encoding → List ℕ → List ℕ → Type 0
-KeepsOthers Others e source result =
-    (groups : List (List HeldLine)) × (others : List (List HeldLine)) × AreGroupsOf (byte_order_mark e source).encoding (byte_order_mark e source).body groups
-    × Others groups others
-    × StandIn others result
+IsEditAllResult e source edits result = IsEditResult e source (AreEdited e source edits) result

@@ -11,4 +11,5 @@ pub mod Escapes
 pub mod Items
 pub mod Settings
 pub mod Maps
+pub mod Body
 pub mod Edited

@@ -12,9 +12,10 @@ use Rattle.properties_format.specs.Entries.{Content, comment, pair}
 use Rattle.properties_format.specs.Items.{Outcome, ignored, given, broken}
 use Rattle.properties_format.specs.Reading.Items.{outcome_of}
 use Rattle.properties_format.specs.Writing.{is_empty}
-use Rattle.properties_format.specs.Edited.{HeldLine, as_lines, as_groups, ending_bytes, group_bytes, groups_bytes, last_ending, HasKey, NoneHasKey}
+use Rattle.properties_format.specs.Body.{HeldLine, as_lines, as_groups, ending_bytes, group_bytes, groups_bytes, last_ending, HasKey, NoneHasKey}
 use Rattle.properties_format.specs.Edited.{pair_bytes, IsReplaced, IsAppended, final_group, is_empty_line, is_last_open, is_left_open, added_ending, parting}
-use Rattle.properties_format.specs.Edited.{IsWithout, guarding_lf, is_editable, HoldNoPair, IsSetIn, IsRemovedIn}
+use Rattle.properties_format.specs.Edited.{IsWithout, guarding_lf, is_editable}
+use Rattle.properties_format.specs.Changed.{HoldNoPair, IsSetIn, IsRemovedIn}
 use Rattle.properties_format.proofs.Lines.Plain.{ends_in_cr-append, last-plain}
 use Rattle.properties_format.proofs.Lines.Steps.{lines_of-line}
 use Rattle.properties_format.proofs.Lines.Cut.{PartsNoEnd, lines_on, lines_of-append}

@@ -11,9 +11,9 @@ use Rattle.properties_format.specs.Reading.Lines.{lines_of}
 use Rattle.properties_format.specs.Cut.{IsDecodedLine}
 use Rattle.properties_format.specs.Groups.{IsWhole, AreWhole, IsUnfinished, last_group}
 use Rattle.properties_format.specs.Reading.Groups.{closes, groups_after, groups_of}
-use Rattle.properties_format.specs.Edited.{HeldLine, AreHeld, as_lines, as_groups, held_in, AreGroupsOf, ending_bytes, group_bytes, groups_bytes, last_ending}
+use Rattle.properties_format.specs.Body.{HeldLine, AreHeld, as_lines, as_groups, held_in, AreGroupsOf, ending_bytes, group_bytes, groups_bytes, last_ending}
 use Rattle.properties_format.specs.Edited.{is_editable}
-use Rattle.properties_format.specs.Reading.Edited.{held_of, held_lines_of, held_groups_after, held_groups_of}
+use Rattle.properties_format.specs.Reading.Body.{held_of, held_lines_of, held_groups_after, held_groups_of}
 use Rattle.properties_format.proofs.Encodings.Pieces.{pieces_of-meets, pieces_of-only}
 use Rattle.properties_format.proofs.Lines.Only.{lines_of-together}
 use Rattle.properties_format.proofs.Groups.Steps.{groups_after-close, groups_after-leave}

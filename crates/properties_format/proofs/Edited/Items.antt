@@ -6,8 +6,10 @@ use Rattle.properties_format.specs.Groups.{joined}
 use Rattle.properties_format.specs.Entries.{Content, Entry}
 use Rattle.properties_format.specs.Items.{Outcome, ignored, given, broken}
 use Rattle.properties_format.specs.Reading.Items.{outcome_of, followed, items_of}
-use Rattle.properties_format.specs.Edited.{HeldLine, as_lines, as_groups, AreGroupsOf, is_editable, HoldsNoMalformed, contents}
-use Rattle.properties_format.specs.Reading.Edited.{held_groups_of, entries_in}
+use Rattle.properties_format.specs.Body.{HeldLine, as_lines, as_groups, AreGroupsOf}
+use Rattle.properties_format.specs.Edited.{is_editable, HoldsNoMalformed}
+use Rattle.properties_format.specs.Changed.{contents}
+use Rattle.properties_format.specs.Reading.Body.{held_groups_of, entries_in}
 use Rattle.properties_format.proofs.Edited.Told.{told_before, told_by, told, givens}
 use Rattle.properties_format.proofs.Edited.Groups.{held_groups_of-meets, held_groups_of-only, held-groups, held-body}
 use Rattle.properties_format.proofs.Edited.Contents.{told-groups}

@@ -6,8 +6,10 @@ use Rattle.properties_format.specs.Lines.{end}
 use Rattle.properties_format.specs.Reading.Lines.{ends_in_cr}
 use Rattle.properties_format.specs.Entries.{Content}
 use Rattle.properties_format.specs.Reading.Items.{items_of}
-use Rattle.properties_format.specs.Edited.{HeldLine, as_groups, AreGroupsOf, groups_bytes, bom_of, IsKeySet, guarding_lf, IsKeyRemoved, Edit, put, remove}
-use Rattle.properties_format.specs.Edited.{IsEdited, AreEdited, is_editable, HoldsNoMalformed, contents, IsSetIn, IsRemovedIn, IsEditedIn, AreEditedIn}
+use Rattle.properties_format.specs.Body.{HeldLine, as_groups, AreGroupsOf, groups_bytes}
+use Rattle.properties_format.specs.Edited.{bom_of, IsKeySet, guarding_lf, IsKeyRemoved, Edit, put, remove}
+use Rattle.properties_format.specs.Edited.{IsEdited, AreEdited, is_editable, HoldsNoMalformed}
+use Rattle.properties_format.specs.Changed.{contents, IsSetIn, IsRemovedIn, IsEditedIn, AreEditedIn}
 use Rattle.properties_format.specs.Edited.{IsScalarEdit, AreScalarEdits}
 use Rattle.properties_format.proofs.Edited.Told.{told_by, told}
 use Rattle.properties_format.proofs.Edited.Told.{givens}

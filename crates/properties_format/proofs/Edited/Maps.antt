@@ -6,8 +6,9 @@ use Rattle.std.proofs.lemmas.Slice.Eq.{bytes_eq-Decides}
 use Rattle.properties_format.specs.Entries.{Content, comment, pair, Entry, item, malformed, read_fault}
 use Rattle.properties_format.specs.Maps.{IsValue, IsMap}
 use Rattle.properties_format.specs.Reading.Maps.{first_value, value_in}
-use Rattle.properties_format.specs.Edited.{Edit, put, remove, contents, HoldNoPair, IsLastChanged, IsSetIn, IsRemovedIn, IsEditedIn, AreEditedIn, map_edited}
-use Rattle.properties_format.specs.Edited.{map_after}
+use Rattle.properties_format.specs.Edited.{Edit, put, remove}
+use Rattle.properties_format.specs.Changed.{contents, HoldNoPair, IsLastChanged, IsSetIn, IsRemovedIn, IsEditedIn, AreEditedIn, map_edited}
+use Rattle.properties_format.specs.Changed.{map_after}
 use Rattle.properties_format.proofs.Maps.{value_in-meets, map-only}
 
 -- ---- the value of a key among contents

@@ -9,7 +9,8 @@ use Rattle.properties_format.specs.Encoding.{utf_16be_bom, utf_16le_bom}
 use Rattle.properties_format.specs.Reading.Lines.{ends_in_cr}
 use Rattle.properties_format.specs.Printing.{in_key_or_value, spelt_text, encoded_text, spelt_key}
 use Rattle.properties_format.specs.Writing.{is_empty}
-use Rattle.properties_format.specs.Edited.{HeldLine, AreGroupsOf, ending_bytes, group_bytes, groups_bytes, last_ending, pair_bytes, IsReplaced, IsAppended}
+use Rattle.properties_format.specs.Body.{HeldLine, AreGroupsOf, ending_bytes, group_bytes, groups_bytes, last_ending}
+use Rattle.properties_format.specs.Edited.{pair_bytes, IsReplaced, IsAppended}
 use Rattle.properties_format.specs.Edited.{final_group, is_empty_line, is_left_open, added_ending, parting, bom_of, IsKeySet, guarding_lf, IsKeyRemoved}
 use Rattle.properties_format.specs.Edited.{is_editable}
 use Rattle.properties_format.proofs.Encodings.ByteOrderMarks.{byte_order_mark-none}

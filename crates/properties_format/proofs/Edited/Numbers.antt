@@ -8,8 +8,8 @@ use Rattle.properties_format.specs.Groups.{joined_after, joined, first_number}
 use Rattle.properties_format.specs.Reading.Groups.{closes, groups_after, groups_of}
 use Rattle.properties_format.specs.Entries.{Entry}
 use Rattle.properties_format.specs.Reading.Items.{outcome_of, followed, entries_of, items_of_lines, items_of}
-use Rattle.properties_format.specs.Edited.{HeldLine, as_lines}
-use Rattle.properties_format.specs.Reading.Edited.{held_of, held_lines_of, held_groups_after, held_groups_of, entries_in}
+use Rattle.properties_format.specs.Body.{HeldLine, as_lines}
+use Rattle.properties_format.specs.Reading.Body.{held_of, held_lines_of, held_groups_after, held_groups_of, entries_in}
 use Rattle.properties_format.proofs.Lines.Plain.{one-more}
 use Rattle.properties_format.proofs.Groups.Steps.{groups_after-close, groups_after-leave}
 use Rattle.properties_format.proofs.Cut.Byline.{decoded_lines-cut}

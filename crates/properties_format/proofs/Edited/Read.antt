@@ -9,7 +9,8 @@ use Rattle.properties_format.specs.Reading.Items.{items_of}
 use Rattle.properties_format.specs.Maps.{IsMap}
 use Rattle.properties_format.specs.Edited.{Edit, put, remove, edited, is_editable, HoldsNoMalformed, ItemsAre, IsSetKeyResult, IsRemoveKeyResult}
 use Rattle.properties_format.specs.Edited.{EditResult, unsupported, unreadable, IsFirstMalformed, IsEditResult, IsEdited, IsScalarEdit}
-use Rattle.properties_format.specs.Edited.{IsEditAllResult, contents, IsSetIn, IsRemovedIn, AreEditedIn, map_edited, map_after, AreScalarEdits, ReadsAfter}
+use Rattle.properties_format.specs.Edited.{IsEditAllResult, AreScalarEdits}
+use Rattle.properties_format.specs.Changed.{contents, IsSetIn, IsRemovedIn, AreEditedIn, map_edited, map_after, ReadsAfter}
 use Rattle.properties_format.proofs.Items.Unique.{items_of-only}
 use Rattle.properties_format.proofs.Edited.Laws.{IsReadable, says, IsReadTo, key_set-says, key_removed-says, edit-says, edits-say}
 use Rattle.properties_format.proofs.Edited.Maps.{map-edited, map-after}

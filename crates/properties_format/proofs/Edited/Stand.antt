@@ -1,8 +1,10 @@
 -- The other groups of a source stand in the edited one, in order.
 use Rattle.std.proofs.Common.{ℕ, List, [], ◌∷◌, ◌++◌, refl, ap, sym, ◌∙◌, inl, inr, append_assoc, subst}
 use Rattle.properties_format.specs.Encoding.{Encoding}
-use Rattle.properties_format.specs.Edited.{HeldLine, group_bytes, groups_bytes, bom_of, IsKeySet, IsWithout, guarding_lf, IsKeyRemoved, StandIn}
-use Rattle.properties_format.specs.Edited.{AreOthersThanLast, AreOthers, KeepsOthers}
+use Rattle.properties_format.specs.Body.{HeldLine, group_bytes, groups_bytes}
+use Rattle.properties_format.specs.Edited.{bom_of, IsKeySet, IsWithout, guarding_lf, IsKeyRemoved}
+use Rattle.properties_format.specs.Changed.{StandIn}
+use Rattle.properties_format.specs.Changed.{AreOthersThanLast, AreOthers, KeepsOthers}
 
 -- other bytes before them
 stand-after : (gs : List (List HeldLine)) (x y : List ℕ) → StandIn gs y → StandIn gs (x ++ y)

@@ -11,8 +11,10 @@ use Rattle.properties_format.specs.Reading.Cut.{decoded_line}
 use Rattle.properties_format.specs.Entries.{pair}
 use Rattle.properties_format.specs.Settings.{default_settings}
 use Rattle.properties_format.specs.Printing.{in_key_or_value, spelt_text, encoded_text, spelt_key, printed}
-use Rattle.properties_format.specs.Edited.{HeldLine, HasKey, group_bytes, pair_bytes, final_group}
-use Rattle.properties_format.specs.Reading.Edited.{held_of, held_lines_of, has_key, Place, place_after, last_place, without}
+use Rattle.properties_format.specs.Body.{HeldLine, HasKey, group_bytes}
+use Rattle.properties_format.specs.Edited.{pair_bytes, final_group}
+use Rattle.properties_format.specs.Reading.Body.{held_of, held_lines_of, has_key}
+use Rattle.properties_format.specs.Reading.Edited.{Place, place_after, last_place, without}
 use Rattle.properties_format.proofs.Cut.Steps.{cut_of-line}
 use Rattle.properties_format.proofs.Cut.Only.{cut_of-plain}
 use Rattle.properties_format.proofs.Printing.Characters.{encoded-ascii, encoded_text-append}

@@ -11,7 +11,8 @@ use Rattle.properties_format.specs.Reading.Escapes.{meaning_of}
 use Rattle.properties_format.specs.Items.{comment, pair, item}
 use Rattle.properties_format.specs.Reading.Items.{items_of}
 use Rattle.properties_format.specs.Edited.{put, remove, edited, unsupported, unreadable}
-use Rattle.properties_format.specs.Reading.Edited.{held_groups_of, set_key_result, remove_key_result, edit_all_result}
+use Rattle.properties_format.specs.Reading.Body.{held_groups_of}
+use Rattle.properties_format.specs.Reading.Edited.{set_key_result, remove_key_result, edit_all_result}
 
 -- a pair is appended: one line ending comes before it, where a line has none
 append : set_key_result windows_1252 (codes "a=1") (codes "b") (codes "2") ≡ edited (codes "a=1\nb=2\n")
