@@ -1,15 +1,7 @@
-pub mod Decoded
 pub mod Told
-pub mod Groups
-pub mod Numbers
 pub mod Made
 pub mod Results
 pub mod Marks
 pub mod Pair
 pub mod Contents
-pub mod Items
-pub mod Laws
-pub mod Maps
-pub mod Stand
-pub mod Read
 pub mod Steps

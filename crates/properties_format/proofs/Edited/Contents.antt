@@ -25,11 +25,11 @@ use Rattle.properties_format.proofs.Groups.Only.{groups_of-before, groups_of-unf
 use Rattle.properties_format.proofs.Groups.Joined.{joined-push}
 use Rattle.properties_format.proofs.Items.Unique.{outcome_of-meets, outcome_of-only}
 use Rattle.properties_format.specs.Reading.Cut.{decoded_line}
-use Rattle.properties_format.proofs.Edited.Decoded.{decoded-nil}
+use Rattle.properties_format.proofs.Body.Decoded.{decoded-nil}
 use Rattle.properties_format.proofs.Edited.Told.{told_before, told_by, ended_lines, line_texts_in, line_texts, outcome-empty, told, IsFront, told-front}
 use Rattle.properties_format.proofs.Edited.Told.{told-lf, told-nil, told-one}
 use Rattle.properties_format.proofs.Edited.Told.{givens}
-use Rattle.properties_format.proofs.Edited.Groups.{EndsOpen, IsLastFit, IsHeldFront, IsHeldLast, AreHeldGroups}
+use Rattle.properties_format.proofs.Body.Groups.{EndsOpen, IsLastFit, IsHeldFront, IsHeldLast, AreHeldGroups}
 use Rattle.properties_format.proofs.Edited.Marks.{empty-last}
 use Rattle.properties_format.proofs.Edited.Pair.{told-pair, told-last_pair}
 

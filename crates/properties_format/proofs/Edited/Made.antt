@@ -11,10 +11,10 @@ use Rattle.properties_format.specs.Body.{HeldLine, as_lines, group_bytes, HasKey
 use Rattle.properties_format.specs.Edited.{IsReplaced, IsAppended, IsKeySet, IsWithout, IsKeyRemoved}
 use Rattle.properties_format.specs.Edited.{bom_of, guarding_lf}
 use Rattle.properties_format.specs.Reading.Body.{held_groups_of, is_pair_with, has_key}
-use Rattle.properties_format.specs.Reading.Edited.{Place, place_after, last_place, set_at, key_set, without}
+use Rattle.properties_format.specs.Reading.Edited.{KeyPlace, place_after, last_place, set_at, key_set, without}
 use Rattle.properties_format.specs.Reading.Edited.{key_removed}
 use Rattle.properties_format.proofs.Items.Unique.{outcome_of-meets, outcome_of-only}
-use Rattle.properties_format.proofs.Edited.Groups.{held_groups_of-meets, held_groups_of-only}
+use Rattle.properties_format.proofs.Body.Groups.{held_groups_of-meets, held_groups_of-only}
 
 -- ---- which groups have the key
 
@@ -44,12 +44,12 @@ no_key-test key g h = false_from_ne_true (has_key key g) (λ k. h (has_key-true 
 -- ---- the last of them
 
 -- the place is that of the last group with the key
-record IsLastPlace (key : List ℕ) (gs : List (List HeldLine)) (p : Place) : Type 0 where
+record IsLastPlace (key : List ℕ) (gs : List (List HeldLine)) (p : KeyPlace) : Type 0 where
   division : gs ≡ p.before ++ p.group ∷ p.after
   has : HasKey key p.group
   no_later : NoneHasKey key p.after
 
-abbrev IsPlace : List ℕ → List (List HeldLine) → Option Place → Type 0
+abbrev IsPlace : List ℕ → List (List HeldLine) → Option KeyPlace → Type 0
 IsPlace key gs None = NoneHasKey key gs
 IsPlace key gs (Some p) = IsLastPlace key gs p
 
@@ -58,7 +58,7 @@ place-here : (key : List ℕ) (g : List HeldLine) (gs : List (List HeldLine)) (b
 place-here key g gs true e h = rw e (record { division = refl; has = has_key-true key g e; no_later = h })
 place-here key g gs false e h = rw e (has_key-false key g e, h)
 
-place-meets : (key : List ℕ) (g : List HeldLine) (gs : List (List HeldLine)) (o : Option Place) → IsPlace key gs o
+place-meets : (key : List ℕ) (g : List HeldLine) (gs : List (List HeldLine)) (o : Option KeyPlace) → IsPlace key gs o
     → IsPlace key (g ∷ gs) (place_after key g gs o)
 place-meets key g gs None h = place-here key g gs (has_key key g) refl h
 place-meets key g gs (Some p) h = record { division = ap (λ v. g ∷ v) h.division; has = h.has; no_later = h.no_later }
@@ -82,7 +82,7 @@ last_place-some key (f ∷ before) g after h k = ap (place_after key f (before +
 
 -- ---- a key is set
 
-set-meets : (e : Encoding) (source key value : List ℕ) (gs : List (List HeldLine)) (o : Option Place) → IsPlace key gs o
+set-meets : (e : Encoding) (source key value : List ℕ) (gs : List (List HeldLine)) (o : Option KeyPlace) → IsPlace key gs o
     → IsReplaced e gs key value (set_at e source gs key value o) ⊎ IsAppended e source gs key value (set_at e source gs key value o)
 set-meets e source key value gs None h = inr (record { no_pair = h; bytes = refl })
 set-meets e source key value gs (Some p) h =

@@ -17,7 +17,7 @@ use Rattle.properties_format.proofs.Encodings.ByteOrderMarks.{byte_order_mark-no
 use Rattle.properties_format.proofs.Printing.Characters.{encoded-ascii, encoded_text-append}
 use Rattle.properties_format.proofs.ReadBack.Law.{default_settings-good}
 use Rattle.properties_format.proofs.ReadBack.Unmarked.{byte_order_mark-cut, pair-unmarked}
-use Rattle.properties_format.proofs.Edited.Groups.{HasAscii, AreHeldGroups, held-groups, held-body}
+use Rattle.properties_format.proofs.Body.Groups.{HasAscii, AreHeldGroups, held-groups, held-body}
 
 -- ---- the mark of a source
 

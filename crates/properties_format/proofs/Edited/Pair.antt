@@ -28,7 +28,7 @@ use Rattle.properties_format.proofs.ReadBack.Lines.{wrote_text}
 use Rattle.properties_format.proofs.ReadBack.Bytes.{AreWritable, text-decoded, wrote_text-writable}
 use Rattle.properties_format.proofs.ReadBack.Law.{default_settings-good}
 use Rattle.properties_format.specs.Reading.Cut.{decoded_line}
-use Rattle.properties_format.proofs.Edited.Decoded.{plain-bytes}
+use Rattle.properties_format.proofs.Body.Decoded.{plain-bytes}
 use Rattle.properties_format.proofs.Edited.Told.{told_before, ended_lines, line_texts_in, line_texts, told, IsFront, told-front, told-one}
 
 -- the characters of the printed pair

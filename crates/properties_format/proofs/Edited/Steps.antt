@@ -14,7 +14,7 @@ use Rattle.properties_format.specs.Printing.{in_key_or_value, spelt_text, encode
 use Rattle.properties_format.specs.Body.{HeldLine, HasKey, group_bytes}
 use Rattle.properties_format.specs.Edited.{pair_bytes, final_group}
 use Rattle.properties_format.specs.Reading.Body.{held_of, held_lines_of, has_key}
-use Rattle.properties_format.specs.Reading.Edited.{Place, place_after, last_place, without}
+use Rattle.properties_format.specs.Reading.Edited.{KeyPlace, place_after, last_place, without}
 use Rattle.properties_format.proofs.Cut.Steps.{cut_of-line}
 use Rattle.properties_format.proofs.Cut.Only.{cut_of-plain}
 use Rattle.properties_format.proofs.Printing.Characters.{encoded-ascii, encoded_text-append}
@@ -36,11 +36,11 @@ held_lines-last e text h = ap (λ v. let w : Lines = v in held_of e w.ended w.la
 -- ---- the next group
 
 -- the place with one more group after it
-abbrev pub with_after : List HeldLine → Option Place → Option Place
+abbrev pub with_after : List HeldLine → Option KeyPlace → Option KeyPlace
 with_after g None = None
 with_after g (Some p) = Some record { before = p.before; group = p.group; after = p.after ++ g ∷ [] }
 
-with_after-front : (key : List ℕ) (f g : List HeldLine) (gs : List (List HeldLine)) (o : Option Place)
+with_after-front : (key : List ℕ) (f g : List HeldLine) (gs : List (List HeldLine)) (o : Option KeyPlace)
     → place_after key f (gs ++ g ∷ []) (with_after g o) ≡ with_after g (place_after key f gs o)
 with_after-front key f g gs (Some p) = refl
 with_after-front key f g gs None = elim (cases_Bool (has_key key f)) [ inl k ↦ rw k refl | inr k ↦ rw k refl ]

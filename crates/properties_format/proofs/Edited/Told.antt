@@ -14,7 +14,7 @@ use Rattle.properties_format.proofs.Lines.Append.{lines_to_come-append}
 use Rattle.properties_format.proofs.Groups.Only.{groups_of-before}
 use Rattle.properties_format.proofs.Split.Unique.{split_of-blank}
 use Rattle.properties_format.specs.Reading.Cut.{decoded_line}
-use Rattle.properties_format.proofs.Edited.Decoded.{decoded-nil}
+use Rattle.properties_format.proofs.Body.Decoded.{decoded-nil}
 
 -- ---- what groups come to
 

@@ -32,7 +32,7 @@ held_groups_after open_lines (h ∷ hs) =
       | false ↦ held_groups_after (open_lines ++ h ∷ []) hs
     ]
 
--- the groups of a body, in an encoding that is edited
+-- the groups of a body
 unfoldable pub held_groups_of : Encoding → List ℕ → List (List HeldLine)
 held_groups_of e body = held_groups_after [] (held_lines_of e body)
 

@@ -13,23 +13,23 @@ use Rattle.properties_format.specs.Reading.Body.{has_key, held_groups_of}
 -- ---- a key is set
 
 -- a group, and those before and after it
-pub record Place : Type 0 where
+pub record KeyPlace : Type 0 where
   pub before : List (List HeldLine)
   pub group : List HeldLine
   pub after : List (List HeldLine)
 
 -- the place with one more group before it; and where there is none, this group if it is a pair with the key
-abbrev pub place_after : List ℕ → List HeldLine → List (List HeldLine) → Option Place → Option Place
+abbrev pub place_after : List ℕ → List HeldLine → List (List HeldLine) → Option KeyPlace → Option KeyPlace
 place_after key g gs (Some p) = Some record { before = g ∷ p.before; group = p.group; after = p.after }
 place_after key g gs None = if has_key key g then Some record { before = []; group = g; after = gs } else None
 
 -- the place of the last pair with the key
-abbrev pub last_place : List ℕ → List (List HeldLine) → Option Place
+abbrev pub last_place : List ℕ → List (List HeldLine) → Option KeyPlace
 last_place key [] = None
 last_place key (g ∷ gs) = place_after key g gs (last_place key gs)
 
 -- the body with the pair in that place, or at the end
-abbrev pub set_at : Encoding → List ℕ → List (List HeldLine) → List ℕ → List ℕ → Option Place → List ℕ
+abbrev pub set_at : Encoding → List ℕ → List (List HeldLine) → List ℕ → List ℕ → Option KeyPlace → List ℕ
 set_at e source groups key value (Some p) =
     groups_bytes p.before ++ (pair_bytes e (is_empty (groups_bytes p.before)) key value ++ (ending_bytes (last_ending p.group) ++ groups_bytes p.after))
 set_at e source groups key value None =
@@ -69,9 +69,9 @@ abbrev pub edits_made : Encoding → List ℕ → List Edit → List ℕ
 edits_made e source [] = source
 edits_made e source (edit ∷ edits) = edits_made e (edit_made e source edit) edits
 
--- ---- answers
+-- ---- results
 
--- the answer by the items of the source: its first fault, or else these bytes
+-- the result by the items of the source: its first fault, or else these bytes
 abbrev pub result_by : List Entry → List ℕ → EditResult
 result_by [] result = edited result
 result_by (item n content ∷ entries) result = result_by entries result

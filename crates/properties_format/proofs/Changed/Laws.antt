@@ -13,8 +13,8 @@ use Rattle.properties_format.specs.Changed.{contents, IsSetIn, IsRemovedIn, IsEd
 use Rattle.properties_format.specs.Edited.{IsScalarEdit, AreScalarEdits}
 use Rattle.properties_format.proofs.Edited.Told.{told_by, told}
 use Rattle.properties_format.proofs.Edited.Told.{givens}
-use Rattle.properties_format.proofs.Edited.Items.{items-told, told-items}
-use Rattle.properties_format.proofs.Edited.Groups.{held-groups, held-body}
+use Rattle.properties_format.proofs.Changed.Items.{items-told, told-items}
+use Rattle.properties_format.proofs.Body.Groups.{held-groups, held-body}
 use Rattle.properties_format.proofs.Edited.Marks.{source-whole, key_set-in_force, key_removed-in_force}
 use Rattle.properties_format.proofs.Edited.Contents.{ends-right, ComesTo, replaced-told, appended-told, removed-told}
 

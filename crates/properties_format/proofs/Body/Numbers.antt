@@ -13,7 +13,7 @@ use Rattle.properties_format.specs.Reading.Body.{held_of, held_lines_of, held_gr
 use Rattle.properties_format.proofs.Lines.Plain.{one-more}
 use Rattle.properties_format.proofs.Groups.Steps.{groups_after-close, groups_after-leave}
 use Rattle.properties_format.proofs.Cut.Byline.{decoded_lines-cut}
-use Rattle.properties_format.proofs.Edited.Groups.{groups-close, groups-leave}
+use Rattle.properties_format.proofs.Body.Groups.{groups-close, groups-leave}
 
 -- the lines of a body with their numbers, from this one on
 abbrev numbered_from : ℕ → List HeldLine → List Line

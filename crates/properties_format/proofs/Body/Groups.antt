@@ -22,7 +22,7 @@ use Rattle.properties_format.proofs.Groups.Only.{groups_of-only}
 use Rattle.properties_format.specs.Reading.Cut.{cut_of, decoded_line}
 use Rattle.properties_format.proofs.Cut.Meets.{cut_of-meets}
 use Rattle.properties_format.proofs.Cut.Only.{cut_of-only}
-use Rattle.properties_format.proofs.Edited.Decoded.{IsCut-lines}
+use Rattle.properties_format.proofs.Body.Decoded.{IsCut-lines}
 use Rattle.properties_format.proofs.Edited.Told.{ended_lines, line_texts_in, line_texts, IsFront}
 
 -- ---- the lines that a body holds

@@ -12,8 +12,8 @@ use Rattle.properties_format.specs.Edited.{EditResult, unsupported, unreadable, 
 use Rattle.properties_format.specs.Edited.{IsEditAllResult, AreScalarEdits}
 use Rattle.properties_format.specs.Changed.{contents, IsSetIn, IsRemovedIn, AreEditedIn, map_edited, map_after, ReadsAfter}
 use Rattle.properties_format.proofs.Items.Unique.{items_of-only}
-use Rattle.properties_format.proofs.Edited.Laws.{IsReadable, says, IsReadTo, key_set-says, key_removed-says, edit-says, edits-say}
-use Rattle.properties_format.proofs.Edited.Maps.{map-edited, map-after}
+use Rattle.properties_format.proofs.Changed.Laws.{IsReadable, says, IsReadTo, key_set-says, key_removed-says, edit-says, edits-say}
+use Rattle.properties_format.proofs.Changed.Maps.{map-edited, map-after}
 
 -- a source that is edited is readable
 readable : (e : Encoding) (source : List ℕ) → is_editable (byte_order_mark e source).encoding ≡ true → ItemsAre e source HoldsNoMalformed

@@ -11,9 +11,9 @@ use Rattle.properties_format.specs.Edited.{is_editable, HoldsNoMalformed}
 use Rattle.properties_format.specs.Changed.{contents}
 use Rattle.properties_format.specs.Reading.Body.{held_groups_of, entries_in}
 use Rattle.properties_format.proofs.Edited.Told.{told_before, told_by, told, givens}
-use Rattle.properties_format.proofs.Edited.Groups.{held_groups_of-meets, held_groups_of-only, held-groups, held-body}
+use Rattle.properties_format.proofs.Body.Groups.{held_groups_of-meets, held_groups_of-only, held-groups, held-body}
 use Rattle.properties_format.proofs.Edited.Contents.{told-groups}
-use Rattle.properties_format.proofs.Edited.Numbers.{items_of-groups}
+use Rattle.properties_format.proofs.Body.Numbers.{items_of-groups}
 
 -- ---- entries
 
