@@ -44,7 +44,8 @@ held_of-only e (l ∷ ls) last held (x, rest, h, s, k) =
 
 -- ---- their groups
 
-as_lines-append : (a b : List HeldLine) → as_lines (a ++ b) ≡ as_lines a ++ as_lines b
+-- texts and bytes of lines one after the other
+pub as_lines-append : (a b : List HeldLine) → as_lines (a ++ b) ≡ as_lines a ++ as_lines b
 as_lines-append [] b = refl
 as_lines-append (h ∷ a) b = ap (λ v. record { number = 0; text = h.text } ∷ v) (as_lines-append a b)
 
@@ -305,12 +306,18 @@ held-groups e body gs ok h =
 
 -- ---- and their bytes together
 
-group_bytes-append : (a b : List HeldLine) → group_bytes (a ++ b) ≡ group_bytes a ++ group_bytes b
+pub group_bytes-append : (a b : List HeldLine) → group_bytes (a ++ b) ≡ group_bytes a ++ group_bytes b
 group_bytes-append [] b = refl
 group_bytes-append (h ∷ a) b =
     ap (λ v. h.bytes ++ (ending_bytes h.ending ++ v)) (group_bytes-append a b)
     ∙ ap (λ v. h.bytes ++ v) (sym (append_assoc (ending_bytes h.ending) (group_bytes a) (group_bytes b)))
     ∙ sym (append_assoc h.bytes (ending_bytes h.ending ++ group_bytes a) (group_bytes b))
+
+-- the bytes of groups one after the other
+pub groups_bytes-append : (gs hs : List (List HeldLine)) → groups_bytes (gs ++ hs) ≡ groups_bytes gs ++ groups_bytes hs
+groups_bytes-append [] hs = refl
+groups_bytes-append (g ∷ gs) hs =
+    ap (λ v. group_bytes g ++ v) (groups_bytes-append gs hs) ∙ sym (append_assoc (group_bytes g) (groups_bytes gs) (groups_bytes hs))
 
 groups-bytes : (gs : List (List HeldLine)) → groups_bytes gs ≡ group_bytes (held_in gs)
 groups-bytes [] = refl

@@ -15,7 +15,7 @@ use Rattle.properties_format.proofs.Edited.Told.{told_by, told}
 use Rattle.properties_format.proofs.Edited.Told.{givens}
 use Rattle.properties_format.proofs.Changed.Items.{items-told, told-items}
 use Rattle.properties_format.proofs.Body.Groups.{held-groups, held-body}
-use Rattle.properties_format.proofs.Edited.Marks.{source-whole, key_set-in_force, key_removed-in_force}
+use Rattle.properties_format.proofs.Edited.ByteOrderMarks.{source-whole, key_set-in_force, key_removed-in_force}
 use Rattle.properties_format.proofs.Edited.Contents.{ends-right, ComesTo, replaced-told, appended-told, removed-told}
 
 -- ---- what a source is read to

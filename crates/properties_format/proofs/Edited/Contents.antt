@@ -30,7 +30,7 @@ use Rattle.properties_format.proofs.Edited.Told.{told_before, told_by, ended_lin
 use Rattle.properties_format.proofs.Edited.Told.{told-lf, told-nil, told-one}
 use Rattle.properties_format.proofs.Edited.Told.{givens}
 use Rattle.properties_format.proofs.Body.Groups.{EndsOpen, IsLastFit, IsHeldFront, IsHeldLast, AreHeldGroups}
-use Rattle.properties_format.proofs.Edited.Marks.{empty-last}
+use Rattle.properties_format.proofs.Edited.ByteOrderMarks.{empty-last}
 use Rattle.properties_format.proofs.Edited.Pair.{told-pair, told-last_pair}
 
 -- what a group comes to

@@ -17,18 +17,18 @@ use Rattle.properties_format.proofs.Encodings.ByteOrderMarks.{byte_order_mark-no
 use Rattle.properties_format.proofs.Printing.Characters.{encoded-ascii, encoded_text-append}
 use Rattle.properties_format.proofs.ReadBack.Law.{default_settings-good}
 use Rattle.properties_format.proofs.ReadBack.Unmarked.{byte_order_mark-cut, pair-unmarked}
-use Rattle.properties_format.proofs.Body.Groups.{HasAscii, AreHeldGroups, held-groups, held-body}
+use Rattle.properties_format.proofs.Body.Groups.{groups_bytes-append, HasAscii, AreHeldGroups, held-groups, held-body}
 
--- ---- the mark of a source
+-- ---- the byte order mark of a source
 
--- a source that is edited has the mark of UTF-8, or none
-abbrev pub IsMarked : Encoding → List ℕ → Type 0
-IsMarked e source =
+-- a source that is edited has the byte order mark of UTF-8, or none
+abbrev pub HasBom : Encoding → List ℕ → Type 0
+HasBom e source =
     (bom_of source ≡ utf_8_bom) × ((byte_order_mark e source).encoding ≡ utf_8)
     ⊎ (begins_like_bom source ≡ false) × (bom_of source ≡ []) × (byte_order_mark e source ≡ record { encoding = e; body = source })
 
-pub marked : (e : Encoding) (source : List ℕ) → is_editable (byte_order_mark e source).encoding ≡ true → IsMarked e source
-marked e source ok = elim (cases_Bool (begins_with utf_8_bom source)) [
+pub has_bom : (e : Encoding) (source : List ℕ) → is_editable (byte_order_mark e source).encoding ≡ true → HasBom e source
+has_bom e source ok = elim (cases_Bool (begins_with utf_8_bom source)) [
   | inl h ↦ inl (rw h refl, rw h refl)
   | inr h ↦ elim (cases_Bool (begins_with utf_16be_bom source)) [
     | inl k ↦ let m : (byte_order_mark e source).encoding ≡ utf_16be = rw (h, k) refl in absurd (cc (ap is_editable m, ok))
@@ -46,7 +46,7 @@ begins-drop (m ∷ ms) (x ∷ b) h =
     let p = and_parts (m == x) (begins_with ms b) h in
     ap₂ (λ v w. v ∷ w) (sym (eqb-true m x p.0)) (begins-drop ms b p.1)
 
--- A source is its mark and its body.
+-- A source is its byte order mark and its body.
 pub source-whole : (e : Encoding) (source : List ℕ) → source ≡ bom_of source ++ (byte_order_mark e source).body
 source-whole e source = elim (cases_Bool (begins_with utf_8_bom source)) [
   | inl h ↦ rw h (begins-drop utf_8_bom source h)
@@ -59,11 +59,11 @@ source-whole e source = elim (cases_Bool (begins_with utf_8_bom source)) [
   ]
 ]
 
--- The mark and a body, which begins like no mark where there is none, are in force as the source was.
+-- The byte order mark and a body, which begins like none where there is none, are in force as the source was.
 pub in_force : (e : Encoding) (source body : List ℕ) → is_editable (byte_order_mark e source).encoding ≡ true
     → (begins_like_bom source ≡ false → begins_like_bom body ≡ false)
     → byte_order_mark e (bom_of source ++ body) ≡ record { encoding = (byte_order_mark e source).encoding; body = body }
-in_force e source body ok h = elim (marked e source ok) [
+in_force e source body ok h = elim (has_bom e source ok) [
   | inl m ↦ ap (λ v. byte_order_mark e (v ++ body)) m.0 ∙ ap (λ v. let w : InForce = record { encoding = v; body = body } in w) (sym m.1)
   | inr m ↦
       ap (λ v. byte_order_mark e (v ++ body)) m.1
@@ -71,11 +71,11 @@ in_force e source body ok h = elim (marked e source ok) [
       ∙ ap (λ v. let u : InForce = v in let w : InForce = record { encoding = u.encoding; body = body } in w) (sym m.2)
 ]
 
--- the body of a source without a mark is the source
+-- the body of a source without a byte order mark is the source
 unmarked-body : (e : Encoding) (source : List ℕ) → begins_like_bom source ≡ false → (byte_order_mark e source).body ≡ source
 unmarked-body e source h = ap (λ v. let u : InForce = v in u.body) (byte_order_mark-none e source h)
 
--- ---- what decides whether bytes begin like a mark
+-- ---- what decides whether bytes begin like a byte order mark
 
 -- what stands after an ASCII byte does not matter
 ascii-cut : (x y z : List ℕ) → HasAscii x → begins_like_bom (x ++ y) ≡ begins_like_bom (x ++ z)
@@ -104,7 +104,7 @@ pair-ascii : (e : Encoding) (first : Bool) (key value : List ℕ) → HasAscii (
 pair-ascii e first key value =
     (encoded_text e (spelt_key e first key), equals_sign, encoded_text e (spelt_text e in_key_or_value value), pair-parts e first key value, lit< tt)
 
--- A pair at the front begins like no mark.
+-- A pair at the front begins like no byte order mark.
 first-unmarked : (e : Encoding) (key value rest : List ℕ) → begins_like_bom (pair_bytes e true key value ++ rest) ≡ false
 first-unmarked e key value rest =
     ascii-cut (pair_bytes e true key value) rest [] (pair-ascii e true key value)
@@ -122,11 +122,6 @@ front-unmarked g gs y z a h =
     ∙ ascii-cut (group_bytes g) (groups_bytes gs ++ y) (groups_bytes gs ++ z) a
     ∙ ap begins_like_bom (sym (append_assoc (group_bytes g) (groups_bytes gs) z))
     ∙ h
-
-groups_bytes-append : (gs hs : List (List HeldLine)) → groups_bytes (gs ++ hs) ≡ groups_bytes gs ++ groups_bytes hs
-groups_bytes-append [] hs = refl
-groups_bytes-append (g ∷ gs) hs =
-    ap (λ v. group_bytes g ++ v) (groups_bytes-append gs hs) ∙ sym (append_assoc (group_bytes g) (groups_bytes gs) (groups_bytes hs))
 
 -- a group before others has an ASCII byte
 first-ascii : (e : Encoding) (g : List HeldLine) (gs : List (List HeldLine)) (h : List HeldLine) (hs : List (List HeldLine))
@@ -200,7 +195,7 @@ appended-unmarked e source gs key value body k h r = elim (parting-cases source 
         ∙ ap (λ v. begins_like_bom (v ++ (pair_bytes e (is_empty v) key value ++ line_feed ∷ []))) s
         ∙ front-unmarked g (i ∷ hs) _ [] k.0.ascii (ap begins_like_bom (append-nil (groups_bytes (g ∷ i ∷ hs))) ∙ h)
 
--- where the source has no mark, its groups begin like none
+-- where the source has no byte order mark, its groups begin like none
 groups-unmarked : (e : Encoding) (source : List ℕ) (gs : List (List HeldLine)) → is_editable (byte_order_mark e source).encoding ≡ true
     → AreGroupsOf (byte_order_mark e source).encoding (byte_order_mark e source).body gs → begins_like_bom source ≡ false
     → begins_like_bom (groups_bytes gs) ≡ false
