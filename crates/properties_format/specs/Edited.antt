@@ -115,10 +115,10 @@ abbrev pub AreEdited : Encoding → List ℕ → List Edit → List ℕ → Type
 AreEdited e source [] result = result ≡ source
 AreEdited e source (edit ∷ edits) result = (next : List ℕ) × IsEdited e source edit next × AreEdited e next edits result
 
--- the texts of an edit are of scalar values
+-- the texts that an edit puts in are of scalar values
 abbrev pub IsScalarEdit : Edit → Type 0
 IsScalarEdit (put key value) = All scalar key × All scalar value
-IsScalarEdit (remove key) = All scalar key
+IsScalarEdit (remove key) = Unit {0}
 
 abbrev pub AreScalarEdits : List Edit → Type 0
 AreScalarEdits [] = Unit {0}

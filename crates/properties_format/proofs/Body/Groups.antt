@@ -44,16 +44,17 @@ held_of-only e (l ∷ ls) last held (x, rest, h, s, k) =
 
 -- ---- their groups
 
--- texts and bytes of lines one after the other
+-- the texts of lines one after the other
 pub as_lines-append : (a b : List HeldLine) → as_lines (a ++ b) ≡ as_lines a ++ as_lines b
 as_lines-append [] b = refl
 as_lines-append (h ∷ a) b = ap (λ v. record { number = 0; text = h.text } ∷ v) (as_lines-append a b)
 
--- a line that closes its group, and one that leaves it open
+-- a line that closes its group
 pub groups-close : (p : List HeldLine) (h : HeldLine) (hs : List HeldLine) → closes (as_lines p) (record { number = 0; text = h.text }) ≡ true
     → held_groups_after p (h ∷ hs) ≡ (p ++ h ∷ []) ∷ held_groups_after [] hs
 groups-close p h hs k = rw (k, held_groups_after) refl
 
+-- a line that leaves its group open
 pub groups-leave : (p : List HeldLine) (h : HeldLine) (hs : List HeldLine) → closes (as_lines p) (record { number = 0; text = h.text }) ≡ false
     → held_groups_after p (h ∷ hs) ≡ held_groups_after (p ++ h ∷ []) hs
 groups-leave p h hs k = rw (k, held_groups_after) refl
@@ -306,6 +307,7 @@ held-groups e body gs ok h =
 
 -- ---- and their bytes together
 
+-- the bytes of lines one after the other
 pub group_bytes-append : (a b : List HeldLine) → group_bytes (a ++ b) ≡ group_bytes a ++ group_bytes b
 group_bytes-append [] b = refl
 group_bytes-append (h ∷ a) b =

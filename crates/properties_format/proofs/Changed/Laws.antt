@@ -84,6 +84,7 @@ key_removed-says e source key result r h =
 
 -- ---- edits in turn
 
+-- the same of either edit
 pub edit-says : (e : Encoding) (source : List ℕ) (edit : Edit) (result : List ℕ) → IsReadable e source → IsScalarEdit edit → IsEdited e source edit result
     → IsReadTo e result (IsEditedIn edit (says e source))
 edit-says e source (put key value) result r k h = key_set-says e source key value result r k.0 k.1 h

@@ -27,6 +27,7 @@ HasBom e source =
     (bom_of source ≡ utf_8_bom) × ((byte_order_mark e source).encoding ≡ utf_8)
     ⊎ (begins_like_bom source ≡ false) × (bom_of source ≡ []) × (byte_order_mark e source ≡ record { encoding = e; body = source })
 
+-- it has one of the two
 pub has_bom : (e : Encoding) (source : List ℕ) → is_editable (byte_order_mark e source).encoding ≡ true → HasBom e source
 has_bom e source ok = elim (cases_Bool (begins_with utf_8_bom source)) [
   | inl h ↦ inl (rw h refl, rw h refl)

@@ -153,6 +153,7 @@ told-in_place e first key value g (i ∷ after) ok k v h =
 abbrev pub ComesTo : Encoding → List ℕ → (List Content → Type 0) → Type 0
 ComesTo e body Such = (new : List Content) × Such new × (told e body ≡ givens new)
 
+-- A body whose last pair with the key is replaced says what it said, with the new value there.
 pub replaced-told : (e : Encoding) (gs : List (List HeldLine)) (key value body : List ℕ) (old : List Content) → is_editable e ≡ true → All scalar key
     → All scalar value → AreHeldGroups e gs
     → told_by (as_groups gs) ≡ givens old → IsReplaced e gs key value body → ComesTo e body (IsSetIn key value old)
@@ -367,6 +368,7 @@ told-after e source (g ∷ i ∷ gs) d h a =
     ∙ ap (told_before (outcome g)) (told-after e source (i ∷ gs) d h.1 (λ q. a (ends-right (group_bytes g) (groups_bytes (i ∷ gs)) q)))
     ∙ told_before-append (outcome g) (told_by (as_groups (i ∷ gs))) (told e d)
 
+-- A body to which a pair is appended says what it said, and then that pair.
 pub appended-told : (e : Encoding) (source : List ℕ) (gs : List (List HeldLine)) (key value body : List ℕ) (old : List Content) → is_editable e ≡ true
     → All scalar key → All scalar value
     → AreHeldGroups e gs → (ends_in_cr (groups_bytes gs) ≡ true → ends_in_cr source ≡ true) → told_by (as_groups gs) ≡ givens old
@@ -445,6 +447,7 @@ left-told e key (g ∷ i ∷ gs) rest old h (inr w) t =
     (left-kept key (outcome g) (told_by (as_groups (i ∷ gs))) (told e w.1) old (other-outcome key g w.0) t
     (λ cs k. left-told e key (i ∷ gs) w.1 cs h.1 w.3 k))
 
+-- A body without the groups with the key says what it said, without its pairs with the key.
 pub removed-told : (e : Encoding) (source key : List ℕ) (gs : List (List HeldLine)) (rest : List ℕ) (old : List Content) → AreHeldGroups e gs
     → told_by (as_groups gs) ≡ givens old
     → IsWithout key gs rest → ComesTo e (guarding_lf source rest ++ rest) (IsRemovedIn key old)

@@ -30,6 +30,7 @@ has_key-true key g h =
     let m = pair-with key (outcome_of (joined (as_lines g))) h in
     (m.0, rw m.1 at (outcome_of-meets (joined (as_lines g))))
 
+-- and a group with the key passes it
 pub HasKey-test : (key : List ℕ) (g : List HeldLine) → HasKey key g → has_key key g ≡ true
 HasKey-test key g (value, h) =
     ap (is_pair_with key) (sym (outcome_of-only (joined (as_lines g)) (given (pair key value)) h)) ∙ (bytes_eq-Decides key key).1 refl
@@ -67,12 +68,14 @@ last_place-meets : (key : List ℕ) (gs : List (List HeldLine)) → IsPlace key 
 last_place-meets key [] = tt
 last_place-meets key (g ∷ gs) = place-meets key g gs (last_place key gs) (last_place-meets key gs)
 
+-- where no group has the key there is no place
 pub last_place-none : (key : List ℕ) (gs : List (List HeldLine)) → NoneHasKey key gs → last_place key gs ≡ None
 last_place-none key [] h = refl
 last_place-none key (g ∷ gs) h =
     ap (place_after key g gs) (last_place-none key gs h.1)
     ∙ cond-false (has_key key g) (Some (record { before = []; group = g; after = gs })) None (no_key-test key g h.0)
 
+-- after the last group with the key none has it
 pub last_place-some : (key : List ℕ) (before : List (List HeldLine)) (g : List HeldLine) (after : List (List HeldLine)) → HasKey key g → NoneHasKey key after
     → last_place key (before ++ g ∷ after) ≡ Some (record { before = before; group = g; after = after })
 last_place-some key [] g after h k =
@@ -108,6 +111,7 @@ key_set-meets e source key value =
       whole = refl;
     }
 
+-- A source with the key set is what is computed.
 pub key_set-only : (e : Encoding) (source key value result : List ℕ) → IsKeySet e source key value result → result ≡ key_set e source key value
 key_set-only e source key value result h =
     let f = byte_order_mark e source in
@@ -122,10 +126,12 @@ without-step : (key : List ℕ) (g : List HeldLine) (gs : List (List HeldLine)) 
 without-step key g gs true e h = rw e (inl (has_key-true key g e, h))
 without-step key g gs false e h = rw e (inr (has_key-false key g e, without key gs, refl, h))
 
+-- the bytes that are left are those of the groups without the key
 pub without-meets : (key : List ℕ) (gs : List (List HeldLine)) → IsWithout key gs (without key gs)
 without-meets key [] = refl
 without-meets key (g ∷ gs) = without-step key g gs (has_key key g) refl (without-meets key gs)
 
+-- and no others are
 pub without-only : (key : List ℕ) (gs : List (List HeldLine)) (rest : List ℕ) → IsWithout key gs rest → rest ≡ without key gs
 without-only key [] rest h = h
 without-only key (g ∷ gs) rest (inl h) =
@@ -141,6 +147,7 @@ key_removed-meets e source key =
     let gs = held_groups_of f.encoding f.body in
     record { groups = gs; held = held_groups_of-meets f.encoding f.body; rest = without key gs; without = without-meets key gs; whole = refl }
 
+-- A source without the key is what is computed.
 pub key_removed-only : (e : Encoding) (source key result : List ℕ) → IsKeyRemoved e source key result → result ≡ key_removed e source key
 key_removed-only e source key result h =
     let f = byte_order_mark e source in

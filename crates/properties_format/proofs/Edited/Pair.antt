@@ -82,6 +82,7 @@ editable-own utf_8 h = refl
 editable-own utf_16le h = absurd (cc)
 editable-own utf_16be h = absurd (cc)
 
+-- The bytes of the printed pair are decoded to its characters.
 pub pair-decoded : (e : Encoding) (first : Bool) (key value : List ℕ) → is_editable e ≡ true → All scalar key → All scalar value
     → decoded_line e (pair_bytes e first key value) ≡ pair_text e first key value
 pair-decoded e first key value ok h k =

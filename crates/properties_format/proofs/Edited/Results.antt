@@ -29,6 +29,7 @@ pub edits_made-meets : (e : Encoding) (source : List ℕ) (edits : List Edit) �
 edits_made-meets e source [] = refl
 edits_made-meets e source (edit ∷ edits) = (edit_made e source edit, edit_made-meets e source edit, edits_made-meets e (edit_made e source edit) edits)
 
+-- A source after the edits is what is computed.
 pub edits_made-only : (e : Encoding) (source : List ℕ) (edits : List Edit) (result : List ℕ) → AreEdited e source edits result
     → result ≡ edits_made e source edits
 edits_made-only e source [] result h = h
@@ -112,6 +113,7 @@ pub set_key_result-meets : (e : Encoding) (source key value : List ℕ) → IsSe
 set_key_result-meets e source key value =
     result_of-meets e source (key_set e source key value) (IsKeySet e source key value) (key_set-meets e source key value)
 
+-- No other result is one of setting a key.
 pub set_key_result-only : (e : Encoding) (source key value : List ℕ) (r : EditResult) → IsSetKeyResult e source key value r
     → r ≡ set_key_result e source key value
 set_key_result-only e source key value r h =
@@ -121,6 +123,7 @@ set_key_result-only e source key value r h =
 pub remove_key_result-meets : (e : Encoding) (source key : List ℕ) → IsRemoveKeyResult e source key (remove_key_result e source key)
 remove_key_result-meets e source key = result_of-meets e source (key_removed e source key) (IsKeyRemoved e source key) (key_removed-meets e source key)
 
+-- No other result is one of removing one.
 pub remove_key_result-only : (e : Encoding) (source key : List ℕ) (r : EditResult) → IsRemoveKeyResult e source key r → r ≡ remove_key_result e source key
 remove_key_result-only e source key r h = result_of-only e source (key_removed e source key) (IsKeyRemoved e source key) r (key_removed-only e source key) h
 
@@ -128,6 +131,7 @@ remove_key_result-only e source key r h = result_of-only e source (key_removed e
 pub edit_all_result-meets : (e : Encoding) (source : List ℕ) (edits : List Edit) → IsEditAllResult e source edits (edit_all_result e source edits)
 edit_all_result-meets e source edits = result_of-meets e source (edits_made e source edits) (AreEdited e source edits) (edits_made-meets e source edits)
 
+-- No other result is one of edits in turn.
 pub edit_all_result-only : (e : Encoding) (source : List ℕ) (edits : List Edit) (r : EditResult) → IsEditAllResult e source edits r
     → r ≡ edit_all_result e source edits
 edit_all_result-only e source edits r h = result_of-only e source (edits_made e source edits) (AreEdited e source edits) r (edits_made-only e source edits) h

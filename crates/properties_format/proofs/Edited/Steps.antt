@@ -1,6 +1,6 @@
 -- How the groups of a body, and an edit of them, go on with the next line and the next group.
-use Rattle.std.proofs.Common.{◌≡◌, ℕ, Bool, false, List, [], ◌∷◌, ◌++◌, Option, Some, None, refl, ap, sym, ◌∙◌, inl, inr, append_assoc, lit<, ◌+◌, length, length-append, arith}
-use Rattle.std.specs.Prelude.{unwrap_or, ◌&&◌, not}
+use Rattle.std.proofs.Common.{◌≡◌, ℕ, Bool, false, List, [], ◌∷◌, ◌++◌, refl, ap, sym, ◌∙◌, inl, inr, append_assoc, lit<, ◌+◌, length-append, arith}
+use Rattle.std.specs.Prelude.{unwrap_or, ◌&&◌, not, length, Option, Some, None}
 use Rattle.std.proofs.lemmas.Bool.{cases_Bool, cond-false}
 use Rattle.properties_format.specs.Text.{line_feed, equals_sign, LineEnding, cr}
 use Rattle.properties_format.specs.Encoding.{Encoding, IsAligned}
@@ -82,6 +82,7 @@ last_ending-push [] h = refl
 last_ending-push (i ∷ []) h = refl
 last_ending-push (i ∷ j ∷ g) h = last_ending-push (j ∷ g) h
 
+-- whether the last line is open hangs on that one
 pub is_last_open-push : (g : List HeldLine) (h : HeldLine) → is_last_open (g ++ h ∷ []) ≡ is_open h.text
 is_last_open-push [] h = refl
 is_last_open-push (i ∷ []) h = refl
