@@ -1,4 +1,5 @@
 pub mod Faults
+pub mod Streams
 pub mod Counting
 pub mod ReaderScript
 pub mod SinkScript

@@ -1,8 +1,9 @@
 -- What a contract sees of a `ScriptedReader`.
-use Rattle.std.specs.Prelude.{◌≡◌, ℕ, ◌==◌, nat_lt, Bool, true, false, if◌then◌else◌, List, [], ◌∷◌, ◌++◌, length, take, drop, map, filter, Option, None, Some, Result, Ok, MatchOption, vec_items}
+use Rattle.std.specs.Prelude.{◌≡◌, ℕ, ◌==◌, nat_lt, Bool, true, false, if◌then◌else◌, List, [], ◌∷◌, ◌++◌, length, take, drop, map, filter, Option, None, Some, Result, Ok, MatchOption, IsOk, IfErr, vec_items}
 use Rattle.std.specs.declared.io.Error.{Error}
 use Rattle.std.specs.declared.io.ErrorKind.{ErrorKind}
-use Rattle.counted_io.specs.Faults.{FailsWith}
+use Rattle.std.specs.IoError.{error_kind}
+use Rattle.counted_io.specs.Faults.{one_more, FailsWith}
 use Rattle.counted_io.specs.declared.scripted_reader.Tail.{Tail}
 use Rattle.counted_io.specs.declared.scripted_reader.Tail.TheVariants as tail
 use Rattle.counted_io.specs.declared.scripted_reader.ScriptedReader.{ScriptedReader}
@@ -22,6 +23,10 @@ pieces_left r = filter has_bytes (drop_from_first r.place (map vec_items (drop r
 -- what it answers after the last piece
 abbrev pub reader_tail : ScriptedReader → Tail
 reader_tail r = r.tail
+
+-- its reads so far, up to `usize::MAX`
+abbrev pub reader_reads : ScriptedReader → ℕ
+reader_reads r = r.reads
 
 -- its faults so far
 abbrev pub reader_faults : ScriptedReader → ℕ
@@ -53,6 +58,16 @@ next_fault (p ∷ ps) t room = None
 abbrev pub ReadAnswers : List (List ℕ) → Tail → ℕ → Result ℕ Error → Type 0
 ReadAnswers pieces t room r =
     MatchOption (next_fault pieces t room) (r ≡ Ok (length (next_bytes pieces room))) (λ kind. FailsWith kind r)
+
+-- a read fails by the fault of the tail alone
+abbrev pub FailsByTail : Tail → Result ℕ Error → Type 0
+FailsByTail tail.End r = IsOk r
+FailsByTail (tail.Fault kind) r = IfErr r (λ e. error_kind e ≡ kind)
+
+-- what a read of one reader gives, and the reader after it
+abbrev pub ScriptGives : ScriptedReader → Result ℕ Error → ScriptedReader → Type 0
+ScriptGives before r after =
+    FailsByTail (reader_tail before) r × (reader_tail after ≡ reader_tail before) × (reader_reads after ≡ one_more (reader_reads before))
 
 -- the buffer with the bytes at its front
 abbrev pub overwritten : List ℕ → List ℕ → List ℕ

@@ -59,3 +59,15 @@ WriteAnswers plan calls bytes r = MatchBool (fails_after plan.fail_at calls) (Fa
 -- how a flush answers
 abbrev pub FlushAnswers : {T : Type 0} → Option ErrorKind → Result T Error → Type 0
 FlushAnswers fault r = MatchOption fault (IsOk r) (λ kind. FailsWith kind r)
+
+-- what a write of these bytes into one sink gives, and the sink after it
+abbrev pub ScriptWrites : ScriptedSink → List ℕ → Result ℕ Error → ScriptedSink → Type 0
+ScriptWrites before bytes r after =
+    WriteAnswers (sink_plan before) (sink_calls before) bytes r
+    × (sink_plan after ≡ sink_plan before) × (sink_calls after ≡ one_more (sink_calls before))
+
+-- what a flush of one sink gives, and the sink after it
+abbrev pub ScriptFlushes : ScriptedSink → Result Unit Error → ScriptedSink → Type 0
+ScriptFlushes before r after =
+    FlushAnswers (sink_plan before).flush_fault r
+    × (sink_plan after ≡ sink_plan before) × (sink_calls after ≡ sink_calls before)

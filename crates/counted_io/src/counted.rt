@@ -104,7 +104,13 @@ impl<R: Read + Drop> CountedRead for Counted<R> {
 
     ghost at_end = { counted_ended };
 
-    fn read_counted(&mut self, buf: &mut [u8]) -> io::Result<usize> {
+    fn read_counted(&mut self, buf: &mut [u8]) -> io::Result<usize>
+        ensures bound { ReadsAtMost result buf.new }
+        ensures bytes { ReadConsumes (R.remaining (counted_inner self.old)) (R.remaining (counted_inner self.new)) result buf.new }
+        ensures faults { CountsFault (counted_faults self.old) (counted_faults self.new) result }
+        ensures ended { counted_ended self.new ≡ ended_after_read (counted_ended self.old) result buf.new }
+        ensures flushed { counted_flushed self.new ≡ counted_flushed self.old }
+    {
         self.read(buf)
     }
 }
@@ -152,11 +158,22 @@ impl<W: Write + Drop> CountedWrite for Counted<W> {
 
     ghost is_flushed = { counted_flushed };
 
-    fn write_counted(&mut self, bytes: &[u8]) -> io::Result<usize> {
+    fn write_counted(&mut self, bytes: &[u8]) -> io::Result<usize>
+        ensures bound { WritesAtMost result bytes.now }
+        ensures bytes { WriteAppends (W.contents (counted_inner self.old)) (W.contents (counted_inner self.new)) result bytes.now }
+        ensures faults { CountsWrite (counted_faults self.old) (counted_faults self.new) result bytes.now }
+        ensures flushed { counted_flushed self.new ≡ flushed_after_write (counted_flushed self.old) result }
+        ensures ended { counted_ended self.new ≡ counted_ended self.old }
+    {
         self.write(bytes)
     }
 
-    fn flush_counted(&mut self) -> io::Result<()> {
+    fn flush_counted(&mut self) -> io::Result<()>
+        ensures bytes { Keeps (W.contents (counted_inner self.old)) (W.contents (counted_inner self.new)) }
+        ensures faults { CountsFault (counted_faults self.old) (counted_faults self.new) result }
+        ensures flushed { counted_flushed self.new ≡ flushed_after_flush (counted_flushed self.old) result }
+        ensures ended { counted_ended self.new ≡ counted_ended self.old }
+    {
         self.flush()
     }
 }

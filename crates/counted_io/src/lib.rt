@@ -17,10 +17,12 @@ mod counted;
 mod read;
 mod scripted_reader;
 mod scripted_sink;
+mod transfer;
 mod write;
 
 pub use counted::Counted;
 pub use read::CountedRead;
 pub use scripted_reader::{ScriptedReader, Tail};
 pub use scripted_sink::{ScriptedSink, SinkFault};
+pub use transfer::send;
 pub use write::CountedWrite;

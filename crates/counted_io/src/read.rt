@@ -1,6 +1,7 @@
 // Readers that count their faults.
 
-ghost use Rattle.std.specs.Prelude.{◌≡◌, ℕ, ◌==◌, Bool, length};
+ghost use Rattle.std.specs.Prelude.{◌≡◌, ℕ, ◌==◌, Bool, Result, length};
+ghost use Rattle.std.specs.declared.io.Error.{Error};
 ghost use Rattle.std.specs.Io.{ReadsAtMost};
 ghost use Rattle.std.specs.Io.KnownBytes.{ReadConsumes};
 ghost use Rattle.counted_io.specs.Faults.{CountsFault, ShowsEnd};
@@ -21,12 +22,17 @@ pub trait CountedRead: Read + Drop {
     /// owner finds what the calls left.
     ghost identity: { Self → ℕ } = { λ _. 0 };
 
+    /// What a call of `read_counted` may return: from a reader to a result and the reader after it. A caller that passes
+    /// an error on can show by it that the reader returned that error.
+    ghost read_gives: { Self → Result ℕ Error → Self → Type 0 } = { λ _ _ _. Unit {0} };
+
     /// Does what `read` does.
     fn read_counted(&mut self, buf: &mut [u8]) -> io::Result<usize>
         ensures bound { ReadsAtMost result buf.new }
         ensures bytes { ReadConsumes (Self.remaining self.old) (Self.remaining self.new) result buf.new }
         ensures faults { CountsFault (faults self.old) (faults self.new) result }
         ensures ended { ShowsEnd (at_end self.new) result buf.new }
+        ensures gives { read_gives self.old result self.new }
         ensures same_reference { identity self.new ≡ identity self.old };
 }
 
@@ -47,6 +53,8 @@ impl<R: CountedRead> CountedRead for &mut R {
     ghost at_end = { λ r. R.at_end r.now };
 
     ghost identity = { λ r. r.ghost_name };
+
+    ghost read_gives = { λ r result s. R.read_gives r.now result s.now };
 
     fn read_counted(&mut self, buf: &mut [u8]) -> io::Result<usize> {
         (**self).read_counted(buf)

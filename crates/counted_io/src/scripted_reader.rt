@@ -4,14 +4,14 @@ ghost use Rattle.std.specs.Prelude.{◌≡◌, ◌<◌, Some, [], length, map, f
 ghost use Rattle.std.specs.List.{concat};
 ghost use Rattle.std.specs.Io.{ReadsAtMost};
 ghost use Rattle.std.specs.Io.KnownBytes.{ReadConsumes};
-ghost use Rattle.counted_io.specs.Faults.{CountsFault, ShowsEnd};
-ghost use Rattle.counted_io.specs.ReaderScript.{pieces_left, reader_tail, reader_faults, has_bytes, is_at_end, next_bytes, overwritten, pieces_after, ReadAnswers};
+ghost use Rattle.counted_io.specs.Faults.{one_more, CountsFault, ShowsEnd};
+ghost use Rattle.counted_io.specs.ReaderScript.{pieces_left, reader_tail, reader_reads, reader_faults, has_bytes, is_at_end, next_bytes, overwritten, pieces_after, ReadAnswers, ScriptGives};
 
 use crate::read::CountedRead;
 use std::io::{self, Read};
 
 /// What a [`ScriptedReader`] answers after its last piece.
-#[derive(Clone, Copy)]
+#[derive(Clone, Copy, Debug, PartialEq, Eq)]
 pub enum Tail {
     /// The end of input.
     End,
@@ -32,6 +32,7 @@ pub struct ScriptedReader {
     index: usize,
     place: usize,
     tail: Tail,
+    reads: usize,
     faults: usize,
 }
 
@@ -41,6 +42,7 @@ impl ScriptedReader {
         ensures pieces { pieces_left result ≡ filter has_bytes (map vec_items pieces.items) }
         ensures bytes { concat (pieces_left result) ≡ concat (map vec_items pieces.items) }
         ensures tail { reader_tail result ≡ tail }
+        ensures reads { reader_reads result ≡ 0 }
         ensures faults { reader_faults result ≡ 0 }
     {
         ScriptedReader {
@@ -48,8 +50,16 @@ impl ScriptedReader {
             index: 0,
             place: 0,
             tail,
+            reads: 0,
             faults: 0,
         }
+    }
+
+    /// How often it was read, whatever the read gave. At `usize::MAX` it stays.
+    pub fn reads(&self) -> usize
+        ensures { result ≡ reader_reads self.now }
+    {
+        self.reads
     }
 
     /// How many reads have failed. At `usize::MAX` it stays.
@@ -121,9 +131,11 @@ impl Read for ScriptedReader {
         ensures buffer { buf.new ≡ overwritten (next_bytes (pieces_left self.old) (length buf.old)) buf.old }
         ensures pieces { pieces_left self.new ≡ pieces_after (pieces_left self.old) (length buf.old) }
         ensures tail { reader_tail self.new ≡ reader_tail self.old }
+        ensures reads { reader_reads self.new ≡ one_more (reader_reads self.old) }
         ensures faults { CountsFault (reader_faults self.old) (reader_faults self.new) result }
         ensures ended { ShowsEnd (is_at_end (pieces_left self.new) (reader_tail self.new)) result buf.new }
     {
+        self.reads = self.reads.saturating_add(1);
         if buf.is_empty() {
             return Ok(0);
         }
@@ -139,6 +151,8 @@ impl CountedRead for ScriptedReader {
 
     ghost at_end = { λ r. is_at_end (pieces_left r) (reader_tail r) };
 
+    ghost read_gives = { ScriptGives };
+
     fn read_counted(&mut self, buf: &mut [u8]) -> io::Result<usize>
         ensures bound { ReadsAtMost result buf.new }
         ensures bytes { ReadConsumes (Some (concat (pieces_left self.old))) (Some (concat (pieces_left self.new))) result buf.new }
@@ -146,7 +160,9 @@ impl CountedRead for ScriptedReader {
         ensures buffer { buf.new ≡ overwritten (next_bytes (pieces_left self.old) (length buf.old)) buf.old }
         ensures pieces { pieces_left self.new ≡ pieces_after (pieces_left self.old) (length buf.old) }
         ensures tail { reader_tail self.new ≡ reader_tail self.old }
+        ensures reads { reader_reads self.new ≡ one_more (reader_reads self.old) }
         ensures faults { CountsFault (reader_faults self.old) (reader_faults self.new) result }
+        ensures gives { ScriptGives self.old result self.new }
         ensures ended { ShowsEnd (is_at_end (pieces_left self.new) (reader_tail self.new)) result buf.new }
     {
         self.read(buf)

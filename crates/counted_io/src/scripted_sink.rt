@@ -4,14 +4,14 @@ ghost use Rattle.std.specs.Prelude.{◌≡◌, Some, None, [], false, length};
 ghost use Rattle.std.specs.Io.{WritesAtMost};
 ghost use Rattle.std.specs.Io.KnownBytes.{WriteAppends, Keeps};
 ghost use Rattle.counted_io.specs.Faults.{one_more, CountsFault, CountsWrite, flushed_after_write, flushed_after_flush};
-ghost use Rattle.counted_io.specs.SinkScript.{sink_plan, sink_bytes, sink_calls, sink_faults, sink_flushed, FailsAs, TakesMost, WriteAnswers, FlushAnswers};
+ghost use Rattle.counted_io.specs.SinkScript.{sink_plan, sink_bytes, sink_calls, sink_faults, sink_flushed, FailsAs, TakesMost, WriteAnswers, FlushAnswers, ScriptWrites, ScriptFlushes};
 
 use crate::write::CountedWrite;
 use std::alloc::Global;
 use std::io::{self, Write};
 
 /// How the write of a [`ScriptedSink`] fails that is told to.
-#[derive(Clone, Copy)]
+#[derive(Clone, Copy, Debug, PartialEq, Eq)]
 pub enum SinkFault {
     /// By an error of this kind.
     Fault(io::ErrorKind),
@@ -76,6 +76,13 @@ impl ScriptedSink {
         ensures { result.now ≡ sink_bytes self.now }
     {
         &self.taken
+    }
+
+    /// How many writes there were, whatever they gave. At `usize::MAX` it stays.
+    pub fn calls(&self) -> usize
+        ensures { result ≡ sink_calls self.now }
+    {
+        self.calls
     }
 
     /// How many faults there were: calls that failed, and writes that took no byte of some. At `usize::MAX` it stays.
@@ -181,6 +188,10 @@ impl CountedWrite for ScriptedSink {
     ghost faults = { sink_faults };
 
     ghost is_flushed = { sink_flushed };
+
+    ghost write_gives = { ScriptWrites };
+
+    ghost flush_gives = { ScriptFlushes };
 
     fn write_counted(&mut self, bytes: &[u8]) -> io::Result<usize>
         ensures bound { WritesAtMost result bytes.now }

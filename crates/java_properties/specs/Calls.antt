@@ -1,13 +1,14 @@
 -- Lists of calls of a writer, and what making them does.
-use Rattle.std.specs.Prelude.{◌≡◌, ◌⊎◌, ℕ, Bool, true, false, if◌then◌else◌, List, [], ◌∷◌, ◌++◌, map, Option, Result, Ok, Err, is_some, string_bytes}
+use Rattle.std.specs.Prelude.{◌≡◌, ◌⊎◌, Bool, true, false, if◌then◌else◌, List, [], ◌∷◌, ◌++◌, map, Result, Ok, Err, is_some, string_bytes, vec_items}
+use Rattle.std.specs.Global.{Vec}
 use Rattle.std.specs.Str.{chars}
-use Rattle.std.specs.Io.KnownBytes.{Appends}
+use Rattle.counted_io.specs.Streams.{Sink, HasWritten}
 use Rattle.properties_format.specs.Settings.{Settings}
 use Rattle.properties_format.specs.Entries.{comment, pair}
 use Rattle.properties_format.specs.Writing as format
-use Rattle.java_properties.specs.SettingsTexts.{ending_of}
-use Rattle.java_properties.specs.Writing.{Writer, WritesLine, Flushes}
-use Rattle.java_properties.specs.Errors.{kind_of, IsPlain}
+use Rattle.java_properties.specs.Errors.{kind_of, Refuses}
+use Rattle.java_properties.specs.Settings.{ending_of}
+use Rattle.java_properties.specs.PropertiesWriter.{Writing, WritesLine, Flushes}
 use Rattle.java_properties.specs.declared.error.ErrorKind.{ErrorKind}
 use Rattle.java_properties.specs.declared.error.ErrorKind.TheVariants as kind
 use Rattle.java_properties.specs.declared.error.PropertiesError.{PropertiesError}
@@ -25,21 +26,15 @@ call_in Flush = format.flush_call
 abbrev pub calls_in : List Call → List format.Call
 calls_in calls = map call_in calls
 
--- the errors that say that a call was not accepted
-abbrev pub is_not_accepted : ErrorKind → Bool
-is_not_accepted kind.BadCommentPrefix = true
-is_not_accepted kind.BadKvSeparator = true
-is_not_accepted kind.EmptyKey = true
-is_not_accepted other = false
+-- ---- calls that were made
 
--- whether a call was accepted, of what it answered, or the error that ends the calls
-abbrev pub Answered : Result Unit PropertiesError → Result Bool PropertiesError → Type 0
-Answered (Ok done) result = result ≡ Ok true
-Answered (Err e) result = result ≡ (if is_not_accepted (kind_of e) then Ok false else Err e)
-
--- the writer after the calls, if none of them failed
-abbrev pub after_calls : Writer → List format.Call → Writer
-after_calls w calls = record w { settings = format.settings_after w.settings calls; lines = format.line_count_after w.settings w.lines calls }
+-- the writer after the calls, if none of them failed, with this sink
+abbrev pub after_calls : {W : Type 0} → Writing W → List format.Call → W → Writing W
+after_calls w calls sink = record w {
+  sink = sink;
+  settings = format.settings_after w.settings calls;
+  lines = format.line_count_after w.settings w.lines calls;
+}
 
 -- whether a flush comes after all lines of the calls, or came before them and they have none
 abbrev pub flushed_after : Settings → Bool → List format.Call → Bool
@@ -48,37 +43,86 @@ flushed_after s flushed (format.flush_call ∷ calls) = flushed_after s true cal
 flushed_after s flushed (call ∷ calls) =
     flushed_after (format.settings_after_call s call) (if is_some (format.written_line s call) then false else flushed) calls
 
--- The calls were made, and none failed: the sink has what they write, and is flushed where they flushed it after their last line.
-pub record Made {W : Type 0} (contents : W → Option (List ℕ)) (faults : W → ℕ) (is_flushed : W → Bool) (calls : List format.Call) (w : Writer) (from : W) (now : Writer) (to : W) : Type 0 where
-  pub after : now ≡ after_calls w calls
-  pub wrote : Appends (contents from) (contents to) (format.wrote w.encoding w.settings w.lines calls)
-  pub faultless : faults to ≡ faults from
-  pub flushed : flushed_after w.settings false calls ≡ true → is_flushed to ≡ true
+-- when a call is made, by whether a write failed before: a line or a flush only where none did, and a setting always
+abbrev pub MayMake : Bool → format.Call → Type 0
+MayMake failed (format.comment_call text) = failed ≡ false
+MayMake failed (format.pair_call key value) = failed ≡ false
+MayMake failed (format.prefix_call prefix) = Unit {0}
+MayMake failed (format.separator_call separator) = Unit {0}
+MayMake failed (format.ending_call ending) = Unit {0}
+MayMake failed format.flush_call = failed ≡ false
 
--- The call failed.
-abbrev pub FailsAt : {W : Type 0} → (W → Option (List ℕ)) → (W → ℕ) → (W → Bool) → format.Call → Writer → W → PropertiesError → Writer → W → Type 0
-FailsAt contents faults is_flushed (format.comment_call text) w from e now to = WritesLine contents faults w (comment text) from (Err e) now to
-FailsAt contents faults is_flushed (format.pair_call key value) w from e now to = WritesLine contents faults w (pair key value) from (Err e) now to
-FailsAt contents faults is_flushed (format.prefix_call prefix) w from e now to = IsPlain kind.Memory e × (now ≡ w) × (to ≡ from)
-FailsAt contents faults is_flushed (format.separator_call separator) w from e now to = IsPlain kind.Memory e × (now ≡ w) × (to ≡ from)
-FailsAt contents faults is_flushed (format.ending_call line_ending) w from e now to = ⊥
-FailsAt contents faults is_flushed format.flush_call w from e now to = Flushes contents faults is_flushed w from (Err e) now to
+abbrev pub MayMakeAll : Bool → List format.Call → Type 0
+MayMakeAll failed [] = Unit {0}
+MayMakeAll failed (call ∷ calls) = MayMake failed call × MayMakeAll failed calls
 
--- What one call gives: whether it was accepted, and what it leaves; or the error that ends the calls, which isn't that it was not accepted.
-abbrev pub CallGives : {W : Type 0} → (W → Option (List ℕ)) → (W → ℕ) → (W → Bool) → format.Call → Writer → W → Result Bool PropertiesError → Writer → W → Type 0
-CallGives contents faults is_flushed call w from (Ok accepted) now to =
-    (accepted ≡ format.is_accepted w.settings call)
-    × Made contents faults is_flushed (call ∷ []) w from now to
-    × (is_some (format.written_line w.settings call) ≡ false → (call ≡ format.flush_call → ⊥) → to ≡ from)
-CallGives contents faults is_flushed call w from (Err e) now to =
-    (is_not_accepted (kind_of e) ≡ false) × FailsAt contents faults is_flushed call w from e now to
+-- The calls were made, and none failed: no line or flush is among them if a write failed before, the sink has what they write, and is flushed where they flushed it after their last line.
+pub record HasMade {W : Type 0} (sink : Sink W) (old : Writing W) (calls : List format.Call) (new : Writing W) : Type 0 where
+  pub live : MayMakeAll old.failed calls
+  pub written : HasWritten sink old.sink (format.wrote old.encoding old.settings old.lines calls) new.sink
+  pub flushed : flushed_after old.settings false calls ≡ true → sink.is_flushed new.sink ≡ true
+  pub after : new ≡ after_calls old calls new.sink
 
--- What the calls give: for each whether it was accepted, all of them made; or the error of one, those before it made; or that there was no memory for the answer, and nothing was done.
-abbrev pub RunGives : {W V : Type 0} → (V → List Bool) → (W → Option (List ℕ)) → (W → ℕ) → (W → Bool) → List format.Call → Writer → W → Result V PropertiesError → Writer → W → Type 0
-RunGives items contents faults is_flushed calls w from (Ok answers) now to =
-    (items answers ≡ format.answers w.settings calls) × Made contents faults is_flushed calls w from now to
-RunGives {W} items contents faults is_flushed calls w from (Err e) now to =
-    (IsPlain kind.Memory e × (now ≡ w) × (to ≡ from))
-    ⊎ ((made : List format.Call) × (call : format.Call) × (others : List format.Call) × (calls ≡ made ++ (call ∷ others))
-    × ((middle : W) × Made contents faults is_flushed made w from (after_calls w made) middle
-    × (is_not_accepted (kind_of e) ≡ false) × FailsAt contents faults is_flushed call (after_calls w made) middle e now to))
+-- ---- one call
+
+-- the errors that say that a call was not accepted
+abbrev pub is_not_accepted : ErrorKind → Bool
+is_not_accepted kind.BadCommentPrefix = true
+is_not_accepted kind.BadKvSeparator = true
+is_not_accepted kind.EmptyKey = true
+is_not_accepted other = false
+
+-- whether a call was accepted, of what it returned, or the error that ends the calls
+abbrev pub SaysAccepted : Result Unit PropertiesError → Result Bool PropertiesError → Type 0
+SaysAccepted (Ok done) result = result ≡ Ok true
+SaysAccepted (Err error) result = result ≡ (if is_not_accepted (kind_of error) then Ok false else Err error)
+
+-- The call was made, and this says whether it was accepted. One that writes no line and is no flush leaves the sink as it was.
+pub record HasMadeCall {W : Type 0} (sink : Sink W) (old : Writing W) (call : format.Call) (accepted : Bool) (new : Writing W) : Type 0 where
+  pub answer : accepted ≡ format.is_accepted old.settings call
+  pub made : HasMade sink old (call ∷ []) new
+  pub quiet : is_some (format.written_line old.settings call) ≡ false → (call ≡ format.flush_call → ⊥) → new.sink ≡ old.sink
+
+-- how a call fails: a setter only where memory runs out
+abbrev pub Fails : {W : Type 0} → Sink W → Writing W → format.Call → PropertiesError → Writing W → Type 0
+Fails sink old (format.comment_call text) error new = WritesLine sink old (comment text) (Err error) new
+Fails sink old (format.pair_call key value) error new = WritesLine sink old (pair key value) (Err error) new
+Fails sink old (format.prefix_call prefix) error new = Refuses kind.Memory old error new
+Fails sink old (format.separator_call separator) error new = Refuses kind.Memory old error new
+Fails sink old (format.ending_call ending) error new = ⊥
+Fails sink old format.flush_call error new = Flushes sink old (Err error) new
+
+-- The call failed, by an error that doesn't say that it was not accepted.
+pub record FailsInCall {W : Type 0} (sink : Sink W) (old : Writing W) (call : format.Call) (error : PropertiesError) (new : Writing W) : Type 0 where
+  pub fails : Fails sink old call error new
+  pub final : is_not_accepted (kind_of error) ≡ false
+
+abbrev pub MakesCall : {W : Type 0} → Sink W → Writing W → format.Call → Result Bool PropertiesError → Writing W → Type 0
+MakesCall sink old call (Ok accepted) new = HasMadeCall sink old call accepted new
+MakesCall sink old call (Err error) new = FailsInCall sink old call error new
+
+-- ---- all calls
+
+-- All calls were made, and it is said of each whether it was accepted.
+pub record HasRun {W : Type 0} (sink : Sink W) (old : Writing W) (calls : List format.Call) (answers : List Bool) (new : Writing W) : Type 0 where
+  pub answered : answers ≡ format.answers old.settings calls
+  pub made : HasMade sink old calls new
+
+-- A call failed, and those before it were made.
+pub record StopsAtCall {W : Type 0} (sink : Sink W) (old : Writing W) (calls : List format.Call) (error : PropertiesError) (new : Writing W) : Type 0 where
+  pub before : List format.Call
+  pub call : format.Call
+  pub others : List format.Call
+  pub division : calls ≡ before ++ (call ∷ others)
+  pub middle : Writing W
+  pub made : HasMade sink old before middle
+  pub fails : FailsInCall sink middle call error new
+
+-- What running calls does. Where memory for the answers runs out, none is made.
+abbrev pub RunsCalls : {W : Type 0} → Sink W → Writing W → List format.Call → Result (Vec Bool) PropertiesError → Writing W → Type 0
+RunsCalls sink old calls (Ok answers) new = HasRun sink old calls (vec_items answers) new
+RunsCalls sink old calls (Err error) new = Refuses kind.Memory old error new ⊎ StopsAtCall sink old calls error new
+
+-- where a write failed before, the sink isn't touched
+abbrev pub LeavesFailed : {W : Type 0} → Writing W → Writing W → Type 0
+LeavesFailed old new = old.failed ≡ true → new.sink ≡ old.sink

@@ -3,6 +3,7 @@ use Rattle.std.specs.Prelude.{◌≡◌, ℕ, List, Option, Some, None}
 use Rattle.std.specs.Option.{option_map}
 use Rattle.std.specs.Str.{chars}
 use Rattle.std.specs.String.{string_bytes}
+use Rattle.properties_format.specs.Escapes.{Malformed, not_enough_digits, not_hex, invalid_character}
 use Rattle.java_properties.specs.declared.error.ErrorKind.{ErrorKind}
 use Rattle.java_properties.specs.declared.error.Cause.{Cause}
 use Rattle.java_properties.specs.declared.error.ErrorKind.TheVariants as kind
@@ -24,18 +25,49 @@ cause_of e = e.cause
 abbrev pub refused_of : PropertiesError → Option (List ℕ)
 refused_of e = option_map (λ text. chars (string_bytes text)) e.refused
 
--- an error of this kind, line and cause
-abbrev pub IsError : ErrorKind → Option ℕ → Cause → PropertiesError → Type 0
-IsError kind line cause e = (kind_of e ≡ kind) × (line_of e ≡ line) × (cause_of e ≡ cause)
+-- An error of this kind, line and cause, where no text was refused.
+pub record IsError (kind : ErrorKind) (line : Option ℕ) (cause : Cause) (error : PropertiesError) : Type 0 where
+  pub its_kind : kind_of error ≡ kind
+  pub its_line : line_of error ≡ line
+  pub its_cause : cause_of error ≡ cause
+  pub its_text : refused_of error ≡ None
 
 -- an error of this kind, of no line, that came from nothing else
-abbrev pub IsPlain : ErrorKind → PropertiesError → Type 0
-IsPlain kind e = IsError kind None cause.None e
+abbrev pub IsBareError : ErrorKind → PropertiesError → Type 0
+IsBareError kind error = IsError kind None cause.None error
 
 -- a stream failed so, in this line if it is of one
 abbrev pub IsStreamError : Option ℕ → Error → PropertiesError → Type 0
-IsStreamError line error e = IsError kind.Io line (cause.Io error) e
+IsStreamError line source error = IsError kind.Io line (cause.Io source) error
 
--- this text was refused, as of this kind
-abbrev pub IsRefusal : ErrorKind → List ℕ → PropertiesError → Type 0
-IsRefusal kind text e = IsPlain kind e × (refused_of e ≡ Some text)
+-- what a write that failed is the cause of: the sink's own error, or none where no byte was taken
+abbrev pub cause_of_write : Option Error → Cause
+cause_of_write Option.None = cause.None
+cause_of_write (Option.Some source) = cause.Io source
+
+-- the kind that malformed escapes are, and what they came from
+abbrev pub malformed_kind : Malformed → ErrorKind
+malformed_kind not_enough_digits = kind.NotEnoughDigits
+malformed_kind not_hex = kind.NotHex
+malformed_kind invalid_character = kind.InvalidCharacter
+
+abbrev pub malformed_cause : Malformed → Cause
+malformed_cause not_enough_digits = cause.None
+malformed_cause not_hex = cause.NotHex
+malformed_cause invalid_character = cause.None
+
+-- escapes of this line are so malformed
+abbrev pub IsMalformed : Malformed → ℕ → PropertiesError → Type 0
+IsMalformed malformed line error = IsError (malformed_kind malformed) (Some line) (malformed_cause malformed) error
+
+-- A text was refused, and the error of this kind has it: no line, and nothing that it came from.
+pub record RefusesText (kind : ErrorKind) (text : List ℕ) (error : PropertiesError) : Type 0 where
+  pub its_kind : kind_of error ≡ kind
+  pub its_line : line_of error ≡ None
+  pub its_cause : cause_of error ≡ cause.None
+  pub its_text : refused_of error ≡ Some text
+
+-- A call was refused by an error of this kind, and changed nothing.
+pub record Refuses {S : Type 0} (kind : ErrorKind) (old : S) (error : PropertiesError) (new : S) : Type 0 where
+  pub is : IsBareError kind error
+  pub same : new ≡ old

@@ -3,7 +3,9 @@
 ghost use Rattle.std.specs.Prelude.{◌≡◌, Some, None};
 ghost use Rattle.std.specs.Str.{chars};
 ghost use Rattle.std.specs.String.{string_bytes};
-ghost use Rattle.java_properties.specs.Errors.{kind_of, line_of, cause_of, IsError, IsPlain, IsRefusal, IsStreamError};
+ghost use Rattle.properties_format.specs.Escapes.{not_enough_digits, not_hex, invalid_character};
+ghost use Rattle.java_properties.specs.Errors.{kind_of, line_of, cause_of, cause_of_write, IsError, IsBareError, IsMalformed, IsStreamError, RefusesText};
+ghost use Rattle.java_properties.specs.DisplayTexts.{description, error_display};
 ghost use Rattle.java_properties.specs.declared.error.ErrorKind.TheVariants.{Io, BadCommentPrefix, BadKvSeparator, EmptyKey, TooManyLines, Failed, Memory};
 
 use std::alloc::{AllocError, AllocFailed};
@@ -31,7 +33,7 @@ pub enum ErrorKind {
     TooManyLines,
     /// A write failed before, so that the sink ends in a part of a line.
     Failed,
-    /// There was no memory.
+    /// Memory ran out.
     Memory,
     /// The encoding can't be edited.
     Unsupported,
@@ -50,7 +52,8 @@ pub enum Cause {
 
 /// Why a call failed, and in which line.
 ///
-/// It prints its kind in words and its line, as `I/O error (line_number = 3)`, and the text that was refused, where one was.
+/// It prints its kind in words and its line, as `I/O error (line_number = 3)`, and the text that was refused, where
+/// one was.
 #[derive(Debug, Drop)]
 pub struct PropertiesError {
     kind: ErrorKind,
@@ -81,16 +84,29 @@ impl PropertiesError {
         &self.cause
     }
 
-    /// A stream failed in the line of this number.
-    pub(crate) fn io(line_number: usize, cause: Cause) -> PropertiesError
+    /// What it came from, taken out of it, so that a stream's own error can be handed on.
+    pub fn into_cause(self) -> Cause
+        ensures { result ≡ cause_of self }
+    {
+        self.cause
+    }
+
+    // A stream failed in the line of this number.
+    fn io(line_number: usize, cause: Cause) -> PropertiesError
         ensures { IsError Io (Some line_number) cause result }
     {
-        PropertiesError {
-            kind: ErrorKind::Io,
-            line_number: Some(line_number),
-            cause,
-            refused: None,
-        }
+        PropertiesError::in_line(line_number, ErrorKind::Io, cause)
+    }
+
+    /// A write failed in the line of this number: by this error, or by taking no byte.
+    pub(crate) fn write_fault(line_number: usize, error: Option<io::Error>) -> PropertiesError
+        ensures { IsError Io (Some line_number) (cause_of_write error) result }
+    {
+        let cause = match error {
+            Some(error) => Cause::Io(error),
+            None => Cause::None,
+        };
+        PropertiesError::io(line_number, cause)
     }
 
     /// A read failed in the line of this number.
@@ -100,51 +116,82 @@ impl PropertiesError {
         PropertiesError::io(line_number, Cause::Io(error))
     }
 
-    pub(crate) fn too_many_lines() -> PropertiesError
-        ensures { IsPlain TooManyLines result }
+    /// In the line of this number fewer than four characters come after a `\u`.
+    pub(crate) fn not_enough_digits(line_number: usize) -> PropertiesError
+        ensures { IsMalformed not_enough_digits line_number result }
     {
-        PropertiesError::plain(ErrorKind::TooManyLines)
+        PropertiesError::in_line(line_number, ErrorKind::NotEnoughDigits, Cause::None)
+    }
+
+    /// In the line of this number one of the four characters after a `\u` is no hexadecimal digit.
+    pub(crate) fn not_hex(line_number: usize) -> PropertiesError
+        ensures { IsMalformed not_hex line_number result }
+    {
+        PropertiesError::in_line(line_number, ErrorKind::NotHex, Cause::NotHex)
+    }
+
+    /// In the line of this number an escape stands for a surrogate that has no partner.
+    pub(crate) fn invalid_character(line_number: usize) -> PropertiesError
+        ensures { IsMalformed invalid_character line_number result }
+    {
+        PropertiesError::in_line(line_number, ErrorKind::InvalidCharacter, Cause::None)
+    }
+
+    pub(crate) fn too_many_lines() -> PropertiesError
+        ensures { IsBareError TooManyLines result }
+    {
+        PropertiesError::bare(ErrorKind::TooManyLines)
     }
 
     /// A write failed before.
     pub(crate) fn failed() -> PropertiesError
-        ensures { IsPlain Failed result }
+        ensures { IsBareError Failed result }
     {
-        PropertiesError::plain(ErrorKind::Failed)
+        PropertiesError::bare(ErrorKind::Failed)
     }
 
     /// An empty key can't be written before blanks alone.
     pub(crate) fn empty_key() -> PropertiesError
-        ensures { IsPlain EmptyKey result }
+        ensures { IsBareError EmptyKey result }
     {
-        PropertiesError::plain(ErrorKind::EmptyKey)
+        PropertiesError::bare(ErrorKind::EmptyKey)
     }
 
     /// This text makes no comment.
     pub(crate) fn bad_comment_prefix(prefix: String) -> PropertiesError
-        ensures { IsRefusal BadCommentPrefix (chars (string_bytes prefix)) result }
+        ensures { RefusesText BadCommentPrefix (chars (string_bytes prefix)) result }
     {
-        PropertiesError::refusal(ErrorKind::BadCommentPrefix, prefix)
+        PropertiesError::refused(ErrorKind::BadCommentPrefix, prefix)
     }
 
     /// This text ends no key.
     pub(crate) fn bad_kv_separator(separator: String) -> PropertiesError
-        ensures { IsRefusal BadKvSeparator (chars (string_bytes separator)) result }
+        ensures { RefusesText BadKvSeparator (chars (string_bytes separator)) result }
     {
-        PropertiesError::refusal(ErrorKind::BadKvSeparator, separator)
+        PropertiesError::refused(ErrorKind::BadKvSeparator, separator)
     }
 
-    fn refusal(kind: ErrorKind, text: String) -> PropertiesError
-        ensures { IsRefusal kind (chars (string_bytes text)) result }
+    fn in_line(line_number: usize, kind: ErrorKind, cause: Cause) -> PropertiesError
+        ensures { IsError kind (Some line_number) cause result }
     {
         PropertiesError {
-            refused: Some(text),
-            ..PropertiesError::plain(kind)
+            line_number: Some(line_number),
+            cause,
+            ..PropertiesError::bare(kind)
         }
     }
 
-    fn plain(kind: ErrorKind) -> PropertiesError
-        ensures { IsPlain kind result }
+    fn refused(kind: ErrorKind, text: String) -> PropertiesError
+        ensures { RefusesText kind (chars (string_bytes text)) result }
+    {
+        PropertiesError {
+            refused: Some(text),
+            ..PropertiesError::bare(kind)
+        }
+    }
+
+    fn bare(kind: ErrorKind) -> PropertiesError
+        ensures { IsBareError kind result }
     {
         PropertiesError {
             kind,
@@ -169,22 +216,24 @@ impl From<io::Error> for PropertiesError {
 }
 
 impl From<AllocError> for PropertiesError {
-    ghost from_gives = { λ _ e. IsPlain Memory e };
+    ghost from_gives = { λ _ e. IsBareError Memory e };
 
     fn from(_: AllocError) -> PropertiesError {
-        PropertiesError::plain(ErrorKind::Memory)
+        PropertiesError::bare(ErrorKind::Memory)
     }
 }
 
 impl<T: Drop> From<AllocFailed<T>> for PropertiesError {
-    ghost from_gives = { λ _ e. IsPlain Memory e };
+    ghost from_gives = { λ _ e. IsBareError Memory e };
 
     fn from(_: AllocFailed<T>) -> PropertiesError {
-        PropertiesError::plain(ErrorKind::Memory)
+        PropertiesError::bare(ErrorKind::Memory)
     }
 }
 
 impl fmt::Display for PropertiesError {
+    ghost output = { error_display };
+
     fn fmt<W: fmt::Write>(&self, f: &mut fmt::Formatter<W>) -> fmt::Result {
         write!(f, "{}", self.kind.description())?;
         if let Some(text) = &self.refused {
@@ -200,7 +249,9 @@ impl fmt::Display for PropertiesError {
 impl Error for PropertiesError {}
 
 impl ErrorKind {
-    fn description(self) -> &'static str {
+    fn description(self) -> &'static str
+        ensures { result.now ≡ description self }
+    {
         match self {
             ErrorKind::Io => "I/O error",
             ErrorKind::NotEnoughDigits => "Malformed \\uxxxx encoding: not enough digits.",

@@ -1,75 +1,24 @@
 // The items of a file, one after another.
 
-ghost use Rattle.std.specs.Prelude.{◌≡◌, ◌<◌, OnSome, IsOkAnd};
+ghost use Rattle.std.specs.Prelude.{◌≡◌, IsOkAnd};
 ghost use Rattle.std.specs.Iterator.{at_most};
-ghost use Rattle.java_properties.specs.Reading.{CallLeaves, most_left};
-ghost use Rattle.java_properties.specs.Cutting.{fresh};
-ghost use Rattle.java_properties.specs.Iterating.{items_progress, iter_progress, iter_reader};
+ghost use Rattle.properties_format.specs.Encoding.{windows_1252};
+ghost use Rattle.properties_format.specs.ItemsToCome.{start};
+ghost use Rattle.java_properties.specs.Encoding.{encoding_of};
+ghost use Rattle.java_properties.specs.LineFinder.{lines_left};
+ghost use Rattle.java_properties.specs.PropertiesIter.{Reading, NextGives};
 
+mod items;
+mod whole;
+
+use crate::encoding::Encoding;
 use crate::error::PropertiesError;
-use crate::line::{Line, LineContent};
-use crate::lines::{LineCutter, NaturalLine};
-use crate::parse::{ParsedLine, parse_line};
+use crate::iter::items::ItemReader;
+use crate::line::Line;
 use counted_io::CountedRead;
-use std::alloc::{AllocError, Global};
-
-// What is held between two items. It is passed its reader at each call.
-#[derive(Drop)]
-pub(crate) struct ItemReader {
-    cutter: LineCutter,
-    alloc: Global,
-}
-
-impl ItemReader {
-    pub(crate) fn new(alloc: Global) -> ItemReader
-        ensures { items_progress result ≡ fresh }
-    {
-        ItemReader {
-            cutter: LineCutter::new(alloc),
-            alloc,
-        }
-    }
-
-    // The next item, an error, or `None` where no more come.
-    pub(crate) fn next_item<R: CountedRead>(
-        &mut self,
-        reader: &mut R,
-    ) -> Option<Result<Line, PropertiesError>>
-        ensures leaves { CallLeaves R.remaining R.at_end R.faults (items_progress self.old) reader.old result (items_progress self.new) reader.new }
-        ensures same_reference { R.identity reader.new ≡ R.identity reader.old }
-        ensures nearer { OnSome result (most_left (items_progress self.new) < most_left (items_progress self.old)) }
-    {
-        while let Some(answer) = self.cutter.next_line(reader) {
-            match answer {
-                Ok(NaturalLine(number, text)) => match self.item_of(number, text.as_str()) {
-                    Ok(Some(item)) => return Some(Ok(item)),
-                    Ok(None) => {}
-                    Err(error) => {
-                        self.cutter.end();
-                        return Some(Err(PropertiesError::from(error)));
-                    }
-                },
-                Err(error) => return Some(Err(error)),
-            }
-        }
-        None
-    }
-
-    // The item that a line is, where it isn't blank.
-    fn item_of(&self, number: usize, text: &str) -> Result<Option<Line>, AllocError> {
-        let content = match parse_line(text) {
-            None => return Ok(None),
-            Some(ParsedLine::Comment(comment)) => {
-                LineContent::Comment(String::from_str(self.alloc, comment)?)
-            }
-            Some(ParsedLine::KVPair(key, value)) => LineContent::KVPair(
-                String::from_str(self.alloc, key)?,
-                String::from_str(self.alloc, value)?,
-            ),
-        };
-        Ok(Some(Line::new(number, content)))
-    }
-}
+use std::alloc::Global;
+use std::marker::Model;
+pub use whole::{Stopped, read_lines};
 
 /// The comments and the pairs of a file, in order, each under the number of its line.
 ///
@@ -91,20 +40,39 @@ pub struct PropertiesIter<R> {
     items: ItemReader,
 }
 
+impl<R> Model for PropertiesIter<R> {
+    ghost Value = { Reading R };
+
+    ghost view = { λ it. record { reader = it.reader; state = it.items } };
+}
+
 impl<R: CountedRead> PropertiesIter<R> {
-    /// Reads windows-1252. It reads nothing yet, and takes no memory before the first item is asked for.
+    /// Reads windows-1252, unless a byte order mark says another encoding. It reads nothing yet, and takes no memory
+    /// before the first item is asked for.
     pub fn new(alloc: Global, input: R) -> Result<PropertiesIter<R>, PropertiesError>
-        ensures { IsOkAnd result (λ it. (iter_progress it ≡ fresh) × (iter_reader it ≡ input)) }
+        ensures { IsOkAnd result (λ it. it ≡ record { reader = input; state = start windows_1252 }) }
+    {
+        PropertiesIter::new_with_encoding(alloc, input, Encoding::WINDOWS_1252)
+    }
+
+    /// Reads this encoding, unless a byte order mark says another one. It reads nothing yet, and takes no memory
+    /// before the first item is asked for.
+    pub fn new_with_encoding(
+        alloc: Global,
+        input: R,
+        encoding: Encoding,
+    ) -> Result<PropertiesIter<R>, PropertiesError>
+        ensures { IsOkAnd result (λ it. it ≡ record { reader = input; state = start (encoding_of encoding) }) }
     {
         Ok(PropertiesIter {
             reader: input,
-            items: ItemReader::new(alloc),
+            items: ItemReader::new(alloc, encoding),
         })
     }
 
     /// The reader, after the bytes that were read so far.
     pub fn into_inner(self) -> R
-        ensures { result ≡ iter_reader self }
+        ensures { result ≡ self.reader }
     {
         let PropertiesIter { reader, items: _ } = self;
         reader
@@ -114,9 +82,9 @@ impl<R: CountedRead> PropertiesIter<R> {
 impl<R: CountedRead> Iterator for PropertiesIter<R> {
     type Item = Result<Line, PropertiesError>;
 
-    ghost next_gives = { λ a answer b. CallLeaves R.remaining R.at_end R.faults (iter_progress a) (iter_reader a) answer (iter_progress b) (iter_reader b) × (R.identity (iter_reader b) ≡ R.identity (iter_reader a)) };
+    ghost next_gives = { λ old answer new. NextGives R.CountedRead old answer new };
 
-    ghost remaining = { λ it. at_most (most_left (iter_progress it)) };
+    ghost remaining = { λ it. at_most (lines_left it.state) };
 
     fn next(&mut self) -> Option<Result<Line, PropertiesError>> {
         self.items.next_item(&mut self.reader)

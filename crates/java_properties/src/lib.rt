@@ -15,17 +15,19 @@
 //! ```
 #![tactic(auto)]
 
+mod characters;
 mod encoding;
 mod error;
+mod escape;
+mod input;
 mod iter;
 mod line;
 mod lines;
 mod parse;
-mod window;
 mod writer;
 
 pub use encoding::Encoding;
 pub use error::{Cause, ErrorKind, PropertiesError};
-pub use iter::PropertiesIter;
+pub use iter::{PropertiesIter, Stopped, read_lines};
 pub use line::{Line, LineContent};
 pub use writer::{Call, LineEnding, PropertiesWriter, run_calls};

@@ -6,9 +6,11 @@ pub mod PieceEnds
 pub mod Pieces
 pub mod Utf16
 pub mod Utf8Characters
+pub mod Utf8First
 pub mod Utf8Inverse
 pub mod Utf8Pieces
 pub mod Utf8Rows
 pub mod Utf8Sequences
 pub mod Waiting
+pub mod WellFormed
 pub mod Windows1252

@@ -5,6 +5,7 @@ pub mod Encodings
 pub mod Escapes
 pub mod Groups
 pub mod Items
+pub mod ItemsToCome
 pub mod Lines
 pub mod Maps
 pub mod Pieces

@@ -6,6 +6,7 @@ pub mod Groups
 pub mod Split
 pub mod Escapes
 pub mod Items
+pub mod ItemsToCome
 pub mod Settings
 pub mod Printing
 pub mod Writing

@@ -13,6 +13,7 @@ pub mod Hexadecimal
 pub mod Escapes
 pub mod Entries
 pub mod Items
+pub mod ItemsToCome
 pub mod Settings
 pub mod Printing
 pub mod Writing

@@ -9,6 +9,8 @@ pub mod Logical
 pub mod Split
 pub mod Escapes
 pub mod Items
+pub mod ItemsToCome
+pub mod ReaderSteps
 pub mod Settings
 pub mod Maps
 pub mod Body

@@ -51,6 +51,15 @@ FitsSome (row ∷ more) bs = FitsRow row bs ⊎ FitsSome more bs
 abbrev pub IsWellFormed : List ℕ → Type 0
 IsWellFormed bs = FitsSome well_formed_rows bs
 
+-- the bytes are these sequences in order, each well-formed
+abbrev pub AreSequences : List ℕ → List (List ℕ) → Type 0
+AreSequences d [] = d ≡ []
+AreSequences d (bs ∷ more) = (rest : List ℕ) × (d ≡ bs ++ rest) × IsWellFormed bs × AreSequences rest more
+
+-- the bytes are well-formed from the first to the last
+abbrev pub IsWellFormedText : List ℕ → Type 0
+IsWellFormedText d = (sequences : List (List ℕ)) × AreSequences d sequences
+
 -- the bytes begin a well-formed sequence, or are a whole one
 abbrev pub Begins : List ℕ → Type 0
 Begins bs = (more : List ℕ) × IsWellFormed (bs ++ more)

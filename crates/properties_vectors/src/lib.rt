@@ -4,6 +4,7 @@
 //! port of.
 #![tactic(auto)]
 
+pub mod calling;
 #[cfg(test)]
 mod reading;
 #[cfg(test)]

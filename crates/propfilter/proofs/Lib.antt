@@ -1,1 +1,4 @@
-pub mod Pumping
+pub mod Pairs
+pub mod Filtering
+pub mod Lent
+pub mod Errors

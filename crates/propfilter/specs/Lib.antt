@@ -1,2 +1,2 @@
-pub mod Filtering
-pub mod Running
+pub mod Filter
+pub mod Run

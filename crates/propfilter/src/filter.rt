@@ -1,64 +1,83 @@
 // The pairs of a reader, to a sink.
 
-ghost use Rattle.propfilter.specs.Filtering.{FilterLeaves};
-ghost use Rattle.java_properties.specs.Iterating.{iter_reader, iter_progress};
-ghost use Rattle.properties_format.specs.Settings.{default_settings};
-ghost use Rattle.java_properties.specs.Writing.{writer_state, writer_sink};
-ghost use Rattle.std.specs.Prelude.{◌≡◌, false};
+ghost use Rattle.std.specs.Prelude.{◌≡◌};
+ghost use Rattle.counted_io.specs.Streams.{IsSameReader, IsSameSink};
+ghost use Rattle.properties_format.specs.Encoding.{output_encoding};
+ghost use Rattle.properties_format.specs.ItemsToCome.{start};
+ghost use Rattle.java_properties.specs.Encoding.{encoding_of};
+ghost use Rattle.java_properties.specs.PropertiesIter.{said};
+ghost use Rattle.java_properties.specs.PropertiesWriter.{new_writer};
+ghost use Rattle.propfilter.specs.Filter.{Filters, WritesIfPair};
 
 use counted_io::{CountedRead, CountedWrite};
-use java_properties::{LineContent, PropertiesError, PropertiesIter, PropertiesWriter};
+use java_properties::{Encoding, LineContent, PropertiesError, PropertiesIter, PropertiesWriter};
 use std::alloc::Global;
 
-/// Reads windows-1252, and writes each pair as one line, in windows-1252. Comments are dropped.
+/// Reads the items of an input in this encoding, and writes each pair as one line in its output encoding. Comments are
+/// dropped.
 ///
-/// At a reader's error the pairs before it have been written, and the sink is flushed once.
+/// A byte order mark changes how the input is read, and never how the pairs are written. At a reader's error the pairs
+/// before it have been written, and the sink is flushed once.
 ///
 /// ```text
 /// let mut input: &[u8] = b"# a comment\nb = 2\na";
 /// let mut output = Counted::new(Vec::new(alloc));
-/// filter(alloc, &mut input, &mut output)?;
+/// filter(alloc, &mut input, &mut output, Encoding::WINDOWS_1252)?;
 /// // The sink holds `b=2` and `a=`, each ended by a line feed.
 /// ```
 pub fn filter<R: CountedRead, W: CountedWrite>(
     alloc: Global,
     input: &mut R,
     writer: &mut W,
+    encoding: Encoding,
 ) -> Result<(), PropertiesError>
-    ensures { FilterLeaves R.remaining R.at_end R.faults W.contents W.faults W.is_flushed input.old writer.old result input.new writer.new }
+    ensures { let e = encoding_of encoding in
+        Filters R.CountedRead W.CountedWrite e input.old writer.old result input.new writer.new }
 {
-    let mut items = PropertiesIter::new(alloc, input)?;
-    let mut lines = PropertiesWriter::new(alloc, writer)?;
-    let answer = write_pairs(&mut items, &mut lines);
+    let mut items = PropertiesIter::new_with_encoding(alloc, input, encoding)?;
+    let mut lines = PropertiesWriter::new_with_encoding(alloc, writer, encoding)?;
+    let result = write_pairs(&mut items, &mut lines);
     let _ = items.into_inner();
     let _ = lines.into_inner();
-    answer
+    result
 }
 
+// Both are new, and of one encoding.
 fn write_pairs<R: CountedRead, W: CountedWrite>(
     items: &mut PropertiesIter<R>,
     lines: &mut PropertiesWriter<W>,
 ) -> Result<(), PropertiesError>
-    requires reading { (iter_progress items.old).done ≡ false }
-    requires writing { (writer_state lines.old).failed ≡ false }
-    requires settings { (writer_state lines.old).settings ≡ default_settings }
-    ensures leaves { FilterLeaves R.remaining R.at_end R.faults W.contents W.faults W.is_flushed (iter_reader items.old) (writer_sink lines.old) result (iter_reader items.new) (writer_sink lines.new) }
-    ensures same_reader { R.identity (iter_reader items.new) ≡ R.identity (iter_reader items.old) }
-    ensures same_sink { W.identity (writer_sink lines.new) ≡ W.identity (writer_sink lines.old) }
+    requires reading { items.old.state ≡ start items.old.state.encoding }
+    requires writing { lines.old ≡ new_writer (output_encoding items.old.state.encoding) lines.old.sink }
+    ensures filters { let e = items.old.state.encoding in
+        let input = items.old.reader in
+        let output = lines.old.sink in
+        Filters R.CountedRead W.CountedWrite e input output result items.new.reader lines.new.sink }
+    ensures same_reader { IsSameReader R.CountedRead items.old.reader items.new.reader }
+    ensures same_sink { IsSameSink W.CountedWrite lines.old.sink lines.new.sink }
 {
     while let Some(item) = items.next() {
         match item {
-            Ok(line) => {
-                if let LineContent::KVPair(key, value) = line.content() {
-                    lines.write(key.as_str(), value.as_str())?;
-                }
-            }
+            Ok(line) => write_if_pair(&mut *lines, line.content())?,
             Err(error) => {
-                // The reader's error is the answer, whatever the flush says.
+                // The reader's error is returned, whatever the flush says.
                 let _ = lines.flush();
                 return Err(error);
             }
         }
     }
     lines.finish()
+}
+
+fn write_if_pair<W: CountedWrite>(
+    lines: &mut PropertiesWriter<W>,
+    content: &LineContent,
+) -> Result<(), PropertiesError>
+    ensures writes { WritesIfPair W.CountedWrite lines.old (said content.now) result lines.new }
+    ensures same_sink { IsSameSink W.CountedWrite lines.old.sink lines.new.sink }
+{
+    match content {
+        LineContent::KVPair(key, value) => lines.write(key.as_str(), value.as_str()),
+        LineContent::Comment(_) => Ok(()),
+    }
 }

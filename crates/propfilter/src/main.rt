@@ -17,16 +17,16 @@ fn main(rt: HostRuntime) -> ExitCode {
     ExitCode::from(status(&rt).unwrap_or(1))
 }
 
-// What `run` answers of the words and the standard streams.
+// What `run` returns on the program's arguments and the standard streams.
 fn status(rt: &HostRuntime) -> io::Result<u8> {
     let alloc = rt.alloc();
-    let words: Vec<String> = env::args(rt)?.skip(1).collect(alloc)?;
+    let arguments: Vec<String> = env::args(rt)?.skip(1).collect(alloc)?;
     let mut input = Counted::new(BufReader::with_capacity(alloc, BLOCK, rt.stdin())?);
     let mut output = Counted::new(BufWriter::with_capacity(alloc, BLOCK, rt.stdout())?);
     let mut errors = Counted::new(rt.stderr());
     Ok(run(
         alloc,
-        words.as_slice(),
+        arguments.as_slice(),
         &mut input,
         &mut output,
         &mut errors,

@@ -1,32 +1,46 @@
 // The program, over any streams.
 
-ghost use Rattle.propfilter.specs.Running.{RunLeaves};
+ghost use Rattle.std.specs.Prelude.{◌∷◌, [], IfSome, map, string_bytes};
+ghost use Rattle.std.specs.Option.{option_map};
+ghost use Rattle.java_properties.specs.Encoding.{encoding_of};
+ghost use Rattle.propfilter.specs.Run.{IsAsked, Runs, Says};
 
 use crate::filter::filter;
-use counted_io::{CountedRead, CountedWrite};
+use counted_io::{CountedRead, CountedWrite, send};
+use java_properties::Encoding;
 use std::alloc::Global;
 use std::fmt::Display;
 
 const USAGE: &str = "usage: propfilter [windows-1252|utf-8|utf-16le|utf-16be [ascii]]";
 
-/// Filters `input` to `output`, and answers the status: 0, or 1 at an error, whose text goes to `errors`. Any word
-/// prints the usage text on `errors`, and answers 2.
+/// Filters `input` to `output` in the encoding that the arguments name, and returns the exit status: 0, or 1 at an
+/// error, whose text goes to `errors` as a line.
 ///
-/// A fault of `errors`, or want of memory for the text, is dropped.
+/// Without arguments the encoding is windows-1252. Arguments that name none print the usage on `errors`: the status
+/// is 2, and nothing is read. What can't be printed on `errors` is dropped.
+///
+/// ```text
+/// let mut input: &[u8] = b"b = 2";
+/// let mut output = Counted::new(Vec::new(alloc));
+/// let mut errors = Counted::new(Vec::new(alloc));
+/// run(alloc, &[], &mut input, &mut output, &mut errors); // 0, and the output holds `b=2`
+/// ```
 pub fn run<R: CountedRead, W: CountedWrite, E: CountedWrite>(
     alloc: Global,
-    words: &[String],
+    arguments: &[String],
     input: &mut R,
     output: &mut W,
     errors: &mut E,
 ) -> u8
-    ensures { RunLeaves R.remaining R.at_end R.faults W.contents W.faults W.is_flushed words.now input.old output.old errors.old result input.new output.new errors.new }
+    ensures { let names = map string_bytes arguments.now in
+        Runs R.CountedRead W.CountedWrite E.CountedWrite names
+        input.old output.old errors.old result input.new output.new errors.new }
 {
-    if !words.is_empty() {
+    let Some(encoding) = encoding_asked(arguments) else {
         say(alloc, errors, USAGE);
         return 2;
-    }
-    match filter(alloc, input, output) {
+    };
+    match filter(alloc, input, output, encoding) {
         Ok(()) => 0,
         Err(error) => {
             say(alloc, errors, error);
@@ -35,21 +49,35 @@ pub fn run<R: CountedRead, W: CountedWrite, E: CountedWrite>(
     }
 }
 
-// Sends a text and a line feed. What fails is dropped.
-fn say<E: CountedWrite>(alloc: Global, errors: &mut E, text: impl Display + Drop) {
-    if let Ok(line) = format!(in alloc; "{text}\n") {
-        send(errors, line.as_bytes());
-        let _ = errors.flush_counted();
+fn encoding_asked(arguments: &[String]) -> Option<Encoding>
+    ensures { IsAsked (map string_bytes arguments.now) (option_map encoding_of result) }
+{
+    match arguments {
+        [] => Some(Encoding::WINDOWS_1252),
+        [name] => encoding_named(name.as_str()),
+        _ => None,
     }
 }
 
-fn send<E: CountedWrite>(errors: &mut E, bytes: &[u8]) {
-    let mut rest = bytes;
-    while !rest.is_empty() {
-        match errors.write_counted(rest) {
-            Ok(0) | Err(_) => return,
-            Ok(taken) => rest = &rest[taken..],
-        }
+fn encoding_named(name: &str) -> Option<Encoding>
+    ensures { IsAsked (name.now ∷ []) (option_map encoding_of result) }
+{
+    match name {
+        "windows-1252" => Some(Encoding::WINDOWS_1252),
+        "utf-8" => Some(Encoding::UTF_8),
+        "utf-16le" => Some(Encoding::UTF_16LE),
+        "utf-16be" => Some(Encoding::UTF_16BE),
+        _ => None,
+    }
+}
+
+// Says a text as a line. What fails is dropped: there is nowhere left to tell it.
+fn say<E: CountedWrite, T: Display + Drop>(alloc: Global, errors: &mut E, text: T)
+    ensures { IfSome (T.output text) (λ text. Says E.CountedWrite errors.old text errors.new) }
+{
+    if let Ok(line) = format!(in alloc; "{text}\n") {
+        let _ = send(errors, line.as_bytes());
+        let _ = errors.flush_counted();
     }
 }
 

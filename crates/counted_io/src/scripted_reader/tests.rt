@@ -17,12 +17,14 @@ fn hands_over_one_piece_at_a_read(rt: HostRuntime) {
     let pieces = pieces(rt.alloc(), &["", "abc", "", "d"]).expect(&rt, "memory");
     let mut input = ScriptedReader::new(pieces, Tail::End);
     let mut room = [0u8; 2];
+    assert_eq!(rt; input.reads(), 0);
     assert_eq!(rt; input.read_counted(&mut []).ok(), Some(0));
     for (count, bytes) in [(2, b"ab"), (1, b"cb"), (1, b"db"), (0, b"db"), (0, b"db")] {
         assert_eq!(rt; input.read_counted(&mut room).ok(), Some(count));
         assert_eq!(rt; room.as_slice(), bytes.as_slice());
     }
     assert_eq!(rt; input.faults(), 0);
+    assert_eq!(rt; input.reads(), 6);
 }
 
 #[test]
@@ -38,4 +40,15 @@ fn fails_after_the_last_piece(rt: HostRuntime) {
         assert_eq!(rt; input.faults(), faults);
     }
     assert_eq!(rt; input.read(&mut []).ok(), Some(0));
+    assert_eq!(rt; input.reads(), 4);
+}
+
+#[test]
+fn tells_tails_apart(rt: HostRuntime) {
+    assert_eq!(rt;
+        Tail::Fault(ErrorKind::Other),
+        Tail::Fault(ErrorKind::Other)
+    );
+    assert!(rt; Tail::Fault(ErrorKind::Other) != Tail::Fault(ErrorKind::TimedOut));
+    assert!(rt; Tail::End != Tail::Fault(ErrorKind::Other));
 }

@@ -7,12 +7,14 @@ use std::io::ErrorKind;
 fn takes_and_fails_by_the_script(rt: HostRuntime) {
     let fault = SinkFault::Fault(ErrorKind::StorageFull);
     let mut output = ScriptedSink::new(rt.alloc(), 2, Some(2), fault);
+    assert_eq!(rt; output.calls(), 0);
     assert_eq!(rt; output.write_counted(b"abc").ok(), Some(2));
     let error = output.write_counted(b"c").expect_err(&rt, "a fault");
     assert_eq!(rt; error.kind(), ErrorKind::StorageFull);
     assert_eq!(rt; output.write(b"c").ok(), Some(1));
     assert_eq!(rt; output.bytes(), b"abc".as_slice());
     assert_eq!(rt; output.faults(), 1);
+    assert_eq!(rt; output.calls(), 3);
 }
 
 #[test]
@@ -34,4 +36,12 @@ fn fails_flushes_while_told_to(rt: HostRuntime) {
     output.set_flush_fault(None);
     assert!(rt; output.flush().is_ok());
     assert_eq!(rt; output.faults(), 1);
+    assert_eq!(rt; output.calls(), 0);
+}
+
+#[test]
+fn tells_faults_apart(rt: HostRuntime) {
+    assert_eq!(rt; SinkFault::Nothing, SinkFault::Nothing);
+    assert!(rt; SinkFault::Nothing != SinkFault::Fault(ErrorKind::Other));
+    assert!(rt; SinkFault::Fault(ErrorKind::TimedOut) != SinkFault::Fault(ErrorKind::Other));
 }

@@ -1,12 +1,15 @@
-// Lines that no item shows: those that are blank.
+// Lines that no item shows: those that are blank, and those without a number.
 
 use super::*;
+use crate::error::ErrorKind;
+use counted_io::{ScriptedReader, Tail};
+use std::io;
 use std::test::Fail;
 
 // The lines of the bytes, each as its number, a bar, its text and a semicolon.
 fn lines(alloc: Global, bytes: &[u8]) -> Result<String, Fail> {
     let mut all = String::new(alloc);
-    for line in NaturalLines::new(alloc, bytes) {
+    for line in NaturalLines::new(alloc, bytes, Encoding::WINDOWS_1252) {
         let NaturalLine(number, text) = line?;
         all.push_str(format!(in alloc; "{number}|{text};")?.as_str())?;
     }
@@ -36,5 +39,29 @@ fn cuts_natural_lines(rt: HostRuntime) -> Result<(), Fail> {
         let found = lines(rt.alloc(), bytes)?;
         assert_eq!(rt; found.as_str(), wanted);
     }
+    Ok(())
+}
+
+#[test]
+fn runs_out_of_numbers(rt: HostRuntime) -> Result<(), Fail> {
+    let alloc = rt.alloc();
+    let first = Vec::from_slice(alloc, b"a=1\n")?;
+    let second = Vec::from_slice(alloc, b"b=2")?;
+    let pieces = vec![in alloc; first, second]?;
+    let reader = ScriptedReader::new(pieces, Tail::Fault(io::ErrorKind::Other));
+    let passed = usize::MAX - 1;
+    let mut lines = NaturalLines::after_lines(alloc, reader, Encoding::WINDOWS_1252, passed);
+    let Some(Ok(NaturalLine(number, text))) = lines.next() else {
+        return Err(Fail::from("the last line is lost"));
+    };
+    assert_eq!(rt; number, usize::MAX);
+    assert_eq!(rt; text.as_str(), "a=1");
+    let Some(Err(error)) = lines.next() else {
+        return Err(Fail::from("there is no error"));
+    };
+    assert_eq!(rt; error.kind(), ErrorKind::TooManyLines);
+    assert_eq!(rt; error.line_number(), None);
+    assert!(rt; lines.next().is_none());
+    assert_eq!(rt; lines.reader.reads(), 1);
     Ok(())
 }

@@ -24,6 +24,8 @@ fn cuts_lines_into_slices(rt: HostRuntime) -> Result<(), Fail> {
         ("# foo", r#"comment "foo""#),
         (" # foo", r#"comment "foo""#),
         ("#", r#"comment """#),
+        ("\t!\x0c foo\t \x0c", r#"comment "foo""#),
+        ("# \u{e9} \u{e9} ", "comment \"\u{e9} \u{e9}\""),
         ("a = b", r#"pair "a" "b""#),
         ("a : b", r#"pair "a" "b""#),
         ("a b", r#"pair "a" "b""#),
@@ -42,6 +44,7 @@ fn cuts_lines_into_slices(rt: HostRuntime) -> Result<(), Fail> {
         ("=x", r#"pair "" "x""#),
         (r"\=x", r#"pair "\\=x" """#),
         (r"\ ", r#"pair "\\ " """#),
+        ("\u{a0}a\r\nb", "pair \"\\u{a0}a\\r\\nb\" \"\""),
         ("\u{1f41e}=\u{1f41e}", "pair \"\u{1f41e}\" \"\u{1f41e}\""),
     ];
     for (line, wanted) in rows {

@@ -1,9 +1,7 @@
 // Calls of a writer as values.
 
-ghost use Rattle.std.specs.Prelude.{◌≡◌, true, IfErr};
-ghost use Rattle.java_properties.specs.Streams.{CameFromSink};
-ghost use Rattle.java_properties.specs.Writing.{writer_state, writer_sink};
-ghost use Rattle.java_properties.specs.Calls.{calls_in, call_in, CallGives, RunGives, Answered};
+ghost use Rattle.counted_io.specs.Streams.{IsSameSink};
+ghost use Rattle.java_properties.specs.Calls.{calls_in, call_in, SaysAccepted, MakesCall, RunsCalls, LeavesFailed};
 
 use crate::error::{ErrorKind, PropertiesError};
 use crate::writer::{LineEnding, PropertiesWriter};
@@ -27,10 +25,10 @@ pub enum Call {
     Flush,
 }
 
-/// Makes the calls in order, and answers for each whether it was accepted.
+/// Makes the calls in order, and returns for each whether it was accepted.
 ///
 /// A bad prefix, a bad separator and an empty key under a separator of blanks are not accepted, change nothing, and
-/// the calls go on. Any other error ends them, and is the answer: the calls before it have been made.
+/// the calls go on. Any other error ends them and is returned: the calls before it have been made.
 ///
 /// ```text
 /// let calls = vec![in alloc; Call::Ending(LineEnding::CRLF), Call::Pair(key, value), Call::Flush]?;
@@ -41,10 +39,9 @@ pub fn run_calls<W: CountedWrite>(
     calls: &[Call],
     writer: &mut PropertiesWriter<W>,
 ) -> Result<Vec<bool>, PropertiesError>
-    ensures runs { RunGives (λ v. v.items) W.contents W.faults W.is_flushed (calls_in calls.now) (writer_state writer.old) (writer_sink writer.old) result (writer_state writer.new) (writer_sink writer.new) }
-    ensures untouched { (writer_state writer.old).failed ≡ true → writer_sink writer.new ≡ writer_sink writer.old }
-    ensures cause { IfErr result (λ e. CameFromSink W.write_gives W.flush_gives e (writer_sink writer.new)) }
-    ensures same_reference { W.identity (writer_sink writer.new) ≡ W.identity (writer_sink writer.old) }
+    ensures runs { RunsCalls W.CountedWrite writer.old (calls_in calls.now) result writer.new }
+    ensures untouched { LeavesFailed writer.old writer.new }
+    ensures same_sink { IsSameSink W.CountedWrite writer.old.sink writer.new.sink }
 {
     let mut answers = Vec::with_capacity(alloc, calls.len())?;
     for call in calls {
@@ -59,29 +56,28 @@ fn run_call<W: CountedWrite>(
     call: &Call,
     writer: &mut PropertiesWriter<W>,
 ) -> Result<bool, PropertiesError>
-    ensures gives { CallGives W.contents W.faults W.is_flushed (call_in call.now) (writer_state writer.old) (writer_sink writer.old) result (writer_state writer.new) (writer_sink writer.new) }
-    ensures untouched { (writer_state writer.old).failed ≡ true → writer_sink writer.new ≡ writer_sink writer.old }
-    ensures cause { IfErr result (λ e. CameFromSink W.write_gives W.flush_gives e (writer_sink writer.new)) }
-    ensures same_reference { W.identity (writer_sink writer.new) ≡ W.identity (writer_sink writer.old) }
+    ensures makes { MakesCall W.CountedWrite writer.old (call_in call.now) result writer.new }
+    ensures untouched { LeavesFailed writer.old writer.new }
+    ensures same_sink { IsSameSink W.CountedWrite writer.old.sink writer.new.sink }
 {
     match call {
-        Call::Comment(text) => answer_of(writer.write_comment(text.as_str())),
-        Call::Pair(key, value) => answer_of(writer.write(key.as_str(), value.as_str())),
-        Call::Prefix(prefix) => answer_of(writer.set_comment_prefix(prefix.as_str())),
-        Call::Separator(separator) => answer_of(writer.set_kv_separator(separator.as_str())),
-        Call::Ending(line_ending) => {
-            writer.set_line_ending(*line_ending);
+        Call::Comment(text) => was_accepted(writer.write_comment(text.as_str())),
+        Call::Pair(key, value) => was_accepted(writer.write(key.as_str(), value.as_str())),
+        Call::Prefix(prefix) => was_accepted(writer.set_comment_prefix(prefix.as_str())),
+        Call::Separator(separator) => was_accepted(writer.set_kv_separator(separator.as_str())),
+        Call::Ending(ending) => {
+            writer.set_line_ending(*ending);
             Ok(true)
         }
-        Call::Flush => answer_of(writer.flush()),
+        Call::Flush => was_accepted(writer.flush()),
     }
 }
 
 // Whether the call was accepted, or the error that ends the calls.
-fn answer_of(answer: Result<(), PropertiesError>) -> Result<bool, PropertiesError>
-    ensures { Answered answer result }
+fn was_accepted(done: Result<(), PropertiesError>) -> Result<bool, PropertiesError>
+    ensures { SaysAccepted done result }
 {
-    match answer {
+    match done {
         Ok(()) => Ok(true),
         Err(error) => match error.kind() {
             ErrorKind::BadCommentPrefix | ErrorKind::BadKvSeparator | ErrorKind::EmptyKey => {

@@ -5,9 +5,10 @@ ghost use Rattle.std.specs.Char.{digit_char};
 ghost use Rattle.std.specs.Str.{chars};
 ghost use Rattle.properties_format.specs.Text.{backslash};
 ghost use Rattle.properties_format.specs.Printing.{unit_escape, unicode_escape, literal, spelt, spelt_text, encoded_text, is_bom_like, with_first_escaped, spelt_key, in_key_or_value, in_comment};
-ghost use Rattle.java_properties.specs.Views.{encoding_of, place_of};
+ghost use Rattle.java_properties.specs.Encoding.{output_of};
+ghost use Rattle.java_properties.specs.Printing.{AppendsOnOk, character_bytes, text_bytes, key_bytes};
 
-use crate::encoding::{Encoding, push_encoded};
+use crate::encoding::{OutputEncoding, push_encoded};
 use std::alloc::AllocError;
 
 const HEXADECIMAL: [u8; 16] = *b"0123456789abcdef";
@@ -23,14 +24,14 @@ pub enum Place {
     Prefix,
 }
 
-/// Prints a text in the output encoding of an encoding.
+/// Prints a text.
 pub fn print_text(
     line: &mut Vec<u8>,
-    encoding: Encoding,
+    encoding: OutputEncoding,
     place: Place,
     text: &str,
 ) -> Result<(), AllocError>
-    ensures printed { OnOk result (line.new.items ≡ line.old.items ++ encoded_text (encoding_of encoding) (spelt_text (encoding_of encoding) (place_of place) (chars text.now))) }
+    ensures { AppendsOnOk line.old (text_bytes encoding place (chars text.now)) result line.new }
 {
     for character in text.chars() {
         print_character(line, encoding, place, character)?;
@@ -41,11 +42,11 @@ pub fn print_text(
 /// Prints a key. At the front of the first line it isn't to be taken for a byte order mark.
 pub fn print_key(
     line: &mut Vec<u8>,
-    encoding: Encoding,
+    encoding: OutputEncoding,
     first: bool,
     key: &str,
 ) -> Result<(), AllocError>
-    ensures printed { OnOk result (line.new.items ≡ line.old.items ++ encoded_text (encoding_of encoding) (spelt_key (encoding_of encoding) first (chars key.now))) }
+    ensures { AppendsOnOk line.old (key_bytes encoding first (chars key.now)) result line.new }
 {
     if first && is_bom_like(encoding, key) {
         return print_with_first_escaped(line, encoding, key);
@@ -55,28 +56,33 @@ pub fn print_key(
 
 /// Appends a text as it is.
 pub fn print_raw(line: &mut Vec<u8>, text: &str) -> Result<(), AllocError>
-    ensures printed { OnOk result (line.new.items ≡ line.old.items ++ text.now) }
+    ensures { AppendsOnOk line.old text.now result line.new }
 {
     line.extend_from_slice(text.as_bytes())
 }
 
 // Whether a key's bytes begin like a byte order mark, by its first characters alone.
-fn is_bom_like(encoding: Encoding, key: &str) -> bool
-    ensures { result ≡ is_bom_like (encoding_of encoding) (chars key.now) }
+fn is_bom_like(encoding: OutputEncoding, key: &str) -> bool
+    ensures { result ≡ is_bom_like (output_of encoding) (chars key.now) }
 {
     match encoding {
-        Encoding::WINDOWS_1252 => {
+        OutputEncoding::Windows1252 => {
             key.starts_with("\u{ef}\u{bb}\u{bf}")
                 || key.starts_with("\u{fe}\u{ff}")
                 || key.starts_with("\u{ff}\u{fe}")
         }
-        Encoding::UTF_8 | Encoding::UTF_16LE | Encoding::UTF_16BE => key.starts_with("\u{feff}"),
+        OutputEncoding::Utf8 => key.starts_with("\u{feff}"),
     }
 }
 
 // A key with its first character as an escape.
-fn print_with_first_escaped(line: &mut Vec<u8>, encoding: Encoding, key: &str) -> Result<(), AllocError>
-    ensures printed { OnOk result (line.new.items ≡ line.old.items ++ encoded_text (encoding_of encoding) (with_first_escaped (encoding_of encoding) (chars key.now))) }
+fn print_with_first_escaped(
+    line: &mut Vec<u8>,
+    encoding: OutputEncoding,
+    key: &str,
+) -> Result<(), AllocError>
+    ensures { let text = with_first_escaped (output_of encoding) (chars key.now) in
+        AppendsOnOk line.old (encoded_text (output_of encoding) text) result line.new }
 {
     let mut characters = key.chars();
     let Some(character) = characters.next() else {
@@ -88,11 +94,11 @@ fn print_with_first_escaped(line: &mut Vec<u8>, encoding: Encoding, key: &str) -
 
 fn print_character(
     line: &mut Vec<u8>,
-    encoding: Encoding,
+    encoding: OutputEncoding,
     place: Place,
     character: char,
 ) -> Result<(), AllocError>
-    ensures printed { OnOk result (line.new.items ≡ line.old.items ++ encoded_text (encoding_of encoding) (spelt (encoding_of encoding) (place_of place) character)) }
+    ensures { AppendsOnOk line.old (character_bytes encoding place character) result line.new }
 {
     match place {
         Place::KeyOrValue => print_in_key_or_value(line, encoding, character),
@@ -101,13 +107,14 @@ fn print_character(
     }
 }
 
-#[tactic(auto, using(crate::proofs::Printing::encoded_pair, crate::proofs::Printing::encoded_escape))]
+#[tactic(auto, using(crate::proofs::Printing::Characters::encoded_pair, crate::proofs::Printing::Characters::encoded_escape))]
 fn print_in_key_or_value(
     line: &mut Vec<u8>,
-    encoding: Encoding,
+    encoding: OutputEncoding,
     character: char,
 ) -> Result<(), AllocError>
-    ensures printed { OnOk result (line.new.items ≡ line.old.items ++ encoded_text (encoding_of encoding) (spelt (encoding_of encoding) in_key_or_value character)) }
+    ensures { let bytes = character_bytes encoding Place.KeyOrValue character in
+        AppendsOnOk line.old bytes result line.new }
 {
     match character {
         '\t' => print_after_backslash(line, b't'),
@@ -127,10 +134,11 @@ fn print_in_key_or_value(
 
 fn print_in_comment(
     line: &mut Vec<u8>,
-    encoding: Encoding,
+    encoding: OutputEncoding,
     character: char,
 ) -> Result<(), AllocError>
-    ensures printed { OnOk result (line.new.items ≡ line.old.items ++ encoded_text (encoding_of encoding) (spelt (encoding_of encoding) in_comment character)) }
+    ensures { let bytes = character_bytes encoding Place.Comment character in
+        AppendsOnOk line.old bytes result line.new }
 {
     match character {
         '\n' => print_after_backslash(line, b'n'),
@@ -141,9 +149,14 @@ fn print_in_comment(
 }
 
 // As itself, or where the encoding lacks it as an escape.
-#[tactic(auto, using(crate::proofs::Printing::literal_known))]
-fn print_literal(line: &mut Vec<u8>, encoding: Encoding, character: char) -> Result<(), AllocError>
-    ensures printed { OnOk result (line.new.items ≡ line.old.items ++ encoded_text (encoding_of encoding) (literal (encoding_of encoding) character)) }
+#[tactic(auto, using(crate::proofs::Printing::Characters::literal_known))]
+fn print_literal(
+    line: &mut Vec<u8>,
+    encoding: OutputEncoding,
+    character: char,
+) -> Result<(), AllocError>
+    ensures { let text = literal (output_of encoding) character in
+        AppendsOnOk line.old (encoded_text (output_of encoding) text) result line.new }
 {
     if push_encoded(line, encoding, character)? {
         return Ok(());
@@ -152,14 +165,14 @@ fn print_literal(line: &mut Vec<u8>, encoding: Encoding, character: char) -> Res
 }
 
 fn print_after_backslash(line: &mut Vec<u8>, byte: u8) -> Result<(), AllocError>
-    ensures printed { OnOk result (line.new.items ≡ line.old.items ++ (backslash ∷ byte ∷ [])) }
+    ensures { AppendsOnOk line.old (backslash ∷ byte ∷ []) result line.new }
 {
     line.extend_from_slice(&[b'\\', byte])
 }
 
 // As `\u` and four digits, or as two such escapes of a high and a low surrogate.
 fn print_escape(line: &mut Vec<u8>, character: char) -> Result<(), AllocError>
-    ensures printed { OnOk result (line.new.items ≡ line.old.items ++ unicode_escape character) }
+    ensures { AppendsOnOk line.old (unicode_escape character) result line.new }
 {
     let code = u32::from(character);
     if code < 0x1_0000 {
@@ -171,7 +184,7 @@ fn print_escape(line: &mut Vec<u8>, character: char) -> Result<(), AllocError>
 }
 
 fn print_unit(line: &mut Vec<u8>, unit: u32) -> Result<(), AllocError>
-    ensures printed { OnOk result (line.new.items ≡ line.old.items ++ unit_escape unit) }
+    ensures { AppendsOnOk line.old (unit_escape unit) result line.new }
 {
     line.extend_from_slice(&[
         b'\\',
@@ -189,6 +202,3 @@ fn hexadecimal_digit(value: u32) -> u8
 {
     HEXADECIMAL[value as usize]
 }
-
-#[cfg(test)]
-mod tests;

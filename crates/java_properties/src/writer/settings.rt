@@ -1,16 +1,21 @@
 // What a writer is set to.
 
-ghost use Rattle.std.specs.Prelude.{◌≡◌, true};
+ghost use Rattle.std.specs.Prelude.{◌≡◌, ◌&&◌, not, true};
 ghost use Rattle.std.specs.Str.{chars};
-ghost use Rattle.properties_format.specs.Text.{line_ending_text, is_blank, is_line_end, is_comment_sign, is_separator};
-ghost use Rattle.properties_format.specs.Reading.Settings.{is_good_prefix, is_good_separator};
-ghost use Rattle.java_properties.specs.SettingsTexts.{ending_of, prefix_of, separator_of};
+ghost use Rattle.properties_format.specs.Text.{line_ending_text};
+ghost use Rattle.properties_format.specs.Settings.{default_settings};
+ghost use Rattle.properties_format.specs.Reading.Settings.{is_blanks, is_good_prefix, is_good_separator};
+ghost use Rattle.properties_format.specs.Writing.{is_empty};
+ghost use Rattle.java_properties.specs.Settings.{ending_of, with_ending, TakesPrefix, TakesSeparator};
 
+use crate::characters::{is_blank, is_comment_sign, is_line_end, is_separator};
 use crate::error::PropertiesError;
 use std::alloc::Global;
+use std::fmt;
+use std::marker::Model;
 
 /// What ends each line that is written.
-#[derive(Clone, Copy, Debug, PartialEq, Eq)]
+#[derive(Clone, Copy, Debug, PartialEq, Eq, PartialOrd, Ord, Hash)]
 pub enum LineEnding {
     /// A carriage return.
     CR,
@@ -32,34 +37,59 @@ impl LineEnding {
     }
 }
 
-/// What stands before a comment and between a key and its value, and what ends a line. A text that is `None` is the one of a new writer.
+impl fmt::Display for LineEnding {
+    ghost use Rattle.std.specs.Prelude.{Some};
+    ghost use Rattle.java_properties.specs.DisplayTexts.{line_ending_display};
+
+    ghost output = { λ ending. Some (line_ending_display ending) };
+
+    fn fmt<W: fmt::Write>(&self, f: &mut fmt::Formatter<W>) -> fmt::Result {
+        f.write_str(match self {
+            LineEnding::CR => "LineEnding::CR",
+            LineEnding::LF => "LineEnding::LF",
+            LineEnding::CRLF => "LineEnding::CRLF",
+        })
+    }
+}
+
+/// What stands before a comment and between a key and its value, and what ends a line. A text that is `None` is the
+/// one of a new writer.
 #[derive(Drop)]
 pub(crate) struct Settings {
     comment_prefix: Option<String>,
     kv_separator: Option<String>,
     line_ending: LineEnding,
-    ghost good_prefix: { is_good_prefix (prefix_of comment_prefix) ≡ true },
-    ghost good_separator: { is_good_separator (separator_of kv_separator) ≡ true },
+    alloc: Global,
+}
+
+impl Model for Settings {
+    ghost use Rattle.properties_format.specs.Settings.{Settings};
+
+    ghost Value = { Settings };
+
+    ghost use Rattle.java_properties.specs.Settings.{settings_of, AreGood};
+
+    ghost view = { settings_of };
+
+    ghost invariant = { AreGood };
 }
 
 impl Settings {
-    ghost use Rattle.properties_format.specs.Settings.{default_settings};
-    ghost use Rattle.java_properties.specs.SettingsViews.{settings_of, SetsPrefix, SetsSeparator, SetsEnding};
-
     /// Those of a new writer, which take no memory.
-    pub fn new() -> Settings
-        ensures { settings_of result ≡ default_settings }
+    pub fn new(alloc: Global) -> Settings
+        ensures { result ≡ default_settings }
     {
         Settings {
             comment_prefix: None,
             kv_separator: None,
             line_ending: LineEnding::LF,
+            alloc,
         }
     }
 
     /// What stands before the text of a comment.
     pub fn comment_prefix(&self) -> &str
-        ensures value { chars result.now ≡ (settings_of self.now).comment_prefix }
+        ensures value { chars result.now ≡ self.now.comment_prefix }
         ensures good { is_good_prefix (chars result.now) ≡ true }
     {
         match &self.comment_prefix {
@@ -70,7 +100,7 @@ impl Settings {
 
     /// What stands between a key and its value.
     pub fn kv_separator(&self) -> &str
-        ensures value { chars result.now ≡ (settings_of self.now).kv_separator }
+        ensures value { chars result.now ≡ self.now.kv_separator }
         ensures good { is_good_separator (chars result.now) ≡ true }
     {
         match &self.kv_separator {
@@ -81,16 +111,17 @@ impl Settings {
 
     /// What ends a line.
     pub fn line_ending(&self) -> LineEnding
-        ensures { ending_of result ≡ (settings_of self.now).line_ending }
+        ensures { ending_of result ≡ self.now.line_ending }
     {
         self.line_ending
     }
 
-    /// Sets what stands before the text of a comment, unless it makes no comment. The allocator is for a copy of the text, which the error has too.
-    pub fn set_comment_prefix(&mut self, alloc: Global, prefix: &str) -> Result<(), PropertiesError>
-        ensures { SetsPrefix (settings_of self.old) (chars prefix.now) result (settings_of self.new) }
+    /// Sets what stands before the text of a comment, unless it makes no comment. The text is copied, also
+    /// for the error.
+    pub fn set_comment_prefix(&mut self, prefix: &str) -> Result<(), PropertiesError>
+        ensures { TakesPrefix self.old (chars prefix.now) result self.new }
     {
-        let copy = String::from_str(alloc, prefix)?;
+        let copy = String::from_str(self.alloc, prefix)?;
         if !is_good_prefix(prefix) {
             return Err(PropertiesError::bad_comment_prefix(copy));
         }
@@ -98,15 +129,12 @@ impl Settings {
         Ok(())
     }
 
-    /// Sets what stands between a key and its value, unless it doesn't end a key. The allocator is for a copy of the text, which the error has too.
-    pub fn set_kv_separator(
-        &mut self,
-        alloc: Global,
-        separator: &str,
-    ) -> Result<(), PropertiesError>
-        ensures { SetsSeparator (settings_of self.old) (chars separator.now) result (settings_of self.new) }
+    /// Sets what stands between a key and its value, unless it doesn't end a key. The text is copied, also
+    /// for the error.
+    pub fn set_kv_separator(&mut self, separator: &str) -> Result<(), PropertiesError>
+        ensures { TakesSeparator self.old (chars separator.now) result self.new }
     {
-        let copy = String::from_str(alloc, separator)?;
+        let copy = String::from_str(self.alloc, separator)?;
         if !is_good_separator(separator) {
             return Err(PropertiesError::bad_kv_separator(copy));
         }
@@ -114,34 +142,43 @@ impl Settings {
         Ok(())
     }
 
+    /// Whether a pair with this key may be written. After a separator of blanks alone the value of an empty key would
+    /// be read as the key.
+    pub fn takes_key(&self, key: &str) -> bool
+        ensures { result ≡ not (is_empty (chars key.now) && is_blanks self.now.kv_separator) }
+    {
+        !key.is_empty() || !are_blanks(self.kv_separator())
+    }
+
     /// Sets what ends a line.
     pub fn set_line_ending(&mut self, line_ending: LineEnding)
-        ensures { SetsEnding (settings_of self.old) (ending_of line_ending) (settings_of self.new) }
+        ensures { self.new ≡ with_ending self.old line_ending }
     {
         self.line_ending = line_ending;
     }
 }
 
-/// Whether the text makes a comment of what comes after it: blanks or none, a comment mark, and no line end.
+/// Whether the text makes a comment of what comes after it: blanks or none, a comment sign, and no line ending.
 pub(crate) fn is_good_prefix(text: &str) -> bool
     ensures { result ≡ is_good_prefix (chars text.now) }
 {
-    let mut marked = false;
+    let mut signed = false;
     for character in text.chars() {
-        if marked {
+        if signed {
             if is_line_end(character) {
                 return false;
             }
         } else if is_comment_sign(character) {
-            marked = true;
+            signed = true;
         } else if !is_blank(character) {
             return false;
         }
     }
-    marked
+    signed
 }
 
-/// Whether the text ends a key that stands before it: one colon or equals sign with blanks around it or none, or blanks alone.
+/// Whether the text ends a key that stands before it: one colon or equals sign with blanks around it or none, or
+/// blanks alone.
 pub(crate) fn is_good_separator(text: &str) -> bool
     ensures { result ≡ is_good_separator (chars text.now) }
 {
@@ -156,29 +193,13 @@ pub(crate) fn is_good_separator(text: &str) -> bool
     !text.is_empty()
 }
 
-pub(super) fn is_blank(character: char) -> bool
-    ensures { result ≡ is_blank character }
+fn are_blanks(text: &str) -> bool
+    ensures { result ≡ is_blanks (chars text.now) }
 {
-    matches!(character, ' ' | '\t' | '\x0c')
+    for character in text.chars() {
+        if !is_blank(character) {
+            return false;
+        }
+    }
+    true
 }
-
-fn is_line_end(character: char) -> bool
-    ensures { result ≡ is_line_end character }
-{
-    matches!(character, '\n' | '\r')
-}
-
-fn is_comment_sign(character: char) -> bool
-    ensures { result ≡ is_comment_sign character }
-{
-    matches!(character, '#' | '!')
-}
-
-fn is_separator(character: char) -> bool
-    ensures { result ≡ is_separator character }
-{
-    matches!(character, '=' | ':')
-}
-
-#[cfg(test)]
-mod tests;

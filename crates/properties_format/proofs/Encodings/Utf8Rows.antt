@@ -85,6 +85,11 @@ fitting-row [] (b ∷ bs) rest h = absurd h
 fitting-row (r ∷ rs) [] rest h = absurd h
 fitting-row (r ∷ rs) (b ∷ bs) rest h = rw (is_in-true r b h.0) (ap (λ v. b ∷ v) (fitting-row rs bs rest h.1))
 
+-- none fit where there are none
+pub fitting-nil : (rs : List Range) → fitting rs [] ≡ []
+fitting-nil [] = refl
+fitting-nil (r ∷ rs) = refl
+
 fitting-none : (rs : List Range) (rest : List ℕ) → Breaks rs [] rest → fitting rs rest ≡ []
 fitting-none [] rest h = refl
 fitting-none (r ∷ rs) [] h = refl

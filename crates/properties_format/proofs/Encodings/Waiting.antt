@@ -1,8 +1,8 @@
 -- Bytes that don't wait for more decide their first piece.
-use Rattle.std.proofs.Common.{◌≡◌, ℕ, ◌<◌, ◌≤◌, ◌&&◌, true, false, List, [], ◌∷◌, ◌++◌, length, drop, Option, Some, None, refl, sym, ap, ◌∙◌, inl, inr, arith, append_assoc}
+use Rattle.std.proofs.Common.{◌≡◌, ℕ, ◌<◌, ◌≤◌, ◌&&◌, true, false, List, [], ◌∷◌, ◌++◌, length, drop, Option, Some, None, refl, sym, ap, ◌∙◌, inl, inr, arith, append_assoc, length-append}
 use Rattle.std.proofs.Math.Seq.{drop-append_seam}
 use Rattle.std.proofs.lemmas.Bool.{cases_Bool, cond-false, and_parts}
-use Rattle.properties_format.specs.Pieces.{Piece}
+use Rattle.properties_format.specs.Pieces.{Piece, characters}
 use Rattle.properties_format.specs.Surrogates.{is_high}
 use Rattle.properties_format.specs.Utf8.{Range, well_formed_rows}
 use Rattle.properties_format.specs.Reading.Utf8.{is_in, ranges_after, fitting, utf_8_piece, utf_8_piece_by}
@@ -12,7 +12,7 @@ use Rattle.properties_format.specs.Encoding.{Encoding, windows_1252, utf_8, utf_
 use Rattle.properties_format.specs.Reading.Encoding.{first_piece, pieces_of}
 use Rattle.properties_format.specs.Reading.Waiting.{fits_short, awaits_byte, awaits_unit, awaits_more}
 use Rattle.properties_format.proofs.Encodings.Utf8Rows.{row-short}
-use Rattle.properties_format.proofs.Encodings.Pieces.{first-meets, pieces_of-piece}
+use Rattle.properties_format.proofs.Encodings.Pieces.{first-meets, piece-length, pieces_of-piece}
 
 fitting-more : (rs : List Range) (d y : List ℕ) → fits_short rs d ≡ false → fitting rs (d ++ y) ≡ fitting rs d
 fitting-more [] d y h = refl
@@ -61,6 +61,26 @@ first_piece-front e b d =
     let p : Piece = first_piece e b d in
     let m = first-meets e b d in
     ap (λ v. p.bytes ++ drop (length p.bytes) v) m.1 ∙ ap (λ v. p.bytes ++ v) (drop-append_seam p.bytes m.0) ∙ sym m.1
+
+-- it has a byte, and no more than there are
+pub first_piece-some : (e : Encoding) (b : ℕ) (d : List ℕ) → 0 < length (first_piece e b d).bytes
+first_piece-some e b d =
+    let m = first-meets e b d in
+    let l = piece-length e (first_piece e b d) m.0 m.2 in
+    let k = length-append (first_piece e b d).bytes m.0 in
+    omega arith
+
+pub first_piece-within : (e : Encoding) (b : ℕ) (d : List ℕ) → length (first_piece e b d).bytes ≤ length (b ∷ d)
+first_piece-within e b d =
+    let m = first-meets e b d in
+    let l : length (b ∷ d) ≡ length ((first_piece e b d).bytes ++ m.0) = ap length m.1 in
+    let k = length-append (first_piece e b d).bytes m.0 in
+    omega arith
+
+-- the characters of some bytes are that of the first piece, and those of what is after it
+pub characters-step : (e : Encoding) (b : ℕ) (d : List ℕ)
+    → characters (pieces_of e (b ∷ d)) ≡ (first_piece e b d).character ∷ characters (pieces_of e (drop (length (first_piece e b d).bytes) (b ∷ d)))
+characters-step e b d = ap characters (pieces_of-step e b d)
 
 -- Of bytes that don't wait the first piece can be taken, whatever follows.
 pub pieces_of-decided : (e : Encoding) (b : ℕ) (d y : List ℕ) → awaits_more e b d ≡ false

@@ -1,8 +1,8 @@
 -- The numbers of the items strictly ascend.
-use Rattle.std.proofs.Common.{ℕ, ◌+◌, ◌<◌, ◌≤◌, List, [], ◌∷◌, ◌++◌, length, arith, append_assoc, subst}
+use Rattle.std.proofs.Common.{ℕ, ◌+◌, ◌<◌, ◌≤◌, List, [], ◌∷◌, ◌++◌, length, arith, append_assoc, subst, zero-add}
 use Rattle.properties_format.specs.Encoding.{Encoding}
 use Rattle.properties_format.specs.Reading.Encoding.{decoded_of}
-use Rattle.properties_format.specs.Lines.{InputEnd, end, fault, more, Ended, Line, line_ends, numbered, numbered_lines}
+use Rattle.properties_format.specs.Lines.{InputEnd, end, fault, more, Ended, Line, Lines, line_ends, numbered, numbered_lines}
 use Rattle.properties_format.specs.Reading.Lines.{lines_of}
 use Rattle.properties_format.specs.Groups.{AreWhole, lines_in, last_group, IsGroups, joined, first_number}
 use Rattle.properties_format.specs.Reading.Groups.{groups_of}
@@ -90,14 +90,21 @@ entries-ascend low high n ending (g ∷ gs) h k =
     let rest = entries-ascend (first_number g) high n ending gs h k.1 in
     followed-ascend low high (first_number g) (outcome_of (joined g)) (entries_of n ending gs) k.0 rest (ascend-lower (first_number g) low (entries_of n ending gs) k.0 rest)
 
+-- The numbers of the entries of lines after n line ends strictly ascend, from n + 1 on.
+pub lines-ascend : (n : ℕ) (lines : Lines) (ending : InputEnd)
+    → NumbersAscend n (entries_of (n + line_ends lines) ending (groups_of (numbered n lines.ended lines.last ending) ending))
+lines-ascend n lines ending =
+    let high = n + line_ends lines + last_line ending in
+    let numbers = numbered n lines.ended lines.last ending in
+    entries-ascend n high (n + line_ends lines) ending (groups_of numbers ending) (omega arith)
+    (groups-within n high numbers ending (groups_of numbers ending) (groups_of-meets numbers ending)
+    (numbered-within n lines.ended lines.last ending high (omega arith)))
+
 pub items_of-ascend : (e : Encoding) (bytes : List ℕ) (ending : InputEnd) → NumbersAscend 0 (items_of e bytes ending)
 unfolding items_of
 items_of-ascend e bytes ending =
     let lines = lines_of (decoded_of e bytes) in
-    let numbers = numbered_lines lines ending in
-    entries-ascend 0 (line_ends lines + last_line ending) (line_ends lines) ending (groups_of numbers ending) (omega arith)
-    (groups-within 0 (line_ends lines + last_line ending) numbers ending (groups_of numbers ending) (groups_of-meets numbers ending)
-    (numbered-within 0 lines.ended lines.last ending (line_ends lines + last_line ending) (omega arith)))
+    subst (λ v. NumbersAscend 0 (entries_of v ending (groups_of (numbered_lines lines ending) ending))) (zero-add (line_ends lines)) (lines-ascend 0 lines ending)
 
 -- The numbers of the items strictly ascend, from 1 on.
 pub items-ascend : (e : Encoding) (bytes : List ℕ) (ending : InputEnd) (entries : List Entry) → IsItems e bytes ending entries → NumbersAscend 0 entries

@@ -1,5 +1,5 @@
 -- How bytes are decoded: piece by piece, from the first byte on.
-use Rattle.std.specs.Prelude.{ℕ, zero, suc, List, [], ◌∷◌, length, drop}
+use Rattle.std.specs.Prelude.{ℕ, Bool, true, false, zero, suc, List, [], ◌∷◌, length, drop}
 use Rattle.properties_format.specs.Pieces.{Piece, piece, characters}
 use Rattle.properties_format.specs.Windows1252.{windows_1252_character}
 use Rattle.properties_format.specs.Reading.Utf8.{first_utf_8_piece}
@@ -26,3 +26,8 @@ pieces_of e d = pieces_within e (length d) d
 
 abbrev pub decoded_of : Encoding → List ℕ → List ℕ
 decoded_of e b = characters (pieces_of (byte_order_mark e b).encoding (byte_order_mark e b).body)
+
+-- the characters of some bytes: in the encoding in force, or where a byte order mark may stand at the front
+abbrev pub characters_from : Encoding → Bool → List ℕ → List ℕ
+characters_from e true d = characters (pieces_of e d)
+characters_from e false d = decoded_of e d

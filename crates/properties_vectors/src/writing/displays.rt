@@ -2,7 +2,7 @@
 
 use super::support::{is_printed, memory_sink};
 use counted_io::{ScriptedSink, SinkFault};
-use java_properties::{PropertiesError, PropertiesWriter};
+use java_properties::{Cause, LineEnding, PropertiesError, PropertiesWriter};
 use std::io;
 use std::test::Fail;
 
@@ -17,6 +17,10 @@ fn refusals_are_printed(rt: HostRuntime) -> Result<(), Fail> {
         (
             ":=",
             r#"Bad key/value separator: ":=" (line_number = unknown)"#,
+        ),
+        (
+            "\0\t\r\n\\\"\x01\x7f",
+            r#"Bad key/value separator: "\0\t\r\n\\\"\u{1}\u{7f}" (line_number = unknown)"#,
         ),
     ];
     for (separator, wanted) in rows {
@@ -60,5 +64,33 @@ fn faults_of_no_line_are_printed(rt: HostRuntime) -> Result<(), Fail> {
     let mut writer = PropertiesWriter::new(rt.alloc(), sink)?;
     let answer = writer.flush();
     assert!(rt; is_printed(rt.alloc(), &answer, wanted)?);
+    Ok(())
+}
+
+#[test]
+fn line_endings_are_printed(rt: HostRuntime) -> Result<(), Fail> {
+    let rows = [
+        (LineEnding::CR, "LineEnding::CR"),
+        (LineEnding::LF, "LineEnding::LF"),
+        (LineEnding::CRLF, "LineEnding::CRLF"),
+    ];
+    for (line_ending, wanted) in rows {
+        assert_eq!(rt; line_ending.to_string(rt.alloc())?.as_str(), wanted);
+    }
+    Ok(())
+}
+
+#[test]
+fn causes_are_taken_out(rt: HostRuntime) -> Result<(), Fail> {
+    let error = PropertiesError::from(io::Error::from(io::ErrorKind::TimedOut));
+    let Cause::Io(fault) = error.into_cause() else {
+        return Err(Fail::from("the fault is lost"));
+    };
+    assert_eq!(rt; fault.kind(), io::ErrorKind::TimedOut);
+    let mut writer = PropertiesWriter::new(rt.alloc(), memory_sink(rt.alloc()))?;
+    let Err(refused) = writer.set_kv_separator("x") else {
+        return Err(Fail::from("the separator is taken"));
+    };
+    assert!(rt; matches!(refused.into_cause(), Cause::None));
     Ok(())
 }

@@ -8,12 +8,12 @@ use std::test::Fail;
 // The status, the output and the errors.
 fn filtered(
     alloc: Global,
-    words: &[String],
+    arguments: &[String],
     mut input: impl CountedRead,
 ) -> (u8, Vec<u8>, Vec<u8>) {
     let mut output = Counted::new(Vec::new(alloc));
     let mut errors = Counted::new(Vec::new(alloc));
-    let status = run(alloc, words, &mut input, &mut output, &mut errors);
+    let status = run(alloc, arguments, &mut input, &mut output, &mut errors);
     (status, output.into_inner(), errors.into_inner())
 }
 
@@ -35,14 +35,44 @@ fn prints_the_pairs(rt: HostRuntime) {
 }
 
 #[test]
-fn refuses_words(rt: HostRuntime) -> Result<(), Fail> {
-    let words = vec![in rt.alloc(); String::from_str(rt.alloc(), "x")?]?;
-    let (status, output, errors) = filtered(rt.alloc(), words.as_slice(), b"a=1".as_slice());
+fn refuses_other_arguments(rt: HostRuntime) -> Result<(), Fail> {
+    let arguments = vec![in rt.alloc(); String::from_str(rt.alloc(), "x")?]?;
+    let (status, output, errors) = filtered(rt.alloc(), arguments.as_slice(), b"a=1".as_slice());
     assert_eq!(rt; status, 2);
     assert_eq!(rt; output.as_slice(), b"".as_slice());
     let usage = b"usage: propfilter [windows-1252|utf-8|utf-16le|utf-16be [ascii]]\n".as_slice();
     assert_eq!(rt; errors.as_slice(), usage);
     Ok(())
+}
+
+#[test]
+fn reads_the_encoding_that_is_named(rt: HostRuntime) -> Result<(), Fail> {
+    let rows: [(&str, &[u8], &[u8]); 4] = [
+        ("windows-1252", b"a=\xe9", b"a=\xe9\n"),
+        ("utf-8", b"a=\xc3\xa9", b"a=\xc3\xa9\n"),
+        ("utf-16le", b"a\0=\0\xe9\0", b"a=\xc3\xa9\n"),
+        ("utf-16be", b"\0a\0=\0\xe9", b"a=\xc3\xa9\n"),
+    ];
+    for (name, input, wanted) in rows {
+        let arguments = vec![in rt.alloc(); String::from_str(rt.alloc(), name)?]?;
+        let (status, output, errors) = filtered(rt.alloc(), arguments.as_slice(), input);
+        assert_eq!(rt; status, 0);
+        assert_eq!(rt; output.as_slice(), wanted);
+        assert_eq!(rt; errors.as_slice(), b"".as_slice());
+    }
+    Ok(())
+}
+
+#[test]
+fn tells_of_malformed_escapes(rt: HostRuntime) {
+    let input: &[u8] = b"a=1\nk=\\u12";
+    let (status, output, errors) = filtered(rt.alloc(), &[], input);
+    assert_eq!(rt; status, 1);
+    assert_eq!(rt; output.as_slice(), b"a=1\n".as_slice());
+    assert_eq!(rt;
+        errors.as_slice(),
+        b"Malformed \\uxxxx encoding: not enough digits. (line_number = 2)\n".as_slice()
+    );
 }
 
 // Gives one text, and then fails.

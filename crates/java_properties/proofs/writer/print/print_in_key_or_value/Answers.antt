@@ -1,10 +1,10 @@
 use Rattle.std.proofs.Common.{arith}
-use Rattle.java_properties.specs.Views.{encoding_of}
-use Rattle.java_properties.proofs.Printing.{IsOtherControl, spelt_control, encoded_escape}
+use Rattle.java_properties.specs.Encoding.{output_of}
+use Rattle.java_properties.proofs.Printing.Characters.{IsOtherControl, spelt_control, encoded_escape}
 use Rattle.java_properties.proofs.writer.print.print_in_key_or_value.Goals as goal
 
 pub returns-in_default : goal.returns-in_default
 returns-in_default c =
-    let e = encoding_of c.args.encoding in
+    let e = output_of c.args.encoding in
     let other : IsOtherControl c.args.character = (omega arith, omega arith, omega arith, omega arith, omega arith) in
-    record { printed = rw (spelt_control e c.args.character other, encoded_escape e c.args.character) c.print_escape.ensures.printed }
+    rw (spelt_control e c.args.character other, encoded_escape e c.args.character) c.print_escape.ensures

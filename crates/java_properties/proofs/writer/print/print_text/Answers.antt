@@ -3,22 +3,25 @@ use Rattle.std.proofs.lemmas.List.{map-id}
 use Rattle.std.proofs.lemmas.Iterator.{YieldsList-from_chars}
 use Rattle.std.proofs.lemmas.Iterator.Consumers.{YieldsList-end}
 use Rattle.properties_format.specs.Printing.{spelt, spelt_text, encoded_text}
-use Rattle.java_properties.specs.Views.{encoding_of, place_of}
-use Rattle.java_properties.proofs.Printing.{printed_more}
+use Rattle.java_properties.specs.Encoding.{output_of}
+use Rattle.java_properties.specs.Printing.{place_of}
+use Rattle.java_properties.proofs.Printing.Characters.{printed_more}
 use Rattle.java_properties.proofs.writer.print.print_text.Goals as goal
 
 pub loop-character-preserved : goal.loop-character-preserved
 loop-character-preserved c =
-    let e = encoding_of c.args.encoding in
+    let e = output_of c.args.encoding in
     let place = place_of c.args.place in
-    c.in_ok-print_character.ensures.printed
+    c.in_ok-print_character.ensures
     ∙ ap (λ v. v ++ encoded_text e (spelt e place c.in-Some.character)) c.loop-character.invariant
     ∙ printed_more e place c.args.line.now.items c.loop-character.yielded c.in-Some.character
 
 pub returns : goal.returns
 returns c =
-    let e = encoding_of c.args.encoding in
+    let e = output_of c.args.encoding in
     let place = place_of c.args.place in
-    let t = YieldsList-end (YieldsList-from_chars c.args.text.now c.utf8.text cc) c.loop-character.yielded _ c.loop-character.yielded_by _ _ c.in-None.is c.next.ensures.steps in
-    let all = sym (map-id c.loop-character.yielded) ∙ t.0 in
-    record { printed = c.loop-character.invariant ∙ ap (λ v. c.args.line.now.items ++ encoded_text e (spelt_text e place v)) all }
+    let loop = c.loop-character in
+    let yields = YieldsList-from_chars c.args.text.now c.utf8.text cc in
+    let last = YieldsList-end yields loop.yielded _ loop.yielded_by _ _ c.in-None.is c.next.ensures.steps in
+    let all = sym (map-id loop.yielded) ∙ last.0 in
+    c.loop-character.invariant ∙ ap (λ v. c.args.line.now.items ++ encoded_text e (spelt_text e place v)) all

@@ -2,11 +2,11 @@ use Rattle.std.proofs.Common.{◌≡◌}
 use Rattle.std.specs.Str.{IsUtf8, chars}
 use Rattle.std.specs.Str.Iter.{chars_rest}
 use Rattle.properties_format.specs.Reading.Settings.{is_good_prefix}
-use Rattle.java_properties.proofs.SettingsTests.{prefix_left}
+use Rattle.java_properties.proofs.Settings.Tests.{prefix_left}
 use Rattle.java_properties.proofs.writer.settings.is_good_prefix.Given as goal
 
 abbrev pub invariant-loop-character : goal.invariant-loop-character
 invariant-loop-character l = record {
   utf8 : IsUtf8 (chars_rest l.character-iterator);
-  same : is_good_prefix (chars l.fn.text) ≡ prefix_left l.marked (chars (chars_rest l.character-iterator));
+  same : is_good_prefix (chars l.fn.text) ≡ prefix_left l.signed (chars (chars_rest l.character-iterator));
 }

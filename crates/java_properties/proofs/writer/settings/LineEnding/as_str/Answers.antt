@@ -1,7 +1,7 @@
 use Rattle.std.proofs.Common.{ap, sym}
 use Rattle.std.specs.Str.{chars}
 use Rattle.properties_format.specs.Text.{line_ending_text}
-use Rattle.java_properties.specs.SettingsTexts.{ending_of}
+use Rattle.java_properties.specs.Settings.{ending_of}
 use Rattle.java_properties.proofs.writer.settings.LineEnding.as_str.Goals as goal
 
 pub returns-in-CR : goal.returns-in-CR

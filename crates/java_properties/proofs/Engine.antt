@@ -1,0 +1,66 @@
+-- The lines that an engine builds, from their parts.
+use Rattle.std.proofs.Common.{◌≡◌, ◌==◌, ◌++◌, ℕ, true, List, [], ap, sym, ◌∙◌, append_assoc}
+use Rattle.std.specs.Str.{chars, IsUtf8}
+use Rattle.properties_format.specs.Text.{LineEnding, line_ending_text}
+use Rattle.properties_format.specs.Encoding.{Encoding}
+use Rattle.properties_format.specs.Entries.{Content, comment, pair}
+use Rattle.properties_format.specs.Reading.Settings.{is_good_separator}
+use Rattle.properties_format.specs.Printing.{encoded_text, spelt_text, spelt_key, in_prefix, in_comment, in_key_or_value}
+use Rattle.properties_format.proofs.Printing.Characters.{printed-comment, printed-pair, line_end-ascii, good_separator-ascii}
+use Rattle.properties_format.proofs.Settings.Tests.{IsGoodSeparator-from_test}
+use Rattle.java_properties.proofs.Printing.Characters.{encoded_text-raw}
+use Rattle.java_properties.specs.Encoding.{output_of}
+use Rattle.java_properties.specs.Engine.{line_bytes, content_bytes}
+use Rattle.java_properties.specs.Printing.{text_bytes, key_bytes}
+use Rattle.java_properties.specs.declared.writer.print.Place.TheVariants.{KeyOrValue}
+use Rattle.java_properties.specs.declared.writer.engine.Engine.{Engine}
+
+-- the bytes of the line ending
+abbrev pub ending_bytes : Engine → List ℕ
+ending_bytes w = encoded_text (output_of w.encoding) (line_ending_text w.settings.line_ending)
+
+-- a line is what it says, and then its line ending
+line-parts : (w : Engine) (line : Content) → content_bytes w line ++ ending_bytes w ≡ line_bytes w line
+line-parts w (comment text) =
+    let e = output_of w.encoding in
+    append_assoc (encoded_text e (spelt_text e in_prefix w.settings.comment_prefix)) (encoded_text e (spelt_text e in_comment text)) (ending_bytes w)
+    ∙ sym (printed-comment e w.settings (w.lines == 0) text)
+line-parts w (pair key value) =
+    let e = output_of w.encoding in
+    let front = encoded_text e (spelt_key e (w.lines == 0) key) in
+    let middle = encoded_text e w.settings.kv_separator in
+    let back = encoded_text e (spelt_text e in_key_or_value value) in
+    append_assoc front (middle ++ back) (ending_bytes w)
+    ∙ ap (λ v. front ++ v) (append_assoc middle back (ending_bytes w))
+    ∙ sym (printed-pair e w.settings (w.lines == 0) key value)
+
+-- the bytes of a line ending are its characters, encoded
+pub line_ending-bytes : (e : Encoding) (bs : List ℕ) (by : LineEnding) → IsUtf8 bs → chars bs ≡ line_ending_text by → bs ≡ encoded_text e (line_ending_text by)
+line_ending-bytes e bs by u h = sym (encoded_text-raw e bs u (rw h (line_end-ascii by))) ∙ ap (encoded_text e) h
+
+-- and so are those of a separator
+pub separator-bytes : (e : Encoding) (bs separator : List ℕ) → IsUtf8 bs → chars bs ≡ separator → is_good_separator (chars bs) ≡ true → bs ≡ encoded_text e separator
+separator-bytes e bs separator u h good = sym (encoded_text-raw e bs u (good_separator-ascii (chars bs) (IsGoodSeparator-from_test (chars bs) good))) ∙ ap (encoded_text e) h
+
+-- ---- what is put together in a buffer
+
+-- a key, a separator and a value, after what stood there
+pub pair-printed : (w : Engine) (key value start keyed separated all separator : List ℕ)
+    → keyed ≡ start ++ key_bytes w.encoding (w.lines == 0) key
+    → separated ≡ keyed ++ separator
+    → separator ≡ encoded_text (output_of w.encoding) w.settings.kv_separator
+    → all ≡ separated ++ text_bytes w.encoding KeyOrValue value
+    → all ≡ start ++ content_bytes w (pair key value)
+pair-printed w key value start keyed separated all separator h k m n =
+    let front = key_bytes w.encoding (w.lines == 0) key in
+    let middle = encoded_text (output_of w.encoding) w.settings.kv_separator in
+    let back = text_bytes w.encoding KeyOrValue value in
+    n ∙ ap (λ v. v ++ back) (k ∙ ap (λ v. v ++ separator) h ∙ ap (λ v. (start ++ front) ++ v) m)
+    ∙ append_assoc (start ++ front) middle back
+    ∙ append_assoc start front (middle ++ back)
+
+-- what a line says in an empty buffer, and then its line ending
+pub line-built : (w : Engine) (line : Content) (cleared printed all ending : List ℕ) → cleared ≡ []
+    → printed ≡ cleared ++ content_bytes w line → ending ≡ ending_bytes w → all ≡ printed ++ ending → all ≡ line_bytes w line
+line-built w line cleared printed all ending h k m n =
+    n ∙ ap (λ v. v ++ ending) (k ∙ ap (λ v. v ++ content_bytes w line) h) ∙ ap (λ v. content_bytes w line ++ v) m ∙ line-parts w line

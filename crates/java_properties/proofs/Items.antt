@@ -1,0 +1,226 @@
+-- How items come of logical lines.
+use Rattle.std.proofs.Common.{◌≡◌, ℕ, true, false, List, [], ◌++◌, refl, sym, ap, ap₂, ◌∙◌, inl, inr, append_assoc}
+use Rattle.std.specs.Prelude.{Ok, Err, ◌⊎◌}
+use Rattle.std.specs.Str.{chars}
+use Rattle.std.proofs.lemmas.Bool.{cases_Bool}
+use Rattle.properties_format.specs.Split as split
+use Rattle.properties_format.specs.Split.{IsSplit}
+use Rattle.properties_format.specs.Escapes.{Means}
+use Rattle.properties_format.specs.Entries.{comment, pair}
+use Rattle.properties_format.specs.Items.{ignored, given, broken}
+use Rattle.properties_format.specs.Reading.Items.{outcome_of}
+use Rattle.properties_format.specs.Entries.{malformed}
+use Rattle.properties_format.proofs.Items.Unique.{outcome_of-only}
+use Rattle.properties_format.proofs.Items.Outcomes.{followed-ignored, followed-given, followed-broken}
+use Rattle.java_properties.specs.Escaping.{IsRefused}
+use Rattle.counted_io.specs.Streams.{Reader, HasRead}
+use Rattle.counted_io.proofs.Streams.{read-none, read-more, failed-more}
+use Rattle.properties_format.specs.Lines.{InputEnd, end, fault, more}
+use Rattle.properties_format.specs.ItemsToCome.{ReaderState}
+use Rattle.properties_format.specs.Reading.ItemsToCome.{items_to_come}
+use Rattle.properties_format.proofs.ItemsToCome.Unique.{items_to_come-done}
+use Rattle.java_properties.specs.Line.{number_of, content_of}
+use Rattle.java_properties.specs.LineFinder.{PassesSome}
+use Rattle.java_properties.proofs.LineJoiner.{some-start, some-on, all-on}
+use Rattle.java_properties.specs.LineJoiner.{IsLazyItems, JoinsError, JoinsNext, Comes, Joiner, numbered_line}
+use Rattle.java_properties.specs.PropertiesIter.{said, entry_of, IsNoItem, IsCommentOf, IsPairOf, Gives, BreaksOff, GivesNext, GivesNone, GivesMalformed}
+use Rattle.java_properties.specs.declared.line.Line.{Line}
+use Rattle.java_properties.specs.declared.error.PropertiesError.{PropertiesError}
+
+-- ---- a logical line
+
+pub blank-item : (x : List ℕ) → IsSplit x split.blank → outcome_of x ≡ ignored
+blank-item x h = sym (outcome_of-only x ignored h)
+
+pub comment-item : (x raw text : List ℕ) → IsSplit x (split.comment raw) → Means raw text → outcome_of x ≡ given (comment text)
+comment-item x raw text h m = sym (outcome_of-only x (given (comment text)) (record { raw = raw; split = h; means = m }))
+
+pub pair-item : (x raw_key raw_value key value : List ℕ) → IsSplit x (split.pair raw_key raw_value) → Means raw_key key → Means raw_value value
+    → outcome_of x ≡ given (pair key value)
+pair-item x raw_key raw_value key value h m n =
+    sym (outcome_of-only x (given (pair key value)) (record { raw_key = raw_key; raw_value = raw_value; split = h; key_means = m; value_means = n }))
+
+-- a text of it breaks, or there is no memory
+pub comment-no_item : (x raw : List ℕ) (number : ℕ) (e : PropertiesError) → IsSplit x (split.comment raw) → IsRefused raw number e → IsNoItem number x e
+comment-no_item x raw number e h (inl (kind, b, is)) = inl (kind, sym (outcome_of-only x (broken kind) (inl (record { raw = raw; split = h; breaks = b }))), is)
+comment-no_item x raw number e h (inr is) = inr is
+
+pub key-no_item : (x raw_key raw_value : List ℕ) (number : ℕ) (e : PropertiesError) → IsSplit x (split.pair raw_key raw_value) → IsRefused raw_key number e → IsNoItem number x e
+key-no_item x raw_key raw_value number e h (inl (kind, b, is)) =
+    inl (kind, sym (outcome_of-only x (broken kind) (inr (inl (record { raw_key = raw_key; raw_value = raw_value; split = h; breaks = b })))), is)
+key-no_item x raw_key raw_value number e h (inr is) = inr is
+
+pub value-no_item : (x raw_key raw_value key : List ℕ) (number : ℕ) (e : PropertiesError) → IsSplit x (split.pair raw_key raw_value) → Means raw_key key
+    → IsRefused raw_value number e → IsNoItem number x e
+value-no_item x raw_key raw_value key number e h m (inl (kind, b, is)) =
+    inl (kind, sym (outcome_of-only x (broken kind) (inr (inr (record { raw_key = raw_key; raw_value = raw_value; key = key; split = h; key_means = m; breaks = b })))), is)
+value-no_item x raw_key raw_value key number e h m (inr is) = inr is
+
+-- ---- the line of a logical line
+
+pub comment-line : (x raw : List ℕ) (number : ℕ) (line : Line) → IsSplit x (split.comment raw) → IsCommentOf number raw (Ok line)
+    → (number_of line ≡ number) × (outcome_of x ≡ given (said (content_of line)))
+comment-line x raw number line h (n, (text, m, e)) = (n, comment-item x raw text h m ∙ ap given (sym e))
+
+pub pair-line : (x raw_key raw_value : List ℕ) (number : ℕ) (line : Line) → IsSplit x (split.pair raw_key raw_value) → IsPairOf number raw_key raw_value (Ok line)
+    → (number_of line ≡ number) × (outcome_of x ≡ given (said (content_of line)))
+pair-line x raw_key raw_value number line h (n, (key, value, m, k, e)) = (n, pair-item x raw_key raw_value key value h m k ∙ ap given (sym e))
+
+pub pair-no_item : (x raw_key raw_value : List ℕ) (number : ℕ) (e : PropertiesError) → IsSplit x (split.pair raw_key raw_value) → IsPairOf number raw_key raw_value (Err e)
+    → IsNoItem number x e
+pair-no_item x raw_key raw_value number e h (inl k) = key-no_item x raw_key raw_value number e h k
+pair-no_item x raw_key raw_value number e h (inr (key, m, k)) = value-no_item x raw_key raw_value key number e h m k
+
+-- ---- item after item
+
+-- Only blank lines came so far, after these bytes.
+pub record Passed {R : Type 0} (reader : Reader R) (old : ReaderState) (from : R) (bytes : List ℕ) (new : ReaderState) (to : R) : Type 0 where
+  pub read : HasRead reader from bytes to
+  pub live : old.is_done ≡ true → (new ≡ old) × (to ≡ from) × (bytes ≡ [])
+  pub items : (new.is_done ≡ false) × ((d : List ℕ) (ending : InputEnd) → items_to_come old (bytes ++ d) ending ≡ items_to_come new d ending)
+      ⊎ (new.is_done ≡ true) × (items_to_come old bytes end ≡ []) × ((old.is_done ≡ true) ⊎ (reader.at_end to ≡ true))
+  pub passes : new.is_done ≡ false → PassesSome old bytes new
+  pub lazy : IsLazyItems old from bytes to
+
+passed-items : (s : ReaderState) (R : Type 0) (reader : Reader R) (from : R)
+    → (s.is_done ≡ false) × ((d : List ℕ) (ending : InputEnd) → items_to_come s ([] ++ d) ending ≡ items_to_come s d ending)
+    ⊎ (s.is_done ≡ true) × (items_to_come s [] end ≡ []) × ((s.is_done ≡ true) ⊎ (reader.at_end from ≡ true))
+passed-items s R reader from = elim (cases_Bool s.is_done) [
+  | inl h ↦ inr (h, items_to_come-done s [] end h, inl h)
+  | inr h ↦ inl (h, λ d ending. refl)
+]
+
+module _ {R : Type 0} {reader : Reader R} where
+  pub passed-start : (s : ReaderState) (from : R) → Passed reader s from [] s from
+  passed-start s from = record { read = read-none from; live = λ h. (refl, refl, refl); items = passed-items s R reader from; passes = λ g. some-start s; lazy = inl (refl, refl) }
+
+  passed-live : {s t : ReaderState} {from to : R} {r : List ℕ} → Passed reader s from r t to → t.is_done ≡ false → s.is_done ≡ false
+  passed-live {s} h g = elim (cases_Bool s.is_done) [
+    | inl e ↦ let k = ap (λ v. let w : ReaderState = v in w.is_done) (h.live e).0 in absurd (cc)
+    | inr e ↦ e
+  ]
+
+  -- the items to come where no more than the held bytes come
+  passed-more : {s t : ReaderState} {from to : R} {r : List ℕ} → Passed reader s from r t to → t.is_done ≡ false → r ≡ [] → items_to_come t [] more ≡ [] → items_to_come s [] more ≡ []
+  passed-more {s} {t} {to = to} {r = r} h g e none = by-items h.items
+    where
+      by-items : (t.is_done ≡ false) × ((d : List ℕ) (ending : InputEnd) → items_to_come s (r ++ d) ending ≡ items_to_come t d ending)
+          ⊎ (t.is_done ≡ true) × (items_to_come s r end ≡ []) × ((s.is_done ≡ true) ⊎ (reader.at_end to ≡ true)) → items_to_come s [] more ≡ []
+      by-items (inr k) = let d = k.0 in absurd (cc)
+      by-items (inl k) = ap (λ v. items_to_come s (v ++ []) more) (sym e) ∙ k.1 [] more ∙ none
+
+  passed-lazy : {s t : ReaderState} {from to next : R} {r q : List ℕ} → Passed reader s from r t to → t.is_done ≡ false → IsLazyItems t to q next → IsLazyItems s from (r ++ q) next
+  passed-lazy h g (inl k) = elim h.lazy [ inl e ↦ inl (k.0 ∙ e.0, ap₂ (λ v w. v ++ w) e.1 k.1) | inr e ↦ inr e ]
+  passed-lazy h g (inr k) = elim h.lazy [ inl e ↦ inr (passed-more h g e.1 k) | inr e ↦ inr e ]
+
+  -- the items of what was read, where there are more
+  passed-on : {s t : ReaderState} {from to : R} {r : List ℕ} → Passed reader s from r t to → t.is_done ≡ false
+      → (d : List ℕ) (ending : InputEnd) → items_to_come s (r ++ d) ending ≡ items_to_come t d ending
+  passed-on h g = elim h.items [ inl k ↦ k.1 | inr k ↦ let d = k.0 in absurd (cc) ]
+
+  passed-after : {s t : ReaderState} {from to : R} {r : List ℕ} → Passed reader s from r t to → t.is_done ≡ false
+      → (q d : List ℕ) (ending : InputEnd) → items_to_come s ((r ++ q) ++ d) ending ≡ items_to_come t (q ++ d) ending
+  passed-after {s} {r = r} h g q d ending = ap (λ v. items_to_come s v ending) (append_assoc r q d) ∙ passed-on h g (q ++ d) ending
+
+  -- an item came
+  pub gives-line : {s t : ReaderState} {from to next : R} {r : List ℕ} (number : ℕ) (new : Joiner) (line : Line) → Passed reader s from r t to
+      → JoinsNext reader t to number new next → (number_of line ≡ number) × (outcome_of (chars new.line) ≡ given (said (content_of line)))
+      → GivesNext reader s from line new.state next
+  gives-line {s} {t} {r = r} number new line h n (same, o) = record {
+    bytes = r ++ n.bytes;
+    read = read-more h.read n.read;
+    live = passed-live h n.live;
+    gives = by-comes n.comes;
+    passes = λ g. some-on (h.passes n.live) (n.passes g);
+    ended = n.ended;
+    lazy = passed-lazy h n.live n.lazy;
+  }
+    where
+      by-comes : Comes t n.bytes (numbered_line number new) new.state → Gives s (r ++ n.bytes) (entry_of line) new.state
+      by-comes (Comes.going_on k logical) = rw same (Gives.going_on k (record {
+        items = λ d ending.
+            passed-after h n.live n.bytes d ending ∙ logical.items d ending ∙ followed-given number (chars new.line) (said (content_of line)) (items_to_come new.state d ending) o;
+      }))
+      by-comes (Comes.at_last k items) = rw same (Gives.at_last k (
+          passed-on h n.live n.bytes end ∙ items ∙ followed-given number (chars new.line) (said (content_of line)) [] o))
+
+  -- a blank line came
+  pub passed-blank : {s t : ReaderState} {from to next : R} {r : List ℕ} (number : ℕ) (new : Joiner) → Passed reader s from r t to
+      → (n : JoinsNext reader t to number new next) → outcome_of (chars new.line) ≡ ignored → Passed reader s from (r ++ n.bytes) new.state next
+  passed-blank {s} {t} {next = next} {r = r} number new h n o = record {
+    read = read-more h.read n.read;
+    live = λ e. let l = passed-live h n.live in absurd (cc);
+    items = by-comes n.comes;
+    passes = λ g. some-on (h.passes n.live) (n.passes g);
+    lazy = passed-lazy h n.live n.lazy;
+  }
+    where
+      by-comes : Comes t n.bytes (numbered_line number new) new.state
+          → (new.state.is_done ≡ false) × ((d : List ℕ) (ending : InputEnd) → items_to_come s ((r ++ n.bytes) ++ d) ending ≡ items_to_come new.state d ending)
+          ⊎ (new.state.is_done ≡ true) × (items_to_come s (r ++ n.bytes) end ≡ []) × ((s.is_done ≡ true) ⊎ (reader.at_end next ≡ true))
+      by-comes (Comes.going_on k logical) = inl (
+        k,
+        λ d ending.
+            passed-after h n.live n.bytes d ending ∙ logical.items d ending ∙ followed-ignored number (chars new.line) (items_to_come new.state d ending) o,
+      )
+      by-comes (Comes.at_last k items) =
+          inr (k, passed-on h n.live n.bytes end ∙ items ∙ followed-ignored number (chars new.line) [] o, inr (n.ended k))
+
+  -- a line could not be read
+  pub passed-error : {s t u : ReaderState} {from to next : R} {r : List ℕ} {e : PropertiesError} → Passed reader s from r t to → t.is_done ≡ false
+      → JoinsError reader t to e u next → (s.is_done ≡ false) × JoinsError reader s from e u next
+  passed-error {r = r} h g (inl f) = (
+    passed-live h g,
+    inl (record {
+      bytes = r ++ f.bytes;
+      error = f.error;
+      number = f.number;
+      failed = failed-more h.read f.failed;
+      is = f.is;
+      items = passed-on h g f.bytes fault ∙ f.items;
+      lazy = elim h.lazy [ inl e ↦ passed-more h g e.1 f.lazy | inr e ↦ e ];
+    }),
+  )
+  passed-error {r = r} h g (inr (inl f)) =
+      (passed-live h g, inr (inl (record { bytes = r ++ f.bytes; read = read-more h.read f.read; passes = all-on (h.passes g) f.passes; is = f.is; lazy = passed-lazy h g f.lazy })))
+  passed-error {r = r} h g (inr (inr f)) =
+      (passed-live h g, inr (inr (record { bytes = r ++ f.bytes; read = read-more h.read f.read; is = f.is; lazy = passed-lazy h g f.lazy })))
+
+  -- a line gave no item
+  pub passed-no_item : {s t : ReaderState} {from to next : R} {r : List ℕ} {e : PropertiesError} (number : ℕ) (new : Joiner) (u : ReaderState) → Passed reader s from r t to
+      → JoinsNext reader t to number new next → IsNoItem number (chars new.line) e
+      → (s.is_done ≡ false) × (GivesMalformed reader s from e next ⊎ JoinsError reader s from e u next)
+  passed-no_item {r = r} number new u h n (inr is) =
+      (passed-live h n.live, inr (inr (inr (record { bytes = r ++ n.bytes; read = read-more h.read n.read; is = is; lazy = passed-lazy h n.live n.lazy }))))
+  passed-no_item {s} {t} {next = next} {r = r} number new u h n (inl (kind, o, is)) = (
+    passed-live h n.live,
+    inl (record {
+      bytes = r ++ n.bytes;
+      number = number;
+      kind = kind;
+      read = read-more h.read n.read;
+      is = is;
+      breaks = by-comes n.comes;
+      lazy = passed-lazy h n.live n.lazy;
+    }),
+  )
+    where
+      by-comes : Comes t n.bytes (numbered_line number new) new.state → BreaksOff s (r ++ n.bytes) (malformed kind number) (reader.at_end next)
+      by-comes (Comes.going_on k logical) = BreaksOff.before_all (λ d ending.
+          passed-after h n.live n.bytes d ending ∙ logical.items d ending ∙ followed-broken number (chars new.line) kind (items_to_come new.state d ending) o)
+      by-comes (Comes.at_last k items) = BreaksOff.at_last (n.ended k) (passed-on h n.live n.bytes end ∙ items ∙ followed-broken number (chars new.line) kind [] o)
+
+  -- no line came
+  pub passed-none : {s t u : ReaderState} {from to next : R} {r : List ℕ} → Passed reader s from r t to → t.is_done ≡ true → u ≡ t → next ≡ to
+      → GivesNone reader s from u next
+  passed-none {s} {t} {from = from} {to} {r = r} h d same kept = rw (same, kept) (elim h.items [
+    | inl k ↦ let g = k.0 in absurd (cc)
+    | inr k ↦ record {
+      bytes = r;
+      read = h.read;
+      items = k.1;
+      done = d;
+      idle = λ e. h.live e;
+      ended = λ f. elim k.2 [ inl e ↦ absurd (cc) | inr e ↦ e ];
+    }
+  ])

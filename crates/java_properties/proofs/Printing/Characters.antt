@@ -1,0 +1,89 @@
+-- What is printed for a character and for a text.
+use Rattle.std.proofs.Common.{◌≡◌, ◌≢◌, ℕ, ◌<◌, ◌≤◌, true, false, cond, nat_lt, List, [], ◌∷◌, ◌++◌, refl, sym, ap, ◌∙◌, append_assoc, append-nil, lit<, lt-ltb, le-ltb, ne_eqb}
+use Rattle.std.specs.Prelude.{Option, Some, None, is_some, unwrap_or, encode_utf8_all}
+use Rattle.std.specs.Str.{chars, IsUtf8}
+use Rattle.std.proofs.lemmas.Bool.{cond-true, cond-false, agree_below_at}
+use Rattle.std.proofs.lemmas.Str.{encodes-chars, encode_ascii}
+use Rattle.properties_format.specs.Text.{backslash}
+use Rattle.properties_format.specs.Encoding.{Encoding, encoded}
+use Rattle.properties_format.specs.Printing.{Place, in_key_or_value, unit_escape, high_surrogate, low_surrogate, unicode_escape, literal, is_special, has_letter, letter_escape, spelt, spelt_text, encoded_text}
+use Rattle.properties_format.proofs.Printing.Characters.{encoded_text-append, spelt_text-append, AreAscii, encoded_text-ascii, unicode_escape-ascii}
+
+-- a backslash and an ASCII character are their own bytes
+pub encoded_pair : (e : Encoding) (b : ℕ) → b < 0x80 → encoded_text e (backslash ∷ b ∷ []) ≡ backslash ∷ b ∷ []
+encoded_pair e b h = encoded_text-ascii e (backslash ∷ b ∷ []) (lit< tt, (h, tt))
+
+-- and so is an escape
+pub encoded_escape : (e : Encoding) (c : ℕ) → encoded_text e (unicode_escape c) ≡ unicode_escape c
+encoded_escape e c = encoded_text-ascii e (unicode_escape c) (unicode_escape-ascii c)
+
+-- what the encoding has stands as itself
+pub literal_known : (e : Encoding) (c : ℕ) → is_some (encoded e c) ≡ true → encoded_text e (literal e c) ≡ unwrap_or (encoded e c) []
+literal_known e c h = ap (encoded_text e) (cond-true (is_some (encoded e c)) (c ∷ []) (unicode_escape c) h) ∙ append-nil (unwrap_or (encoded e c) [])
+
+nothing : (o : Option (List ℕ)) → is_some o ≡ false → unwrap_or o [] ≡ []
+nothing None h = refl
+nothing (Some x) h = cc
+
+-- what it lacks is escaped, after what was appended for it, which is nothing
+pub literal_lacked : (e : Encoding) (c : ℕ) (before at : List ℕ) → is_some (encoded e c) ≡ false → at ≡ before ++ unwrap_or (encoded e c) []
+    → before ++ encoded_text e (literal e c) ≡ at ++ unicode_escape c
+literal_lacked e c before at h k =
+    ap (λ v. before ++ encoded_text e v) (cond-false (is_some (encoded e c)) (c ∷ []) (unicode_escape c) h)
+    ∙ ap (λ v. before ++ v) (encoded_escape e c)
+    ∙ ap (λ v. v ++ unicode_escape c) (sym (k ∙ ap (λ v. before ++ v) (nothing (encoded e c) h) ∙ append-nil before))
+
+-- past U+FFFF an escape is two
+pub escape_wide : (c : ℕ) (before at : List ℕ) → 0x1_0000 ≤ c → at ≡ before ++ unit_escape (high_surrogate c)
+    → before ++ unicode_escape c ≡ at ++ unit_escape (low_surrogate c)
+escape_wide c before at h k =
+    ap (λ v. before ++ v) (cond-false (nat_lt c 0x1_0000) (unit_escape c) (unit_escape (high_surrogate c) ++ unit_escape (low_surrogate c)) (le-ltb c 0x1_0000 h))
+    ∙ sym (append_assoc before (unit_escape (high_surrogate c)) (unit_escape (low_surrogate c)))
+    ∙ ap (λ v. v ++ unit_escape (low_surrogate c)) (sym k)
+
+-- a control character that has no letter
+abbrev pub IsOtherControl : ℕ → Type 0
+IsOtherControl c = (c < 0x20) × (c ≢ 0x09) × (c ≢ 0x0a) × (c ≢ 0x0c) × (c ≢ 0x0d)
+
+-- it is escaped by its number in a key or a value
+pub spelt_control : (e : Encoding) (c : ℕ) → IsOtherControl c → spelt e in_key_or_value c ≡ unicode_escape c
+spelt_control e c (h, tab, lf, ff, cr) =
+    cond-false (is_special c) (backslash ∷ c ∷ []) (cond (has_letter c) (letter_escape c) (cond (nat_lt c 0x20) (unicode_escape c) (literal e c))) (not-special c h)
+    ∙ cond-false (has_letter c) (letter_escape c) (cond (nat_lt c 0x20) (unicode_escape c) (literal e c)) (no-letter c tab lf ff cr)
+    ∙ cond-true (nat_lt c 0x20) (unicode_escape c) (literal e c) (lt-ltb c 0x20 h)
+  where
+    not-special : (c : ℕ) → c < 0x20 → is_special c ≡ false
+    not-special c h = agree_below_at is_special (λ k. false) 0x20 c refl h
+
+    no-letter : (c : ℕ) → c ≢ 0x09 → c ≢ 0x0a → c ≢ 0x0c → c ≢ 0x0d → has_letter c ≡ false
+    no-letter c tab lf ff cr = rw (ne_eqb c 0x09 tab, ne_eqb c 0x0a lf, ne_eqb c 0x0c ff, ne_eqb c 0x0d cr) refl
+
+-- one character more
+pub printed_more : (e : Encoding) (place : Place) (before xs : List ℕ) (c : ℕ)
+    → (before ++ encoded_text e (spelt_text e place xs)) ++ encoded_text e (spelt e place c) ≡ before ++ encoded_text e (spelt_text e place (xs ++ c ∷ []))
+printed_more e place before xs c =
+    append_assoc before (encoded_text e (spelt_text e place xs)) (encoded_text e (spelt e place c))
+    ∙ ap (λ v. before ++ v) (
+    sym (encoded_text-append e (spelt_text e place xs) (spelt e place c))
+    ∙ ap (λ v. encoded_text e (spelt_text e place xs ++ v)) (sym (append-nil (spelt e place c)))
+    ∙ ap (encoded_text e) (sym (spelt_text-append e place xs (c ∷ [])))
+    )
+
+-- an escape, and the text after it
+pub first_escaped_more : (e : Encoding) (place : Place) (before cs : List ℕ) (c : ℕ)
+    → (before ++ unicode_escape c) ++ encoded_text e (spelt_text e place cs) ≡ before ++ encoded_text e (unicode_escape c ++ spelt_text e place cs)
+first_escaped_more e place before cs c =
+    append_assoc before (unicode_escape c) (encoded_text e (spelt_text e place cs))
+    ∙ ap (λ v. before ++ v) (
+    ap (λ v. v ++ encoded_text e (spelt_text e place cs)) (sym (encoded_escape e c)) ∙ sym (encoded_text-append e (unicode_escape c) (spelt_text e place cs))
+    )
+
+-- ---- texts that are appended as they are
+
+encodes-ascii : (cs : List ℕ) → AreAscii cs → encode_utf8_all cs ≡ cs
+encodes-ascii [] h = refl
+encodes-ascii (c ∷ cs) h = ap (λ v. v ++ encode_utf8_all cs) (encode_ascii c h.0) ∙ ap (λ v. c ∷ v) (encodes-ascii cs h.1)
+
+-- the bytes of a text of ASCII characters are those of its characters in any output encoding
+pub encoded_text-raw : (e : Encoding) (bs : List ℕ) → IsUtf8 bs → AreAscii (chars bs) → encoded_text e (chars bs) ≡ bs
+encoded_text-raw e bs u h = encoded_text-ascii e (chars bs) h ∙ sym (encodes-ascii (chars bs) h) ∙ encodes-chars bs u

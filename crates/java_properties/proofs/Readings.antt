@@ -1,0 +1,153 @@
+-- How a whole input is read, item after item.
+use Rattle.std.proofs.Common.{◌≡◌, ℕ, Bool, true, false, List, [], ◌∷◌, ◌++◌, refl, sym, ap, ◌∙◌, inl, inr, subst, append_assoc, append-nil}
+use Rattle.std.specs.Prelude.{◌⊎◌}
+use Rattle.counted_io.specs.Streams.{Reader, HasRead}
+use Rattle.counted_io.proofs.Streams.{read-none, read-more, failed-more}
+use Rattle.properties_format.specs.Encoding.{Encoding}
+use Rattle.properties_format.specs.Lines.{InputEnd, end, fault}
+use Rattle.properties_format.specs.Entries.{Entry, malformed}
+use Rattle.properties_format.specs.Items.{IsItems}
+use Rattle.properties_format.specs.Reading.Items.{items_of}
+use Rattle.properties_format.specs.ItemsToCome.{ReaderState, start}
+use Rattle.properties_format.specs.Reading.ItemsToCome.{items_to_come}
+use Rattle.properties_format.proofs.Items.Unique.{items_of-meets, items_of-only}
+use Rattle.properties_format.proofs.Items.Numbers.{items_of-ascend}
+use Rattle.properties_format.proofs.Cut.Byline.{byline-is_lines, lines-is_byline}
+use Rattle.properties_format.proofs.ItemsToCome.Unique.{items_to_come-start}
+use Rattle.java_properties.specs.Errors.{IsBareError}
+use Rattle.java_properties.specs.LineFinder.{PassesSome}
+use Rattle.java_properties.proofs.LineJoiner.{some-start, some-on, all-on}
+use Rattle.java_properties.specs.LineJoiner.{JoinsError}
+use Rattle.java_properties.specs.PropertiesIter.{entry_of, Gives, BreaksOff, GivesNext, GivesNone, GivesMalformed}
+use Rattle.java_properties.specs.ReadLines.{IsReading, BeginsItems, ReadsWhole, StopsMalformed, StopsFailed, StopsEarly}
+use Rattle.java_properties.specs.declared.error.ErrorKind.TheVariants as kind
+use Rattle.java_properties.specs.declared.error.PropertiesError.{PropertiesError}
+use Rattle.java_properties.specs.declared.line.Line.{Line}
+
+-- the items that are computed are a reading
+pub reading-of : (e : Encoding) (bytes : List ℕ) (ending : InputEnd) (entries : List Entry) → items_of e bytes ending ≡ entries → IsReading e bytes ending entries
+reading-of e bytes ending entries h =
+    let P : List Entry → Type 0 = IsReading e bytes ending in
+    subst P h (record {
+      items = items_of-meets e bytes ending;
+      only = items_of-only e bytes ending;
+      ascend = items_of-ascend e bytes ending;
+      splitting = λ text lines d. (λ k. byline-is_lines e bytes text lines k d, λ k. lines-is_byline e bytes text lines k d);
+    })
+
+pub items-are : (e : Encoding) (bytes : List ℕ) (ending : InputEnd) (entries : List Entry) → items_of e bytes ending ≡ entries → IsItems e bytes ending entries
+items-are e bytes ending entries h = subst (IsItems e bytes ending) h (items_of-meets e bytes ending)
+
+-- After the bytes that were read these items came; and others still come, or the input ended.
+pub data Comes (e : Encoding) (bytes : List ℕ) (entries : List Entry) (at_end : Bool) (new : ReaderState) : Type 0 where
+  going_on : new.is_done ≡ false → ((d : List ℕ) (ending : InputEnd) → items_of e (bytes ++ d) ending ≡ entries ++ items_to_come new d ending) → Comes e bytes entries at_end new
+  at_last : new.is_done ≡ true → at_end ≡ true → items_of e bytes end ≡ entries → Comes e bytes entries at_end new
+
+pub record Collected {R : Type 0} (reader : Reader R) (e : Encoding) (from : R) (bytes : List ℕ) (entries : List Entry) (new : ReaderState) (to : R) : Type 0 where
+  pub read : HasRead reader from bytes to
+  pub comes : Comes e bytes entries (reader.at_end to) new
+  pub passes : new.is_done ≡ false → PassesSome (start e) bytes new
+
+pub live-on : {e : Encoding} {r : List ℕ} {entries : List Entry} {s : ReaderState} {at_end : Bool} → Comes e r entries at_end s → s.is_done ≡ false
+    → (d : List ℕ) (ending : InputEnd) → items_of e (r ++ d) ending ≡ entries ++ items_to_come s d ending
+live-on (Comes.going_on g m) h = m
+live-on (Comes.at_last d k m) h = absurd (cc)
+
+module _ {R : Type 0} {reader : Reader R} where
+  pub collected-start : (e : Encoding) (from : R) → Collected reader e from [] [] (start e) from
+  collected-start e from = record { read = read-none from; comes = Comes.going_on refl (λ d ending. sym (items_to_come-start e d ending)); passes = λ g. some-start (start e) }
+
+  -- an item came
+  pub collected-next : {e : Encoding} {from to next : R} {r : List ℕ} {entries : List Entry} {s t : ReaderState} (line : Line) → Collected reader e from r entries s to
+      → (n : GivesNext reader s to line t next) → Collected reader e from (r ++ n.bytes) (entries ++ entry_of line ∷ []) t next
+  collected-next {e} {to = to} {next = next} {r = r} {entries} {s} {t} line h n = record {
+    read = read-more h.read n.read;
+    comes = by-comes h.comes n.gives;
+    passes = λ g. some-on (h.passes n.live) (n.passes g);
+  }
+    where
+      by-comes : Comes e r entries (reader.at_end to) s → Gives s n.bytes (entry_of line) t → Comes e (r ++ n.bytes) (entries ++ entry_of line ∷ []) (reader.at_end next) t
+      by-comes (Comes.at_last d k m) g = let l = n.live in absurd (cc)
+      by-comes (Comes.going_on g m) (Gives.going_on k reads) = Comes.going_on k (λ d ending.
+          ap (λ v. items_of e v ending) (append_assoc r n.bytes d)
+          ∙ m (n.bytes ++ d) ending
+          ∙ ap (λ v. entries ++ v) (reads.items d ending)
+          ∙ sym (append_assoc entries (entry_of line ∷ []) (items_to_come t d ending)))
+      by-comes (Comes.going_on g m) (Gives.at_last k items) = Comes.at_last k (n.ended k) (m n.bytes end ∙ ap (λ v. entries ++ v) items)
+
+  -- no more came
+  pub collected-none : {e : Encoding} {from to next : R} {r : List ℕ} {entries : List Entry} {s t : ReaderState} → Collected reader e from r entries s to
+      → GivesNone reader s to t next → ReadsWhole reader e from entries next
+  collected-none {e} {from} {to} {next} {r} {entries} {s} h n = by-comes h.comes
+    where
+      by-comes : Comes e r entries (reader.at_end to) s → ReadsWhole reader e from entries next
+      by-comes (Comes.going_on g m) = record {
+        bytes = r ++ n.bytes;
+        read = read-more h.read n.read;
+        ended = n.ended g;
+        reading = reading-of e (r ++ n.bytes) end entries (m n.bytes end ∙ ap (λ v. entries ++ v) n.items ∙ append-nil entries);
+      }
+      by-comes (Comes.at_last d k m) =
+          let i = n.idle d in
+          let P : R → Type 0 = λ v. ReadsWhole reader e from entries v in
+          subst P (sym i.1) (record { bytes = r; read = h.read; ended = k; reading = reading-of e r end entries m })
+
+  -- the items begin with those before a line that could not be kept
+  pub collected-lost : {e : Encoding} {from to next : R} {r : List ℕ} {entries : List Entry} {s t : ReaderState} {error : PropertiesError} (line : Line)
+      → Collected reader e from r entries s to → GivesNext reader s to line t next → IsBareError kind.Memory error → StopsEarly reader e from entries error next
+  collected-lost {e} {to = to} {next = next} {r = r} {entries} {s} {t} line h n is =
+      record { bytes = r ++ n.bytes; read = read-more h.read n.read; is = inr is; begins = by-comes h.comes n.gives }
+    where
+      by-comes : Comes e r entries (reader.at_end to) s → Gives s n.bytes (entry_of line) t → BeginsItems e (r ++ n.bytes) entries (reader.at_end next)
+      by-comes (Comes.at_last d k m) g = let l = n.live in absurd (cc)
+      by-comes (Comes.going_on g m) (Gives.going_on k reads) = inl (λ d ending. (
+        entry_of line ∷ items_to_come t d ending,
+        items-are e ((r ++ n.bytes) ++ d) ending _ (
+            ap (λ v. items_of e v ending) (append_assoc r n.bytes d) ∙ m (n.bytes ++ d) ending ∙ ap (λ v. entries ++ v) (reads.items d ending)
+            ),
+      ))
+      by-comes (Comes.going_on g m) (Gives.at_last k items) =
+          inr (n.ended k, (entry_of line ∷ [], items-are e (r ++ n.bytes) end _ (m n.bytes end ∙ ap (λ v. entries ++ v) items)))
+
+  -- malformed escapes came
+  pub collected-malformed : {e : Encoding} {from to next : R} {r : List ℕ} {entries : List Entry} {s : ReaderState} {error : PropertiesError} → Collected reader e from r entries s to
+      → s.is_done ≡ false → GivesMalformed reader s to error next → StopsMalformed reader e from entries error next
+  collected-malformed {e} {next = next} {r = r} {entries} {s} h g n = record {
+    bytes = r ++ n.bytes;
+    number = n.number;
+    how = n.kind;
+    read = read-more h.read n.read;
+    is = n.is;
+    reading = by-breaks n.breaks;
+  }
+    where
+      entry : Entry
+      entry = malformed n.kind n.number
+
+      by-breaks : BreaksOff s n.bytes (malformed n.kind n.number) (reader.at_end next)
+          → ((d : List ℕ) (ending : InputEnd) → IsReading e ((r ++ n.bytes) ++ d) ending (entries ++ malformed n.kind n.number ∷ []))
+          ⊎ (reader.at_end next ≡ true) × IsReading e (r ++ n.bytes) end (entries ++ malformed n.kind n.number ∷ [])
+      by-breaks (BreaksOff.before_all m) = inl (λ d ending. reading-of e ((r ++ n.bytes) ++ d) ending _ (
+          ap (λ v. items_of e v ending) (append_assoc r n.bytes d) ∙ live-on h.comes g (n.bytes ++ d) ending ∙ ap (λ v. entries ++ v) (m d ending)))
+      by-breaks (BreaksOff.at_last k m) = inr (k, reading-of e (r ++ n.bytes) end _ (live-on h.comes g n.bytes end ∙ ap (λ v. entries ++ v) m))
+
+  early : {e : Encoding} {from to : R} {r : List ℕ} {entries : List Entry} {s : ReaderState} → Collected reader e from r entries s to → s.is_done ≡ false
+      → (q : List ℕ) {at_end : Bool} → BeginsItems e (r ++ q) entries at_end
+  early {e} {r = r} {entries} {s} h g q = inl (λ d ending. (
+    items_to_come s (q ++ d) ending,
+    items-are e ((r ++ q) ++ d) ending _ (ap (λ v. items_of e v ending) (append_assoc r q d) ∙ live-on h.comes g (q ++ d) ending),
+  ))
+
+  -- a line could not be read
+  pub collected-error : {e : Encoding} {from to next : R} {r : List ℕ} {entries : List Entry} {s t : ReaderState} {error : PropertiesError} → Collected reader e from r entries s to
+      → s.is_done ≡ false → JoinsError reader s to error t next → StopsFailed reader e from entries error next ⊎ StopsEarly reader e from entries error next
+  collected-error {e} {r = r} {entries} h g (inl f) = inl (record {
+    bytes = r ++ f.bytes;
+    cause = f.error;
+    number = f.number;
+    failed = failed-more h.read f.failed;
+    is = f.is;
+    reading = reading-of e (r ++ f.bytes) fault _ (live-on h.comes g f.bytes fault ∙ ap (λ v. entries ++ v) f.items);
+  })
+  collected-error {r = r} h g (inr (inl f)) = inr (record { bytes = r ++ f.bytes; read = read-more h.read f.read; is = inl (f.is, all-on (h.passes g) f.passes); begins = early h g f.bytes })
+  collected-error {r = r} h g (inr (inr f)) = inr (record { bytes = r ++ f.bytes; read = read-more h.read f.read; is = inr f.is; begins = early h g f.bytes })

@@ -1,0 +1,109 @@
+-- Scans of a text, as far as they have come.
+use Rattle.std.proofs.Common.{◌≡◌, ℕ, ◌<◌, ◌≤◌, ◌+◌, ◌-◌, ◌==◌, Bool, true, false, List, [], ◌∷◌, ◌++◌, length, take, drop, get_or, refl, ap, sym, ◌∙◌, append_assoc, append-nil, arith}
+use Rattle.std.proofs.lemmas.Bool.{cond-true, cond-false}
+use Rattle.std.proofs.lemmas.List.{at_drop_more, at_drop_all, take_more, drop_more, drop_all}
+use Rattle.properties_format.specs.Text.{backslash, is_blank, is_separator, without_leading_blanks}
+use Rattle.properties_format.specs.Split.{ends}
+use Rattle.properties_format.specs.Reading.Split.{without_trailing_blanks, unless_last_blank, Cut, with_front, ends_key, cut_key, past_separator}
+use Rattle.properties_format.proofs.Split.Blanks.{without_trailing_blanks-only}
+use Rattle.properties_format.proofs.Split.Keys.{with_text, ends_here, cut_key-ends}
+
+-- ---- blanks at the front
+
+-- a blank is passed over
+pub leading-more : (xs : List ℕ) (i : ℕ) → i < length xs → is_blank (get_or xs i 0) ≡ true → without_leading_blanks (drop (i + 1) xs) ≡ without_leading_blanks (drop i xs)
+leading-more xs i h b = sym (at_drop_more without_leading_blanks xs i 0 h ∙ cond-true (is_blank (get_or xs i 0)) _ _ b)
+
+-- another character ends the scan
+pub leading-stop : (xs : List ℕ) (i : ℕ) → i < length xs → is_blank (get_or xs i 0) ≡ false → without_leading_blanks (drop i xs) ≡ drop i xs
+leading-stop xs i h b = at_drop_more without_leading_blanks xs i 0 h ∙ cond-false (is_blank (get_or xs i 0)) _ _ b ∙ sym (drop_more xs i 0 h)
+
+-- and so does the end
+leading-end : (xs : List ℕ) (i : ℕ) → length xs ≤ i → without_leading_blanks (drop i xs) ≡ drop i xs
+leading-end xs i h = at_drop_all without_leading_blanks xs i h ∙ sym (drop_all i xs h)
+
+-- a text that is blanks to its end
+pub leading-all : (xs : List ℕ) (i : ℕ) → length xs ≤ i → without_leading_blanks (drop i xs) ≡ without_leading_blanks xs → drop (length xs) xs ≡ without_leading_blanks xs
+leading-all xs i h e = drop_all (length xs) xs (omega arith) ∙ sym (drop_all i xs h) ∙ sym (leading-end xs i h) ∙ e
+
+-- ---- blanks at the end
+
+trailing-blank : (y : List ℕ) (c : ℕ) → is_blank c ≡ true → without_trailing_blanks (y ++ c ∷ []) ≡ without_trailing_blanks y
+trailing-blank [] c b = rw b refl
+trailing-blank (d ∷ y) c b = ap (unless_last_blank d) (trailing-blank y c b)
+
+ends-last : (y : List ℕ) (c : ℕ) → ends is_blank (y ++ c ∷ []) ≡ is_blank c
+ends-last [] c = refl
+ends-last (d ∷ []) c = refl
+ends-last (d ∷ e ∷ y) c = ends-last (e ∷ y) c
+
+-- the last character of a beginning of the text
+pub take-last : (xs : List ℕ) (e : ℕ) → 0 < e → e ≤ length xs → take e xs ≡ take (e - 1) xs ++ get_or xs (e - 1) 0 ∷ []
+take-last xs e p h = ap (λ n. take n xs) (let k : e ≡ e - 1 + 1 = omega arith in k) ∙ take_more xs (e - 1) 0 (omega arith)
+
+-- a blank that stands last is left out
+pub trailing-more : (xs : List ℕ) (e : ℕ) → 0 < e → e ≤ length xs → is_blank (get_or xs (e - 1) 0) ≡ true
+    → without_trailing_blanks (take (e - 1) xs) ≡ without_trailing_blanks (take e xs)
+trailing-more xs e p h b = sym (ap without_trailing_blanks (take-last xs e p h) ∙ trailing-blank (take (e - 1) xs) (get_or xs (e - 1) 0) b)
+
+full-last : (y : List ℕ) → ends is_blank y ≡ false → without_trailing_blanks y ≡ y
+full-last y e = ap without_trailing_blanks (sym (append-nil y)) ∙ without_trailing_blanks-only y [] tt e
+
+-- another character stays
+pub trailing-stop : (xs : List ℕ) (e : ℕ) → 0 < e → e ≤ length xs → is_blank (get_or xs (e - 1) 0) ≡ false → without_trailing_blanks (take e xs) ≡ take e xs
+trailing-stop xs e p h b = full-last (take e xs) (ap (ends is_blank) (take-last xs e p h) ∙ ends-last (take (e - 1) xs) (get_or xs (e - 1) 0) ∙ b)
+
+-- ---- keys
+
+-- The key and its rest are those of what comes, with what was passed in front of the key.
+abbrev pub IsCutSoFar : List ℕ → ℕ → Bool → Type 0
+IsCutSoFar xs i is_escaped = cut_key xs false ≡ with_text (take i xs) (cut_key (drop i xs) is_escaped)
+
+-- the key takes one character more
+pub cut-more : (xs : List ℕ) (i : ℕ) (was now : Bool) → i < length xs
+    → ((cs : List ℕ) → cut_key (get_or xs i 0 ∷ cs) was ≡ with_front (get_or xs i 0) (cut_key cs now)) → IsCutSoFar xs i was → IsCutSoFar xs (i + 1) now
+cut-more xs i was now h step k =
+    k
+    ∙ ap (with_text (take i xs)) (ap (λ v. cut_key v was) (drop_more xs i 0 h) ∙ step (drop (i + 1) xs))
+    ∙ ap (λ v. let cut : Cut = record { key = v; rest = (cut_key (drop (i + 1) xs) now).rest } in cut)
+    (sym (append_assoc (take i xs) (get_or xs i 0 ∷ []) (cut_key (drop (i + 1) xs) now).key))
+    ∙ ap (λ v. with_text v (cut_key (drop (i + 1) xs) now)) (sym (take_more xs i 0 h))
+
+pub cut-escaped : (xs : List ℕ) (i : ℕ) → i < length xs → IsCutSoFar xs i true → IsCutSoFar xs (i + 1) false
+cut-escaped xs i h = cut-more xs i true false h (λ cs. refl)
+
+pub cut-backslash : (xs : List ℕ) (i : ℕ) → i < length xs → get_or xs i 0 ≡ backslash → IsCutSoFar xs i false → IsCutSoFar xs (i + 1) true
+cut-backslash xs i h e = cut-more xs i false true h (λ cs. rw e refl)
+
+pub cut-plain : (xs : List ℕ) (i : ℕ) → i < length xs → (get_or xs i 0 == backslash) ≡ false → ends_key (get_or xs i 0) ≡ false
+    → IsCutSoFar xs i false → IsCutSoFar xs (i + 1) false
+cut-plain xs i h b k = cut-more xs i false false h (λ cs. cond-false (get_or xs i 0 == backslash) _ _ b ∙ cond-false (ends_key (get_or xs i 0)) _ _ k)
+
+-- The text is cut there.
+pub record IsCutAt (xs : List ℕ) (i : ℕ) : Type 0 where
+  pub key : (cut_key xs false).key ≡ take i xs
+  pub rest : (cut_key xs false).rest ≡ drop i xs
+
+pub cut-stop : (xs : List ℕ) (i : ℕ) → ends_here (drop i xs) ≡ true → IsCutSoFar xs i false → IsCutAt xs i
+cut-stop xs i e k =
+    let m = k ∙ ap (with_text (take i xs)) (cut_key-ends (drop i xs) e) in
+    record { key = ap (λ v. v.key) m ∙ append-nil (take i xs); rest = ap (λ v. v.rest) m }
+
+pub cut-here : (xs : List ℕ) (i : ℕ) → i < length xs → ends_key (get_or xs i 0) ≡ true → IsCutSoFar xs i false → IsCutAt xs i
+cut-here xs i h e = cut-stop xs i (ap ends_here (drop_more xs i 0 h) ∙ e)
+
+pub cut-end : (xs : List ℕ) (i : ℕ) (is_escaped : Bool) → length xs ≤ i → IsCutSoFar xs i is_escaped → IsCutAt xs i
+cut-end xs i is_escaped h k =
+    let m = k ∙ ap (λ v. with_text (take i xs) (cut_key v is_escaped)) (drop_all i xs h) in
+    record { key = ap (λ v. v.key) m ∙ append-nil (take i xs); rest = ap (λ v. v.rest) m ∙ sym (drop_all i xs h) }
+
+-- ---- separators
+
+pub separator-there : (xs : List ℕ) (i : ℕ) → i < length xs → is_separator (get_or xs i 0) ≡ true → past_separator (drop i xs) ≡ without_leading_blanks (drop (i + 1) xs)
+separator-there xs i h s = at_drop_more past_separator xs i 0 h ∙ cond-true (is_separator (get_or xs i 0)) _ _ s
+
+pub no_separator : (xs : List ℕ) (i : ℕ) → i < length xs → is_separator (get_or xs i 0) ≡ false → past_separator (drop i xs) ≡ drop i xs
+no_separator xs i h s = at_drop_more past_separator xs i 0 h ∙ cond-false (is_separator (get_or xs i 0)) _ _ s ∙ sym (drop_more xs i 0 h)
+
+pub separator-end : (xs : List ℕ) (i : ℕ) → length xs ≤ i → past_separator (drop i xs) ≡ drop i xs
+separator-end xs i h = at_drop_all past_separator xs i h ∙ sym (drop_all i xs h)

@@ -1,0 +1,109 @@
+-- The tests of settings, character by character.
+use Rattle.std.proofs.Common.{◌≡◌, ℕ, ◌<◌, ◌||◌, ◌&&◌, not, ◌==◌, if◌then◌else◌, Bool, true, false, List, [], ◌∷◌, ◌++◌, length, refl, ap, sym, ◌∙◌, arith, rules}
+use Rattle.std.proofs.Math.Bool.{or-false, and-true}
+use borrow.Author.Tests.{tests}
+use lib.Utf8.{encodes}
+use Rattle.std.specs.Prelude.{encode_utf8}
+use Rattle.std.specs.Str.{IsUtf8, chars}
+use Rattle.std.proofs.lemmas.Bool.{cond-true, cond-false}
+use Rattle.std.proofs.lemmas.Str.{chars_past_char, encodes-chars, length-le-encodes}
+use Rattle.properties_format.specs.Writing.{is_empty}
+use Rattle.properties_format.specs.Text.{is_blank, is_line_end, is_comment_sign, is_separator}
+use Rattle.properties_format.specs.Reading.Settings.{holds_no_line_end}
+use Rattle.properties_format.specs.Reading.Settings.{is_blanks, is_good_prefix, is_signed_separator, is_good_separator}
+use Rattle.properties_format.specs.Settings.{IsGoodPrefix, IsGoodSeparator}
+use Rattle.properties_format.proofs.Settings.Tests.{sign_not_blank, separator_not_blank, is_good_prefix-from, is_good_separator-from}
+use Rattle.java_properties.proofs.Texts.Characters.{chars-empty}
+
+-- what a test says of the characters is what it says of the first and of the others
+pub past_first : (test : List ℕ → Bool) (whole last : Bool) (bs rest : List ℕ) (c : ℕ) → IsUtf8 bs → bs ≡ encode_utf8 c ++ rest
+    → whole ≡ test (chars bs) → test (c ∷ chars rest) ≡ last → whole ≡ last
+past_first test whole last bs rest c u e h k = h ∙ ap test (chars_past_char bs rest c u e) ∙ k
+
+pub past_last : (test : List ℕ → Bool) (whole last : Bool) (bs : List ℕ) → length bs ≡ 0 → whole ≡ test (chars bs) → test [] ≡ last → last ≡ whole
+past_last test whole last bs e h k = sym (h ∙ ap test (chars-empty bs e) ∙ k)
+
+-- ---- prefixes
+
+-- what is still to hold of a prefix, past its sign or before it
+abbrev pub prefix_left : Bool → List ℕ → Bool
+prefix_left true cs = holds_no_line_end cs
+prefix_left false cs = is_good_prefix cs
+
+pub prefix_left-end : (signed : Bool) → prefix_left signed [] ≡ signed
+prefix_left-end true = refl
+prefix_left-end false = refl
+
+pub prefix_left-in_line : (c : ℕ) (cs : List ℕ) → is_line_end c ≡ false → prefix_left true (c ∷ cs) ≡ prefix_left true cs
+prefix_left-in_line c cs e = ap (λ v. not v && holds_no_line_end cs) e
+
+pub prefix_left-line_end : (c : ℕ) (cs : List ℕ) → is_line_end c ≡ true → prefix_left true (c ∷ cs) ≡ false
+prefix_left-line_end c cs e = ap (λ v. not v && holds_no_line_end cs) e
+
+pub prefix_left-sign : (c : ℕ) (cs : List ℕ) → is_comment_sign c ≡ true → prefix_left false (c ∷ cs) ≡ prefix_left true cs
+prefix_left-sign c cs e = cond-false (is_blank c) _ _ (sign_not_blank c e) ∙ ap (λ v. v && holds_no_line_end cs) e
+
+pub prefix_left-blank : (c : ℕ) (cs : List ℕ) → is_blank c ≡ true → prefix_left false (c ∷ cs) ≡ prefix_left false cs
+prefix_left-blank c cs e = cond-true (is_blank c) _ _ e
+
+pub prefix_left-other : (c : ℕ) (cs : List ℕ) → is_comment_sign c ≡ false → is_blank c ≡ false → prefix_left false (c ∷ cs) ≡ false
+prefix_left-other c cs m e = cond-false (is_blank c) _ _ e ∙ ap (λ v. v && holds_no_line_end cs) m
+
+-- ---- separators
+
+-- what is still to hold of a separator that isn't empty, past its sign or before it
+abbrev pub separator_left : Bool → List ℕ → Bool
+separator_left true cs = is_blanks cs
+separator_left false cs = is_signed_separator cs || is_blanks cs
+
+-- a text holds some character
+abbrev pub holds_some : List ℕ → Bool
+holds_some cs = not (is_empty cs)
+
+pub separator_left-end : (signed : Bool) → separator_left signed [] ≡ true
+separator_left-end true = refl
+separator_left-end false = refl
+
+pub separator_left-sign : (c : ℕ) (cs : List ℕ) → is_separator c ≡ true → separator_left false (c ∷ cs) ≡ separator_left true cs
+separator_left-sign c cs e =
+    let b = separator_not_blank c e in
+    ap (λ v. (if v then is_signed_separator cs else is_separator c && is_blanks cs) || (v && is_blanks cs)) b
+    ∙ ap (λ v. (v && is_blanks cs) || false) e ∙ or-false (is_blanks cs)
+
+pub separator_left-blank : (signed : Bool) (c : ℕ) (cs : List ℕ) → is_blank c ≡ true → separator_left signed (c ∷ cs) ≡ separator_left signed cs
+separator_left-blank true c cs e = ap (λ v. v && is_blanks cs) e
+separator_left-blank false c cs e = ap (λ v. (if v then is_signed_separator cs else is_separator c && is_blanks cs) || (v && is_blanks cs)) e
+
+-- neither a blank nor the first sign
+pub separator_left-other : (signed : Bool) (c : ℕ) (cs : List ℕ) → (is_separator c && not signed) ≡ false → is_blank c ≡ false → separator_left signed (c ∷ cs) ≡ false
+separator_left-other true c cs s e = ap (λ v. v && is_blanks cs) e
+separator_left-other false c cs s e =
+    ap (λ v. (if v then is_signed_separator cs else is_separator c && is_blanks cs) || (v && is_blanks cs)) e
+    ∙ ap (λ v. (v && is_blanks cs) || false) (sym (and-true (is_separator c)) ∙ s)
+
+above_zero : (n : ℕ) → 0 < n → (n == 0) ≡ false
+above_zero n h = search (rules, tests)
+
+holds_some-encoded : (cs bs : List ℕ) → encodes cs ≡ bs → holds_some cs ≡ not (length bs == 0)
+holds_some-encoded [] bs e = ap (λ v. not (length v == 0)) e
+holds_some-encoded (c ∷ cs) bs e = sym (ap not (above_zero (length bs) (omega (arith, length-le-encodes (c ∷ cs), ap length e))))
+
+-- a text holds some character where it holds some byte
+pub holds_some-chars : (bs : List ℕ) → IsUtf8 bs → holds_some (chars bs) ≡ not (length bs == 0)
+holds_some-chars bs u = holds_some-encoded (chars bs) bs (encodes-chars bs u)
+
+-- and none where it holds no byte
+pub is_empty-chars : (bs : List ℕ) → IsUtf8 bs → is_empty (chars bs) ≡ (length bs == 0)
+is_empty-chars bs u = sym (not-not (is_empty (chars bs))) ∙ ap not (holds_some-chars bs u) ∙ not-not (length bs == 0)
+  where
+    not-not : (b : Bool) → not (not b) ≡ b
+    not-not true = refl
+    not-not false = refl
+
+-- ---- what a test that fails says
+
+pub bad_prefix : (prefix : List ℕ) → is_good_prefix prefix ≡ false → IsGoodPrefix prefix → ⊥
+bad_prefix prefix bad good = let yes = is_good_prefix-from prefix good in absurd (cc)
+
+pub bad_separator : (separator : List ℕ) → is_good_separator separator ≡ false → IsGoodSeparator separator → ⊥
+bad_separator separator bad good = let yes = is_good_separator-from separator good in absurd (cc)

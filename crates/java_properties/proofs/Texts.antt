@@ -1,0 +1,7 @@
+pub mod Characters
+pub mod Split
+pub mod Spans
+pub mod Joins
+pub mod Escapes
+pub mod Resolving
+pub mod Backslashes

@@ -1,0 +1,83 @@
+-- How the bytes of a character stand to it: those of ASCII are their characters, and no others are ASCII.
+use Rattle.std.proofs.Common.{◌≡◌, ℕ, ◌≤◌, ◌==◌, true, false, List, [], ◌∷◌, ◌++◌, length, refl, ap, sym, ◌∙◌, inl, inr, arith}
+use lib.Utf8.{encode, encodes, scalars, scalar}
+use Rattle.std.specs.Str.{IsUtf8, chars}
+use Rattle.std.proofs.lemmas.Str.{chars-encodes, chars-nil, chars_past_char, IsUtf8-past_char}
+use Rattle.std.proofs.lemmas.List.{nil_from_length}
+use Rattle.std.proofs.lemmas.Bool.{cases_lt, and_parts, and_from, ne_eqb}
+use Rattle.properties_format.specs.Text.{backslash, is_blank, is_separator, is_comment_sign}
+use Rattle.properties_format.specs.Reading.Split.{ends_key}
+use Rattle.properties_format.proofs.Encodings.Utf8Characters.{encode-one, encode-two, encode-three, encode-four}
+
+-- ---- bytes that are not ASCII
+
+abbrev pub AreWide : List ℕ → Type 0
+AreWide [] = Unit {0}
+AreWide (b ∷ bs) = (128 ≤ b) × AreWide bs
+
+-- A character is a byte itself, or has bytes of which none is ASCII.
+pub data IsEncoded (c : ℕ) (bytes : List ℕ) : Type 0 where
+  one : bytes ≡ c ∷ [] → IsEncoded c bytes
+  wide : 128 ≤ c → (b : ℕ) (bs : List ℕ) → bytes ≡ b ∷ bs → 128 ≤ b → AreWide bs → IsEncoded c bytes
+
+pub encoded : (c : ℕ) → IsEncoded c (encode c)
+encoded c = elim (cases_lt c 0x80) [
+  | inl h ↦ one (encode-one c h)
+  | inr l ↦ elim (cases_lt c 0x800) [
+    | inl h ↦ wide l _ _ (encode-two c l h) (omega arith) (omega arith, tt)
+    | inr m ↦ elim (cases_lt c 0x1_0000) [
+      | inl h ↦ wide l _ _ (encode-three c m h) (omega arith) (omega arith, (omega arith, tt))
+      | inr n ↦ wide l _ _ (encode-four c n) (omega arith) (omega arith, (omega arith, (omega arith, tt)))
+    ]
+  ]
+]
+
+-- ---- what is not ASCII is of no kind
+
+pub wide-no_backslash : (c : ℕ) → 128 ≤ c → (c == backslash) ≡ false
+wide-no_backslash c h = ne_eqb c backslash (λ e. absurd (omega arith))
+
+pub wide-no_blank : (c : ℕ) → 128 ≤ c → is_blank c ≡ false
+wide-no_blank c h = rw (ne_eqb c 0x20 (λ e. absurd (omega arith)), ne_eqb c 0x09 (λ e. absurd (omega arith)), ne_eqb c 0x0c (λ e. absurd (omega arith))) refl
+
+pub wide-no_separator : (c : ℕ) → 128 ≤ c → is_separator c ≡ false
+wide-no_separator c h = rw (ne_eqb c 0x3d (λ e. absurd (omega arith)), ne_eqb c 0x3a (λ e. absurd (omega arith))) refl
+
+pub wide-no_comment_sign : (c : ℕ) → 128 ≤ c → is_comment_sign c ≡ false
+wide-no_comment_sign c h = rw (ne_eqb c 0x23 (λ e. absurd (omega arith)), ne_eqb c 0x21 (λ e. absurd (omega arith))) refl
+
+pub wide-no_end : (c : ℕ) → 128 ≤ c → ends_key c ≡ false
+wide-no_end c h = rw (wide-no_blank c h) (wide-no_separator c h)
+
+-- ---- texts
+
+pub scalars-parts : (xs ys : List ℕ) → scalars (xs ++ ys) ≡ true → (scalars xs ≡ true) × (scalars ys ≡ true)
+scalars-parts [] ys h = (refl, h)
+scalars-parts (x ∷ xs) ys h =
+    let p = and_parts (scalar x) (scalars (xs ++ ys)) h in
+    let q : (scalars xs ≡ true) × (scalars ys ≡ true) = scalars-parts xs ys p.1 in
+    (and_from (scalar x) (scalars xs) p.0 q.0, q.1)
+
+-- The part of a text is a text, and its characters are that part of the characters.
+pub record IsPart (part : List ℕ → List ℕ) (bs : List ℕ) : Type 0 where
+  pub utf8 : IsUtf8 (part bs)
+  pub same : chars (part bs) ≡ part (chars bs)
+
+-- what takes the same part of characters and of their bytes
+pub part_by : (part : List ℕ → List ℕ) → ((cs : List ℕ) → part (encodes cs) ≡ encodes (part cs))
+    → ((cs : List ℕ) → scalars cs ≡ true → scalars (part cs) ≡ true) → (bs : List ℕ) → IsUtf8 bs → IsPart part bs
+part_by part e s bs (cs, (h, w)) = record {
+  utf8 = (part cs, (s cs h, sym (e cs) ∙ ap part w));
+  same = ap (λ v. chars (part v)) (sym w) ∙ ap chars (e cs) ∙ chars-encodes (part cs) (s cs h) ∙ ap part (sym (chars-encodes cs h) ∙ ap chars w);
+}
+
+-- A text is a character and a rest.
+pub record IsCharacterAnd (bs : List ℕ) (c : ℕ) (rest : List ℕ) : Type 0 where
+  pub characters : chars bs ≡ c ∷ chars rest
+  pub utf8 : IsUtf8 rest
+
+pub character_and : (bs rest : List ℕ) (c : ℕ) → IsUtf8 bs → bs ≡ encode c ++ rest → IsCharacterAnd bs c rest
+character_and bs rest c u e = record { characters = chars_past_char bs rest c u e; utf8 = IsUtf8-past_char bs rest c u e }
+
+pub chars-empty : (bs : List ℕ) → length bs ≡ 0 → chars bs ≡ []
+chars-empty bs e = ap chars (nil_from_length bs e) ∙ chars-nil

@@ -1,0 +1,10 @@
+use Rattle.std.proofs.Common.{ap, ◌∙◌, refl}
+use Rattle.std.specs.Str.{chars}
+use Rattle.java_properties.specs.Encoding.{encoding_of}
+use Rattle.java_properties.proofs.TextFronts.{text-decoded}
+use Rattle.java_properties.proofs.encoding.decode.decode_line.Goals as goal
+
+pub returns-in-Some-clause-text : goal.returns-in-Some-clause-text
+returns-in-Some-clause-text c =
+    let found = c.in-Some.ensures in
+    ap chars found.same ∙ text-decoded (encoding_of c.args.encoding) c.args.bytes.now (found.exactly.0 refl)

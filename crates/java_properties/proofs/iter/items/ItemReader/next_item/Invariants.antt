@@ -1,0 +1,15 @@
+use Rattle.std.proofs.Common.{◌≤◌, ℕ, List}
+use Rattle.counted_io.specs.Streams.{reader, IsSameReader}
+use Rattle.java_properties.specs.LineFinder.{lines_left}
+use Rattle.java_properties.proofs.Items.{Passed}
+use Rattle.java_properties.proofs.iter.items.ItemReader.next_item.Given as goal
+
+abbrev pub invariant-loop-found : goal.invariant-loop-found
+invariant-loop-found g l = record {
+  passed : (bytes : List ℕ) × Passed (reader g.R.Read g.R.CountedRead) l.fn.self l.fn.reader bytes l.self-inside.lines.state l.reader;
+  left : lines_left l.self-inside.lines.state ≤ lines_left l.fn.self;
+  same_reader : IsSameReader (reader g.R.Read g.R.CountedRead) l.fn.reader l.reader;
+}
+
+abbrev pub decreases-loop-found : goal.decreases-loop-found
+decreases-loop-found g l = lines_left l.self-inside.lines.state

@@ -1,0 +1,18 @@
+use Rattle.std.proofs.Common.{ap, ◌∙◌}
+use Rattle.std.proofs.lemmas.Result.{on_ok_weaker}
+use Rattle.properties_format.specs.Text.{line_ending_text}
+use Rattle.java_properties.specs.Encoding.{output_of}
+use Rattle.java_properties.specs.Engine.{content_of}
+use Rattle.java_properties.specs.declared.writer.engine.Engine.{Engine}
+use Rattle.java_properties.proofs.Engine.{line_ending-bytes, line-built}
+use Rattle.java_properties.proofs.writer.engine.Engine.build.Goals as goal
+
+pub returns-clause-printed : goal.returns-clause-printed
+returns-clause-printed c =
+    let engine = c.args.self.now in
+    let same = ap (λ (w : Engine). w.settings.line_ending) c.print_content.ensures.same in
+    let text = c.as_str.ensures ∙ ap line_ending_text (c.line_ending.ensures ∙ same) in
+    let ending = line_ending-bytes (output_of engine.encoding) c.as_str.result.now engine.settings.line_ending c.as_str.utf8 text in
+    on_ok_weaker c.print_raw.result
+    (line-built engine (content_of c.args.content) _ _ _ _ c.clear.ensures.items c.in_ok-print_content.ensures.printed ending)
+    c.print_raw.ensures

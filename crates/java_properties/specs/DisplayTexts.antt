@@ -1,0 +1,63 @@
+-- What is printed of errors, lines and line endings. Where a text that is printed in quotes is not ASCII, nothing is said.
+use Rattle.std.specs.Prelude.{ℕ, List, [], Option, None, Some, codes, string_bytes}
+use Rattle.std.specs.Option.{option_map}
+use Rattle.std.specs.Fmt.{◌++?◌, decimal, debug_str}
+use Rattle.java_properties.specs.declared.line.LineContent.{LineContent}
+use Rattle.java_properties.specs.declared.line.LineContent.TheVariants.{Comment, KVPair}
+use Rattle.java_properties.specs.declared.line.Line.{Line}
+use Rattle.java_properties.specs.declared.writer.settings.LineEnding.{LineEnding}
+use Rattle.java_properties.specs.declared.writer.settings.LineEnding.TheVariants.{CR, LF, CRLF}
+use Rattle.java_properties.specs.declared.error.ErrorKind.{ErrorKind}
+use Rattle.java_properties.specs.declared.error.ErrorKind.TheVariants as kind
+use Rattle.java_properties.specs.declared.error.PropertiesError.{PropertiesError}
+
+-- ---- errors
+
+-- what kind of error it is, in words
+abbrev pub description : ErrorKind → List ℕ
+description kind.Io = codes "I/O error"
+description kind.NotEnoughDigits = codes "Malformed \\uxxxx encoding: not enough digits."
+description kind.NotHex = codes "Malformed \\uxxxx encoding: not hex."
+description kind.InvalidCharacter = codes "Malformed \\uxxxx encoding: invalid character."
+description kind.BadCommentPrefix = codes "Bad comment prefix"
+description kind.BadKvSeparator = codes "Bad key/value separator"
+description kind.EmptyKey = codes "Empty key with a blank key/value separator."
+description kind.TooManyLines = codes "Too many lines."
+description kind.Failed = codes "The writer has failed."
+description kind.Memory = codes "Out of memory."
+description kind.Unsupported = codes "Encoding can't be edited."
+
+-- the text that was refused, where one was
+abbrev pub refused_display : Option (List ℕ) → Option (List ℕ)
+refused_display None = Some []
+refused_display (Some text) = Some (codes ": ") ++? debug_str text
+
+abbrev pub place_display : Option ℕ → List ℕ
+place_display None = codes "unknown"
+place_display (Some number) = decimal number
+
+-- the description and the refused text, and then ` (line_number = N)`
+abbrev pub error_display : PropertiesError → Option (List ℕ)
+error_display e =
+    Some (description e.kind) ++? refused_display (option_map string_bytes e.refused)
+    ++? Some (codes " (line_number = ") ++? Some (place_display e.line_number) ++? Some (codes ")")
+
+-- ---- lines and line endings
+
+-- `Comment(T)`, or `KVPair(T, T)`
+abbrev pub content_display : LineContent → Option (List ℕ)
+content_display (Comment text) = Some (codes "Comment(") ++? debug_str (string_bytes text) ++? Some (codes ")")
+content_display (KVPair key value) =
+    Some (codes "KVPair(") ++? debug_str (string_bytes key) ++? Some (codes ", ") ++? debug_str (string_bytes value) ++? Some (codes ")")
+
+-- `Line {line_number: N, content: C}`
+abbrev pub line_display : Line → Option (List ℕ)
+line_display l =
+    Some (codes "Line {line_number: ") ++? Some (decimal l.line_number)
+    ++? Some (codes ", content: ") ++? content_display l.content ++? Some (codes "}")
+
+-- `LineEnding::CR`, `LineEnding::LF` or `LineEnding::CRLF`
+abbrev pub line_ending_display : LineEnding → List ℕ
+line_ending_display CR = codes "LineEnding::CR"
+line_ending_display LF = codes "LineEnding::LF"
+line_ending_display CRLF = codes "LineEnding::CRLF"

@@ -1,0 +1,16 @@
+-- The encodings of the format that this crate's own stand for.
+use Rattle.properties_format.specs.Encoding as format
+use Rattle.java_properties.specs.declared.encoding.Encoding.{Encoding}
+use Rattle.java_properties.specs.declared.encoding.Encoding.TheVariants.{WINDOWS_1252, UTF_8, UTF_16LE, UTF_16BE}
+use Rattle.java_properties.specs.declared.encoding.encode.OutputEncoding.{OutputEncoding}
+use Rattle.java_properties.specs.declared.encoding.encode.OutputEncoding.TheVariants.{Windows1252, Utf8}
+
+abbrev pub encoding_of : Encoding → format.Encoding
+encoding_of WINDOWS_1252 = format.windows_1252
+encoding_of UTF_8 = format.utf_8
+encoding_of UTF_16LE = format.utf_16le
+encoding_of UTF_16BE = format.utf_16be
+
+abbrev pub output_of : OutputEncoding → format.Encoding
+output_of Windows1252 = format.windows_1252
+output_of Utf8 = format.utf_8

@@ -1,0 +1,32 @@
+-- The engine of a writer, and the line that it builds.
+use Rattle.std.specs.Prelude.{ℕ, ◌==◌, List, ◌++◌}
+use Rattle.std.specs.Str.{chars}
+use Rattle.properties_format.specs.Entries as format
+use Rattle.properties_format.specs.Printing.{printed, encoded_text}
+use Rattle.java_properties.specs.Encoding.{output_of}
+use Rattle.java_properties.specs.PropertiesWriter.{Writing}
+use Rattle.java_properties.specs.Printing.{text_bytes, key_bytes}
+use Rattle.java_properties.specs.declared.writer.engine.Engine.{Engine}
+use Rattle.java_properties.specs.declared.writer.engine.Content.{Content}
+use Rattle.java_properties.specs.declared.writer.engine.Content.TheVariants.{Comment, KVPair}
+use Rattle.java_properties.specs.declared.writer.print.Place.TheVariants as place
+
+abbrev pub content_of : Content → format.Content
+content_of (Comment text) = format.comment (chars text.now)
+content_of (KVPair key value) = format.pair (chars key.now) (chars value.now)
+
+-- the writer that the engine is, beside its sink
+abbrev pub writing : {W : Type 0} → Engine → W → Writing W
+writing engine sink = record { sink = sink; encoding = output_of engine.encoding; settings = engine.settings; lines = engine.lines; failed = engine.failed }
+
+-- the bytes of the line that the engine builds
+abbrev pub line_bytes : Engine → format.Content → List ℕ
+line_bytes engine line = printed (output_of engine.encoding) engine.settings (engine.lines == 0) line
+
+-- those of what the line says, without the line ending
+abbrev pub content_bytes : Engine → format.Content → List ℕ
+content_bytes engine (format.comment text) =
+    text_bytes engine.encoding place.Prefix engine.settings.comment_prefix ++ text_bytes engine.encoding place.Comment text
+content_bytes engine (format.pair key value) =
+    key_bytes engine.encoding (engine.lines == 0) key
+    ++ (encoded_text (output_of engine.encoding) engine.settings.kv_separator ++ text_bytes engine.encoding place.KeyOrValue value)

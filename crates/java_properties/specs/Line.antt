@@ -1,0 +1,41 @@
+-- What a contract sees of an item: when two are the same, and which comes first.
+use Rattle.std.specs.Prelude.{◌≡◌, ℕ, List, [], ◌∷◌}
+use Rattle.std.specs.String.{string_bytes}
+use Rattle.std.specs.Ordering.{nat_cmp, on, then_cmp}
+use Rattle.std.specs.declared.cmp.Ordering.{Ordering}
+use Rattle.std.specs.Cmp.Lexicographic.{slice_cmp}
+use Rattle.java_properties.specs.declared.line.LineContent.{LineContent}
+use Rattle.java_properties.specs.declared.line.LineContent.TheVariants.{Comment, KVPair}
+use Rattle.java_properties.specs.declared.line.Line.{Line}
+
+-- the number of the line in which it begins
+abbrev pub number_of : Line → ℕ
+number_of l = l.line_number
+
+abbrev pub content_of : Line → LineContent
+content_of l = l.content
+
+-- which kind of item comes first: 0 for a comment and 1 for a pair
+abbrev pub rank : LineContent → ℕ
+rank (Comment text) = 0
+rank (KVPair key value) = 1
+
+-- the bytes of its texts: of the comment, or of the key and of the value
+abbrev pub texts : LineContent → List (List ℕ)
+texts (Comment text) = string_bytes text ∷ []
+texts (KVPair key value) = string_bytes key ∷ (string_bytes value ∷ [])
+
+-- both are comments or both are pairs, and their texts are the same
+abbrev pub IsSameContent : LineContent → LineContent → Type 0
+IsSameContent x y = (rank x ≡ rank y) × (texts x ≡ texts y)
+
+abbrev pub IsSameLine : Line → Line → Type 0
+IsSameLine l m = (number_of l ≡ number_of m) × IsSameContent (content_of l) (content_of m)
+
+-- Comments come before pairs. Of two comments, and of two pairs, the bytes of the texts decide.
+abbrev pub content_order : LineContent → LineContent → Ordering
+content_order = then_cmp (on rank nat_cmp) (on texts (slice_cmp (slice_cmp nat_cmp)))
+
+-- The number decides, and at equal numbers the content.
+abbrev pub line_order : Line → Line → Ordering
+line_order = then_cmp (on number_of nat_cmp) (on content_of content_order)

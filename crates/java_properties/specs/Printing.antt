@@ -1,0 +1,27 @@
+-- What is appended for a text, by where it stands.
+use Rattle.std.specs.Prelude.{◌≡◌, ℕ, Bool, List, ◌++◌, Result, OnOk}
+use Rattle.std.specs.Global.{Vec}
+use Rattle.properties_format.specs.Printing as format
+use Rattle.java_properties.specs.Encoding.{output_of}
+use Rattle.java_properties.specs.declared.encoding.encode.OutputEncoding.{OutputEncoding}
+use Rattle.java_properties.specs.declared.writer.print.Place.{Place}
+use Rattle.java_properties.specs.declared.writer.print.Place.TheVariants.{KeyOrValue, Comment, Prefix}
+
+abbrev pub place_of : Place → format.Place
+place_of KeyOrValue = format.in_key_or_value
+place_of Comment = format.in_comment
+place_of Prefix = format.in_prefix
+
+-- where memory was found, the buffer has the bytes after those that it had
+abbrev pub AppendsOnOk : {E : Type 0} → Vec ℕ → List ℕ → Result Unit E → Vec ℕ → Type 0
+AppendsOnOk old bytes result new = OnOk result (new.items ≡ old.items ++ bytes)
+
+-- the bytes of a character, of a text and of a key
+abbrev pub character_bytes : OutputEncoding → Place → ℕ → List ℕ
+character_bytes encoding place c = format.encoded_text (output_of encoding) (format.spelt (output_of encoding) (place_of place) c)
+
+abbrev pub text_bytes : OutputEncoding → Place → List ℕ → List ℕ
+text_bytes encoding place text = format.encoded_text (output_of encoding) (format.spelt_text (output_of encoding) (place_of place) text)
+
+abbrev pub key_bytes : OutputEncoding → Bool → List ℕ → List ℕ
+key_bytes encoding first key = format.encoded_text (output_of encoding) (format.spelt_key (output_of encoding) first key)

@@ -1,0 +1,117 @@
+-- What a contract sees of the iterator over items, and what its calls give and leave.
+use Rattle.std.specs.Prelude.{◌≡◌, ◌⊎◌, ℕ, Bool, true, false, List, [], ◌∷◌, ◌++◌, Option, Some, None, Result, Ok, Err, string_bytes}
+use Rattle.std.specs.Str.{chars}
+use Rattle.counted_io.specs.Streams.{Reader, HasRead, IsSameReader}
+use Rattle.properties_format.specs.Lines.{InputEnd, end}
+use Rattle.properties_format.specs.Entries as entry
+use Rattle.properties_format.specs.Entries.{Content, Entry, item, malformed}
+use Rattle.properties_format.specs.Escapes.{Malformed, Means}
+use Rattle.java_properties.specs.Escaping.{IsRefused}
+use Rattle.std.specs.declared.string.String.{String}
+use Rattle.properties_format.specs.Items.{ignored, given, broken}
+use Rattle.properties_format.specs.Reading.Items.{outcome_of}
+use Rattle.properties_format.specs.ItemsToCome.{ReaderState}
+use Rattle.properties_format.specs.Reading.ItemsToCome.{items_to_come}
+use Rattle.properties_format.specs.Reading.ReaderSteps.{ReadsEntry}
+use Rattle.java_properties.specs.Errors.{IsBareError, IsMalformed}
+use Rattle.java_properties.specs.Line.{number_of, content_of}
+use Rattle.java_properties.specs.LineFinder.{PassesSome}
+use Rattle.java_properties.specs.LineJoiner.{IsLazyItems, JoinsError}
+use Rattle.java_properties.specs.declared.error.ErrorKind.TheVariants as kind
+use Rattle.java_properties.specs.declared.error.PropertiesError.{PropertiesError}
+use Rattle.java_properties.specs.declared.line.Line.{Line}
+use Rattle.java_properties.specs.declared.line.LineContent.{LineContent}
+use Rattle.java_properties.specs.declared.line.LineContent.TheVariants.{Comment, KVPair}
+
+-- an iterator: its reader, and where it stands
+pub record Reading (R : Type 0) : Type 0 where
+  pub reader : R
+  pub state : ReaderState
+
+-- the entry that a line is
+abbrev pub said : LineContent → Content
+said (Comment text) = entry.comment (chars (string_bytes text))
+said (KVPair key value) = entry.pair (chars (string_bytes key)) (chars (string_bytes value))
+
+abbrev pub entry_of : Line → Entry
+entry_of line = item (number_of line) (said (content_of line))
+
+-- the text with its escapes resolved, or why there is none
+abbrev pub IsResolved : {Z : Type 0} → List ℕ → ℕ → Result (String Z) PropertiesError → Type 0
+IsResolved text line (Ok meant) = Means text (chars (string_bytes meant))
+IsResolved text line (Err e) = IsRefused text line e
+
+-- the line of a comment, and of a pair, by their texts before escapes are resolved; of a pair the key breaks first
+abbrev pub IsCommentOf : ℕ → List ℕ → Result Line PropertiesError → Type 0
+IsCommentOf number raw (Ok line) = (number_of line ≡ number) × ((text : List ℕ) × Means raw text × (said (content_of line) ≡ entry.comment text))
+IsCommentOf number raw (Err e) = IsRefused raw number e
+
+abbrev pub IsPairOf : ℕ → List ℕ → List ℕ → Result Line PropertiesError → Type 0
+IsPairOf number raw_key raw_value (Ok line) =
+    (number_of line ≡ number)
+    × ((key : List ℕ) × (value : List ℕ) × Means raw_key key × Means raw_value value × (said (content_of line) ≡ entry.pair key value))
+IsPairOf number raw_key raw_value (Err e) =
+    IsRefused raw_key number e ⊎ ((key : List ℕ) × Means raw_key key × IsRefused raw_value number e)
+
+-- Why a logical line gave no item: its escapes are malformed, or there was no memory.
+abbrev pub IsNoItem : ℕ → List ℕ → PropertiesError → Type 0
+IsNoItem number text e =
+    ((kind : Malformed) × (outcome_of text ≡ broken kind) × IsMalformed kind number e) ⊎ IsBareError kind.Memory e
+
+-- the item of a logical line, where it has one
+abbrev pub IsItemOf : ℕ → List ℕ → Result (Option Line) PropertiesError → Type 0
+IsItemOf number text (Ok None) = outcome_of text ≡ ignored
+IsItemOf number text (Ok (Some line)) = (number_of line ≡ number) × (outcome_of text ≡ given (said (content_of line)))
+IsItemOf number text (Err e) = IsNoItem number text e
+
+-- After the bytes that were read this entry comes, whatever comes after them, and then what the new state gives; or it is
+-- the last, and the input ended.
+pub data Gives (old : ReaderState) (bytes : List ℕ) (entry : Entry) (new : ReaderState) : Type 0 where
+  going_on : new.is_done ≡ false → ReadsEntry old bytes entry new → Gives old bytes entry new
+  at_last : new.is_done ≡ true → items_to_come old bytes end ≡ entry ∷ [] → Gives old bytes entry new
+
+-- The same of malformed escapes, after which nothing comes.
+pub data BreaksOff (old : ReaderState) (bytes : List ℕ) (entry : Entry) (at_end : Bool) : Type 0 where
+  before_all : ((d : List ℕ) (ending : InputEnd) → items_to_come old (bytes ++ d) ending ≡ entry ∷ []) → BreaksOff old bytes entry at_end
+  at_last : at_end ≡ true → items_to_come old bytes end ≡ entry ∷ [] → BreaksOff old bytes entry at_end
+
+-- An item came. Where what was held gave it already, nothing was read.
+pub record GivesNext {R : Type 0} (reader : Reader R) (old : ReaderState) (from : R) (line : Line) (new : ReaderState) (to : R) : Type 0 where
+  pub bytes : List ℕ
+  pub read : HasRead reader from bytes to
+  pub live : old.is_done ≡ false
+  pub gives : Gives old bytes (entry_of line) new
+  pub passes : new.is_done ≡ false → PassesSome old bytes new
+  pub ended : new.is_done ≡ true → reader.at_end to ≡ true
+  pub lazy : IsLazyItems old from bytes to
+
+-- No item comes any more: the input ended, or the iterator was at its end and reads nothing.
+pub record GivesNone {R : Type 0} (reader : Reader R) (old : ReaderState) (from : R) (new : ReaderState) (to : R) : Type 0 where
+  pub bytes : List ℕ
+  pub read : HasRead reader from bytes to
+  pub items : items_to_come old bytes end ≡ []
+  pub done : new.is_done ≡ true
+  pub idle : old.is_done ≡ true → (new ≡ old) × (to ≡ from) × (bytes ≡ [])
+  pub ended : old.is_done ≡ false → reader.at_end to ≡ true
+
+-- Malformed escapes came, in the logical line that begins at this number.
+pub record GivesMalformed {R : Type 0} (reader : Reader R) (old : ReaderState) (from : R) (e : PropertiesError) (to : R) : Type 0 where
+  pub bytes : List ℕ
+  pub number : ℕ
+  pub kind : Malformed
+  pub read : HasRead reader from bytes to
+  pub is : IsMalformed kind number e
+  pub breaks : BreaksOff old bytes (malformed kind number) (reader.at_end to)
+  pub lazy : IsLazyItems old from bytes to
+
+-- What the next item is, and what asking for it leaves. After `None` and after an error the iterator is at its end.
+abbrev pub GivesItem : {R : Type 0} → Reader R → ReaderState → R → Option (Result Line PropertiesError) → ReaderState → R → Type 0
+GivesItem reader old from None new to = GivesNone reader old from new to
+GivesItem reader old from (Some (Ok line)) new to = GivesNext reader old from line new to
+GivesItem reader old from (Some (Err e)) new to =
+    (old.is_done ≡ false) × (new.is_done ≡ true) × (GivesMalformed reader old from e to ⊎ JoinsError reader old from e new to)
+
+-- the same of an iterator, which keeps the reader that it was made of
+abbrev pub NextGives : {R : Type 0} → Reader R → Reading R → Option (Result Line PropertiesError) → Reading R → Type 0
+NextGives reader old answer new =
+    GivesItem reader old.state old.reader answer new.state new.reader × IsSameReader reader old.reader new.reader

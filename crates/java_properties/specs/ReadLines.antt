@@ -1,0 +1,78 @@
+-- What reading an input to its end returns, and what it leaves of the reader.
+use Rattle.std.specs.Prelude.{◌≡◌, ◌⊎◌, ℕ, Bool, true, List, [], ◌∷◌, ◌++◌, map, Some, Result, Ok, Err}
+use Rattle.std.specs.declared.io.Error.{Error}
+use Rattle.std.specs.declared.vec.Vec.{Vec}
+use Rattle.counted_io.specs.Streams.{Reader, HasRead, HasFailed}
+use Rattle.properties_format.specs.Encoding.{Encoding, IsDecoded}
+use Rattle.properties_format.specs.Lines.{InputEnd, end, fault, Lines, IsLines}
+use Rattle.properties_format.specs.Cut.{IsByline}
+use Rattle.properties_format.specs.Escapes.{Malformed}
+use Rattle.properties_format.specs.Entries.{Entry, malformed, read_fault, NumbersAscend}
+use Rattle.properties_format.specs.Items.{IsItems}
+use Rattle.java_properties.specs.Errors.{IsBareError, IsMalformed, IsStreamError}
+use Rattle.properties_format.specs.ItemsToCome.{start}
+use Rattle.java_properties.specs.LineFinder.{PassesAll}
+use Rattle.java_properties.specs.PropertiesIter.{entry_of}
+use Rattle.java_properties.specs.declared.error.ErrorKind.TheVariants as kind
+use Rattle.java_properties.specs.declared.error.PropertiesError.{PropertiesError}
+use Rattle.java_properties.specs.declared.iter.whole.Stopped.{Stopped}
+use Rattle.java_properties.specs.declared.line.Line.{Line}
+
+abbrev pub entries_in : List Line → List Entry
+entries_in lines = map entry_of lines
+
+-- The bytes have these items and no others, whose numbers ascend; and the lines of the bytes, each decoded by itself, are those of the decoded text.
+pub record IsReading (e : Encoding) (bytes : List ℕ) (ending : InputEnd) (entries : List Entry) : Type 0 where
+  pub items : IsItems e bytes ending entries
+  pub only : (others : List Entry) → IsItems e bytes ending others → others ≡ entries
+  pub ascend : NumbersAscend 0 entries
+  pub splitting : (text : List ℕ) (lines : Lines) → IsDecoded e bytes text → (IsByline e bytes lines → IsLines text lines) × (IsLines text lines → IsByline e bytes lines)
+
+-- The items of the bytes begin with these, whatever comes after them; or the reader is at its end, and the items of the
+-- bytes as the whole input begin with these.
+abbrev pub BeginsItems : Encoding → List ℕ → List Entry → Bool → Type 0
+BeginsItems e bytes entries at_end =
+    ((d : List ℕ) (ending : InputEnd) → (others : List Entry) × IsItems e (bytes ++ d) ending (entries ++ others))
+    ⊎ (at_end ≡ true) × ((others : List Entry) × IsItems e bytes end (entries ++ others))
+
+-- The reader was read to its end, and these are its items.
+pub record ReadsWhole {R : Type 0} (reader : Reader R) (e : Encoding) (from : R) (entries : List Entry) (to : R) : Type 0 where
+  pub bytes : List ℕ
+  pub read : HasRead reader from bytes to
+  pub ended : reader.at_end to ≡ true
+  pub reading : IsReading e bytes end entries
+
+-- Malformed escapes came after these items, in the logical line that begins at this number.
+pub record StopsMalformed {R : Type 0} (reader : Reader R) (e : Encoding) (from : R) (entries : List Entry) (error : PropertiesError) (to : R) : Type 0 where
+  pub bytes : List ℕ
+  pub number : ℕ
+  pub how : Malformed
+  pub read : HasRead reader from bytes to
+  pub is : IsMalformed how number error
+  pub reading : ((d : List ℕ) (ending : InputEnd) → IsReading e (bytes ++ d) ending (entries ++ malformed how number ∷ []))
+      ⊎ (reader.at_end to ≡ true) × IsReading e bytes end (entries ++ malformed how number ∷ [])
+
+-- A read failed after these items, in the line of this number, by the reader's own error.
+pub record StopsFailed {R : Type 0} (reader : Reader R) (e : Encoding) (from : R) (entries : List Entry) (error : PropertiesError) (to : R) : Type 0 where
+  pub bytes : List ℕ
+  pub cause : Error
+  pub number : ℕ
+  pub failed : HasFailed reader from bytes cause to
+  pub is : IsStreamError (Some number) cause error
+  pub reading : IsReading e bytes fault (entries ++ read_fault number ∷ [])
+
+-- So many lines were read that there was no number for another, or there was no memory: what was read begins with these
+-- items.
+pub record StopsEarly {R : Type 0} (reader : Reader R) (e : Encoding) (from : R) (entries : List Entry) (error : PropertiesError) (to : R) : Type 0 where
+  pub bytes : List ℕ
+  pub read : HasRead reader from bytes to
+  pub is : IsBareError kind.TooManyLines error × PassesAll (start e) bytes ⊎ IsBareError kind.Memory error
+  pub begins : BeginsItems e bytes entries (reader.at_end to)
+
+-- What reading a whole input returns. Ok comes at the reader's own end alone.
+abbrev pub ReadsLines : {R Z : Type 0} → Reader R → Encoding → R → Result (Vec Line Z) Stopped → R → Type 0
+ReadsLines reader e from (Ok lines) to = ReadsWhole reader e from (entries_in lines.items) to
+ReadsLines reader e from (Err stopped) to =
+    StopsMalformed reader e from (entries_in stopped.lines.items) stopped.error to
+    ⊎ (StopsFailed reader e from (entries_in stopped.lines.items) stopped.error to
+    ⊎ StopsEarly reader e from (entries_in stopped.lines.items) stopped.error to)

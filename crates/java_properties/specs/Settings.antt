@@ -1,0 +1,72 @@
+-- What a writer is set to, and what its setters do.
+use Rattle.std.specs.Prelude.{◌≡◌, ◌⊎◌, ℕ, true, List, Option, Some, None, Result, Ok, Err}
+use Rattle.std.specs.Str.{chars}
+use Rattle.std.specs.String.{string_bytes}
+use Rattle.std.specs.declared.string.String.{String}
+use Rattle.properties_format.specs.Text as text
+use Rattle.properties_format.specs.Settings.{Settings, default_settings, IsGoodPrefix, IsGoodSeparator}
+use Rattle.properties_format.specs.Reading.Settings.{is_good_prefix, is_good_separator}
+use Rattle.java_properties.specs.Errors.{Refuses, RefusesText}
+use Rattle.java_properties.specs.declared.error.ErrorKind.{ErrorKind}
+use Rattle.java_properties.specs.declared.error.ErrorKind.TheVariants as kind
+use Rattle.java_properties.specs.declared.error.PropertiesError.{PropertiesError}
+use Rattle.java_properties.specs.declared.writer.settings.LineEnding.{LineEnding}
+use Rattle.java_properties.specs.declared.writer.settings.LineEnding.TheVariants.{CR, LF, CRLF}
+use Rattle.java_properties.specs.declared.writer.settings.Settings.TheInside.{Inside}
+
+-- the line ending that it stands for
+abbrev pub ending_of : LineEnding → text.LineEnding
+ending_of CR = text.cr
+ending_of LF = text.lf
+ending_of CRLF = text.crlf
+
+-- the characters of a prefix and of a separator, which are the defaults where none was set
+abbrev pub prefix_of : {Z : Type 0} → Option (String Z) → List ℕ
+prefix_of None = default_settings.comment_prefix
+prefix_of (Some text) = chars (string_bytes text)
+
+abbrev pub separator_of : {Z : Type 0} → Option (String Z) → List ℕ
+separator_of None = default_settings.kv_separator
+separator_of (Some text) = chars (string_bytes text)
+
+abbrev pub settings_of : Inside → Settings
+settings_of s = record { comment_prefix = prefix_of s.comment_prefix; kv_separator = separator_of s.kv_separator; line_ending = ending_of s.line_ending }
+
+-- The prefix and the separator are always good.
+pub record AreGood (s : Inside) : Type 0 where
+  pub prefix : is_good_prefix (prefix_of s.comment_prefix) ≡ true
+  pub separator : is_good_separator (separator_of s.kv_separator) ≡ true
+
+-- ---- setters
+
+-- the settings with another prefix, another separator and another line ending
+abbrev pub with_prefix : Settings → List ℕ → Settings
+with_prefix s prefix = record s { comment_prefix = prefix }
+
+abbrev pub with_separator : Settings → List ℕ → Settings
+with_separator s separator = record s { kv_separator = separator }
+
+abbrev pub with_ending : Settings → LineEnding → Settings
+with_ending s ending = record s { line_ending = ending_of ending }
+
+-- The text is good, and was set: nothing else changed.
+pub record HasSet {S : Type 0} (IsGood : Type 0) (set new : S) : Type 0 where
+  pub good : IsGood
+  pub after : new ≡ set
+
+-- The text is bad: the error of this kind has it, and nothing changed.
+pub record RefusesBad {S : Type 0} (IsGood : Type 0) (kind : ErrorKind) (text : List ℕ) (old : S) (error : PropertiesError) (new : S) : Type 0 where
+  pub bad : IsGood → ⊥
+  pub refuses : RefusesText kind text error
+  pub same : new ≡ old
+
+-- What setting a text does that leads from `old` to `set`: a good one is set, a bad one is refused; or memory ran out.
+abbrev pub SetsText : {S : Type 0} → Type 0 → ErrorKind → List ℕ → S → S → Result Unit PropertiesError → S → Type 0
+SetsText IsGood kind text old set (Ok done) new = HasSet IsGood set new
+SetsText IsGood bad text old set (Err error) new = RefusesBad IsGood bad text old error new ⊎ Refuses kind.Memory old error new
+
+abbrev pub TakesPrefix : Settings → List ℕ → Result Unit PropertiesError → Settings → Type 0
+TakesPrefix old prefix = SetsText (IsGoodPrefix prefix) kind.BadCommentPrefix prefix old (with_prefix old prefix)
+
+abbrev pub TakesSeparator : Settings → List ℕ → Result Unit PropertiesError → Settings → Type 0
+TakesSeparator old separator = SetsText (IsGoodSeparator separator) kind.BadKvSeparator separator old (with_separator old separator)

@@ -1,0 +1,58 @@
+// All items of an input.
+
+ghost use Rattle.counted_io.specs.Streams.{IsSameReader};
+ghost use Rattle.java_properties.specs.ReadLines.{ReadsLines};
+ghost use Rattle.java_properties.specs.Encoding.{encoding_of};
+
+use crate::encoding::Encoding;
+use crate::error::PropertiesError;
+use crate::iter::items::ItemReader;
+use crate::line::Line;
+use counted_io::CountedRead;
+use std::alloc::Global;
+
+/// Why a reading ended early, and the items before that.
+///
+/// Where memory ran out, the items are the first ones before that point.
+#[derive(Debug, Drop)]
+pub struct Stopped {
+    /// The items before the error.
+    pub lines: Vec<Line>,
+    /// The error.
+    pub error: PropertiesError,
+}
+
+/// Reads an input to its end, and returns all its items: each comment and each pair, under the number of its line.
+///
+/// A byte order mark at the front overrules the encoding.
+///
+/// ```text
+/// let mut input: &[u8] = b"# greetings\nhello = world";
+/// match read_lines(alloc, &mut input, Encoding::UTF_8) {
+///     Ok(lines) => println!(rt; "{}", lines.len())?,
+///     Err(stopped) => println!(rt; "{}", stopped.error)?,
+/// }
+/// ```
+pub fn read_lines<R: CountedRead>(
+    alloc: Global,
+    input: &mut R,
+    encoding: Encoding,
+) -> Result<Vec<Line>, Stopped>
+    ensures reads { ReadsLines R.CountedRead (encoding_of encoding) input.old result input.new }
+    ensures same_reader { IsSameReader R.CountedRead input.old input.new }
+{
+    let mut items = ItemReader::new(alloc, encoding);
+    let mut lines = Vec::new(alloc);
+    while let Some(item) = items.next_item(input) {
+        match item {
+            Ok(line) => {
+                if let Err(error) = lines.push(line) {
+                    let error = PropertiesError::from(error);
+                    return Err(Stopped { lines, error });
+                }
+            }
+            Err(error) => return Err(Stopped { lines, error }),
+        }
+    }
+    Ok(lines)
+}

@@ -1,0 +1,130 @@
+// Natural lines among undecoded bytes.
+
+ghost use Rattle.std.specs.Prelude.{◌≡◌, ◌≤◌, ◌<◌, true, [], take, drop, length, OnSome};
+ghost use Rattle.counted_io.specs.Streams.{IsSameReader};
+ghost use Rattle.properties_format.specs.ItemsToCome.{start};
+ghost use Rattle.java_properties.specs.Encoding.{encoding_of};
+ghost use Rattle.java_properties.specs.LineFinder.{Finder, Finds, IsRefused, lines_left};
+
+use crate::encoding::Encoding;
+use crate::error::PropertiesError;
+use crate::input::FillError;
+use crate::lines::search::unit_size;
+use crate::lines::seeker::LineSeeker;
+use counted_io::CountedRead;
+use std::alloc::Global;
+use std::marker::Model;
+
+/// Finds the natural lines of an input, one after another, as bytes that are not decoded yet.
+///
+/// It is passed its reader at each call, and takes memory where it reads.
+#[derive(Drop)]
+pub struct LineFinder {
+    seeker: LineSeeker,
+    // How many bytes the line that was found last has, and how many with its line end. They stand at the front.
+    line: usize,
+    taken: usize,
+}
+
+impl Model for LineFinder {
+    ghost Value = { Finder };
+
+    ghost view = { λ s. record { state = record s.seeker { held = drop s.taken s.seeker.held }; line = take s.line s.seeker.held } };
+
+    ghost invariant = { λ s. (s.line ≤ s.taken) × (s.taken ≤ length s.seeker.held) };
+}
+
+impl LineFinder {
+    /// At the start of an input.
+    pub fn new(alloc: Global, encoding: Encoding) -> LineFinder
+        ensures { result ≡ record { state = start (encoding_of encoding); line = [] } }
+    {
+        LineFinder {
+            seeker: LineSeeker::new(alloc, encoding),
+            line: 0,
+            taken: 0,
+        }
+    }
+
+    /// The bytes of the line that was found last, without its line end.
+    pub fn line(&self) -> &[u8]
+        ensures { result.now ≡ self.now.line }
+    {
+        &self.seeker.held()[..self.line]
+    }
+
+    /// The encoding of that line.
+    pub fn encoding(&self) -> Encoding
+        ensures { encoding_of result ≡ self.now.state.encoding }
+    {
+        self.seeker.encoding()
+    }
+
+    /// Ends the reading for good.
+    pub fn end(&mut self)
+        ensures { self.new ≡ record self.old { state = record self.old.state { is_done = true } } }
+    {
+        self.seeker.end();
+    }
+
+    /// Counts on from so many line ends, so that a test comes to the last number.
+    #[cfg(test)]
+    pub fn count_from(&mut self, passed: usize)
+        ensures { self.new ≡ record self.old { state = record self.old.state { passed = passed } } }
+    {
+        self.seeker.count_from(passed);
+    }
+
+    /// Finds the next line, and returns its number; or an error, or `None` where no more come.
+    ///
+    /// A line that a CR ends is found at once: an LF that comes next belongs to its end.
+    pub fn find_line<R: CountedRead>(
+        &mut self,
+        reader: &mut R,
+    ) -> Option<Result<usize, PropertiesError>>
+        ensures finds { Finds R.CountedRead self.old reader.old result self.new reader.new }
+        ensures same_reader { IsSameReader R.CountedRead reader.old reader.new }
+        ensures nearer { OnSome result (lines_left self.new.state < lines_left self.old.state) }
+    {
+        if self.seeker.is_done() {
+            return None;
+        }
+        let Some(number) = self.seeker.passed().checked_add(1) else {
+            self.seeker.end();
+            return Some(Err(PropertiesError::too_many_lines()));
+        };
+        self.seeker.take(self.taken);
+        self.line = 0;
+        self.taken = 0;
+        match self.seeker.seek(reader) {
+            Ok(Some(line_end)) => {
+                // The line and its end are held, so their sizes fit.
+                let _held = self.seeker.held().len();
+                self.line = line_end.at;
+                self.taken = line_end.at + unit_size(self.seeker.encoding());
+                self.seeker.pass(number, line_end.is_cr);
+                return Some(Ok(number));
+            }
+            Ok(None) => {
+                self.line = self.seeker.held().len();
+                self.taken = self.line;
+                self.seeker.end();
+                return Some(Ok(number));
+            }
+            Err(error) => {
+                self.seeker.end();
+                return Some(Err(refusal(number, error)));
+            }
+        }
+    }
+}
+
+// Why no bytes could be read, in the line of this number.
+fn refusal(number: usize, error: FillError) -> PropertiesError
+    ensures { IsRefused number error result }
+{
+    match error {
+        FillError::Memory(error) => PropertiesError::from(error),
+        FillError::Io(error) => PropertiesError::read_fault(number, error),
+    }
+}

@@ -1,0 +1,52 @@
+// How natural lines are joined. Blanks, comment signs and backslashes are ASCII, so a line is looked at by its bytes.
+
+ghost use Rattle.std.specs.Prelude.{◌≡◌};
+ghost use Rattle.std.specs.Str.{chars};
+ghost use Rattle.properties_format.specs.Text.{without_leading_blanks};
+ghost use Rattle.properties_format.specs.Groups.{addition, is_comment_line, is_open, without_open_backslash};
+
+use crate::characters::is_comment_sign;
+use crate::escape::count_ending_backslashes;
+use crate::parse::leading_blanks;
+
+/// Whether the first character that is no blank is a comment sign.
+pub fn is_comment_line(text: &str) -> bool
+    ensures { result ≡ is_comment_line (chars text.now) }
+{
+    let bytes = text.as_bytes();
+    match bytes.get(leading_blanks(bytes)) {
+        Some(first) => is_comment_sign(char::from(*first)),
+        None => false,
+    }
+}
+
+/// Whether the last of the backslashes that a line ends in stands for itself, so that the next line goes on with it.
+pub fn is_open(text: &str) -> bool
+    ensures { result ≡ is_open (chars text.now) }
+{
+    count_ending_backslashes(text) % 2 == 1
+}
+
+/// The line without the backslash that opens it, where it is open.
+pub fn without_open_backslash(text: &str) -> &str
+    ensures { chars result.now ≡ without_open_backslash (chars text.now) }
+{
+    if is_open(text) {
+        &text[..text.len() - 1]
+    } else {
+        text
+    }
+}
+
+/// What a line adds to an open one before it.
+pub fn addition(text: &str) -> &str
+    ensures { chars result.now ≡ addition (chars text.now) }
+{
+    without_open_backslash(without_leading_blanks(text))
+}
+
+fn without_leading_blanks(text: &str) -> &str
+    ensures { chars result.now ≡ without_leading_blanks (chars text.now) }
+{
+    &text[leading_blanks(text.as_bytes())..]
+}

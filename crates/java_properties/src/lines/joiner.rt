@@ -1,0 +1,181 @@
+// Natural lines, joined to logical ones.
+
+ghost use Rattle.std.specs.Prelude.{◌≡◌, ◌≤◌, ◌<◌, false, true, [], if◌then◌else◌, OnSome};
+ghost use Rattle.std.specs.Str.{IsUtf8, chars};
+ghost use Rattle.std.specs.String.{string_bytes};
+ghost use Rattle.counted_io.specs.Streams.{IsSameReader};
+ghost use Rattle.properties_format.specs.ItemsToCome.{start};
+ghost use Rattle.java_properties.specs.Encoding.{encoding_of};
+ghost use Rattle.java_properties.specs.LineFinder.{lines_left};
+ghost use Rattle.java_properties.specs.LineJoiner.{Joiner, Finds, OnOkDecodes, Joins, JoinsAfter, JoinsOn, Adds};
+
+use crate::encoding::Encoding;
+use crate::encoding::decode::{decode_line, push_text};
+use crate::error::PropertiesError;
+use crate::lines::finder::LineFinder;
+use crate::lines::join::{addition, is_comment_line, is_open, without_open_backslash};
+use counted_io::CountedRead;
+use std::alloc::{AllocError, Global};
+use std::borrow::CowStr;
+use std::marker::Model;
+
+/// Joins the natural lines of an input to its logical lines, one after another.
+///
+/// A logical line of one natural line is lent from the input, where its bytes are its text.
+#[derive(Drop)]
+pub struct LineJoiner {
+    finder: LineFinder,
+    // The logical line that came last, where it isn't the finder's line as it stands.
+    text: String,
+    is_kept: bool,
+    alloc: Global,
+}
+
+impl Model for LineJoiner {
+    ghost Value = { Joiner };
+
+    ghost view = { λ s. record { state = s.finder.state; line = if s.is_kept then string_bytes s.text else s.finder.line } };
+
+    ghost invariant = { λ s. s.is_kept ≡ false → IsUtf8 s.finder.line };
+}
+
+impl LineJoiner {
+    /// At the start of an input. It takes no memory yet.
+    pub fn new(alloc: Global, encoding: Encoding) -> LineJoiner
+        ensures { result ≡ record { state = start (encoding_of encoding); line = [] } }
+    {
+        LineJoiner {
+            finder: LineFinder::new(alloc, encoding),
+            text: String::new(alloc),
+            is_kept: true,
+            alloc,
+        }
+    }
+
+    /// The logical line that came last.
+    pub fn line(&self) -> &str
+        ensures { result.now ≡ self.now.line }
+    {
+        if self.is_kept {
+            self.text.as_str()
+        } else {
+            // SAFETY: the line was decoded, and its bytes were its text.
+            unsafe { str::from_utf8_unchecked(self.finder.line()) }
+        }
+    }
+
+    /// Ends the reading for good.
+    pub fn end(&mut self)
+        ensures { self.new ≡ record self.old { state = record self.old.state { is_done = true } } }
+    {
+        self.finder.end();
+    }
+
+    /// Comes to the next logical line, and returns the number of its first natural line; or an error, or `None` where
+    /// no more come.
+    pub fn next_line<R: CountedRead>(
+        &mut self,
+        reader: &mut R,
+    ) -> Option<Result<usize, PropertiesError>>
+        ensures joins { Joins R.CountedRead self.old reader.old result self.new reader.new }
+        ensures same_reader { IsSameReader R.CountedRead reader.old reader.new }
+        ensures nearer { OnSome result (lines_left self.new.state < lines_left self.old.state) }
+    {
+        let number = match self.next_natural(reader)? {
+            Ok(number) => number,
+            Err(error) => return Some(Err(error)),
+        };
+        if is_comment_line(self.line()) || !is_open(self.line()) {
+            return Some(Ok(number));
+        }
+        let joined = self.join(reader);
+        match joined {
+            Ok(()) => Some(Ok(number)),
+            Err(error) => {
+                self.end();
+                Some(Err(error))
+            }
+        }
+    }
+
+    // Joins the lines after the open one that came last.
+    fn join<R: CountedRead>(&mut self, reader: &mut R) -> Result<(), PropertiesError>
+        ensures joins { JoinsAfter R.CountedRead self.old reader.old result self.new reader.new }
+        ensures same_reader { IsSameReader R.CountedRead reader.old reader.new }
+        ensures left { lines_left self.new.state ≤ lines_left self.old.state }
+    {
+        let mut text = String::from_str(self.alloc, without_open_backslash(self.line()))?;
+        let joined = join_lines(self.alloc, &mut self.finder, reader, &mut text);
+        self.text = text;
+        self.is_kept = true;
+        joined
+    }
+
+    // The next natural line, decoded.
+    fn next_natural<R: CountedRead>(
+        &mut self,
+        reader: &mut R,
+    ) -> Option<Result<usize, PropertiesError>>
+        ensures finds { Finds R.CountedRead self.old reader.old result self.new reader.new }
+        ensures same_reader { IsSameReader R.CountedRead reader.old reader.new }
+        ensures nearer { OnSome result (lines_left self.new.state < lines_left self.old.state) }
+    {
+        self.is_kept = true;
+        let number = match self.finder.find_line(reader)? {
+            Ok(number) => number,
+            Err(error) => return Some(Err(error)),
+        };
+        match decoded(self.alloc, &self.finder) {
+            Ok(Some(text)) => self.text = text,
+            Ok(None) => self.is_kept = false,
+            Err(error) => {
+                self.end();
+                return Some(Err(PropertiesError::from(error)));
+            }
+        }
+        Some(Ok(number))
+    }
+}
+
+// The text of the line that was found, or `None` where its bytes are its text.
+fn decoded(alloc: Global, finder: &LineFinder) -> Result<Option<String>, AllocError>
+    ensures { OnOkDecodes finder.now result }
+{
+    match decode_line(alloc, finder.encoding(), finder.line())? {
+        CowStr::Borrowed(_) => Ok(None),
+        CowStr::Owned(text) => Ok(Some(text)),
+    }
+}
+
+// Appends the lines after an open one to its text, up to one that isn't open, or to the end of the input.
+fn join_lines<R: CountedRead>(
+    alloc: Global,
+    finder: &mut LineFinder,
+    reader: &mut R,
+    text: &mut String,
+) -> Result<(), PropertiesError>
+    ensures joins { JoinsOn R.CountedRead finder.old.state reader.old (chars (string_bytes text.old)) result finder.new.state reader.new (chars (string_bytes text.new)) }
+    ensures same_reader { IsSameReader R.CountedRead reader.old reader.new }
+    ensures left { lines_left finder.new.state ≤ lines_left finder.old.state }
+{
+    while let Some(found) = finder.find_line(reader) {
+        match found {
+            Ok(_) => {
+                if !append(alloc, finder, text)? {
+                    return Ok(());
+                }
+            }
+            Err(error) => return Err(error),
+        }
+    }
+    Ok(())
+}
+
+// Appends what the line that was found adds to a join, and says whether it is open.
+fn append(alloc: Global, finder: &LineFinder, text: &mut String) -> Result<bool, AllocError>
+    ensures { Adds finder.now (chars (string_bytes text.old)) result (chars (string_bytes text.new)) }
+{
+    let line = decode_line(alloc, finder.encoding(), finder.line())?;
+    push_text(text, addition(&line))?;
+    Ok(is_open(&line))
+}

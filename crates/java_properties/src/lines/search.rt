@@ -1,0 +1,106 @@
+// The search for line ends among undecoded bytes.
+
+ghost use Rattle.std.specs.Prelude.{◌≡◌, ◌≤◌, length, take};
+ghost use Rattle.memchr.specs.Find.{IsFirst, Passes};
+ghost use Rattle.properties_format.specs.Text.{is_line_end};
+ghost use Rattle.properties_format.specs.Lines.{HoldsNoLineEnd};
+ghost use Rattle.java_properties.specs.Encoding.{encoding_of};
+ghost use Rattle.java_properties.specs.LineSearch.{unit_size, whole_units, IsSearched, IsLineEndUnit};
+ghost use Rattle.java_properties.specs.LineSearch.{FindsLineEnd, FindsLineEndByte};
+
+use crate::encoding::Encoding;
+use memchr::memchr2;
+
+/// Where a line end stands among undecoded bytes.
+#[derive(Clone, Copy, Debug, PartialEq, Eq)]
+pub struct LineEnd {
+    /// The place of its first byte.
+    pub at: usize,
+    /// Whether it is a CR. An LF may come after it and be of the same line end.
+    pub is_cr: bool,
+}
+
+/// How many bytes a unit is.
+pub fn unit_size(encoding: Encoding) -> usize
+    ensures { result ≡ unit_size (encoding_of encoding) }
+{
+    match encoding {
+        Encoding::WINDOWS_1252 | Encoding::UTF_8 => 1,
+        Encoding::UTF_16LE | Encoding::UTF_16BE => 2,
+    }
+}
+
+/// How many of so many bytes are whole units.
+///
+/// Where a search found no line end among them, the next goes on from there, over these bytes and more.
+pub fn whole_units(encoding: Encoding, length: usize) -> usize
+    ensures { result ≡ whole_units (encoding_of encoding) length }
+{
+    length - length % unit_size(encoding)
+}
+
+/// The first CR or LF among the units of the bytes. Those before `from` are whole units that hold none.
+pub fn find_line_end(encoding: Encoding, bytes: &[u8], from: usize) -> Option<LineEnd>
+    requires { IsSearched (encoding_of encoding) bytes.now from }
+    ensures { FindsLineEnd (encoding_of encoding) bytes.now result }
+{
+    match encoding {
+        Encoding::WINDOWS_1252 | Encoding::UTF_8 => find_in_bytes(bytes, from),
+        Encoding::UTF_16LE | Encoding::UTF_16BE => find_in_units(encoding, bytes, from),
+    }
+}
+
+// The first CR or LF where a unit is one byte.
+fn find_in_bytes(bytes: &[u8], from: usize) -> Option<LineEnd>
+    requires within { from ≤ length bytes.now }
+    requires none_before { HoldsNoLineEnd (take from bytes.now) }
+    ensures { FindsLineEndByte bytes.now result }
+{
+    let at = find_end_byte(bytes, from)?;
+    let is_cr = bytes[at] == b'\r';
+    Some(LineEnd { at, is_cr })
+}
+
+// The first CR or LF where a unit is two bytes: a byte like one counts only in a unit whose other byte is zero.
+fn find_in_units(encoding: Encoding, bytes: &[u8], from: usize) -> Option<LineEnd>
+    requires size { unit_size (encoding_of encoding) ≡ 2 }
+    requires searched { IsSearched (encoding_of encoding) bytes.now from }
+    ensures { FindsLineEnd (encoding_of encoding) bytes.now result }
+{
+    let mut searched = from;
+    'hits: while let Some(hit) = find_end_byte(bytes, searched) {
+        let at = hit - hit % 2;
+        if bytes.len() - at < 2 {
+            return None;
+        }
+        if let Some(is_cr) = line_end_unit(encoding, bytes[at], bytes[at + 1]) {
+            return Some(LineEnd { at, is_cr });
+        }
+        searched = at + 2;
+    }
+    None
+}
+
+// The place of the first byte like a CR or an LF, from this place on.
+fn find_end_byte(bytes: &[u8], from: usize) -> Option<usize>
+    requires { from ≤ length bytes.now }
+    ensures { IsFirst (Passes is_line_end bytes.now) from (length bytes.now) result }
+{
+    let offset = memchr2(b'\n', b'\r', &bytes[from..])?;
+    Some(from + offset)
+}
+
+// Whether a unit of two bytes is a CR, where it is a line end.
+fn line_end_unit(encoding: Encoding, first: u8, second: u8) -> Option<bool>
+    requires { unit_size (encoding_of encoding) ≡ 2 }
+    ensures { IsLineEndUnit (encoding_of encoding) first second result }
+{
+    match (encoding, first, second) {
+        (Encoding::UTF_16LE, b'\n', 0) | (Encoding::UTF_16BE, 0, b'\n') => Some(false),
+        (Encoding::UTF_16LE, b'\r', 0) | (Encoding::UTF_16BE, 0, b'\r') => Some(true),
+        _ => None,
+    }
+}
+
+#[cfg(test)]
+mod tests;

@@ -1,0 +1,159 @@
+// A writer without its sink.
+
+ghost use Rattle.std.specs.Prelude.{◌≡◌, false, OnOk};
+ghost use Rattle.std.specs.Str.{chars};
+ghost use Rattle.properties_format.specs.Entries.{comment, pair};
+ghost use Rattle.properties_format.specs.Settings.{default_settings};
+ghost use Rattle.properties_format.specs.Writing.{is_accepted};
+ghost use Rattle.counted_io.specs.Streams.{IsSameSink};
+ghost use Rattle.java_properties.specs.Engine.{content_of, writing, line_bytes, content_bytes};
+ghost use Rattle.java_properties.specs.Printing.{AppendsOnOk};
+ghost use Rattle.java_properties.specs.PropertiesWriter.{call_of, WritesLine, Flushes};
+
+use super::print::{Place, print_key, print_raw, print_text};
+use super::settings::Settings;
+use crate::encoding::OutputEncoding;
+use crate::error::PropertiesError;
+use counted_io::{CountedWrite, send};
+use std::alloc::{AllocError, Global};
+
+/// What a line is to say.
+#[derive(Clone, Copy)]
+pub enum Content<'a> {
+    /// A comment.
+    Comment(&'a str),
+    /// A key and its value.
+    KVPair(&'a str, &'a str),
+}
+
+/// What a writer holds between two lines. It is passed its sink at each call.
+#[derive(Drop)]
+pub struct Engine {
+    // The line that is built, which keeps its memory for the next.
+    line: Vec<u8>,
+    // How many lines were written.
+    lines: usize,
+    // Whether a write failed.
+    failed: bool,
+    encoding: OutputEncoding,
+    /// What the next line is written by.
+    pub settings: Settings,
+}
+
+impl Engine {
+    /// Before the first line.
+    pub fn new(alloc: Global, encoding: OutputEncoding) -> Engine
+        ensures encoding { result.encoding ≡ encoding }
+        ensures settings { result.settings ≡ default_settings }
+        ensures lines { result.lines ≡ 0 }
+        ensures failed { result.failed ≡ false }
+    {
+        Engine {
+            line: Vec::new(alloc),
+            lines: 0,
+            failed: false,
+            encoding,
+            settings: Settings::new(alloc),
+        }
+    }
+
+    /// Writes a line, which is built whole before its first byte is sent.
+    pub fn write_line<W: CountedWrite>(
+        &mut self,
+        sink: &mut W,
+        content: Content<'_>,
+    ) -> Result<(), PropertiesError>
+        ensures writes { let old = writing self.old sink.old in
+            WritesLine W.CountedWrite old (content_of content.entry) result (writing self.new sink.new) }
+        ensures same_sink { IsSameSink W.CountedWrite sink.old sink.new }
+    {
+        if self.failed {
+            return Err(PropertiesError::failed());
+        }
+        if !self.accepts(content) {
+            return Err(PropertiesError::empty_key());
+        }
+        let Some(number) = self.lines.checked_add(1) else {
+            return Err(PropertiesError::too_many_lines());
+        };
+        self.build(content)?;
+        match send(sink, self.line.as_slice()) {
+            Ok(()) => {
+                self.lines = number;
+                Ok(())
+            }
+            Err(error) => {
+                self.failed = true;
+                Err(PropertiesError::write_fault(number, error))
+            }
+        }
+    }
+
+    /// Flushes the sink, unless a write failed.
+    pub fn flush<W: CountedWrite>(&mut self, sink: &mut W) -> Result<(), PropertiesError>
+        ensures flushes { let old = writing self.old sink.old in
+            Flushes W.CountedWrite old result (writing self.new sink.new) }
+        ensures same_sink { IsSameSink W.CountedWrite sink.old sink.new }
+    {
+        if self.failed {
+            return Err(PropertiesError::failed());
+        }
+        sink.flush_counted()?;
+        Ok(())
+    }
+
+    fn accepts(&self, content: Content<'_>) -> bool
+        ensures { result ≡ is_accepted self.now.settings (call_of (content_of content.entry)) }
+    {
+        match content {
+            Content::Comment(_) => true,
+            Content::KVPair(key, _) => self.settings.takes_key(key),
+        }
+    }
+
+    // The bytes of the line, to be sent.
+    fn build(&mut self, content: Content<'_>) -> Result<(), AllocError>
+        ensures printed { let bytes = line_bytes self.old (content_of content.entry) in
+            OnOk result (self.new.line.items ≡ bytes) }
+        ensures same { self.new ≡ record self.old { line = self.new.line } }
+    {
+        self.line.clear();
+        self.print_content(content)?;
+        print_raw(&mut self.line, self.settings.line_ending().as_str())
+    }
+
+    fn print_content(&mut self, content: Content<'_>) -> Result<(), AllocError>
+        ensures printed { let bytes = content_bytes self.old (content_of content.entry) in
+            AppendsOnOk self.old.line bytes result self.new.line }
+        ensures same { self.new ≡ record self.old { line = self.new.line } }
+    {
+        match content {
+            Content::Comment(text) => self.print_comment(text),
+            Content::KVPair(key, value) => self.print_pair(key, value),
+        }
+    }
+
+    fn print_comment(&mut self, text: &str) -> Result<(), AllocError>
+        ensures printed { let bytes = content_bytes self.old (comment (chars text.now)) in
+            AppendsOnOk self.old.line bytes result self.new.line }
+        ensures same { self.new ≡ record self.old { line = self.new.line } }
+    {
+        print_text(
+            &mut self.line,
+            self.encoding,
+            Place::Prefix,
+            self.settings.comment_prefix(),
+        )?;
+        print_text(&mut self.line, self.encoding, Place::Comment, text)
+    }
+
+    fn print_pair(&mut self, key: &str, value: &str) -> Result<(), AllocError>
+        ensures printed { let bytes = content_bytes self.old (pair (chars key.now) (chars value.now)) in
+            AppendsOnOk self.old.line bytes result self.new.line }
+        ensures same { self.new ≡ record self.old { line = self.new.line } }
+    {
+        print_key(&mut self.line, self.encoding, self.lines == 0, key)?;
+        print_raw(&mut self.line, self.settings.kv_separator())?;
+        print_text(&mut self.line, self.encoding, Place::KeyOrValue, value)
+    }
+}

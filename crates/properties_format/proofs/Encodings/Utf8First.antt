@@ -1,0 +1,77 @@
+-- The first piece of UTF-8, by how many bytes fit the row of its first byte.
+use Rattle.std.proofs.Common.{◌≡◌, ◌≢◌, ℕ, suc, ◌==◌, false, List, [], ◌∷◌, length, take, Some, refl, sym, ap, ◌∙◌, subst, inl, inr, arith, eq-eqb, ne_eqb}
+use Rattle.std.proofs.Math.Dec.{eqb-suc-suc, eqb-zero-suc}
+use Rattle.std.proofs.Math.Seq.{take-append_seam}
+use Rattle.std.proofs.lemmas.Bool.{cases_Bool, cond-true, cond-false}
+use Rattle.properties_format.specs.Text.{scalar, replacement}
+use Rattle.properties_format.specs.Utf8.{Range, well_formed_rows, FitsRow, sequence_character}
+use Rattle.properties_format.specs.Reading.Utf8.{is_in, ranges_after, fitting, utf_8_piece_by, first_utf_8_piece}
+use Rattle.properties_format.specs.Reading.Waiting.{fits_short, awaits_byte}
+use Rattle.properties_format.proofs.Encodings.Utf8Rows.{fitting-fits, row-sequence}
+use Rattle.properties_format.proofs.Encodings.Utf8Sequences.{sequence-scalar}
+
+-- the bytes that fit stand at the front
+pub fitting-take : (rs : List Range) (d : List ℕ) → take (length (fitting rs d)) d ≡ fitting rs d
+fitting-take rs d =
+    let f = fitting-fits rs d in
+    ap (take (length (fitting rs d))) f.1 ∙ take-append_seam (fitting rs d) f.0
+
+-- bytes of which as many fit as the row has don't wait
+fits_short-whole : (rs : List Range) (d : List ℕ) → length (fitting rs d) ≡ length rs → fits_short rs d ≡ false
+fits_short-whole [] d h = refl
+fits_short-whole (r ∷ rs) [] h = absurd (omega arith)
+fits_short-whole (r ∷ rs) (b ∷ d) h = elim (cases_Bool (is_in r b)) [
+  | inl k ↦ rw k (fits_short-whole rs d (let l = rw k at h in omega arith))
+  | inr k ↦ rw k refl
+]
+
+-- others wait where all that there are fit
+fits_short-all : (rs : List Range) (d : List ℕ) → length (fitting rs d) ≢ length rs → fits_short rs d ≡ (length (fitting rs d) == length d)
+fits_short-all [] d h = absurd (h refl)
+fits_short-all (r ∷ rs) [] h = refl
+fits_short-all (r ∷ rs) (b ∷ d) h = elim (cases_Bool (is_in r b)) [
+  | inl k ↦ rw k (fits_short-all rs d (λ e. h (rw k (ap suc e))) ∙ sym (eqb-suc-suc (length (fitting rs d)) (length d)))
+  | inr k ↦ rw k (sym (eqb-zero-suc (length d)))
+]
+
+-- as many bytes fit as the row of the first byte has: they are a sequence
+pub record IsWholeFirst (b : ℕ) (d : List ℕ) (n : ℕ) : Type 0 where
+  pub whole : (first_utf_8_piece b d).character ≡ sequence_character (b ∷ take n d)
+  pub bytes : length (first_utf_8_piece b d).bytes ≡ suc n
+  pub is_scalar : scalar (sequence_character (b ∷ take n d))
+  pub decided : awaits_byte (ranges_after well_formed_rows b) d ≡ false
+
+fitted-row : (rs : List Range) (d : List ℕ) → length (fitting rs d) ≡ length rs → FitsRow rs (fitting rs d)
+fitted-row rs d h = elim ((fitting-fits rs d).2) [ inl k ↦ k | inr k ↦ absurd (let l = k.0 in omega arith) ]
+
+pub first_utf_8_piece-whole : (b : ℕ) (rs : List Range) (d : List ℕ) (n : ℕ)
+    → ranges_after well_formed_rows b ≡ Some rs → n ≡ length (fitting rs d) → n ≡ length rs → IsWholeFirst b d n
+first_utf_8_piece-whole b rs d n e h k =
+    let t : take n d ≡ fitting rs d = ap (λ v. take v d) h ∙ fitting-take rs d in
+    let l : length (fitting rs d) ≡ length rs = sym h ∙ k in
+    let P : List ℕ → Type 0 = λ v. scalar (sequence_character (b ∷ v)) in
+    record {
+      whole = ap (λ o. (utf_8_piece_by o b d).character) e
+          ∙ cond-true (length (fitting rs d) == length rs) (sequence_character (b ∷ fitting rs d)) replacement (eq-eqb (length (fitting rs d)) (length rs) l)
+          ∙ ap (λ v. sequence_character (b ∷ v)) (sym t);
+      bytes = ap (λ o. length (utf_8_piece_by o b d).bytes) e ∙ ap suc (sym h);
+      is_scalar = subst P (sym t) (sequence-scalar (b ∷ fitting rs d) ((row-sequence b rs e).1 (fitting rs d) (fitted-row rs d l)));
+      decided = ap (λ o. awaits_byte o d) e ∙ fits_short-whole rs d l;
+    }
+
+-- fewer fit: they are broken, and wait where no others come after them
+pub record IsBrokenFirst (b : ℕ) (d : List ℕ) (n : ℕ) : Type 0 where
+  pub broken : (first_utf_8_piece b d).character ≡ replacement
+  pub bytes : length (first_utf_8_piece b d).bytes ≡ suc n
+  pub waits : awaits_byte (ranges_after well_formed_rows b) d ≡ (n == length d)
+
+pub first_utf_8_piece-broken : (b : ℕ) (rs : List Range) (d : List ℕ) (n : ℕ)
+    → ranges_after well_formed_rows b ≡ Some rs → n ≡ length (fitting rs d) → n ≢ length rs → IsBrokenFirst b d n
+first_utf_8_piece-broken b rs d n e h k =
+    let l : length (fitting rs d) ≢ length rs = λ q. k (h ∙ q) in
+    record {
+      broken = ap (λ o. (utf_8_piece_by o b d).character) e
+          ∙ cond-false (length (fitting rs d) == length rs) (sequence_character (b ∷ fitting rs d)) replacement (ne_eqb (length (fitting rs d)) (length rs) l);
+      bytes = ap (λ o. length (utf_8_piece_by o b d).bytes) e ∙ ap suc (sym h);
+      waits = ap (λ o. awaits_byte o d) e ∙ fits_short-all rs d l ∙ ap (λ v. v == length d) (sym h);
+    }

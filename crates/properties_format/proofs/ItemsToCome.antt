@@ -1,0 +1,6 @@
+pub mod Entries
+pub mod Lines
+pub mod Numbers
+pub mod Steps
+pub mod Unique
+pub mod Waiting

@@ -1,0 +1,154 @@
+-- Steps of a reader one after the other: natural lines to logical lines, and these to entries.
+use Rattle.std.proofs.Common.{◌≡◌, ℕ, true, false, List, [], ◌∷◌, ◌++◌, length, ◌<◌, Option, Some, None, refl, ap, sym, ◌∙◌, subst, append_assoc, append-nil}
+use Rattle.properties_format.specs.Text.{line_feed}
+use Rattle.properties_format.specs.Encoding.{ascii_bytes}
+use Rattle.properties_format.specs.Cut.{units}
+use Rattle.properties_format.specs.Reading.Lines.{begins_with_lf}
+use Rattle.properties_format.specs.Reading.Waiting.{awaits_bom}
+use Rattle.properties_format.specs.Lines.{InputEnd, Line}
+use Rattle.properties_format.specs.Groups.{is_open, is_comment_line, without_open_backslash, addition}
+use Rattle.properties_format.specs.Escapes.{Malformed}
+use Rattle.properties_format.specs.Items.{Content, Entry, item, malformed, ignored, given, broken}
+use Rattle.properties_format.specs.Reading.Items.{outcome_of, followed}
+use Rattle.properties_format.specs.ItemsToCome.{ReaderState}
+use Rattle.properties_format.specs.Reading.ItemsToCome.{items_to_come, entries_pending}
+use Rattle.properties_format.specs.Reading.ReaderSteps.{Gives, after_read, after_decided, after_passed, HoldsLine, next_line, after_line, ReadsLines, ReadsOn, ReadsLogical, ReadsEntry}
+use Rattle.properties_format.proofs.Items.Outcomes.{followed-ignored, followed-given, followed-broken}
+use Rattle.properties_format.proofs.ItemsToCome.Unique.{items_to_come-done}
+use Rattle.properties_format.proofs.ItemsToCome.Lines.{gives-read, gives-decided, gives-decided_last, gives-passed_lf, gives-passed_none, gives-line}
+use Rattle.properties_format.proofs.ItemsToCome.Entries.{items_to_come-pending, gives-on, pending-same, pending-comment_line, pending-closed, pending-open, joining-open, joining-closed}
+
+-- ---- natural lines
+
+-- reading nothing gives no line
+pub lines-start : (s : ReaderState) → ReadsLines s [] [] s
+lines-start s = record { gives = λ d ending. record { natural = refl; last = refl } }
+
+-- one step after another
+pub lines-on : {s t u : ReaderState} {r q : List ℕ} {ls ms : List Line} → ReadsLines s r ls t → ReadsLines t q ms u → ReadsLines s (r ++ q) (ls ++ ms) u
+lines-on {s} {t} {u} {r} {q} {ls} {ms} h k =
+    record { gives = λ d ending. subst (λ v. Gives s v (ls ++ ms) u d ending) (sym (append_assoc r q d)) (gives-on (h.gives (q ++ d) ending) (k.gives d ending)) }
+
+-- and a step that reads nothing
+pub lines-then : {s t u : ReaderState} {r : List ℕ} {ls ms : List Line} → ReadsLines s r ls t → ReadsLines t [] ms u → ReadsLines s r (ls ++ ms) u
+lines-then h k = record { gives = λ d ending. gives-on (h.gives d ending) (k.gives d ending) }
+
+-- bytes are read and held
+pub lines-read : (s : ReaderState) (r : List ℕ) → ReadsLines s r [] (after_read s r)
+lines-read s r = record { gives = λ d ending. gives-read s r d ending }
+
+-- bytes that wait for no more decide whether a byte order mark is at the front
+pub lines-decided : (s : ReaderState) → s.is_decided ≡ false → awaits_bom s.held ≡ false → ReadsLines s [] [] (after_decided s)
+lines-decided s h k = record { gives = λ d ending. gives-decided s d ending h k }
+
+-- an LF unit after a CR is passed over
+pub lines-passed_lf : (s : ReaderState) (rest : List ℕ) → s.is_decided ≡ true → s.after_cr ≡ true → s.held ≡ ascii_bytes s.encoding line_feed ++ rest
+    → ReadsLines s [] [] (after_passed s rest)
+lines-passed_lf s rest h k m = record { gives = λ d ending. gives-passed_lf s rest d ending h k m }
+
+-- bytes with a whole unit that is no LF tell that none is to be passed over
+pub lines-passed_none : (s : ReaderState) → s.is_decided ≡ true → 0 < length (units s.encoding s.held) → begins_with_lf (units s.encoding s.held) ≡ false
+    → ReadsLines s [] [] (after_passed s s.held)
+lines-passed_none s h k m = record { gives = λ d ending. gives-passed_none s d ending h k m }
+
+-- a line among the held bytes is taken
+pub lines-take : (s : ReaderState) (l : List ℕ) (c : ℕ) (rest : List ℕ) → HoldsLine s l c rest → ReadsLines s [] (next_line s l ∷ []) (after_line s c rest)
+lines-take s l c rest h = record { gives = λ d ending. gives-line s l c rest d ending h }
+
+-- ---- joins
+
+-- at first no join is open
+pub on-start : (s : ReaderState) → ReadsOn s [] None s
+on-start s = record { items = λ d ending. items_to_come-pending s d ending }
+
+-- what comes of two parts one after the other
+regroup : (s : ReaderState) (r q d : List ℕ) (ending : InputEnd) (entries : List Entry) → items_to_come s (r ++ (q ++ d)) ending ≡ entries
+    → items_to_come s ((r ++ q) ++ d) ending ≡ entries
+regroup s r q d ending entries h = ap (λ v. items_to_come s v ending) (append_assoc r q d) ∙ h
+
+-- a step that gives no line leaves the join as it is
+pub on-same : {s t u : ReaderState} {r q : List ℕ} {pending : Option Line} → ReadsOn s r pending t → ReadsLines t q [] u → ReadsOn s (r ++ q) pending u
+on-same {s} {t} {u} {r} {q} {pending} h k =
+    record { items = λ d ending. regroup s r q d ending _ (h.items (q ++ d) ending ∙ pending-same pending (k.gives d ending)) }
+
+-- an open line that is no comment line begins a join
+pub on-open : {s t u : ReaderState} {r q : List ℕ} {l : Line} → ReadsOn s r None t → ReadsLines t q (l ∷ []) u → is_comment_line l.text ≡ false
+    → is_open l.text ≡ true
+    → ReadsOn s (r ++ q) (Some (record { number = l.number; text = without_open_backslash l.text })) u
+on-open {s} {t} {u} {r} {q} h k m o = record { items = λ d ending. regroup s r q d ending _ (h.items (q ++ d) ending ∙ pending-open (k.gives d ending) m o) }
+
+-- each open line after it is one more of the join
+pub on-more : {s t u : ReaderState} {r q : List ℕ} {join l : Line} → ReadsOn s r (Some join) t → ReadsLines t q (l ∷ []) u → is_open l.text ≡ true
+    → ReadsOn s (r ++ q) (Some (record { number = join.number; text = join.text ++ addition l.text })) u
+on-more {s} {t} {u} {r} {q} {join} h k o =
+    record { items = λ d ending. regroup s r q d ending _ (h.items (q ++ d) ending ∙ joining-open join (k.gives d ending) o) }
+
+-- ---- logical lines
+
+-- what follows a logical line, where no join is open after it
+none-open : (number : ℕ) (text : List ℕ) (s : ReaderState) (d : List ℕ) (ending : InputEnd)
+    → followed number (outcome_of text) (entries_pending None s d ending) ≡ followed number (outcome_of text) (items_to_come s d ending)
+none-open number text s d ending = ap (followed number (outcome_of text)) (sym (items_to_come-pending s d ending))
+
+-- where no join is open, a comment line is a logical line
+pub logical-comment_line : {s t u : ReaderState} {r q : List ℕ} {l : Line} → ReadsOn s r None t → ReadsLines t q (l ∷ []) u → is_comment_line l.text ≡ true
+    → ReadsLogical s (r ++ q) l u
+logical-comment_line {s} {t} {u} {r} {q} {l} h k m =
+    record {
+      items = λ d ending. regroup s r q d ending _
+          (h.items (q ++ d) ending ∙ pending-comment_line (k.gives d ending) m ∙ none-open l.number l.text u d ending);
+    }
+
+-- so is a line that is not open
+pub logical-closed : {s t u : ReaderState} {r q : List ℕ} {l : Line} → ReadsOn s r None t → ReadsLines t q (l ∷ []) u → is_open l.text ≡ false
+    → ReadsLogical s (r ++ q) l u
+logical-closed {s} {t} {u} {r} {q} {l} h k o =
+    record {
+      items = λ d ending. regroup s r q d ending _
+          (h.items (q ++ d) ending ∙ pending-closed (k.gives d ending) o ∙ none-open l.number l.text u d ending);
+    }
+
+-- where a join is open, a line that is not open is its last
+pub logical-joined : {s t u : ReaderState} {r q : List ℕ} {join l : Line} → ReadsOn s r (Some join) t → ReadsLines t q (l ∷ []) u → is_open l.text ≡ false
+    → ReadsLogical s (r ++ q) (record { number = join.number; text = join.text ++ addition l.text }) u
+logical-joined {s} {t} {u} {r} {q} {join} {l} h k o =
+    record {
+      items = λ d ending. regroup s r q d ending _
+          (h.items (q ++ d) ending ∙ joining-closed join (k.gives d ending) o ∙ none-open join.number (join.text ++ addition l.text) u d ending);
+    }
+
+-- ---- entries
+
+-- a logical line that comes to nothing is passed over
+pub on-ignored : {s t : ReaderState} {r : List ℕ} {line : Line} → ReadsLogical s r line t → outcome_of line.text ≡ ignored → ReadsOn s r None t
+on-ignored {s} {t} {r} {line} h k =
+    record { items = λ d ending. h.items d ending ∙ followed-ignored line.number line.text (items_to_come t d ending) k ∙ items_to_come-pending t d ending }
+
+-- a content is an item
+pub entry-given : {s t : ReaderState} {r : List ℕ} {line : Line} {content : Content} → ReadsLogical s r line t → outcome_of line.text ≡ given content
+    → ReadsEntry s r (item line.number content) t
+entry-given {s} {t} {r} {line} {content} h k =
+    record { items = λ d ending. h.items d ending ∙ followed-given line.number line.text content (items_to_come t d ending) k }
+
+-- malformed escapes are an entry, and the reader is done
+pub entry-broken : {s t : ReaderState} {r : List ℕ} {line : Line} {kind : Malformed} → ReadsLogical s r line t → outcome_of line.text ≡ broken kind
+    → (done : ReaderState) → done.is_done ≡ true → ReadsEntry s r (malformed kind line.number) done
+entry-broken {s} {t} {r} {line} {kind} h k done m =
+    record {
+      items = λ d ending.
+          h.items d ending
+          ∙ followed-broken line.number line.text kind (items_to_come t d ending) k
+          ∙ ap (λ v. malformed kind line.number ∷ v) (sym (items_to_come-done done d ending m));
+    }
+
+-- ---- nothing comes
+
+-- what comes where nothing follows the bytes that were read
+pub on-last : {s t : ReaderState} {r : List ℕ} {pending : Option Line} → ReadsOn s r pending t → (ending : InputEnd)
+    → items_to_come s r ending ≡ entries_pending pending t [] ending
+on-last {s} {t} {r} {pending} h ending = ap (λ v. items_to_come s v ending) (sym (append-nil r)) ∙ h.items [] ending
+
+-- and where the reader must first decide whether a byte order mark is at the front
+pub on-last_decided : {s t : ReaderState} {r : List ℕ} {pending : Option Line} → ReadsOn s r pending t → t.is_decided ≡ false → (ending : InputEnd)
+    → items_to_come s r ending ≡ entries_pending pending (after_decided t) [] ending
+on-last_decided {s} {t} {r} {pending} h k ending = on-last h ending ∙ pending-same pending (gives-decided_last t ending k)

@@ -1,0 +1,130 @@
+-- Which bytes decide what comes next: a byte order mark at the front, or an LF after a CR.
+use Rattle.std.proofs.Common.{◌≡◌, ◌==◌, ◌&&◌, ℕ, Bool, true, false, List, [], ◌∷◌, refl, sym, eq-eqb, inl, inr, arith}
+use Rattle.std.proofs.lemmas.Bool.{ne_eqb, eqb-false}
+use Rattle.std.proofs.lemmas.Bool.Decides.{eqb_tells}
+use Rattle.properties_format.specs.Encoding.{ascii_bytes, begins_with, Encoding, windows_1252, utf_8, utf_16le, utf_16be, byte_order_mark}
+use Rattle.properties_format.specs.Reading.Waiting.{awaits_bom}
+use Rattle.properties_format.specs.Text.{line_feed}
+use Rattle.properties_format.specs.Utf16.{low_first, high_first}
+use Rattle.properties_format.specs.Reading.Lines.{begins_with_lf}
+use Rattle.properties_format.specs.Cut.{units, HoldsNoLineEndUnit}
+use Rattle.properties_format.specs.ItemsToCome.{ReaderState}
+use Rattle.properties_format.specs.Reading.ReaderSteps.{after_decided, HoldsNoEnd}
+use Rattle.properties_format.proofs.Encodings.ByteOrderMarks.{awaits_bom-long}
+
+-- ---- A byte order mark.
+
+-- the bytes are in the encoding asked for, and hold no line end
+abbrev pub IsPlainFront : Encoding → List ℕ → Type 0
+IsPlainFront e b = (byte_order_mark e b ≡ record { encoding = e; body = b }) × HoldsNoLineEndUnit e b
+
+front-none : (e : Encoding) → IsPlainFront e []
+front-none windows_1252 = (refl, tt)
+front-none utf_8 = (refl, tt)
+front-none utf_16le = (refl, tt)
+front-none utf_16be = (refl, tt)
+
+front-ef : (e : Encoding) → IsPlainFront e (0xef ∷ [])
+front-ef windows_1252 = (refl, (refl, tt))
+front-ef utf_8 = (refl, (refl, tt))
+front-ef utf_16le = (refl, tt)
+front-ef utf_16be = (refl, tt)
+
+front-fe : (e : Encoding) → IsPlainFront e (0xfe ∷ [])
+front-fe windows_1252 = (refl, (refl, tt))
+front-fe utf_8 = (refl, (refl, tt))
+front-fe utf_16le = (refl, tt)
+front-fe utf_16be = (refl, tt)
+
+front-ff : (e : Encoding) → IsPlainFront e (0xff ∷ [])
+front-ff windows_1252 = (refl, (refl, tt))
+front-ff utf_8 = (refl, (refl, tt))
+front-ff utf_16le = (refl, tt)
+front-ff utf_16be = (refl, tt)
+
+front-ef_bb : (e : Encoding) → IsPlainFront e (0xef ∷ 0xbb ∷ [])
+front-ef_bb windows_1252 = (refl, (refl, (refl, tt)))
+front-ef_bb utf_8 = (refl, (refl, (refl, tt)))
+front-ef_bb utf_16le = (refl, (refl, tt))
+front-ef_bb utf_16be = (refl, (refl, tt))
+
+front-one : (e : Encoding) (b : ℕ) → awaits_bom (b ∷ []) ≡ true → IsPlainFront e (b ∷ [])
+front-one e b h = elim (eqb_tells 0xef b) [
+  | inl k ↦ rw (← k.1) (front-ef e)
+  | inr k ↦ elim (eqb_tells 0xfe b) [
+    | inl m ↦ rw (← m.1) (front-fe e)
+    | inr m ↦ elim (eqb_tells 0xff b) [
+      | inl n ↦ rw (← n.1) (front-ff e)
+      | inr n ↦ let f : awaits_bom (b ∷ []) ≡ false = rw (k.0, m.0, n.0) refl in absurd (cc)
+    ]
+  ]
+]
+
+and-false : (b : Bool) → (b && false) ≡ false
+and-false true = refl
+and-false false = refl
+
+front-two : (e : Encoding) (b c : ℕ) → awaits_bom (b ∷ c ∷ []) ≡ true → IsPlainFront e (b ∷ c ∷ [])
+front-two e b c h = elim (eqb_tells 0xef b) [
+  | inl k ↦ elim (eqb_tells 0xbb c) [
+    | inl m ↦ rw (← k.1, ← m.1) (front-ef_bb e)
+    | inr m ↦ let f : awaits_bom (b ∷ c ∷ []) ≡ false = rw (← k.1, m.0) refl in absurd (cc)
+  ]
+  | inr k ↦
+      let f : awaits_bom (b ∷ c ∷ []) ≡ false = rw (k.0, and-false (0xff == c), and-false (0xfe == c), and-false (0xfe == b), and-false (0xff == b)) refl in
+      absurd (cc)
+]
+
+-- Bytes that wait for a byte order mark are none by themselves.
+pub waiting-front : (e : Encoding) (b : List ℕ) → awaits_bom b ≡ true → IsPlainFront e b
+waiting-front e [] h = front-none e
+waiting-front e (b ∷ []) h = front-one e b h
+waiting-front e (b ∷ c ∷ []) h = front-two e b c h
+waiting-front e (b ∷ c ∷ d ∷ more) h = let f : awaits_bom (b ∷ c ∷ d ∷ more) ≡ false = awaits_bom-long (b ∷ c ∷ d ∷ more) (omega arith) in absurd (cc)
+
+-- A reader that still waits for a byte order mark where nothing comes holds no line end.
+pub waiting-no_end : (s : ReaderState) → s.is_done ≡ false → awaits_bom s.held ≡ true → HoldsNoEnd (after_decided s)
+waiting-no_end s h k =
+    let f = waiting-front s.encoding s.held k in
+    record { going = h; decided = refl; none = rw f.0 f.1 }
+
+-- ---- An LF.
+
+-- the first byte
+lf-byte : (c : ℕ) → (line_feed == c && true) ≡ (c == line_feed)
+lf-byte c = elim (eqb_tells line_feed c) [
+  | inl k ↦ rw (← k.1) refl
+  | inr k ↦ rw k.0 (sym (ne_eqb c line_feed (λ m. let f : (line_feed == c) ≡ true = eq-eqb line_feed c (sym m) in cc)))
+]
+
+-- the first two bytes
+low-unit : (a b : ℕ) → (line_feed == a && (0 == b && true)) ≡ (low_first a b == line_feed)
+low-unit a b = elim (eqb_tells line_feed a) [
+  | inl k ↦ elim (eqb_tells 0 b) [
+    | inl m ↦ rw (← k.1, ← m.1) refl
+    | inr m ↦ rw (k.0, m.0) (sym (ne_eqb (low_first a b) line_feed (λ e. let n = eqb-false 0 b m.0 in omega arith)))
+  ]
+  | inr k ↦ rw k.0 (sym (ne_eqb (low_first a b) line_feed (λ e. let n = eqb-false line_feed a k.0 in omega arith)))
+]
+
+high-unit : (a b : ℕ) → (0 == a && (line_feed == b && true)) ≡ (high_first a b == line_feed)
+high-unit a b = elim (eqb_tells 0 a) [
+  | inl k ↦ elim (eqb_tells line_feed b) [
+    | inl m ↦ rw (← k.1, ← m.1) refl
+    | inr m ↦ rw (k.0, m.0) (sym (ne_eqb (high_first a b) line_feed (λ e. let n = eqb-false line_feed b m.0 in omega arith)))
+  ]
+  | inr k ↦ rw k.0 (sym (ne_eqb (high_first a b) line_feed (λ e. let n = eqb-false 0 a k.0 in omega arith)))
+]
+
+-- bytes begin with an LF unit exactly where they begin with its bytes
+pub lf_first-bytes : (e : Encoding) (d : List ℕ) → begins_with (ascii_bytes e line_feed) d ≡ begins_with_lf (units e d)
+lf_first-bytes windows_1252 [] = refl
+lf_first-bytes windows_1252 (c ∷ d) = lf-byte c
+lf_first-bytes utf_8 [] = refl
+lf_first-bytes utf_8 (c ∷ d) = lf-byte c
+lf_first-bytes utf_16le [] = refl
+lf_first-bytes utf_16le (a ∷ []) = and-false (line_feed == a)
+lf_first-bytes utf_16le (a ∷ b ∷ d) = low-unit a b
+lf_first-bytes utf_16be [] = refl
+lf_first-bytes utf_16be (a ∷ []) = and-false (0 == a)
+lf_first-bytes utf_16be (a ∷ b ∷ d) = high-unit a b

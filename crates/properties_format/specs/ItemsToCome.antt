@@ -1,0 +1,50 @@
+-- The items that a reader still gives, where it stands between two of its calls.
+-- Source: java.util.Properties of Java SE 7, load.
+use Rattle.std.specs.Prelude.{◌≡◌, ◌≢◌, ◌⊎◌, ℕ, ◌+◌, Bool, true, false, if◌then◌else◌, List, [], ◌∷◌, ◌++◌}
+use Rattle.properties_format.specs.Text.{line_feed}
+use Rattle.properties_format.specs.Pieces.{Piece, characters}
+use Rattle.properties_format.specs.Encoding.{Encoding, InForce, byte_order_mark, IsPieces}
+use Rattle.properties_format.specs.Lines.{InputEnd, Line, Lines, IsLines, line_ends, numbered}
+use Rattle.properties_format.specs.Groups.{IsGroups}
+use Rattle.properties_format.specs.Items.{Entry, AreEntries}
+
+-- Where a reader stands: the encoding in force, or the one asked for while it is not decided whether a byte order mark is at the front;
+-- the bytes that were read and not taken; how many line ends were passed, and whether the last of them was a CR, whose LF may still come;
+-- and whether the reader is at its end for good.
+pub record ReaderState : Type 0 where
+  pub encoding : Encoding
+  pub is_decided : Bool
+  pub held : List ℕ
+  pub passed : ℕ
+  pub after_cr : Bool
+  pub is_done : Bool
+
+-- the start of a reading in this encoding
+abbrev pub start : Encoding → ReaderState
+start e = record { encoding = e; is_decided = false; held = []; passed = 0; after_cr = false; is_done = false }
+
+-- the bytes that are not taken, before the bytes to come, and the encoding that they are in
+abbrev pub in_force : ReaderState → List ℕ → InForce
+in_force s d = if s.is_decided then record { encoding = s.encoding; body = s.held ++ d } else byte_order_mark s.encoding (s.held ++ d)
+
+-- the text after a line end: where the end is a CR, an LF at the front is of that end
+abbrev pub IsAfterEnd : Bool → List ℕ → List ℕ → Type 0
+IsAfterEnd false x text = x ≡ text
+IsAfterEnd true x text = (x ≡ line_feed ∷ text) ⊎ (x ≡ text) × ((y : List ℕ) → text ≢ line_feed ∷ y)
+
+-- The entries of the bytes that are not taken and of those to come: they have pieces, the text of these has lines, numbered on from those that were passed,
+-- the lines have groups, and these are their entries.
+pub record AreFurtherEntries (s : ReaderState) (d : List ℕ) (ending : InputEnd) (entries : List Entry) : Type 0 where
+  pub pieces : List Piece
+  pub text : List ℕ
+  pub lines : Lines
+  pub groups : List (List Line)
+  pub are_pieces : IsPieces (in_force s d).encoding (in_force s d).body pieces
+  pub after_end : IsAfterEnd s.after_cr (characters pieces) text
+  pub divided : IsLines text lines
+  pub grouped : IsGroups (numbered s.passed lines.ended lines.last ending) ending groups
+  pub are_entries : AreEntries (s.passed + line_ends lines) ending groups entries
+
+-- The items to come, where these bytes come and then this ending: none at the end for good.
+abbrev pub IsItemsToCome : ReaderState → List ℕ → InputEnd → List Entry → Type 0
+IsItemsToCome s d ending entries = (s.is_done ≡ true) × (entries ≡ []) ⊎ (s.is_done ≡ false) × AreFurtherEntries s d ending entries

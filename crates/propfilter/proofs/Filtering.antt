@@ -1,0 +1,128 @@
+-- Items that go from a reader to a sink, one after another.
+use Rattle.std.proofs.Common.{◌≡◌, ◌++◌, ℕ, false, List, [], ◌∷◌, sym, ◌∙◌, inl, inr, subst, append-nil}
+use Rattle.std.specs.Prelude.{Bool, ◌⊎◌, Result, Ok, Err}
+use Rattle.counted_io.specs.Streams.{Reader, Sink}
+use Rattle.properties_format.specs.Encoding.{Encoding, output_encoding}
+use Rattle.properties_format.specs.ItemsToCome.{ReaderState, start}
+use Rattle.properties_format.specs.Entries.{Content, comment, pair, Entry, item, malformed, read_fault}
+use Rattle.properties_format.specs.Items.{IsItems}
+use Rattle.properties_format.specs.Lines.{end}
+use Rattle.properties_format.specs.Reading.ItemsToCome.{items_to_come}
+use Rattle.properties_format.proofs.Items.Unique.{items_of-meets}
+use Rattle.java_properties.specs.Line.{number_of, content_of}
+use Rattle.java_properties.specs.LineJoiner.{JoinsError}
+use Rattle.java_properties.specs.PropertiesIter.{Reading, said, entry_of, GivesNext, GivesNone, GivesMalformed}
+use Rattle.java_properties.specs.PropertiesWriter.{Writing, new_writer, Flushes, HasFlushedSink, RefusesFlush, FailsInFlush}
+use Rattle.java_properties.specs.ReadLines.{BeginsItems}
+use Rattle.java_properties.specs.declared.error.PropertiesError.{PropertiesError}
+use Rattle.java_properties.specs.declared.line.Line.{Line}
+use Rattle.java_properties.proofs.Readings.{Comes, Collected, collected-start, collected-next, collected-none, collected-malformed, collected-error}
+use Rattle.propfilter.specs.Filter.{AreItems, WritesIfPair, HasFiltered, StopsInReading, StopsInWriting, StopsInFlush, Filters}
+use Rattle.propfilter.proofs.Pairs.{HasWrittenPairs, pairs-none, pairs-comment, pairs-more, pairs-live, pairs-fail, pairs-refused, pairs-flushed, pairs-flush, pairs-flush-failed}
+
+-- one item more
+AreItems-more : (xs : List Entry) (number : ℕ) (content : Content) → AreItems xs → AreItems (xs ++ (item number content ∷ []))
+AreItems-more [] number content h = tt
+AreItems-more (item n c ∷ xs) number content h = AreItems-more xs number content h
+AreItems-more (malformed kind n ∷ xs) number content h = absurd h
+AreItems-more (read_fault n ∷ xs) number content h = absurd h
+
+-- The items that came were all that the reader gave so far, and their pairs were written.
+pub record HasPassed {R W : Type 0} (reader : Reader R) (sink : Sink W) (e : Encoding) (input : R) (output : W) (it : Reading R) (w : Writing W) : Type 0 where
+  pub items : List Entry
+  pub whole : AreItems items
+  pub bytes : List ℕ
+  pub collected : Collected reader e input bytes items it.state it.reader
+  pub pairs : HasWrittenPairs sink e output items w
+
+-- before the first item
+pub passed-none : {R W : Type 0} (reader : Reader R) (sink : Sink W) (e : Encoding) (it : Reading R) (w : Writing W) → it.state ≡ start e
+    → w ≡ new_writer (output_encoding e) w.sink → HasPassed reader sink e it.reader w.sink it w
+passed-none reader sink e it w fresh new = record {
+  items = [];
+  whole = tt;
+  bytes = [];
+  collected = subst (λ s. Collected reader e it.reader [] [] s it.reader) (sym fresh) (collected-start e it.reader);
+  pairs = subst (λ v. HasWrittenPairs sink e w.sink [] v) (sym new) (pairs-none sink e w.sink);
+}
+
+-- what came so far is a beginning of the items
+begins : {e : Encoding} {bytes : List ℕ} {items : List Entry} {at_end : Bool} {s : ReaderState} → Comes e bytes items at_end s → BeginsItems e bytes items at_end
+begins {e} {bytes} {items} {s = s} (Comes.going_on g m) =
+    inl (λ d ending. (items_to_come s d ending, subst (IsItems e (bytes ++ d) ending) (m d ending) (items_of-meets e (bytes ++ d) ending)))
+begins {e} {bytes} {items} (Comes.at_last d k m) =
+    inr (k, ([], subst (IsItems e bytes end) (m ∙ sym (append-nil items)) (items_of-meets e bytes end)))
+
+module _ {R W : Type 0} {reader : Reader R} {sink : Sink W} {e : Encoding} {input : R} {output : W} {it next : Reading R} {w : Writing W} where
+  -- An item came, and was written if it is a pair.
+  pub passed-more : (new : Writing W) (line : Line) → HasPassed reader sink e input output it w
+      → GivesNext reader it.state it.reader line next.state next.reader → WritesIfPair sink w (said (content_of line)) (Ok tt) new
+      → HasPassed reader sink e input output next new
+  passed-more new line h n k = record {
+    items = h.items ++ (entry_of line ∷ []);
+    whole = AreItems-more h.items (number_of line) (said (content_of line)) h.whole;
+    bytes = h.bytes ++ n.bytes;
+    collected = collected-next line h.collected n;
+    pairs = written (said (content_of line)) k;
+  }
+    where
+      written : (c : Content) → WritesIfPair sink w c (Ok tt) new → HasWrittenPairs sink e output (h.items ++ (item (number_of line) c ∷ [])) new
+      written (comment text) k = rw k.1 (pairs-comment (number_of line) text h.pairs)
+      written (pair key value) k = pairs-more (number_of line) key value h.pairs k
+
+  -- A pair came, and was not written.
+  pub stops-writing : {error : PropertiesError} (new : Writing W) (line : Line) → HasPassed reader sink e input output it w
+      → GivesNext reader it.state it.reader line next.state next.reader → WritesIfPair sink w (said (content_of line)) (Err error) new
+      → StopsInWriting reader sink e input output error next.reader new.sink
+  stops-writing {error = error} new line h n k = by-content (said (content_of line)) (begins came.comes) k
+    where
+      came : Collected reader e input (h.bytes ++ n.bytes) (h.items ++ (entry_of line ∷ [])) next.state next.reader
+      came = collected-next line h.collected n
+
+      by-content : (c : Content) → BeginsItems e (h.bytes ++ n.bytes) (h.items ++ (item (number_of line) c ∷ [])) (reader.at_end next.reader)
+          → WritesIfPair sink w c (Err error) new
+          → StopsInWriting reader sink e input output error next.reader new.sink
+      by-content (comment text) b k = absurd (let same = k.0 in cc)
+      by-content (pair key value) b k = record {
+        items = h.items;
+        number = number_of line;
+        key = key;
+        value = value;
+        whole = h.whole;
+        bytes = h.bytes ++ n.bytes;
+        read = came.read;
+        begins = b;
+        fails = elim k [ inl refused ↦ inr (pairs-refused key value h.pairs refused) | inr failed ↦ inl (pairs-fail key value h.pairs failed) ];
+      }
+
+  -- reading stopped, and the sink was flushed
+  pub stops-reading : {error : PropertiesError} (new : Writing W) (flush : Result Unit PropertiesError) → HasPassed reader sink e input output it w
+      → it.state.is_done ≡ false → GivesMalformed reader it.state it.reader error next.reader ⊎ JoinsError reader it.state it.reader error next.state next.reader
+      → Flushes sink w flush new → StopsInReading reader sink e input output error next.reader new.sink
+  stops-reading new flush h live k f = record {
+    items = h.items;
+    whole = h.whole;
+    stops = elim k [ inl m ↦ inl (collected-malformed h.collected live m) | inr j ↦ inr (collected-error h.collected live j) ];
+    written = pairs-flush new flush h.pairs f;
+  }
+
+  -- no item came any more, and the sink was flushed
+  filtered : {new : Writing W} → HasPassed reader sink e input output it w → GivesNone reader it.state it.reader next.state next.reader
+      → HasFlushedSink sink w new → HasFiltered reader sink e input output next.reader new.sink
+  filtered h n f =
+      let k = pairs-flushed h.pairs f in
+      record { items = h.items; whole = h.whole; reads = collected-none h.collected n; written = k.0; flushed = k.1 }
+
+  -- or the flush failed
+  stops-flush : {error : PropertiesError} (new : Writing W) → HasPassed reader sink e input output it w
+      → GivesNone reader it.state it.reader next.state next.reader → RefusesFlush w error new ⊎ FailsInFlush sink w error new → StopsInFlush reader sink e input output error next.reader new.sink
+  stops-flush new h n (inl k) = absurd (let live = pairs-live h.pairs in let failed = k.failed in cc)
+  stops-flush new h n (inr k) =
+      record { items = h.items; whole = h.whole; reads = collected-none h.collected n; fails = pairs-flush-failed h.pairs k }
+
+  -- what is returned where no item comes any more
+  pub returns : (new : Writing W) (result : Result Unit PropertiesError) → HasPassed reader sink e input output it w
+      → GivesNone reader it.state it.reader next.state next.reader → Flushes sink w result new
+      → Filters reader sink e input output result next.reader new.sink
+  returns new (Ok done) h n f = filtered h n f
+  returns new (Err error) h n f = inr (inr (stops-flush new h n f))

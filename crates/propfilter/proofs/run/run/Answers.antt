@@ -1,0 +1,19 @@
+use Rattle.std.proofs.Common.{refl, inl}
+use Rattle.std.specs.Prelude.{Err}
+use Rattle.java_properties.specs.Encoding.{encoding_of}
+use Rattle.counted_io.specs.Streams.{reader, sink}
+use Rattle.propfilter.proofs.Errors.{filter-shown}
+use Rattle.propfilter.proofs.run.run.Goals as goal
+
+pub returns-in-Err : goal.returns-in-Err
+returns-in-Err g c =
+    let filters = c.in-Err.ensures in
+    let shown = filter-shown (reader g.R.Read g.R.CountedRead) (sink g.W.Write g.W.CountedWrite) _ _ _ _ _ c.in-Err.error filters in
+    inl (record {
+      encoding = encoding_of c.in-Some.encoding;
+      asked = c.in-Some.ensures;
+      result = Err c.in-Err.error;
+      filters = filters;
+      answer = refl;
+      says = (shown.0, shown.1, rw shown.1 at c.say-in-Err.ensures);
+    })

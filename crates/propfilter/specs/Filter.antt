@@ -1,0 +1,121 @@
+-- What `filter` does: it reads the items of an input, and writes each pair as one line.
+use Rattle.std.specs.Prelude.{◌≡◌, ◌⊎◌, ◌+◌, ◌^◌, ◌==◌, ℕ, true, List, [], ◌∷◌, ◌++◌, length, Option, Some, None, Result, Ok, Err}
+use Rattle.std.specs.declared.io.Error.{Error}
+use Rattle.counted_io.specs.Streams.{Reader, HasRead, Sink, HasWritten, HasFaulted, HasFailedFlush, IsProperPrefix, CameFromWrite}
+use Rattle.properties_format.specs.Encoding.{Encoding, output_encoding}
+use Rattle.properties_format.specs.Entries.{Content, comment, pair, Entry, item, malformed, read_fault}
+use Rattle.properties_format.specs.Printing.{printed}
+use Rattle.properties_format.specs.Settings.{default_settings}
+use Rattle.properties_format.specs.Writing.{Call, pair_call, wrote}
+use Rattle.java_properties.specs.Errors.{cause_of_write, IsError, IsBareError, IsStreamError}
+use Rattle.java_properties.specs.PropertiesWriter.{Writing, WritesLine}
+use Rattle.java_properties.specs.ReadLines.{BeginsItems, ReadsWhole, StopsMalformed, StopsFailed, StopsEarly}
+use Rattle.java_properties.specs.declared.error.ErrorKind.TheVariants as kind
+use Rattle.java_properties.specs.declared.error.PropertiesError.{PropertiesError}
+
+-- ---- pairs and their lines
+
+-- the calls that write the pairs among some entries
+abbrev pub pair_calls : List Entry → List Call
+pair_calls [] = []
+pair_calls (item number (comment text) ∷ entries) = pair_calls entries
+pair_calls (item number (pair key value) ∷ entries) = pair_call key value ∷ pair_calls entries
+pair_calls (malformed kind number ∷ entries) = pair_calls entries
+pair_calls (read_fault number ∷ entries) = pair_calls entries
+
+-- how many pairs are among them
+abbrev pub pair_count : List Entry → ℕ
+pair_count entries = length (pair_calls entries)
+
+-- the lines of these pairs, of an input in this encoding: each printed by the settings of a new writer
+abbrev pub pair_lines : Encoding → List Entry → List ℕ
+pair_lines e entries = wrote (output_encoding e) default_settings 0 (pair_calls entries)
+
+-- the line of a pair after these
+abbrev pub next_pair_line : Encoding → List Entry → List ℕ → List ℕ → List ℕ
+next_pair_line e entries key value = printed (output_encoding e) default_settings (pair_count entries == 0) (pair key value)
+
+-- all of them are items: no text was malformed, and no read failed
+abbrev pub AreItems : List Entry → Type 0
+AreItems [] = Unit {0}
+AreItems (item number content ∷ entries) = AreItems entries
+AreItems (malformed kind number ∷ entries) = ⊥
+AreItems (read_fault number ∷ entries) = ⊥
+
+-- ---- what was written
+
+-- A pair is written as one line, and a comment isn't.
+abbrev pub WritesIfPair : {W : Type 0} → Sink W → Writing W → Content → Result Unit PropertiesError → Writing W → Type 0
+WritesIfPair sink old (comment text) result new = (result ≡ Ok tt) × (new ≡ old)
+WritesIfPair sink old (pair key value) result new = WritesLine sink old (pair key value) result new
+
+-- The bytes were taken, and then the sink was flushed, or its flush failed.
+abbrev pub TakesAndFlushes : {W : Type 0} → Sink W → W → List ℕ → W → Type 0
+TakesAndFlushes {W} sink old bytes new =
+    (HasWritten sink old bytes new × (sink.is_flushed new ≡ true))
+    ⊎ ((middle : W) × HasWritten sink old bytes middle × ((source : Error) × HasFailedFlush sink middle source new))
+
+-- The pairs of these items were written, and a proper prefix of the line of this pair. Then a write failed, and the error has the number of that line and what the sink said.
+pub record FailsInPair {W : Type 0} (sink : Sink W) (e : Encoding) (old : W) (items : List Entry) (key value : List ℕ) (error : PropertiesError) (new : W) : Type 0 where
+  pub part : List ℕ
+  pub begins : IsProperPrefix part (next_pair_line e items key value)
+  pub faulted : HasFaulted sink old (pair_lines e items ++ part) new
+  pub cause : Option Error
+  pub given : CameFromWrite sink cause new
+  pub is : IsError kind.Io (Some (pair_count items + 1)) (cause_of_write cause) error
+
+-- The pairs of these items were written, but the flush after them failed, by this error of the sink's own.
+pub record FailsAfterPairs {W : Type 0} (sink : Sink W) (e : Encoding) (old : W) (items : List Entry) (error : PropertiesError) (new : W) : Type 0 where
+  pub middle : W
+  pub written : HasWritten sink old (pair_lines e items) middle
+  pub source : Error
+  pub flushed : HasFailedFlush sink middle source new
+  pub is : IsStreamError None source error
+
+-- The pairs of these items were written, but not this one, for which memory ran out or the numbers for lines.
+pub record RefusesPair {W : Type 0} (sink : Sink W) (e : Encoding) (old : W) (items : List Entry) (error : PropertiesError) (new : W) : Type 0 where
+  pub written : HasWritten sink old (pair_lines e items) new
+  pub is : IsBareError kind.Memory error ⊎ IsBareError kind.TooManyLines error × (pair_count items + 1 ≡ 2 ^ 64)
+
+-- ---- how it ends
+
+-- The input was read to its end, its pairs were written, and the sink was flushed.
+pub record HasFiltered {R W : Type 0} (reader : Reader R) (sink : Sink W) (e : Encoding) (input : R) (output : W) (input' : R) (output' : W) : Type 0 where
+  pub items : List Entry
+  pub whole : AreItems items
+  pub reads : ReadsWhole reader e input items input'
+  pub written : HasWritten sink output (pair_lines e items) output'
+  pub flushed : sink.is_flushed output' ≡ true
+
+-- Reading stopped after these items: at malformed escapes, at a fault, or since memory ran out or the numbers for lines. Their pairs were written, and the sink was flushed, or its flush failed.
+pub record StopsInReading {R W : Type 0} (reader : Reader R) (sink : Sink W) (e : Encoding) (input : R) (output : W) (error : PropertiesError) (input' : R) (output' : W) : Type 0 where
+  pub items : List Entry
+  pub whole : AreItems items
+  pub stops : StopsMalformed reader e input items error input' ⊎ (StopsFailed reader e input items error input' ⊎ StopsEarly reader e input items error input')
+  pub written : TakesAndFlushes sink output (pair_lines e items) output'
+
+-- Writing stopped at a pair, which comes after these items.
+pub record StopsInWriting {R W : Type 0} (reader : Reader R) (sink : Sink W) (e : Encoding) (input : R) (output : W) (error : PropertiesError) (input' : R) (output' : W) : Type 0 where
+  pub items : List Entry
+  pub number : ℕ
+  pub key : List ℕ
+  pub value : List ℕ
+  pub whole : AreItems items
+  pub bytes : List ℕ
+  pub read : HasRead reader input bytes input'
+  pub begins : BeginsItems e bytes (items ++ (item number (pair key value) ∷ [])) (reader.at_end input')
+  pub fails : FailsInPair sink e output items key value error output' ⊎ RefusesPair sink e output items error output'
+
+-- The input was read to its end and its pairs were written, but the flush failed.
+pub record StopsInFlush {R W : Type 0} (reader : Reader R) (sink : Sink W) (e : Encoding) (input : R) (output : W) (error : PropertiesError) (input' : R) (output' : W) : Type 0 where
+  pub items : List Entry
+  pub whole : AreItems items
+  pub reads : ReadsWhole reader e input items input'
+  pub fails : FailsAfterPairs sink e output items error output'
+
+-- What filtering an input to an output does.
+abbrev pub Filters : {R W : Type 0} → Reader R → Sink W → Encoding → R → W → Result Unit PropertiesError → R → W → Type 0
+Filters reader sink e input output (Ok done) input' output' = HasFiltered reader sink e input output input' output'
+Filters reader sink e input output (Err error) input' output' =
+    StopsInReading reader sink e input output error input' output'
+    ⊎ (StopsInWriting reader sink e input output error input' output' ⊎ StopsInFlush reader sink e input output error input' output')

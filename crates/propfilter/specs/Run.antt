@@ -1,0 +1,80 @@
+-- What the program does, over any streams.
+use Rattle.std.specs.Prelude.{◌≡◌, ◌⊎◌, ℕ, List, [], ◌∷◌, ◌++◌, Option, Some, None, Result, Ok, Err, codes}
+use Rattle.std.specs.declared.io.Error.{Error}
+use Rattle.counted_io.specs.Streams.{Reader, Sink, HasFlushed, HasFailedFlush, Sends}
+use Rattle.properties_format.specs.Encoding.{Encoding, windows_1252, utf_8, utf_16le, utf_16be}
+use Rattle.properties_format.specs.Text.{line_feed}
+use Rattle.java_properties.specs.DisplayTexts.{error_display}
+use Rattle.java_properties.specs.declared.error.PropertiesError.{PropertiesError}
+use Rattle.propfilter.specs.Filter.{Filters}
+
+-- what it prints where its arguments are none of its own
+abbrev pub usage : List ℕ
+usage = codes "usage: propfilter [windows-1252|utf-8|utf-16le|utf-16be [ascii]]"
+
+-- The text was sent as a line, or a proper prefix of it where the sink failed, and then the sink was flushed, or its flush failed.
+pub record HasSaid {W : Type 0} (sink : Sink W) (old : W) (text : List ℕ) (new : W) : Type 0 where
+  pub middle : W
+  pub result : Result Unit (Option Error)
+  pub sent : Sends sink old (text ++ (line_feed ∷ [])) result middle
+  pub flushed : HasFlushed sink middle new ⊎ ((source : Error) × HasFailedFlush sink middle source new)
+
+-- A text is said as a line. Where memory runs out for it, nothing is.
+abbrev pub Says : {W : Type 0} → Sink W → W → List ℕ → W → Type 0
+Says sink old text new = HasSaid sink old text new ⊎ (new ≡ old)
+
+-- ---- arguments
+
+abbrev pub name_of : Encoding → List ℕ
+name_of windows_1252 = codes "windows-1252"
+name_of utf_8 = codes "utf-8"
+name_of utf_16le = codes "utf-16le"
+name_of utf_16be = codes "utf-16be"
+
+-- the arguments ask for this encoding: none for windows-1252, and one by its name
+abbrev pub Asks : List (List ℕ) → Encoding → Type 0
+Asks [] e = e ≡ windows_1252
+Asks (name ∷ []) e = name ≡ name_of e
+Asks (name ∷ (other ∷ others)) e = ⊥
+
+-- the encoding that they ask for, where they ask for one
+abbrev pub IsAsked : List (List ℕ) → Option Encoding → Type 0
+IsAsked arguments None = (e : Encoding) → Asks arguments e → ⊥
+IsAsked arguments (Some e) = Asks arguments e
+
+-- ---- the program
+
+-- the status of what filtering returned
+abbrev pub status_of : Result Unit PropertiesError → ℕ
+status_of (Ok done) = 0
+status_of (Err error) = 1
+
+-- What is said of it: nothing, or the text of the error.
+abbrev pub SaysError : {W : Type 0} → Sink W → W → Result Unit PropertiesError → W → Type 0
+SaysError sink old (Ok done) new = new ≡ old
+SaysError sink old (Err error) new = (text : List ℕ) × (error_display error ≡ Some text) × Says sink old text new
+
+-- The input was filtered to the output in the encoding that was asked for, and an error was said on `errors`.
+pub record HasRun {R W E : Type 0} (reader : Reader R) (sink : Sink W) (error_sink : Sink E) (arguments : List (List ℕ)) (input : R) (output : W) (errors : E)
+    (status : ℕ) (input' : R) (output' : W) (errors' : E) : Type 0 where
+  pub encoding : Encoding
+  pub asked : Asks arguments encoding
+  pub result : Result Unit PropertiesError
+  pub filters : Filters reader sink encoding input output result input' output'
+  pub answer : status ≡ status_of result
+  pub says : SaysError error_sink errors result errors'
+
+-- The arguments ask for no encoding: nothing was read or written, and the usage was said on `errors`.
+pub record RefusesArguments {R W E : Type 0} (error_sink : Sink E) (arguments : List (List ℕ)) (input : R) (output : W) (errors : E)
+    (status : ℕ) (input' : R) (output' : W) (errors' : E) : Type 0 where
+  pub unasked : (e : Encoding) → Asks arguments e → ⊥
+  pub answer : status ≡ 2
+  pub unread : input' ≡ input
+  pub unwritten : output' ≡ output
+  pub says : Says error_sink errors usage errors'
+
+-- What the program does with these arguments.
+abbrev pub Runs : {R W E : Type 0} → Reader R → Sink W → Sink E → List (List ℕ) → R → W → E → ℕ → R → W → E → Type 0
+Runs reader sink error_sink arguments input output errors status input' output' errors' =
+    HasRun reader sink error_sink arguments input output errors status input' output' errors'
+    ⊎ RefusesArguments error_sink arguments input output errors status input' output' errors'
