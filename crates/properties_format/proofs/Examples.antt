@@ -1,5 +1,6 @@
 -- Worked rows of each page, computed.
 pub mod Cut
+pub mod Edited
 pub mod Encodings
 pub mod Escapes
 pub mod Groups

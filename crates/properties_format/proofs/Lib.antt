@@ -12,3 +12,6 @@ pub mod Printing
 pub mod Writing
 pub mod ReadBack
 pub mod Maps
+pub mod Body
+pub mod Edited
+pub mod Changed

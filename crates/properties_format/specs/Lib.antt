@@ -18,4 +18,7 @@ pub mod Settings
 pub mod Printing
 pub mod Writing
 pub mod Maps
+pub mod Body
+pub mod Edited
+pub mod Changed
 pub mod Reading

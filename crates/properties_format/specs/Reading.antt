@@ -13,3 +13,5 @@ pub mod ItemsToCome
 pub mod ReaderSteps
 pub mod Settings
 pub mod Maps
+pub mod Body
+pub mod Edited

@@ -32,7 +32,8 @@ begins-cut [] x c y h = refl
 begins-cut (m ∷ ms) [] c y h = and_left (m == c) (begins_with ms y) h.0
 begins-cut (m ∷ ms) (b ∷ x) c y h = ap (λ v. (m == b) && v) (begins-cut ms x c y h.1)
 
-byte_order_mark-cut : (x : List ℕ) (c : ℕ) (y : List ℕ) → c < 0x80 → begins_like_bom (x ++ (c ∷ y)) ≡ begins_like_bom x
+-- an ASCII byte, and what comes after it, does not matter to the byte order mark
+pub byte_order_mark-cut : (x : List ℕ) (c : ℕ) (y : List ℕ) → c < 0x80 → begins_like_bom (x ++ (c ∷ y)) ≡ begins_like_bom x
 byte_order_mark-cut x c y h =
     let ef = no-ascii 0xef c h (lit< tt) in
     let bb = no-ascii 0xbb c h (lit< tt) in
@@ -84,7 +85,9 @@ plain-unmarked e key sep rest g h =
     let (c, y, same, k) = separator-front sep g in
     ap (λ v. begins_like_bom (encoded_text e (spelt_text e in_key_or_value key ++ (v ++ rest)))) same ∙ text-cut e (spelt_text e in_key_or_value key) c (y ++ rest) k ∙ h
 
-pair-unmarked : (e : Encoding) (key sep rest : List ℕ) → IsGoodSeparator sep → IsUnmarked e (spelt_key e true key ++ (sep ++ rest))
+-- a pair on the first line, with what comes after its separator
+pub pair-unmarked : (e : Encoding) (key sep rest : List ℕ) → IsGoodSeparator sep
+    → begins_like_bom (encoded_text e (spelt_key e true key ++ (sep ++ rest))) ≡ false
 pair-unmarked e key sep rest g = elim (cases_Bool (is_bom_like e key)) [
   | inl h ↦ ap (λ v. begins_like_bom (encoded_text e (v ++ (sep ++ rest)))) (cond-true (is_bom_like e key) (with_first_escaped e key) (spelt_text e in_key_or_value key) h) ∙ with_first_escaped-unmarked e key (sep ++ rest) h
   | inr h ↦ ap (λ v. begins_like_bom (encoded_text e (v ++ (sep ++ rest)))) (cond-false (is_bom_like e key) (with_first_escaped e key) (spelt_text e in_key_or_value key) h) ∙ plain-unmarked e key sep rest g h

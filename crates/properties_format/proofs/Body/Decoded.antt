@@ -1,0 +1,38 @@
+-- In an encoding that is edited a CR or an LF is one byte, and the lines of undecoded bytes are those of a text of these numbers.
+use Rattle.std.proofs.Common.{◌≡◌, ℕ, true, List, [], refl, ap, sym, ◌∙◌, subst}
+use Rattle.properties_format.specs.Pieces.{characters}
+use Rattle.properties_format.specs.Encoding.{Encoding, windows_1252, utf_8, utf_16le, utf_16be}
+use Rattle.properties_format.specs.Lines.{Lines, HoldsNoLineEnd, IsLines}
+use Rattle.properties_format.specs.Reading.Lines.{lines_of}
+use Rattle.properties_format.specs.Cut.{HoldsNoLineEndUnit, IsCut}
+use Rattle.properties_format.specs.Reading.Cut.{cut_of, decoded_line}
+use Rattle.properties_format.specs.Edited.{is_editable}
+use Rattle.properties_format.proofs.Encodings.Pieces.{pieces_of-nil}
+use Rattle.properties_format.proofs.Lines.Meets.{lines_of-meets}
+use Rattle.properties_format.proofs.Cut.Only.{cut_of-only}
+use Rattle.properties_format.proofs.Cut.Byline.{no_end-undecoded}
+
+-- no bytes are no text
+pub decoded-nil : (e : Encoding) → decoded_line e [] ≡ []
+decoded-nil e = ap characters (pieces_of-nil e)
+
+plain-unit : (e : Encoding) (d : List ℕ) → is_editable e ≡ true → HoldsNoLineEndUnit e d → HoldsNoLineEnd d
+plain-unit windows_1252 d ok h = h
+plain-unit utf_8 d ok h = h
+plain-unit utf_16le d ok h = absurd (cc)
+plain-unit utf_16be d ok h = absurd (cc)
+
+-- bytes of a text without line ends hold none
+pub plain-bytes : (e : Encoding) (d : List ℕ) → is_editable e ≡ true → HoldsNoLineEnd (decoded_line e d) → HoldsNoLineEnd d
+plain-bytes e d ok h = plain-unit e d ok (no_end-undecoded e d h)
+
+-- the lines of undecoded bytes
+pub cut_of-lines : (e : Encoding) (d : List ℕ) → is_editable e ≡ true → cut_of e d ≡ lines_of d
+cut_of-lines windows_1252 d ok = refl
+cut_of-lines utf_8 d ok = refl
+cut_of-lines utf_16le d ok = absurd (cc)
+cut_of-lines utf_16be d ok = absurd (cc)
+
+-- Lines of undecoded bytes are lines of a text of these numbers.
+pub IsCut-lines : (e : Encoding) (d : List ℕ) (lines : Lines) → is_editable e ≡ true → IsCut e d lines → IsLines d lines
+IsCut-lines e d lines ok h = subst (IsLines d) (sym (cut_of-only e d lines h ∙ cut_of-lines e d ok)) (lines_of-meets d)

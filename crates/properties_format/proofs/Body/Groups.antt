@@ -1,0 +1,334 @@
+-- The groups of a body: what is computed are such groups, and the only ones; all but the last end in a line ending, and are groups by themselves.
+use Rattle.std.proofs.Common.{◌≡◌, ◌≢◌, ◌<◌, ◌⊎◌, ℕ, true, false, List, [], ◌∷◌, ◌++◌, Some, None, refl, ap, ap₂, sym, ◌∙◌, inl, inr, append_assoc}
+use Rattle.std.proofs.Common.{append-nil, subst, lit<}
+use Rattle.std.proofs.lemmas.Bool.{cases_Bool}
+use Rattle.properties_format.specs.Text.{line_feed, carriage_return, LineEnding, lf, cr, crlf, line_ending_text}
+use Rattle.properties_format.specs.Encoding.{Encoding}
+use Rattle.properties_format.specs.Reading.Encoding.{pieces_of}
+use Rattle.properties_format.specs.Pieces.{characters}
+use Rattle.properties_format.specs.Lines.{Ended, Lines, end, Line, put_together, BeginsWithNoLoneLf, AreLines}
+use Rattle.properties_format.specs.Reading.Lines.{lines_of}
+use Rattle.properties_format.specs.Cut.{IsDecodedLine}
+use Rattle.properties_format.specs.Groups.{IsWhole, AreWhole, IsUnfinished, last_group}
+use Rattle.properties_format.specs.Reading.Groups.{closes, groups_after, groups_of}
+use Rattle.properties_format.specs.Body.{HeldLine, AreHeld, as_lines, as_groups, held_in, AreGroupsOf, ending_bytes, group_bytes, groups_bytes, last_ending}
+use Rattle.properties_format.specs.Edited.{is_editable}
+use Rattle.properties_format.specs.Reading.Body.{held_of, held_lines_of, held_groups_after, held_groups_of}
+use Rattle.properties_format.proofs.Encodings.Pieces.{pieces_of-meets, pieces_of-only}
+use Rattle.properties_format.proofs.Lines.Only.{lines_of-together}
+use Rattle.properties_format.proofs.Groups.Steps.{groups_after-close, groups_after-leave}
+use Rattle.properties_format.proofs.Groups.Meets.{groups_of-meets}
+use Rattle.properties_format.proofs.Groups.Only.{groups_of-only}
+use Rattle.properties_format.specs.Reading.Cut.{cut_of, decoded_line}
+use Rattle.properties_format.proofs.Cut.Meets.{cut_of-meets}
+use Rattle.properties_format.proofs.Cut.Only.{cut_of-only}
+use Rattle.properties_format.proofs.Body.Decoded.{IsCut-lines}
+use Rattle.properties_format.proofs.Edited.Told.{ended_lines, line_texts_in, line_texts, IsFront}
+
+-- ---- the lines that a body holds
+
+decoded-is : (e : Encoding) (d : List ℕ) → IsDecodedLine e d (decoded_line e d)
+decoded-is e d = (pieces_of e d, pieces_of-meets e d, refl)
+
+decoded-only : (e : Encoding) (d x : List ℕ) → IsDecodedLine e d x → x ≡ decoded_line e d
+decoded-only e d x (ps, h, s) = s ∙ ap characters (pieces_of-only e d ps h)
+
+held_of-meets : (e : Encoding) (ls : List Ended) (last : List ℕ) → AreHeld e ls last (held_of e ls last)
+held_of-meets e [] last = (decoded_line e last, decoded-is e last, refl)
+held_of-meets e (l ∷ ls) last = (decoded_line e l.text, held_of e ls last, decoded-is e l.text, refl, held_of-meets e ls last)
+
+held_of-only : (e : Encoding) (ls : List Ended) (last : List ℕ) (held : List HeldLine) → AreHeld e ls last held → held ≡ held_of e ls last
+held_of-only e [] last held (x, h, s) = s ∙ ap (λ v. record { bytes = last; text = v; ending = None } ∷ []) (decoded-only e last x h)
+held_of-only e (l ∷ ls) last held (x, rest, h, s, k) =
+    s ∙ ap₂ (λ v w. record { bytes = l.text; text = v; ending = Some l.by } ∷ w) (decoded-only e l.text x h) (held_of-only e ls last rest k)
+
+-- ---- their groups
+
+-- the texts of lines one after the other
+pub as_lines-append : (a b : List HeldLine) → as_lines (a ++ b) ≡ as_lines a ++ as_lines b
+as_lines-append [] b = refl
+as_lines-append (h ∷ a) b = ap (λ v. record { number = 0; text = h.text } ∷ v) (as_lines-append a b)
+
+-- a line that closes its group
+pub groups-close : (p : List HeldLine) (h : HeldLine) (hs : List HeldLine) → closes (as_lines p) (record { number = 0; text = h.text }) ≡ true
+    → held_groups_after p (h ∷ hs) ≡ (p ++ h ∷ []) ∷ held_groups_after [] hs
+groups-close p h hs k = rw (k, held_groups_after) refl
+
+-- a line that leaves its group open
+pub groups-leave : (p : List HeldLine) (h : HeldLine) (hs : List HeldLine) → closes (as_lines p) (record { number = 0; text = h.text }) ≡ false
+    → held_groups_after p (h ∷ hs) ≡ held_groups_after (p ++ h ∷ []) hs
+groups-leave p h hs k = rw (k, held_groups_after) refl
+
+-- their texts are the groups of the texts
+groups-texts : (p hs : List HeldLine) → as_groups (held_groups_after p hs) ≡ groups_after (as_lines p) (as_lines hs) end
+groups-texts [] [] = refl
+groups-texts (h ∷ p) [] = refl
+groups-texts p (h ∷ hs) = elim (cases_Bool (closes (as_lines p) (record { number = 0; text = h.text }))) [
+  | inl k ↦
+      ap as_groups (groups-close p h hs k)
+      ∙ ap₂ (λ v w. v ∷ w) (as_lines-append p (h ∷ [])) (groups-texts [] hs)
+      ∙ sym (groups_after-close (as_lines p) (record { number = 0; text = h.text }) (as_lines hs) end k)
+  | inr k ↦
+      ap as_groups (groups-leave p h hs k)
+      ∙ groups-texts (p ++ h ∷ []) hs
+      ∙ ap (λ v. groups_after v (as_lines hs) end) (as_lines-append p (h ∷ []))
+      ∙ sym (groups_after-leave (as_lines p) (record { number = 0; text = h.text }) (as_lines hs) end k)
+]
+
+-- and they have all the lines
+groups-lines : (p hs : List HeldLine) → held_in (held_groups_after p hs) ≡ p ++ hs
+groups-lines [] [] = refl
+groups-lines (h ∷ p) [] = refl
+groups-lines p (h ∷ hs) = elim (cases_Bool (closes (as_lines p) (record { number = 0; text = h.text }))) [
+  | inl k ↦ ap held_in (groups-close p h hs k) ∙ ap (λ v. (p ++ h ∷ []) ++ v) (groups-lines [] hs) ∙ append_assoc p (h ∷ []) hs
+  | inr k ↦ ap held_in (groups-leave p h hs k) ∙ groups-lines (p ++ h ∷ []) hs ∙ append_assoc p (h ∷ []) hs
+]
+
+-- what is computed are the groups of the body
+pub held_groups_of-meets : (e : Encoding) (body : List ℕ) → AreGroupsOf e body (held_groups_of e body)
+unfolding held_groups_of
+held_groups_of-meets e body =
+    let hs = held_lines_of e body in
+    let same = groups-lines [] hs in
+    record {
+      cut = cut_of e body;
+      is_cut = cut_of-meets e body;
+      are_held = subst (AreHeld e (cut_of e body).ended (cut_of e body).last) (sym same) (held_of-meets e (cut_of e body).ended (cut_of e body).last);
+      grouped = rw (same, groups-texts [] hs) (groups_of-meets (as_lines hs) end);
+    }
+
+-- the same texts cut the same lines off
+split-same : (g h x y : List HeldLine) → as_lines g ≡ as_lines h → g ++ x ≡ h ++ y → (g ≡ h) × (x ≡ y)
+split-same [] [] x y t s = (refl, s)
+split-same [] (b ∷ h) x y t s = absurd (cc)
+split-same (a ∷ g) [] x y t s = absurd (cc)
+split-same (a ∷ g) (b ∷ h) x y t s =
+    let q : as_lines g ≡ as_lines h = cc in
+    let r : g ++ x ≡ h ++ y = cc in
+    let p : a ≡ b = cc in
+    let m = split-same g h x y q r in
+    (ap₂ (λ v w. v ∷ w) p m.0, m.1)
+
+groups-same : (gs hs : List (List HeldLine)) → as_groups gs ≡ as_groups hs → held_in gs ≡ held_in hs → gs ≡ hs
+groups-same [] [] t s = refl
+groups-same [] (h ∷ hs) t s = absurd (cc)
+groups-same (g ∷ gs) [] t s = absurd (cc)
+groups-same (g ∷ gs) (h ∷ hs) t s =
+    let q : as_lines g ≡ as_lines h = cc in
+    let r : as_groups gs ≡ as_groups hs = cc in
+    let m = split-same g h (held_in gs) (held_in hs) q s in
+    ap₂ (λ v w. v ∷ w) m.0 (groups-same gs hs r m.1)
+
+-- groups of the body have the lines of its bytes
+held-lines : (e : Encoding) (body : List ℕ) (gs : List (List HeldLine)) → AreGroupsOf e body gs → held_in gs ≡ held_lines_of e body
+held-lines e body gs h =
+    held_of-only e h.cut.ended h.cut.last (held_in gs) h.are_held
+    ∙ ap (λ v. let w : Lines = v in held_of e w.ended w.last) (cut_of-only e body h.cut h.is_cut)
+
+-- groups of the body are what is computed
+pub held_groups_of-only : (e : Encoding) (body : List ℕ) (gs : List (List HeldLine)) → AreGroupsOf e body gs → gs ≡ held_groups_of e body
+unfolding held_groups_of
+held_groups_of-only e body gs h =
+    let same = held-lines e body gs h in
+    groups-same gs (held_groups_of e body)
+    (groups_of-only (as_lines (held_in gs)) end (as_groups gs) h.grouped ∙ ap (λ v. groups_of (as_lines v) end) same ∙ sym (groups-texts [] (held_lines_of e body)))
+    (same ∙ sym (groups-lines [] (held_lines_of e body)))
+
+-- ---- all groups but the last are whole
+
+-- a group that begins with no comment line and ends open
+abbrev pub EndsOpen : List Line → Type 0
+EndsOpen [] = ⊥
+EndsOpen (l ∷ ls) = IsUnfinished (l ∷ ls)
+
+abbrev pub IsLastFit : List HeldLine → Type 0
+IsLastFit g = IsWhole (as_lines g) ⊎ EndsOpen (as_lines g)
+
+abbrev AreFit : List (List HeldLine) → Type 0
+AreFit [] = Unit {0}
+AreFit (g ∷ []) = IsLastFit g
+AreFit (g ∷ h ∷ gs) = IsWhole (as_lines g) × AreFit (h ∷ gs)
+
+fit : (gs : List (List HeldLine)) (whole : List (List Line)) (u : List Line) → as_groups gs ≡ whole ++ last_group u end → AreWhole whole → IsUnfinished u
+    → AreFit gs
+fit [] whole u t h k = tt
+fit (g ∷ []) [] [] t h k = absurd (cc)
+fit (g ∷ []) [] (l ∷ ls) t h k = let q : as_lines g ≡ l ∷ ls = cc in inr (rw q k)
+fit (g ∷ []) (w ∷ whole) u t h k = let q : as_lines g ≡ w = cc in inl (rw q h.0)
+fit (g ∷ i ∷ gs) [] [] t h k = absurd (cc)
+fit (g ∷ i ∷ gs) [] (l ∷ ls) t h k = absurd (cc)
+fit (g ∷ i ∷ gs) (w ∷ whole) u t h k =
+    let q : as_lines g ≡ w = cc in
+    let r : as_groups (i ∷ gs) ≡ whole ++ last_group u end = cc in
+    (rw q h.0, fit (i ∷ gs) whole u r h.1 k)
+
+-- ---- the bytes of a group
+
+-- lines with their endings, as the body holds them
+abbrev held_ended : Encoding → List Ended → List HeldLine
+held_ended e [] = []
+held_ended e (l ∷ ls) = record { bytes = l.text; text = decoded_line e l.text; ending = Some l.by } ∷ held_ended e ls
+
+none-right : (x y : List HeldLine) → x ++ y ≡ [] → y ≡ []
+none-right [] y h = h
+none-right (a ∷ x) y h = absurd (cc)
+
+-- lines cut off before the last
+record IsCutOff (e : Encoding) (g rest : List HeldLine) (ls : List Ended) (last : List ℕ) : Type 0 where
+  front : List Ended
+  back : List Ended
+  all : ls ≡ front ++ back
+  group : g ≡ held_ended e front
+  others : rest ≡ held_of e back last
+
+cut-off : (e : Encoding) (g rest : List HeldLine) (ls : List Ended) (last : List ℕ) → rest ≢ [] → g ++ rest ≡ held_of e ls last → IsCutOff e g rest ls last
+cut-off e [] rest ls last some h = record { front = []; back = ls; all = refl; group = refl; others = h }
+cut-off e (a ∷ g) rest [] last some h = let q : g ++ rest ≡ [] = cc in absurd (some (none-right g rest q))
+cut-off e (a ∷ g) rest (l ∷ ls) last some h =
+    let q : g ++ rest ≡ held_of e ls last = cc in
+    let p : a ≡ record { bytes = l.text; text = decoded_line e l.text; ending = Some l.by } = cc in
+    let m = cut-off e g rest ls last some q in
+    record { front = l ∷ m.front; back = m.back; all = ap (λ v. l ∷ v) {y = m.front ++ m.back} m.all; group = ap₂ (λ v w. v ∷ w) p m.group; others = m.others }
+
+lines-front : (ls ms : List Ended) (last : List ℕ) → AreLines (ls ++ ms) last → AreLines ls []
+lines-front [] ms last h = tt
+lines-front (l ∷ ls) ms last h = (h.0, (λ k. lone ls (h.1 k)), lines-front ls ms last h.2)
+  where
+    lone : (ls : List Ended) → BeginsWithNoLoneLf (ls ++ ms) → BeginsWithNoLoneLf ls
+    lone [] h = tt
+    lone (l ∷ ls) h = h
+
+lines-back : (ls ms : List Ended) (last : List ℕ) → AreLines (ls ++ ms) last → AreLines ms last
+lines-back [] ms last h = h
+lines-back (l ∷ ls) ms last h = lines-back ls ms last h.2
+
+ended-bytes : (e : Encoding) (ls : List Ended) → group_bytes (held_ended e ls) ≡ put_together ls []
+ended-bytes e [] = refl
+ended-bytes e (l ∷ ls) = ap (λ v. l.text ++ (line_ending_text l.by ++ v)) (ended-bytes e ls)
+
+ended-texts : (e : Encoding) (ls : List Ended) → ended_lines e ls ≡ as_lines (held_ended e ls)
+ended-texts e [] = refl
+ended-texts e (l ∷ ls) = ap (λ v. record { number = 0; text = decoded_line e l.text } ∷ v) (ended-texts e ls)
+
+held-bytes : (e : Encoding) (ls : List Ended) (last : List ℕ) → group_bytes (held_of e ls last) ≡ put_together ls last
+held-bytes e [] last = append-nil last
+held-bytes e (l ∷ ls) last = ap (λ v. l.text ++ (line_ending_text l.by ++ v)) (held-bytes e ls last)
+
+held-texts : (e : Encoding) (ls : List Ended) (last : List ℕ) → line_texts_in e (record { ended = ls; last = last }) ≡ as_lines (held_of e ls last)
+held-texts e [] last = refl
+held-texts e (l ∷ ls) last = ap (λ v. record { number = 0; text = decoded_line e l.text } ∷ v) (held-texts e ls last)
+
+held-last : (e : Encoding) (ls : List Ended) (last : List ℕ) → last_ending (held_of e ls last) ≡ None
+held-last e [] last = refl
+held-last e (l ∷ []) last = refl
+held-last e (l ∷ m ∷ ls) last = held-last e (m ∷ ls) last
+
+ended-last : (e : Encoding) (l : Ended) (ls : List Ended) → (by : LineEnding) × (last_ending (held_ended e (l ∷ ls)) ≡ Some by)
+ended-last e l [] = (l.by, refl)
+ended-last e l (m ∷ ls) = ended-last e m ls
+
+-- an ASCII byte is among these
+abbrev pub HasAscii : List ℕ → Type 0
+HasAscii x = (u : List ℕ) × (c : ℕ) × (v : List ℕ) × (x ≡ u ++ c ∷ v) × (c < 0x80)
+
+line-ascii : (text : List ℕ) (by : LineEnding) (y : List ℕ) → HasAscii (text ++ (line_ending_text by ++ y))
+line-ascii text lf y = (text, line_feed, y, refl, lit< tt)
+line-ascii text cr y = (text, carriage_return, y, refl, lit< tt)
+line-ascii text crlf y = (text, carriage_return, line_feed ∷ y, refl, lit< tt)
+
+-- ---- the groups one by one
+
+-- A group with others after it: its last line has an ending, and its bytes are one whole group.
+pub record IsHeldFront (e : Encoding) (g : List HeldLine) : Type 0 where
+  pub front : IsFront e (group_bytes g) (as_lines g)
+  pub by : LineEnding
+  pub ending : last_ending g ≡ Some by
+  pub ascii : HasAscii (group_bytes g)
+
+-- The last group: its last line has no ending, and it is whole or ends open.
+pub record IsHeldLast (e : Encoding) (g : List HeldLine) : Type 0 where
+  pub texts : line_texts e (group_bytes g) ≡ as_lines g
+  pub fits : IsLastFit g
+  pub ending : last_ending g ≡ None
+
+-- There is a group at least, and each is such.
+abbrev pub AreHeldGroups : Encoding → List (List HeldLine) → Type 0
+AreHeldGroups e [] = ⊥
+AreHeldGroups e (g ∷ []) = IsHeldLast e g
+AreHeldGroups e (g ∷ h ∷ gs) = IsHeldFront e g × AreHeldGroups e (h ∷ gs)
+
+front-of : (e : Encoding) (ls : List Ended) → AreLines ls [] → IsWhole (as_lines (held_ended e ls)) → IsHeldFront e (held_ended e ls)
+front-of e [] h k = absurd k
+front-of e (l ∷ ls) h k =
+    let same : lines_of (group_bytes (held_ended e (l ∷ ls))) ≡ record { ended = l ∷ ls; last = [] } = ap lines_of (ended-bytes e (l ∷ ls))
+    ∙ lines_of-together (l ∷ ls) [] h in
+    let a = ended-last e l ls in
+    record {
+      front = record { ended = ap (λ v. let w : Lines = v in w.last) same; texts = ap (λ v. let w : Lines = v in ended_lines e w.ended) same ∙ ended-texts e (l ∷ ls); whole = k };
+      by = a.0;
+      ending = a.1;
+      ascii = line-ascii l.text l.by (group_bytes (held_ended e ls));
+    }
+
+last-of : (e : Encoding) (ls : List Ended) (last : List ℕ) → AreLines ls last → IsLastFit (held_of e ls last) → IsHeldLast e (held_of e ls last)
+unfolding line_texts
+last-of e ls last h k =
+    record {
+      texts = ap (λ v. line_texts_in e (lines_of v)) (held-bytes e ls last) ∙ ap (line_texts_in e) (lines_of-together ls last h) ∙ held-texts e ls last;
+      fits = k;
+      ending = held-last e ls last;
+    }
+
+fit-some : (h : List HeldLine) (gs : List (List HeldLine)) → AreFit (h ∷ gs) → held_in (h ∷ gs) ≢ []
+fit-some [] [] (inl k) q = k
+fit-some [] [] (inr k) q = k
+fit-some [] (i ∷ gs) k q = k.0
+fit-some (a ∷ h) gs k q = cc
+
+groups-fit : (e : Encoding) (gs : List (List HeldLine)) (ls : List Ended) (last : List ℕ) → AreLines ls last → held_in gs ≡ held_of e ls last → AreFit gs
+    → AreHeldGroups e gs
+groups-fit e [] [] last h s k = absurd (cc)
+groups-fit e [] (l ∷ ls) last h s k = absurd (cc)
+groups-fit e (g ∷ []) ls last h s k =
+    let q : g ≡ held_of e ls last = sym (append-nil g) ∙ s in
+    subst (IsHeldLast e) (sym q) (last-of e ls last h (rw q at k))
+groups-fit e (g ∷ i ∷ gs) ls last h s k =
+    let c = cut-off e g (held_in (i ∷ gs)) ls last (fit-some i gs k.1) s in
+    let m : AreLines (c.front ++ c.back) last = rw c.all at h in (
+      subst (IsHeldFront e) (sym c.group) (front-of e c.front (lines-front c.front c.back last m) (rw c.group at k.0)),
+      groups-fit e (i ∷ gs) c.back last (lines-back c.front c.back last m) c.others k.1,
+    )
+
+-- The groups of a body are such.
+pub held-groups : (e : Encoding) (body : List ℕ) (gs : List (List HeldLine)) → is_editable e ≡ true → AreGroupsOf e body gs → AreHeldGroups e gs
+held-groups e body gs ok h =
+    groups-fit e gs h.cut.ended h.cut.last (IsCut-lines e body h.cut ok h.is_cut).are_lines (held_of-only e h.cut.ended h.cut.last (held_in gs) h.are_held)
+    (fit gs h.grouped.whole h.grouped.unfinished h.grouped.are_groups h.grouped.are_whole h.grouped.is_unfinished)
+
+-- ---- and their bytes together
+
+-- the bytes of lines one after the other
+pub group_bytes-append : (a b : List HeldLine) → group_bytes (a ++ b) ≡ group_bytes a ++ group_bytes b
+group_bytes-append [] b = refl
+group_bytes-append (h ∷ a) b =
+    ap (λ v. h.bytes ++ (ending_bytes h.ending ++ v)) (group_bytes-append a b)
+    ∙ ap (λ v. h.bytes ++ v) (sym (append_assoc (ending_bytes h.ending) (group_bytes a) (group_bytes b)))
+    ∙ sym (append_assoc h.bytes (ending_bytes h.ending ++ group_bytes a) (group_bytes b))
+
+-- the bytes of groups one after the other
+pub groups_bytes-append : (gs hs : List (List HeldLine)) → groups_bytes (gs ++ hs) ≡ groups_bytes gs ++ groups_bytes hs
+groups_bytes-append [] hs = refl
+groups_bytes-append (g ∷ gs) hs =
+    ap (λ v. group_bytes g ++ v) (groups_bytes-append gs hs) ∙ sym (append_assoc (group_bytes g) (groups_bytes gs) (groups_bytes hs))
+
+groups-bytes : (gs : List (List HeldLine)) → groups_bytes gs ≡ group_bytes (held_in gs)
+groups-bytes [] = refl
+groups-bytes (g ∷ gs) = ap (λ v. group_bytes g ++ v) (groups-bytes gs) ∙ sym (group_bytes-append g (held_in gs))
+
+-- The bytes of the groups of a body are the body.
+pub held-body : (e : Encoding) (body : List ℕ) (gs : List (List HeldLine)) → is_editable e ≡ true → AreGroupsOf e body gs → groups_bytes gs ≡ body
+held-body e body gs ok h =
+    groups-bytes gs
+    ∙ ap group_bytes (held_of-only e h.cut.ended h.cut.last (held_in gs) h.are_held)
+    ∙ held-bytes e h.cut.ended h.cut.last
+    ∙ sym (IsCut-lines e body h.cut ok h.is_cut).text

@@ -1,0 +1,98 @@
+-- The items of a source are what the groups of its body say, each under the number of its first line.
+use Rattle.std.proofs.Common.{◌≡◌, ℕ, ◌+◌, List, [], ◌∷◌, ◌++◌, length, refl, ap, ap₂, sym, ◌∙◌, inl, inr, arith}
+use Rattle.std.proofs.lemmas.Bool.{cases_Bool}
+use Rattle.properties_format.specs.Encoding.{Encoding, byte_order_mark}
+use Rattle.properties_format.specs.Lines.{Ended, end, Line, numbered, line_ends}
+use Rattle.properties_format.specs.Reading.Cut.{cut_of, decoded_line, decoded_ended, decoded_lines}
+use Rattle.properties_format.specs.Groups.{joined_after, joined, first_number}
+use Rattle.properties_format.specs.Reading.Groups.{closes, groups_after, groups_of}
+use Rattle.properties_format.specs.Entries.{Entry}
+use Rattle.properties_format.specs.Reading.Items.{outcome_of, followed, entries_of, items_of_lines, items_of}
+use Rattle.properties_format.specs.Body.{HeldLine, as_lines}
+use Rattle.properties_format.specs.Reading.Body.{held_of, held_lines_of, held_groups_after, held_groups_of, entries_in}
+use Rattle.properties_format.proofs.Lines.Plain.{one-more}
+use Rattle.properties_format.proofs.Groups.Steps.{groups_after-close, groups_after-leave}
+use Rattle.properties_format.proofs.Cut.Byline.{decoded_lines-cut}
+use Rattle.properties_format.proofs.Body.Groups.{groups-close, groups-leave}
+
+-- the lines of a body with their numbers, from this one on
+abbrev numbered_from : ℕ → List HeldLine → List Line
+numbered_from n [] = []
+numbered_from n (h ∷ hs) = record { number = n; text = h.text } ∷ numbered_from (n + 1) hs
+
+numbered-held : (e : Encoding) (n : ℕ) (ls : List Ended) (last : List ℕ) → numbered n (decoded_ended e ls) (decoded_line e last) end ≡ numbered_from (n + 1) (held_of e ls last)
+numbered-held e n [] last = refl
+numbered-held e n (l ∷ ls) last = ap (λ v. record { number = n + 1; text = decoded_line e l.text } ∷ v) (numbered-held e (n + 1) ls last)
+
+numbered-push : (n : ℕ) (p : List HeldLine) (h : HeldLine) → numbered_from n (p ++ h ∷ []) ≡ numbered_from n p ++ record { number = n + length p; text = h.text } ∷ []
+numbered-push n [] h = ap (λ m. record { number = m; text = h.text } ∷ []) (zero-right n)
+  where
+    zero-right : (n : ℕ) → n ≡ n + 0
+    zero-right n = omega arith
+numbered-push n (g ∷ p) h =
+    ap (λ v. record { number = n; text = g.text } ∷ v)
+    (numbered-push (n + 1) p h ∙ ap (λ m. numbered_from (n + 1) p ++ record { number = m; text = h.text } ∷ []) (one-more n (length p)))
+
+closes-numbered : (n m : ℕ) (p : List HeldLine) (h : HeldLine) → closes (numbered_from n p) (record { number = m; text = h.text }) ≡ closes (as_lines p) (record { number = 0; text = h.text })
+closes-numbered n m [] h = refl
+closes-numbered n m (g ∷ p) h = refl
+
+joined_after-numbered : (n : ℕ) (hs : List HeldLine) → joined_after (numbered_from n hs) ≡ joined_after (as_lines hs)
+joined_after-numbered n [] = refl
+joined_after-numbered n (h ∷ hs) = rw (joined_after-numbered (n + 1) hs) refl
+
+joined-numbered : (n : ℕ) (g : List HeldLine) → joined (numbered_from n g) ≡ joined (as_lines g)
+joined-numbered n [] = refl
+joined-numbered n (h ∷ hs) = rw (joined_after-numbered (n + 1) hs) refl
+
+first-numbered : (n : ℕ) (p : List HeldLine) (h : HeldLine) → first_number (numbered_from n (p ++ h ∷ [])) ≡ n
+first-numbered n [] h = refl
+first-numbered n (g ∷ p) h = refl
+
+length-push : (p : List HeldLine) (h : HeldLine) → length (p ++ h ∷ []) ≡ length p + 1
+length-push [] h = refl
+length-push (g ∷ p) h = let e = length-push p h in omega arith
+
+-- a group in front of others
+entries-group : (m n : ℕ) (g : List HeldLine) (gs : List (List Line)) (rest : List Entry) → first_number (numbered_from n g) ≡ n → entries_of m end gs ≡ rest
+    → entries_of m end (numbered_from n g ∷ gs) ≡ followed n (outcome_of (joined (as_lines g))) rest
+entries-group m n g gs rest h k =
+    ap₂ (λ v w. followed v (outcome_of w) (entries_of m end gs)) h (joined-numbered n g) ∙ ap (followed n (outcome_of (joined (as_lines g)))) k
+
+-- after the lines of a group that is still open
+entries-after : (m n k : ℕ) (p hs : List HeldLine) → k ≡ n + length p
+    → entries_of m end (groups_after (numbered_from n p) (numbered_from k hs) end) ≡ entries_in n (held_groups_after p hs)
+entries-after m n k [] [] s = refl
+entries-after m n k (h ∷ p) [] s = entries-group m n (h ∷ p) [] [] refl refl
+entries-after m n k p (h ∷ hs) s =
+    let l : Line = record { number = k; text = h.text } in
+    let push : numbered_from n p ++ l ∷ [] ≡ numbered_from n (p ++ h ∷ []) =
+    ap (λ v. numbered_from n p ++ record { number = v; text = h.text } ∷ []) s ∙ sym (numbered-push n p h) in
+    let size = length-push p h in
+    let next : k + 1 ≡ n + length (p ++ h ∷ []) = omega arith in
+    elim (cases_Bool (closes (as_lines p) (record { number = 0; text = h.text }))) [
+      | inl c ↦
+          ap (entries_of m end) (groups_after-close (numbered_from n p) l (numbered_from (k + 1) hs) end (closes-numbered n k p h ∙ c))
+          ∙ ap (λ v. entries_of m end (v ∷ groups_of (numbered_from (k + 1) hs) end)) push
+          ∙ entries-group m n (p ++ h ∷ []) (groups_of (numbered_from (k + 1) hs) end) (entries_in (k + 1) (held_groups_after [] hs)) (first-numbered n p h)
+          (entries-after m (k + 1) (k + 1) [] hs (omega arith))
+          ∙ ap (λ v. followed n (outcome_of (joined (as_lines (p ++ h ∷ [])))) (entries_in v (held_groups_after [] hs))) next
+          ∙ ap (entries_in n) (sym (groups-close p h hs c))
+      | inr c ↦
+          ap (entries_of m end) (groups_after-leave (numbered_from n p) l (numbered_from (k + 1) hs) end (closes-numbered n k p h ∙ c))
+          ∙ ap (λ v. entries_of m end (groups_after v (numbered_from (k + 1) hs) end)) push
+          ∙ entries-after m n (k + 1) (p ++ h ∷ []) hs next
+          ∙ ap (entries_in n) (sym (groups-leave p h hs c))
+    ]
+
+-- The items of a source are what the groups of its body say.
+pub items_of-groups : (e : Encoding) (source : List ℕ)
+    → items_of e source end ≡ entries_in 1 (held_groups_of (byte_order_mark e source).encoding (byte_order_mark e source).body)
+unfolding items_of held_groups_of
+items_of-groups e source =
+    let f = byte_order_mark e source in
+    let c = cut_of f.encoding f.body in
+    let m = line_ends (decoded_lines f.encoding c) in
+    ap (λ v. items_of_lines v end) (sym (decoded_lines-cut f.encoding f.body))
+    ∙ ap (λ v. entries_of m end (groups_of v end)) (numbered-held f.encoding 0 c.ended c.last)
+    ∙ entries-after m 1 1 [] (held_lines_of f.encoding f.body) refl

@@ -1,0 +1,5 @@
+pub mod Items
+pub mod Laws
+pub mod Maps
+pub mod Stand
+pub mod Read

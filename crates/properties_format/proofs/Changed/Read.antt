@@ -1,0 +1,79 @@
+-- What is promised of an editor's result, where it has one.
+use Rattle.std.proofs.Common.{◌≡◌, ℕ, true, List, [], ◌∷◌, All, subst, sym, refl, Option}
+use Rattle.properties_format.specs.Text.{scalar}
+use Rattle.properties_format.specs.Encoding.{Encoding, byte_order_mark}
+use Rattle.properties_format.specs.Lines.{end}
+use Rattle.properties_format.specs.Escapes.{Malformed}
+use Rattle.properties_format.specs.Entries.{Content, Entry, item, malformed, read_fault}
+use Rattle.properties_format.specs.Reading.Items.{items_of}
+use Rattle.properties_format.specs.Maps.{IsMap}
+use Rattle.properties_format.specs.Edited.{Edit, put, remove, edited, is_editable, HoldsNoMalformed, ItemsAre, IsSetKeyResult, IsRemoveKeyResult}
+use Rattle.properties_format.specs.Edited.{EditResult, unsupported, unreadable, IsFirstMalformed, IsEditResult, IsEdited, IsScalarEdit}
+use Rattle.properties_format.specs.Edited.{IsEditAllResult, AreScalarEdits}
+use Rattle.properties_format.specs.Changed.{contents, IsSetIn, IsRemovedIn, AreEditedIn, map_edited, map_after, ReadsAfter}
+use Rattle.properties_format.proofs.Items.Unique.{items_of-only}
+use Rattle.properties_format.proofs.Changed.Laws.{IsReadable, says, IsReadTo, key_set-says, key_removed-says, edit-says, edits-say}
+use Rattle.properties_format.proofs.Changed.Maps.{map-edited, map-after}
+
+-- a source that is edited is readable
+readable : (e : Encoding) (source : List ℕ) → is_editable (byte_order_mark e source).encoding ≡ true → ItemsAre e source HoldsNoMalformed
+    → IsReadable e source
+readable e source ok h = record { editable = ok; no_fault = subst HoldsNoMalformed (items_of-only e source end h.0 h.1) h.2 }
+
+-- what is computed, in the words of what it is
+reads-after : (e : Encoding) (source result : List ℕ) (IsEdit : List Content → List Content → Type 0) (change : (List ℕ → Option (List ℕ)) → List ℕ → Option (List ℕ))
+    → IsReadTo e result (IsEdit (says e source))
+    → ((old new : List Entry) → IsEdit (contents old) (contents new) → (value_at : List ℕ → Option (List ℕ)) → IsMap old value_at → IsMap new (change value_at))
+    → ReadsAfter IsEdit change e source result
+reads-after e source result IsEdit change r m old new h k =
+    let s = items_of-only e source end old h in
+    let t = items_of-only e result end new k in
+    let f : IsEdit (contents old) (contents new) =
+    subst (λ v. IsEdit (contents v) (contents new)) (sym s) (subst (λ v. IsEdit (says e source) (contents v)) (sym t) r.such) in
+    record { readable = subst HoldsNoMalformed (sym t) r.readable.no_fault; said = f; mapped = m old new f }
+
+-- The result of setting a key reads as the source with that key set: its last pair has the new value, or a new last pair comes after all.
+pub set_key-reads : (e : Encoding) (source key value result : List ℕ) → All scalar key → All scalar value → IsSetKeyResult e source key value (edited result)
+    → ReadsAfter (IsSetIn key value) (map_edited (put key value)) e source result
+set_key-reads e source key value result k v h =
+    reads-after e source result (IsSetIn key value) (map_edited (put key value)) (key_set-says e source key value result (readable e source h.0 h.1) k v h.2) (map-edited (put key value))
+
+-- The result of removing a key reads as the source without the pairs with that key.
+pub remove_key-reads : (e : Encoding) (source key result : List ℕ) → IsRemoveKeyResult e source key (edited result)
+    → ReadsAfter (IsRemovedIn key) (map_edited (remove key)) e source result
+remove_key-reads e source key result h =
+    reads-after e source result (IsRemovedIn key) (map_edited (remove key)) (key_removed-says e source key result (readable e source h.0 h.1) h.2) (map-edited (remove key))
+
+-- The result of edits in turn reads as the source after them.
+pub edit_all-reads : (e : Encoding) (source : List ℕ) (edits : List Edit) (result : List ℕ) → AreScalarEdits edits
+    → IsEditAllResult e source edits (edited result)
+    → ReadsAfter (AreEditedIn edits) (map_after edits) e source result
+edit_all-reads e source edits result k h =
+    reads-after e source result (AreEditedIn edits) (map_after edits) (edits-say e source edits result (readable e source h.0 h.1) k h.2) (map-after edits)
+
+-- ---- edits in turn, one by one
+
+no-first : (kind : Malformed) (n : ℕ) (entries : List Entry) → HoldsNoMalformed entries → IsFirstMalformed kind n entries → ⊥
+no-first kind n [] h k = k
+no-first kind n (item m content ∷ entries) h k = no-first kind n entries h k
+no-first kind n (malformed other m ∷ entries) h k = h
+no-first kind n (read_fault m ∷ entries) h k = no-first kind n entries h k
+
+-- a readable source is edited
+readable-edited : (e : Encoding) (source : List ℕ) (Makes : List ℕ → Type 0) (r : EditResult) → IsReadable e source → IsEditResult e source Makes r
+    → (result : List ℕ) × (r ≡ edited result)
+readable-edited e source Makes (edited result) h k = (result, refl)
+readable-edited e source Makes unsupported h k = let a = h.editable in absurd (cc)
+readable-edited e source Makes (unreadable kind n) h k =
+    absurd (no-first kind n (items_of e source end) h.no_fault (subst (IsFirstMalformed kind n) (items_of-only e source end k.1.0 k.1.1) k.1.2))
+
+-- What an edit made can be edited again.
+pub edited-again : (e : Encoding) (source : List ℕ) (edit : Edit) (next : List ℕ) (Makes : List ℕ → Type 0) (r : EditResult) → IsScalarEdit edit
+    → IsEditResult e source (IsEdited e source edit) (edited next) → IsEditResult e next Makes r → (result : List ℕ) × (r ≡ edited result)
+edited-again e source edit next Makes r k h m =
+    readable-edited e next Makes r (edit-says e source edit next (readable e source h.0 h.1) k h.2).readable m
+
+-- So an edit and then others are edits in turn.
+pub edit_all-step : (e : Encoding) (source : List ℕ) (edit : Edit) (edits : List Edit) (next result : List ℕ)
+    → IsEditResult e source (IsEdited e source edit) (edited next) → IsEditAllResult e next edits (edited result) → IsEditAllResult e source (edit ∷ edits) (edited result)
+edit_all-step e source edit edits next result h k = (h.0, h.1, (next, h.2, k.2))

@@ -1,0 +1,7 @@
+pub mod Told
+pub mod Made
+pub mod Results
+pub mod ByteOrderMarks
+pub mod Pair
+pub mod Contents
+pub mod Steps

@@ -1,0 +1,230 @@
+-- An edited source is in force as the source was: the byte order mark stays, and where there was none, none comes to be.
+use Rattle.std.proofs.Common.{◌≡◌, ◌⊎◌, ℕ, ◌==◌, Bool, true, false, if◌then◌else◌, List, [], ◌∷◌, ◌++◌, length, drop, eqb-true, refl, ap, ap₂, sym, ◌∙◌, inl}
+use Rattle.std.proofs.Common.{inr, append_assoc, append-nil, lit<}
+use Rattle.std.specs.Prelude.{unwrap_or, None}
+use Rattle.std.proofs.lemmas.Bool.{cases_Bool, and_parts}
+use Rattle.properties_format.specs.Text.{line_feed, carriage_return, equals_sign, LineEnding, lf, cr, crlf, line_ending_text}
+use Rattle.properties_format.specs.Encoding.{Encoding, utf_8, utf_16le, utf_16be, InForce, byte_order_mark, begins_with, begins_like_bom, utf_8_bom}
+use Rattle.properties_format.specs.Encoding.{utf_16be_bom, utf_16le_bom}
+use Rattle.properties_format.specs.Reading.Lines.{ends_in_cr}
+use Rattle.properties_format.specs.Printing.{in_key_or_value, spelt_text, encoded_text, spelt_key}
+use Rattle.properties_format.specs.Writing.{is_empty}
+use Rattle.properties_format.specs.Body.{HeldLine, AreGroupsOf, ending_bytes, group_bytes, groups_bytes, last_ending}
+use Rattle.properties_format.specs.Edited.{pair_bytes, IsReplaced, IsAppended}
+use Rattle.properties_format.specs.Edited.{final_group, is_empty_line, is_left_open, added_ending, parting, bom_of, IsKeySet, guarding_lf, IsKeyRemoved}
+use Rattle.properties_format.specs.Edited.{is_editable}
+use Rattle.properties_format.proofs.Encodings.ByteOrderMarks.{byte_order_mark-none}
+use Rattle.properties_format.proofs.Printing.Characters.{encoded-ascii, encoded_text-append}
+use Rattle.properties_format.proofs.ReadBack.Law.{default_settings-good}
+use Rattle.properties_format.proofs.ReadBack.Unmarked.{byte_order_mark-cut, pair-unmarked}
+use Rattle.properties_format.proofs.Body.Groups.{groups_bytes-append, HasAscii, AreHeldGroups, held-groups, held-body}
+
+-- ---- the byte order mark of a source
+
+-- a source that is edited has the byte order mark of UTF-8, or none
+abbrev pub HasBom : Encoding → List ℕ → Type 0
+HasBom e source =
+    (bom_of source ≡ utf_8_bom) × ((byte_order_mark e source).encoding ≡ utf_8)
+    ⊎ (begins_like_bom source ≡ false) × (bom_of source ≡ []) × (byte_order_mark e source ≡ record { encoding = e; body = source })
+
+-- it has one of the two
+pub has_bom : (e : Encoding) (source : List ℕ) → is_editable (byte_order_mark e source).encoding ≡ true → HasBom e source
+has_bom e source ok = elim (cases_Bool (begins_with utf_8_bom source)) [
+  | inl h ↦ inl (rw h refl, rw h refl)
+  | inr h ↦ elim (cases_Bool (begins_with utf_16be_bom source)) [
+    | inl k ↦ let m : (byte_order_mark e source).encoding ≡ utf_16be = rw (h, k) refl in absurd (cc (ap is_editable m, ok))
+    | inr k ↦ elim (cases_Bool (begins_with utf_16le_bom source)) [
+      | inl l ↦ let m : (byte_order_mark e source).encoding ≡ utf_16le = rw (h, k, l) refl in absurd (cc (ap is_editable m, ok))
+      | inr l ↦ inr (rw (h, k, l) refl, rw (h, k, l) refl, rw (h, k, l) refl)
+    ]
+  ]
+]
+
+begins-drop : (m b : List ℕ) → begins_with m b ≡ true → b ≡ m ++ drop (length m) b
+begins-drop [] b h = refl
+begins-drop (m ∷ ms) [] h = absurd (cc)
+begins-drop (m ∷ ms) (x ∷ b) h =
+    let p = and_parts (m == x) (begins_with ms b) h in
+    ap₂ (λ v w. v ∷ w) (sym (eqb-true m x p.0)) (begins-drop ms b p.1)
+
+-- A source is its byte order mark and its body.
+pub source-whole : (e : Encoding) (source : List ℕ) → source ≡ bom_of source ++ (byte_order_mark e source).body
+source-whole e source = elim (cases_Bool (begins_with utf_8_bom source)) [
+  | inl h ↦ rw h (begins-drop utf_8_bom source h)
+  | inr h ↦ elim (cases_Bool (begins_with utf_16be_bom source)) [
+    | inl k ↦ rw (h, k) (begins-drop utf_16be_bom source k)
+    | inr k ↦ elim (cases_Bool (begins_with utf_16le_bom source)) [
+      | inl l ↦ rw (h, k, l) (begins-drop utf_16le_bom source l)
+      | inr l ↦ rw (h, k, l) refl
+    ]
+  ]
+]
+
+-- The byte order mark and a body, which begins like none where there is none, are in force as the source was.
+pub in_force : (e : Encoding) (source body : List ℕ) → is_editable (byte_order_mark e source).encoding ≡ true
+    → (begins_like_bom source ≡ false → begins_like_bom body ≡ false)
+    → byte_order_mark e (bom_of source ++ body) ≡ record { encoding = (byte_order_mark e source).encoding; body = body }
+in_force e source body ok h = elim (has_bom e source ok) [
+  | inl m ↦ ap (λ v. byte_order_mark e (v ++ body)) m.0 ∙ ap (λ v. let w : InForce = record { encoding = v; body = body } in w) (sym m.1)
+  | inr m ↦
+      ap (λ v. byte_order_mark e (v ++ body)) m.1
+      ∙ byte_order_mark-none e body (h m.0)
+      ∙ ap (λ v. let u : InForce = v in let w : InForce = record { encoding = u.encoding; body = body } in w) (sym m.2)
+]
+
+-- the body of a source without a byte order mark is the source
+unmarked-body : (e : Encoding) (source : List ℕ) → begins_like_bom source ≡ false → (byte_order_mark e source).body ≡ source
+unmarked-body e source h = ap (λ v. let u : InForce = v in u.body) (byte_order_mark-none e source h)
+
+-- ---- what decides whether bytes begin like a byte order mark
+
+-- what stands after an ASCII byte does not matter
+ascii-cut : (x y z : List ℕ) → HasAscii x → begins_like_bom (x ++ y) ≡ begins_like_bom (x ++ z)
+ascii-cut x y z (u, c, v, s, l) =
+    ap (λ w. begins_like_bom (w ++ y)) s
+    ∙ ap begins_like_bom (append_assoc u (c ∷ v) y)
+    ∙ byte_order_mark-cut u c (v ++ y) l
+    ∙ sym (byte_order_mark-cut u c (v ++ z) l)
+    ∙ ap begins_like_bom (sym (append_assoc u (c ∷ v) z))
+    ∙ ap (λ w. begins_like_bom (w ++ z)) (sym s)
+
+-- nor what stands after a line ending
+ending-cut : (x : List ℕ) (by : LineEnding) (y : List ℕ) → begins_like_bom (x ++ (line_ending_text by ++ y)) ≡ begins_like_bom x
+ending-cut x lf y = byte_order_mark-cut x line_feed y (lit< tt)
+ending-cut x cr y = byte_order_mark-cut x carriage_return y (lit< tt)
+ending-cut x crlf y = byte_order_mark-cut x carriage_return (line_feed ∷ y) (lit< tt)
+
+-- the bytes of a pair, up to its separator
+pair-parts : (e : Encoding) (first : Bool) (key value : List ℕ)
+    → pair_bytes e first key value ≡ encoded_text e (spelt_key e first key) ++ (equals_sign ∷ encoded_text e (spelt_text e in_key_or_value value))
+pair-parts e first key value =
+    encoded_text-append e (spelt_key e first key) (equals_sign ∷ spelt_text e in_key_or_value value)
+    ∙ ap (λ o. encoded_text e (spelt_key e first key) ++ (unwrap_or o [] ++ encoded_text e (spelt_text e in_key_or_value value))) (encoded-ascii e equals_sign (lit< tt))
+
+pair-ascii : (e : Encoding) (first : Bool) (key value : List ℕ) → HasAscii (pair_bytes e first key value)
+pair-ascii e first key value =
+    (encoded_text e (spelt_key e first key), equals_sign, encoded_text e (spelt_text e in_key_or_value value), pair-parts e first key value, lit< tt)
+
+-- A pair at the front begins like no byte order mark.
+first-unmarked : (e : Encoding) (key value rest : List ℕ) → begins_like_bom (pair_bytes e true key value ++ rest) ≡ false
+first-unmarked e key value rest =
+    ascii-cut (pair_bytes e true key value) rest [] (pair-ascii e true key value)
+    ∙ ap begins_like_bom (append-nil (pair_bytes e true key value))
+    ∙ pair-unmarked e key (equals_sign ∷ []) (spelt_text e in_key_or_value value) default_settings-good.separator
+
+-- ---- a key is set
+
+-- the bytes of some groups, and those of the first
+front-unmarked : (g : List HeldLine) (gs : List (List HeldLine)) (y z : List ℕ) → HasAscii (group_bytes g)
+    → begins_like_bom (groups_bytes (g ∷ gs) ++ z) ≡ false
+    → begins_like_bom (groups_bytes (g ∷ gs) ++ y) ≡ false
+front-unmarked g gs y z a h =
+    ap begins_like_bom (append_assoc (group_bytes g) (groups_bytes gs) y)
+    ∙ ascii-cut (group_bytes g) (groups_bytes gs ++ y) (groups_bytes gs ++ z) a
+    ∙ ap begins_like_bom (sym (append_assoc (group_bytes g) (groups_bytes gs) z))
+    ∙ h
+
+-- a group before others has an ASCII byte
+first-ascii : (e : Encoding) (g : List HeldLine) (gs : List (List HeldLine)) (h : List HeldLine) (hs : List (List HeldLine))
+    → AreHeldGroups e (g ∷ gs ++ h ∷ hs) → HasAscii (group_bytes g)
+first-ascii e g [] h hs k = k.0.ascii
+first-ascii e g (i ∷ gs) h hs k = k.0.ascii
+
+replaced-unmarked : (e : Encoding) (gs : List (List HeldLine)) (key value body : List ℕ) → AreHeldGroups e gs → begins_like_bom (groups_bytes gs) ≡ false
+    → IsReplaced e gs key value body
+    → begins_like_bom body ≡ false
+replaced-unmarked e gs key value body k h r = of_before r.before r.division r.bytes
+  where
+    of_before : (before : List (List HeldLine)) → gs ≡ before ++ r.group ∷ r.after
+        → body ≡ groups_bytes before ++ (pair_bytes e (is_empty (groups_bytes before)) key value ++ (ending_bytes (last_ending r.group) ++ groups_bytes r.after))
+        → begins_like_bom body ≡ false
+    of_before [] s t = ap begins_like_bom t ∙ first-unmarked e key value (ending_bytes (last_ending r.group) ++ groups_bytes r.after)
+    of_before (g ∷ before) s t =
+        ap begins_like_bom t
+        ∙ front-unmarked g before _ (groups_bytes (r.group ∷ r.after)) (first-ascii e g before r.group r.after (rw s at k))
+        (ap begins_like_bom (sym (groups_bytes-append (g ∷ before) (r.group ∷ r.after))) ∙ ap (λ v. begins_like_bom (groups_bytes v)) (sym s) ∙ h)
+
+-- the line without bytes
+pub empty-last : (g : List HeldLine) → is_empty_line g ≡ true → last_ending g ≡ None → group_bytes g ≡ []
+empty-last [] h k = refl
+empty-last (l ∷ []) h k = of_bytes l.bytes refl
+  where
+    of_bytes : (x : List ℕ) → l.bytes ≡ x → group_bytes (l ∷ []) ≡ []
+    of_bytes [] e = rw (e, k) refl
+    of_bytes (c ∷ x) e = let m : is_empty (c ∷ x) ≡ true = rw e at h in absurd (cc)
+empty-last (l ∷ m ∷ g) h k = absurd (cc)
+
+-- a parting is nothing, or begins with a line ending
+parting-cases : (source : List ℕ) (g : List HeldLine)
+    → (is_empty_line g ≡ true) × (parting source g ≡ []) ⊎ (by : LineEnding) × (rest : List ℕ) × (parting source g ≡ line_ending_text by ++ rest)
+parting-cases source g = elim (cases_Bool (is_empty_line g)) [
+  | inl h ↦ inl (h, rw h refl)
+  | inr h ↦ elim (cases_Bool (is_left_open g)) [
+    | inl k ↦ inr (if ends_in_cr source then cr else lf, added_ending source, rw (h, k) refl)
+    | inr k ↦ inr (if ends_in_cr source then cr else lf, [], rw (h, k) (sym (append-nil (added_ending source))))
+  ]
+]
+
+appended-unmarked : (e : Encoding) (source : List ℕ) (gs : List (List HeldLine)) (key value body : List ℕ) → AreHeldGroups e gs
+    → begins_like_bom (groups_bytes gs) ≡ false
+    → IsAppended e source gs key value body → begins_like_bom body ≡ false
+appended-unmarked e source gs key value body k h r = elim (parting-cases source (final_group gs)) [
+  | inl p ↦ none gs k h p.0 (ap (λ v. groups_bytes gs ++ v) p.1 ∙ append-nil (groups_bytes gs))
+  | inr p ↦
+      ap begins_like_bom r.bytes
+      ∙ ap (λ v. begins_like_bom ((groups_bytes gs ++ v) ++ tail)) p.2
+      ∙ ap begins_like_bom (append_assoc (groups_bytes gs) (line_ending_text p.0 ++ p.1) tail ∙ ap (λ v. groups_bytes gs ++ v) (append_assoc (line_ending_text p.0) p.1 tail))
+      ∙ ending-cut (groups_bytes gs) p.0 (p.1 ++ tail)
+      ∙ h
+]
+  where
+    front : List ℕ
+    front = groups_bytes gs ++ parting source (final_group gs)
+
+    tail : List ℕ
+    tail = pair_bytes e (is_empty (groups_bytes gs ++ parting source (final_group gs))) key value ++ line_feed ∷ []
+
+    none : (hs : List (List HeldLine)) → AreHeldGroups e hs → begins_like_bom (groups_bytes hs) ≡ false → is_empty_line (final_group hs) ≡ true
+        → groups_bytes gs ++ parting source (final_group gs) ≡ groups_bytes hs → begins_like_bom body ≡ false
+    none [] k h m s = absurd (cc)
+    none (g ∷ []) k h m s =
+        let q : groups_bytes gs ++ parting source (final_group gs) ≡ [] = s ∙ append-nil (group_bytes g) ∙ empty-last g m k.ending in
+        ap begins_like_bom r.bytes ∙ ap (λ v. begins_like_bom (v ++ (pair_bytes e (is_empty v) key value ++ line_feed ∷ []))) q
+        ∙ first-unmarked e key value (line_feed ∷ [])
+    none (g ∷ i ∷ hs) k h m s =
+        ap begins_like_bom r.bytes
+        ∙ ap (λ v. begins_like_bom (v ++ (pair_bytes e (is_empty v) key value ++ line_feed ∷ []))) s
+        ∙ front-unmarked g (i ∷ hs) _ [] k.0.ascii (ap begins_like_bom (append-nil (groups_bytes (g ∷ i ∷ hs))) ∙ h)
+
+-- where the source has no byte order mark, its groups begin like none
+groups-unmarked : (e : Encoding) (source : List ℕ) (gs : List (List HeldLine)) → is_editable (byte_order_mark e source).encoding ≡ true
+    → AreGroupsOf (byte_order_mark e source).encoding (byte_order_mark e source).body gs → begins_like_bom source ≡ false
+    → begins_like_bom (groups_bytes gs) ≡ false
+groups-unmarked e source gs ok h n =
+    ap begins_like_bom (held-body (byte_order_mark e source).encoding (byte_order_mark e source).body gs ok h) ∙ ap begins_like_bom (unmarked-body e source n)
+    ∙ n
+
+-- What is in force after a key is set: the encoding that was, and the edited body.
+pub key_set-in_force : (e : Encoding) (source key value result : List ℕ) → is_editable (byte_order_mark e source).encoding ≡ true
+    → (h : IsKeySet e source key value result)
+    → byte_order_mark e result ≡ record { encoding = (byte_order_mark e source).encoding; body = h.body }
+key_set-in_force e source key value result ok h =
+    let f = byte_order_mark e source in
+    let gs = held-groups f.encoding f.body h.groups ok h.held in
+    ap (byte_order_mark e) h.whole
+    ∙ in_force e source h.body ok (λ n. elim h.edited [
+      | inl r ↦ replaced-unmarked f.encoding h.groups key value h.body gs (groups-unmarked e source h.groups ok h.held n) r
+      | inr r ↦ appended-unmarked f.encoding source h.groups key value h.body gs (groups-unmarked e source h.groups ok h.held n) r
+    ])
+
+-- ---- a key is removed
+
+guarding_lf-unmarked : (source rest : List ℕ) → begins_like_bom source ≡ false → begins_like_bom (guarding_lf source rest ++ rest) ≡ false
+guarding_lf-unmarked source rest n = elim (cases_Bool (begins_like_bom rest)) [ inl h ↦ rw (n, h) refl | inr h ↦ rw (n, h) h ]
+
+-- What is in force after a key is removed.
+pub key_removed-in_force : (e : Encoding) (source key result : List ℕ) → is_editable (byte_order_mark e source).encoding ≡ true
+    → (h : IsKeyRemoved e source key result)
+    → byte_order_mark e result ≡ record { encoding = (byte_order_mark e source).encoding; body = guarding_lf source h.rest ++ h.rest }
+key_removed-in_force e source key result ok h =
+    ap (byte_order_mark e) h.whole ∙ in_force e source (guarding_lf source h.rest ++ h.rest) ok (λ n. guarding_lf-unmarked source h.rest n)

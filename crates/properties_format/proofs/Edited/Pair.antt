@@ -1,0 +1,159 @@
+-- The printed pair in a body: it is a group by itself, and comes to that pair.
+use Rattle.std.proofs.Common.{◌≡◌, ℕ, ◌==◌, Bool, true, false, List, [], ◌∷◌, ◌++◌, refl, ap, sym, ◌∙◌, inl, inr, append_assoc, append-nil, subst}
+use Rattle.std.specs.Prelude.{All}
+use Rattle.std.specs.List.{AllByRecursion}
+use Rattle.std.proofs.lemmas.Bool.{cases_Bool}
+use Rattle.std.proofs.lemmas.List.Elements.{recursion_from_All}
+use Rattle.properties_format.specs.Text.{scalar, line_feed, equals_sign, LineEnding, line_ending_text}
+use Rattle.properties_format.specs.Encoding.{Encoding, windows_1252, utf_8, utf_16le, utf_16be, output_encoding}
+use Rattle.properties_format.specs.Lines.{Lines, HoldsNoLineEnd, Line, end}
+use Rattle.properties_format.specs.Reading.Lines.{lines_of}
+use Rattle.properties_format.specs.Groups.{is_comment_line, IsWhole, joined}
+use Rattle.properties_format.specs.Entries.{pair}
+use Rattle.properties_format.specs.Items.{given}
+use Rattle.properties_format.specs.Reading.Items.{outcome_of}
+use Rattle.properties_format.specs.Settings.{default_settings}
+use Rattle.properties_format.specs.Printing.{in_key_or_value, spelt_text, encoded_text, spelt_key, printed_text}
+use Rattle.properties_format.specs.Writing.{pair_call}
+use Rattle.properties_format.specs.Edited.{is_editable, pair_bytes}
+use Rattle.properties_format.proofs.Lines.Only.{lines_of-plain}
+use Rattle.properties_format.proofs.Lines.Steps.{lines_of-line}
+use Rattle.properties_format.proofs.Groups.Joined.{joined-comment_line, joined-closed}
+use Rattle.properties_format.proofs.Groups.Logical.{StandsAlone}
+use Rattle.properties_format.proofs.Groups.Only.{groups_of-before}
+use Rattle.properties_format.proofs.Printing.Characters.{AreEncodable}
+use Rattle.properties_format.proofs.ReadBack.Texts.{texts-spelt}
+use Rattle.properties_format.proofs.ReadBack.Pairs.{IsReadAs, key-spelt, pair-read}
+use Rattle.properties_format.proofs.ReadBack.Lines.{wrote_text}
+use Rattle.properties_format.proofs.ReadBack.Bytes.{AreWritable, text-decoded, wrote_text-writable}
+use Rattle.properties_format.proofs.ReadBack.Law.{default_settings-good}
+use Rattle.properties_format.specs.Reading.Cut.{decoded_line}
+use Rattle.properties_format.proofs.Body.Decoded.{plain-bytes}
+use Rattle.properties_format.proofs.Edited.Told.{told_before, ended_lines, line_texts_in, line_texts, told, IsFront, told-front, told-one}
+
+-- the characters of the printed pair
+abbrev pub pair_text : Encoding → Bool → List ℕ → List ℕ → List ℕ
+pair_text e first key value = spelt_key e first key ++ (equals_sign ∷ spelt_text e in_key_or_value value)
+
+by_recursion : (x : List ℕ) → All scalar x → AllByRecursion scalar x
+by_recursion x h = recursion_from_All scalar x h
+
+-- its text is read as the pair
+pair-read_as : (e : Encoding) (first : Bool) (key value : List ℕ) → All scalar key → All scalar value
+    → IsReadAs (pair_text e first key value) (pair key value)
+pair-read_as e first key value h k =
+    pair-read (spelt_key e first key) (spelt_text e in_key_or_value value) (equals_sign ∷ []) key value (key-spelt e first key (by_recursion key h))
+    (texts-spelt e value (by_recursion value k)) default_settings-good.separator (λ q. refl)
+
+-- ---- its bytes are decoded to its text
+
+scalars-left : (x y : List ℕ) → AllByRecursion scalar (x ++ y) → AllByRecursion scalar x
+scalars-left [] y h = tt
+scalars-left (c ∷ x) y h = (h.0, scalars-left x y h.1)
+
+encodable-left : (e : Encoding) (x y : List ℕ) → AreEncodable e (x ++ y) → AreEncodable e x
+encodable-left e [] y h = tt
+encodable-left e (c ∷ x) y h = (h.0, encodable-left e x y h.1)
+
+writable-left : (e : Encoding) (x y : List ℕ) → AreWritable e (x ++ y) → AreWritable e x
+writable-left e x y h = record { scalars = scalars-left x y h.scalars; encodable = encodable-left e x y h.encodable }
+
+-- the line of the pair, as a writer writes it after n lines
+line-text : (e : Encoding) (n : ℕ) (key value : List ℕ)
+    → wrote_text e default_settings n (pair_call key value ∷ []) ≡ pair_text e (n == 0) key value ++ line_feed ∷ []
+line-text e n [] value =
+    append-nil (printed_text e default_settings (n == 0) (pair [] value))
+    ∙ sym (append_assoc (spelt_key e (n == 0) []) (equals_sign ∷ spelt_text e in_key_or_value value) (line_feed ∷ []))
+line-text e n (c ∷ key) value =
+    append-nil (printed_text e default_settings (n == 0) (pair (c ∷ key) value))
+    ∙ sym (append_assoc (spelt_key e (n == 0) (c ∷ key)) (equals_sign ∷ spelt_text e in_key_or_value value) (line_feed ∷ []))
+
+pair-writable : (e : Encoding) (first : Bool) (key value : List ℕ) → All scalar key → All scalar value → AreWritable e (pair_text e first key value)
+pair-writable e true key value h k =
+    writable-left e (pair_text e true key value) (line_feed ∷ [])
+    (subst (AreWritable e) (line-text e 0 key value) (wrote_text-writable e default_settings 0 (pair_call key value ∷ []) default_settings-good ((h, k), tt)))
+pair-writable e false key value h k =
+    writable-left e (pair_text e false key value) (line_feed ∷ [])
+    (subst (AreWritable e) (line-text e 1 key value) (wrote_text-writable e default_settings 1 (pair_call key value ∷ []) default_settings-good ((h, k), tt)))
+
+editable-own : (e : Encoding) → is_editable e ≡ true → output_encoding e ≡ e
+editable-own windows_1252 h = refl
+editable-own utf_8 h = refl
+editable-own utf_16le h = absurd (cc)
+editable-own utf_16be h = absurd (cc)
+
+-- The bytes of the printed pair are decoded to its characters.
+pub pair-decoded : (e : Encoding) (first : Bool) (key value : List ℕ) → is_editable e ≡ true → All scalar key → All scalar value
+    → decoded_line e (pair_bytes e first key value) ≡ pair_text e first key value
+pair-decoded e first key value ok h k =
+    let w = pair-writable e first key value h k in
+    let x = pair_text e first key value in
+    subst (λ a. decoded_line a (encoded_text e x) ≡ x) (editable-own e ok) (text-decoded e x w.scalars w.encodable)
+
+-- ---- it is a group
+
+alone-whole : (l : Line) → StandsAlone l.text → IsWhole (l ∷ [])
+alone-whole l (inl h) = inl (h, refl)
+alone-whole l (inr h) = elim (cases_Bool (is_comment_line l.text)) [ inl k ↦ inl (k, refl) | inr k ↦ inr (k, h) ]
+
+alone-joined : (l : Line) → StandsAlone l.text → joined (l ∷ []) ≡ l.text
+alone-joined l (inl h) = joined-comment_line l [] h
+alone-joined l (inr h) = joined-closed l h
+
+-- the line of the printed pair
+abbrev pair_line : Encoding → Bool → List ℕ → List ℕ → Line
+pair_line e first key value = record { number = 0; text = pair_text e first key value }
+
+pair-whole : (e : Encoding) (first : Bool) (key value : List ℕ) → All scalar key → All scalar value → IsWhole (pair_line e first key value ∷ [])
+pair-whole e first key value h k = alone-whole (pair_line e first key value) (pair-read_as e first key value h k).alone
+
+pair-outcome : (e : Encoding) (first : Bool) (key value : List ℕ) → All scalar key → All scalar value
+    → outcome_of (joined (pair_line e first key value ∷ [])) ≡ given (pair key value)
+pair-outcome e first key value h k =
+    let r = pair-read_as e first key value h k in ap outcome_of (alone-joined (pair_line e first key value) r.alone) ∙ r.outcome
+
+pair-plain : (e : Encoding) (first : Bool) (key value : List ℕ) → is_editable e ≡ true → All scalar key → All scalar value
+    → HoldsNoLineEnd (pair_bytes e first key value)
+pair-plain e first key value ok h k =
+    plain-bytes e (pair_bytes e first key value) ok (subst HoldsNoLineEnd (sym (pair-decoded e first key value ok h k)) (pair-read_as e first key value h k).plain)
+
+pair-lines : (e : Encoding) (first : Bool) (key value : List ℕ) (by : LineEnding) → is_editable e ≡ true → All scalar key → All scalar value
+    → lines_of (pair_bytes e first key value ++ line_ending_text by) ≡ record { ended = record { text = pair_bytes e first key value; by = by } ∷ []; last = [] }
+pair-lines e first key value by ok h k =
+    ap (λ v. lines_of (pair_bytes e first key value ++ v)) (sym (append-nil (line_ending_text by)))
+    ∙ lines_of-line (pair_bytes e first key value) by [] (pair-plain e first key value ok h k) (λ q. refl)
+
+pair-front : (e : Encoding) (first : Bool) (key value : List ℕ) (by : LineEnding) → is_editable e ≡ true → All scalar key → All scalar value
+    → IsFront e (pair_bytes e first key value ++ line_ending_text by) (pair_line e first key value ∷ [])
+pair-front e first key value by ok h k =
+    let same = pair-lines e first key value by ok h k in
+    record {
+      ended = ap (λ v. let w : Lines = v in w.last) same;
+      texts =
+          ap (λ v. let w : Lines = v in ended_lines e w.ended) same
+          ∙ ap (λ v. record { number = 0; text = v } ∷ []) (pair-decoded e first key value ok h k);
+      whole = pair-whole e first key value h k;
+    }
+
+-- The printed pair with a line ending, before any bytes.
+pub told-pair : (e : Encoding) (first : Bool) (key value : List ℕ) (by : LineEnding) (d : List ℕ) → is_editable e ≡ true → All scalar key → All scalar value
+    → told e (pair_bytes e first key value ++ (line_ending_text by ++ d)) ≡ given (pair key value) ∷ told e d
+told-pair e first key value by d ok h k =
+    ap (told e) (sym (append_assoc (pair_bytes e first key value) (line_ending_text by) d))
+    ∙ told-front e (pair_bytes e first key value ++ line_ending_text by) d (pair_line e first key value ∷ []) (pair-front e first key value by ok h k)
+    ∙ ap (λ v. told_before v (told e d)) (pair-outcome e first key value h k)
+
+pair-texts : (e : Encoding) (first : Bool) (key value : List ℕ) → is_editable e ≡ true → All scalar key → All scalar value
+    → line_texts e (pair_bytes e first key value) ≡ pair_line e first key value ∷ []
+unfolding line_texts
+pair-texts e first key value ok h k =
+    ap (line_texts_in e) (lines_of-plain (pair_bytes e first key value) (pair-plain e first key value ok h k))
+    ∙ ap (λ v. record { number = 0; text = v } ∷ []) (pair-decoded e first key value ok h k)
+
+-- The printed pair as the last line.
+pub told-last_pair : (e : Encoding) (first : Bool) (key value : List ℕ) → is_editable e ≡ true → All scalar key → All scalar value
+    → told e (pair_bytes e first key value) ≡ given (pair key value) ∷ []
+told-last_pair e first key value ok h k =
+    let l = pair_line e first key value in
+    told-one e (pair_bytes e first key value) (l ∷ []) (pair-texts e first key value ok h k) (groups_of-before (l ∷ []) [] end (pair-whole e first key value h k))
+    ∙ ap (λ v. told_before v []) (pair-outcome e first key value h k)

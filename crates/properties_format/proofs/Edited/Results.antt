@@ -1,0 +1,137 @@
+-- What is computed for an editor's result is that result, and the only one.
+use Rattle.std.proofs.Common.{◌≡◌, ℕ, true, false, List, [], ◌∷◌, refl, ap, ap₂, sym, ◌∙◌, inl, inr, subst}
+use Rattle.std.proofs.lemmas.Bool.{cases_Bool, cond-true, cond-false}
+use Rattle.properties_format.specs.Encoding.{Encoding, byte_order_mark}
+use Rattle.properties_format.specs.Lines.{end}
+use Rattle.properties_format.specs.Escapes.{Malformed}
+use Rattle.properties_format.specs.Entries.{Content, Entry, item, malformed, read_fault}
+use Rattle.properties_format.specs.Reading.Items.{items_of}
+use Rattle.properties_format.specs.Edited.{IsKeySet, IsKeyRemoved, Edit, put, remove, IsEdited, AreEdited}
+use Rattle.properties_format.specs.Edited.{EditResult, edited, unsupported, unreadable, is_editable, HoldsNoMalformed, IsFirstMalformed}
+use Rattle.properties_format.specs.Edited.{IsEditResult, IsSetKeyResult, IsRemoveKeyResult, IsEditAllResult}
+use Rattle.properties_format.specs.Reading.Edited.{key_set, key_removed, edit_made, edits_made, result_by, result_of}
+use Rattle.properties_format.specs.Reading.Edited.{set_key_result, remove_key_result, edit_all_result}
+use Rattle.properties_format.proofs.Items.Unique.{items_of-meets, items_of-only}
+use Rattle.properties_format.proofs.Edited.Made.{key_set-meets, key_set-only, key_removed-meets, key_removed-only}
+
+-- ---- edits in turn
+
+edit_made-meets : (e : Encoding) (source : List ℕ) (edit : Edit) → IsEdited e source edit (edit_made e source edit)
+edit_made-meets e source (put key value) = key_set-meets e source key value
+edit_made-meets e source (remove key) = key_removed-meets e source key
+
+edit_made-only : (e : Encoding) (source : List ℕ) (edit : Edit) (result : List ℕ) → IsEdited e source edit result → result ≡ edit_made e source edit
+edit_made-only e source (put key value) result h = key_set-only e source key value result h
+edit_made-only e source (remove key) result h = key_removed-only e source key result h
+
+-- What is computed is the source after the edits.
+pub edits_made-meets : (e : Encoding) (source : List ℕ) (edits : List Edit) → AreEdited e source edits (edits_made e source edits)
+edits_made-meets e source [] = refl
+edits_made-meets e source (edit ∷ edits) = (edit_made e source edit, edit_made-meets e source edit, edits_made-meets e (edit_made e source edit) edits)
+
+-- A source after the edits is what is computed.
+pub edits_made-only : (e : Encoding) (source : List ℕ) (edits : List Edit) (result : List ℕ) → AreEdited e source edits result
+    → result ≡ edits_made e source edits
+edits_made-only e source [] result h = h
+edits_made-only e source (edit ∷ edits) result h =
+    edits_made-only e h.0 edits result h.2 ∙ ap (λ v. edits_made e v edits) (edit_made-only e source edit h.0 h.1)
+
+-- ---- results
+
+-- what the items say of a result that is made of these bytes
+abbrev IsBy : List Entry → List ℕ → EditResult → Type 0
+IsBy entries made (edited result) = HoldsNoMalformed entries × (result ≡ made)
+IsBy entries made unsupported = ⊥
+IsBy entries made (unreadable kind n) = IsFirstMalformed kind n entries
+
+by-item : (n : ℕ) (content : Content) (entries : List Entry) (made : List ℕ) (r : EditResult) → IsBy entries made r → IsBy (item n content ∷ entries) made r
+by-item n content entries made (edited result) h = h
+by-item n content entries made unsupported h = h
+by-item n content entries made (unreadable kind m) h = h
+
+by-fault : (n : ℕ) (entries : List Entry) (made : List ℕ) (r : EditResult) → IsBy entries made r → IsBy (read_fault n ∷ entries) made r
+by-fault n entries made (edited result) h = h
+by-fault n entries made unsupported h = h
+by-fault n entries made (unreadable kind m) h = h
+
+result_by-meets : (entries : List Entry) (made : List ℕ) → IsBy entries made (result_by entries made)
+result_by-meets [] made = (tt, refl)
+result_by-meets (item n content ∷ entries) made = by-item n content entries made (result_by entries made) (result_by-meets entries made)
+result_by-meets (malformed kind n ∷ entries) made = (refl, refl)
+result_by-meets (read_fault n ∷ entries) made = by-fault n entries made (result_by entries made) (result_by-meets entries made)
+
+result_by-edited : (entries : List Entry) (made : List ℕ) → HoldsNoMalformed entries → result_by entries made ≡ edited made
+result_by-edited [] made h = refl
+result_by-edited (item n content ∷ entries) made h = result_by-edited entries made h
+result_by-edited (malformed kind n ∷ entries) made h = absurd h
+result_by-edited (read_fault n ∷ entries) made h = result_by-edited entries made h
+
+result_by-unreadable : (entries : List Entry) (made : List ℕ) (kind : Malformed) (n : ℕ) → IsFirstMalformed kind n entries
+    → result_by entries made ≡ unreadable kind n
+result_by-unreadable [] made kind n h = absurd h
+result_by-unreadable (item m content ∷ entries) made kind n h = result_by-unreadable entries made kind n h
+result_by-unreadable (malformed other m ∷ entries) made kind n h = ap₂ (λ v w. unreadable v w) h.0 h.1
+result_by-unreadable (read_fault m ∷ entries) made kind n h = result_by-unreadable entries made kind n h
+
+-- the encoding in force is edited
+result-editable : (e : Encoding) (source made : List ℕ) → is_editable (byte_order_mark e source).encoding ≡ true
+    → result_of e source made ≡ result_by (items_of e source end) made
+result-editable e source made ok = cond-true (is_editable (byte_order_mark e source).encoding) (result_by (items_of e source end) made) unsupported ok
+
+-- or it is not
+result-unsupported : (e : Encoding) (source made : List ℕ) → is_editable (byte_order_mark e source).encoding ≡ false → result_of e source made ≡ unsupported
+result-unsupported e source made h = cond-false (is_editable (byte_order_mark e source).encoding) (result_by (items_of e source end) made) unsupported h
+
+by-result : (e : Encoding) (source made : List ℕ) (Makes : List ℕ → Type 0) (r : EditResult) → is_editable (byte_order_mark e source).encoding ≡ true
+    → Makes made
+    → IsBy (items_of e source end) made r → IsEditResult e source Makes r
+by-result e source made Makes (edited result) ok m h = (ok, (items_of e source end, items_of-meets e source end, h.0), subst Makes (sym h.1) m)
+by-result e source made Makes unsupported ok m h = absurd h
+by-result e source made Makes (unreadable kind n) ok m h = (ok, (items_of e source end, items_of-meets e source end, h))
+
+-- the result of these bytes, where the edit makes them
+result_of-meets : (e : Encoding) (source made : List ℕ) (Makes : List ℕ → Type 0) → Makes made → IsEditResult e source Makes (result_of e source made)
+result_of-meets e source made Makes m = elim (cases_Bool (is_editable (byte_order_mark e source).encoding)) [
+  | inl ok ↦
+      subst (IsEditResult e source Makes) (sym (result-editable e source made ok))
+      (by-result e source made Makes (result_by (items_of e source end) made) ok m (result_by-meets (items_of e source end) made))
+  | inr h ↦ subst (IsEditResult e source Makes) (sym (result-unsupported e source made h)) h
+]
+
+result_of-only : (e : Encoding) (source made : List ℕ) (Makes : List ℕ → Type 0) (r : EditResult) → ((result : List ℕ) → Makes result → result ≡ made)
+    → IsEditResult e source Makes r → r ≡ result_of e source made
+result_of-only e source made Makes (edited result) one (ok, items, h) =
+    let f = subst HoldsNoMalformed (items_of-only e source end items.0 items.1) items.2 in
+    ap edited (one result h) ∙ sym (result_by-edited (items_of e source end) made f) ∙ sym (result-editable e source made ok)
+result_of-only e source made Makes unsupported one h = sym (result-unsupported e source made h)
+result_of-only e source made Makes (unreadable kind n) one (ok, items) =
+    let f = subst (IsFirstMalformed kind n) (items_of-only e source end items.0 items.1) items.2 in
+    sym (result_by-unreadable (items_of e source end) made kind n f) ∙ sym (result-editable e source made ok)
+
+-- The result of setting a key is what is computed, and nothing else is.
+pub set_key_result-meets : (e : Encoding) (source key value : List ℕ) → IsSetKeyResult e source key value (set_key_result e source key value)
+set_key_result-meets e source key value =
+    result_of-meets e source (key_set e source key value) (IsKeySet e source key value) (key_set-meets e source key value)
+
+-- No other result is one of setting a key.
+pub set_key_result-only : (e : Encoding) (source key value : List ℕ) (r : EditResult) → IsSetKeyResult e source key value r
+    → r ≡ set_key_result e source key value
+set_key_result-only e source key value r h =
+    result_of-only e source (key_set e source key value) (IsKeySet e source key value) r (key_set-only e source key value) h
+
+-- The same of removing one.
+pub remove_key_result-meets : (e : Encoding) (source key : List ℕ) → IsRemoveKeyResult e source key (remove_key_result e source key)
+remove_key_result-meets e source key = result_of-meets e source (key_removed e source key) (IsKeyRemoved e source key) (key_removed-meets e source key)
+
+-- No other result is one of removing one.
+pub remove_key_result-only : (e : Encoding) (source key : List ℕ) (r : EditResult) → IsRemoveKeyResult e source key r → r ≡ remove_key_result e source key
+remove_key_result-only e source key r h = result_of-only e source (key_removed e source key) (IsKeyRemoved e source key) r (key_removed-only e source key) h
+
+-- The same of edits in turn.
+pub edit_all_result-meets : (e : Encoding) (source : List ℕ) (edits : List Edit) → IsEditAllResult e source edits (edit_all_result e source edits)
+edit_all_result-meets e source edits = result_of-meets e source (edits_made e source edits) (AreEdited e source edits) (edits_made-meets e source edits)
+
+-- No other result is one of edits in turn.
+pub edit_all_result-only : (e : Encoding) (source : List ℕ) (edits : List Edit) (r : EditResult) → IsEditAllResult e source edits r
+    → r ≡ edit_all_result e source edits
+edit_all_result-only e source edits r h = result_of-only e source (edits_made e source edits) (AreEdited e source edits) r (edits_made-only e source edits) h

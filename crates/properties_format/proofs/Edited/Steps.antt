@@ -1,0 +1,142 @@
+-- How the groups of a body, and an edit of them, go on with the next line and the next group.
+use Rattle.std.proofs.Common.{◌≡◌, ℕ, Bool, false, List, [], ◌∷◌, ◌++◌, refl, ap, sym, ◌∙◌, inl, inr, append_assoc, lit<, ◌+◌, length-append, arith}
+use Rattle.std.specs.Prelude.{unwrap_or, ◌&&◌, not, length, Option, Some, None}
+use Rattle.std.proofs.lemmas.Bool.{cases_Bool, cond-false}
+use Rattle.properties_format.specs.Text.{line_feed, equals_sign, LineEnding, cr}
+use Rattle.properties_format.specs.Encoding.{Encoding, IsAligned}
+use Rattle.properties_format.specs.Lines.{Lines}
+use Rattle.properties_format.specs.Reading.Lines.{begins_with_lf}
+use Rattle.properties_format.specs.Cut.{units, HoldsNoLineEndUnit, line_ending_bytes}
+use Rattle.properties_format.specs.Reading.Cut.{decoded_line}
+use Rattle.properties_format.specs.Groups.{is_open, is_comment_line, joined}
+use Rattle.properties_format.specs.Escapes.{Malformed}
+use Rattle.properties_format.specs.Items.{Outcome, ignored, given, broken}
+use Rattle.properties_format.specs.Reading.Items.{outcome_of, followed}
+use Rattle.properties_format.specs.Entries.{pair, Entry}
+use Rattle.properties_format.specs.Settings.{default_settings}
+use Rattle.properties_format.specs.Printing.{in_key_or_value, spelt_text, encoded_text, spelt_key, printed}
+use Rattle.properties_format.specs.Body.{HeldLine, HasKey, group_bytes, as_lines, held_in, last_ending}
+use Rattle.properties_format.specs.Edited.{pair_bytes, final_group, is_last_open, is_left_open, is_empty_line, unreadable}
+use Rattle.properties_format.specs.Reading.Body.{held_of, held_lines_of, has_key, entries_in}
+use Rattle.properties_format.specs.Reading.Edited.{KeyPlace, place_after, last_place, without, result_by}
+use Rattle.properties_format.proofs.Cut.Steps.{cut_of-line}
+use Rattle.properties_format.proofs.Cut.Only.{cut_of-plain}
+use Rattle.properties_format.proofs.Printing.Characters.{encoded-ascii, encoded_text-append}
+use Rattle.properties_format.proofs.Edited.Made.{last_place-some}
+
+-- ---- the next line
+
+-- a line and its ending, before any bytes; a CR is an ending by itself only where no LF unit comes
+pub held_lines-line : (e : Encoding) (text : List ℕ) (by : LineEnding) (y : List ℕ) → HoldsNoLineEndUnit e text → IsAligned e text
+    → (by ≡ cr → begins_with_lf (units e y) ≡ false)
+    → held_lines_of e (text ++ (line_ending_bytes e by ++ y)) ≡ record { bytes = text; text = decoded_line e text; ending = Some by } ∷ held_lines_of e y
+held_lines-line e text by y h a k = ap (λ v. let w : Lines = v in held_of e w.ended w.last) (cut_of-line e text by y h a k)
+
+-- the last line
+pub held_lines-last : (e : Encoding) (text : List ℕ) → HoldsNoLineEndUnit e text
+    → held_lines_of e text ≡ record { bytes = text; text = decoded_line e text; ending = None } ∷ []
+held_lines-last e text h = ap (λ v. let w : Lines = v in held_of e w.ended w.last) (cut_of-plain e text h)
+
+-- ---- the next group
+
+-- the place with one more group after it
+abbrev pub with_after : List HeldLine → Option KeyPlace → Option KeyPlace
+with_after g None = None
+with_after g (Some p) = Some record { before = p.before; group = p.group; after = p.after ++ g ∷ [] }
+
+with_after-front : (key : List ℕ) (f g : List HeldLine) (gs : List (List HeldLine)) (o : Option KeyPlace)
+    → place_after key f (gs ++ g ∷ []) (with_after g o) ≡ with_after g (place_after key f gs o)
+with_after-front key f g gs (Some p) = refl
+with_after-front key f g gs None = elim (cases_Bool (has_key key f)) [ inl k ↦ rw k refl | inr k ↦ rw k refl ]
+
+-- a group with the key is the last place with it
+pub last_place-new : (key : List ℕ) (gs : List (List HeldLine)) (g : List HeldLine) → HasKey key g
+    → last_place key (gs ++ g ∷ []) ≡ Some (record { before = gs; group = g; after = [] })
+last_place-new key gs g h = last_place-some key gs g [] h tt
+
+-- any other leaves the last place as it was
+pub last_place-other : (key : List ℕ) (gs : List (List HeldLine)) (g : List HeldLine) → has_key key g ≡ false
+    → last_place key (gs ++ g ∷ []) ≡ with_after g (last_place key gs)
+last_place-other key [] g h = cond-false (has_key key g) (Some (record { before = []; group = g; after = [] })) None h
+last_place-other key (f ∷ gs) g h = ap (place_after key f (gs ++ g ∷ [])) (last_place-other key gs g h) ∙ with_after-front key f g gs (last_place key gs)
+
+-- what is left of some groups, and then of others
+pub without-append : (key : List ℕ) (gs hs : List (List HeldLine)) → without key (gs ++ hs) ≡ without key gs ++ without key hs
+without-append key [] hs = refl
+without-append key (g ∷ gs) hs = elim (cases_Bool (has_key key g)) [
+  | inl k ↦ rw k (without-append key gs hs)
+  | inr k ↦ rw k (ap (λ v. group_bytes g ++ v) (without-append key gs hs) ∙ sym (append_assoc (group_bytes g) (without key gs) (without key hs)))
+]
+
+-- the last of the groups
+pub final_group-push : (gs : List (List HeldLine)) (g : List HeldLine) → final_group (gs ++ g ∷ []) ≡ g
+final_group-push [] g = refl
+final_group-push (f ∷ []) g = refl
+final_group-push (f ∷ h ∷ gs) g = final_group-push (h ∷ gs) g
+
+-- ---- a group with one more line
+
+-- its last line is that one
+pub last_ending-push : (g : List HeldLine) (h : HeldLine) → last_ending (g ++ h ∷ []) ≡ h.ending
+last_ending-push [] h = refl
+last_ending-push (i ∷ []) h = refl
+last_ending-push (i ∷ j ∷ g) h = last_ending-push (j ∷ g) h
+
+-- whether the last line is open hangs on that one
+pub is_last_open-push : (g : List HeldLine) (h : HeldLine) → is_last_open (g ++ h ∷ []) ≡ is_open h.text
+is_last_open-push [] h = refl
+is_last_open-push (i ∷ []) h = refl
+is_last_open-push (i ∷ j ∷ g) h = is_last_open-push (j ∷ g) h
+
+-- its first line is the one that was
+pub is_left_open-push : (i : HeldLine) (g : List HeldLine) (h : HeldLine) → is_left_open (i ∷ g ++ h ∷ []) ≡ (not (is_comment_line i.text) && is_open h.text)
+is_left_open-push i g h = ap (λ b. not (is_comment_line i.text) && b) (is_last_open-push (i ∷ g) h)
+
+-- and it is no line alone
+pub is_empty_line-push : (i : HeldLine) (g : List HeldLine) (h : HeldLine) → is_empty_line (i ∷ g ++ h ∷ []) ≡ false
+is_empty_line-push i [] h = refl
+is_empty_line-push i (j ∷ g) h = refl
+
+-- ---- the first fault
+
+-- the group is not malformed
+abbrev pub IsSound : Outcome → Type 0
+IsSound ignored = Unit {0}
+IsSound (given content) = Unit {0}
+IsSound (broken kind) = ⊥
+
+abbrev pub AreSound : List (List HeldLine) → Type 0
+AreSound [] = Unit {0}
+AreSound (g ∷ gs) = IsSound (outcome_of (joined (as_lines g))) × AreSound gs
+
+-- a group that is not malformed has no fault
+pub result-sound : (n : ℕ) (o : Outcome) (entries : List Entry) (made : List ℕ) → IsSound o → result_by (followed n o entries) made ≡ result_by entries made
+result-sound n ignored entries made h = refl
+result-sound n (given content) entries made h = refl
+result-sound n (broken kind) entries made h = absurd h
+
+-- one that is gives the first fault
+pub result-broken : (n : ℕ) (kind : Malformed) (entries : List Entry) (made : List ℕ) → result_by (followed n (broken kind) entries) made ≡ unreadable kind n
+result-broken n kind entries made = refl
+
+-- after groups that are not malformed, the first fault is that of the groups after them
+pub result-after : (n : ℕ) (gs hs : List (List HeldLine)) (made : List ℕ) → AreSound gs
+    → result_by (entries_in n (gs ++ hs)) made ≡ result_by (entries_in (n + length (held_in gs)) hs) made
+result-after n [] hs made h = let same : n ≡ n + 0 = omega arith in ap (λ m. result_by (entries_in m hs) made) same
+result-after n (g ∷ gs) hs made h =
+    let size = length-append g (held_in gs) in
+    let same : n + length g + length (held_in gs) ≡ n + length (g ++ held_in gs) = omega arith in
+    result-sound n (outcome_of (joined (as_lines g))) (entries_in (n + length g) (gs ++ hs)) made h.0
+    ∙ result-after (n + length g) gs hs made h.1
+    ∙ ap (λ m. result_by (entries_in m hs) made) same
+
+-- ---- the printed pair
+
+-- with an LF it is the line that a new writer writes
+pub pair_bytes-printed : (e : Encoding) (first : Bool) (key value : List ℕ)
+    → pair_bytes e first key value ++ line_feed ∷ [] ≡ printed e default_settings first (pair key value)
+pair_bytes-printed e first key value =
+    let x = spelt_key e first key ++ (equals_sign ∷ spelt_text e in_key_or_value value) in
+    ap (λ o. encoded_text e x ++ (unwrap_or o [] ++ [])) (sym (encoded-ascii e line_feed (lit< tt)))
+    ∙ sym (encoded_text-append e x (line_feed ∷ []))
+    ∙ ap (encoded_text e) (append_assoc (spelt_key e first key) (equals_sign ∷ spelt_text e in_key_or_value value) (line_feed ∷ []))

@@ -1,0 +1,154 @@
+-- Sources with keys set and removed.
+use Rattle.std.proofs.Common.{◌≡◌, [], ◌∷◌, refl}
+use Rattle.std.specs.Prelude.{codes}
+use Rattle.std.specs.Char.{encode_utf8}
+use Rattle.properties_format.specs.Encoding.{windows_1252, utf_16le, utf_16be}
+use Rattle.properties_format.specs.Reading.Encoding.{pieces_of}
+use Rattle.properties_format.specs.Lines.{end}
+use Rattle.properties_format.specs.Reading.Split.{split_of}
+use Rattle.properties_format.specs.Escapes.{not_enough_digits}
+use Rattle.properties_format.specs.Reading.Escapes.{meaning_of}
+use Rattle.properties_format.specs.Items.{comment, pair, item}
+use Rattle.properties_format.specs.Reading.Items.{items_of}
+use Rattle.properties_format.specs.Edited.{put, remove, edited, unsupported, unreadable}
+use Rattle.properties_format.specs.Reading.Body.{held_groups_of}
+use Rattle.properties_format.specs.Reading.Edited.{set_key_result, remove_key_result, edit_all_result}
+
+-- a pair is appended: one line ending comes before it, where a line has none
+append : set_key_result windows_1252 (codes "a=1") (codes "b") (codes "2") ≡ edited (codes "a=1\nb=2\n")
+unfolding items_of pieces_of split_of meaning_of held_groups_of
+append = refl
+
+append_after_a_carriage_return : set_key_result windows_1252 (codes "a=1\r") (codes "b") (codes "2") ≡ edited (codes "a=1\rb=2\n")
+unfolding items_of pieces_of split_of meaning_of held_groups_of
+append_after_a_carriage_return = refl
+
+append_after_blanks : set_key_result windows_1252 (codes "a=1\n ") (codes "b") (codes "2") ≡ edited (codes "a=1\n \nb=2\n")
+unfolding items_of pieces_of split_of meaning_of held_groups_of
+append_after_blanks = refl
+
+-- a last line that is empty but joined to the one before it takes one, too
+append_after_a_join : set_key_result windows_1252 (codes "a\\\n") (codes "b") (codes "c") ≡ edited (codes "a\\\n\nb=c\n")
+unfolding items_of pieces_of split_of meaning_of held_groups_of
+append_after_a_join = refl
+
+-- and a CR, where the source ends in a CR
+append_after_a_join_by_carriage_return : set_key_result windows_1252 (codes "a\\\r") (codes "b") (codes "c") ≡ edited (codes "a\\\r\rb=c\n")
+unfolding items_of pieces_of split_of meaning_of held_groups_of
+append_after_a_join_by_carriage_return = refl
+
+-- two line endings close a group that is left open
+append_after_an_open_line : set_key_result windows_1252 (codes "a\\") (codes "b") (codes "c") ≡ edited (codes "a\\\n\nb=c\n")
+unfolding items_of pieces_of split_of meaning_of held_groups_of
+append_after_an_open_line = refl
+
+append_after_a_backslash : set_key_result windows_1252 (codes "\\") (codes "b") (codes "2") ≡ edited (codes "\\\n\nb=2\n")
+unfolding items_of pieces_of split_of meaning_of held_groups_of
+append_after_a_backslash = refl
+
+-- a comment line is never open
+append_after_an_open_comment : set_key_result windows_1252 (codes "#x\\") (codes "b") (codes "c") ≡ edited (codes "#x\\\nb=c\n")
+unfolding items_of pieces_of split_of meaning_of held_groups_of
+append_after_an_open_comment = refl
+
+-- but a comment that is made by a join may be
+append_after_a_joined_comment : set_key_result windows_1252 (codes "\\\n#b\\") (codes "c") (codes "d") ≡ edited (codes "\\\n#b\\\n\nc=d\n")
+unfolding items_of pieces_of split_of meaning_of held_groups_of
+append_after_a_joined_comment = refl
+
+append_after_a_joined_comment_read : items_of windows_1252 (codes "\\\n#b\\\n\nc=d\n") end ≡ item 1 (comment (codes "b")) ∷ item 4 (pair (codes "c") (codes "d")) ∷ []
+unfolding items_of pieces_of split_of meaning_of held_groups_of
+append_after_a_joined_comment_read = refl
+
+append_an_empty_key : set_key_result windows_1252 (codes "#c") [] (codes "v") ≡ edited (codes "#c\n=v\n")
+unfolding items_of pieces_of split_of meaning_of held_groups_of
+append_an_empty_key = refl
+
+append_to_nothing : set_key_result windows_1252 [] (codes "b") (codes "c") ≡ edited (codes "b=c\n")
+unfolding items_of pieces_of split_of meaning_of held_groups_of
+append_to_nothing = refl
+
+-- the byte order mark stays, and says the encoding
+append_after_a_mark : set_key_result utf_16be (0xef ∷ 0xbb ∷ 0xbf ∷ []) (codes "a") (codes "1") ≡ edited (0xef ∷ 0xbb ∷ 0xbf ∷ 0x61 ∷ 0x3d ∷ 0x31 ∷ 0x0a ∷ [])
+unfolding items_of pieces_of split_of meaning_of held_groups_of encode_utf8
+append_after_a_mark = refl
+
+-- the last pair is replaced, and its line ending stays
+replace : set_key_result windows_1252 (codes "a=1\na=2") (codes "a") (codes "3") ≡ edited (codes "a=1\na=3")
+unfolding items_of pieces_of split_of meaning_of held_groups_of
+replace = refl
+
+replace_a_join : set_key_result windows_1252 (codes "a\\\n") (codes "a") (codes "3") ≡ edited (codes "a=3")
+unfolding items_of pieces_of split_of meaning_of held_groups_of
+replace_a_join = refl
+
+replace_after_a_mark : set_key_result windows_1252 (0xef ∷ 0xbb ∷ 0xbf ∷ 0x61 ∷ 0x3d ∷ 0x31 ∷ 0x0d ∷ 0x0a ∷ []) (codes "a") (codes "é") ≡ edited (0xef ∷ 0xbb ∷ 0xbf ∷ 0x61 ∷ 0x3d ∷ 0xc3 ∷ 0xa9 ∷ 0x0d ∷ 0x0a ∷ [])
+unfolding items_of pieces_of split_of meaning_of held_groups_of encode_utf8
+replace_after_a_mark = refl
+
+-- a key at the front that begins like a byte order mark
+append_a_mark_like_key : set_key_result windows_1252 [] (codes "þÿ") (codes "x") ≡ edited (codes "\\u00feÿ=x\n")
+unfolding items_of pieces_of split_of meaning_of held_groups_of
+append_a_mark_like_key = refl
+
+replace_a_mark_like_key : set_key_result windows_1252 (codes "\\u00feÿ=1\n") (codes "þÿ") (codes "2") ≡ edited (codes "\\u00feÿ=2\n")
+unfolding items_of pieces_of split_of meaning_of held_groups_of
+replace_a_mark_like_key = refl
+
+-- every pair with the key is removed, with its line ending
+remove_nothing : remove_key_result windows_1252 (codes "a=1\n#c") (codes "z") ≡ edited (codes "a=1\n#c")
+unfolding items_of pieces_of split_of meaning_of held_groups_of
+remove_nothing = refl
+
+remove_two : remove_key_result windows_1252 (codes "a=1\rx=y\\\nz\n\\u0061=2") (codes "a") ≡ edited (codes "x=y\\\nz\n")
+unfolding items_of pieces_of split_of meaning_of held_groups_of
+remove_two = refl
+
+-- a CR and an LF may come together
+remove_between : remove_key_result windows_1252 (codes "x=1\ra=2\n\ny=3") (codes "a") ≡ edited (codes "x=1\r\ny=3")
+unfolding items_of pieces_of split_of meaning_of held_groups_of
+remove_between = refl
+
+remove_a_join : remove_key_result windows_1252 (codes "a\\\nb\r\nc") (codes "ab") ≡ edited (codes "c")
+unfolding items_of pieces_of split_of meaning_of held_groups_of
+remove_a_join = refl
+
+remove_all : remove_key_result windows_1252 (codes "a") (codes "a") ≡ edited []
+unfolding items_of pieces_of split_of meaning_of held_groups_of
+remove_all = refl
+
+-- what would begin like a byte order mark gets an LF before it
+remove_before_a_mark : remove_key_result windows_1252 (codes "a=1\nþÿ=2\n") (codes "a") ≡ edited (codes "\nþÿ=2\n")
+unfolding items_of pieces_of split_of meaning_of held_groups_of
+remove_before_a_mark = refl
+
+-- UTF-16 is not edited
+no_utf_16 : remove_key_result utf_16be [] (codes "a") ≡ unsupported
+unfolding items_of pieces_of split_of meaning_of held_groups_of
+no_utf_16 = refl
+
+no_utf_16_by_its_mark : set_key_result windows_1252 (0xff ∷ 0xfe ∷ 0x61 ∷ 0x00 ∷ []) (codes "a") (codes "b") ≡ unsupported
+unfolding items_of pieces_of split_of meaning_of held_groups_of
+no_utf_16_by_its_mark = refl
+
+-- nor is a source with a malformed escape
+first_fault : set_key_result windows_1252 (codes "a=1\n\\u1=x") (codes "a") (codes "b") ≡ unreadable not_enough_digits 2
+unfolding items_of pieces_of split_of meaning_of held_groups_of
+first_fault = refl
+
+-- edits in turn
+edits_in_turn : edit_all_result windows_1252 (codes "a=1\nb=2") (put (codes "a") (codes "3") ∷ remove (codes "b") ∷ put (codes "c") [] ∷ []) ≡ edited (codes "a=3\nc=\n")
+unfolding items_of pieces_of split_of meaning_of held_groups_of
+edits_in_turn = refl
+
+put_and_removed : edit_all_result windows_1252 [] (put (codes "a") (codes "1") ∷ remove (codes "a") ∷ []) ≡ edited []
+unfolding items_of pieces_of split_of meaning_of held_groups_of
+put_and_removed = refl
+
+no_edits : edit_all_result windows_1252 (codes "a=1") [] ≡ edited (codes "a=1")
+unfolding items_of pieces_of split_of meaning_of held_groups_of
+no_edits = refl
+
+no_edits_of_utf_16 : edit_all_result utf_16le [] [] ≡ unsupported
+unfolding items_of pieces_of split_of meaning_of held_groups_of
+no_edits_of_utf_16 = refl

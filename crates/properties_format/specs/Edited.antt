@@ -1,0 +1,174 @@
+-- A source with a key set or removed: which of its bytes are replaced or left out, which are added, and which stand as they were.
+-- Source: java.util.Properties of Java SE 7, load (a later pair takes the place of an earlier one) and store (how a pair is written).
+use Rattle.std.specs.Prelude.{◌≡◌, ◌⊎◌, All, ℕ, ◌&&◌, not, Bool, true, false, if◌then◌else◌, List, [], ◌∷◌, ◌++◌}
+use Rattle.properties_format.specs.Text.{scalar, line_feed, equals_sign, lf, cr, line_ending_text}
+use Rattle.properties_format.specs.Encoding.{Encoding, windows_1252, utf_8, utf_16le, utf_16be, byte_order_mark, begins_with, begins_like_bom, utf_8_bom, utf_16be_bom, utf_16le_bom}
+use Rattle.properties_format.specs.Lines.{end}
+use Rattle.properties_format.specs.Groups.{is_open, is_comment_line}
+use Rattle.properties_format.specs.Reading.Lines.{ends_in_cr}
+use Rattle.properties_format.specs.Escapes.{Malformed}
+use Rattle.properties_format.specs.Entries.{Entry, item, malformed, read_fault}
+use Rattle.properties_format.specs.Items.{IsItems}
+use Rattle.properties_format.specs.Printing.{in_key_or_value, spelt_text, encoded_text, spelt_key}
+use Rattle.properties_format.specs.Writing.{is_empty}
+use Rattle.properties_format.specs.Body.{AreGroupsOf, HasKey, HeldLine, NoneHasKey, ending_bytes, group_bytes, groups_bytes, last_ending}
+
+-- ---- A key is set.
+
+-- the bytes of a pair without a line ending; at the front of a body a key that begins like a byte order mark has its first character escaped
+abbrev pub pair_bytes : Encoding → Bool → List ℕ → List ℕ → List ℕ
+pair_bytes e first key value = encoded_text e (spelt_key e first key ++ (equals_sign ∷ spelt_text e in_key_or_value value))
+
+-- The last pair with the key gives way to the printed pair, which takes over its line ending.
+pub record IsReplaced (e : Encoding) (groups : List (List HeldLine)) (key value result : List ℕ) : Type 0 where
+  pub before : List (List HeldLine)
+  pub group : List HeldLine
+  pub after : List (List HeldLine)
+  pub division : groups ≡ before ++ group ∷ after
+  pub has_key : HasKey key group
+  pub no_later : NoneHasKey key after
+  pub bytes : result ≡ groups_bytes before ++ (pair_bytes e (is_empty (groups_bytes before)) key value ++ (ending_bytes (last_ending group) ++ groups_bytes after))
+
+-- the last of the groups
+abbrev pub final_group : List (List HeldLine) → List HeldLine
+final_group [] = []
+final_group (g ∷ []) = g
+final_group (g ∷ h ∷ gs) = final_group (h ∷ gs)
+
+-- the group is one line without bytes
+abbrev pub is_empty_line : List HeldLine → Bool
+is_empty_line [] = false
+is_empty_line (h ∷ []) = is_empty h.bytes
+is_empty_line (h ∷ i ∷ hs) = false
+
+-- the last line of the group is open
+abbrev pub is_last_open : List HeldLine → Bool
+is_last_open [] = false
+is_last_open (h ∷ []) = is_open h.text
+is_last_open (h ∷ i ∷ hs) = is_last_open (i ∷ hs)
+
+-- the group begins with no comment line, and its last line is open, so that a line after it would be joined to it
+abbrev pub is_left_open : List HeldLine → Bool
+is_left_open [] = false
+is_left_open (h ∷ hs) = not (is_comment_line h.text) && is_last_open (h ∷ hs)
+
+-- a line ending that is added: a CR where the source ends in one, so that the two are two ends, and else an LF
+abbrev pub added_ending : List ℕ → List ℕ
+added_ending source = line_ending_text (if ends_in_cr source then cr else lf)
+
+-- what parts a pair from this last group before it: nothing, one line ending, or the two that close a group that is left open
+abbrev pub parting : List ℕ → List HeldLine → List ℕ
+parting source group = if is_empty_line group then [] else (if is_left_open group then added_ending source ++ added_ending source else added_ending source)
+
+-- No pair has the key, and the printed pair stands at the end, with an LF.
+pub record IsAppended (e : Encoding) (source : List ℕ) (groups : List (List HeldLine)) (key value result : List ℕ) : Type 0 where
+  pub no_pair : NoneHasKey key groups
+  pub bytes : let front : List ℕ = groups_bytes groups ++ parting source (final_group groups) in result ≡ front ++ (pair_bytes e (is_empty front) key value ++ line_feed ∷ [])
+
+-- the byte order mark that the bytes begin with, if there is one
+abbrev pub bom_of : List ℕ → List ℕ
+bom_of b =
+    if begins_with utf_8_bom b then utf_8_bom
+    else (if begins_with utf_16be_bom b then utf_16be_bom else (if begins_with utf_16le_bom b then utf_16le_bom else []))
+
+-- The result is the source with the key set to the value: the byte order mark stays, and in the body the last pair is replaced or a new one appended.
+pub record IsKeySet (e : Encoding) (source key value result : List ℕ) : Type 0 where
+  pub groups : List (List HeldLine)
+  pub held : AreGroupsOf (byte_order_mark e source).encoding (byte_order_mark e source).body groups
+  pub body : List ℕ
+  pub edited : IsReplaced (byte_order_mark e source).encoding groups key value body ⊎ IsAppended (byte_order_mark e source).encoding source groups key value body
+  pub whole : result ≡ bom_of source ++ body
+
+-- ---- A key is removed.
+
+-- the bytes of the groups that are no pair with the key, in order
+abbrev pub IsWithout : List ℕ → List (List HeldLine) → List ℕ → Type 0
+IsWithout key [] rest = rest ≡ []
+IsWithout key (g ∷ gs) rest =
+    HasKey key g × IsWithout key gs rest ⊎ ¬ (HasKey key g) × (more : List ℕ) × (rest ≡ group_bytes g ++ more) × IsWithout key gs more
+
+-- an LF, where without it the rest would begin like a byte order mark that the source has not
+abbrev pub guarding_lf : List ℕ → List ℕ → List ℕ
+guarding_lf source rest = if not (begins_like_bom source) && begins_like_bom rest then line_feed ∷ [] else []
+
+-- The result is the source without the key: the byte order mark stays, and in the body every group that is no pair with the key.
+pub record IsKeyRemoved (e : Encoding) (source key result : List ℕ) : Type 0 where
+  pub groups : List (List HeldLine)
+  pub held : AreGroupsOf (byte_order_mark e source).encoding (byte_order_mark e source).body groups
+  pub rest : List ℕ
+  pub without : IsWithout key groups rest
+  pub whole : result ≡ bom_of source ++ (guarding_lf source rest ++ rest)
+
+-- ---- Edits in turn.
+
+pub data Edit : Type 0 where
+  put : List ℕ → List ℕ → Edit
+  remove : List ℕ → Edit
+
+-- the result is the source after this edit
+abbrev pub IsEdited : Encoding → List ℕ → Edit → List ℕ → Type 0
+IsEdited e source (put key value) result = IsKeySet e source key value result
+IsEdited e source (remove key) result = IsKeyRemoved e source key result
+
+-- the result is the source after these edits, each made to what the one before it gave
+abbrev pub AreEdited : Encoding → List ℕ → List Edit → List ℕ → Type 0
+AreEdited e source [] result = result ≡ source
+AreEdited e source (edit ∷ edits) result = (next : List ℕ) × IsEdited e source edit next × AreEdited e next edits result
+
+-- the texts that an edit puts in are of scalar values
+abbrev pub IsScalarEdit : Edit → Type 0
+IsScalarEdit (put key value) = All scalar key × All scalar value
+IsScalarEdit (remove key) = Unit {0}
+
+abbrev pub AreScalarEdits : List Edit → Type 0
+AreScalarEdits [] = Unit {0}
+AreScalarEdits (edit ∷ edits) = IsScalarEdit edit × AreScalarEdits edits
+
+-- ---- Which sources are edited.
+
+-- What an editor returns: the edited bytes; that the encoding in force is not one that it writes; or the first fault of the source, with its line.
+pub data EditResult : Type 0 where
+  edited : List ℕ → EditResult
+  unsupported : EditResult
+  unreadable : Malformed → ℕ → EditResult
+
+-- the encodings that are edited
+abbrev pub is_editable : Encoding → Bool
+is_editable windows_1252 = true
+is_editable utf_8 = true
+is_editable utf_16le = false
+is_editable utf_16be = false
+
+-- no entry is malformed
+abbrev pub HoldsNoMalformed : List Entry → Type 0
+HoldsNoMalformed [] = Unit {0}
+HoldsNoMalformed (item n content ∷ entries) = HoldsNoMalformed entries
+HoldsNoMalformed (malformed kind n ∷ entries) = ⊥
+HoldsNoMalformed (read_fault n ∷ entries) = HoldsNoMalformed entries
+
+-- the first malformed entry is of this kind and names this line
+abbrev pub IsFirstMalformed : Malformed → ℕ → List Entry → Type 0
+IsFirstMalformed kind n [] = ⊥
+IsFirstMalformed kind n (item m content ∷ entries) = IsFirstMalformed kind n entries
+IsFirstMalformed kind n (malformed other m ∷ entries) = (other ≡ kind) × (m ≡ n)
+IsFirstMalformed kind n (read_fault m ∷ entries) = IsFirstMalformed kind n entries
+
+-- the items of the source, to its end, are such
+abbrev pub ItemsAre : Encoding → List ℕ → (List Entry → Type 0) → Type 0
+ItemsAre e source Such = (entries : List Entry) × IsItems e source end entries × Such entries
+
+-- The result of an edit that makes such bytes of the source: whether the encoding can be edited comes first, and then the source's first fault.
+abbrev pub IsEditResult : Encoding → List ℕ → (List ℕ → Type 0) → EditResult → Type 0
+IsEditResult e source Makes unsupported = is_editable (byte_order_mark e source).encoding ≡ false
+IsEditResult e source Makes (unreadable kind n) = (is_editable (byte_order_mark e source).encoding ≡ true) × ItemsAre e source (IsFirstMalformed kind n)
+IsEditResult e source Makes (edited result) = (is_editable (byte_order_mark e source).encoding ≡ true) × ItemsAre e source HoldsNoMalformed × Makes result
+
+-- the results of the three editors
+abbrev pub IsSetKeyResult : Encoding → List ℕ → List ℕ → List ℕ → EditResult → Type 0
+IsSetKeyResult e source key value result = IsEditResult e source (IsKeySet e source key value) result
+
+abbrev pub IsRemoveKeyResult : Encoding → List ℕ → List ℕ → EditResult → Type 0
+IsRemoveKeyResult e source key result = IsEditResult e source (IsKeyRemoved e source key) result
+
+abbrev pub IsEditAllResult : Encoding → List ℕ → List Edit → EditResult → Type 0
+IsEditAllResult e source edits result = IsEditResult e source (AreEdited e source edits) result

@@ -1,0 +1,91 @@
+-- The edited source, computed group by group.
+use Rattle.std.specs.Prelude.{ℕ, if◌then◌else◌, List, [], ◌∷◌, ◌++◌, Option, Some, None}
+use Rattle.properties_format.specs.Text.{line_feed}
+use Rattle.properties_format.specs.Encoding.{Encoding, InForce, byte_order_mark}
+use Rattle.properties_format.specs.Lines.{end}
+use Rattle.properties_format.specs.Entries.{Entry, item, malformed, read_fault}
+use Rattle.properties_format.specs.Reading.Items.{items_of}
+use Rattle.properties_format.specs.Writing.{is_empty}
+use Rattle.properties_format.specs.Body.{HeldLine, ending_bytes, group_bytes, groups_bytes, last_ending}
+use Rattle.properties_format.specs.Edited.{pair_bytes, final_group, parting, bom_of, guarding_lf, Edit, put, remove, EditResult, edited, unsupported, unreadable, is_editable}
+use Rattle.properties_format.specs.Reading.Body.{has_key, held_groups_of}
+
+-- ---- a key is set
+
+-- a group, and those before and after it
+pub record KeyPlace : Type 0 where
+  pub before : List (List HeldLine)
+  pub group : List HeldLine
+  pub after : List (List HeldLine)
+
+-- the place with one more group before it; and where there is none, this group if it is a pair with the key
+abbrev pub place_after : List ℕ → List HeldLine → List (List HeldLine) → Option KeyPlace → Option KeyPlace
+place_after key g gs (Some p) = Some record { before = g ∷ p.before; group = p.group; after = p.after }
+place_after key g gs None = if has_key key g then Some record { before = []; group = g; after = gs } else None
+
+-- the place of the last pair with the key
+abbrev pub last_place : List ℕ → List (List HeldLine) → Option KeyPlace
+last_place key [] = None
+last_place key (g ∷ gs) = place_after key g gs (last_place key gs)
+
+-- the body with the pair in that place, or at the end
+abbrev pub set_at : Encoding → List ℕ → List (List HeldLine) → List ℕ → List ℕ → Option KeyPlace → List ℕ
+set_at e source groups key value (Some p) =
+    groups_bytes p.before ++ (pair_bytes e (is_empty (groups_bytes p.before)) key value ++ (ending_bytes (last_ending p.group) ++ groups_bytes p.after))
+set_at e source groups key value None =
+    let front : List ℕ = groups_bytes groups ++ parting source (final_group groups) in
+    front ++ (pair_bytes e (is_empty front) key value ++ line_feed ∷ [])
+
+-- the source with the key set
+abbrev pub key_set_in : InForce → List ℕ → List ℕ → List ℕ → List ℕ
+key_set_in f source key value =
+    let groups = held_groups_of f.encoding f.body in
+    bom_of source ++ set_at f.encoding source groups key value (last_place key groups)
+
+abbrev pub key_set : Encoding → List ℕ → List ℕ → List ℕ → List ℕ
+key_set e source key value = key_set_in (byte_order_mark e source) source key value
+
+-- ---- a key is removed
+
+-- the bytes of the groups that are no pair with the key
+abbrev pub without : List ℕ → List (List HeldLine) → List ℕ
+without key [] = []
+without key (g ∷ gs) = if has_key key g then without key gs else group_bytes g ++ without key gs
+
+-- the source without the key
+abbrev pub key_removed_in : InForce → List ℕ → List ℕ → List ℕ
+key_removed_in f source key = let rest = without key (held_groups_of f.encoding f.body) in bom_of source ++ (guarding_lf source rest ++ rest)
+
+abbrev pub key_removed : Encoding → List ℕ → List ℕ → List ℕ
+key_removed e source key = key_removed_in (byte_order_mark e source) source key
+
+-- ---- edits in turn
+
+abbrev pub edit_made : Encoding → List ℕ → Edit → List ℕ
+edit_made e source (put key value) = key_set e source key value
+edit_made e source (remove key) = key_removed e source key
+
+abbrev pub edits_made : Encoding → List ℕ → List Edit → List ℕ
+edits_made e source [] = source
+edits_made e source (edit ∷ edits) = edits_made e (edit_made e source edit) edits
+
+-- ---- results
+
+-- the result by the items of the source: its first fault, or else these bytes
+abbrev pub result_by : List Entry → List ℕ → EditResult
+result_by [] result = edited result
+result_by (item n content ∷ entries) result = result_by entries result
+result_by (malformed kind n ∷ entries) result = unreadable kind n
+result_by (read_fault n ∷ entries) result = result_by entries result
+
+abbrev pub result_of : Encoding → List ℕ → List ℕ → EditResult
+result_of e source result = if is_editable (byte_order_mark e source).encoding then result_by (items_of e source end) result else unsupported
+
+abbrev pub set_key_result : Encoding → List ℕ → List ℕ → List ℕ → EditResult
+set_key_result e source key value = result_of e source (key_set e source key value)
+
+abbrev pub remove_key_result : Encoding → List ℕ → List ℕ → EditResult
+remove_key_result e source key = result_of e source (key_removed e source key)
+
+abbrev pub edit_all_result : Encoding → List ℕ → List Edit → EditResult
+edit_all_result e source edits = result_of e source (edits_made e source edits)
