@@ -10,7 +10,7 @@ ghost use Rattle.counted_io.specs.ReaderScript.{pieces_left, reader_tail, reader
 use crate::read::CountedRead;
 use std::io::{self, Read};
 
-/// What a [`ScriptedReader`] answers after its last piece.
+/// What a [`ScriptedReader`] returns after its last piece.
 #[derive(Clone, Copy, Debug, PartialEq, Eq)]
 pub enum Tail {
     /// The end of input.
@@ -87,7 +87,7 @@ impl ScriptedReader {
         false
     }
 
-    // What a read with room answers where no piece is left.
+    // What a read with room returns where no piece is left.
     fn answer_tail(&mut self) -> io::Result<usize>
         ensures answer { ReadAnswers [] (reader_tail self.old) 1 result }
         ensures faults { CountsFault (reader_faults self.old) (reader_faults self.new) result }

@@ -23,11 +23,11 @@ pub trait CountedWrite: Write + Drop {
     /// owner finds what the calls left.
     ghost identity: { Self → ℕ } = { λ _. 0 };
 
-    /// What a call of `write_counted` may answer: from a sink and bytes to an answer and the sink behind it. A caller
-    /// that passes an error on can show by it that the sink answered that error.
+    /// What a call of `write_counted` may return: from a sink and bytes to a result and the sink after the call. A
+    /// caller that passes an error on can show by it that the sink returned that error.
     ghost write_gives: { Self → List ℕ → Result ℕ Error → Self → Type 0 } = { λ _ _ _ _. Unit {0} };
 
-    /// What a call of `flush_counted` may answer.
+    /// What a call of `flush_counted` may return.
     ghost flush_gives: { Self → Result Unit Error → Self → Type 0 } = { λ _ _ _. Unit {0} };
 
     /// Does what `write` does.

@@ -11,7 +11,7 @@ use std::fmt;
 /// Comments come before pairs. Of two comments, and of two pairs, the bytes of the texts decide.
 #[derive(Debug, Clone, PartialEq, Eq, PartialOrd, Ord, Hash, Drop)]
 pub enum LineContent {
-    /// The text of a comment, without its mark and the blanks around it.
+    /// The text of a comment, without its comment sign and the blanks around it.
     Comment(String),
     /// A key and its value.
     KVPair(String, String),

@@ -20,6 +20,7 @@ pub struct LogicalLines<I> {
 }
 
 impl<I: Iterator<Item = Result<NaturalLine, PropertiesError>>> LogicalLines<I> {
+    /// Joins these lines. None is asked for yet.
     pub fn new(lines: I) -> LogicalLines<I>
         ensures start { result ≡ record { lines = lines; is_done = false } }
         ensures joins { JoinsAll I.next_gives result }
