@@ -1,7 +1,9 @@
 -- What is appended for a text, by where it stands.
-use Rattle.std.specs.Prelude.{◌≡◌, ℕ, Bool, List, ◌++◌, Result, OnOk}
+use Rattle.std.specs.Prelude.{◌≡◌, ℕ, nat_lt, ◌==◌, Bool, if◌then◌else◌, List, [], ◌∷◌, ◌++◌, Result, OnOk}
 use Rattle.std.specs.Global.{Vec}
+use Rattle.std.specs.Str.{chars}
 use Rattle.properties_format.specs.Printing as format
+use Rattle.properties_format.specs.Text.{tab, line_feed, form_feed, space, backslash}
 use Rattle.java_properties.specs.Encoding.{output_of}
 use Rattle.java_properties.specs.declared.encoding.encode.OutputEncoding.{OutputEncoding}
 use Rattle.java_properties.specs.declared.writer.print.Place.{Place}
@@ -25,3 +27,30 @@ text_bytes encoding place text = format.encoded_text (output_of encoding) (forma
 
 abbrev pub key_bytes : OutputEncoding → Bool → List ℕ → List ℕ
 key_bytes encoding first key = format.encoded_text (output_of encoding) (format.spelt_key (output_of encoding) first key)
+
+-- ---- bytes of an output encoding
+
+-- a byte as it is printed in a key or a value: past ASCII it stands as it is
+abbrev pub spelt_byte : ℕ → List ℕ
+spelt_byte b =
+    if format.is_special b then backslash ∷ b ∷ []
+    else (if format.has_letter b then format.letter_escape b else (if nat_lt b space then format.unicode_escape b else b ∷ []))
+
+-- and several, byte by byte
+abbrev pub spelt_bytes : List ℕ → List ℕ
+spelt_bytes [] = []
+spelt_bytes (b ∷ bs) = spelt_byte b ++ spelt_bytes bs
+
+-- how many backslashes stand before the last byte of that, or 2 where it is a longer escape
+abbrev pub backslashes_before : ℕ → ℕ
+backslashes_before b = if format.is_special b then 1 else (if format.has_letter b then 1 else (if nat_lt b space then 2 else 0))
+
+-- the last byte of that, where it is no longer escape
+abbrev pub last_of : ℕ → ℕ
+last_of b =
+    if format.is_special b then b
+    else (if format.has_letter b then (if b == tab then 0x74 else (if b == line_feed then 0x6e else (if b == form_feed then 0x66 else 0x72))) else b)
+
+-- the text of these bytes is printed in a key or a value as they are, byte by byte
+abbrev pub Stands : OutputEncoding → List ℕ → Type 0
+Stands encoding bytes = text_bytes encoding KeyOrValue (chars bytes) ≡ spelt_bytes bytes

@@ -1,15 +1,18 @@
 // Texts as they are printed.
 
-ghost use Rattle.std.specs.Prelude.{◌≡◌, ◌++◌, ◌∷◌, ◌<◌, [], OnOk};
+ghost use Rattle.std.specs.Prelude.{◌≡◌, true, ◌++◌, ◌∷◌, ◌<◌, [], OnOk};
 ghost use Rattle.std.specs.Char.{digit_char};
 ghost use Rattle.std.specs.Str.{chars};
 ghost use Rattle.properties_format.specs.Text.{backslash};
 ghost use Rattle.properties_format.specs.Printing.{unit_escape, unicode_escape, literal, spelt, spelt_text, encoded_text, is_bom_like, with_first_escaped, spelt_key, in_key_or_value, in_comment};
 ghost use Rattle.java_properties.specs.Encoding.{output_of};
-ghost use Rattle.java_properties.specs.Printing.{AppendsOnOk, character_bytes, text_bytes, key_bytes};
+ghost use Rattle.java_properties.specs.Printing.{AppendsOnOk, Stands, character_bytes, text_bytes, key_bytes, spelt_byte};
 
 use crate::encoding::{OutputEncoding, push_encoded};
+use bytes::print_bytes;
 use std::alloc::AllocError;
+
+mod bytes;
 
 const HEXADECIMAL: [u8; 16] = *b"0123456789abcdef";
 
@@ -26,6 +29,31 @@ pub enum Place {
 
 /// Prints a text.
 pub fn print_text(
+    line: &mut Vec<u8>,
+    encoding: OutputEncoding,
+    place: Place,
+    text: &str,
+) -> Result<(), AllocError>
+    ensures { AppendsOnOk line.old (text_bytes encoding place (chars text.now)) result line.new }
+{
+    match place {
+        Place::KeyOrValue if stands(encoding, text) => print_bytes(line, text.as_bytes()),
+        _ => print_characters(line, encoding, place, text),
+    }
+}
+
+// Whether the encoding's bytes of the text are its own, so that only ASCII is ever escaped.
+fn stands(encoding: OutputEncoding, text: &str) -> bool
+    ensures { result ≡ true → Stands encoding text.now }
+{
+    match encoding {
+        OutputEncoding::Utf8 => true,
+        OutputEncoding::Windows1252 => text.is_ascii(),
+    }
+}
+
+// Prints a text, character by character.
+fn print_characters(
     line: &mut Vec<u8>,
     encoding: OutputEncoding,
     place: Place,
@@ -162,6 +190,17 @@ fn print_literal(
         return Ok(());
     }
     print_escape(line, character)
+}
+
+// Prints a byte of an output encoding. Past ASCII it stands as it is.
+fn print_byte(line: &mut Vec<u8>, byte: u8) -> Result<(), AllocError>
+    ensures { AppendsOnOk line.old (spelt_byte byte) result line.new }
+{
+    if byte < 0x80 {
+        print_in_key_or_value(line, OutputEncoding::Windows1252, char::from(byte))
+    } else {
+        line.extend_from_slice(&[byte])
+    }
 }
 
 fn print_after_backslash(line: &mut Vec<u8>, byte: u8) -> Result<(), AllocError>

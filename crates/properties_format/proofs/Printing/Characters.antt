@@ -103,7 +103,7 @@ unicode_escape-ascii c =
     (λ k. unit_escape-ascii c)
     (λ k. AreAscii-append (unit_escape (high_surrogate c)) (unit_escape (low_surrogate c)) (unit_escape-ascii (high_surrogate c)) (unit_escape-ascii (low_surrogate c)))
 
-letter_escape-ascii : (c : ℕ) → AreAscii (letter_escape c)
+pub letter_escape-ascii : (c : ℕ) → AreAscii (letter_escape c)
 letter_escape-ascii c = (lit< tt, (letter c, tt))
   where
     letter : (c : ℕ) → cond (c == 0x09) 0x74 (cond (c == 0x0a) 0x6e (cond (c == 0x0c) 0x66 0x72)) < 0x80
@@ -115,7 +115,7 @@ letter_escape-ascii c = (lit< tt, (letter c, tt))
 is-ascii : (c k : ℕ) → k < 0x80 → (c == k) ≡ true → c < 0x80
 is-ascii c k h e = rw (eqb-true c k e) h
 
-special-ascii : (c : ℕ) → is_special c ≡ true → c < 0x80
+pub special-ascii : (c : ℕ) → is_special c ≡ true → c < 0x80
 special-ascii c h = elim (or_cases (c == backslash) (c == space || (is_separator c || is_comment_sign c)) h) [
   | inl e ↦ is-ascii c backslash (lit< tt) e
   | inr h ↦ elim (or_cases (c == space) (is_separator c || is_comment_sign c) h) [

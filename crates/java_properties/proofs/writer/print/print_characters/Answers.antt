@@ -6,7 +6,7 @@ use Rattle.properties_format.specs.Printing.{spelt, spelt_text, encoded_text}
 use Rattle.java_properties.specs.Encoding.{output_of}
 use Rattle.java_properties.specs.Printing.{place_of}
 use Rattle.java_properties.proofs.Printing.Characters.{printed_more}
-use Rattle.java_properties.proofs.writer.print.print_text.Goals as goal
+use Rattle.java_properties.proofs.writer.print.print_characters.Goals as goal
 
 pub loop-character-preserved : goal.loop-character-preserved
 loop-character-preserved c =
