@@ -80,6 +80,19 @@ impl<W: CountedWrite> PropertiesWriter<W> {
         })
     }
 
+    // The same as if so many lines had been written.
+    #[cfg(test)]
+    fn after_lines(alloc: Global, writer: W, lines: usize) -> PropertiesWriter<W>
+        ensures { result ≡ record (new_writer windows_1252 writer) { lines = lines } }
+    {
+        let mut engine = Engine::new(alloc, OutputEncoding::from(Encoding::WINDOWS_1252));
+        engine.count_from(lines);
+        PropertiesWriter {
+            sink: writer,
+            engine,
+        }
+    }
+
     /// Writes a comment as one line: the prefix, the text and the line ending.
     ///
     /// A line ending in the text is written as an escape, so the comment stays one line.
@@ -151,3 +164,6 @@ impl<W: CountedWrite> PropertiesWriter<W> {
         sink
     }
 }
+
+#[cfg(test)]
+mod tests;

@@ -1,5 +1,7 @@
 // Lines that no item shows: those that are blank, and those without a number.
 
+mod two_ways;
+
 use super::*;
 use crate::error::ErrorKind;
 use counted_io::{ScriptedReader, Tail};

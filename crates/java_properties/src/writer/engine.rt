@@ -57,6 +57,14 @@ impl Engine {
         }
     }
 
+    /// Counts on from so many lines, so that a test comes to the last number.
+    #[cfg(test)]
+    pub fn count_from(&mut self, lines: usize)
+        ensures { self.new ≡ record self.old { lines = lines } }
+    {
+        self.lines = lines;
+    }
+
     /// Writes a line, which is built whole before its first byte is sent.
     pub fn write_line<W: CountedWrite>(
         &mut self,
