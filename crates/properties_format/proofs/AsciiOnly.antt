@@ -1,0 +1,167 @@
+-- While ASCII alone is on, every byte that is written is one of ASCII, and the bytes read back the same in both encodings.
+use Rattle.std.proofs.Common.{◌≡◌, ℕ, ◌<◌, ◌==◌, ◌||◌, Bool, true, false, cond, List, [], ◌∷◌, ◌++◌, refl, ap, sym, ◌∙◌, inl, inr, ap₂, subst, ltb-true}
+use Rattle.std.specs.Prelude.{Option, Some, None, is_some, nat_lt}
+use Rattle.std.specs.List.{AllByRecursion}
+use Rattle.std.proofs.lemmas.List.Elements.{All-from_recursion}
+use Rattle.std.proofs.lemmas.Bool.{cases_Bool, and_left, cond_both}
+use Rattle.properties_format.specs.Text.{line_ending_text, backslash, space}
+use Rattle.properties_format.specs.Encoding.{Encoding, windows_1252, utf_8, encoded, begins_like_bom}
+use Rattle.properties_format.specs.Lines.{end}
+use Rattle.properties_format.specs.Entries.{Content, comment, pair}
+use Rattle.properties_format.specs.Items.{IsItems}
+use Rattle.properties_format.specs.Settings.{Settings, IsGoodSeparator}
+use Rattle.properties_format.specs.Reading.Settings.{is_good_prefix, is_good_separator}
+use Rattle.properties_format.specs.Printing.{Place, in_key_or_value, in_comment, in_prefix, unicode_escape, may_stand, literal, is_special, letter_escape, has_letter, spelt, spelt_text, encoded_text, is_bom_like, with_first_escaped, spelt_key, printed_text, printed}
+use Rattle.properties_format.specs.Writing.{Call, comment_call, pair_call, prefix_call, separator_call, ending_call, flush_call, ascii_only_call, settings_after_call, written_line, lines_with, line_bytes, wrote, items_read_back, ArePrefixesClean, AreOfScalars, AreGoodSettings}
+use Rattle.properties_format.specs.AsciiOnly.{KeepAsciiOnly, AreAsciiOnly, AreAsciiBytes, AreItemsInBoth}
+use Rattle.properties_format.proofs.Printing.Characters.{AreAscii, AreAscii-append, encoded_text-ascii, line_end-ascii, good_separator-ascii, may_stand-ascii, spelt-either}
+use Rattle.properties_format.proofs.ReadBack.Lines.{settings_after_call-good}
+use Rattle.properties_format.proofs.ReadBack.Unmarked.{front-unmarked}
+use Rattle.properties_format.proofs.ReadBack.Law.{IsItems-wrote}
+
+-- ---- characters
+
+-- while it is on, what may stand as itself is what is ASCII, in every encoding
+pub may_stand-on : (e : Encoding) (c : ℕ) → may_stand e true c ≡ nat_lt c 0x80
+may_stand-on e c = elim (cases_Bool (nat_lt c 0x80)) [
+  | inl k ↦ may_stand-ascii e true c (ltb-true c 0x80 k) ∙ sym k
+  | inr k ↦ and_left (nat_lt c 0x80) (is_some (encoded e c)) k ∙ sym k
+]
+
+may_stand-below : (e : Encoding) (c : ℕ) → may_stand e true c ≡ true → c < 0x80
+may_stand-below e c h = ltb-true c 0x80 (sym (may_stand-on e c) ∙ h)
+
+literal-same : (e f : Encoding) (c : ℕ) → literal e true c ≡ literal f true c
+literal-same e f c = ap (λ b. cond b (c ∷ []) (unicode_escape c)) (may_stand-on e c ∙ sym (may_stand-on f c))
+
+spelt-same : (e f : Encoding) (place : Place) (c : ℕ) → spelt e true place c ≡ spelt f true place c
+spelt-same e f in_key_or_value c =
+    ap (λ x. cond (is_special c) (backslash ∷ c ∷ []) (cond (has_letter c) (letter_escape c) (cond (nat_lt c space) (unicode_escape c) x))) (literal-same e f c)
+spelt-same e f in_comment c = ap (λ x. cond (c == backslash) (backslash ∷ backslash ∷ []) (cond (c == 0x0a || c == 0x0d) (letter_escape c) x)) (literal-same e f c)
+spelt-same e f in_prefix c = literal-same e f c
+
+spelt-ascii : (e : Encoding) (place : Place) (c : ℕ) → AreAscii (spelt e true place c)
+spelt-ascii e place c = spelt-either e true place c AreAscii (λ x h. h) (λ k. (may_stand-below e c k, tt))
+
+-- ---- texts
+
+spelt_text-same : (e f : Encoding) (place : Place) (x : List ℕ) → spelt_text e true place x ≡ spelt_text f true place x
+spelt_text-same e f place [] = refl
+spelt_text-same e f place (c ∷ x) = ap₂ (λ v w. v ++ w) (spelt-same e f place c) (spelt_text-same e f place x)
+
+pub spelt_text-ascii : (e : Encoding) (place : Place) (x : List ℕ) → AreAscii (spelt_text e true place x)
+spelt_text-ascii e place [] = tt
+spelt_text-ascii e place (c ∷ x) = AreAscii-append (spelt e true place c) (spelt_text e true place x) (spelt-ascii e place c) (spelt_text-ascii e place x)
+
+ascii-unmarked : (e : Encoding) (x : List ℕ) → AreAscii x → begins_like_bom (encoded_text e x) ≡ false
+ascii-unmarked e [] h = refl
+ascii-unmarked e (c ∷ x) h = front-unmarked e (c ∷ x) c x refl h.0
+
+-- While it is on, no key begins like a byte order mark.
+pub is_bom_like-on : (e : Encoding) (key : List ℕ) → is_bom_like e true key ≡ false
+is_bom_like-on e key = ascii-unmarked e (spelt_text e true in_key_or_value key) (spelt_text-ascii e in_key_or_value key)
+
+spelt_key-on : (e : Encoding) (first : Bool) (key : List ℕ) → spelt_key e true first key ≡ spelt_text e true in_key_or_value key
+spelt_key-on e true key = ap (λ b. cond b (with_first_escaped e true key) (spelt_text e true in_key_or_value key)) (is_bom_like-on e key)
+spelt_key-on e false key = refl
+
+spelt_key-same : (e f : Encoding) (first : Bool) (key : List ℕ) → spelt_key e true first key ≡ spelt_key f true first key
+spelt_key-same e f first key = spelt_key-on e first key ∙ spelt_text-same e f in_key_or_value key ∙ sym (spelt_key-on f first key)
+
+spelt_key-ascii : (e : Encoding) (first : Bool) (key : List ℕ) → AreAscii (spelt_key e true first key)
+spelt_key-ascii e first key = subst AreAscii (sym (spelt_key-on e first key)) (spelt_text-ascii e in_key_or_value key)
+
+-- ---- lines
+
+-- the parts of a line, with ASCII alone on or off
+abbrev parts : Encoding → Bool → Settings → Bool → Content → List ℕ
+parts e only s first (comment text) = spelt_text e only in_prefix s.comment_prefix ++ (spelt_text e only in_comment text ++ line_ending_text s.line_ending)
+parts e only s first (pair key value) = spelt_key e only first key ++ (s.kv_separator ++ (spelt_text e only in_key_or_value value ++ line_ending_text s.line_ending))
+
+printed-parts : (e : Encoding) (s : Settings) (first : Bool) (line : Content) → s.ascii_only ≡ true → printed_text e s first line ≡ parts e true s first line
+printed-parts e s first (comment text) on = ap (λ b. parts e b s first (comment text)) on
+printed-parts e s first (pair key value) on = ap (λ b. parts e b s first (pair key value)) on
+
+parts-same : (e f : Encoding) (s : Settings) (first : Bool) (line : Content) → parts e true s first line ≡ parts f true s first line
+parts-same e f s first (comment text) =
+    ap₂ (λ v w. v ++ (w ++ line_ending_text s.line_ending)) (spelt_text-same e f in_prefix s.comment_prefix) (spelt_text-same e f in_comment text)
+parts-same e f s first (pair key value) =
+    ap₂ (λ v w. v ++ (s.kv_separator ++ (w ++ line_ending_text s.line_ending))) (spelt_key-same e f first key) (spelt_text-same e f in_key_or_value value)
+
+parts-ascii : (e : Encoding) (s : Settings) (first : Bool) (line : Content) → IsGoodSeparator s.kv_separator → AreAscii (parts e true s first line)
+parts-ascii e s first (comment text) g =
+    AreAscii-append (spelt_text e true in_prefix s.comment_prefix) (spelt_text e true in_comment text ++ line_ending_text s.line_ending) (spelt_text-ascii e in_prefix s.comment_prefix)
+    (AreAscii-append (spelt_text e true in_comment text) (line_ending_text s.line_ending) (spelt_text-ascii e in_comment text) (line_end-ascii s.line_ending))
+parts-ascii e s first (pair key value) g =
+    AreAscii-append (spelt_key e true first key) (s.kv_separator ++ (spelt_text e true in_key_or_value value ++ line_ending_text s.line_ending)) (spelt_key-ascii e first key)
+    (AreAscii-append s.kv_separator (spelt_text e true in_key_or_value value ++ line_ending_text s.line_ending) (good_separator-ascii s.kv_separator g)
+    (AreAscii-append (spelt_text e true in_key_or_value value) (line_ending_text s.line_ending) (spelt_text-ascii e in_key_or_value value) (line_end-ascii s.line_ending)))
+
+-- bytes that are ASCII and the same in this other encoding
+record AreShared (f : Encoding) (x y : List ℕ) : Type 0 where
+  ascii : AreAscii x
+  same : x ≡ y
+
+shared-append : (f : Encoding) (x y z w : List ℕ) → AreShared f x y → AreShared f z w → AreShared f (x ++ z) (y ++ w)
+shared-append f x y z w h k = record { ascii = AreAscii-append x z h.ascii k.ascii; same = ap₂ (λ v u. v ++ u) h.same k.same }
+
+printed-shared : (e f : Encoding) (s : Settings) (first : Bool) (line : Content) → s.ascii_only ≡ true → IsGoodSeparator s.kv_separator → AreShared f (printed e s first line) (printed f s first line)
+printed-shared e f s first line on g =
+    let x = parts e true s first line in
+    let y = parts f true s first line in
+    let a = ap (encoded_text e) (printed-parts e s first line on) ∙ encoded_text-ascii e x (parts-ascii e s first line g) in
+    let b = ap (encoded_text f) (printed-parts f s first line on) ∙ encoded_text-ascii f y (parts-ascii f s first line g) in
+    record { ascii = subst AreAscii (sym a) (parts-ascii e s first line g); same = a ∙ parts-same e f s first line ∙ sym b }
+
+line-shared : (e f : Encoding) (s : Settings) (n : ℕ) (o : Option Content) → s.ascii_only ≡ true → IsGoodSeparator s.kv_separator → AreShared f (line_bytes e s n o) (line_bytes f s n o)
+line-shared e f s n None on g = record { ascii = tt; same = refl }
+line-shared e f s n (Some line) on g = printed-shared e f s (n == 0) line on g
+
+-- ---- calls
+
+-- a list of calls, by its first
+first-keeps : (s : Settings) (call : Call) (calls : List Call) → s.ascii_only ≡ true → KeepAsciiOnly (call ∷ calls) → ((settings_after_call s call).ascii_only ≡ true) × KeepAsciiOnly calls
+first-keeps s (comment_call text) calls on k = (on, k)
+first-keeps s (pair_call key value) calls on k = (on, k)
+first-keeps s (prefix_call prefix) calls on k =
+    (cond_both (is_good_prefix prefix) (record s { comment_prefix = prefix }) s (λ v. v.ascii_only ≡ true) (λ h. on) (λ h. on), k)
+first-keeps s (separator_call separator) calls on k =
+    (cond_both (is_good_separator separator) (record s { kv_separator = separator }) s (λ v. v.ascii_only ≡ true) (λ h. on) (λ h. on), k)
+first-keeps s (ending_call line_ending) calls on k = (on, k)
+first-keeps s flush_call calls on k = (on, k)
+first-keeps s (ascii_only_call mode) calls on k = k
+
+wrote-shared : (e f : Encoding) (s : Settings) (n : ℕ) (calls : List Call) → s.ascii_only ≡ true → KeepAsciiOnly calls → AreGoodSettings s → AreOfScalars calls
+    → AreShared f (wrote e s n calls) (wrote f s n calls)
+wrote-shared e f s n [] on k g h = record { ascii = tt; same = refl }
+wrote-shared e f s n (call ∷ calls) on k g h =
+    let (next, rest) = first-keeps s call calls on k in
+    let o = written_line s call in
+    let t = settings_after_call s call in
+    let m = lines_with n o in
+    shared-append f (line_bytes e s n o) (line_bytes f s n o) (wrote e t m calls) (wrote f t m calls)
+    (line-shared e f s n o on g.separator) (wrote-shared e f t m calls next rest (settings_after_call-good s call g h.0) h.1)
+
+-- the calls of a list that turns ASCII alone on first
+calls-shared : (e f : Encoding) (s : Settings) (n : ℕ) (calls : List Call) → AreAsciiOnly calls → AreGoodSettings s → AreOfScalars calls → AreShared f (wrote e s n calls) (wrote f s n calls)
+calls-shared e f s n [] k g h = absurd k
+calls-shared e f s n (call ∷ calls) k g h =
+    subst (λ v. AreShared f (wrote e s n (v ∷ calls)) (wrote f s n (v ∷ calls))) (sym k.0)
+    (wrote-shared e f (record s { ascii_only = true }) n calls refl k.1 (record { prefix = g.prefix; scalars = g.scalars; separator = g.separator }) h.1)
+
+-- Where ASCII alone is turned on by the first call and not turned off, every byte that is written is one of ASCII.
+pub wrote-ascii : (e : Encoding) (s : Settings) (n : ℕ) (calls : List Call) → AreAsciiOnly calls → AreGoodSettings s → AreOfScalars calls → AreAsciiBytes (wrote e s n calls)
+wrote-ascii e s n calls k g h = All-from_recursion (λ b. b < 0x80) (wrote e s n calls) (recursive (wrote e s n calls) (calls-shared e e s n calls k g h).ascii)
+  where
+    recursive : (x : List ℕ) → AreAscii x → AllByRecursion (λ b. b < 0x80) x
+    recursive [] h = tt
+    recursive (b ∷ x) h = (h.0, recursive x h.1)
+
+-- And what a writer without lines wrote has the same items in windows-1252 and in UTF-8: those that the calls told.
+pub AreItemsInBoth-wrote : (e : Encoding) (s : Settings) (calls : List Call) → AreAsciiOnly calls → AreGoodSettings s → ArePrefixesClean s calls → AreOfScalars calls
+    → AreItemsInBoth (wrote e s 0 calls) (items_read_back s 0 calls)
+AreItemsInBoth-wrote e s calls k g c h =
+    record {
+      in_windows_1252 = subst (λ b. IsItems windows_1252 b end (items_read_back s 0 calls)) (calls-shared windows_1252 e s 0 calls k g h).same (IsItems-wrote windows_1252 s calls refl g c h);
+      in_utf_8 = subst (λ b. IsItems utf_8 b end (items_read_back s 0 calls)) (calls-shared utf_8 e s 0 calls k g h).same (IsItems-wrote utf_8 s calls refl g c h);
+    }
