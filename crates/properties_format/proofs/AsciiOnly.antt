@@ -12,10 +12,10 @@ use Rattle.properties_format.specs.Items.{IsItems}
 use Rattle.properties_format.specs.Settings.{Settings, IsGoodSeparator}
 use Rattle.properties_format.specs.Reading.Settings.{is_good_prefix, is_good_separator}
 use Rattle.properties_format.specs.Printing.{Place, in_key_or_value, in_comment, in_prefix, unicode_escape, may_stand, literal, is_special, letter_escape, has_letter, spelt, spelt_text, encoded_text, is_bom_like, with_first_escaped, spelt_key, printed_text, printed}
-use Rattle.properties_format.specs.Writing.{Call, comment_call, pair_call, prefix_call, separator_call, ending_call, flush_call, ascii_only_call, settings_after_call, written_line, lines_with, line_bytes, wrote, items_read_back, ArePrefixesClean, AreOfScalars, AreGoodSettings}
-use Rattle.properties_format.specs.AsciiOnly.{KeepAsciiOnly, AreAsciiOnly, AreAsciiBytes, AreItemsInBoth}
+use Rattle.properties_format.specs.Writing.{Call, comment_call, pair_call, prefix_call, separator_call, ending_call, flush_call, ascii_only_call, settings_after_call, settings_after, written_line, lines_with, line_bytes, wrote, items_read_back, ArePrefixesClean, AreOfScalars, AreGoodSettings}
+use Rattle.properties_format.specs.AsciiOnly.{KeepsAsciiOnly, AllKeepAsciiOnly, AreAsciiOnly, AreAsciiBytes, AreItemsInBoth}
 use Rattle.properties_format.proofs.Printing.Characters.{AreAscii, AreAscii-append, encoded_text-ascii, line_end-ascii, good_separator-ascii, may_stand-ascii, spelt-either}
-use Rattle.properties_format.proofs.ReadBack.Lines.{settings_after_call-good}
+use Rattle.properties_format.proofs.ReadBack.Lines.{settings_after_call-good, settings_after-good}
 use Rattle.properties_format.proofs.ReadBack.Unmarked.{front-unmarked}
 use Rattle.properties_format.proofs.ReadBack.Law.{IsItems-wrote}
 
@@ -119,28 +119,25 @@ line-shared e f s n (Some line) on g = printed-shared e f s (n == 0) line on g
 
 -- ---- calls
 
--- a list of calls, by its first
-first-keeps : (s : Settings) (call : Call) (calls : List Call) → s.ascii_only ≡ true → KeepAsciiOnly (call ∷ calls) → ((settings_after_call s call).ascii_only ≡ true) × KeepAsciiOnly calls
-first-keeps s (comment_call text) calls on k = (on, k)
-first-keeps s (pair_call key value) calls on k = (on, k)
-first-keeps s (prefix_call prefix) calls on k =
-    (cond_both (is_good_prefix prefix) (record s { comment_prefix = prefix }) s (λ v. v.ascii_only ≡ true) (λ h. on) (λ h. on), k)
-first-keeps s (separator_call separator) calls on k =
-    (cond_both (is_good_separator separator) (record s { kv_separator = separator }) s (λ v. v.ascii_only ≡ true) (λ h. on) (λ h. on), k)
-first-keeps s (ending_call line_ending) calls on k = (on, k)
-first-keeps s flush_call calls on k = (on, k)
-first-keeps s (ascii_only_call mode) calls on k = k
+-- a call that doesn't turn it off leaves it on
+call-on : (s : Settings) (call : Call) → s.ascii_only ≡ true → KeepsAsciiOnly call → (settings_after_call s call).ascii_only ≡ true
+call-on s (comment_call text) on k = on
+call-on s (pair_call key value) on k = on
+call-on s (prefix_call prefix) on k = cond_both (is_good_prefix prefix) (record s { comment_prefix = prefix }) s (λ v. v.ascii_only ≡ true) (λ h. on) (λ h. on)
+call-on s (separator_call separator) on k = cond_both (is_good_separator separator) (record s { kv_separator = separator }) s (λ v. v.ascii_only ≡ true) (λ h. on) (λ h. on)
+call-on s (ending_call line_ending) on k = on
+call-on s flush_call on k = on
+call-on s (ascii_only_call mode) on k = k
 
-wrote-shared : (e f : Encoding) (s : Settings) (n : ℕ) (calls : List Call) → s.ascii_only ≡ true → KeepAsciiOnly calls → AreGoodSettings s → AreOfScalars calls
+wrote-shared : (e f : Encoding) (s : Settings) (n : ℕ) (calls : List Call) → s.ascii_only ≡ true → AllKeepAsciiOnly calls → AreGoodSettings s → AreOfScalars calls
     → AreShared f (wrote e s n calls) (wrote f s n calls)
 wrote-shared e f s n [] on k g h = record { ascii = tt; same = refl }
 wrote-shared e f s n (call ∷ calls) on k g h =
-    let (next, rest) = first-keeps s call calls on k in
     let o = written_line s call in
     let t = settings_after_call s call in
     let m = lines_with n o in
     shared-append f (line_bytes e s n o) (line_bytes f s n o) (wrote e t m calls) (wrote f t m calls)
-    (line-shared e f s n o on g.separator) (wrote-shared e f t m calls next rest (settings_after_call-good s call g h.0) h.1)
+    (line-shared e f s n o on g.separator) (wrote-shared e f t m calls (call-on s call on k.0) k.1 (settings_after_call-good s call g h.0) h.1)
 
 -- the calls of a list that turns ASCII alone on first
 calls-shared : (e f : Encoding) (s : Settings) (n : ℕ) (calls : List Call) → AreAsciiOnly calls → AreGoodSettings s → AreOfScalars calls → AreShared f (wrote e s n calls) (wrote f s n calls)
@@ -149,13 +146,17 @@ calls-shared e f s n (call ∷ calls) k g h =
     subst (λ v. AreShared f (wrote e s n (v ∷ calls)) (wrote f s n (v ∷ calls))) (sym k.0)
     (wrote-shared e f (record s { ascii_only = true }) n calls refl k.1 (record { prefix = g.prefix; scalars = g.scalars; separator = g.separator }) h.1)
 
+-- a text of ASCII, as bytes
+bytes-ascii : (x : List ℕ) → AreAscii x → AreAsciiBytes x
+bytes-ascii x h = All-from_recursion (λ b. b < 0x80) x (go x h)
+  where
+    go : (x : List ℕ) → AreAscii x → AllByRecursion (λ b. b < 0x80) x
+    go [] h = tt
+    go (b ∷ x) h = (h.0, go x h.1)
+
 -- Where ASCII alone is turned on by the first call and not turned off, every byte that is written is one of ASCII.
 pub wrote-ascii : (e : Encoding) (s : Settings) (n : ℕ) (calls : List Call) → AreAsciiOnly calls → AreGoodSettings s → AreOfScalars calls → AreAsciiBytes (wrote e s n calls)
-wrote-ascii e s n calls k g h = All-from_recursion (λ b. b < 0x80) (wrote e s n calls) (recursive (wrote e s n calls) (calls-shared e e s n calls k g h).ascii)
-  where
-    recursive : (x : List ℕ) → AreAscii x → AllByRecursion (λ b. b < 0x80) x
-    recursive [] h = tt
-    recursive (b ∷ x) h = (h.0, recursive x h.1)
+wrote-ascii e s n calls k g h = bytes-ascii (wrote e s n calls) (calls-shared e e s n calls k g h).ascii
 
 -- And what a writer without lines wrote has the same items in windows-1252 and in UTF-8: those that the calls told.
 pub AreItemsInBoth-wrote : (e : Encoding) (s : Settings) (calls : List Call) → AreAsciiOnly calls → AreGoodSettings s → ArePrefixesClean s calls → AreOfScalars calls
@@ -165,3 +166,45 @@ AreItemsInBoth-wrote e s calls k g c h =
       in_windows_1252 = subst (λ b. IsItems windows_1252 b end (items_read_back s 0 calls)) (calls-shared windows_1252 e s 0 calls k g h).same (IsItems-wrote windows_1252 s calls refl g c h);
       in_utf_8 = subst (λ b. IsItems utf_8 b end (items_read_back s 0 calls)) (calls-shared utf_8 e s 0 calls k g h).same (IsItems-wrote utf_8 s calls refl g c h);
     }
+
+-- ---- a beginning of the calls
+
+keep-front : (xs ys : List Call) → AllKeepAsciiOnly (xs ++ ys) → AllKeepAsciiOnly xs
+keep-front [] ys k = tt
+keep-front (x ∷ xs) ys k = (k.0, keep-front xs ys k.1)
+
+scalars-front : (xs ys : List Call) → AreOfScalars (xs ++ ys) → AreOfScalars xs
+scalars-front [] ys h = tt
+scalars-front (x ∷ xs) ys h = (h.0, scalars-front xs ys h.1)
+
+begun-text : (e : Encoding) (s : Settings) (n : ℕ) (xs ys : List Call) → AreAsciiOnly (xs ++ ys) → AreGoodSettings s → AreOfScalars (xs ++ ys) → AreAscii (wrote e s n xs)
+begun-text e s n [] ys k g h = tt
+begun-text e s n (x ∷ xs) ys k g h = (calls-shared e e s n (x ∷ xs) (k.0, keep-front xs ys k.1) g (scalars-front (x ∷ xs) ys h)).ascii
+
+-- The bytes of a beginning of the calls are of ASCII.
+pub begun-ascii : (e : Encoding) (s : Settings) (n : ℕ) (xs ys : List Call) → AreAsciiOnly (xs ++ ys) → AreGoodSettings s → AreOfScalars (xs ++ ys) → AreAsciiBytes (wrote e s n xs)
+begun-ascii e s n xs ys k g h = bytes-ascii (wrote e s n xs) (begun-text e s n xs ys k g h)
+
+kept-on : (s : Settings) (calls : List Call) → s.ascii_only ≡ true → AllKeepAsciiOnly calls → (settings_after s calls).ascii_only ≡ true
+kept-on s [] on k = on
+kept-on s (call ∷ calls) on k = kept-on (settings_after_call s call) calls (call-on s call on k.0) k.1
+
+-- the settings after a beginning, before a call that isn't the first
+begun-on : (s : Settings) (xs : List Call) (call : Call) (ys : List Call) → AreAsciiOnly (xs ++ (call ∷ ys)) → (call ≡ ascii_only_call true → ⊥) → (settings_after s xs).ascii_only ≡ true
+begun-on s [] call ys k other = absurd (other k.0)
+begun-on s (x ∷ xs) call ys k other =
+    subst (λ v. (settings_after s (v ∷ xs)).ascii_only ≡ true) (sym k.0) (kept-on (record s { ascii_only = true }) xs refl (keep-front xs (call ∷ ys) k.1))
+
+ascii-front : (x y : List ℕ) → AreAscii (x ++ y) → AreAscii x
+ascii-front [] y h = tt
+ascii-front (c ∷ x) y h = (h.0, ascii-front x y h.1)
+
+-- And so are these bytes, and then a beginning of the line that the next call writes.
+pub begun-line_ascii : (e : Encoding) (s : Settings) (n : ℕ) (xs : List Call) (call : Call) (ys : List Call) (first : Bool) (line : Content) (part rest : List ℕ) → (call ≡ ascii_only_call true → ⊥)
+    → AreAsciiOnly (xs ++ (call ∷ ys)) → AreGoodSettings s → AreOfScalars (xs ++ (call ∷ ys)) → printed e (settings_after s xs) first line ≡ part ++ rest → AreAsciiBytes (wrote e s n xs ++ part)
+begun-line_ascii e s n xs call ys first line part rest other k g h same =
+    let t = settings_after s xs in
+    let good = settings_after-good s xs g (scalars-front xs (call ∷ ys) h) in
+    let whole = (printed-shared e e t first line (begun-on s xs call ys k other) good.separator).ascii in
+    bytes-ascii (wrote e s n xs ++ part)
+    (AreAscii-append (wrote e s n xs) part (begun-text e s n xs (call ∷ ys) k g h) (ascii-front part rest (subst AreAscii same whole)))

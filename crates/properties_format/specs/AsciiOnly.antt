@@ -7,21 +7,25 @@ use Rattle.properties_format.specs.Entries.{Entry}
 use Rattle.properties_format.specs.Items.{IsItems}
 use Rattle.properties_format.specs.Writing.{Call, comment_call, pair_call, prefix_call, separator_call, ending_call, flush_call, ascii_only_call}
 
--- no call turns ASCII alone off
-abbrev pub KeepAsciiOnly : List Call → Type 0
-KeepAsciiOnly [] = Unit {0}
-KeepAsciiOnly (comment_call text ∷ calls) = KeepAsciiOnly calls
-KeepAsciiOnly (pair_call key value ∷ calls) = KeepAsciiOnly calls
-KeepAsciiOnly (prefix_call prefix ∷ calls) = KeepAsciiOnly calls
-KeepAsciiOnly (separator_call separator ∷ calls) = KeepAsciiOnly calls
-KeepAsciiOnly (ending_call line_ending ∷ calls) = KeepAsciiOnly calls
-KeepAsciiOnly (flush_call ∷ calls) = KeepAsciiOnly calls
-KeepAsciiOnly (ascii_only_call on ∷ calls) = (on ≡ true) × KeepAsciiOnly calls
+-- the call doesn't turn ASCII alone off
+abbrev pub KeepsAsciiOnly : Call → Type 0
+KeepsAsciiOnly (comment_call text) = Unit {0}
+KeepsAsciiOnly (pair_call key value) = Unit {0}
+KeepsAsciiOnly (prefix_call prefix) = Unit {0}
+KeepsAsciiOnly (separator_call separator) = Unit {0}
+KeepsAsciiOnly (ending_call line_ending) = Unit {0}
+KeepsAsciiOnly flush_call = Unit {0}
+KeepsAsciiOnly (ascii_only_call on) = on ≡ true
+
+-- and none of the calls does
+abbrev pub AllKeepAsciiOnly : List Call → Type 0
+AllKeepAsciiOnly [] = Unit {0}
+AllKeepAsciiOnly (call ∷ calls) = KeepsAsciiOnly call × AllKeepAsciiOnly calls
 
 -- The first call turns ASCII alone on, and none turns it off.
 abbrev pub AreAsciiOnly : List Call → Type 0
 AreAsciiOnly [] = ⊥
-AreAsciiOnly (call ∷ calls) = (call ≡ ascii_only_call true) × KeepAsciiOnly calls
+AreAsciiOnly (call ∷ calls) = (call ≡ ascii_only_call true) × AllKeepAsciiOnly calls
 
 -- every byte is one of ASCII
 abbrev pub AreAsciiBytes : List ℕ → Type 0
