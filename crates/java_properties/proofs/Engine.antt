@@ -10,7 +10,7 @@ use Rattle.properties_format.proofs.Printing.Characters.{printed-comment, printe
 use Rattle.properties_format.proofs.Settings.Tests.{IsGoodSeparator-from_test}
 use Rattle.java_properties.proofs.Printing.Characters.{encoded_text-raw}
 use Rattle.java_properties.specs.Encoding.{output_of}
-use Rattle.java_properties.specs.Engine.{line_bytes, content_bytes}
+use Rattle.java_properties.specs.Engine.{repertoire_of, line_bytes, content_bytes}
 use Rattle.java_properties.specs.Printing.{text_bytes, key_bytes}
 use Rattle.java_properties.specs.declared.writer.print.Place.TheVariants.{KeyOrValue}
 use Rattle.java_properties.specs.declared.writer.engine.Engine.{Engine}
@@ -23,13 +23,13 @@ ending_bytes w = encoded_text (output_of w.encoding) (line_ending_text w.setting
 line-parts : (w : Engine) (line : Content) → content_bytes w line ++ ending_bytes w ≡ line_bytes w line
 line-parts w (comment text) =
     let e = output_of w.encoding in
-    append_assoc (encoded_text e (spelt_text e in_prefix w.settings.comment_prefix)) (encoded_text e (spelt_text e in_comment text)) (ending_bytes w)
+    append_assoc (encoded_text e (spelt_text e w.settings.ascii_only in_prefix w.settings.comment_prefix)) (encoded_text e (spelt_text e w.settings.ascii_only in_comment text)) (ending_bytes w)
     ∙ sym (printed-comment e w.settings (w.lines == 0) text)
 line-parts w (pair key value) =
     let e = output_of w.encoding in
-    let front = encoded_text e (spelt_key e (w.lines == 0) key) in
+    let front = encoded_text e (spelt_key e w.settings.ascii_only (w.lines == 0) key) in
     let middle = encoded_text e w.settings.kv_separator in
-    let back = encoded_text e (spelt_text e in_key_or_value value) in
+    let back = encoded_text e (spelt_text e w.settings.ascii_only in_key_or_value value) in
     append_assoc front (middle ++ back) (ending_bytes w)
     ∙ ap (λ v. front ++ v) (append_assoc middle back (ending_bytes w))
     ∙ sym (printed-pair e w.settings (w.lines == 0) key value)
@@ -46,15 +46,15 @@ separator-bytes e bs separator u h good = sym (encoded_text-raw e bs u (good_sep
 
 -- a key, a separator and a value, after what stood there
 pub pair-printed : (w : Engine) (key value start keyed separated all separator : List ℕ)
-    → keyed ≡ start ++ key_bytes w.encoding (w.lines == 0) key
+    → keyed ≡ start ++ key_bytes (repertoire_of w) (w.lines == 0) key
     → separated ≡ keyed ++ separator
     → separator ≡ encoded_text (output_of w.encoding) w.settings.kv_separator
-    → all ≡ separated ++ text_bytes w.encoding KeyOrValue value
+    → all ≡ separated ++ text_bytes (repertoire_of w) KeyOrValue value
     → all ≡ start ++ content_bytes w (pair key value)
 pair-printed w key value start keyed separated all separator h k m n =
-    let front = key_bytes w.encoding (w.lines == 0) key in
+    let front = key_bytes (repertoire_of w) (w.lines == 0) key in
     let middle = encoded_text (output_of w.encoding) w.settings.kv_separator in
-    let back = text_bytes w.encoding KeyOrValue value in
+    let back = text_bytes (repertoire_of w) KeyOrValue value in
     n ∙ ap (λ v. v ++ back) (k ∙ ap (λ v. v ++ separator) h ∙ ap (λ v. (start ++ front) ++ v) m)
     ∙ append_assoc (start ++ front) middle back
     ∙ append_assoc start front (middle ++ back)

@@ -13,7 +13,7 @@ use Rattle.java_properties.specs.declared.error.ErrorKind.{ErrorKind}
 use Rattle.java_properties.specs.declared.error.ErrorKind.TheVariants as kind
 use Rattle.java_properties.specs.declared.error.PropertiesError.{PropertiesError}
 use Rattle.java_properties.specs.declared.writer.calls.Call.{Call}
-use Rattle.java_properties.specs.declared.writer.calls.Call.TheVariants.{Comment, Pair, Prefix, Separator, Ending, Flush}
+use Rattle.java_properties.specs.declared.writer.calls.Call.TheVariants.{Comment, Pair, Prefix, Separator, Ending, Flush, AsciiOnly}
 
 abbrev pub call_in : Call → format.Call
 call_in (Comment text) = format.comment_call (chars (string_bytes text))
@@ -22,6 +22,7 @@ call_in (Prefix prefix) = format.prefix_call (chars (string_bytes prefix))
 call_in (Separator separator) = format.separator_call (chars (string_bytes separator))
 call_in (Ending line_ending) = format.ending_call (ending_of line_ending)
 call_in Flush = format.flush_call
+call_in (AsciiOnly on) = format.ascii_only_call on
 
 abbrev pub calls_in : List Call → List format.Call
 calls_in calls = map call_in calls
@@ -51,6 +52,7 @@ MayMake failed (format.prefix_call prefix) = Unit {0}
 MayMake failed (format.separator_call separator) = Unit {0}
 MayMake failed (format.ending_call ending) = Unit {0}
 MayMake failed format.flush_call = failed ≡ false
+MayMake failed (format.ascii_only_call on) = Unit {0}
 
 abbrev pub MayMakeAll : Bool → List format.Call → Type 0
 MayMakeAll failed [] = Unit {0}
@@ -91,6 +93,7 @@ Fails sink old (format.prefix_call prefix) error new = Refuses kind.Memory old e
 Fails sink old (format.separator_call separator) error new = Refuses kind.Memory old error new
 Fails sink old (format.ending_call ending) error new = ⊥
 Fails sink old format.flush_call error new = Flushes sink old (Err error) new
+Fails sink old (format.ascii_only_call on) error new = ⊥
 
 -- The call failed, by an error that doesn't say that it was not accepted.
 pub record FailsInCall {W : Type 0} (sink : Sink W) (old : Writing W) (call : format.Call) (error : PropertiesError) (new : Writing W) : Type 0 where

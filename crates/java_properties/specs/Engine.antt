@@ -9,6 +9,7 @@ use Rattle.java_properties.specs.Printing.{text_bytes, key_bytes}
 use Rattle.java_properties.specs.declared.writer.engine.Engine.{Engine}
 use Rattle.java_properties.specs.declared.writer.engine.Content.{Content}
 use Rattle.java_properties.specs.declared.writer.engine.Content.TheVariants.{Comment, KVPair}
+use Rattle.java_properties.specs.declared.writer.print.Repertoire.{Repertoire}
 use Rattle.java_properties.specs.declared.writer.print.Place.TheVariants as place
 
 abbrev pub content_of : Content → format.Content
@@ -19,6 +20,10 @@ content_of (KVPair key value) = format.pair (chars key.now) (chars value.now)
 abbrev pub writing : {W : Type 0} → Engine → W → Writing W
 writing engine sink = record { sink = sink; encoding = output_of engine.encoding; settings = engine.settings; lines = engine.lines; failed = engine.failed }
 
+-- what a line may hold as it stands
+abbrev pub repertoire_of : Engine → Repertoire
+repertoire_of engine = record { encoding = engine.encoding; ascii_only = engine.settings.ascii_only }
+
 -- the bytes of the line that the engine builds
 abbrev pub line_bytes : Engine → format.Content → List ℕ
 line_bytes engine line = printed (output_of engine.encoding) engine.settings (engine.lines == 0) line
@@ -26,7 +31,7 @@ line_bytes engine line = printed (output_of engine.encoding) engine.settings (en
 -- those of what the line says, without the line ending
 abbrev pub content_bytes : Engine → format.Content → List ℕ
 content_bytes engine (format.comment text) =
-    text_bytes engine.encoding place.Prefix engine.settings.comment_prefix ++ text_bytes engine.encoding place.Comment text
+    text_bytes (repertoire_of engine) place.Prefix engine.settings.comment_prefix ++ text_bytes (repertoire_of engine) place.Comment text
 content_bytes engine (format.pair key value) =
-    key_bytes engine.encoding (engine.lines == 0) key
-    ++ (encoded_text (output_of engine.encoding) engine.settings.kv_separator ++ text_bytes engine.encoding place.KeyOrValue value)
+    key_bytes (repertoire_of engine) (engine.lines == 0) key
+    ++ (encoded_text (output_of engine.encoding) engine.settings.kv_separator ++ text_bytes (repertoire_of engine) place.KeyOrValue value)

@@ -5,7 +5,7 @@ use Rattle.std.specs.Str.{chars}
 use Rattle.properties_format.specs.Printing as format
 use Rattle.properties_format.specs.Text.{tab, line_feed, form_feed, space, backslash}
 use Rattle.java_properties.specs.Encoding.{output_of}
-use Rattle.java_properties.specs.declared.encoding.encode.OutputEncoding.{OutputEncoding}
+use Rattle.java_properties.specs.declared.writer.print.Repertoire.{Repertoire}
 use Rattle.java_properties.specs.declared.writer.print.Place.{Place}
 use Rattle.java_properties.specs.declared.writer.print.Place.TheVariants.{KeyOrValue, Comment, Prefix}
 
@@ -18,15 +18,15 @@ place_of Prefix = format.in_prefix
 abbrev pub AppendsOnOk : {E : Type 0} → Vec ℕ → List ℕ → Result Unit E → Vec ℕ → Type 0
 AppendsOnOk old bytes result new = OnOk result (new.items ≡ old.items ++ bytes)
 
--- the bytes of a character, of a text and of a key
-abbrev pub character_bytes : OutputEncoding → Place → ℕ → List ℕ
-character_bytes encoding place c = format.encoded_text (output_of encoding) (format.spelt (output_of encoding) (place_of place) c)
+-- the bytes of a character, of a text and of a key, in a repertoire
+abbrev pub character_bytes : Repertoire → Place → ℕ → List ℕ
+character_bytes r place c = format.encoded_text (output_of r.encoding) (format.spelt (output_of r.encoding) r.ascii_only (place_of place) c)
 
-abbrev pub text_bytes : OutputEncoding → Place → List ℕ → List ℕ
-text_bytes encoding place text = format.encoded_text (output_of encoding) (format.spelt_text (output_of encoding) (place_of place) text)
+abbrev pub text_bytes : Repertoire → Place → List ℕ → List ℕ
+text_bytes r place text = format.encoded_text (output_of r.encoding) (format.spelt_text (output_of r.encoding) r.ascii_only (place_of place) text)
 
-abbrev pub key_bytes : OutputEncoding → Bool → List ℕ → List ℕ
-key_bytes encoding first key = format.encoded_text (output_of encoding) (format.spelt_key (output_of encoding) first key)
+abbrev pub key_bytes : Repertoire → Bool → List ℕ → List ℕ
+key_bytes r first key = format.encoded_text (output_of r.encoding) (format.spelt_key (output_of r.encoding) r.ascii_only first key)
 
 -- ---- bytes of an output encoding
 
@@ -52,5 +52,5 @@ last_of b =
     else (if format.has_letter b then (if b == tab then 0x74 else (if b == line_feed then 0x6e else (if b == form_feed then 0x66 else 0x72))) else b)
 
 -- the text of these bytes is printed in a key or a value as they are, byte by byte
-abbrev pub Stands : OutputEncoding → List ℕ → Type 0
-Stands encoding bytes = text_bytes encoding KeyOrValue (chars bytes) ≡ spelt_bytes bytes
+abbrev pub Stands : Repertoire → List ℕ → Type 0
+Stands r bytes = text_bytes r KeyOrValue (chars bytes) ≡ spelt_bytes bytes

@@ -1,5 +1,5 @@
 -- What a writer is set to, and what its setters do.
-use Rattle.std.specs.Prelude.{◌≡◌, ◌⊎◌, ℕ, true, List, Option, Some, None, Result, Ok, Err}
+use Rattle.std.specs.Prelude.{◌≡◌, ◌⊎◌, ℕ, Bool, true, List, Option, Some, None, Result, Ok, Err}
 use Rattle.std.specs.Str.{chars}
 use Rattle.std.specs.String.{string_bytes}
 use Rattle.std.specs.declared.string.String.{String}
@@ -30,7 +30,7 @@ separator_of None = default_settings.kv_separator
 separator_of (Some text) = chars (string_bytes text)
 
 abbrev pub settings_of : Inside → Settings
-settings_of s = record { comment_prefix = prefix_of s.comment_prefix; kv_separator = separator_of s.kv_separator; line_ending = ending_of s.line_ending }
+settings_of s = record { comment_prefix = prefix_of s.comment_prefix; kv_separator = separator_of s.kv_separator; line_ending = ending_of s.line_ending; ascii_only = s.ascii_only }
 
 -- The prefix and the separator are always good.
 pub record AreGood (s : Inside) : Type 0 where
@@ -39,7 +39,7 @@ pub record AreGood (s : Inside) : Type 0 where
 
 -- ---- setters
 
--- the settings with another prefix, another separator and another line ending
+-- the settings with another prefix, another separator, another line ending and another mode
 abbrev pub with_prefix : Settings → List ℕ → Settings
 with_prefix s prefix = record s { comment_prefix = prefix }
 
@@ -48,6 +48,9 @@ with_separator s separator = record s { kv_separator = separator }
 
 abbrev pub with_ending : Settings → LineEnding → Settings
 with_ending s ending = record s { line_ending = ending_of ending }
+
+abbrev pub with_ascii_only : Settings → Bool → Settings
+with_ascii_only s on = record s { ascii_only = on }
 
 -- The text is good, and was set: nothing else changed.
 pub record HasSet {S : Type 0} (IsGood : Type 0) (set new : S) : Type 0 where

@@ -6,7 +6,7 @@ ghost use Rattle.counted_io.specs.Streams.{IsSameSink};
 ghost use Rattle.properties_format.specs.Encoding.{windows_1252, output_encoding};
 ghost use Rattle.properties_format.specs.Entries as entry;
 ghost use Rattle.java_properties.specs.Encoding.{encoding_of};
-ghost use Rattle.java_properties.specs.PropertiesWriter.{new_writer, WritesLine, Flushes, SetsPrefix, SetsSeparator, SetsEnding};
+ghost use Rattle.java_properties.specs.PropertiesWriter.{new_writer, WritesLine, Flushes, SetsPrefix, SetsSeparator, SetsEnding, SetsAsciiOnly};
 
 use crate::encoding::{Encoding, OutputEncoding};
 use crate::error::PropertiesError;
@@ -137,6 +137,21 @@ impl<W: CountedWrite> PropertiesWriter<W> {
         ensures { SetsEnding self.old line_ending self.new }
     {
         self.engine.settings.set_line_ending(line_ending);
+    }
+
+    /// Whether every character past U+007F is written as an escape from here on, also where the encoding has it. At
+    /// the start it is not.
+    ///
+    /// Lines that are written so hold ASCII alone, and are read back the same in windows-1252 and in UTF-8.
+    ///
+    /// ```text
+    /// writer.set_ascii_only(true);
+    /// writer.write("caf\u{e9}", "1")?; // The sink holds `caf\u00e9=1` and a line feed, all of it ASCII.
+    /// ```
+    pub fn set_ascii_only(&mut self, on: bool)
+        ensures { SetsAsciiOnly self.old on self.new }
+    {
+        self.engine.settings.set_ascii_only(on);
     }
 
     /// Flushes the sink.

@@ -11,6 +11,7 @@ pub mod Settings
 pub mod Printing
 pub mod Writing
 pub mod ReadBack
+pub mod AsciiOnly
 pub mod Maps
 pub mod Body
 pub mod Edited

@@ -15,9 +15,9 @@ use Rattle.properties_format.specs.Body.{AreGroupsOf, HasKey, HeldLine, NoneHasK
 
 -- ---- A key is set.
 
--- the bytes of a pair without a line ending; at the front of a body a key that begins like a byte order mark has its first character escaped
+-- the bytes of a pair without a line ending, with ASCII alone off; at the front of a body a key that begins like a byte order mark has its first character escaped
 abbrev pub pair_bytes : Encoding → Bool → List ℕ → List ℕ → List ℕ
-pair_bytes e first key value = encoded_text e (spelt_key e first key ++ (equals_sign ∷ spelt_text e in_key_or_value value))
+pair_bytes e first key value = encoded_text e (spelt_key e false first key ++ (equals_sign ∷ spelt_text e false in_key_or_value value))
 
 -- The last pair with the key gives way to the printed pair, which takes over its line ending.
 pub record IsReplaced (e : Encoding) (groups : List (List HeldLine)) (key value result : List ℕ) : Type 0 where

@@ -17,6 +17,7 @@ pub mod ItemsToCome
 pub mod Settings
 pub mod Printing
 pub mod Writing
+pub mod AsciiOnly
 pub mod Maps
 pub mod Body
 pub mod Edited

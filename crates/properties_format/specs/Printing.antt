@@ -1,6 +1,6 @@
 -- How a line is printed: each character by itself, and the line from its parts.
 -- Source: java.util.Properties of Java SE 7, store; a character that the encoding lacks is written as store writes it, by `\u` and four hexadecimal digits for each of its UTF-16 units (The Unicode Standard, section 3.9, D91).
-use Rattle.std.specs.Prelude.{ℕ, ◌+◌, ◌-◌, ◌/◌, ◌%◌, ◌==◌, ◌&&◌, ◌||◌, nat_lt, Bool, if◌then◌else◌, List, [], ◌∷◌, ◌++◌, is_some, unwrap_or}
+use Rattle.std.specs.Prelude.{ℕ, ◌+◌, ◌-◌, ◌/◌, ◌%◌, ◌==◌, ◌&&◌, ◌||◌, not, nat_lt, Bool, if◌then◌else◌, List, [], ◌∷◌, ◌++◌, is_some, unwrap_or}
 use Rattle.std.specs.Char.{digit_char}
 use Rattle.properties_format.specs.Text.{line_ending_text, tab, line_feed, form_feed, carriage_return, space, backslash, is_comment_sign, is_separator}
 use Rattle.properties_format.specs.Encoding.{Encoding, encoded, begins_like_bom}
@@ -28,9 +28,13 @@ low_surrogate c = 0xdc00 + (c - 0x1_0000) % 0x400
 abbrev pub unicode_escape : ℕ → List ℕ
 unicode_escape c = if nat_lt c 0x1_0000 then unit_escape c else unit_escape (high_surrogate c) ++ unit_escape (low_surrogate c)
 
--- what the encoding can encode stands as itself, and the rest is escaped
-abbrev pub literal : Encoding → ℕ → List ℕ
-literal e c = if is_some (encoded e c) then c ∷ [] else unicode_escape c
+-- a character may stand as itself where the encoding can encode it and, while ASCII alone is on, where it is no later than U+007F
+abbrev pub may_stand : Encoding → Bool → ℕ → Bool
+may_stand e only c = (not only || nat_lt c 0x80) && is_some (encoded e c)
+
+-- as itself where it may stand, and escaped elsewhere
+abbrev pub literal : Encoding → Bool → ℕ → List ℕ
+literal e only c = if may_stand e only c then c ∷ [] else unicode_escape c
 
 -- the characters with a meaning of their own in a key or a value, which take a backslash before them
 abbrev pub is_special : ℕ → Bool
@@ -44,18 +48,18 @@ letter_escape c =
 abbrev pub has_letter : ℕ → Bool
 has_letter c = (c == tab || c == line_feed) || (c == form_feed || c == carriage_return)
 
--- How a character is printed. In a key or a value everything that would not be read back as itself is escaped; in a comment the backslash and the line ends; and everywhere what the encoding cannot encode.
-abbrev pub spelt : Encoding → Place → ℕ → List ℕ
-spelt e in_key_or_value c =
-    if is_special c then backslash ∷ c ∷ [] else (if has_letter c then letter_escape c else (if nat_lt c space then unicode_escape c else literal e c))
-spelt e in_comment c =
-    if c == backslash then backslash ∷ backslash ∷ [] else (if c == line_feed || c == carriage_return then letter_escape c else literal e c)
-spelt e in_prefix c = literal e c
+-- How a character is printed. In a key or a value everything that would not be read back as itself is escaped; in a comment the backslash and the line ends; and everywhere what may not stand as itself, by the encoding and by whether ASCII alone is on.
+abbrev pub spelt : Encoding → Bool → Place → ℕ → List ℕ
+spelt e only in_key_or_value c =
+    if is_special c then backslash ∷ c ∷ [] else (if has_letter c then letter_escape c else (if nat_lt c space then unicode_escape c else literal e only c))
+spelt e only in_comment c =
+    if c == backslash then backslash ∷ backslash ∷ [] else (if c == line_feed || c == carriage_return then letter_escape c else literal e only c)
+spelt e only in_prefix c = literal e only c
 
 -- a text, character by character
-abbrev pub spelt_text : Encoding → Place → List ℕ → List ℕ
-spelt_text e place [] = []
-spelt_text e place (c ∷ cs) = spelt e place c ++ spelt_text e place cs
+abbrev pub spelt_text : Encoding → Bool → Place → List ℕ → List ℕ
+spelt_text e only place [] = []
+spelt_text e only place (c ∷ cs) = spelt e only place c ++ spelt_text e only place cs
 
 -- the bytes of a text of characters that the encoding can encode
 abbrev pub encoded_text : Encoding → List ℕ → List ℕ
@@ -63,22 +67,22 @@ encoded_text e [] = []
 encoded_text e (c ∷ cs) = unwrap_or (encoded e c) [] ++ encoded_text e cs
 
 -- a key whose bytes would be taken for a byte order mark, if they stood at the front of the input
-abbrev pub is_bom_like : Encoding → List ℕ → Bool
-is_bom_like e key = begins_like_bom (encoded_text e (spelt_text e in_key_or_value key))
+abbrev pub is_bom_like : Encoding → Bool → List ℕ → Bool
+is_bom_like e only key = begins_like_bom (encoded_text e (spelt_text e only in_key_or_value key))
 
 -- a key with its first character escaped
-abbrev pub with_first_escaped : Encoding → List ℕ → List ℕ
-with_first_escaped e [] = []
-with_first_escaped e (c ∷ cs) = unicode_escape c ++ spelt_text e in_key_or_value cs
+abbrev pub with_first_escaped : Encoding → Bool → List ℕ → List ℕ
+with_first_escaped e only [] = []
+with_first_escaped e only (c ∷ cs) = unicode_escape c ++ spelt_text e only in_key_or_value cs
 
 -- a key, on the first line that is written or on another: on the first, one that begins like a byte order mark has its first character escaped
-abbrev pub spelt_key : Encoding → Bool → List ℕ → List ℕ
-spelt_key e first key = if first && is_bom_like e key then with_first_escaped e key else spelt_text e in_key_or_value key
+abbrev pub spelt_key : Encoding → Bool → Bool → List ℕ → List ℕ
+spelt_key e only first key = if first && is_bom_like e only key then with_first_escaped e only key else spelt_text e only in_key_or_value key
 
 -- the characters of a printed line: prefix, text and line end, or key, separator, value and line end
 abbrev pub printed_text : Encoding → Settings → Bool → Content → List ℕ
-printed_text e s first (comment text) = spelt_text e in_prefix s.comment_prefix ++ (spelt_text e in_comment text ++ line_ending_text s.line_ending)
-printed_text e s first (pair key value) = spelt_key e first key ++ (s.kv_separator ++ (spelt_text e in_key_or_value value ++ line_ending_text s.line_ending))
+printed_text e s first (comment text) = spelt_text e s.ascii_only in_prefix s.comment_prefix ++ (spelt_text e s.ascii_only in_comment text ++ line_ending_text s.line_ending)
+printed_text e s first (pair key value) = spelt_key e s.ascii_only first key ++ (s.kv_separator ++ (spelt_text e s.ascii_only in_key_or_value value ++ line_ending_text s.line_ending))
 
 -- and its bytes
 abbrev pub printed : Encoding → Settings → Bool → Content → List ℕ

@@ -1,19 +1,20 @@
 -- What a writer is set to, and which settings are good.
 -- Source: java.util.Properties of Java SE 7, store (a comment begins with a number sign; a key and its value stand around an equals sign), and load (which comments and separators are read back).
-use Rattle.std.specs.Prelude.{◌≡◌, ◌≢◌, ◌⊎◌, ℕ, true, List, [], ◌∷◌, ◌++◌}
+use Rattle.std.specs.Prelude.{◌≡◌, ◌≢◌, ◌⊎◌, ℕ, Bool, true, false, List, [], ◌∷◌, ◌++◌}
 use Rattle.properties_format.specs.Lines.{HoldsNoLineEnd}
 use Rattle.properties_format.specs.Split.{AreBlanks}
 use Rattle.properties_format.specs.Text.{LineEnding, lf, space, number_sign, equals_sign, is_comment_sign, is_separator}
 
--- what stands before a comment's text, what stands between a key and its value, and what ends a line
+-- what stands before a comment's text, what stands between a key and its value, what ends a line, and whether ASCII alone is on: then every character past U+007F is escaped
 pub record Settings : Type 0 where
   pub comment_prefix : List ℕ
   pub kv_separator : List ℕ
   pub line_ending : LineEnding
+  pub ascii_only : Bool
 
--- at the start: a number sign and a space, an equals sign, and LF
+-- at the start: a number sign and a space, an equals sign, LF, and ASCII alone off
 abbrev pub default_settings : Settings
-default_settings = record { comment_prefix = number_sign ∷ space ∷ []; kv_separator = equals_sign ∷ []; line_ending = lf }
+default_settings = record { comment_prefix = number_sign ∷ space ∷ []; kv_separator = equals_sign ∷ []; line_ending = lf; ascii_only = false }
 
 -- A good comment prefix: blanks or none, then a comment sign, then any text without a line end.
 pub record IsGoodPrefix (prefix : List ℕ) : Type 0 where

@@ -9,7 +9,7 @@ use Rattle.properties_format.specs.Settings.{Settings, IsGoodPrefix, IsGoodSepar
 use Rattle.properties_format.specs.Reading.Settings.{is_blanks, is_good_prefix, is_good_separator}
 use Rattle.properties_format.specs.Printing.{printed}
 
--- a call: a comment or a pair to write, a setting to change, or a flush
+-- a call: a comment or a pair to write, a setting to change, a flush, or ASCII alone turned on or off
 pub data Call : Type 0 where
   comment_call : List ℕ → Call
   pair_call : List ℕ → List ℕ → Call
@@ -17,6 +17,7 @@ pub data Call : Type 0 where
   separator_call : List ℕ → Call
   ending_call : LineEnding → Call
   flush_call : Call
+  ascii_only_call : Bool → Call
 
 abbrev pub is_empty : List ℕ → Bool
 is_empty [] = true
@@ -30,6 +31,7 @@ is_accepted s (prefix_call prefix) = is_good_prefix prefix
 is_accepted s (separator_call separator) = is_good_separator separator
 is_accepted s (ending_call line_ending) = true
 is_accepted s flush_call = true
+is_accepted s (ascii_only_call on) = true
 
 -- the settings after one call, and after a list of calls
 abbrev pub settings_after_call : Settings → Call → Settings
@@ -39,6 +41,7 @@ settings_after_call s (prefix_call prefix) = if is_good_prefix prefix then recor
 settings_after_call s (separator_call separator) = if is_good_separator separator then record s { kv_separator = separator } else s
 settings_after_call s (ending_call line_ending) = record s { line_ending = line_ending }
 settings_after_call s flush_call = s
+settings_after_call s (ascii_only_call on) = record s { ascii_only = on }
 
 abbrev pub settings_after : Settings → List Call → Settings
 settings_after s [] = s
@@ -57,6 +60,7 @@ written_line s (prefix_call prefix) = None
 written_line s (separator_call separator) = None
 written_line s (ending_call line_ending) = None
 written_line s flush_call = None
+written_line s (ascii_only_call on) = None
 
 -- the number of lines after a line, where there is one
 abbrev pub lines_with : ℕ → Option Content → ℕ
@@ -114,6 +118,7 @@ ArePrefixesClean s (prefix_call prefix ∷ calls) = ArePrefixesClean (settings_a
 ArePrefixesClean s (separator_call separator ∷ calls) = ArePrefixesClean (settings_after_call s (separator_call separator)) calls
 ArePrefixesClean s (ending_call line_ending ∷ calls) = ArePrefixesClean (settings_after_call s (ending_call line_ending)) calls
 ArePrefixesClean s (flush_call ∷ calls) = ArePrefixesClean s calls
+ArePrefixesClean s (ascii_only_call on ∷ calls) = ArePrefixesClean (settings_after_call s (ascii_only_call on)) calls
 
 -- each text of the call is one of scalar values
 abbrev pub IsOfScalars : Call → Type 0
@@ -123,6 +128,7 @@ IsOfScalars (prefix_call prefix) = All scalar prefix
 IsOfScalars (separator_call separator) = All scalar separator
 IsOfScalars (ending_call line_ending) = Unit {0}
 IsOfScalars flush_call = Unit {0}
+IsOfScalars (ascii_only_call on) = Unit {0}
 
 abbrev pub AreOfScalars : List Call → Type 0
 AreOfScalars [] = Unit {0}

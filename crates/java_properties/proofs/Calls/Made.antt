@@ -5,7 +5,7 @@ use Rattle.counted_io.specs.Streams.{Sink}
 use Rattle.counted_io.proofs.Streams.{written-none, written-more}
 use Rattle.properties_format.specs.Entries.{Content, pair}
 use Rattle.properties_format.specs.Settings.{Settings}
-use Rattle.properties_format.specs.Writing.{Call, comment_call, pair_call, prefix_call, separator_call, ending_call, flush_call, is_accepted, settings_after_call, settings_after, line_count_after, written_line}
+use Rattle.properties_format.specs.Writing.{Call, comment_call, pair_call, prefix_call, separator_call, ending_call, flush_call, ascii_only_call, is_accepted, settings_after_call, settings_after, line_count_after, written_line}
 use Rattle.properties_format.proofs.Writing.{settings_after-append, line_count_after-append, wrote-append}
 use Rattle.java_properties.specs.PropertiesWriter.{Writing, HasWrittenLine, with_settings}
 use Rattle.java_properties.specs.Calls.{after_calls, flushed_after, MayMake, MayMakeAll, HasMade, HasMadeCall}
@@ -24,6 +24,7 @@ flushed-append s b (prefix_call prefix ∷ xs) ys = flushed-append (settings_aft
 flushed-append s b (separator_call separator ∷ xs) ys = flushed-append (settings_after_call s (separator_call separator)) b xs ys
 flushed-append s b (ending_call line_ending ∷ xs) ys = flushed-append (settings_after_call s (ending_call line_ending)) b xs ys
 flushed-append s b (flush_call ∷ xs) ys = flushed-append s true xs ys
+flushed-append s b (ascii_only_call on ∷ xs) ys = flushed-append (settings_after_call s (ascii_only_call on)) b xs ys
 
 -- a call alone, other than a flush, leaves no sink flushed
 never-flushed : (s : Settings) (call : Call) → (call ≡ flush_call → ⊥) → flushed_after s false (call ∷ []) ≡ true → ⊥
@@ -37,6 +38,7 @@ never-flushed s (prefix_call prefix) other e = absurd (cc)
 never-flushed s (separator_call separator) other e = absurd (cc)
 never-flushed s (ending_call line_ending) other e = absurd (cc)
 never-flushed s flush_call other e = other refl
+never-flushed s (ascii_only_call on) other e = absurd (cc)
 
 -- the writer with these changed
 abbrev changed : {W : Type 0} → Writing W → W → Settings → ℕ → Writing W
@@ -98,6 +100,7 @@ module _ {W : Type 0} {sink : Sink W} where
   last-flushed b (separator_call separator) before k e = ap sink.is_flushed (k.quiet refl (λ q. absurd (cc))) ∙ before e
   last-flushed b (ending_call line_ending) before k e = ap sink.is_flushed (k.quiet refl (λ q. absurd (cc))) ∙ before e
   last-flushed b flush_call before k e = k.made.flushed refl
+  last-flushed b (ascii_only_call on) before k e = ap sink.is_flushed (k.quiet refl (λ q. absurd (cc))) ∙ before e
 
   from-after : {old middle new : Writing W} {calls : List Call} {call : Call} {accepted : Bool} → HasMade sink old calls middle
       → HasMadeCall sink middle call accepted new → HasMadeCall sink (after_calls old calls middle.sink) call accepted new

@@ -1,6 +1,6 @@
 -- Texts that are printed byte by byte.
-use Rattle.std.proofs.Common.{◌≡◌, ℕ, ◌+◌, ◌-◌, ◌<◌, ◌≤◌, ◌==◌, true, false, cond, nat_lt, List, [], ◌∷◌, ◌++◌, refl, sym, ap, ap₂, ◌∙◌, inl, inr, append_assoc, append-nil, arith, length, take, drop, get_or, lit<, le-ltb, ne_eqb, eqb-true}
-use Rattle.std.specs.Prelude.{encode_utf8, encode_utf8_all, slice_index, unwrap_or}
+use Rattle.std.proofs.Common.{◌≡◌, ℕ, ◌+◌, ◌-◌, ◌<◌, ◌≤◌, ◌==◌, Bool, true, false, cond, nat_lt, List, [], ◌∷◌, ◌++◌, refl, sym, ap, ap₂, ◌∙◌, inl, inr, append_assoc, append-nil, arith, length, take, drop, get_or, lit<, le-ltb, lt-ltb, ne_eqb, eqb-true}
+use Rattle.std.specs.Prelude.{not, encode_utf8, encode_utf8_all, slice_index, unwrap_or}
 use Rattle.std.specs.Str.{chars, IsUtf8, IsAscii}
 use Rattle.std.proofs.lemmas.Bool.{cases_Bool, cases_lt, cond-true, cond-false, agree_below_at, false_from_ne_true}
 use Rattle.std.specs.List.{All}
@@ -15,7 +15,7 @@ use Rattle.properties_format.proofs.Printing.Characters.{AreAscii, encoded_text-
 use Rattle.properties_format.proofs.Encodings.Utf8Characters.{encode-two, encode-three, encode-four}
 use Rattle.java_properties.specs.Encoding.{output_of}
 use Rattle.java_properties.specs.Printing.{spelt_byte, spelt_bytes, backslashes_before, last_of, Stands}
-use Rattle.java_properties.specs.declared.encoding.encode.OutputEncoding.{OutputEncoding}
+use Rattle.java_properties.specs.declared.writer.print.Repertoire.{Repertoire}
 use Rattle.java_properties.specs.declared.encoding.encode.OutputEncoding.TheVariants.{Utf8}
 use Rattle.java_properties.proofs.Printing.Characters.{encoded_escape}
 
@@ -90,31 +90,37 @@ printed-front line out rest new whole size n read written is_size within printed
 
 -- ---- ASCII
 
+-- an ASCII character may stand as itself
+literal-ascii : (e : Encoding) (only : Bool) (c : ℕ) → c < 0x80 → literal e only c ≡ c ∷ []
+literal-ascii e true c h = rw (lt-ltb c 0x80 h, encoded-ascii e c h) refl
+literal-ascii e false c h = rw (encoded-ascii e c h) refl
+
 -- an ASCII character is printed as its byte is
-pub ascii-spelt : (e : Encoding) (c : ℕ) → c < 0x80 → encoded_text e (spelt e in_key_or_value c) ≡ spelt_byte c
-ascii-spelt e c h = elim (cases_Bool (is_special c)) [
+pub ascii-spelt : (e : Encoding) (only : Bool) (c : ℕ) → c < 0x80 → encoded_text e (spelt e only in_key_or_value c) ≡ spelt_byte c
+ascii-spelt e only c h = elim (cases_Bool (is_special c)) [
   | inl s ↦ rw s (encoded_text-ascii e (backslash ∷ c ∷ []) (lit< tt, (h, tt)))
   | inr s ↦ elim (cases_Bool (has_letter c)) [
     | inl l ↦ rw (s, l) (encoded_text-ascii e (letter_escape c) (letter_escape-ascii c))
     | inr l ↦ elim (cases_Bool (nat_lt c space)) [
       | inl k ↦ rw (s, l, k) (encoded_escape e c)
-      | inr k ↦ rw (s, l, k) (rw (encoded-ascii e c h) (ap (λ o. unwrap_or o [] ++ []) (encoded-ascii e c h)))
+      | inr k ↦ rw (s, l, k) (rw (literal-ascii e only c h) (ap (λ o. unwrap_or o [] ++ []) (encoded-ascii e c h)))
     ]
   ]
 ]
 
 -- and a text of them is printed as its bytes are
-ascii-text : (e : Encoding) (cs : List ℕ) → AreAscii cs → encoded_text e (spelt_text e in_key_or_value cs) ≡ spelt_bytes cs
-ascii-text e [] h = refl
-ascii-text e (c ∷ cs) h =
-    encoded_text-append e (spelt e in_key_or_value c) (spelt_text e in_key_or_value cs) ∙ ap₂ (λ x y. x ++ y) (ascii-spelt e c h.0) (ascii-text e cs h.1)
+ascii-text : (e : Encoding) (only : Bool) (cs : List ℕ) → AreAscii cs → encoded_text e (spelt_text e only in_key_or_value cs) ≡ spelt_bytes cs
+ascii-text e only [] h = refl
+ascii-text e only (c ∷ cs) h =
+    encoded_text-append e (spelt e only in_key_or_value c) (spelt_text e only in_key_or_value cs)
+    ∙ ap₂ (λ x y. x ++ y) (ascii-spelt e only c h.0) (ascii-text e only cs h.1)
 
 are-ascii : (bs : List ℕ) → All (λ b. b < 128) bs → AreAscii bs
 are-ascii [] h = tt
 are-ascii (b ∷ bs) h = (All-head (λ b. b < 128) b bs h, are-ascii bs (All-tail (λ b. b < 128) b bs h))
 
-pub stands-ascii : (encoding : OutputEncoding) (bs : List ℕ) → IsAscii bs → Stands encoding bs
-stands-ascii encoding bs h = rw (chars-IsAscii bs h) (ascii-text (output_of encoding) bs (are-ascii bs (All-from_ascii bs h)))
+pub stands-ascii : (r : Repertoire) (bs : List ℕ) → IsAscii bs → Stands r bs
+stands-ascii r bs h = rw (chars-IsAscii bs h) (ascii-text (output_of r.encoding) r.ascii_only bs (are-ascii bs (All-from_ascii bs h)))
 
 -- ---- UTF-8
 
@@ -150,19 +156,23 @@ encode-past c h = elim (cases_lt c 0x800) [
   ]
 ]
 
-utf_8-spelt : (c : ℕ) → encoded_text utf_8 (spelt utf_8 in_key_or_value c) ≡ spelt_bytes (encode_utf8 c)
+utf_8-spelt : (c : ℕ) → encoded_text utf_8 (spelt utf_8 false in_key_or_value c) ≡ spelt_bytes (encode_utf8 c)
 utf_8-spelt c = elim (cases_lt c 0x80) [
-  | inl h ↦ ascii-spelt utf_8 c h ∙ sym (ap spelt_bytes (encode_ascii c h) ∙ append-nil (spelt_byte c))
+  | inl h ↦ ascii-spelt utf_8 false c h ∙ sym (ap spelt_bytes (encode_ascii c h) ∙ append-nil (spelt_byte c))
   | inr h ↦
       rw (past-special c h, past-letter c h, past-control c h) (append-nil (encode_utf8 c) ∙ sym (past-bytes (encode_utf8 c) (encode-past c h)))
 ]
 
-utf_8-text : (cs : List ℕ) → encoded_text utf_8 (spelt_text utf_8 in_key_or_value cs) ≡ spelt_bytes (encode_utf8_all cs)
+utf_8-text : (cs : List ℕ) → encoded_text utf_8 (spelt_text utf_8 false in_key_or_value cs) ≡ spelt_bytes (encode_utf8_all cs)
 utf_8-text [] = refl
 utf_8-text (c ∷ cs) =
-    encoded_text-append utf_8 (spelt utf_8 in_key_or_value c) (spelt_text utf_8 in_key_or_value cs)
+    encoded_text-append utf_8 (spelt utf_8 false in_key_or_value c) (spelt_text utf_8 false in_key_or_value cs)
     ∙ ap₂ (λ x y. x ++ y) (utf_8-spelt c) (utf_8-text cs)
     ∙ sym (spelt_bytes-append (encode_utf8 c) (encode_utf8_all cs))
 
-pub stands-utf_8 : (bs : List ℕ) → IsUtf8 bs → Stands Utf8 bs
-stands-utf_8 bs u = utf_8-text (chars bs) ∙ ap spelt_bytes (encodes-chars bs u)
+off : (b : Bool) → not b ≡ true → b ≡ false
+off true h = sym h
+off false h = refl
+
+pub stands-utf_8 : (r : Repertoire) (bs : List ℕ) → r.encoding ≡ Utf8 → not r.ascii_only ≡ true → IsUtf8 bs → Stands r bs
+stands-utf_8 r bs is on u = rw (is, off r.ascii_only on) (utf_8-text (chars bs) ∙ ap spelt_bytes (encodes-chars bs u))

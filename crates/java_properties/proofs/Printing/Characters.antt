@@ -1,12 +1,12 @@
 -- What is printed for a character and for a text.
-use Rattle.std.proofs.Common.{◌≡◌, ◌≢◌, ℕ, ◌<◌, ◌≤◌, true, false, cond, nat_lt, List, [], ◌∷◌, ◌++◌, refl, sym, ap, ◌∙◌, append_assoc, append-nil, lit<, lt-ltb, le-ltb, ne_eqb}
+use Rattle.std.proofs.Common.{◌≡◌, ◌≢◌, ℕ, ◌<◌, ◌≤◌, ◌||◌, not, Bool, true, false, cond, nat_lt, List, [], ◌∷◌, ◌++◌, refl, sym, ap, ◌∙◌, append_assoc, append-nil, lit<, lt-ltb, le-ltb, ne_eqb}
 use Rattle.std.specs.Prelude.{Option, Some, None, is_some, unwrap_or, encode_utf8_all}
 use Rattle.std.specs.Str.{chars, IsUtf8}
-use Rattle.std.proofs.lemmas.Bool.{cond-true, cond-false, agree_below_at}
+use Rattle.std.proofs.lemmas.Bool.{cond-true, cond-false, and_from, and_left, and_right, agree_below_at}
 use Rattle.std.proofs.lemmas.Str.{encodes-chars, encode_ascii}
 use Rattle.properties_format.specs.Text.{backslash}
 use Rattle.properties_format.specs.Encoding.{Encoding, encoded}
-use Rattle.properties_format.specs.Printing.{Place, in_key_or_value, unit_escape, high_surrogate, low_surrogate, unicode_escape, literal, is_special, has_letter, letter_escape, spelt, spelt_text, encoded_text}
+use Rattle.properties_format.specs.Printing.{Place, in_key_or_value, unit_escape, high_surrogate, low_surrogate, unicode_escape, may_stand, literal, is_special, has_letter, letter_escape, spelt, spelt_text, encoded_text}
 use Rattle.properties_format.proofs.Printing.Characters.{encoded_text-append, spelt_text-append, AreAscii, encoded_text-ascii, unicode_escape-ascii}
 
 -- a backslash and an ASCII character are their own bytes
@@ -17,21 +17,27 @@ encoded_pair e b h = encoded_text-ascii e (backslash ∷ b ∷ []) (lit< tt, (h,
 pub encoded_escape : (e : Encoding) (c : ℕ) → encoded_text e (unicode_escape c) ≡ unicode_escape c
 encoded_escape e c = encoded_text-ascii e (unicode_escape c) (unicode_escape-ascii c)
 
--- what the encoding has stands as itself
-pub literal_known : (e : Encoding) (c : ℕ) → is_some (encoded e c) ≡ true → encoded_text e (literal e c) ≡ unwrap_or (encoded e c) []
-literal_known e c h = ap (encoded_text e) (cond-true (is_some (encoded e c)) (c ∷ []) (unicode_escape c) h) ∙ append-nil (unwrap_or (encoded e c) [])
+-- what may stand as itself does
+pub literal_known : (e : Encoding) (only : Bool) (c : ℕ) → (not only || nat_lt c 0x80) ≡ true → is_some (encoded e c) ≡ true → encoded_text e (literal e only c) ≡ unwrap_or (encoded e c) []
+literal_known e only c k h =
+    ap (encoded_text e) (cond-true (may_stand e only c) (c ∷ []) (unicode_escape c) (and_from (not only || nat_lt c 0x80) (is_some (encoded e c)) k h)) ∙ append-nil (unwrap_or (encoded e c) [])
 
 nothing : (o : Option (List ℕ)) → is_some o ≡ false → unwrap_or o [] ≡ []
 nothing None h = refl
 nothing (Some x) h = cc
 
--- what it lacks is escaped, after what was appended for it, which is nothing
-pub literal_lacked : (e : Encoding) (c : ℕ) (before at : List ℕ) → is_some (encoded e c) ≡ false → at ≡ before ++ unwrap_or (encoded e c) []
-    → before ++ encoded_text e (literal e c) ≡ at ++ unicode_escape c
-literal_lacked e c before at h k =
-    ap (λ v. before ++ encoded_text e v) (cond-false (is_some (encoded e c)) (c ∷ []) (unicode_escape c) h)
+-- what the encoding lacks is escaped, after what was appended for it, which is nothing
+pub literal_lacked : (e : Encoding) (only : Bool) (c : ℕ) (before at : List ℕ) → is_some (encoded e c) ≡ false → at ≡ before ++ unwrap_or (encoded e c) []
+    → before ++ encoded_text e (literal e only c) ≡ at ++ unicode_escape c
+literal_lacked e only c before at h k =
+    ap (λ v. before ++ encoded_text e v) (cond-false (may_stand e only c) (c ∷ []) (unicode_escape c) (and_right (not only || nat_lt c 0x80) (is_some (encoded e c)) h))
     ∙ ap (λ v. before ++ v) (encoded_escape e c)
     ∙ ap (λ v. v ++ unicode_escape c) (sym (k ∙ ap (λ v. before ++ v) (nothing (encoded e c) h) ∙ append-nil before))
+
+-- and so is what ASCII alone keeps from standing
+pub literal_kept : (e : Encoding) (only : Bool) (c : ℕ) → (not only || nat_lt c 0x80) ≡ false → encoded_text e (literal e only c) ≡ unicode_escape c
+literal_kept e only c k =
+    ap (encoded_text e) (cond-false (may_stand e only c) (c ∷ []) (unicode_escape c) (and_left (not only || nat_lt c 0x80) (is_some (encoded e c)) k)) ∙ encoded_escape e c
 
 -- past U+FFFF an escape is two
 pub escape_wide : (c : ℕ) (before at : List ℕ) → 0x1_0000 ≤ c → at ≡ before ++ unit_escape (high_surrogate c)
@@ -46,11 +52,11 @@ abbrev pub IsOtherControl : ℕ → Type 0
 IsOtherControl c = (c < 0x20) × (c ≢ 0x09) × (c ≢ 0x0a) × (c ≢ 0x0c) × (c ≢ 0x0d)
 
 -- it is escaped by its number in a key or a value
-pub spelt_control : (e : Encoding) (c : ℕ) → IsOtherControl c → spelt e in_key_or_value c ≡ unicode_escape c
-spelt_control e c (h, tab, lf, ff, cr) =
-    cond-false (is_special c) (backslash ∷ c ∷ []) (cond (has_letter c) (letter_escape c) (cond (nat_lt c 0x20) (unicode_escape c) (literal e c))) (not-special c h)
-    ∙ cond-false (has_letter c) (letter_escape c) (cond (nat_lt c 0x20) (unicode_escape c) (literal e c)) (no-letter c tab lf ff cr)
-    ∙ cond-true (nat_lt c 0x20) (unicode_escape c) (literal e c) (lt-ltb c 0x20 h)
+pub spelt_control : (e : Encoding) (only : Bool) (c : ℕ) → IsOtherControl c → spelt e only in_key_or_value c ≡ unicode_escape c
+spelt_control e only c (h, tab, lf, ff, cr) =
+    cond-false (is_special c) (backslash ∷ c ∷ []) (cond (has_letter c) (letter_escape c) (cond (nat_lt c 0x20) (unicode_escape c) (literal e only c))) (not-special c h)
+    ∙ cond-false (has_letter c) (letter_escape c) (cond (nat_lt c 0x20) (unicode_escape c) (literal e only c)) (no-letter c tab lf ff cr)
+    ∙ cond-true (nat_lt c 0x20) (unicode_escape c) (literal e only c) (lt-ltb c 0x20 h)
   where
     not-special : (c : ℕ) → c < 0x20 → is_special c ≡ false
     not-special c h = agree_below_at is_special (λ k. false) 0x20 c refl h
@@ -59,23 +65,23 @@ spelt_control e c (h, tab, lf, ff, cr) =
     no-letter c tab lf ff cr = rw (ne_eqb c 0x09 tab, ne_eqb c 0x0a lf, ne_eqb c 0x0c ff, ne_eqb c 0x0d cr) refl
 
 -- one character more
-pub printed_more : (e : Encoding) (place : Place) (before xs : List ℕ) (c : ℕ)
-    → (before ++ encoded_text e (spelt_text e place xs)) ++ encoded_text e (spelt e place c) ≡ before ++ encoded_text e (spelt_text e place (xs ++ c ∷ []))
-printed_more e place before xs c =
-    append_assoc before (encoded_text e (spelt_text e place xs)) (encoded_text e (spelt e place c))
+pub printed_more : (e : Encoding) (only : Bool) (place : Place) (before xs : List ℕ) (c : ℕ)
+    → (before ++ encoded_text e (spelt_text e only place xs)) ++ encoded_text e (spelt e only place c) ≡ before ++ encoded_text e (spelt_text e only place (xs ++ c ∷ []))
+printed_more e only place before xs c =
+    append_assoc before (encoded_text e (spelt_text e only place xs)) (encoded_text e (spelt e only place c))
     ∙ ap (λ v. before ++ v) (
-    sym (encoded_text-append e (spelt_text e place xs) (spelt e place c))
-    ∙ ap (λ v. encoded_text e (spelt_text e place xs ++ v)) (sym (append-nil (spelt e place c)))
-    ∙ ap (encoded_text e) (sym (spelt_text-append e place xs (c ∷ [])))
+    sym (encoded_text-append e (spelt_text e only place xs) (spelt e only place c))
+    ∙ ap (λ v. encoded_text e (spelt_text e only place xs ++ v)) (sym (append-nil (spelt e only place c)))
+    ∙ ap (encoded_text e) (sym (spelt_text-append e only place xs (c ∷ [])))
     )
 
 -- an escape, and the text after it
-pub first_escaped_more : (e : Encoding) (place : Place) (before cs : List ℕ) (c : ℕ)
-    → (before ++ unicode_escape c) ++ encoded_text e (spelt_text e place cs) ≡ before ++ encoded_text e (unicode_escape c ++ spelt_text e place cs)
-first_escaped_more e place before cs c =
-    append_assoc before (unicode_escape c) (encoded_text e (spelt_text e place cs))
+pub first_escaped_more : (e : Encoding) (only : Bool) (place : Place) (before cs : List ℕ) (c : ℕ)
+    → (before ++ unicode_escape c) ++ encoded_text e (spelt_text e only place cs) ≡ before ++ encoded_text e (unicode_escape c ++ spelt_text e only place cs)
+first_escaped_more e only place before cs c =
+    append_assoc before (unicode_escape c) (encoded_text e (spelt_text e only place cs))
     ∙ ap (λ v. before ++ v) (
-    ap (λ v. v ++ encoded_text e (spelt_text e place cs)) (sym (encoded_escape e c)) ∙ sym (encoded_text-append e (unicode_escape c) (spelt_text e place cs))
+    ap (λ v. v ++ encoded_text e (spelt_text e only place cs)) (sym (encoded_escape e c)) ∙ sym (encoded_text-append e (unicode_escape c) (spelt_text e only place cs))
     )
 
 -- ---- texts that are appended as they are

@@ -23,6 +23,8 @@ pub enum Call {
     Ending(LineEnding),
     /// Flush the sink.
     Flush,
+    /// Set whether every character past U+007F is escaped.
+    AsciiOnly(bool),
 }
 
 /// Makes the calls in order, and returns for each whether it was accepted.
@@ -70,6 +72,10 @@ fn run_call<W: CountedWrite>(
             Ok(true)
         }
         Call::Flush => was_accepted(writer.flush()),
+        Call::AsciiOnly(on) => {
+            writer.set_ascii_only(*on);
+            Ok(true)
+        }
     }
 }
 

@@ -6,11 +6,11 @@ ghost use Rattle.properties_format.specs.Entries.{comment, pair};
 ghost use Rattle.properties_format.specs.Settings.{default_settings};
 ghost use Rattle.properties_format.specs.Writing.{is_accepted};
 ghost use Rattle.counted_io.specs.Streams.{IsSameSink};
-ghost use Rattle.java_properties.specs.Engine.{content_of, writing, line_bytes, content_bytes};
+ghost use Rattle.java_properties.specs.Engine.{content_of, writing, repertoire_of, line_bytes, content_bytes};
 ghost use Rattle.java_properties.specs.Printing.{AppendsOnOk};
 ghost use Rattle.java_properties.specs.PropertiesWriter.{call_of, WritesLine, Flushes};
 
-use super::print::{Place, print_key, print_raw, print_text};
+use super::print::{Place, Repertoire, print_key, print_raw, print_text};
 use super::settings::Settings;
 use crate::encoding::OutputEncoding;
 use crate::error::PropertiesError;
@@ -146,13 +146,14 @@ impl Engine {
             AppendsOnOk self.old.line bytes result self.new.line }
         ensures same { self.new ≡ record self.old { line = self.new.line } }
     {
+        let repertoire = self.repertoire();
         print_text(
             &mut self.line,
-            self.encoding,
+            repertoire,
             Place::Prefix,
             self.settings.comment_prefix(),
         )?;
-        print_text(&mut self.line, self.encoding, Place::Comment, text)
+        print_text(&mut self.line, repertoire, Place::Comment, text)
     }
 
     fn print_pair(&mut self, key: &str, value: &str) -> Result<(), AllocError>
@@ -160,8 +161,18 @@ impl Engine {
             AppendsOnOk self.old.line bytes result self.new.line }
         ensures same { self.new ≡ record self.old { line = self.new.line } }
     {
-        print_key(&mut self.line, self.encoding, self.lines == 0, key)?;
+        let repertoire = self.repertoire();
+        print_key(&mut self.line, repertoire, self.lines == 0, key)?;
         print_raw(&mut self.line, self.settings.kv_separator())?;
-        print_text(&mut self.line, self.encoding, Place::KeyOrValue, value)
+        print_text(&mut self.line, repertoire, Place::KeyOrValue, value)
+    }
+
+    fn repertoire(&self) -> Repertoire
+        ensures { result ≡ repertoire_of self.now }
+    {
+        Repertoire {
+            encoding: self.encoding,
+            ascii_only: self.settings.ascii_only(),
+        }
     }
 }

@@ -1,6 +1,6 @@
 // Texts as they are printed.
 
-ghost use Rattle.std.specs.Prelude.{◌≡◌, true, ◌++◌, ◌∷◌, ◌<◌, [], OnOk};
+ghost use Rattle.std.specs.Prelude.{◌≡◌, true, ◌++◌, ◌∷◌, ◌<◌, ◌||◌, not, nat_lt, [], OnOk};
 ghost use Rattle.std.specs.Char.{digit_char};
 ghost use Rattle.std.specs.Str.{chars};
 ghost use Rattle.properties_format.specs.Text.{backslash};
@@ -23,46 +23,70 @@ pub enum Place {
     KeyOrValue,
     /// The backslash, and what ends lines.
     Comment,
-    /// Nothing but what the encoding lacks.
+    /// Nothing but what the repertoire lacks.
     Prefix,
 }
+
+/// Which characters stand as themselves: those that the encoding has, or of them those up to U+007F alone.
+#[derive(Clone, Copy)]
+pub struct Repertoire {
+    /// What the line is encoded in.
+    pub encoding: OutputEncoding,
+    /// Whether every character past U+007F is escaped.
+    pub ascii_only: bool,
+}
+
+impl Repertoire {
+    // Whether the character may stand as itself, as far as ASCII alone goes.
+    fn lets_stand(self, character: char) -> bool
+        ensures { result ≡ (not self.ascii_only || nat_lt character 0x80) }
+    {
+        !self.ascii_only || character.is_ascii()
+    }
+}
+
+// Of ASCII characters every repertoire prints the same.
+const ASCII: Repertoire = Repertoire {
+    encoding: OutputEncoding::Windows1252,
+    ascii_only: true,
+};
 
 /// Prints a text.
 pub fn print_text(
     line: &mut Vec<u8>,
-    encoding: OutputEncoding,
+    repertoire: Repertoire,
     place: Place,
     text: &str,
 ) -> Result<(), AllocError>
-    ensures { AppendsOnOk line.old (text_bytes encoding place (chars text.now)) result line.new }
+    ensures { AppendsOnOk line.old (text_bytes repertoire place (chars text.now)) result line.new }
 {
     match place {
-        Place::KeyOrValue if stands(encoding, text) => print_bytes(line, text.as_bytes()),
-        _ => print_characters(line, encoding, place, text),
+        Place::KeyOrValue if stands(repertoire, text) => print_bytes(line, text.as_bytes()),
+        _ => print_characters(line, repertoire, place, text),
     }
 }
 
-// Whether the encoding's bytes of the text are its own, so that only ASCII is ever escaped.
-fn stands(encoding: OutputEncoding, text: &str) -> bool
-    ensures { result ≡ true → Stands encoding text.now }
+// Whether the bytes of the text are what is printed, but for escapes of ASCII.
+fn stands(repertoire: Repertoire, text: &str) -> bool
+    ensures { result ≡ true → Stands repertoire text.now }
 {
-    match encoding {
-        OutputEncoding::Utf8 => true,
-        OutputEncoding::Windows1252 => text.is_ascii(),
+    match repertoire.encoding {
+        OutputEncoding::Utf8 if !repertoire.ascii_only => true,
+        _ => text.is_ascii(),
     }
 }
 
 // Prints a text, character by character.
 fn print_characters(
     line: &mut Vec<u8>,
-    encoding: OutputEncoding,
+    repertoire: Repertoire,
     place: Place,
     text: &str,
 ) -> Result<(), AllocError>
-    ensures { AppendsOnOk line.old (text_bytes encoding place (chars text.now)) result line.new }
+    ensures { AppendsOnOk line.old (text_bytes repertoire place (chars text.now)) result line.new }
 {
     for character in text.chars() {
-        print_character(line, encoding, place, character)?;
+        print_character(line, repertoire, place, character)?;
     }
     Ok(())
 }
@@ -70,16 +94,16 @@ fn print_characters(
 /// Prints a key. At the front of the first line it isn't to be taken for a byte order mark.
 pub fn print_key(
     line: &mut Vec<u8>,
-    encoding: OutputEncoding,
+    repertoire: Repertoire,
     first: bool,
     key: &str,
 ) -> Result<(), AllocError>
-    ensures { AppendsOnOk line.old (key_bytes encoding first (chars key.now)) result line.new }
+    ensures { AppendsOnOk line.old (key_bytes repertoire first (chars key.now)) result line.new }
 {
-    if first && is_bom_like(encoding, key) {
-        return print_with_first_escaped(line, encoding, key);
+    if first && is_bom_like(repertoire, key) {
+        return print_with_first_escaped(line, repertoire, key);
     }
-    print_text(line, encoding, Place::KeyOrValue, key)
+    print_text(line, repertoire, Place::KeyOrValue, key)
 }
 
 /// Appends a text as it is.
@@ -90,10 +114,13 @@ pub fn print_raw(line: &mut Vec<u8>, text: &str) -> Result<(), AllocError>
 }
 
 // Whether a key's bytes begin like a byte order mark, by its first characters alone.
-fn is_bom_like(encoding: OutputEncoding, key: &str) -> bool
-    ensures { result ≡ is_bom_like (output_of encoding) (chars key.now) }
+fn is_bom_like(repertoire: Repertoire, key: &str) -> bool
+    ensures { result ≡ is_bom_like (output_of repertoire.encoding) repertoire.ascii_only (chars key.now) }
 {
-    match encoding {
+    if repertoire.ascii_only {
+        return false;
+    }
+    match repertoire.encoding {
         OutputEncoding::Windows1252 => {
             key.starts_with("\u{ef}\u{bb}\u{bf}")
                 || key.starts_with("\u{fe}\u{ff}")
@@ -106,42 +133,43 @@ fn is_bom_like(encoding: OutputEncoding, key: &str) -> bool
 // A key with its first character as an escape.
 fn print_with_first_escaped(
     line: &mut Vec<u8>,
-    encoding: OutputEncoding,
+    repertoire: Repertoire,
     key: &str,
 ) -> Result<(), AllocError>
-    ensures { let text = with_first_escaped (output_of encoding) (chars key.now) in
-        AppendsOnOk line.old (encoded_text (output_of encoding) text) result line.new }
+    ensures { let e = output_of repertoire.encoding in
+        let text = with_first_escaped e repertoire.ascii_only (chars key.now) in
+        AppendsOnOk line.old (encoded_text e text) result line.new }
 {
     let mut characters = key.chars();
     let Some(character) = characters.next() else {
         return Ok(());
     };
     print_escape(line, character)?;
-    print_text(line, encoding, Place::KeyOrValue, characters.as_str())
+    print_text(line, repertoire, Place::KeyOrValue, characters.as_str())
 }
 
 fn print_character(
     line: &mut Vec<u8>,
-    encoding: OutputEncoding,
+    repertoire: Repertoire,
     place: Place,
     character: char,
 ) -> Result<(), AllocError>
-    ensures { AppendsOnOk line.old (character_bytes encoding place character) result line.new }
+    ensures { AppendsOnOk line.old (character_bytes repertoire place character) result line.new }
 {
     match place {
-        Place::KeyOrValue => print_in_key_or_value(line, encoding, character),
-        Place::Comment => print_in_comment(line, encoding, character),
-        Place::Prefix => print_literal(line, encoding, character),
+        Place::KeyOrValue => print_in_key_or_value(line, repertoire, character),
+        Place::Comment => print_in_comment(line, repertoire, character),
+        Place::Prefix => print_literal(line, repertoire, character),
     }
 }
 
 #[tactic(auto, using(crate::proofs::Printing::Characters::encoded_pair, crate::proofs::Printing::Characters::encoded_escape))]
 fn print_in_key_or_value(
     line: &mut Vec<u8>,
-    encoding: OutputEncoding,
+    repertoire: Repertoire,
     character: char,
 ) -> Result<(), AllocError>
-    ensures { let bytes = character_bytes encoding Place.KeyOrValue character in
+    ensures { let bytes = character_bytes repertoire Place.KeyOrValue character in
         AppendsOnOk line.old bytes result line.new }
 {
     match character {
@@ -156,37 +184,38 @@ fn print_in_key_or_value(
         '=' => print_after_backslash(line, b'='),
         '\\' => print_after_backslash(line, b'\\'),
         _ if character < ' ' => print_escape(line, character),
-        _ => print_literal(line, encoding, character),
+        _ => print_literal(line, repertoire, character),
     }
 }
 
 fn print_in_comment(
     line: &mut Vec<u8>,
-    encoding: OutputEncoding,
+    repertoire: Repertoire,
     character: char,
 ) -> Result<(), AllocError>
-    ensures { let bytes = character_bytes encoding Place.Comment character in
+    ensures { let bytes = character_bytes repertoire Place.Comment character in
         AppendsOnOk line.old bytes result line.new }
 {
     match character {
         '\n' => print_after_backslash(line, b'n'),
         '\r' => print_after_backslash(line, b'r'),
         '\\' => print_after_backslash(line, b'\\'),
-        _ => print_literal(line, encoding, character),
+        _ => print_literal(line, repertoire, character),
     }
 }
 
-// As itself, or where the encoding lacks it as an escape.
+// As itself, or as an escape where it may not stand so.
 #[tactic(auto, using(crate::proofs::Printing::Characters::literal_known))]
 fn print_literal(
     line: &mut Vec<u8>,
-    encoding: OutputEncoding,
+    repertoire: Repertoire,
     character: char,
 ) -> Result<(), AllocError>
-    ensures { let text = literal (output_of encoding) character in
-        AppendsOnOk line.old (encoded_text (output_of encoding) text) result line.new }
+    ensures { let e = output_of repertoire.encoding in
+        let text = literal e repertoire.ascii_only character in
+        AppendsOnOk line.old (encoded_text e text) result line.new }
 {
-    if push_encoded(line, encoding, character)? {
+    if repertoire.lets_stand(character) && push_encoded(line, repertoire.encoding, character)? {
         return Ok(());
     }
     print_escape(line, character)
@@ -197,7 +226,7 @@ fn print_byte(line: &mut Vec<u8>, byte: u8) -> Result<(), AllocError>
     ensures { AppendsOnOk line.old (spelt_byte byte) result line.new }
 {
     if byte < 0x80 {
-        print_in_key_or_value(line, OutputEncoding::Windows1252, char::from(byte))
+        print_in_key_or_value(line, ASCII, char::from(byte))
     } else {
         line.extend_from_slice(&[byte])
     }

@@ -6,7 +6,7 @@ ghost use Rattle.properties_format.specs.Text.{line_ending_text};
 ghost use Rattle.properties_format.specs.Settings.{default_settings};
 ghost use Rattle.properties_format.specs.Reading.Settings.{is_blanks, is_good_prefix, is_good_separator};
 ghost use Rattle.properties_format.specs.Writing.{is_empty};
-ghost use Rattle.java_properties.specs.Settings.{ending_of, with_ending, TakesPrefix, TakesSeparator};
+ghost use Rattle.java_properties.specs.Settings.{ending_of, with_ending, with_ascii_only, TakesPrefix, TakesSeparator};
 
 use crate::characters::{is_blank, is_comment_sign, is_line_end, is_separator};
 use crate::error::PropertiesError;
@@ -52,13 +52,14 @@ impl fmt::Display for LineEnding {
     }
 }
 
-/// What stands before a comment and between a key and its value, and what ends a line. A text that is `None` is the
-/// one of a new writer.
+/// What stands before a comment and between a key and its value, what ends a line, and whether every character past
+/// U+007F is escaped. A text that is `None` is the one of a new writer.
 #[derive(Drop)]
 pub(crate) struct Settings {
     comment_prefix: Option<String>,
     kv_separator: Option<String>,
     line_ending: LineEnding,
+    ascii_only: bool,
     alloc: Global,
 }
 
@@ -83,6 +84,7 @@ impl Settings {
             comment_prefix: None,
             kv_separator: None,
             line_ending: LineEnding::LF,
+            ascii_only: false,
             alloc,
         }
     }
@@ -155,6 +157,20 @@ impl Settings {
         ensures { self.new ≡ with_ending self.old line_ending }
     {
         self.line_ending = line_ending;
+    }
+
+    /// Whether every character past U+007F is escaped.
+    pub fn ascii_only(&self) -> bool
+        ensures { result ≡ self.now.ascii_only }
+    {
+        self.ascii_only
+    }
+
+    /// Sets whether every character past U+007F is escaped.
+    pub fn set_ascii_only(&mut self, on: bool)
+        ensures { self.new ≡ with_ascii_only self.old on }
+    {
+        self.ascii_only = on;
     }
 }
 

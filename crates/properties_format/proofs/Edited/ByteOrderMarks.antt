@@ -96,21 +96,21 @@ ending-cut x crlf y = byte_order_mark-cut x carriage_return (line_feed ∷ y) (l
 
 -- the bytes of a pair, up to its separator
 pair-parts : (e : Encoding) (first : Bool) (key value : List ℕ)
-    → pair_bytes e first key value ≡ encoded_text e (spelt_key e first key) ++ (equals_sign ∷ encoded_text e (spelt_text e in_key_or_value value))
+    → pair_bytes e first key value ≡ encoded_text e (spelt_key e false first key) ++ (equals_sign ∷ encoded_text e (spelt_text e false in_key_or_value value))
 pair-parts e first key value =
-    encoded_text-append e (spelt_key e first key) (equals_sign ∷ spelt_text e in_key_or_value value)
-    ∙ ap (λ o. encoded_text e (spelt_key e first key) ++ (unwrap_or o [] ++ encoded_text e (spelt_text e in_key_or_value value))) (encoded-ascii e equals_sign (lit< tt))
+    encoded_text-append e (spelt_key e false first key) (equals_sign ∷ spelt_text e false in_key_or_value value)
+    ∙ ap (λ o. encoded_text e (spelt_key e false first key) ++ (unwrap_or o [] ++ encoded_text e (spelt_text e false in_key_or_value value))) (encoded-ascii e equals_sign (lit< tt))
 
 pair-ascii : (e : Encoding) (first : Bool) (key value : List ℕ) → HasAscii (pair_bytes e first key value)
 pair-ascii e first key value =
-    (encoded_text e (spelt_key e first key), equals_sign, encoded_text e (spelt_text e in_key_or_value value), pair-parts e first key value, lit< tt)
+    (encoded_text e (spelt_key e false first key), equals_sign, encoded_text e (spelt_text e false in_key_or_value value), pair-parts e first key value, lit< tt)
 
 -- A pair at the front begins like no byte order mark.
 first-unmarked : (e : Encoding) (key value rest : List ℕ) → begins_like_bom (pair_bytes e true key value ++ rest) ≡ false
 first-unmarked e key value rest =
     ascii-cut (pair_bytes e true key value) rest [] (pair-ascii e true key value)
     ∙ ap begins_like_bom (append-nil (pair_bytes e true key value))
-    ∙ pair-unmarked e key (equals_sign ∷ []) (spelt_text e in_key_or_value value) default_settings-good.separator
+    ∙ pair-unmarked e false key (equals_sign ∷ []) (spelt_text e false in_key_or_value value) default_settings-good.separator
 
 -- ---- a key is set
 

@@ -33,7 +33,7 @@ use Rattle.properties_format.proofs.Edited.Told.{told_before, ended_lines, line_
 
 -- the characters of the printed pair
 abbrev pub pair_text : Encoding → Bool → List ℕ → List ℕ → List ℕ
-pair_text e first key value = spelt_key e first key ++ (equals_sign ∷ spelt_text e in_key_or_value value)
+pair_text e first key value = spelt_key e false first key ++ (equals_sign ∷ spelt_text e false in_key_or_value value)
 
 by_recursion : (x : List ℕ) → All scalar x → AllByRecursion scalar x
 by_recursion x h = recursion_from_All scalar x h
@@ -42,8 +42,8 @@ by_recursion x h = recursion_from_All scalar x h
 pair-read_as : (e : Encoding) (first : Bool) (key value : List ℕ) → All scalar key → All scalar value
     → IsReadAs (pair_text e first key value) (pair key value)
 pair-read_as e first key value h k =
-    pair-read (spelt_key e first key) (spelt_text e in_key_or_value value) (equals_sign ∷ []) key value (key-spelt e first key (by_recursion key h))
-    (texts-spelt e value (by_recursion value k)) default_settings-good.separator (λ q. refl)
+    pair-read (spelt_key e false first key) (spelt_text e false in_key_or_value value) (equals_sign ∷ []) key value (key-spelt e false first key (by_recursion key h))
+    (texts-spelt e false value (by_recursion value k)) default_settings-good.separator (λ q. refl)
 
 -- ---- its bytes are decoded to its text
 
@@ -63,10 +63,10 @@ line-text : (e : Encoding) (n : ℕ) (key value : List ℕ)
     → wrote_text e default_settings n (pair_call key value ∷ []) ≡ pair_text e (n == 0) key value ++ line_feed ∷ []
 line-text e n [] value =
     append-nil (printed_text e default_settings (n == 0) (pair [] value))
-    ∙ sym (append_assoc (spelt_key e (n == 0) []) (equals_sign ∷ spelt_text e in_key_or_value value) (line_feed ∷ []))
+    ∙ sym (append_assoc (spelt_key e false (n == 0) []) (equals_sign ∷ spelt_text e false in_key_or_value value) (line_feed ∷ []))
 line-text e n (c ∷ key) value =
     append-nil (printed_text e default_settings (n == 0) (pair (c ∷ key) value))
-    ∙ sym (append_assoc (spelt_key e (n == 0) (c ∷ key)) (equals_sign ∷ spelt_text e in_key_or_value value) (line_feed ∷ []))
+    ∙ sym (append_assoc (spelt_key e false (n == 0) (c ∷ key)) (equals_sign ∷ spelt_text e false in_key_or_value value) (line_feed ∷ []))
 
 pair-writable : (e : Encoding) (first : Bool) (key value : List ℕ) → All scalar key → All scalar value → AreWritable e (pair_text e first key value)
 pair-writable e true key value h k =

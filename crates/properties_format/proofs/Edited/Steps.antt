@@ -136,7 +136,7 @@ result-after n (g ∷ gs) hs made h =
 pub pair_bytes-printed : (e : Encoding) (first : Bool) (key value : List ℕ)
     → pair_bytes e first key value ++ line_feed ∷ [] ≡ printed e default_settings first (pair key value)
 pair_bytes-printed e first key value =
-    let x = spelt_key e first key ++ (equals_sign ∷ spelt_text e in_key_or_value value) in
+    let x = spelt_key e false first key ++ (equals_sign ∷ spelt_text e false in_key_or_value value) in
     ap (λ o. encoded_text e x ++ (unwrap_or o [] ++ [])) (sym (encoded-ascii e line_feed (lit< tt)))
     ∙ sym (encoded_text-append e x (line_feed ∷ []))
-    ∙ ap (encoded_text e) (append_assoc (spelt_key e first key) (equals_sign ∷ spelt_text e in_key_or_value value) (line_feed ∷ []))
+    ∙ ap (encoded_text e) (append_assoc (spelt_key e false first key) (equals_sign ∷ spelt_text e false in_key_or_value value) (line_feed ∷ []))

@@ -11,7 +11,7 @@ use Rattle.properties_format.specs.Reading.Escapes.{meaning_of}
 use Rattle.properties_format.specs.Items.{Entry, comment, pair, item}
 use Rattle.properties_format.specs.Reading.Items.{items_of}
 use Rattle.properties_format.specs.Settings.{default_settings}
-use Rattle.properties_format.specs.Writing.{Call, comment_call, pair_call, prefix_call, separator_call, ending_call, flush_call, answers, wrote, items_read_back}
+use Rattle.properties_format.specs.Writing.{Call, comment_call, pair_call, prefix_call, separator_call, ending_call, flush_call, ascii_only_call, answers, wrote, items_read_back}
 
 -- a new writer's calls write these bytes, which read back as these items
 abbrev WritesAndReads : Encoding → List Call → List ℕ → List Entry → Type 0
@@ -211,3 +211,43 @@ all_calls_answers = refl
 a_map : WritesAndReads windows_1252 (pair_call (codes "a") (codes "1") ∷ pair_call (codes "b") (codes "2") ∷ []) (codes "a=1\nb=2\n") (item 1 (pair (codes "a") (codes "1")) ∷ item 2 (pair (codes "b") (codes "2")) ∷ [])
 unfolding items_of pieces_of split_of meaning_of
 a_map = (refl, refl, refl)
+
+-- ASCII alone
+ascii_only_in_utf_8 : WritesAndReads utf_8 (ascii_only_call true ∷ pair_call (codes "é") (codes "🐞") ∷ []) (codes "\\u00e9=\\ud83d\\udc1e\n") (item 1 (pair (codes "é") (codes "🐞")) ∷ [])
+unfolding items_of pieces_of split_of meaning_of encode_utf8
+ascii_only_in_utf_8 = (refl, refl, refl)
+
+ascii_only_in_windows_1252 : WritesAndReads windows_1252 (ascii_only_call true ∷ pair_call (codes "é") (codes "🐞") ∷ []) (codes "\\u00e9=\\ud83d\\udc1e\n") (item 1 (pair (codes "é") (codes "🐞")) ∷ [])
+unfolding items_of pieces_of split_of meaning_of
+ascii_only_in_windows_1252 = (refl, refl, refl)
+
+ascii_only_and_not : WritesAndReads windows_1252 (ascii_only_call true ∷ comment_call (codes "é") ∷ ascii_only_call false ∷ comment_call (codes "é") ∷ []) (codes "# \\u00e9\n# é\n") (item 1 (comment (codes "é")) ∷ item 2 (comment (codes "é")) ∷ [])
+unfolding items_of pieces_of split_of meaning_of
+ascii_only_and_not = (refl, refl, refl)
+
+ascii_only_answers : answers default_settings (ascii_only_call true ∷ comment_call (codes "é") ∷ ascii_only_call false ∷ comment_call (codes "é") ∷ []) ≡ true ∷ true ∷ true ∷ true ∷ []
+ascii_only_answers = refl
+
+last_of_ascii : WritesAndReads windows_1252 (ascii_only_call true ∷ pair_call (codes "\u{7f}") (codes "\u{80}") ∷ []) (codes "\u{7f}=\\u0080\n") (item 1 (pair (codes "\u{7f}") (codes "\u{80}")) ∷ [])
+unfolding items_of pieces_of split_of meaning_of
+last_of_ascii = (refl, refl, refl)
+
+ascii_only_prefix : WritesAndReads windows_1252 (ascii_only_call true ∷ prefix_call (codes "#é") ∷ comment_call (codes "1") ∷ []) (codes "#\\u00e91\n") (item 1 (comment (codes "é1")) ∷ [])
+unfolding items_of pieces_of split_of meaning_of
+ascii_only_prefix = (refl, refl, refl)
+
+ascii_only_bom_like_key : WritesAndReads utf_8 (ascii_only_call true ∷ pair_call (codes "\u{feff}") [] ∷ []) (codes "\\ufeff=\n") (item 1 (pair (codes "\u{feff}") []) ∷ [])
+unfolding items_of pieces_of split_of meaning_of encode_utf8
+ascii_only_bom_like_key = (refl, refl, refl)
+
+ascii_only_bom_like_bytes : WritesAndReads windows_1252 (ascii_only_call true ∷ pair_call (codes "þÿ") (codes "x") ∷ []) (codes "\\u00fe\\u00ff=x\n") (item 1 (pair (codes "þÿ") (codes "x")) ∷ [])
+unfolding items_of pieces_of split_of meaning_of
+ascii_only_bom_like_bytes = (refl, refl, refl)
+
+ascii_only_units : WritesAndReads (output_encoding utf_16le) (ascii_only_call true ∷ pair_call (codes "a") (codes "é") ∷ []) (codes "a=\\u00e9\n") (item 1 (pair (codes "a") (codes "é")) ∷ [])
+unfolding items_of pieces_of split_of meaning_of encode_utf8
+ascii_only_units = (refl, refl, refl)
+
+ascii_only_ideograph : WritesAndReads utf_8 (ascii_only_call true ∷ pair_call (codes "k") (codes "日") ∷ []) (codes "k=\\u65e5\n") (item 1 (pair (codes "k") (codes "日")) ∷ [])
+unfolding items_of pieces_of split_of meaning_of encode_utf8
+ascii_only_ideograph = (refl, refl, refl)

@@ -33,27 +33,27 @@ same-cases : (e : Encoding) (c : ℕ) (x y : List ℕ) → x ≡ y → IsEscaped
 same-cases e c x y p (inl k) = inl (k.0, p ∙ k.1)
 same-cases e c x y p (inr k) = inr (p ∙ k.0, k.1)
 
-literal-cases : (e : Encoding) (c : ℕ) → IsEscapedOrItself e c (literal e c)
+literal-cases : (e : Encoding) (c : ℕ) → IsEscapedOrItself e c (literal e false c)
 literal-cases e c = elim (cases_Bool (is_some (encoded e c))) [
   | inl k ↦ inr (cond-true (is_some (encoded e c)) (c ∷ []) (unicode_escape c) k, k)
-  | inr k ↦ same-cases e c (literal e c) (unicode_escape c) (cond-false (is_some (encoded e c)) (c ∷ []) (unicode_escape c) k) (inl (unicode-is_escape c))
+  | inr k ↦ same-cases e c (literal e false c) (unicode_escape c) (cond-false (is_some (encoded e c)) (c ∷ []) (unicode_escape c) k) (inl (unicode-is_escape c))
 ]
 
-control-cases : (e : Encoding) (c : ℕ) → IsEscapedOrItself e c (cond (nat_lt c space) (unicode_escape c) (literal e c))
+control-cases : (e : Encoding) (c : ℕ) → IsEscapedOrItself e c (cond (nat_lt c space) (unicode_escape c) (literal e false c))
 control-cases e c = elim (cases_Bool (nat_lt c space)) [
-  | inl k ↦ same-cases e c _ (unicode_escape c) (cond-true (nat_lt c space) (unicode_escape c) (literal e c) k) (inl (unicode-is_escape c))
-  | inr k ↦ same-cases e c _ (literal e c) (cond-false (nat_lt c space) (unicode_escape c) (literal e c) k) (literal-cases e c)
+  | inl k ↦ same-cases e c _ (unicode_escape c) (cond-true (nat_lt c space) (unicode_escape c) (literal e false c) k) (inl (unicode-is_escape c))
+  | inr k ↦ same-cases e c _ (literal e false c) (cond-false (nat_lt c space) (unicode_escape c) (literal e false c) k) (literal-cases e c)
 ]
 
-letter-cases : (e : Encoding) (c : ℕ) → IsEscapedOrItself e c (cond (has_letter c) (letter_escape c) (cond (nat_lt c space) (unicode_escape c) (literal e c)))
+letter-cases : (e : Encoding) (c : ℕ) → IsEscapedOrItself e c (cond (has_letter c) (letter_escape c) (cond (nat_lt c space) (unicode_escape c) (literal e false c)))
 letter-cases e c = elim (cases_Bool (has_letter c)) [
-  | inl k ↦ inl (_, cond-true (has_letter c) (letter_escape c) (cond (nat_lt c space) (unicode_escape c) (literal e c)) k)
-  | inr k ↦ same-cases e c _ _ (cond-false (has_letter c) (letter_escape c) (cond (nat_lt c space) (unicode_escape c) (literal e c)) k) (control-cases e c)
+  | inl k ↦ inl (_, cond-true (has_letter c) (letter_escape c) (cond (nat_lt c space) (unicode_escape c) (literal e false c)) k)
+  | inr k ↦ same-cases e c _ _ (cond-false (has_letter c) (letter_escape c) (cond (nat_lt c space) (unicode_escape c) (literal e false c)) k) (control-cases e c)
 ]
 
-pub spelt-cases : (e : Encoding) (c : ℕ) → IsEscapedOrItself e c (spelt e in_key_or_value c)
+pub spelt-cases : (e : Encoding) (c : ℕ) → IsEscapedOrItself e c (spelt e false in_key_or_value c)
 spelt-cases e c =
-    let rest = cond (has_letter c) (letter_escape c) (cond (nat_lt c space) (unicode_escape c) (literal e c)) in
+    let rest = cond (has_letter c) (letter_escape c) (cond (nat_lt c space) (unicode_escape c) (literal e false c)) in
     elim (cases_Bool (is_special c)) [
       | inl k ↦ inl (_, cond-true (is_special c) (backslash ∷ c ∷ []) rest k)
       | inr k ↦ same-cases e c _ rest (cond-false (is_special c) (backslash ∷ c ∷ []) rest k) (letter-cases e c)
@@ -63,7 +63,7 @@ spelt-cases e c =
 
 -- a character that stands as itself in a key, and whose byte has its number; a backslash is none
 record IsRaw (m : ℕ) : Type 0 where
-  itself : spelt windows_1252 in_key_or_value m ≡ m ∷ []
+  itself : spelt windows_1252 false in_key_or_value m ≡ m ∷ []
   byte : encoded windows_1252 m ≡ Some (m ∷ [])
   character : windows_1252_character m ≡ m
   no_escape : (m == backslash) ≡ false
@@ -73,11 +73,11 @@ AreRaw [] = Unit {0}
 AreRaw (m ∷ ms) = IsRaw m × AreRaw ms
 
 abbrev bytes_of : List ℕ → List ℕ
-bytes_of key = encoded_text windows_1252 (spelt_text windows_1252 in_key_or_value key)
+bytes_of key = encoded_text windows_1252 (spelt_text windows_1252 false in_key_or_value key)
 
 -- the bytes of a key by those of its first character
-bytes-cons : (c : ℕ) (cs x : List ℕ) → spelt windows_1252 in_key_or_value c ≡ x → bytes_of (c ∷ cs) ≡ encoded_text windows_1252 x ++ bytes_of cs
-bytes-cons c cs x e = encoded_text-append windows_1252 (spelt windows_1252 in_key_or_value c) (spelt_text windows_1252 in_key_or_value cs) ∙ ap (λ v. encoded_text windows_1252 v ++ bytes_of cs) e
+bytes-cons : (c : ℕ) (cs x : List ℕ) → spelt windows_1252 false in_key_or_value c ≡ x → bytes_of (c ∷ cs) ≡ encoded_text windows_1252 x ++ bytes_of cs
+bytes-cons c cs x e = encoded_text-append windows_1252 (spelt windows_1252 false in_key_or_value c) (spelt_text windows_1252 false in_key_or_value cs) ∙ ap (λ v. encoded_text windows_1252 v ++ bytes_of cs) e
 
 -- another byte than m is in front, where c is another character
 other-byte : (m c : ℕ) (ms : List ℕ) (o : Option ℕ) (y : List ℕ) → IsRaw m → m ≢ c → windows_1252_byte c ≡ o → is_some (one_byte o) ≡ true
@@ -86,7 +86,7 @@ other-byte m c ms None y raw other e some = cc
 other-byte m c ms (Some b) y raw other e some =
     and_left (m == b) (begins_with ms y) (ne_eqb m b (λ k. other (sym raw.character ∙ ap windows_1252_character k ∙ (windows_1252_character-byte c b e).0)))
 
-other-front : (m c : ℕ) (ms cs : List ℕ) → IsRaw m → m ≢ c → IsEscapedOrItself windows_1252 c (spelt windows_1252 in_key_or_value c)
+other-front : (m c : ℕ) (ms cs : List ℕ) → IsRaw m → m ≢ c → IsEscapedOrItself windows_1252 c (spelt windows_1252 false in_key_or_value c)
     → begins_with (m ∷ ms) (bytes_of (c ∷ cs)) ≡ false
 other-front m c ms cs raw other (inl k) =
     ap (begins_with (m ∷ ms)) (bytes-cons c cs (backslash ∷ k.0) k.1) ∙ and_left (m == backslash) (begins_with ms (encoded_text windows_1252 k.0 ++ bytes_of cs)) raw.no_escape
@@ -122,7 +122,7 @@ raw-ff : IsRaw 0xff
 raw-ff = record { itself = refl; byte = refl; character = refl; no_escape = refl }
 
 -- Under windows-1252 the keys that begin like a byte order mark are those that begin with U+00EF U+00BB U+00BF, with U+00FE U+00FF, or with U+00FF U+00FE.
-pub is_bom_like-windows_1252 : (key : List ℕ) → is_bom_like windows_1252 key ≡ (begins_with (0xef ∷ 0xbb ∷ 0xbf ∷ []) key || (begins_with (0xfe ∷ 0xff ∷ []) key || begins_with (0xff ∷ 0xfe ∷ []) key))
+pub is_bom_like-windows_1252 : (key : List ℕ) → is_bom_like windows_1252 false key ≡ (begins_with (0xef ∷ 0xbb ∷ 0xbf ∷ []) key || (begins_with (0xfe ∷ 0xff ∷ []) key || begins_with (0xff ∷ 0xfe ∷ []) key))
 is_bom_like-windows_1252 key =
     ap (λ b. b || (begins_with utf_16be_bom (bytes_of key) || begins_with utf_16le_bom (bytes_of key))) (key-begins utf_8_bom key (raw-ef, (raw-bb, (raw-bf, tt))))
     ∙ ap (λ b. begins_with utf_8_bom key || (b || begins_with utf_16le_bom (bytes_of key))) (key-begins utf_16be_bom key (raw-fe, (raw-ff, tt)))
@@ -131,10 +131,10 @@ is_bom_like-windows_1252 key =
 -- ---- UTF-8
 
 abbrev utf_8_bytes_of : List ℕ → List ℕ
-utf_8_bytes_of key = encoded_text utf_8 (spelt_text utf_8 in_key_or_value key)
+utf_8_bytes_of key = encoded_text utf_8 (spelt_text utf_8 false in_key_or_value key)
 
-utf_8_bytes-cons : (c : ℕ) (cs x : List ℕ) → spelt utf_8 in_key_or_value c ≡ x → utf_8_bytes_of (c ∷ cs) ≡ encoded_text utf_8 x ++ utf_8_bytes_of cs
-utf_8_bytes-cons c cs x e = encoded_text-append utf_8 (spelt utf_8 in_key_or_value c) (spelt_text utf_8 in_key_or_value cs) ∙ ap (λ v. encoded_text utf_8 v ++ utf_8_bytes_of cs) e
+utf_8_bytes-cons : (c : ℕ) (cs x : List ℕ) → spelt utf_8 false in_key_or_value c ≡ x → utf_8_bytes_of (c ∷ cs) ≡ encoded_text utf_8 x ++ utf_8_bytes_of cs
+utf_8_bytes-cons c cs x e = encoded_text-append utf_8 (spelt utf_8 false in_key_or_value c) (spelt_text utf_8 false in_key_or_value cs) ∙ ap (λ v. encoded_text utf_8 v ++ utf_8_bytes_of cs) e
 
 -- what begins with a list is that list and a rest
 begins-rest : (ms d : List ℕ) → begins_with ms d ≡ true → (rest : List ℕ) × (d ≡ ms ++ rest)
@@ -184,13 +184,13 @@ utf_8-itself c y h =
     either (inr k) = ap (λ b. b || false) (false_from_ne_true (begins_with utf_8_bom (encode_utf8 c ++ y)) (λ t. k.1 (sym (byte_order_mark-of_feff c y t)))) ∙ sym (and_left (0xfeff == c) true k.0)
 
 -- U+FEFF is not escaped
-feff-itself : spelt utf_8 in_key_or_value 0xfeff ≡ 0xfeff ∷ []
+feff-itself : spelt utf_8 false in_key_or_value 0xfeff ≡ 0xfeff ∷ []
 feff-itself = refl
 
-not-feff : (c : ℕ) (rest : List ℕ) → spelt utf_8 in_key_or_value c ≡ backslash ∷ rest → 0xfeff ≡ c → ⊥
-not-feff c rest e q = let k : ◌≡◌ {A = ℕ} 0x5c 0xfeff = ap (λ v. get_or v 0 0) (sym e ∙ ap (spelt utf_8 in_key_or_value) (sym q)) in omega arith
+not-feff : (c : ℕ) (rest : List ℕ) → spelt utf_8 false in_key_or_value c ≡ backslash ∷ rest → 0xfeff ≡ c → ⊥
+not-feff c rest e q = let k : ◌≡◌ {A = ℕ} 0x5c 0xfeff = ap (λ v. get_or v 0 0) (sym e ∙ ap (spelt utf_8 false in_key_or_value) (sym q)) in omega arith
 
-utf_8-cons : (c : ℕ) (cs : List ℕ) → c < 0x11_0000 → IsEscapedOrItself utf_8 c (spelt utf_8 in_key_or_value c) → is_bom_like utf_8 (c ∷ cs) ≡ ((0xfeff == c) && true)
+utf_8-cons : (c : ℕ) (cs : List ℕ) → c < 0x11_0000 → IsEscapedOrItself utf_8 c (spelt utf_8 false in_key_or_value c) → is_bom_like utf_8 false (c ∷ cs) ≡ ((0xfeff == c) && true)
 unfolding encode_utf8
 utf_8-cons c cs h (inl k) = ap begins_like_bom (utf_8_bytes-cons c cs (backslash ∷ k.0) k.1) ∙ sym (and_left (0xfeff == c) true (ne_eqb 0xfeff c (not-feff c k.0 k.1)))
 utf_8-cons c cs h (inr k) =
@@ -200,6 +200,6 @@ below-scalar : (c : ℕ) → scalar c → c < 0x11_0000
 below-scalar c h = omega arith
 
 -- Under UTF-8 the keys that begin like a byte order mark are those that begin with U+FEFF.
-pub is_bom_like-utf_8 : (key : List ℕ) → All scalar key → is_bom_like utf_8 key ≡ begins_with (0xfeff ∷ []) key
+pub is_bom_like-utf_8 : (key : List ℕ) → All scalar key → is_bom_like utf_8 false key ≡ begins_with (0xfeff ∷ []) key
 is_bom_like-utf_8 [] h = refl
 is_bom_like-utf_8 (c ∷ cs) h = utf_8-cons c cs (below-scalar c (h 0 c (omega arith))) (spelt-cases utf_8 c)

@@ -11,7 +11,7 @@ use Rattle.properties_format.specs.Entries.{Content, comment, pair}
 use Rattle.properties_format.specs.Settings.{Settings}
 use Rattle.properties_format.specs.Reading.Settings.{is_blanks}
 use Rattle.properties_format.specs.Printing.{Place, in_key_or_value, in_comment, in_prefix, unicode_escape, spelt, spelt_text, encoded_text, is_bom_like, with_first_escaped, spelt_key, printed_text}
-use Rattle.properties_format.specs.Writing.{Call, comment_call, pair_call, prefix_call, separator_call, ending_call, flush_call, is_empty, settings_after_call, written_line, lines_with, AreOfScalars, AreGoodSettings}
+use Rattle.properties_format.specs.Writing.{Call, comment_call, pair_call, prefix_call, separator_call, ending_call, flush_call, ascii_only_call, is_empty, settings_after_call, written_line, lines_with, AreOfScalars, AreGoodSettings}
 use Rattle.properties_format.proofs.Encodings.Pieces.{pieces_of-nil}
 use Rattle.properties_format.proofs.Encodings.Characters.{pieces_of-encoded}
 use Rattle.properties_format.proofs.Printing.Characters.{AreEncodable, AreEncodable-append, AreAscii, line_end-ascii, unicode_escape-ascii, good_separator-ascii, spelt-either, printed_text-encodable}
@@ -38,18 +38,18 @@ ascii-scalars : (x : List ℕ) → AreAscii x → AllByRecursion scalar x
 ascii-scalars [] h = tt
 ascii-scalars (c ∷ x) h = (inl (let b = h.0 in omega arith), ascii-scalars x h.1)
 
-spelt_text-scalars : (e : Encoding) (place : Place) (x : List ℕ) → AllByRecursion scalar x → AllByRecursion scalar (spelt_text e place x)
-spelt_text-scalars e place [] h = tt
-spelt_text-scalars e place (c ∷ x) h =
-    scalars-append (spelt e place c) (spelt_text e place x) (spelt-either e place c (AllByRecursion scalar) ascii-scalars (λ k. (h.0, tt))) (spelt_text-scalars e place x h.1)
+spelt_text-scalars : (e : Encoding) (only : Bool) (place : Place) (x : List ℕ) → AllByRecursion scalar x → AllByRecursion scalar (spelt_text e only place x)
+spelt_text-scalars e only place [] h = tt
+spelt_text-scalars e only place (c ∷ x) h =
+    scalars-append (spelt e only place c) (spelt_text e only place x) (spelt-either e only place c (AllByRecursion scalar) ascii-scalars (λ k. (h.0, tt))) (spelt_text-scalars e only place x h.1)
 
-with_first_escaped-scalars : (e : Encoding) (key : List ℕ) → AllByRecursion scalar key → AllByRecursion scalar (with_first_escaped e key)
-with_first_escaped-scalars e [] h = tt
-with_first_escaped-scalars e (c ∷ cs) h = scalars-append (unicode_escape c) (spelt_text e in_key_or_value cs) (ascii-scalars (unicode_escape c) (unicode_escape-ascii c)) (spelt_text-scalars e in_key_or_value cs h.1)
+with_first_escaped-scalars : (e : Encoding) (only : Bool) (key : List ℕ) → AllByRecursion scalar key → AllByRecursion scalar (with_first_escaped e only key)
+with_first_escaped-scalars e only [] h = tt
+with_first_escaped-scalars e only (c ∷ cs) h = scalars-append (unicode_escape c) (spelt_text e only in_key_or_value cs) (ascii-scalars (unicode_escape c) (unicode_escape-ascii c)) (spelt_text-scalars e only in_key_or_value cs h.1)
 
-key-scalars : (e : Encoding) (first : Bool) (key : List ℕ) → AllByRecursion scalar key → AllByRecursion scalar (spelt_key e first key)
-key-scalars e first key h =
-    cond_both (first && is_bom_like e key) (with_first_escaped e key) (spelt_text e in_key_or_value key) (AllByRecursion scalar) (λ k. with_first_escaped-scalars e key h) (λ k. spelt_text-scalars e in_key_or_value key h)
+key-scalars : (e : Encoding) (only : Bool) (first : Bool) (key : List ℕ) → AllByRecursion scalar key → AllByRecursion scalar (spelt_key e only first key)
+key-scalars e only first key h =
+    cond_both (first && is_bom_like e only key) (with_first_escaped e only key) (spelt_text e only in_key_or_value key) (AllByRecursion scalar) (λ k. with_first_escaped-scalars e only key h) (λ k. spelt_text-scalars e only in_key_or_value key h)
 
 by_recursion : (x : List ℕ) → All scalar x → AllByRecursion scalar x
 by_recursion x h = recursion_from_All scalar x h
@@ -61,12 +61,12 @@ ContentScalars (pair key value) = All scalar key × All scalar value
 printed-scalars : (e : Encoding) (s : Settings) (first : Bool) (line : Content) → AreGoodSettings s → ContentScalars line → AllByRecursion scalar (printed_text e s first line)
 unfolding ContentScalars
 printed-scalars e s first (comment text) g h =
-    scalars-append (spelt_text e in_prefix s.comment_prefix) (spelt_text e in_comment text ++ line_ending_text s.line_ending) (spelt_text-scalars e in_prefix s.comment_prefix (by_recursion s.comment_prefix g.scalars))
-    (scalars-append (spelt_text e in_comment text) (line_ending_text s.line_ending) (spelt_text-scalars e in_comment text (by_recursion text h)) (ascii-scalars (line_ending_text s.line_ending) (line_end-ascii s.line_ending)))
+    scalars-append (spelt_text e s.ascii_only in_prefix s.comment_prefix) (spelt_text e s.ascii_only in_comment text ++ line_ending_text s.line_ending) (spelt_text-scalars e s.ascii_only in_prefix s.comment_prefix (by_recursion s.comment_prefix g.scalars))
+    (scalars-append (spelt_text e s.ascii_only in_comment text) (line_ending_text s.line_ending) (spelt_text-scalars e s.ascii_only in_comment text (by_recursion text h)) (ascii-scalars (line_ending_text s.line_ending) (line_end-ascii s.line_ending)))
 printed-scalars e s first (pair key value) g h =
-    scalars-append (spelt_key e first key) (s.kv_separator ++ (spelt_text e in_key_or_value value ++ line_ending_text s.line_ending)) (key-scalars e first key (by_recursion key h.0))
-    (scalars-append s.kv_separator (spelt_text e in_key_or_value value ++ line_ending_text s.line_ending) (ascii-scalars s.kv_separator (good_separator-ascii s.kv_separator g.separator))
-    (scalars-append (spelt_text e in_key_or_value value) (line_ending_text s.line_ending) (spelt_text-scalars e in_key_or_value value (by_recursion value h.1)) (ascii-scalars (line_ending_text s.line_ending) (line_end-ascii s.line_ending))))
+    scalars-append (spelt_key e s.ascii_only first key) (s.kv_separator ++ (spelt_text e s.ascii_only in_key_or_value value ++ line_ending_text s.line_ending)) (key-scalars e s.ascii_only first key (by_recursion key h.0))
+    (scalars-append s.kv_separator (spelt_text e s.ascii_only in_key_or_value value ++ line_ending_text s.line_ending) (ascii-scalars s.kv_separator (good_separator-ascii s.kv_separator g.separator))
+    (scalars-append (spelt_text e s.ascii_only in_key_or_value value) (line_ending_text s.line_ending) (spelt_text-scalars e s.ascii_only in_key_or_value value (by_recursion value h.1)) (ascii-scalars (line_ending_text s.line_ending) (line_end-ascii s.line_ending))))
 
 -- ---- all that is written
 
@@ -103,3 +103,5 @@ wrote_text-writable e s n (separator_call separator ∷ calls) g h =
 wrote_text-writable e s n (ending_call line_ending ∷ calls) g h =
     wrote_text-writable e (settings_after_call s (ending_call line_ending)) n calls (settings_after_call-good s (ending_call line_ending) g h.0) h.1
 wrote_text-writable e s n (flush_call ∷ calls) g h = wrote_text-writable e s n calls g h.1
+wrote_text-writable e s n (ascii_only_call on ∷ calls) g h =
+    wrote_text-writable e (settings_after_call s (ascii_only_call on)) n calls (settings_after_call-good s (ascii_only_call on) g h.0) h.1

@@ -1,10 +1,10 @@
 -- A printed comment is a line of its own, and is read as its prefix's tail and its text, without the blanks at both ends.
 use Rattle.std.proofs.Common.{◌≡◌, ◌⊎◌, ℕ, ◌<◌, ◌==◌, true, false, List, [], ◌∷◌, ◌++◌, map, refl, ap, sym, ◌∙◌, inl, inr, append_assoc, lit<, eqb-true, ap₂, subst}
-use Rattle.std.specs.Prelude.{is_some}
+use Rattle.std.specs.Prelude.{Bool}
 use Rattle.std.specs.List.{AllByRecursion}
 use Rattle.std.proofs.lemmas.Bool.{cond-true, or_cases}
 use Rattle.properties_format.specs.Text.{scalar, backslash, is_line_end, is_comment_sign}
-use Rattle.properties_format.specs.Encoding.{Encoding, encoded}
+use Rattle.properties_format.specs.Encoding.{Encoding}
 use Rattle.properties_format.specs.Lines.{HoldsNoLineEnd}
 use Rattle.properties_format.specs.Groups.{is_comment_line}
 use Rattle.properties_format.specs.Split.{AreBlanks}
@@ -14,7 +14,7 @@ use Rattle.properties_format.specs.Reading.Escapes.{meaning_of}
 use Rattle.properties_format.specs.Entries.{comment}
 use Rattle.properties_format.specs.Reading.Items.{comment_outcome, split_outcome}
 use Rattle.properties_format.specs.Settings.{IsGoodPrefix}
-use Rattle.properties_format.specs.Printing.{in_comment, in_prefix, unicode_escape, literal, spelt, spelt_text}
+use Rattle.properties_format.specs.Printing.{in_comment, in_prefix, unicode_escape, may_stand, literal, spelt, spelt_text}
 use Rattle.properties_format.specs.Writing.{tail_of}
 use Rattle.properties_format.proofs.Lines.Plain.{plain-append}
 use Rattle.properties_format.proofs.Groups.Joined.{is_comment_line-blank, is_comment_line-other}
@@ -22,7 +22,7 @@ use Rattle.properties_format.proofs.Split.Unique.{split_of-comment}
 use Rattle.properties_format.proofs.Escapes.Laws.{HasNoBackslash, IsWhole, AreWhole}
 use Rattle.properties_format.proofs.Escapes.Trimmed.{AllKeepBlanks, meaning_of-trimmed}
 use Rattle.properties_format.proofs.Settings.Tests.{sign_not_blank, tail_of-good}
-use Rattle.properties_format.proofs.Printing.Characters.{encoded-ascii, blank-ascii}
+use Rattle.properties_format.proofs.Printing.Characters.{may_stand-ascii, blank-ascii}
 use Rattle.properties_format.proofs.ReadBack.Spellings.{IsSafe, IsPlainlySpelt, literal-plainly, in_comment-spelt}
 use Rattle.properties_format.proofs.ReadBack.Texts.{safe-whole, safe-plain}
 use Rattle.properties_format.proofs.ReadBack.Pairs.{IsReadAs, blanks-plain, cons-front}
@@ -59,32 +59,32 @@ plainly-cons x y c cs s t =
 
 -- ---- the text of a comment, and the tail of a prefix before it
 
-comment-plainly : (e : Encoding) (x : List ℕ) → AllByRecursion scalar x → ArePlainlySpelt (spelt_text e in_comment x) x
-comment-plainly e [] h = record { spellings = []; text = refl; characters = refl; whole = tt; keep = tt; plain = tt }
-comment-plainly e (c ∷ x) h = plainly-cons (spelt e in_comment c) (spelt_text e in_comment x) c x (in_comment-spelt e c h.0) (comment-plainly e x h.1)
+comment-plainly : (e : Encoding) (only : Bool) (x : List ℕ) → AllByRecursion scalar x → ArePlainlySpelt (spelt_text e only in_comment x) x
+comment-plainly e only [] h = record { spellings = []; text = refl; characters = refl; whole = tt; keep = tt; plain = tt }
+comment-plainly e only (c ∷ x) h = plainly-cons (spelt e only in_comment c) (spelt_text e only in_comment x) c x (in_comment-spelt e only c h.0) (comment-plainly e only x h.1)
 
 same-plainly : (x y z : List ℕ) → x ≡ y → ArePlainlySpelt y z → ArePlainlySpelt x z
 same-plainly x y z e s = subst (λ v. ArePlainlySpelt v z) (sym e) s
 
-tail-plainly : (e : Encoding) (tail y cs : List ℕ) → AllByRecursion scalar tail → HasNoBackslash tail → HoldsNoLineEnd tail → ArePlainlySpelt y cs → ArePlainlySpelt (spelt_text e in_prefix tail ++ y) (tail ++ cs)
-tail-plainly e [] y cs h b p s = s
-tail-plainly e (c ∷ tail) y cs h b p s =
-    same-plainly _ (literal e c ++ (spelt_text e in_prefix tail ++ y)) (c ∷ tail ++ cs) (append_assoc (literal e c) (spelt_text e in_prefix tail) y)
-    (plainly-cons (literal e c) (spelt_text e in_prefix tail ++ y) c (tail ++ cs) (literal-plainly e c h.0 b.0 p.0) (tail-plainly e tail y cs h.1 b.1 p.1 s))
+tail-plainly : (e : Encoding) (only : Bool) (tail y cs : List ℕ) → AllByRecursion scalar tail → HasNoBackslash tail → HoldsNoLineEnd tail → ArePlainlySpelt y cs → ArePlainlySpelt (spelt_text e only in_prefix tail ++ y) (tail ++ cs)
+tail-plainly e only [] y cs h b p s = s
+tail-plainly e only (c ∷ tail) y cs h b p s =
+    same-plainly _ (literal e only c ++ (spelt_text e only in_prefix tail ++ y)) (c ∷ tail ++ cs) (append_assoc (literal e only c) (spelt_text e only in_prefix tail) y)
+    (plainly-cons (literal e only c) (spelt_text e only in_prefix tail ++ y) c (tail ++ cs) (literal-plainly e only c h.0 b.0 p.0) (tail-plainly e only tail y cs h.1 b.1 p.1 s))
 
 -- ---- the prefix
 
-literal-ascii : (e : Encoding) (c : ℕ) → c < 0x80 → literal e c ≡ c ∷ []
-literal-ascii e c h = cond-true (is_some (encoded e c)) (c ∷ []) (unicode_escape c) (ap is_some (encoded-ascii e c h))
+literal-ascii : (e : Encoding) (only : Bool) (c : ℕ) → c < 0x80 → literal e only c ≡ c ∷ []
+literal-ascii e only c h = cond-true (may_stand e only c) (c ∷ []) (unicode_escape c) (may_stand-ascii e only c h)
 
 pub sign-ascii : (c : ℕ) → is_comment_sign c ≡ true → (c < 0x80) × (is_line_end c ≡ false)
 sign-ascii c h = elim (or_cases (c == 0x23) (c == 0x21) h) [ inl e ↦ rw (eqb-true c 0x23 e) (lit< tt, refl) | inr e ↦ rw (eqb-true c 0x21 e) (lit< tt, refl) ]
 
-pub prefix-spelt : (e : Encoding) (indent : List ℕ) (sign : ℕ) (tail : List ℕ) → AreBlanks indent → is_comment_sign sign ≡ true
-    → spelt_text e in_prefix (indent ++ (sign ∷ tail)) ≡ indent ++ (sign ∷ spelt_text e in_prefix tail)
-prefix-spelt e [] sign tail b m = ap (λ v. v ++ spelt_text e in_prefix tail) (literal-ascii e sign (sign-ascii sign m).0)
-prefix-spelt e (c ∷ indent) sign tail b m =
-    ap (λ v. v ++ spelt_text e in_prefix (indent ++ (sign ∷ tail))) (literal-ascii e c (blank-ascii c b.0)) ∙ ap (λ v. c ∷ v) (prefix-spelt e indent sign tail b.1 m)
+pub prefix-spelt : (e : Encoding) (only : Bool) (indent : List ℕ) (sign : ℕ) (tail : List ℕ) → AreBlanks indent → is_comment_sign sign ≡ true
+    → spelt_text e only in_prefix (indent ++ (sign ∷ tail)) ≡ indent ++ (sign ∷ spelt_text e only in_prefix tail)
+prefix-spelt e only [] sign tail b m = ap (λ v. v ++ spelt_text e only in_prefix tail) (literal-ascii e only sign (sign-ascii sign m).0)
+prefix-spelt e only (c ∷ indent) sign tail b m =
+    ap (λ v. v ++ spelt_text e only in_prefix (indent ++ (sign ∷ tail))) (literal-ascii e only c (blank-ascii c b.0)) ∙ ap (λ v. c ∷ v) (prefix-spelt e only indent sign tail b.1 m)
 
 scalar-right : (x y : List ℕ) → AllByRecursion scalar (x ++ y) → AllByRecursion scalar y
 scalar-right [] y h = h
@@ -113,19 +113,19 @@ comment-at indent sign rest content b m s =
     }
 
 -- A comment under a good prefix without a backslash.
-pub comment-read : (e : Encoding) (prefix text : List ℕ) → IsGoodPrefix prefix → HasNoBackslash prefix → AllByRecursion scalar prefix → AllByRecursion scalar text
-    → IsReadAs (spelt_text e in_prefix prefix ++ spelt_text e in_comment text) (comment (trimmed (tail_of prefix ++ text)))
-comment-read e prefix text g b h k =
+pub comment-read : (e : Encoding) (only : Bool) (prefix text : List ℕ) → IsGoodPrefix prefix → HasNoBackslash prefix → AllByRecursion scalar prefix → AllByRecursion scalar text
+    → IsReadAs (spelt_text e only in_prefix prefix ++ spelt_text e only in_comment text) (comment (trimmed (tail_of prefix ++ text)))
+comment-read e only prefix text g b h k =
     let front = g.indent ++ (g.sign ∷ []) in
     let split : prefix ≡ front ++ g.tail = g.division ∙ sym (append_assoc g.indent (g.sign ∷ []) g.tail) in
     let scalars = scalar-right front g.tail (subst (AllByRecursion scalar) split h) in
     let slashes = slashes-right front g.tail (subst HasNoBackslash split b) in
-    let rest = spelt_text e in_prefix g.tail ++ spelt_text e in_comment text in
+    let rest = spelt_text e only in_prefix g.tail ++ spelt_text e only in_comment text in
     let read = comment-at g.indent g.sign rest (g.tail ++ text) g.indented g.signed
-    (tail-plainly e g.tail (spelt_text e in_comment text) text scalars slashes g.one_line (comment-plainly e text k)) in
-    let same : spelt_text e in_prefix prefix ++ spelt_text e in_comment text ≡ g.indent ++ (g.sign ∷ rest) =
-    ap (λ v. spelt_text e in_prefix v ++ spelt_text e in_comment text) g.division
-    ∙ ap (λ v. v ++ spelt_text e in_comment text) (prefix-spelt e g.indent g.sign g.tail g.indented g.signed)
-    ∙ append_assoc g.indent (g.sign ∷ spelt_text e in_prefix g.tail) (spelt_text e in_comment text) in
+    (tail-plainly e only g.tail (spelt_text e only in_comment text) text scalars slashes g.one_line (comment-plainly e only text k)) in
+    let same : spelt_text e only in_prefix prefix ++ spelt_text e only in_comment text ≡ g.indent ++ (g.sign ∷ rest) =
+    ap (λ v. spelt_text e only in_prefix v ++ spelt_text e only in_comment text) g.division
+    ∙ ap (λ v. v ++ spelt_text e only in_comment text) (prefix-spelt e only g.indent g.sign g.tail g.indented g.signed)
+    ∙ append_assoc g.indent (g.sign ∷ spelt_text e only in_prefix g.tail) (spelt_text e only in_comment text) in
     subst (λ v. IsReadAs v (comment (trimmed (tail_of prefix ++ text)))) (sym same)
     (subst (λ v. IsReadAs (g.indent ++ (g.sign ∷ rest)) (comment (trimmed (v ++ text)))) (sym (tail_of-good prefix g)) read)

@@ -15,7 +15,7 @@ use Rattle.properties_format.specs.Reading.Items.{split_outcome, outcome_of, fol
 use Rattle.properties_format.specs.Settings.{Settings}
 use Rattle.properties_format.specs.Reading.Settings.{is_blanks, is_good_prefix, is_good_separator}
 use Rattle.properties_format.specs.Printing.{in_key_or_value, in_comment, in_prefix, spelt_text, spelt_key, encoded_text, printed_text}
-use Rattle.properties_format.specs.Writing.{Call, comment_call, pair_call, prefix_call, separator_call, ending_call, flush_call, is_empty, settings_after_call, settings_after, written_line, lines_with, line_bytes, wrote, content_read_back, item_read_back, items_read_back, HoldsNoBackslash, ArePrefixesClean, IsOfScalars, AreOfScalars, AreGoodSettings}
+use Rattle.properties_format.specs.Writing.{Call, comment_call, pair_call, prefix_call, separator_call, ending_call, flush_call, ascii_only_call, is_empty, settings_after_call, settings_after, written_line, lines_with, line_bytes, wrote, content_read_back, item_read_back, items_read_back, HoldsNoBackslash, ArePrefixesClean, IsOfScalars, AreOfScalars, AreGoodSettings}
 use Rattle.properties_format.proofs.Lines.Plain.{plain-no_lf}
 use Rattle.properties_format.proofs.Lines.Steps.{lines_to_come-end}
 use Rattle.properties_format.proofs.Groups.Joined.{joined-comment_line, joined-closed}
@@ -69,20 +69,20 @@ pub comment-line : (e : Encoding) (s : Settings) (first : Bool) (text : List ℕ
     → IsLineReadAs s.line_ending (printed_text e s first (comment text)) (content_read_back s (comment text))
 comment-line e s first text g b h =
     record {
-      text = spelt_text e in_prefix s.comment_prefix ++ spelt_text e in_comment text;
-      whole = sym (append_assoc (spelt_text e in_prefix s.comment_prefix) (spelt_text e in_comment text) (line_ending_text s.line_ending));
-      read = comment-read e s.comment_prefix text g.prefix (no_backslash s.comment_prefix b) (by_recursion s.comment_prefix g.scalars) (by_recursion text h);
+      text = spelt_text e s.ascii_only in_prefix s.comment_prefix ++ spelt_text e s.ascii_only in_comment text;
+      whole = sym (append_assoc (spelt_text e s.ascii_only in_prefix s.comment_prefix) (spelt_text e s.ascii_only in_comment text) (line_ending_text s.line_ending));
+      read = comment-read e s.ascii_only s.comment_prefix text g.prefix (no_backslash s.comment_prefix b) (by_recursion s.comment_prefix g.scalars) (by_recursion text h);
     }
 
 pub pair-line : (e : Encoding) (s : Settings) (first : Bool) (key value : List ℕ) → AreGoodSettings s → (key ≡ [] → is_blanks s.kv_separator ≡ false) → All scalar key → All scalar value
     → IsLineReadAs s.line_ending (printed_text e s first (pair key value)) (pair key value)
 pair-line e s first key value g some h k =
-    let front = spelt_key e first key in
-    let back = spelt_text e in_key_or_value value in
+    let front = spelt_key e s.ascii_only first key in
+    let back = spelt_text e s.ascii_only in_key_or_value value in
     record {
       text = front ++ (s.kv_separator ++ back);
       whole = ap (λ v. front ++ v) (sym (append_assoc s.kv_separator back (line_ending_text s.line_ending))) ∙ sym (append_assoc front (s.kv_separator ++ back) (line_ending_text s.line_ending));
-      read = pair-read front back s.kv_separator key value (key-spelt e first key (by_recursion key h)) (texts-spelt e value (by_recursion value k)) g.separator some;
+      read = pair-read front back s.kv_separator key value (key-spelt e s.ascii_only first key (by_recursion key h)) (texts-spelt e s.ascii_only value (by_recursion value k)) g.separator some;
     }
 
 -- ---- all lines
@@ -140,6 +140,7 @@ settings_after_call-good s (prefix_call prefix) g h = prefix-good s prefix (is_g
 settings_after_call-good s (separator_call separator) g h = separator-good s separator (is_good_separator separator) refl g
 settings_after_call-good s (ending_call line_ending) g h = record { prefix = g.prefix; scalars = g.scalars; separator = g.separator }
 settings_after_call-good s flush_call g h = g
+settings_after_call-good s (ascii_only_call on) g h = record { prefix = g.prefix; scalars = g.scalars; separator = g.separator }
 
 pub settings_after-good : (s : Settings) (calls : List Call) → AreGoodSettings s → AreOfScalars calls → AreGoodSettings (settings_after s calls)
 settings_after-good s [] g h = g
@@ -173,3 +174,5 @@ text-read e m s n (separator_call separator ∷ calls) g c h =
 text-read e m s n (ending_call line_ending ∷ calls) g c h =
     text-read e m (settings_after_call s (ending_call line_ending)) n calls (settings_after_call-good s (ending_call line_ending) g h.0) c h.1
 text-read e m s n (flush_call ∷ calls) g c h = text-read e m s n calls g c h.1
+text-read e m s n (ascii_only_call on ∷ calls) g c h =
+    text-read e m (settings_after_call s (ascii_only_call on)) n calls (settings_after_call-good s (ascii_only_call on) g h.0) c h.1

@@ -34,17 +34,17 @@ pub record IsReadAs (text : List ℕ) (content : Content) : Type 0 where
 
 -- ---- keys
 
-with_first_escaped-spelt : (e : Encoding) (key : List ℕ) → AllByRecursion scalar key → AreSafelySpelt (with_first_escaped e key) key
-with_first_escaped-spelt e [] h = record { spellings = []; text = refl; characters = refl; safe = tt }
-with_first_escaped-spelt e (c ∷ cs) h = spelt-cons (unicode_escape c) (spelt_text e in_key_or_value cs) c cs (unicode-spelt c h.0) (texts-spelt e cs h.1)
+with_first_escaped-spelt : (e : Encoding) (only : Bool) (key : List ℕ) → AllByRecursion scalar key → AreSafelySpelt (with_first_escaped e only key) key
+with_first_escaped-spelt e only [] h = record { spellings = []; text = refl; characters = refl; safe = tt }
+with_first_escaped-spelt e only (c ∷ cs) h = spelt-cons (unicode_escape c) (spelt_text e only in_key_or_value cs) c cs (unicode-spelt c h.0) (texts-spelt e only cs h.1)
 
 same-texts : (x y z : List ℕ) → x ≡ y → AreSafelySpelt y z → AreSafelySpelt x z
 same-texts x y z e s = record { spellings = s.spellings; text = e ∙ s.text; characters = s.characters; safe = s.safe }
 
-pub key-spelt : (e : Encoding) (first : Bool) (key : List ℕ) → AllByRecursion scalar key → AreSafelySpelt (spelt_key e first key) key
-key-spelt e first key h = elim (cases_Bool (first && is_bom_like e key)) [
-  | inl k ↦ same-texts _ (with_first_escaped e key) key (cond-true (first && is_bom_like e key) (with_first_escaped e key) (spelt_text e in_key_or_value key) k) (with_first_escaped-spelt e key h)
-  | inr k ↦ same-texts _ (spelt_text e in_key_or_value key) key (cond-false (first && is_bom_like e key) (with_first_escaped e key) (spelt_text e in_key_or_value key) k) (texts-spelt e key h)
+pub key-spelt : (e : Encoding) (only : Bool) (first : Bool) (key : List ℕ) → AllByRecursion scalar key → AreSafelySpelt (spelt_key e only first key) key
+key-spelt e only first key h = elim (cases_Bool (first && is_bom_like e only key)) [
+  | inl k ↦ same-texts _ (with_first_escaped e only key) key (cond-true (first && is_bom_like e only key) (with_first_escaped e only key) (spelt_text e only in_key_or_value key) k) (with_first_escaped-spelt e only key h)
+  | inr k ↦ same-texts _ (spelt_text e only in_key_or_value key) key (cond-false (first && is_bom_like e only key) (with_first_escaped e only key) (spelt_text e only in_key_or_value key) k) (texts-spelt e only key h)
 ]
 
 -- ---- separators

@@ -1,14 +1,14 @@
 -- What is printed for a character is a spelling of that character.
-use Rattle.std.proofs.Common.{◌≡◌, ◌⊎◌, ℕ, ◌<◌, ◌≤◌, ◌==◌, ◌||◌, true, false, cond, List, [], ◌∷◌, ◌++◌, refl, ap, sym, ◌∙◌, inl, inr, arith, lit<, eqb-true, ltb-true, ltb-false, le-leb, lt-ltb, le-ltb, subst, ap₂}
-use Rattle.std.specs.Prelude.{is_some, nat_lt, nat_le}
+use Rattle.std.proofs.Common.{◌≡◌, ◌⊎◌, ℕ, ◌<◌, ◌≤◌, ◌==◌, ◌||◌, true, false, cond, List, [], ◌∷◌, ◌++◌, refl, sym, ◌∙◌, inl, inr, arith, lit<, eqb-true, ltb-true, ltb-false, le-leb, lt-ltb, le-ltb, subst, ap₂}
+use Rattle.std.specs.Prelude.{Bool, nat_lt, nat_le}
 use Rattle.std.proofs.lemmas.Bool.{cases_Bool, cond-true, cond-false, and_from, and_left, and_right, or_from, or_cases, or_parts, lt-leb}
 use Rattle.properties_format.specs.Text.{scalar, tab, line_feed, form_feed, carriage_return, space, backslash, is_blank, is_line_end, is_comment_sign, is_separator}
-use Rattle.properties_format.specs.Encoding.{Encoding, encoded}
+use Rattle.properties_format.specs.Encoding.{Encoding}
 use Rattle.properties_format.specs.Escapes.{letter_u, escaped_character, are_hexadecimal, code_unit, is_high, is_low, is_surrogate, pair_character, Spelling, itself, escaped, unicode, surrogates, last, spelling_text, spelt_character, IsSpelling}
-use Rattle.properties_format.specs.Printing.{in_key_or_value, in_comment, unit_escape, high_surrogate, low_surrogate, unicode_escape, literal, is_special, letter_escape, has_letter, spelt}
+use Rattle.properties_format.specs.Printing.{in_key_or_value, in_comment, unit_escape, high_surrogate, low_surrogate, unicode_escape, may_stand, literal, is_special, letter_escape, has_letter, spelt}
 use Rattle.properties_format.proofs.Escapes.Digits.{unit_digits, unit_digits-hexadecimal, unit_digits-unit, high_of, low_of, pair_character-surrogates}
 use Rattle.properties_format.proofs.Escapes.Trimmed.{KeepsBlanks, KeepsBlanks-itself, KeepsBlanks-escaped, KeepsBlanks-unicode, KeepsBlanks-surrogates}
-use Rattle.properties_format.proofs.Printing.Characters.{encoded-ascii}
+use Rattle.properties_format.proofs.Printing.Characters.{may_stand-ascii}
 
 -- a spelling that may stand in a key or a value
 abbrev pub IsSafe : Spelling → Type 0
@@ -180,15 +180,15 @@ itself-spelt c o =
       safe = (a.0, blank-cases c b.0 g.0 i.0, d.0, d.1, or_from (c == line_feed) (c == carriage_return) g.1 i.1);
     }
 
-literal-spelt : (e : Encoding) (c : ℕ) → scalar c → IsOrdinary c → IsSafelySpelt (literal e c) c
-literal-spelt e c h o = elim (cases_Bool (is_some (encoded e c))) [
-  | inl k ↦ same-spelt (literal e c) (c ∷ []) c (cond-true (is_some (encoded e c)) (c ∷ []) (unicode_escape c) k) (itself-spelt c o)
-  | inr k ↦ same-spelt (literal e c) (unicode_escape c) c (cond-false (is_some (encoded e c)) (c ∷ []) (unicode_escape c) k) (unicode-spelt c h)
+literal-spelt : (e : Encoding) (only : Bool) (c : ℕ) → scalar c → IsOrdinary c → IsSafelySpelt (literal e only c) c
+literal-spelt e only c h o = elim (cases_Bool (may_stand e only c)) [
+  | inl k ↦ same-spelt (literal e only c) (c ∷ []) c (cond-true (may_stand e only c) (c ∷ []) (unicode_escape c) k) (itself-spelt c o)
+  | inr k ↦ same-spelt (literal e only c) (unicode_escape c) c (cond-false (may_stand e only c) (c ∷ []) (unicode_escape c) k) (unicode-spelt c h)
 ]
 
-pub in_key_or_value-spelt : (e : Encoding) (c : ℕ) → scalar c → IsSafelySpelt (spelt e in_key_or_value c) c
-in_key_or_value-spelt e c h =
-    let last_two = cond (nat_lt c space) (unicode_escape c) (literal e c) in
+pub in_key_or_value-spelt : (e : Encoding) (only : Bool) (c : ℕ) → scalar c → IsSafelySpelt (spelt e only in_key_or_value c) c
+in_key_or_value-spelt e only c h =
+    let last_two = cond (nat_lt c space) (unicode_escape c) (literal e only c) in
     let last_three = cond (has_letter c) (letter_escape c) last_two in
     elim (cases_Bool (is_special c)) [
       | inl k ↦ same-spelt _ (backslash ∷ c ∷ []) c (cond-true (is_special c) (backslash ∷ c ∷ []) last_three k) (special-spelt c k)
@@ -197,8 +197,8 @@ in_key_or_value-spelt e c h =
             | inl l ↦ same-spelt _ (letter_escape c) c (cond-true (has_letter c) (letter_escape c) last_two l) (letter-spelt c l)
             | inr l ↦ same-spelt _ last_two c (cond-false (has_letter c) (letter_escape c) last_two l)
                 (elim (cases_Bool (nat_lt c space)) [
-                  | inl m ↦ same-spelt _ (unicode_escape c) c (cond-true (nat_lt c space) (unicode_escape c) (literal e c) m) (unicode-spelt c h)
-                  | inr m ↦ same-spelt _ (literal e c) c (cond-false (nat_lt c space) (unicode_escape c) (literal e c) m) (literal-spelt e c h (record { special = k; letter = l }))
+                  | inl m ↦ same-spelt _ (unicode_escape c) c (cond-true (nat_lt c space) (unicode_escape c) (literal e only c) m) (unicode-spelt c h)
+                  | inr m ↦ same-spelt _ (literal e only c) c (cond-false (nat_lt c space) (unicode_escape c) (literal e only c) m) (literal-spelt e only c h (record { special = k; letter = l }))
                 ])
           ])
     ]
@@ -211,39 +211,39 @@ escape-plainly c d u l e b f = record { spelling = escaped d; text = refl; chara
 at-character_plainly : (c d : ℕ) (x : ℕ → List ℕ) → (c == d) ≡ true → IsPlainlySpelt (x d) d → IsPlainlySpelt (x c) c
 at-character_plainly c d x e s = rw (eqb-true c d e) s
 
--- a blank can be encoded, as ASCII characters can
-blank-encoded : (e : Encoding) (c : ℕ) → is_blank c ≡ true → is_some (encoded e c) ≡ true
-blank-encoded e c h = elim (or_cases (c == space) (c == tab || c == form_feed) h) [
-  | inl k ↦ ap is_some (encoded-ascii e c (rw (eqb-true c space k) (lit< tt)))
+-- a blank may stand as itself, as ASCII characters may
+blank-stands : (e : Encoding) (only : Bool) (c : ℕ) → is_blank c ≡ true → may_stand e only c ≡ true
+blank-stands e only c h = elim (or_cases (c == space) (c == tab || c == form_feed) h) [
+  | inl k ↦ may_stand-ascii e only c (rw (eqb-true c space k) (lit< tt))
   | inr h ↦ elim (or_cases (c == tab) (c == form_feed) h) [
-    | inl k ↦ ap is_some (encoded-ascii e c (rw (eqb-true c tab k) (lit< tt)))
-    | inr k ↦ ap is_some (encoded-ascii e c (rw (eqb-true c form_feed k) (lit< tt)))
+    | inl k ↦ may_stand-ascii e only c (rw (eqb-true c tab k) (lit< tt))
+    | inr k ↦ may_stand-ascii e only c (rw (eqb-true c form_feed k) (lit< tt))
   ]
 ]
 
-unencoded-full : (e : Encoding) (c : ℕ) → is_some (encoded e c) ≡ false → is_blank c ≡ false
-unencoded-full e c h = elim (cases_Bool (is_blank c)) [ inl b ↦ (let k = blank-encoded e c b in cc) | inr b ↦ b ]
+escaped-full : (e : Encoding) (only : Bool) (c : ℕ) → may_stand e only c ≡ false → is_blank c ≡ false
+escaped-full e only c h = elim (cases_Bool (is_blank c)) [ inl b ↦ (let k = blank-stands e only c b in cc) | inr b ↦ b ]
 
-pub literal-plainly : (e : Encoding) (c : ℕ) → scalar c → (c == backslash) ≡ false → is_line_end c ≡ false → IsPlainlySpelt (literal e c) c
-literal-plainly e c h b l = elim (cases_Bool (is_some (encoded e c))) [
-  | inl k ↦ same-plainly (literal e c) (c ∷ []) c (cond-true (is_some (encoded e c)) (c ∷ []) (unicode_escape c) k)
+pub literal-plainly : (e : Encoding) (only : Bool) (c : ℕ) → scalar c → (c == backslash) ≡ false → is_line_end c ≡ false → IsPlainlySpelt (literal e only c) c
+literal-plainly e only c h b l = elim (cases_Bool (may_stand e only c)) [
+  | inl k ↦ same-plainly (literal e only c) (c ∷ []) c (cond-true (may_stand e only c) (c ∷ []) (unicode_escape c) k)
       (record { spelling = itself c; text = refl; character = refl; safe = inr (refl, b, l); keeps = KeepsBlanks-itself c })
-  | inr k ↦ same-plainly (literal e c) (unicode_escape c) c (cond-false (is_some (encoded e c)) (c ∷ []) (unicode_escape c) k) (unicode-plainly c h (unencoded-full e c k))
+  | inr k ↦ same-plainly (literal e only c) (unicode_escape c) c (cond-false (may_stand e only c) (c ∷ []) (unicode_escape c) k) (unicode-plainly c h (escaped-full e only c k))
 ]
 
-pub in_comment-spelt : (e : Encoding) (c : ℕ) → scalar c → IsPlainlySpelt (spelt e in_comment c) c
-in_comment-spelt e c h =
-    let rest = cond (c == line_feed || c == carriage_return) (letter_escape c) (literal e c) in
+pub in_comment-spelt : (e : Encoding) (only : Bool) (c : ℕ) → scalar c → IsPlainlySpelt (spelt e only in_comment c) c
+in_comment-spelt e only c h =
+    let rest = cond (c == line_feed || c == carriage_return) (letter_escape c) (literal e only c) in
     elim (cases_Bool (c == backslash)) [
       | inl k ↦ same-plainly _ (backslash ∷ backslash ∷ []) c (cond-true (c == backslash) (backslash ∷ backslash ∷ []) rest k)
           (at-character_plainly c backslash (λ v. backslash ∷ backslash ∷ []) k (escape-plainly backslash backslash refl refl refl refl refl))
       | inr k ↦ same-plainly _ rest c (cond-false (c == backslash) (backslash ∷ backslash ∷ []) rest k)
           (elim (cases_Bool (c == line_feed || c == carriage_return)) [
-            | inl l ↦ same-plainly _ (letter_escape c) c (cond-true (c == line_feed || c == carriage_return) (letter_escape c) (literal e c) l)
+            | inl l ↦ same-plainly _ (letter_escape c) c (cond-true (c == line_feed || c == carriage_return) (letter_escape c) (literal e only c) l)
                 (elim (or_cases (c == line_feed) (c == carriage_return) l) [
                   | inl m ↦ at-character_plainly c line_feed letter_escape m (escape-plainly line_feed 0x6e refl refl refl refl refl)
                   | inr m ↦ at-character_plainly c carriage_return letter_escape m (escape-plainly carriage_return 0x72 refl refl refl refl refl)
                 ])
-            | inr l ↦ same-plainly _ (literal e c) c (cond-false (c == line_feed || c == carriage_return) (letter_escape c) (literal e c) l) (literal-plainly e c h k l)
+            | inr l ↦ same-plainly _ (literal e only c) c (cond-false (c == line_feed || c == carriage_return) (letter_escape c) (literal e only c) l) (literal-plainly e only c h k l)
           ])
     ]

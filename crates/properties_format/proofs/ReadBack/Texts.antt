@@ -1,5 +1,5 @@
 -- What is printed for a text means that text, holds no line end, and ends in no open backslash.
-use Rattle.std.proofs.Common.{◌≡◌, ℕ, ◌==◌, ◌&&◌, true, false, List, [], ◌∷◌, ◌++◌, map, refl, ap, sym, ◌∙◌, inl, inr, append_assoc, append-nil, arith, eqb-true, ap₂}
+use Rattle.std.proofs.Common.{◌≡◌, ℕ, ◌==◌, ◌&&◌, Bool, true, false, List, [], ◌∷◌, ◌++◌, map, refl, ap, sym, ◌∙◌, inl, inr, append_assoc, append-nil, arith, eqb-true, ap₂}
 use Rattle.std.specs.List.{AllByRecursion}
 use Rattle.std.proofs.lemmas.Bool.{cases_Bool, and_parts}
 use Rattle.std.proofs.lemmas.Bool.Decides.{nat_tests}
@@ -34,9 +34,9 @@ pub spelt-cons : (x y : List ℕ) (c : ℕ) (cs : List ℕ) → IsSafelySpelt x 
 spelt-cons x y c cs s t =
     record { spellings = s.spelling ∷ t.spellings; text = ap₂ (λ v w. v ++ w) s.text t.text; characters = ap₂ (λ v w. v ∷ w) s.character t.characters; safe = (s.safe, t.safe) }
 
-pub texts-spelt : (e : Encoding) (x : List ℕ) → AllByRecursion scalar x → AreSafelySpelt (spelt_text e in_key_or_value x) x
-texts-spelt e [] h = record { spellings = []; text = refl; characters = refl; safe = tt }
-texts-spelt e (c ∷ x) h = spelt-cons (spelt e in_key_or_value c) (spelt_text e in_key_or_value x) c x (in_key_or_value-spelt e c h.0) (texts-spelt e x h.1)
+pub texts-spelt : (e : Encoding) (only : Bool) (x : List ℕ) → AllByRecursion scalar x → AreSafelySpelt (spelt_text e only in_key_or_value x) x
+texts-spelt e only [] h = record { spellings = []; text = refl; characters = refl; safe = tt }
+texts-spelt e only (c ∷ x) h = spelt-cons (spelt e only in_key_or_value c) (spelt_text e only in_key_or_value x) c x (in_key_or_value-spelt e only c h.0) (texts-spelt e only x h.1)
 
 -- ---- what they mean
 

@@ -9,7 +9,7 @@ use Rattle.properties_format.specs.Entries.{Content, comment, pair}
 use Rattle.properties_format.specs.Settings.{Settings, IsGoodPrefix, IsGoodSeparator}
 use Rattle.properties_format.specs.Reading.Settings.{is_blanks}
 use Rattle.properties_format.specs.Printing.{in_key_or_value, in_prefix, spelt_text, encoded_text, is_bom_like, with_first_escaped, spelt_key, printed_text}
-use Rattle.properties_format.specs.Writing.{Call, comment_call, pair_call, prefix_call, separator_call, ending_call, flush_call, is_empty, settings_after_call, lines_with, AreOfScalars, AreGoodSettings}
+use Rattle.properties_format.specs.Writing.{Call, comment_call, pair_call, prefix_call, separator_call, ending_call, flush_call, ascii_only_call, is_empty, settings_after_call, lines_with, AreOfScalars, AreGoodSettings}
 use Rattle.properties_format.proofs.Printing.Characters.{encoded-ascii, encoded_text-append, blank-ascii, good_separator-ascii}
 use Rattle.properties_format.proofs.Printing.BomLike.{unicode-is_escape}
 use Rattle.properties_format.proofs.ReadBack.Pairs.{separator-some}
@@ -52,53 +52,53 @@ text-cut e x c y h =
 
 -- ---- the first line
 
-abbrev IsUnmarked : Encoding → List ℕ → Type 0
+abbrev pub IsUnmarked : Encoding → List ℕ → Type 0
 IsUnmarked e x = begins_like_bom (encoded_text e x) ≡ false
 
 -- the characters of a text that begins with an ASCII one
-front-unmarked : (e : Encoding) (x : List ℕ) (c : ℕ) (y : List ℕ) → x ≡ c ∷ y → c < 0x80 → IsUnmarked e x
+pub front-unmarked : (e : Encoding) (x : List ℕ) (c : ℕ) (y : List ℕ) → x ≡ c ∷ y → c < 0x80 → IsUnmarked e x
 front-unmarked e x c y same h = ap (λ v. begins_like_bom (encoded_text e v)) same ∙ text-cut e [] c y h
 
 indent-front : (indent : List ℕ) (sign : ℕ) (rest : List ℕ) → AreBlanks indent → is_comment_sign sign ≡ true → (c : ℕ) × (y : List ℕ) × (indent ++ (sign ∷ rest) ≡ c ∷ y) × (c < 0x80)
 indent-front [] sign rest b m = (sign, rest, refl, (sign-ascii sign m).0)
 indent-front (c ∷ indent) sign rest b m = (c, indent ++ (sign ∷ rest), refl, blank-ascii c b.0)
 
-comment-unmarked : (e : Encoding) (prefix rest : List ℕ) → IsGoodPrefix prefix → IsUnmarked e (spelt_text e in_prefix prefix ++ rest)
-comment-unmarked e prefix rest g =
-    let (c, y, same, h) = indent-front g.indent g.sign (spelt_text e in_prefix g.tail) g.indented g.signed in
-    front-unmarked e (spelt_text e in_prefix prefix ++ rest) c (y ++ rest)
-    (ap (λ v. v ++ rest) (ap (spelt_text e in_prefix) g.division ∙ prefix-spelt e g.indent g.sign g.tail g.indented g.signed ∙ same)) h
+comment-unmarked : (e : Encoding) (only : Bool) (prefix rest : List ℕ) → IsGoodPrefix prefix → IsUnmarked e (spelt_text e only in_prefix prefix ++ rest)
+comment-unmarked e only prefix rest g =
+    let (c, y, same, h) = indent-front g.indent g.sign (spelt_text e only in_prefix g.tail) g.indented g.signed in
+    front-unmarked e (spelt_text e only in_prefix prefix ++ rest) c (y ++ rest)
+    (ap (λ v. v ++ rest) (ap (spelt_text e only in_prefix) g.division ∙ prefix-spelt e only g.indent g.sign g.tail g.indented g.signed ∙ same)) h
 
 -- a separator begins with an ASCII character
 separator-front : (sep : List ℕ) → IsGoodSeparator sep → (c : ℕ) × (y : List ℕ) × (sep ≡ c ∷ y) × (c < 0x80)
 separator-front [] g = absurd (separator-some [] g refl)
 separator-front (c ∷ y) g = (c, y, refl, (good_separator-ascii (c ∷ y) g).0)
 
-with_first_escaped-unmarked : (e : Encoding) (key rest : List ℕ) → is_bom_like e key ≡ true → IsUnmarked e (with_first_escaped e key ++ rest)
-with_first_escaped-unmarked e [] rest h = cc
-with_first_escaped-unmarked e (c ∷ cs) rest h =
+with_first_escaped-unmarked : (e : Encoding) (only : Bool) (key rest : List ℕ) → is_bom_like e only key ≡ true → IsUnmarked e (with_first_escaped e only key ++ rest)
+with_first_escaped-unmarked e only [] rest h = cc
+with_first_escaped-unmarked e only (c ∷ cs) rest h =
     let (y, same) = unicode-is_escape c in
-    front-unmarked e (with_first_escaped e (c ∷ cs) ++ rest) backslash ((y ++ spelt_text e in_key_or_value cs) ++ rest) (ap (λ v. (v ++ spelt_text e in_key_or_value cs) ++ rest) same) (lit< tt)
+    front-unmarked e (with_first_escaped e only (c ∷ cs) ++ rest) backslash ((y ++ spelt_text e only in_key_or_value cs) ++ rest) (ap (λ v. (v ++ spelt_text e only in_key_or_value cs) ++ rest) same) (lit< tt)
 
-plain-unmarked : (e : Encoding) (key sep rest : List ℕ) → IsGoodSeparator sep → is_bom_like e key ≡ false → IsUnmarked e (spelt_text e in_key_or_value key ++ (sep ++ rest))
-plain-unmarked e key sep rest g h =
+plain-unmarked : (e : Encoding) (only : Bool) (key sep rest : List ℕ) → IsGoodSeparator sep → is_bom_like e only key ≡ false → IsUnmarked e (spelt_text e only in_key_or_value key ++ (sep ++ rest))
+plain-unmarked e only key sep rest g h =
     let (c, y, same, k) = separator-front sep g in
-    ap (λ v. begins_like_bom (encoded_text e (spelt_text e in_key_or_value key ++ (v ++ rest)))) same ∙ text-cut e (spelt_text e in_key_or_value key) c (y ++ rest) k ∙ h
+    ap (λ v. begins_like_bom (encoded_text e (spelt_text e only in_key_or_value key ++ (v ++ rest)))) same ∙ text-cut e (spelt_text e only in_key_or_value key) c (y ++ rest) k ∙ h
 
 -- a pair on the first line, with what comes after its separator
-pub pair-unmarked : (e : Encoding) (key sep rest : List ℕ) → IsGoodSeparator sep
-    → begins_like_bom (encoded_text e (spelt_key e true key ++ (sep ++ rest))) ≡ false
-pair-unmarked e key sep rest g = elim (cases_Bool (is_bom_like e key)) [
-  | inl h ↦ ap (λ v. begins_like_bom (encoded_text e (v ++ (sep ++ rest)))) (cond-true (is_bom_like e key) (with_first_escaped e key) (spelt_text e in_key_or_value key) h) ∙ with_first_escaped-unmarked e key (sep ++ rest) h
-  | inr h ↦ ap (λ v. begins_like_bom (encoded_text e (v ++ (sep ++ rest)))) (cond-false (is_bom_like e key) (with_first_escaped e key) (spelt_text e in_key_or_value key) h) ∙ plain-unmarked e key sep rest g h
+pub pair-unmarked : (e : Encoding) (only : Bool) (key sep rest : List ℕ) → IsGoodSeparator sep
+    → begins_like_bom (encoded_text e (spelt_key e only true key ++ (sep ++ rest))) ≡ false
+pair-unmarked e only key sep rest g = elim (cases_Bool (is_bom_like e only key)) [
+  | inl h ↦ ap (λ v. begins_like_bom (encoded_text e (v ++ (sep ++ rest)))) (cond-true (is_bom_like e only key) (with_first_escaped e only key) (spelt_text e only in_key_or_value key) h) ∙ with_first_escaped-unmarked e only key (sep ++ rest) h
+  | inr h ↦ ap (λ v. begins_like_bom (encoded_text e (v ++ (sep ++ rest)))) (cond-false (is_bom_like e only key) (with_first_escaped e only key) (spelt_text e only in_key_or_value key) h) ∙ plain-unmarked e only key sep rest g h
 ]
 
 printed-unmarked : (e : Encoding) (s : Settings) (line : Content) (rest : List ℕ) → AreGoodSettings s → IsUnmarked e (printed_text e s true line ++ rest)
 printed-unmarked e s (comment text) rest g =
-    ap (λ v. begins_like_bom (encoded_text e v)) (append_assoc (spelt_text e in_prefix s.comment_prefix) _ rest) ∙ comment-unmarked e s.comment_prefix _ g.prefix
+    ap (λ v. begins_like_bom (encoded_text e v)) (append_assoc (spelt_text e s.ascii_only in_prefix s.comment_prefix) _ rest) ∙ comment-unmarked e s.ascii_only s.comment_prefix _ g.prefix
 printed-unmarked e s (pair key value) rest g =
-    ap (λ v. begins_like_bom (encoded_text e v)) (append_assoc (spelt_key e true key) (s.kv_separator ++ _) rest ∙ ap (λ v. spelt_key e true key ++ v) (append_assoc s.kv_separator _ rest))
-    ∙ pair-unmarked e key s.kv_separator _ g.separator
+    ap (λ v. begins_like_bom (encoded_text e v)) (append_assoc (spelt_key e s.ascii_only true key) (s.kv_separator ++ _) rest ∙ ap (λ v. spelt_key e s.ascii_only true key ++ v) (append_assoc s.kv_separator _ rest))
+    ∙ pair-unmarked e s.ascii_only key s.kv_separator _ g.separator
 
 -- ---- all lines
 
@@ -118,3 +118,5 @@ wrote_text-unmarked e s (separator_call separator ∷ calls) g h =
 wrote_text-unmarked e s (ending_call line_ending ∷ calls) g h =
     wrote_text-unmarked e (settings_after_call s (ending_call line_ending)) calls (settings_after_call-good s (ending_call line_ending) g h.0) h.1
 wrote_text-unmarked e s (flush_call ∷ calls) g h = wrote_text-unmarked e s calls g h.1
+wrote_text-unmarked e s (ascii_only_call on ∷ calls) g h =
+    wrote_text-unmarked e (settings_after_call s (ascii_only_call on)) calls (settings_after_call-good s (ascii_only_call on) g h.0) h.1

@@ -4,7 +4,7 @@ use Rattle.std.specs.Prelude.{Option, Some, None, unwrap_or, if◌then◌else◌
 use Rattle.properties_format.specs.Text.{LineEnding}
 use Rattle.properties_format.specs.Settings.{Settings}
 use Rattle.properties_format.specs.Reading.Settings.{is_good_prefix, is_good_separator}
-use Rattle.properties_format.specs.Writing.{Call, comment_call, pair_call, prefix_call, separator_call, ending_call, flush_call, settings_after_call, settings_after}
+use Rattle.properties_format.specs.Writing.{Call, comment_call, pair_call, prefix_call, separator_call, ending_call, flush_call, ascii_only_call, settings_after_call, settings_after}
 
 -- the second value, if there is one, else the first
 abbrev pub later : {A : Type 0} → Option A → Option A → Option A
@@ -16,7 +16,7 @@ abbrev pub last_given : {A : Type 0} → (Call → Option A) → List Call → O
 last_given given [] = None
 last_given given (call ∷ calls) = later (given call) (last_given given calls)
 
--- the prefix, the separator and the line end that a call sets, if it is accepted
+-- the prefix, the separator, the line end and the mode that a call sets, if it is accepted
 abbrev pub prefix_of : Call → Option (List ℕ)
 prefix_of (comment_call text) = None
 prefix_of (pair_call key value) = None
@@ -24,6 +24,7 @@ prefix_of (prefix_call prefix) = if is_good_prefix prefix then Some prefix else 
 prefix_of (separator_call separator) = None
 prefix_of (ending_call line_ending) = None
 prefix_of flush_call = None
+prefix_of (ascii_only_call on) = None
 
 abbrev pub separator_of : Call → Option (List ℕ)
 separator_of (comment_call text) = None
@@ -32,6 +33,7 @@ separator_of (prefix_call prefix) = None
 separator_of (separator_call separator) = if is_good_separator separator then Some separator else None
 separator_of (ending_call line_ending) = None
 separator_of flush_call = None
+separator_of (ascii_only_call on) = None
 
 abbrev pub ending_of : Call → Option LineEnding
 ending_of (comment_call text) = None
@@ -40,6 +42,16 @@ ending_of (prefix_call prefix) = None
 ending_of (separator_call separator) = None
 ending_of (ending_call line_ending) = Some line_ending
 ending_of flush_call = None
+ending_of (ascii_only_call on) = None
+
+abbrev pub ascii_only_of : Call → Option Bool
+ascii_only_of (comment_call text) = None
+ascii_only_of (pair_call key value) = None
+ascii_only_of (prefix_call prefix) = None
+ascii_only_of (separator_call separator) = None
+ascii_only_of (ending_call line_ending) = None
+ascii_only_of flush_call = None
+ascii_only_of (ascii_only_call on) = Some on
 
 -- ---- after one call
 
@@ -47,15 +59,17 @@ after-prefix : (s : Settings) (prefix : List ℕ) (b : Bool)
     → ((if b then record s { comment_prefix = prefix } else s).comment_prefix ≡ unwrap_or (if b then Some prefix else None) s.comment_prefix)
     × ((if b then record s { comment_prefix = prefix } else s).kv_separator ≡ s.kv_separator)
     × ((if b then record s { comment_prefix = prefix } else s).line_ending ≡ s.line_ending)
-after-prefix s prefix true = (refl, refl, refl)
-after-prefix s prefix false = (refl, refl, refl)
+    × ((if b then record s { comment_prefix = prefix } else s).ascii_only ≡ s.ascii_only)
+after-prefix s prefix true = (refl, refl, refl, refl)
+after-prefix s prefix false = (refl, refl, refl, refl)
 
 after-separator : (s : Settings) (separator : List ℕ) (b : Bool)
     → ((if b then record s { kv_separator = separator } else s).kv_separator ≡ unwrap_or (if b then Some separator else None) s.kv_separator)
     × ((if b then record s { kv_separator = separator } else s).comment_prefix ≡ s.comment_prefix)
     × ((if b then record s { kv_separator = separator } else s).line_ending ≡ s.line_ending)
-after-separator s separator true = (refl, refl, refl)
-after-separator s separator false = (refl, refl, refl)
+    × ((if b then record s { kv_separator = separator } else s).ascii_only ≡ s.ascii_only)
+after-separator s separator true = (refl, refl, refl, refl)
+after-separator s separator false = (refl, refl, refl, refl)
 
 prefix-after_call : (s : Settings) (call : Call) → (settings_after_call s call).comment_prefix ≡ unwrap_or (prefix_of call) s.comment_prefix
 prefix-after_call s (comment_call text) = refl
@@ -64,6 +78,7 @@ prefix-after_call s (prefix_call prefix) = (after-prefix s prefix (is_good_prefi
 prefix-after_call s (separator_call separator) = (after-separator s separator (is_good_separator separator)).1
 prefix-after_call s (ending_call line_ending) = refl
 prefix-after_call s flush_call = refl
+prefix-after_call s (ascii_only_call on) = refl
 
 separator-after_call : (s : Settings) (call : Call) → (settings_after_call s call).kv_separator ≡ unwrap_or (separator_of call) s.kv_separator
 separator-after_call s (comment_call text) = refl
@@ -72,6 +87,7 @@ separator-after_call s (prefix_call prefix) = (after-prefix s prefix (is_good_pr
 separator-after_call s (separator_call separator) = (after-separator s separator (is_good_separator separator)).0
 separator-after_call s (ending_call line_ending) = refl
 separator-after_call s flush_call = refl
+separator-after_call s (ascii_only_call on) = refl
 
 ending-after_call : (s : Settings) (call : Call) → (settings_after_call s call).line_ending ≡ unwrap_or (ending_of call) s.line_ending
 ending-after_call s (comment_call text) = refl
@@ -80,6 +96,16 @@ ending-after_call s (prefix_call prefix) = (after-prefix s prefix (is_good_prefi
 ending-after_call s (separator_call separator) = (after-separator s separator (is_good_separator separator)).2
 ending-after_call s (ending_call line_ending) = refl
 ending-after_call s flush_call = refl
+ending-after_call s (ascii_only_call on) = refl
+
+pub ascii_only-after_call : (s : Settings) (call : Call) → (settings_after_call s call).ascii_only ≡ unwrap_or (ascii_only_of call) s.ascii_only
+ascii_only-after_call s (comment_call text) = refl
+ascii_only-after_call s (pair_call key value) = refl
+ascii_only-after_call s (prefix_call prefix) = (after-prefix s prefix (is_good_prefix prefix)).3
+ascii_only-after_call s (separator_call separator) = (after-separator s separator (is_good_separator separator)).3
+ascii_only-after_call s (ending_call line_ending) = refl
+ascii_only-after_call s flush_call = refl
+ascii_only-after_call s (ascii_only_call on) = refl
 
 -- ---- after a list of calls
 
@@ -107,3 +133,10 @@ ending-after s (call ∷ calls) =
     ending-after (settings_after_call s call) calls
     ∙ ap (unwrap_or (last_given ending_of calls)) (ending-after_call s call)
     ∙ unwrap-later (ending_of call) (last_given ending_of calls) s.line_ending
+
+pub ascii_only-after : (s : Settings) (calls : List Call) → (settings_after s calls).ascii_only ≡ unwrap_or (last_given ascii_only_of calls) s.ascii_only
+ascii_only-after s [] = refl
+ascii_only-after s (call ∷ calls) =
+    ascii_only-after (settings_after_call s call) calls
+    ∙ ap (unwrap_or (last_given ascii_only_of calls)) (ascii_only-after_call s call)
+    ∙ unwrap-later (ascii_only_of call) (last_given ascii_only_of calls) s.ascii_only

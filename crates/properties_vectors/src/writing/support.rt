@@ -15,6 +15,7 @@ pub enum Step<'a> {
     Prefix(&'a str),
     Separator(&'a str),
     Ending(LineEnding),
+    AsciiOnly(bool),
 }
 
 /// The calls of a row, and the bytes that they write.
@@ -32,6 +33,10 @@ pub fn take<W: CountedWrite>(
         Step::Separator(separator) => writer.set_kv_separator(separator),
         Step::Ending(line_ending) => {
             writer.set_line_ending(line_ending);
+            Ok(())
+        }
+        Step::AsciiOnly(on) => {
+            writer.set_ascii_only(on);
             Ok(())
         }
     }

@@ -5,6 +5,6 @@ use Rattle.java_properties.proofs.writer.print.print_in_key_or_value.Goals as go
 
 pub returns-in_default : goal.returns-in_default
 returns-in_default c =
-    let e = output_of c.args.encoding in
+    let e = output_of c.args.repertoire.encoding in
     let other : IsOtherControl c.args.character = (omega arith, omega arith, omega arith, omega arith, omega arith) in
-    rw (spelt_control e c.args.character other, encoded_escape e c.args.character) c.print_escape.ensures
+    rw (spelt_control e c.args.repertoire.ascii_only c.args.character other, encoded_escape e c.args.character) c.print_escape.ensures

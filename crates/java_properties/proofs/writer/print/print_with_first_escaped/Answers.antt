@@ -8,11 +8,11 @@ use Rattle.java_properties.proofs.writer.print.print_with_first_escaped.Goals as
 
 pub returns : goal.returns
 returns c =
-    let e = output_of c.args.encoding in
+    let e = output_of c.args.repertoire.encoding in
     let next = c.in-Some.ensures.steps in
     let parts = chars_past_char c.args.key.now c.next.new.self.rest.now c.in-Some.character c.utf8.key (sym c.chars-characters.ensures.rest ∙ next.0) in
     let rest = c.as_str.ensures in
     let escaped = c.in_ok-print_escape.ensures in
     let printed = c.print_text.ensures in
-    let more = first_escaped_more e in_key_or_value c.args.line.now.items (chars c.next.new.self.rest.now) c.in-Some.character in
+    let more = first_escaped_more e c.args.repertoire.ascii_only in_key_or_value c.args.line.now.items (chars c.next.new.self.rest.now) c.in-Some.character in
     rw (parts, ← more, ← escaped, ← rest) printed

@@ -1,0 +1,210 @@
+-- While ASCII alone is on, every byte that is written is one of ASCII, and the bytes read back the same in both encodings.
+use Rattle.std.proofs.Common.{◌≡◌, ℕ, ◌<◌, ◌==◌, ◌||◌, Bool, true, false, cond, List, [], ◌∷◌, ◌++◌, refl, ap, sym, ◌∙◌, inl, inr, ap₂, subst, ltb-true}
+use Rattle.std.specs.Prelude.{Option, Some, None, is_some, nat_lt}
+use Rattle.std.specs.List.{AllByRecursion}
+use Rattle.std.proofs.lemmas.List.Elements.{All-from_recursion}
+use Rattle.std.proofs.lemmas.Bool.{cases_Bool, and_left, cond_both}
+use Rattle.properties_format.specs.Text.{line_ending_text, backslash, space}
+use Rattle.properties_format.specs.Encoding.{Encoding, windows_1252, utf_8, encoded, begins_like_bom}
+use Rattle.properties_format.specs.Lines.{end}
+use Rattle.properties_format.specs.Entries.{Content, comment, pair}
+use Rattle.properties_format.specs.Items.{IsItems}
+use Rattle.properties_format.specs.Settings.{Settings, IsGoodSeparator}
+use Rattle.properties_format.specs.Reading.Settings.{is_good_prefix, is_good_separator}
+use Rattle.properties_format.specs.Printing.{Place, in_key_or_value, in_comment, in_prefix, unicode_escape, may_stand, literal, is_special, letter_escape, has_letter, spelt, spelt_text, encoded_text, is_bom_like, with_first_escaped, spelt_key, printed_text, printed}
+use Rattle.properties_format.specs.Writing.{Call, comment_call, pair_call, prefix_call, separator_call, ending_call, flush_call, ascii_only_call, settings_after_call, settings_after, written_line, lines_with, line_bytes, wrote, items_read_back, ArePrefixesClean, AreOfScalars, AreGoodSettings}
+use Rattle.properties_format.specs.AsciiOnly.{KeepsAsciiOnly, AllKeepAsciiOnly, AreAsciiOnly, AreAsciiBytes, AreItemsInBoth}
+use Rattle.properties_format.proofs.Printing.Characters.{AreAscii, AreAscii-append, encoded_text-ascii, line_end-ascii, good_separator-ascii, may_stand-ascii, spelt-either}
+use Rattle.properties_format.proofs.ReadBack.Lines.{settings_after_call-good, settings_after-good}
+use Rattle.properties_format.proofs.ReadBack.Unmarked.{front-unmarked}
+use Rattle.properties_format.proofs.ReadBack.Law.{IsItems-wrote}
+
+-- ---- characters
+
+-- while it is on, what may stand as itself is what is ASCII, in every encoding
+pub may_stand-on : (e : Encoding) (c : ℕ) → may_stand e true c ≡ nat_lt c 0x80
+may_stand-on e c = elim (cases_Bool (nat_lt c 0x80)) [
+  | inl k ↦ may_stand-ascii e true c (ltb-true c 0x80 k) ∙ sym k
+  | inr k ↦ and_left (nat_lt c 0x80) (is_some (encoded e c)) k ∙ sym k
+]
+
+may_stand-below : (e : Encoding) (c : ℕ) → may_stand e true c ≡ true → c < 0x80
+may_stand-below e c h = ltb-true c 0x80 (sym (may_stand-on e c) ∙ h)
+
+literal-same : (e f : Encoding) (c : ℕ) → literal e true c ≡ literal f true c
+literal-same e f c = ap (λ b. cond b (c ∷ []) (unicode_escape c)) (may_stand-on e c ∙ sym (may_stand-on f c))
+
+spelt-same : (e f : Encoding) (place : Place) (c : ℕ) → spelt e true place c ≡ spelt f true place c
+spelt-same e f in_key_or_value c =
+    ap (λ x. cond (is_special c) (backslash ∷ c ∷ []) (cond (has_letter c) (letter_escape c) (cond (nat_lt c space) (unicode_escape c) x))) (literal-same e f c)
+spelt-same e f in_comment c = ap (λ x. cond (c == backslash) (backslash ∷ backslash ∷ []) (cond (c == 0x0a || c == 0x0d) (letter_escape c) x)) (literal-same e f c)
+spelt-same e f in_prefix c = literal-same e f c
+
+spelt-ascii : (e : Encoding) (place : Place) (c : ℕ) → AreAscii (spelt e true place c)
+spelt-ascii e place c = spelt-either e true place c AreAscii (λ x h. h) (λ k. (may_stand-below e c k, tt))
+
+-- ---- texts
+
+spelt_text-same : (e f : Encoding) (place : Place) (x : List ℕ) → spelt_text e true place x ≡ spelt_text f true place x
+spelt_text-same e f place [] = refl
+spelt_text-same e f place (c ∷ x) = ap₂ (λ v w. v ++ w) (spelt-same e f place c) (spelt_text-same e f place x)
+
+pub spelt_text-ascii : (e : Encoding) (place : Place) (x : List ℕ) → AreAscii (spelt_text e true place x)
+spelt_text-ascii e place [] = tt
+spelt_text-ascii e place (c ∷ x) = AreAscii-append (spelt e true place c) (spelt_text e true place x) (spelt-ascii e place c) (spelt_text-ascii e place x)
+
+ascii-unmarked : (e : Encoding) (x : List ℕ) → AreAscii x → begins_like_bom (encoded_text e x) ≡ false
+ascii-unmarked e [] h = refl
+ascii-unmarked e (c ∷ x) h = front-unmarked e (c ∷ x) c x refl h.0
+
+-- While it is on, no key begins like a byte order mark.
+pub is_bom_like-on : (e : Encoding) (key : List ℕ) → is_bom_like e true key ≡ false
+is_bom_like-on e key = ascii-unmarked e (spelt_text e true in_key_or_value key) (spelt_text-ascii e in_key_or_value key)
+
+spelt_key-on : (e : Encoding) (first : Bool) (key : List ℕ) → spelt_key e true first key ≡ spelt_text e true in_key_or_value key
+spelt_key-on e true key = ap (λ b. cond b (with_first_escaped e true key) (spelt_text e true in_key_or_value key)) (is_bom_like-on e key)
+spelt_key-on e false key = refl
+
+spelt_key-same : (e f : Encoding) (first : Bool) (key : List ℕ) → spelt_key e true first key ≡ spelt_key f true first key
+spelt_key-same e f first key = spelt_key-on e first key ∙ spelt_text-same e f in_key_or_value key ∙ sym (spelt_key-on f first key)
+
+spelt_key-ascii : (e : Encoding) (first : Bool) (key : List ℕ) → AreAscii (spelt_key e true first key)
+spelt_key-ascii e first key = subst AreAscii (sym (spelt_key-on e first key)) (spelt_text-ascii e in_key_or_value key)
+
+-- ---- lines
+
+-- the parts of a line, with ASCII alone on or off
+abbrev parts : Encoding → Bool → Settings → Bool → Content → List ℕ
+parts e only s first (comment text) = spelt_text e only in_prefix s.comment_prefix ++ (spelt_text e only in_comment text ++ line_ending_text s.line_ending)
+parts e only s first (pair key value) = spelt_key e only first key ++ (s.kv_separator ++ (spelt_text e only in_key_or_value value ++ line_ending_text s.line_ending))
+
+printed-parts : (e : Encoding) (s : Settings) (first : Bool) (line : Content) → s.ascii_only ≡ true → printed_text e s first line ≡ parts e true s first line
+printed-parts e s first (comment text) on = ap (λ b. parts e b s first (comment text)) on
+printed-parts e s first (pair key value) on = ap (λ b. parts e b s first (pair key value)) on
+
+parts-same : (e f : Encoding) (s : Settings) (first : Bool) (line : Content) → parts e true s first line ≡ parts f true s first line
+parts-same e f s first (comment text) =
+    ap₂ (λ v w. v ++ (w ++ line_ending_text s.line_ending)) (spelt_text-same e f in_prefix s.comment_prefix) (spelt_text-same e f in_comment text)
+parts-same e f s first (pair key value) =
+    ap₂ (λ v w. v ++ (s.kv_separator ++ (w ++ line_ending_text s.line_ending))) (spelt_key-same e f first key) (spelt_text-same e f in_key_or_value value)
+
+parts-ascii : (e : Encoding) (s : Settings) (first : Bool) (line : Content) → IsGoodSeparator s.kv_separator → AreAscii (parts e true s first line)
+parts-ascii e s first (comment text) g =
+    AreAscii-append (spelt_text e true in_prefix s.comment_prefix) (spelt_text e true in_comment text ++ line_ending_text s.line_ending) (spelt_text-ascii e in_prefix s.comment_prefix)
+    (AreAscii-append (spelt_text e true in_comment text) (line_ending_text s.line_ending) (spelt_text-ascii e in_comment text) (line_end-ascii s.line_ending))
+parts-ascii e s first (pair key value) g =
+    AreAscii-append (spelt_key e true first key) (s.kv_separator ++ (spelt_text e true in_key_or_value value ++ line_ending_text s.line_ending)) (spelt_key-ascii e first key)
+    (AreAscii-append s.kv_separator (spelt_text e true in_key_or_value value ++ line_ending_text s.line_ending) (good_separator-ascii s.kv_separator g)
+    (AreAscii-append (spelt_text e true in_key_or_value value) (line_ending_text s.line_ending) (spelt_text-ascii e in_key_or_value value) (line_end-ascii s.line_ending)))
+
+-- bytes that are ASCII and the same in this other encoding
+record AreShared (f : Encoding) (x y : List ℕ) : Type 0 where
+  ascii : AreAscii x
+  same : x ≡ y
+
+shared-append : (f : Encoding) (x y z w : List ℕ) → AreShared f x y → AreShared f z w → AreShared f (x ++ z) (y ++ w)
+shared-append f x y z w h k = record { ascii = AreAscii-append x z h.ascii k.ascii; same = ap₂ (λ v u. v ++ u) h.same k.same }
+
+printed-shared : (e f : Encoding) (s : Settings) (first : Bool) (line : Content) → s.ascii_only ≡ true → IsGoodSeparator s.kv_separator → AreShared f (printed e s first line) (printed f s first line)
+printed-shared e f s first line on g =
+    let x = parts e true s first line in
+    let y = parts f true s first line in
+    let a = ap (encoded_text e) (printed-parts e s first line on) ∙ encoded_text-ascii e x (parts-ascii e s first line g) in
+    let b = ap (encoded_text f) (printed-parts f s first line on) ∙ encoded_text-ascii f y (parts-ascii f s first line g) in
+    record { ascii = subst AreAscii (sym a) (parts-ascii e s first line g); same = a ∙ parts-same e f s first line ∙ sym b }
+
+line-shared : (e f : Encoding) (s : Settings) (n : ℕ) (o : Option Content) → s.ascii_only ≡ true → IsGoodSeparator s.kv_separator → AreShared f (line_bytes e s n o) (line_bytes f s n o)
+line-shared e f s n None on g = record { ascii = tt; same = refl }
+line-shared e f s n (Some line) on g = printed-shared e f s (n == 0) line on g
+
+-- ---- calls
+
+-- a call that doesn't turn it off leaves it on
+call-on : (s : Settings) (call : Call) → s.ascii_only ≡ true → KeepsAsciiOnly call → (settings_after_call s call).ascii_only ≡ true
+call-on s (comment_call text) on k = on
+call-on s (pair_call key value) on k = on
+call-on s (prefix_call prefix) on k = cond_both (is_good_prefix prefix) (record s { comment_prefix = prefix }) s (λ v. v.ascii_only ≡ true) (λ h. on) (λ h. on)
+call-on s (separator_call separator) on k = cond_both (is_good_separator separator) (record s { kv_separator = separator }) s (λ v. v.ascii_only ≡ true) (λ h. on) (λ h. on)
+call-on s (ending_call line_ending) on k = on
+call-on s flush_call on k = on
+call-on s (ascii_only_call mode) on k = k
+
+wrote-shared : (e f : Encoding) (s : Settings) (n : ℕ) (calls : List Call) → s.ascii_only ≡ true → AllKeepAsciiOnly calls → AreGoodSettings s → AreOfScalars calls
+    → AreShared f (wrote e s n calls) (wrote f s n calls)
+wrote-shared e f s n [] on k g h = record { ascii = tt; same = refl }
+wrote-shared e f s n (call ∷ calls) on k g h =
+    let o = written_line s call in
+    let t = settings_after_call s call in
+    let m = lines_with n o in
+    shared-append f (line_bytes e s n o) (line_bytes f s n o) (wrote e t m calls) (wrote f t m calls)
+    (line-shared e f s n o on g.separator) (wrote-shared e f t m calls (call-on s call on k.0) k.1 (settings_after_call-good s call g h.0) h.1)
+
+-- the calls of a list that turns ASCII alone on first
+calls-shared : (e f : Encoding) (s : Settings) (n : ℕ) (calls : List Call) → AreAsciiOnly calls → AreGoodSettings s → AreOfScalars calls → AreShared f (wrote e s n calls) (wrote f s n calls)
+calls-shared e f s n [] k g h = absurd k
+calls-shared e f s n (call ∷ calls) k g h =
+    subst (λ v. AreShared f (wrote e s n (v ∷ calls)) (wrote f s n (v ∷ calls))) (sym k.0)
+    (wrote-shared e f (record s { ascii_only = true }) n calls refl k.1 (record { prefix = g.prefix; scalars = g.scalars; separator = g.separator }) h.1)
+
+-- a text of ASCII, as bytes
+bytes-ascii : (x : List ℕ) → AreAscii x → AreAsciiBytes x
+bytes-ascii x h = All-from_recursion (λ b. b < 0x80) x (go x h)
+  where
+    go : (x : List ℕ) → AreAscii x → AllByRecursion (λ b. b < 0x80) x
+    go [] h = tt
+    go (b ∷ x) h = (h.0, go x h.1)
+
+-- Where ASCII alone is turned on by the first call and not turned off, every byte that is written is one of ASCII.
+pub wrote-ascii : (e : Encoding) (s : Settings) (n : ℕ) (calls : List Call) → AreAsciiOnly calls → AreGoodSettings s → AreOfScalars calls → AreAsciiBytes (wrote e s n calls)
+wrote-ascii e s n calls k g h = bytes-ascii (wrote e s n calls) (calls-shared e e s n calls k g h).ascii
+
+-- And what a writer without lines wrote has the same items in windows-1252 and in UTF-8: those that the calls told.
+pub AreItemsInBoth-wrote : (e : Encoding) (s : Settings) (calls : List Call) → AreAsciiOnly calls → AreGoodSettings s → ArePrefixesClean s calls → AreOfScalars calls
+    → AreItemsInBoth (wrote e s 0 calls) (items_read_back s 0 calls)
+AreItemsInBoth-wrote e s calls k g c h =
+    record {
+      in_windows_1252 = subst (λ b. IsItems windows_1252 b end (items_read_back s 0 calls)) (calls-shared windows_1252 e s 0 calls k g h).same (IsItems-wrote windows_1252 s calls refl g c h);
+      in_utf_8 = subst (λ b. IsItems utf_8 b end (items_read_back s 0 calls)) (calls-shared utf_8 e s 0 calls k g h).same (IsItems-wrote utf_8 s calls refl g c h);
+    }
+
+-- ---- a beginning of the calls
+
+keep-front : (xs ys : List Call) → AllKeepAsciiOnly (xs ++ ys) → AllKeepAsciiOnly xs
+keep-front [] ys k = tt
+keep-front (x ∷ xs) ys k = (k.0, keep-front xs ys k.1)
+
+scalars-front : (xs ys : List Call) → AreOfScalars (xs ++ ys) → AreOfScalars xs
+scalars-front [] ys h = tt
+scalars-front (x ∷ xs) ys h = (h.0, scalars-front xs ys h.1)
+
+begun-text : (e : Encoding) (s : Settings) (n : ℕ) (xs ys : List Call) → AreAsciiOnly (xs ++ ys) → AreGoodSettings s → AreOfScalars (xs ++ ys) → AreAscii (wrote e s n xs)
+begun-text e s n [] ys k g h = tt
+begun-text e s n (x ∷ xs) ys k g h = (calls-shared e e s n (x ∷ xs) (k.0, keep-front xs ys k.1) g (scalars-front (x ∷ xs) ys h)).ascii
+
+-- The bytes of a beginning of the calls are of ASCII.
+pub begun-ascii : (e : Encoding) (s : Settings) (n : ℕ) (xs ys : List Call) → AreAsciiOnly (xs ++ ys) → AreGoodSettings s → AreOfScalars (xs ++ ys) → AreAsciiBytes (wrote e s n xs)
+begun-ascii e s n xs ys k g h = bytes-ascii (wrote e s n xs) (begun-text e s n xs ys k g h)
+
+kept-on : (s : Settings) (calls : List Call) → s.ascii_only ≡ true → AllKeepAsciiOnly calls → (settings_after s calls).ascii_only ≡ true
+kept-on s [] on k = on
+kept-on s (call ∷ calls) on k = kept-on (settings_after_call s call) calls (call-on s call on k.0) k.1
+
+-- the settings after a beginning, before a call that isn't the first
+begun-on : (s : Settings) (xs : List Call) (call : Call) (ys : List Call) → AreAsciiOnly (xs ++ (call ∷ ys)) → (call ≡ ascii_only_call true → ⊥) → (settings_after s xs).ascii_only ≡ true
+begun-on s [] call ys k other = absurd (other k.0)
+begun-on s (x ∷ xs) call ys k other =
+    subst (λ v. (settings_after s (v ∷ xs)).ascii_only ≡ true) (sym k.0) (kept-on (record s { ascii_only = true }) xs refl (keep-front xs (call ∷ ys) k.1))
+
+ascii-front : (x y : List ℕ) → AreAscii (x ++ y) → AreAscii x
+ascii-front [] y h = tt
+ascii-front (c ∷ x) y h = (h.0, ascii-front x y h.1)
+
+-- And so are these bytes, and then a beginning of the line that the next call writes.
+pub begun-line_ascii : (e : Encoding) (s : Settings) (n : ℕ) (xs : List Call) (call : Call) (ys : List Call) (first : Bool) (line : Content) (part rest : List ℕ) → (call ≡ ascii_only_call true → ⊥)
+    → AreAsciiOnly (xs ++ (call ∷ ys)) → AreGoodSettings s → AreOfScalars (xs ++ (call ∷ ys)) → printed e (settings_after s xs) first line ≡ part ++ rest → AreAsciiBytes (wrote e s n xs ++ part)
+begun-line_ascii e s n xs call ys first line part rest other k g h same =
+    let t = settings_after s xs in
+    let good = settings_after-good s xs g (scalars-front xs (call ∷ ys) h) in
+    let whole = (printed-shared e e t first line (begun-on s xs call ys k other) good.separator).ascii in
+    bytes-ascii (wrote e s n xs ++ part)
+    (AreAscii-append (wrote e s n xs) part (begun-text e s n xs (call ∷ ys) k g h) (ascii-front part rest (subst AreAscii same whole)))
