@@ -18,3 +18,4 @@ pub mod Items
 pub mod Readings
 pub mod Joining
 pub mod JoinedRuns
+pub mod TextMaps

@@ -20,3 +20,4 @@ pub mod LineJoiner
 pub mod PropertiesIter
 pub mod NaturalLines
 pub mod ReadLines
+pub mod Maps

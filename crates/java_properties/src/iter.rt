@@ -8,7 +8,7 @@ ghost use Rattle.java_properties.specs.Encoding.{encoding_of};
 ghost use Rattle.java_properties.specs.LineFinder.{lines_left};
 ghost use Rattle.java_properties.specs.PropertiesIter.{Reading, NextGives};
 
-mod items;
+pub(crate) mod items;
 mod whole;
 
 use crate::encoding::Encoding;

@@ -23,6 +23,7 @@ mod input;
 mod iter;
 mod line;
 mod lines;
+mod maps;
 mod parse;
 mod writer;
 
@@ -30,4 +31,5 @@ pub use encoding::Encoding;
 pub use error::{Cause, ErrorKind, PropertiesError};
 pub use iter::{PropertiesIter, Stopped, read_lines};
 pub use line::{Line, LineContent};
+pub use maps::{read, write};
 pub use writer::{Call, LineEnding, PropertiesWriter, run_calls};

@@ -16,7 +16,7 @@ use std::alloc::Global;
 use std::marker::Model;
 
 mod calls;
-mod engine;
+pub(crate) mod engine;
 mod print;
 mod settings;
 

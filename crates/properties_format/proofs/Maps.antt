@@ -1,5 +1,5 @@
 -- The map of an input exists, and is unique.
-use Rattle.std.proofs.Common.{◌≡◌, ℕ, Bool, true, false, List, [], ◌∷◌, ◌++◌, refl, ap, sym, ◌∙◌}
+use Rattle.std.proofs.Common.{◌≡◌, ℕ, Bool, true, false, if◌then◌else◌, List, [], ◌∷◌, ◌++◌, refl, ap, sym, ◌∙◌, subst}
 use Rattle.std.specs.Prelude.{Option, Some, None, bytes_eq}
 use Rattle.std.proofs.lemmas.Bool.{cond-true, cond-false, false_from_ne_true}
 use Rattle.std.proofs.lemmas.Slice.Eq.{bytes_eq-Decides}
@@ -68,3 +68,42 @@ map-meets entries key = value_in-meets entries key
 
 pub map-only : (entries : List Entry) (value_at : List ℕ → Option (List ℕ)) → IsMap entries value_at → (key : List ℕ) → value_at key ≡ value_in entries key
 map-only entries value_at h key = value_in-only entries key (value_at key) (h key)
+
+-- ---- one entry more
+
+first-assoc : (a b c : Option (List ℕ)) → first_value (first_value a b) c ≡ first_value a (first_value b c)
+first-assoc None b c = refl
+first-assoc (Some v) b c = refl
+
+first-none : (o : Option (List ℕ)) → o ≡ first_value o None
+first-none None = refl
+first-none (Some v) = refl
+
+value_in-append : (xs ys : List Entry) (key : List ℕ) → value_in (xs ++ ys) key ≡ first_value (value_in ys key) (value_in xs key)
+value_in-append [] ys key = first-none (value_in ys key)
+value_in-append (x ∷ xs) ys key =
+    ap (λ r. first_value r (value_of x key)) (value_in-append xs ys key) ∙ first-assoc (value_in ys key) (value_in xs key) (value_of x key)
+
+-- a function that gives the same at each key is the map too
+same-map : (entries : List Entry) (f : List ℕ → Option (List ℕ)) → ((key : List ℕ) → f key ≡ value_in entries key) → IsMap entries f
+same-map entries f same key = let P : Option (List ℕ) → Type 0 = IsValue entries key in subst P (sym (same key)) (value_in-meets entries key)
+
+-- the map of no entries is empty
+pub map-none : (f : List ℕ → Option (List ℕ)) → ((key : List ℕ) → f key ≡ None) → IsMap [] f
+map-none f empty = same-map [] f empty
+
+-- a comment changes nothing
+pub map-comment : (entries : List Entry) (number : ℕ) (text : List ℕ) (f : List ℕ → Option (List ℕ)) → IsMap entries f
+    → IsMap (entries ++ item number (comment text) ∷ []) f
+map-comment entries number text f h =
+    same-map (entries ++ item number (comment text) ∷ []) f (λ key. map-only entries f h key ∙ sym (value_in-append entries (item number (comment text) ∷ []) key))
+
+-- a pair puts its value under its key
+pub map-pair : (entries : List Entry) (number : ℕ) (key value : List ℕ) (f g : List ℕ → Option (List ℕ)) → IsMap entries f
+    → ((k : List ℕ) → g k ≡ (if bytes_eq key k then Some value else f k)) → IsMap (entries ++ item number (pair key value) ∷ []) g
+map-pair entries number key value f g h puts =
+    same-map (entries ++ item number (pair key value) ∷ []) g (λ k. puts k ∙ chosen (bytes_eq key k) k ∙ sym (value_in-append entries (item number (pair key value) ∷ []) k))
+  where
+    chosen : (b : Bool) (k : List ℕ) → (if b then Some value else f k) ≡ first_value (if b then Some value else None) (value_in entries k)
+    chosen true k = refl
+    chosen false k = map-only entries f h k

@@ -1,0 +1,105 @@
+-- Maps of texts: what reading one and writing one does.
+use Rattle.std.specs.Prelude.{◌≡◌, ◌⊎◌, ℕ, true, List, [], ◌∷◌, ◌++◌, map, Option, Result, Ok, Err, bytes_eq, string_bytes}
+use Rattle.std.specs.Option.{option_map}
+use Rattle.std.specs.Str.{chars}
+use Rattle.std.specs.Borrow.{Bor}
+use Rattle.std.specs.HashMap.{HashMap, get_by}
+use Rattle.std.specs.Map.{keys_of, update}
+use Rattle.std.specs.List.Sorted.{IsPermutation, IsStrictlySortedBy}
+use Rattle.std.specs.Ordering.{nat_cmp}
+use Rattle.std.specs.Cmp.Lexicographic.{slice_cmp}
+use Rattle.std.specs.declared.string.String.{String}
+use Rattle.counted_io.specs.Streams.{Reader, Sink, HasWritten}
+use Rattle.properties_format.specs.Encoding.{windows_1252}
+use Rattle.properties_format.specs.Entries.{Content, comment, pair}
+use Rattle.properties_format.specs.Maps.{IsMap}
+use Rattle.properties_format.specs.Settings.{default_settings}
+use Rattle.properties_format.specs.Writing.{Call, pair_call, flush_call, wrote}
+use Rattle.java_properties.specs.Calls.{StopsAtCall}
+use Rattle.java_properties.specs.Errors.{IsBareError, Refuses}
+use Rattle.java_properties.specs.PropertiesWriter.{Writing, new_writer}
+use Rattle.java_properties.specs.ReadLines.{entries_in, ReadsWhole, StopsMalformed, StopsFailed, StopsEarly}
+use Rattle.java_properties.specs.declared.error.ErrorKind.TheVariants as kind
+use Rattle.java_properties.specs.declared.error.PropertiesError.{PropertiesError}
+use Rattle.java_properties.specs.declared.line.Line.{Line}
+
+-- ---- maps
+
+abbrev pub characters : {Z : Type 0} → String Z → List ℕ
+characters text = chars (string_bytes text)
+
+-- the value of a key in a map, both as characters
+abbrev pub value_at : {Y Z S : Type 0} → HashMap (String Y) (String Z) S → List ℕ → Option (List ℕ)
+value_at m key = option_map characters (get_by (λ k. bytes_eq key (characters k)) m)
+
+-- A pair puts its value under its key, where there is memory, and a comment changes nothing.
+abbrev pub InsertsIfPair : {Y Z S : Type 0} → HashMap (String Y) (String Z) S → Content → Result Unit PropertiesError → HashMap (String Y) (String Z) S → Type 0
+InsertsIfPair old content (Err error) new = IsBareError kind.Memory error
+InsertsIfPair old (comment text) (Ok done) new = new ≡ old
+InsertsIfPair old (pair key value) (Ok done) new = (k : List ℕ) → value_at new k ≡ update bytes_eq (value_at old) key (Option.Some value) k
+
+-- ---- reading
+
+-- The input was read to its end, no escape is malformed, and the map has each key that a pair has, with the value of its last pair.
+pub record HasReadMap {R Y Z S : Type 0} (reader : Reader R) (from : R) (m : HashMap (String Y) (String Z) S) (to : R) : Type 0 where
+  pub lines : List Line
+  pub reads : ReadsWhole reader windows_1252 from (entries_in lines) to
+  pub is_map : IsMap (entries_in lines) (value_at m)
+
+-- Reading stopped after these items: at malformed escapes, at a fault, or since memory ran out or the numbers for lines.
+pub record StopsReadingMap {R : Type 0} (reader : Reader R) (from : R) (error : PropertiesError) (to : R) : Type 0 where
+  pub lines : List Line
+  pub stops : StopsMalformed reader windows_1252 from (entries_in lines) error to
+      ⊎ (StopsFailed reader windows_1252 from (entries_in lines) error to ⊎ StopsEarly reader windows_1252 from (entries_in lines) error to)
+
+-- What reading a map returns, and what it leaves of the reader. Ok comes at the reader's own end alone.
+abbrev pub ReadsMap : {R Y Z S : Type 0} → Reader R → R → Result (HashMap (String Y) (String Z) S) PropertiesError → R → Type 0
+ReadsMap reader from (Ok m) to = HasReadMap reader from m to
+ReadsMap reader from (Err error) to = StopsReadingMap reader from error to
+
+-- ---- writing
+
+-- a key and its value, as their UTF-8 bytes
+abbrev pub Texts : Type 0
+Texts = List ℕ × List ℕ
+
+abbrev pub entry_texts : {Y Z : Type 0} → String Y × String Z → Texts
+entry_texts entry = (string_bytes entry.0, string_bytes entry.1)
+
+abbrev pub lent_texts : {Y Z : Type 0} → Bor (String Y) × Bor (String Z) → Texts
+lent_texts entry = (string_bytes entry.0.now, string_bytes entry.1.now)
+
+abbrev pub texts_of : {Y Z : Type 0} → List (Bor (String Y) × Bor (String Z)) → List Texts
+texts_of entries = map lent_texts entries
+
+-- The pairs are the entries of the map, and their keys ascend strictly, byte by byte.
+pub record AreInOrder {Y Z S : Type 0} (m : HashMap (String Y) (String Z) S) (pairs : List Texts) : Type 0 where
+  pub entries : IsPermutation (map entry_texts m.entries) pairs
+  pub ascend : IsStrictlySortedBy (slice_cmp nat_cmp) (keys_of pairs)
+
+-- the calls that write these pairs
+abbrev pub call_for : Texts → Call
+call_for texts = pair_call (chars texts.0) (chars texts.1)
+
+abbrev pub calls_for : List Texts → List Call
+calls_for pairs = map call_for pairs
+
+-- The lines of the map's pairs were written, in order, by the settings of a new writer, and the sink is flushed.
+pub record HasWrittenMap {W Y Z S : Type 0} (sink : Sink W) (m : HashMap (String Y) (String Z) S) (old new : W) : Type 0 where
+  pub pairs : List Texts
+  pub in_order : AreInOrder m pairs
+  pub written : HasWritten sink old (wrote windows_1252 default_settings 0 (calls_for pairs)) new
+  pub flushed : sink.is_flushed new ≡ true
+
+-- Writing stopped, as a new writer stops that is asked for the pairs in order and then for a flush.
+pub record StopsInCalls {W Y Z S : Type 0} (sink : Sink W) (m : HashMap (String Y) (String Z) S) (old : W) (error : PropertiesError) (new : W) : Type 0 where
+  pub pairs : List Texts
+  pub in_order : AreInOrder m pairs
+  pub writer : Writing W
+  pub stops : StopsAtCall sink (new_writer windows_1252 old) (calls_for pairs ++ (flush_call ∷ [])) error writer
+  pub sink_after : new ≡ writer.sink
+
+-- What writing a map does. Where memory runs out for the order of the pairs, the sink isn't touched.
+abbrev pub WritesMap : {W Y Z S : Type 0} → Sink W → HashMap (String Y) (String Z) S → W → Result Unit PropertiesError → W → Type 0
+WritesMap sink m old (Ok done) new = HasWrittenMap sink m old new
+WritesMap sink m old (Err error) new = Refuses kind.Memory old error new ⊎ StopsInCalls sink m old error new

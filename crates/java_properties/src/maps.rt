@@ -1,0 +1,101 @@
+// Maps, read and written whole.
+
+ghost use Rattle.std.specs.Prelude.{IfOk};
+ghost use Rattle.counted_io.specs.Streams.{IsSameReader, IsSameSink};
+ghost use Rattle.java_properties.specs.PropertiesIter.{said};
+ghost use Rattle.java_properties.specs.Maps.{texts_of, InsertsIfPair, ReadsMap, AreInOrder, WritesMap};
+
+use crate::encoding::{Encoding, OutputEncoding};
+use crate::error::PropertiesError;
+use crate::iter::items::ItemReader;
+use crate::line::LineContent;
+use crate::writer::engine::{Content, Engine};
+use counted_io::{CountedRead, CountedWrite};
+use std::alloc::{AllocError, Global};
+use std::collections::HashMap;
+
+/// Reads an input in windows-1252 to its end, and returns the value of each key.
+///
+/// Of two pairs with the same key the later one counts. A byte order mark at the front overrules the encoding. An
+/// error of the input is returned, and no map.
+///
+/// ```text
+/// let mut input: &[u8] = b"# greetings\nhello = world";
+/// let map = read(alloc, &mut input)?;
+/// assert_eq!(map.get("hello").map(String::as_str), Some("world"));
+/// ```
+pub fn read<R: CountedRead>(
+    alloc: Global,
+    input: &mut R,
+) -> Result<HashMap<String, String>, PropertiesError>
+    ensures reads { ReadsMap R.CountedRead input.old result input.new }
+    ensures same_reader { IsSameReader R.CountedRead input.old input.new }
+{
+    let mut items = ItemReader::new(alloc, Encoding::WINDOWS_1252);
+    let mut map = HashMap::new(alloc);
+    while let Some(item) = items.next_item(input) {
+        let line = item?;
+        insert_if_pair(&mut map, line.consume_content())?;
+    }
+    Ok(map)
+}
+
+// Puts the value of a pair under its key.
+fn insert_if_pair(
+    map: &mut HashMap<String, String>,
+    content: LineContent,
+) -> Result<(), PropertiesError>
+    ensures { InsertsIfPair map.old (said content) result map.new }
+{
+    match content {
+        LineContent::Comment(_text) => Ok(()),
+        LineContent::KVPair(key, value) => {
+            map.insert(key, value)?;
+            Ok(())
+        }
+    }
+}
+
+/// Writes each entry of a map as one line, in windows-1252 and by the settings of a new writer, and flushes the sink.
+///
+/// The keys ascend by their UTF-8 bytes.
+///
+/// ```text
+/// let mut output = Counted::new(Vec::new(alloc));
+/// write(alloc, &mut output, &map)?;
+/// // The sink holds `hello=world` and a line feed.
+/// ```
+pub fn write<W: CountedWrite>(
+    alloc: Global,
+    writer: &mut W,
+    map: &HashMap<String, String>,
+) -> Result<(), PropertiesError>
+    ensures writes { WritesMap W.CountedWrite map.now writer.old result writer.new }
+    ensures same_sink { IsSameSink W.CountedWrite writer.old writer.new }
+{
+    let pairs = pairs_in_order(alloc, map)?;
+    let mut engine = Engine::new(alloc, OutputEncoding::from(Encoding::WINDOWS_1252));
+    for (key, value) in &pairs {
+        engine.write_line(writer, Content::KVPair(key.as_str(), value.as_str()))?;
+    }
+    engine.flush(writer)
+}
+
+// The entries of a map, by the bytes of their keys.
+fn pairs_in_order<'a>(
+    alloc: Global,
+    map: &'a HashMap<String, String>,
+) -> Result<Vec<(&'a String, &'a String)>, AllocError>
+    ensures { IfOk result (λ pairs. AreInOrder map.now (texts_of pairs.items)) }
+{
+    let mut pairs = Vec::with_capacity(alloc, map.len())?;
+    for (key, value) in map {
+        pairs.push((key, value))?;
+    }
+    // No two keys are the same, so the values decide nothing.
+    pairs.sort_unstable();
+    Ok(pairs)
+}
+
+#[cfg(test)]
+mod tests;
