@@ -2,15 +2,15 @@
 use Rattle.std.proofs.Common.{◌≡◌, ℕ, ◌+◌, ◌-◌, ◌<◌, ◌≤◌, ◌==◌, Bool, true, false, cond, nat_lt, List, [], ◌∷◌, ◌++◌, refl, sym, ap, ap₂, ◌∙◌, inl, inr, append_assoc, append-nil, arith, length, take, drop, get_or, lit<, le-ltb, lt-ltb, ne_eqb, eqb-true}
 use Rattle.std.specs.Prelude.{not, encode_utf8, encode_utf8_all, slice_index, unwrap_or}
 use Rattle.std.specs.Str.{chars, IsUtf8, IsAscii}
-use Rattle.std.proofs.lemmas.Bool.{cases_Bool, cases_lt, cond-true, cond-false, agree_below_at, false_from_ne_true}
+use Rattle.std.proofs.lemmas.Bool.{cases_Bool, cases_lt, agree_below_at, false_from_ne_true}
 use Rattle.std.specs.List.{All}
 use Rattle.std.proofs.lemmas.List.Elements.{All-head, All-tail}
 use Rattle.std.proofs.lemmas.Str.Ascii.{All-from_ascii}
 use Rattle.std.proofs.lemmas.Str.{encodes-chars, chars-IsAscii, encode_ascii}
 use Rattle.std.proofs.lemmas.List.{take_more, take_all, length-drop, take-append-drop, take-take}
 use Rattle.properties_format.specs.Text.{space, backslash}
-use Rattle.properties_format.specs.Encoding.{Encoding, utf_8, encoded}
-use Rattle.properties_format.specs.Printing.{in_key_or_value, unicode_escape, literal, is_special, has_letter, letter_escape, spelt, spelt_text, encoded_text}
+use Rattle.properties_format.specs.Encoding.{Encoding, utf_8}
+use Rattle.properties_format.specs.Printing.{in_key_or_value, literal, is_special, has_letter, letter_escape, spelt, spelt_text, encoded_text}
 use Rattle.properties_format.proofs.Printing.Characters.{AreAscii, encoded_text-append, encoded_text-ascii, encoded-ascii, special-ascii, letter_escape-ascii}
 use Rattle.properties_format.proofs.Encodings.Utf8Characters.{encode-two, encode-three, encode-four}
 use Rattle.java_properties.specs.Encoding.{output_of}
