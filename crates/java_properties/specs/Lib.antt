@@ -5,6 +5,8 @@ pub mod Printing
 pub mod PropertiesWriter
 pub mod Engine
 pub mod Calls
+pub mod ReadBack
+pub mod AsciiOnly
 pub mod Decoding
 pub mod ReadAhead
 pub mod DecodeIter

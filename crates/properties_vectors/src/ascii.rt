@@ -146,7 +146,10 @@ fn calls_turn_it_on_and_off(rt: HostRuntime) -> Result<(), Fail> {
     let accepted = run_calls(alloc, calls.as_slice(), &mut writer)?;
     assert_eq!(rt; accepted.as_slice(), [true; 4].as_slice());
     let sink = writer.into_inner();
-    assert_eq!(rt; sink.into_inner().as_slice(), b"# \\u00e9\n# \xe9\n".as_slice());
+    assert_eq!(rt;
+        sink.into_inner().as_slice(),
+        b"# \\u00e9\n# \xe9\n".as_slice()
+    );
     Ok(())
 }
 

@@ -4,9 +4,9 @@
 //! port of.
 #![tactic(auto)]
 
-pub mod calling;
 #[cfg(test)]
 mod ascii;
+pub mod calling;
 #[cfg(test)]
 mod reading;
 #[cfg(test)]

@@ -2,6 +2,8 @@
 
 ghost use Rattle.counted_io.specs.Streams.{IsSameSink};
 ghost use Rattle.java_properties.specs.Calls.{calls_in, call_in, SaysAccepted, MakesCall, RunsCalls, LeavesFailed};
+ghost use Rattle.java_properties.specs.ReadBack.{ReadsBack};
+ghost use Rattle.java_properties.specs.AsciiOnly.{WritesAscii};
 
 use crate::error::{ErrorKind, PropertiesError};
 use crate::writer::{LineEnding, PropertiesWriter};
@@ -32,6 +34,9 @@ pub enum Call {
 /// A bad prefix, a bad separator and an empty key under a separator of blanks are not accepted, change nothing, and
 /// the calls go on. Any other error ends them and is returned: the calls before it have been made.
 ///
+/// Where the first call is `AsciiOnly(true)` and none is `AsciiOnly(false)`, every byte that is written is ASCII, and
+/// what is written reads back the same in windows-1252 and in UTF-8.
+///
 /// ```text
 /// let calls = vec![in alloc; Call::Ending(LineEnding::CRLF), Call::Pair(key, value), Call::Flush]?;
 /// let accepted = run_calls(alloc, calls.as_slice(), &mut writer)?;
@@ -43,8 +48,11 @@ pub fn run_calls<W: CountedWrite>(
 ) -> Result<Vec<bool>, PropertiesError>
     ensures runs { RunsCalls W.CountedWrite writer.old (calls_in calls.now) result writer.new }
     ensures untouched { LeavesFailed writer.old writer.new }
+    ensures reads_back { ReadsBack W.CountedWrite writer.old (calls_in calls.now) result writer.new }
+    ensures ascii { WritesAscii W.CountedWrite writer.old (calls_in calls.now) result writer.new }
     ensures same_sink { IsSameSink W.CountedWrite writer.old.sink writer.new.sink }
 {
+    writer.is_good();
     let mut answers = Vec::with_capacity(alloc, calls.len())?;
     for call in calls {
         let accepted = run_call(call, writer)?;

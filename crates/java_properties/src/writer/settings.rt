@@ -5,7 +5,7 @@ ghost use Rattle.std.specs.Str.{chars};
 ghost use Rattle.properties_format.specs.Text.{line_ending_text};
 ghost use Rattle.properties_format.specs.Settings.{default_settings};
 ghost use Rattle.properties_format.specs.Reading.Settings.{is_blanks, is_good_prefix, is_good_separator};
-ghost use Rattle.properties_format.specs.Writing.{is_empty};
+ghost use Rattle.properties_format.specs.Writing.{is_empty, AreGoodSettings};
 ghost use Rattle.java_properties.specs.Settings.{ending_of, with_ending, with_ascii_only, TakesPrefix, TakesSeparator};
 
 use crate::characters::{is_blank, is_comment_sign, is_line_end, is_separator};
@@ -87,6 +87,13 @@ impl Settings {
             ascii_only: false,
             alloc,
         }
+    }
+
+    /// They are always good ones, which this tells a proof. It does nothing.
+    pub fn are_good(&self)
+        ensures { AreGoodSettings self.now }
+    {
+        let _ = &self.line_ending;
     }
 
     /// What stands before the text of a comment.
