@@ -7,6 +7,7 @@ pub mod Printing
 pub mod Settings
 pub mod Engine
 pub mod Calls
+pub mod ReadBack
 pub mod Texts
 pub mod Scanning
 mod InputBuffer

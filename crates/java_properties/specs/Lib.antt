@@ -5,6 +5,7 @@ pub mod Printing
 pub mod PropertiesWriter
 pub mod Engine
 pub mod Calls
+pub mod ReadBack
 pub mod Decoding
 pub mod ReadAhead
 pub mod DecodeIter

@@ -6,6 +6,7 @@ ghost use Rattle.counted_io.specs.Streams.{IsSameSink};
 ghost use Rattle.properties_format.specs.Encoding.{windows_1252, output_encoding};
 ghost use Rattle.properties_format.specs.Entries as entry;
 ghost use Rattle.java_properties.specs.Encoding.{encoding_of};
+ghost use Rattle.java_properties.specs.ReadBack.{IsGoodWriter};
 ghost use Rattle.java_properties.specs.PropertiesWriter.{new_writer, WritesLine, Flushes, SetsPrefix, SetsSeparator, SetsEnding};
 
 use crate::encoding::{Encoding, OutputEncoding};
@@ -141,6 +142,13 @@ impl<W: CountedWrite> PropertiesWriter<W> {
         ensures same_sink { IsSameSink W.CountedWrite self.old.sink self.new.sink }
     {
         self.flush()
+    }
+
+    // Every writer is good, which this tells a proof. It does nothing.
+    fn is_good(&self)
+        ensures { IsGoodWriter self.now }
+    {
+        self.engine.settings.are_good();
     }
 
     /// The sink, with what was written so far.

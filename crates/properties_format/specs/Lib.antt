@@ -17,8 +17,10 @@ pub mod ItemsToCome
 pub mod Settings
 pub mod Printing
 pub mod Writing
+pub mod Pairs
 pub mod Maps
 pub mod Body
 pub mod Edited
 pub mod Changed
+pub mod Laws
 pub mod Reading

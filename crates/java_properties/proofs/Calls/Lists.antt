@@ -1,6 +1,7 @@
 -- A list of calls, call by call.
-use Rattle.std.proofs.Common.{◌≡◌, ℕ, ◌+◌, ◌<◌, Bool, List, [], ◌∷◌, ◌++◌, refl, ap, sym, ◌∙◌, zero, suc, length, take, drop, get_or, add-one, arith}
+use Rattle.std.proofs.Common.{◌≡◌, ℕ, ◌+◌, ◌<◌, ◌≤◌, Bool, List, [], ◌∷◌, ◌++◌, refl, ap, sym, ◌∙◌, zero, suc, length, take, drop, get_or, add-one, arith}
 use Rattle.std.specs.Prelude.{map}
+use Rattle.std.proofs.lemmas.List.{take_all, length-map}
 use Rattle.counted_io.specs.Streams.{Sink}
 use Rattle.properties_format.specs.Writing.{Call, is_accepted, answers}
 use Rattle.properties_format.proofs.Writing.{answers-append}
@@ -35,3 +36,7 @@ pub calls-take : {X : Type 0} (f : X → Call) (xs : List X) (i : ℕ) (d : X) �
 calls-take f [] i d h = absurd (omega arith)
 calls-take f (x ∷ xs) zero d h = refl
 calls-take f (x ∷ xs) (suc i) d h = rw (add-one (suc i)) (ap (λ v. f x ∷ v) (rw (add-one i) at (calls-take f xs i d (omega arith))))
+
+-- and all of them
+pub calls-all : {X : Type 0} (f : X → Call) (xs : List X) (i : ℕ) → length xs ≤ i → take i (map f xs) ≡ map f xs
+calls-all f xs i h = take_all i (map f xs) (omega (arith, length-map xs f))

@@ -57,7 +57,7 @@ scalar-is c h = elim (cases_Bool (ltb c 0xd800)) [
       inr (leb-true 0xe000 c p.0, ltb-true c 0x11_0000 p.1)
 ]
 
-scalars-all : (cs : List ℕ) → all_scalars cs ≡ true → All scalar cs
+pub scalars-all : (cs : List ℕ) → all_scalars cs ≡ true → All scalar cs
 scalars-all [] h = All-nil scalar
 scalars-all (c ∷ cs) h =
     let p = and_parts (is_scalar c) (all_scalars cs) h in

@@ -2,6 +2,7 @@
 
 ghost use Rattle.counted_io.specs.Streams.{IsSameSink};
 ghost use Rattle.java_properties.specs.Calls.{calls_in, call_in, SaysAccepted, MakesCall, RunsCalls, LeavesFailed};
+ghost use Rattle.java_properties.specs.ReadBack.{ReadsBack};
 
 use crate::error::{ErrorKind, PropertiesError};
 use crate::writer::{LineEnding, PropertiesWriter};
@@ -9,7 +10,7 @@ use counted_io::CountedWrite;
 use std::alloc::Global;
 
 /// A call of a writer: a line, a setting or a flush.
-#[derive(Drop)]
+#[derive(Debug, Clone, PartialEq, Eq, Drop)]
 pub enum Call {
     /// Write a comment.
     Comment(String),
@@ -41,8 +42,10 @@ pub fn run_calls<W: CountedWrite>(
 ) -> Result<Vec<bool>, PropertiesError>
     ensures runs { RunsCalls W.CountedWrite writer.old (calls_in calls.now) result writer.new }
     ensures untouched { LeavesFailed writer.old writer.new }
+    ensures reads_back { ReadsBack W.CountedWrite writer.old (calls_in calls.now) result writer.new }
     ensures same_sink { IsSameSink W.CountedWrite writer.old.sink writer.new.sink }
 {
+    writer.is_good();
     let mut answers = Vec::with_capacity(alloc, calls.len())?;
     for call in calls {
         let accepted = run_call(call, writer)?;
@@ -87,3 +90,6 @@ fn was_accepted(done: Result<(), PropertiesError>) -> Result<bool, PropertiesErr
         },
     }
 }
+
+#[cfg(test)]
+mod tests;

@@ -5,7 +5,7 @@ ghost use Rattle.std.specs.Str.{chars};
 ghost use Rattle.properties_format.specs.Text.{line_ending_text};
 ghost use Rattle.properties_format.specs.Settings.{default_settings};
 ghost use Rattle.properties_format.specs.Reading.Settings.{is_blanks, is_good_prefix, is_good_separator};
-ghost use Rattle.properties_format.specs.Writing.{is_empty};
+ghost use Rattle.properties_format.specs.Writing.{is_empty, AreGoodSettings};
 ghost use Rattle.java_properties.specs.Settings.{ending_of, with_ending, TakesPrefix, TakesSeparator};
 
 use crate::characters::{is_blank, is_comment_sign, is_line_end, is_separator};
@@ -58,6 +58,8 @@ impl fmt::Display for LineEnding {
 pub(crate) struct Settings {
     comment_prefix: Option<String>,
     kv_separator: Option<String>,
+    // Whether the separator is blanks alone.
+    separator_is_blank: bool,
     line_ending: LineEnding,
     alloc: Global,
 }
@@ -82,9 +84,17 @@ impl Settings {
         Settings {
             comment_prefix: None,
             kv_separator: None,
+            separator_is_blank: false,
             line_ending: LineEnding::LF,
             alloc,
         }
+    }
+
+    /// They are always good ones, which this tells a proof. It does nothing.
+    pub fn are_good(&self)
+        ensures { AreGoodSettings self.now }
+    {
+        let _ = &self.line_ending;
     }
 
     /// What stands before the text of a comment.
@@ -139,6 +149,7 @@ impl Settings {
             return Err(PropertiesError::bad_kv_separator(copy));
         }
         self.kv_separator = Some(copy);
+        self.separator_is_blank = are_blanks(separator);
         Ok(())
     }
 
@@ -147,7 +158,7 @@ impl Settings {
     pub fn takes_key(&self, key: &str) -> bool
         ensures { result ≡ not (is_empty (chars key.now) && is_blanks self.now.kv_separator) }
     {
-        !key.is_empty() || !are_blanks(self.kv_separator())
+        !key.is_empty() || !self.separator_is_blank
     }
 
     /// Sets what ends a line.

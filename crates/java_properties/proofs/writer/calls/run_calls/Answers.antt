@@ -3,7 +3,9 @@ use Rattle.std.proofs.lemmas.Result.{err_from_is_err_and}
 use Rattle.java_properties.specs.Calls.{calls_in, call_in}
 use Rattle.java_properties.specs.PropertiesWriter.{Writing}
 use Rattle.java_properties.proofs.Calls.Made.{made-more}
-use Rattle.java_properties.proofs.Calls.Lists.{answers-more, stops, calls-cut, calls-take}
+use Rattle.java_properties.proofs.Calls.Lists.{answers-more, stops, calls-cut, calls-take, calls-all}
+use Rattle.java_properties.proofs.ReadBack.Scalars.{calls-scalars}
+use Rattle.java_properties.proofs.ReadBack.Written.{made-read_back}
 use Rattle.java_properties.proofs.writer.calls.run_calls.Goals as goal
 
 pub returns-in_err-accepted-clause-runs : goal.returns-in_err-accepted-clause-runs
@@ -14,6 +16,11 @@ returns-in_err-accepted-clause-runs g c =
     let cut = rw (← c.call-item.is) at (calls-cut call_in c.args.calls.now at c.call-item.result below) in
     let fails = rw c.in_err-accepted.was at c.run_call.ensures.makes in
     rw (error.1, error.2) (inr (stops (drop (at + 1) (calls_in c.args.calls.now)) cut c.loop-call.invariant.made fails))
+
+pub returns-clause-reads_back : goal.returns-clause-reads_back
+returns-clause-reads_back g c = λ clean.
+    let all = calls-all call_in c.args.calls.now c.loop-call.call-index c.loop-call-test.false in
+    made-read_back {new = c.loop-call.writer} c.is_good.ensures (calls-scalars c.args.calls.now) (rw all at c.loop-call.invariant.made) clean
 
 pub loop-call-preserved : goal.loop-call-preserved
 loop-call-preserved g c =

@@ -1,0 +1,8 @@
+use Rattle.std.proofs.Common.{subst}
+use Rattle.java_properties.specs.ReadBack.{IsGoodWriter}
+use Rattle.java_properties.specs.PropertiesWriter.{Writing}
+use Rattle.java_properties.proofs.ReadBack.Written.{output_of-own}
+use Rattle.java_properties.proofs.writer.PropertiesWriter.is_good.Goals as goal
+
+pub returns : goal.returns
+returns g c = subst (λ (w : Writing _). IsGoodWriter w) c.self.view_is (record { encoding = output_of-own _; settings = c.are_good.ensures })

@@ -1,0 +1,35 @@
+-- Laws of whole runs: what calls of a writer wrote is read back.
+use Rattle.std.specs.Prelude.{◌≡◌, ℕ, Bool, List, Result, Ok, Err}
+use Rattle.std.specs.Global.{Vec}
+use Rattle.counted_io.specs.Streams.{Sink, HasWritten}
+use Rattle.properties_format.specs.Encoding.{output_encoding}
+use Rattle.properties_format.specs.Entries.{Entry}
+use Rattle.properties_format.specs.Lines.{end}
+use Rattle.properties_format.specs.Items.{IsItems}
+use Rattle.properties_format.specs.Writing as format
+use Rattle.java_properties.specs.PropertiesWriter.{Writing}
+use Rattle.java_properties.specs.declared.error.PropertiesError.{PropertiesError}
+
+-- What is true of every writer: its encoding is one that is written, and its settings are good.
+pub record IsGoodWriter {W : Type 0} (w : Writing W) : Type 0 where
+  pub encoding : output_encoding w.encoding ≡ w.encoding
+  pub settings : format.AreGoodSettings w.settings
+
+-- What the calls write is clean: no line stands before it, and each prefix under which a comment is written holds no backslash.
+pub record IsCleanWriting {W : Type 0} (old : Writing W) (calls : List format.Call) : Type 0 where
+  pub first : old.lines ≡ 0
+  pub prefixes : format.ArePrefixesClean old.settings calls
+
+-- The sink took bytes that are read back, by themselves and in the writer's encoding, as one item for each line, under the
+-- line's number: each pair unchanged, each comment as its prefix's tail and its text without the blanks at the ends. They
+-- have no other items.
+pub record IsReadBack {W : Type 0} (sink : Sink W) (old : Writing W) (calls : List format.Call) (new : Writing W) : Type 0 where
+  pub bytes : List ℕ
+  pub written : HasWritten sink old.sink bytes new.sink
+  pub items : IsItems old.encoding bytes end (format.items_read_back old.settings 0 calls)
+  pub only : (others : List Entry) → IsItems old.encoding bytes end others → others ≡ format.items_read_back old.settings 0 calls
+
+-- Reading inverts writing: where all calls were made, and wrote cleanly, what they wrote is read back.
+abbrev pub ReadsBack : {W : Type 0} → Sink W → Writing W → List format.Call → Result (Vec Bool) PropertiesError → Writing W → Type 0
+ReadsBack sink old calls (Ok answers) new = IsCleanWriting old calls → IsReadBack sink old calls new
+ReadsBack sink old calls (Err error) new = Unit {0}
