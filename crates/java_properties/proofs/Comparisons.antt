@@ -22,7 +22,13 @@ use Rattle.java_properties.specs.contracts.line.LineContentHash.TheImpl as conte
 use Rattle.java_properties.specs.contracts.line.LineContentHash.TheImpl.Laws as content_hash_laws
 use Rattle.java_properties.specs.contracts.line.LineContentClone.TheImpl as content_clone
 use Rattle.java_properties.specs.contracts.line.LineClone.TheImpl as line_clone
+use Rattle.java_properties.specs.declared.writer.calls.Call.{Call}
+use Rattle.java_properties.specs.declared.writer.calls.Call.TheVariants as call
 use Rattle.java_properties.specs.contracts.writer.settings.LineEndingOrd.TheImpl as ending_cmp
+use Rattle.java_properties.specs.contracts.writer.settings.LineEndingPartialEq.TheImpl as ending_eq
+use Rattle.java_properties.specs.contracts.writer.calls.CallPartialEq.TheImpl as call_eq
+use Rattle.java_properties.specs.contracts.writer.calls.CallClone.TheImpl as call_clone
+use Rattle.java_properties.specs.Calls.{IsSameCall}
 use Rattle.java_properties.specs.Line.{number_of, content_of, IsSameContent, IsSameLine, content_order, line_order}
 
 -- ---- which comes first
@@ -107,3 +113,45 @@ content-clone (KVPair k v) (KVPair l w) e = (refl, cc)
 
 pub line-clone : (x y : Line) → (line_clone.ghosts).is_clone x y → IsSameLine x y
 line-clone x y e = (cc, content-clone (content_of x) (content_of y) e.1)
+
+-- ---- calls
+
+-- `==` of two line endings
+pub ending-eq : (x y : LineEnding) → IsTrue ((ending_eq.ghosts).eq x y) ↔ (x ≡ y)
+ending-eq CR CR = ((λ e. refl), (λ h. refl))
+ending-eq CR other = ((λ e. absurd (cc)), (λ h. absurd (cc)))
+ending-eq LF LF = ((λ e. refl), (λ h. refl))
+ending-eq LF other = ((λ e. absurd (cc)), (λ h. absurd (cc)))
+ending-eq CRLF CRLF = ((λ e. refl), (λ h. refl))
+ending-eq CRLF other = ((λ e. absurd (cc)), (λ h. absurd (cc)))
+
+-- `==` of two calls
+pub call-eq : (x y : Call) → IsTrue ((call_eq.ghosts).eq x y) ↔ IsSameCall x y
+call-eq (call.Comment x) (call.Comment y) = bytes_decides (string_bytes x) (string_bytes y)
+call-eq (call.Comment x) other = ((λ e. absurd (cc)), (λ h. absurd h))
+call-eq (call.Pair k v) (call.Pair l w) =
+    both-tests _ _ (bytes_decides (string_bytes k) (string_bytes l)) (bytes_decides (string_bytes v) (string_bytes w))
+call-eq (call.Pair k v) other = ((λ e. absurd (cc)), (λ h. absurd h))
+call-eq (call.Prefix x) (call.Prefix y) = bytes_decides (string_bytes x) (string_bytes y)
+call-eq (call.Prefix x) other = ((λ e. absurd (cc)), (λ h. absurd h))
+call-eq (call.Separator x) (call.Separator y) = bytes_decides (string_bytes x) (string_bytes y)
+call-eq (call.Separator x) other = ((λ e. absurd (cc)), (λ h. absurd h))
+call-eq (call.Ending x) (call.Ending y) = ending-eq x y
+call-eq (call.Ending x) other = ((λ e. absurd (cc)), (λ h. absurd h))
+call-eq call.Flush call.Flush = ((λ e. tt), (λ h. refl))
+call-eq call.Flush other = ((λ e. absurd (cc)), (λ h. absurd h))
+
+-- a clone of a call
+pub call-clone : (x y : Call) → (call_clone.ghosts).is_clone x y → IsSameCall x y
+call-clone (call.Comment x) (call.Comment y) e = cc
+call-clone (call.Comment x) other e = absurd e
+call-clone (call.Pair k v) (call.Pair l w) e = (cc, cc)
+call-clone (call.Pair k v) other e = absurd e
+call-clone (call.Prefix x) (call.Prefix y) e = cc
+call-clone (call.Prefix x) other e = absurd e
+call-clone (call.Separator x) (call.Separator y) e = cc
+call-clone (call.Separator x) other e = absurd e
+call-clone (call.Ending x) (call.Ending y) e = cc
+call-clone (call.Ending x) other e = absurd e
+call-clone call.Flush call.Flush e = tt
+call-clone call.Flush other e = absurd e

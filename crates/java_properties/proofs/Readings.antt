@@ -13,6 +13,7 @@ use Rattle.properties_format.specs.Reading.ItemsToCome.{items_to_come}
 use Rattle.properties_format.proofs.Items.Unique.{items_of-meets, items_of-only}
 use Rattle.properties_format.proofs.Items.Numbers.{items_of-ascend}
 use Rattle.properties_format.proofs.Cut.Byline.{byline-is_lines, lines-is_byline}
+use Rattle.properties_format.proofs.Laws.{one-reading}
 use Rattle.properties_format.proofs.ItemsToCome.Unique.{items_to_come-start}
 use Rattle.java_properties.specs.Errors.{IsBareError}
 use Rattle.java_properties.specs.LineFinder.{PassesSome}
@@ -32,6 +33,7 @@ reading-of e bytes ending entries h =
       items = items_of-meets e bytes ending;
       only = items_of-only e bytes ending;
       ascend = items_of-ascend e bytes ending;
+      one = one-reading e bytes ending;
       splitting = λ text lines d. (λ k. byline-is_lines e bytes text lines k d, λ k. lines-is_byline e bytes text lines k d);
     })
 

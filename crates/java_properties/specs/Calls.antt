@@ -27,6 +27,16 @@ call_in (AsciiOnly on) = format.ascii_only_call on
 abbrev pub calls_in : List Call → List format.Call
 calls_in calls = map call_in calls
 
+-- both are the same call, with the same texts
+abbrev pub IsSameCall : Call → Call → Type 0
+IsSameCall (Comment x) (Comment y) = string_bytes x ≡ string_bytes y
+IsSameCall (Pair k v) (Pair l w) = (string_bytes k ≡ string_bytes l) × (string_bytes v ≡ string_bytes w)
+IsSameCall (Prefix x) (Prefix y) = string_bytes x ≡ string_bytes y
+IsSameCall (Separator x) (Separator y) = string_bytes x ≡ string_bytes y
+IsSameCall (Ending x) (Ending y) = x ≡ y
+IsSameCall Flush Flush = Unit {0}
+IsSameCall call other = ⊥
+
 -- ---- calls that were made
 
 -- the writer after the calls, if none of them failed, with this sink

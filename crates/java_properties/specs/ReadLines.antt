@@ -9,6 +9,7 @@ use Rattle.properties_format.specs.Cut.{IsByline}
 use Rattle.properties_format.specs.Escapes.{Malformed}
 use Rattle.properties_format.specs.Entries.{Entry, malformed, read_fault, NumbersAscend}
 use Rattle.properties_format.specs.Items.{IsItems}
+use Rattle.properties_format.specs.Laws.{HasOneReading}
 use Rattle.java_properties.specs.Errors.{IsBareError, IsMalformed, IsStreamError}
 use Rattle.properties_format.specs.ItemsToCome.{start}
 use Rattle.java_properties.specs.LineFinder.{PassesAll}
@@ -21,11 +22,12 @@ use Rattle.java_properties.specs.declared.line.Line.{Line}
 abbrev pub entries_in : List Line → List Entry
 entries_in lines = map entry_of lines
 
--- The bytes have these items and no others, whose numbers ascend; and the lines of the bytes, each decoded by itself, are those of the decoded text.
+-- The bytes have these items and no others, whose numbers ascend; each step of their reading exists and is unique; and the lines of the bytes, each decoded by itself, are those of the decoded text.
 pub record IsReading (e : Encoding) (bytes : List ℕ) (ending : InputEnd) (entries : List Entry) : Type 0 where
   pub items : IsItems e bytes ending entries
   pub only : (others : List Entry) → IsItems e bytes ending others → others ≡ entries
   pub ascend : NumbersAscend 0 entries
+  pub one : HasOneReading e bytes ending
   pub splitting : (text : List ℕ) (lines : Lines) → IsDecoded e bytes text → (IsByline e bytes lines → IsLines text lines) × (IsLines text lines → IsByline e bytes lines)
 
 -- The items of the bytes begin with these, whatever comes after them; or the reader is at its end, and the items of the

@@ -5,7 +5,7 @@ use Rattle.std.specs.String.{string_bytes}
 use Rattle.std.specs.declared.string.String.{String}
 use Rattle.properties_format.specs.Text as text
 use Rattle.properties_format.specs.Settings.{Settings, default_settings, IsGoodPrefix, IsGoodSeparator}
-use Rattle.properties_format.specs.Reading.Settings.{is_good_prefix, is_good_separator}
+use Rattle.properties_format.specs.Reading.Settings.{is_blanks, is_good_prefix, is_good_separator}
 use Rattle.java_properties.specs.Errors.{Refuses, RefusesText}
 use Rattle.java_properties.specs.declared.error.ErrorKind.{ErrorKind}
 use Rattle.java_properties.specs.declared.error.ErrorKind.TheVariants as kind
@@ -32,10 +32,11 @@ separator_of (Some text) = chars (string_bytes text)
 abbrev pub settings_of : Inside → Settings
 settings_of s = record { comment_prefix = prefix_of s.comment_prefix; kv_separator = separator_of s.kv_separator; line_ending = ending_of s.line_ending; ascii_only = s.ascii_only }
 
--- The prefix and the separator are always good.
+-- The prefix and the separator are always good, and it is known whether the separator is blanks alone.
 pub record AreGood (s : Inside) : Type 0 where
   pub prefix : is_good_prefix (prefix_of s.comment_prefix) ≡ true
   pub separator : is_good_separator (separator_of s.kv_separator) ≡ true
+  pub blank : s.separator_is_blank ≡ is_blanks (separator_of s.kv_separator)
 
 -- ---- setters
 

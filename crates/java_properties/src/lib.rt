@@ -21,6 +21,7 @@ mod error;
 mod escape;
 mod input;
 mod iter;
+pub mod laws;
 mod line;
 mod lines;
 mod maps;

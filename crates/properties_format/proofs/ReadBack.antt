@@ -7,3 +7,4 @@ pub mod Lines
 pub mod Bytes
 pub mod Unmarked
 pub mod Law
+pub mod Lists

@@ -18,8 +18,10 @@ pub mod Settings
 pub mod Printing
 pub mod Writing
 pub mod AsciiOnly
+pub mod Pairs
 pub mod Maps
 pub mod Body
 pub mod Edited
 pub mod Changed
+pub mod Laws
 pub mod Reading

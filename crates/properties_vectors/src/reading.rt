@@ -7,4 +7,4 @@ mod escapes;
 mod faults;
 mod lines;
 mod printed;
-mod support;
+pub mod support;

@@ -7,6 +7,7 @@ use Rattle.properties_format.specs.ItemsToCome.{ReaderState, start}
 use Rattle.properties_format.specs.Entries.{Content, comment, pair, Entry, item, malformed, read_fault}
 use Rattle.properties_format.specs.Items.{IsItems}
 use Rattle.properties_format.specs.Lines.{end}
+use Rattle.properties_format.specs.Pairs.{pairs_in, ArePairsOfScalars}
 use Rattle.properties_format.specs.Reading.ItemsToCome.{items_to_come}
 use Rattle.properties_format.proofs.Items.Unique.{items_of-meets}
 use Rattle.java_properties.specs.Line.{number_of, content_of}
@@ -16,6 +17,9 @@ use Rattle.java_properties.specs.PropertiesWriter.{Writing, new_writer, Flushes,
 use Rattle.java_properties.specs.ReadLines.{BeginsItems}
 use Rattle.java_properties.specs.declared.error.PropertiesError.{PropertiesError}
 use Rattle.java_properties.specs.declared.line.Line.{Line}
+use Rattle.java_properties.specs.declared.line.LineContent.{LineContent}
+use Rattle.java_properties.specs.declared.line.LineContent.TheVariants.{Comment, KVPair}
+use Rattle.java_properties.proofs.ReadBack.Scalars.{string-scalars}
 use Rattle.java_properties.proofs.Readings.{Comes, Collected, collected-start, collected-next, collected-none, collected-malformed, collected-error}
 use Rattle.propfilter.specs.Filter.{AreItems, WritesIfPair, HasFiltered, StopsInReading, StopsInWriting, StopsInFlush, Filters}
 use Rattle.propfilter.proofs.Pairs.{HasWrittenPairs, pairs-none, pairs-comment, pairs-more, pairs-live, pairs-fail, pairs-refused, pairs-flushed, pairs-flush, pairs-flush-failed}
@@ -27,10 +31,20 @@ AreItems-more (item n c ∷ xs) number content h = AreItems-more xs number conte
 AreItems-more (malformed kind n ∷ xs) number content h = absurd h
 AreItems-more (read_fault n ∷ xs) number content h = absurd h
 
+-- the texts of an item are of scalar values, as all texts of a program are
+scalars-more : (xs : List Entry) (number : ℕ) (content : LineContent) → ArePairsOfScalars (pairs_in xs) → ArePairsOfScalars (pairs_in (xs ++ (item number (said content) ∷ [])))
+scalars-more [] number (Comment text) h = tt
+scalars-more [] number (KVPair key value) h = ((string-scalars key, string-scalars value), tt)
+scalars-more (item n (comment text) ∷ xs) number content h = scalars-more xs number content h
+scalars-more (item n (pair key value) ∷ xs) number content h = (h.0, scalars-more xs number content h.1)
+scalars-more (malformed kind n ∷ xs) number content h = scalars-more xs number content h
+scalars-more (read_fault n ∷ xs) number content h = scalars-more xs number content h
+
 -- The items that came were all that the reader gave so far, and their pairs were written.
 pub record HasPassed {R W : Type 0} (reader : Reader R) (sink : Sink W) (e : Encoding) (input : R) (output : W) (it : Reading R) (w : Writing W) : Type 0 where
   pub items : List Entry
   pub whole : AreItems items
+  pub scalars : ArePairsOfScalars (pairs_in items)
   pub bytes : List ℕ
   pub collected : Collected reader e input bytes items it.state it.reader
   pub pairs : HasWrittenPairs sink e output items w
@@ -41,6 +55,7 @@ pub passed-none : {R W : Type 0} (reader : Reader R) (sink : Sink W) (e : Encodi
 passed-none reader sink e it w fresh new = record {
   items = [];
   whole = tt;
+  scalars = tt;
   bytes = [];
   collected = subst (λ s. Collected reader e it.reader [] [] s it.reader) (sym fresh) (collected-start e it.reader);
   pairs = subst (λ v. HasWrittenPairs sink e w.sink [] v) (sym new) (pairs-none sink e w.sink);
@@ -61,6 +76,7 @@ module _ {R W : Type 0} {reader : Reader R} {sink : Sink W} {e : Encoding} {inpu
   passed-more new line h n k = record {
     items = h.items ++ (entry_of line ∷ []);
     whole = AreItems-more h.items (number_of line) (said (content_of line)) h.whole;
+    scalars = scalars-more h.items (number_of line) (content_of line) h.scalars;
     bytes = h.bytes ++ n.bytes;
     collected = collected-next line h.collected n;
     pairs = written (said (content_of line)) k;
@@ -111,7 +127,7 @@ module _ {R W : Type 0} {reader : Reader R} {sink : Sink W} {e : Encoding} {inpu
       → HasFlushedSink sink w new → HasFiltered reader sink e input output next.reader new.sink
   filtered h n f =
       let k = pairs-flushed h.pairs f in
-      record { items = h.items; whole = h.whole; reads = collected-none h.collected n; written = k.0; flushed = k.1 }
+      record { items = h.items; whole = h.whole; scalars = h.scalars; reads = collected-none h.collected n; written = k.0; flushed = k.1 }
 
   -- or the flush failed
   stops-flush : {error : PropertiesError} (new : Writing W) → HasPassed reader sink e input output it w

@@ -94,7 +94,7 @@ module _ {R W : Type 0} (reader : Reader R) (sink : Sink W) (e : Encoding) (inpu
   pub filters-lent : (result : Result Unit PropertiesError) → Filters (lent_reader reader) (lent_sink sink) e input output result input' output'
       → Filters reader sink e input.now output.now result input'.now output'.now
   filters-lent (Ok done) h =
-      record { items = h.items; whole = h.whole; reads = whole-lent h.reads; written = written-lent h.written; flushed = h.flushed }
+      record { items = h.items; whole = h.whole; scalars = h.scalars; reads = whole-lent h.reads; written = written-lent h.written; flushed = h.flushed }
   filters-lent (Err error) (inl h) = inl (record {
     items = h.items;
     whole = h.whole;

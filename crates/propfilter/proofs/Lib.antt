@@ -2,3 +2,4 @@ pub mod Pairs
 pub mod Filtering
 pub mod Lent
 pub mod Errors
+pub mod Settled

@@ -6,7 +6,10 @@ use Rattle.properties_format.specs.Encoding.{Encoding, output_encoding}
 use Rattle.properties_format.specs.Entries.{Content, comment, pair, Entry, item, malformed, read_fault}
 use Rattle.properties_format.specs.Printing.{printed}
 use Rattle.properties_format.specs.Settings.{default_settings}
-use Rattle.properties_format.specs.Writing.{Call, pair_call, wrote}
+use Rattle.properties_format.specs.Lines.{end}
+use Rattle.properties_format.specs.Items.{IsItems}
+use Rattle.properties_format.specs.Writing.{Call, wrote}
+use Rattle.properties_format.specs.Pairs.{pairs_in, calls_of, items_after, ArePairsOfScalars}
 use Rattle.java_properties.specs.Errors.{cause_of_write, IsError, IsBareError, IsStreamError}
 use Rattle.java_properties.specs.PropertiesWriter.{Writing, WritesLine}
 use Rattle.java_properties.specs.ReadLines.{BeginsItems, ReadsWhole, StopsMalformed, StopsFailed, StopsEarly}
@@ -17,11 +20,7 @@ use Rattle.java_properties.specs.declared.error.PropertiesError.{PropertiesError
 
 -- the calls that write the pairs among some entries
 abbrev pub pair_calls : List Entry → List Call
-pair_calls [] = []
-pair_calls (item number (comment text) ∷ entries) = pair_calls entries
-pair_calls (item number (pair key value) ∷ entries) = pair_call key value ∷ pair_calls entries
-pair_calls (malformed kind number ∷ entries) = pair_calls entries
-pair_calls (read_fault number ∷ entries) = pair_calls entries
+pair_calls entries = calls_of (pairs_in entries)
 
 -- how many pairs are among them
 abbrev pub pair_count : List Entry → ℕ
@@ -79,10 +78,11 @@ pub record RefusesPair {W : Type 0} (sink : Sink W) (e : Encoding) (old : W) (it
 
 -- ---- how it ends
 
--- The input was read to its end, its pairs were written, and the sink was flushed.
+-- The input was read to its end, its pairs were written, and the sink was flushed. Their texts are of scalar values.
 pub record HasFiltered {R W : Type 0} (reader : Reader R) (sink : Sink W) (e : Encoding) (input : R) (output : W) (input' : R) (output' : W) : Type 0 where
   pub items : List Entry
   pub whole : AreItems items
+  pub scalars : ArePairsOfScalars (pairs_in items)
   pub reads : ReadsWhole reader e input items input'
   pub written : HasWritten sink output (pair_lines e items) output'
   pub flushed : sink.is_flushed output' ≡ true
@@ -119,3 +119,21 @@ Filters reader sink e input output (Ok done) input' output' = HasFiltered reader
 Filters reader sink e input output (Err error) input' output' =
     StopsInReading reader sink e input output error input' output'
     ⊎ (StopsInWriting reader sink e input output error input' output' ⊎ StopsInFlush reader sink e input output error input' output')
+
+-- ---- filtering twice
+
+-- The sink took bytes that are read, by themselves and in the output encoding, as the pairs of the input, one a line and
+-- under its number, and as nothing else. The lines of these pairs, which filtering the bytes writes, are the same bytes.
+pub record HasSettled {R W : Type 0} (reader : Reader R) (sink : Sink W) (e : Encoding) (input : R) (output : W) (input' : R) (output' : W) : Type 0 where
+  pub items : List Entry
+  pub reads : ReadsWhole reader e input items input'
+  pub bytes : List ℕ
+  pub written : HasWritten sink output bytes output'
+  pub back : IsItems (output_encoding e) bytes end (items_after 0 (pairs_in items))
+  pub only : (others : List Entry) → IsItems (output_encoding e) bytes end others → others ≡ items_after 0 (pairs_in items)
+  pub same : pair_lines (output_encoding e) (items_after 0 (pairs_in items)) ≡ bytes
+
+-- What filtering says of filtering its output anew.
+abbrev pub Settles : {R W : Type 0} → Reader R → Sink W → Encoding → R → W → Result Unit PropertiesError → R → W → Type 0
+Settles reader sink e input output (Ok done) input' output' = HasSettled reader sink e input output input' output'
+Settles reader sink e input output (Err error) input' output' = Unit {0}

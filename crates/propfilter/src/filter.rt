@@ -7,7 +7,7 @@ ghost use Rattle.properties_format.specs.ItemsToCome.{start};
 ghost use Rattle.java_properties.specs.Encoding.{encoding_of};
 ghost use Rattle.java_properties.specs.PropertiesIter.{said};
 ghost use Rattle.java_properties.specs.PropertiesWriter.{new_writer};
-ghost use Rattle.propfilter.specs.Filter.{Filters, WritesIfPair};
+ghost use Rattle.propfilter.specs.Filter.{Filters, Settles, WritesIfPair};
 
 use counted_io::{CountedRead, CountedWrite};
 use java_properties::{Encoding, LineContent, PropertiesError, PropertiesIter, PropertiesWriter};
@@ -18,6 +18,8 @@ use std::alloc::Global;
 ///
 /// A byte order mark changes how the input is read, and never how the pairs are written. At a reader's error the pairs
 /// before it have been written, and the sink is flushed once.
+///
+/// To filter, in the output encoding, what was written changes no byte of it.
 ///
 /// ```text
 /// let mut input: &[u8] = b"# a comment\nb = 2\na";
@@ -31,8 +33,10 @@ pub fn filter<R: CountedRead, W: CountedWrite>(
     writer: &mut W,
     encoding: Encoding,
 ) -> Result<(), PropertiesError>
-    ensures { let e = encoding_of encoding in
+    ensures filters { let e = encoding_of encoding in
         Filters R.CountedRead W.CountedWrite e input.old writer.old result input.new writer.new }
+    ensures settles { let e = encoding_of encoding in
+        Settles R.CountedRead W.CountedWrite e input.old writer.old result input.new writer.new }
 {
     let mut items = PropertiesIter::new_with_encoding(alloc, input, encoding)?;
     let mut lines = PropertiesWriter::new_with_encoding(alloc, writer, encoding)?;

@@ -1,17 +1,16 @@
 -- Texts of a program are of scalar values.
 use Rattle.std.proofs.Common.{List, [], ◌∷◌}
-use Rattle.std.specs.Prelude.{All, Option, Some, None, string_bytes}
-use Rattle.std.specs.Prelude.{String}
+use Rattle.std.specs.Prelude.{All, Option, Some, None, String, string_bytes}
 use Rattle.std.specs.Str.{chars}
 use Rattle.std.proofs.lemmas.Str.{scalars-chars, IsUtf8-string_bytes}
 use Rattle.properties_format.specs.Text.{scalar}
-use Rattle.properties_format.specs.Writing.{AreOfScalars, AreGoodSettings}
+use Rattle.properties_format.specs.Writing.{IsOfScalars, AreOfScalars, AreGoodSettings}
 use Rattle.properties_format.proofs.ReadBack.Law.{default_settings-good}
 use Rattle.properties_format.proofs.Settings.Tests.{IsGoodPrefix-from_test, IsGoodSeparator-from_test}
 use Rattle.java_properties.specs.Settings.{prefix_of, settings_of, AreGood}
-use Rattle.java_properties.specs.Calls.{calls_in}
+use Rattle.java_properties.specs.Calls.{call_in, calls_in}
 use Rattle.java_properties.specs.declared.writer.calls.Call.{Call}
-use Rattle.java_properties.specs.declared.writer.calls.Call.TheVariants.{Comment, Pair, Prefix, Separator, Ending, Flush, AsciiOnly}
+use Rattle.java_properties.specs.declared.writer.calls.Call.TheVariants.{Comment, Pair, Prefix, Separator}
 use Rattle.java_properties.specs.declared.writer.settings.Settings.TheInside.{Inside}
 use Rattle.java_properties.proofs.Printing.Keys.{scalars-all}
 
@@ -19,16 +18,18 @@ use Rattle.java_properties.proofs.Printing.Keys.{scalars-all}
 pub string-scalars : {Z : Type 0} (s : String Z) → All scalar (chars (string_bytes s))
 string-scalars s = let bs = string_bytes s in scalars-all (chars bs) (scalars-chars bs (IsUtf8-string_bytes s))
 
--- so are those of calls
+-- so are those of a call
+call-scalars : (call : Call) → IsOfScalars (call_in call)
+call-scalars (Comment text) = string-scalars text
+call-scalars (Pair key value) = (string-scalars key, string-scalars value)
+call-scalars (Prefix prefix) = string-scalars prefix
+call-scalars (Separator separator) = string-scalars separator
+call-scalars other = tt
+
+-- and of a list of calls
 pub calls-scalars : (calls : List Call) → AreOfScalars (calls_in calls)
 calls-scalars [] = tt
-calls-scalars (Comment text ∷ calls) = (string-scalars text, calls-scalars calls)
-calls-scalars (Pair key value ∷ calls) = ((string-scalars key, string-scalars value), calls-scalars calls)
-calls-scalars (Prefix prefix ∷ calls) = (string-scalars prefix, calls-scalars calls)
-calls-scalars (Separator separator ∷ calls) = (string-scalars separator, calls-scalars calls)
-calls-scalars (Ending line_ending ∷ calls) = (tt, calls-scalars calls)
-calls-scalars (Flush ∷ calls) = (tt, calls-scalars calls)
-calls-scalars (AsciiOnly on ∷ calls) = (tt, calls-scalars calls)
+calls-scalars (call ∷ calls) = (call-scalars call, calls-scalars calls)
 
 -- and those of a prefix that was set
 prefix-scalars : {Z : Type 0} (prefix : Option (String Z)) → All scalar (prefix_of prefix)

@@ -11,7 +11,7 @@ use counted_io::CountedWrite;
 use std::alloc::Global;
 
 /// A call of a writer: a line, a setting or a flush.
-#[derive(Drop)]
+#[derive(Debug, Clone, PartialEq, Eq, Drop)]
 pub enum Call {
     /// Write a comment.
     Comment(String),
@@ -101,3 +101,6 @@ fn was_accepted(done: Result<(), PropertiesError>) -> Result<bool, PropertiesErr
         },
     }
 }
+
+#[cfg(test)]
+mod tests;

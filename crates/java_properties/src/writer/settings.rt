@@ -58,6 +58,8 @@ impl fmt::Display for LineEnding {
 pub(crate) struct Settings {
     comment_prefix: Option<String>,
     kv_separator: Option<String>,
+    // Whether the separator is blanks alone.
+    separator_is_blank: bool,
     line_ending: LineEnding,
     ascii_only: bool,
     alloc: Global,
@@ -83,6 +85,7 @@ impl Settings {
         Settings {
             comment_prefix: None,
             kv_separator: None,
+            separator_is_blank: false,
             line_ending: LineEnding::LF,
             ascii_only: false,
             alloc,
@@ -148,6 +151,7 @@ impl Settings {
             return Err(PropertiesError::bad_kv_separator(copy));
         }
         self.kv_separator = Some(copy);
+        self.separator_is_blank = are_blanks(separator);
         Ok(())
     }
 
@@ -156,7 +160,7 @@ impl Settings {
     pub fn takes_key(&self, key: &str) -> bool
         ensures { result ≡ not (is_empty (chars key.now) && is_blanks self.now.kv_separator) }
     {
-        !key.is_empty() || !are_blanks(self.kv_separator())
+        !key.is_empty() || !self.separator_is_blank
     }
 
     /// Sets what ends a line.

@@ -35,6 +35,16 @@ fn prints_the_pairs(rt: HostRuntime) {
 }
 
 #[test]
+fn filters_its_output_to_the_same_bytes(rt: HostRuntime) {
+    let wanted = b"a=b\\ c\\ \n".as_slice();
+    let (_, output, _) = filtered(rt.alloc(), &[], b" a : b c \n".as_slice());
+    assert_eq!(rt; output.as_slice(), wanted);
+    let (status, output, _) = filtered(rt.alloc(), &[], output.as_slice());
+    assert_eq!(rt; status, 0);
+    assert_eq!(rt; output.as_slice(), wanted);
+}
+
+#[test]
 fn refuses_other_arguments(rt: HostRuntime) -> Result<(), Fail> {
     let arguments = vec![in rt.alloc(); String::from_str(rt.alloc(), "x")?]?;
     let (status, output, errors) = filtered(rt.alloc(), arguments.as_slice(), b"a=1".as_slice());

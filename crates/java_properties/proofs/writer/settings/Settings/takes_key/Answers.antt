@@ -1,5 +1,6 @@
 use Rattle.std.proofs.Common.{◌≡◌, not, true, false, ap, sym, ◌∙◌}
 use Rattle.std.specs.Str.{chars}
+use Rattle.properties_format.specs.Settings.{Settings}
 use Rattle.properties_format.specs.Writing.{is_empty}
 use Rattle.properties_format.specs.Reading.Settings.{is_blanks}
 use Rattle.java_properties.proofs.Settings.Tests.{is_empty-chars}
@@ -13,4 +14,4 @@ returns-then-not-is_empty c =
 pub returns-else-not-is_empty : goal.returns-else-not-is_empty
 returns-else-not-is_empty c =
     let none : is_empty (chars c.args.key.now) ≡ true = is_empty-chars c.args.key.now c.utf8.key ∙ sym c.is_empty.ensures ∙ c.if-not-is_empty.false in
-    rw none (ap not (c.are_blanks.ensures ∙ ap is_blanks c.kv_separator.ensures.value))
+    rw none (ap not (c.self.invariant.blank ∙ ap (λ (s : Settings). is_blanks s.kv_separator) c.self.view_is))

@@ -1,0 +1,175 @@
+-- The three laws.
+use Rattle.std.proofs.Common.{◌≡◌, ℕ, ◌+◌, ◌<◌, ◌==◌, true, List, [], ◌∷◌, ◌++◌, refl, ap, sym, ◌∙◌, inl, inr, ap₂, subst, eqb-true, lit<}
+use Rattle.std.specs.Prelude.{Some}
+use Rattle.std.proofs.lemmas.Bool.{or_cases}
+use Rattle.properties_format.specs.Text.{is_line_end, line_feed, carriage_return}
+use Rattle.properties_format.specs.Pieces.{piece}
+use Rattle.properties_format.specs.Encoding.{Encoding, byte_order_mark, ascii_bytes, IsPieces, IsDecoded}
+use Rattle.properties_format.specs.Reading.Encoding.{pieces_of, decoded_of}
+use Rattle.properties_format.specs.Lines.{InputEnd, end, Line, IsLines, numbered_lines}
+use Rattle.properties_format.specs.Reading.Lines.{lines_of}
+use Rattle.properties_format.specs.Groups.{IsGroups, joined}
+use Rattle.properties_format.specs.Reading.Groups.{groups_of}
+use Rattle.properties_format.specs.Split.{IsSplit}
+use Rattle.properties_format.specs.Reading.Split.{split_of}
+use Rattle.properties_format.specs.Escapes.{IsMeaning}
+use Rattle.properties_format.specs.Reading.Escapes.{meaning_of}
+use Rattle.properties_format.specs.Entries.{comment, pair, Entry, item, malformed, read_fault}
+use Rattle.properties_format.specs.Items.{IsItems}
+use Rattle.properties_format.specs.Reading.Items.{items_of}
+use Rattle.properties_format.specs.Maps.{HasNoPair, IsLastValue, IsValue}
+use Rattle.properties_format.specs.Reading.Maps.{value_in}
+use Rattle.properties_format.specs.Settings.{Settings}
+use Rattle.properties_format.specs.Writing.{Call, wrote}
+use Rattle.properties_format.specs.Pairs.{Pair, pairs_in, calls_of, items_after}
+use Rattle.properties_format.specs.Laws.{HasOne, HasOneReading, ReadingInvertsWriting, EqualBytesOfEqualPairs, WritingAnewChangesNothing, HasPair, HasNoKey, AreDistinct, MapIsReadBack, SplittingCommutes, LineEndsPartPieces}
+use Rattle.properties_format.proofs.Encodings.Pieces.{pieces_of-meets, pieces_of-only, decoded_of-meets, decoded_of-only}
+use Rattle.properties_format.proofs.Encodings.Cuts.{pieces_of-cut_ascii}
+use Rattle.properties_format.proofs.Lines.Meets.{lines_of-meets}
+use Rattle.properties_format.proofs.Lines.Only.{lines_of-only}
+use Rattle.properties_format.proofs.Cut.Byline.{byline-is_lines, lines-is_byline}
+use Rattle.properties_format.proofs.Groups.Meets.{groups_of-meets}
+use Rattle.properties_format.proofs.Groups.Only.{groups_of-only}
+use Rattle.properties_format.proofs.Split.Unique.{split_of-meets, split_of-only}
+use Rattle.properties_format.proofs.Escapes.Unique.{meaning_of-meets, meaning_of-only}
+use Rattle.properties_format.proofs.Items.Unique.{items_of-meets, items_of-only}
+use Rattle.properties_format.proofs.Maps.{value_in-only, map-only}
+use Rattle.properties_format.proofs.ReadBack.Law.{items_of-wrote, IsItems-wrote}
+use Rattle.properties_format.proofs.ReadBack.Lists.{items_of-pairs, pairs_in-items, pairs-equal, pairs-settle}
+
+-- ---- One reading.
+
+one : {A : Type 0} {Meets : A → Type 0} (value : A) → Meets value → ((other : A) → Meets other → other ≡ value) → HasOne Meets
+one value meets only = record { value = value; meets = meets; only = only }
+
+pub one-pieces : (e : Encoding) (d : List ℕ) → HasOne (IsPieces e d)
+one-pieces e d = one (pieces_of e d) (pieces_of-meets e d) (pieces_of-only e d)
+
+pub one-text : (e : Encoding) (bytes : List ℕ) → HasOne (IsDecoded e bytes)
+one-text e bytes = one (decoded_of e bytes) (decoded_of-meets e bytes) (decoded_of-only e bytes)
+
+pub one-lines : (x : List ℕ) → HasOne (IsLines x)
+one-lines x = one (lines_of x) (lines_of-meets x) (lines_of-only x)
+
+pub one-groups : (lines : List Line) (ending : InputEnd) → HasOne (IsGroups lines ending)
+one-groups lines ending = one (groups_of lines ending) (groups_of-meets lines ending) (groups_of-only lines ending)
+
+pub one-split : (line : List ℕ) → HasOne (IsSplit line)
+one-split line = one (split_of line) (split_of-meets line) (split_of-only line)
+
+pub one-meaning : (text : List ℕ) → HasOne (IsMeaning text)
+one-meaning text = one (meaning_of text) (meaning_of-meets text) (meaning_of-only text)
+
+pub one-items : (e : Encoding) (bytes : List ℕ) (ending : InputEnd) → HasOne (IsItems e bytes ending)
+one-items e bytes ending = one (items_of e bytes ending) (items_of-meets e bytes ending) (items_of-only e bytes ending)
+
+-- Each input has one reading.
+pub one-reading : (e : Encoding) (bytes : List ℕ) (ending : InputEnd) → HasOneReading e bytes ending
+one-reading e bytes ending =
+    let text = one-text e bytes in
+    let lines = one-lines text.value in
+    record {
+      pieces = one-pieces (byte_order_mark e bytes).encoding (byte_order_mark e bytes).body;
+      text = text;
+      lines = lines;
+      groups = one-groups (numbered_lines lines.value ending) ending;
+      splits = λ group. one-split (joined group);
+      meanings = one-meaning;
+      items = one-items e bytes ending;
+    }
+
+-- ---- Reading inverts writing.
+
+pub reading-inverts_writing : (e : Encoding) (s : Settings) (calls : List Call) → ReadingInvertsWriting e s calls
+reading-inverts_writing e s calls k entries =
+    let w = wrote e s 0 calls in (
+      (λ is. items_of-only e w end entries is ∙ items_of-wrote e s calls k.encoding k.settings k.prefixes k.scalars),
+      (λ same. subst (IsItems e w end) (sym same) (IsItems-wrote e s calls k.encoding k.settings k.prefixes k.scalars)),
+    )
+
+pub equal-bytes : (e : Encoding) (s : Settings) (ps qs : List Pair) → EqualBytesOfEqualPairs e s ps qs
+equal-bytes e s ps qs h k = (
+  (λ same. pairs-equal e s h.encoding h.settings ps qs h.accepted h.scalars k.accepted k.scalars same),
+  (λ same. ap (λ v. wrote e s 0 (calls_of v)) same),
+)
+
+pub writing-anew : (e : Encoding) (s : Settings) (ps : List Pair) → WritingAnewChangesNothing e s ps
+writing-anew e s ps h entries is = pairs-settle e s h.encoding h.settings ps entries h.accepted h.scalars is
+
+-- ---- The map of what was written.
+
+pairs_in-append : (xs ys : List Entry) → pairs_in (xs ++ ys) ≡ pairs_in xs ++ pairs_in ys
+pairs_in-append [] ys = refl
+pairs_in-append (item n (comment text) ∷ xs) ys = pairs_in-append xs ys
+pairs_in-append (item n (pair key value) ∷ xs) ys = ap (λ v. (key, value) ∷ v) (pairs_in-append xs ys)
+pairs_in-append (malformed kind n ∷ xs) ys = pairs_in-append xs ys
+pairs_in-append (read_fault n ∷ xs) ys = pairs_in-append xs ys
+
+-- no item of pairs without the key is a pair with it
+no-pair : (n : ℕ) (key : List ℕ) (ps : List Pair) → HasNoKey key ps → HasNoPair key (items_after n ps)
+no-pair n key [] h = tt
+no-pair n key (p ∷ ps) h = (h.0, no-pair (n + 1) key ps h.1)
+
+-- the number of lines after these pairs
+abbrev lines_after : ℕ → List Pair → ℕ
+lines_after n [] = n
+lines_after n (p ∷ ps) = lines_after (n + 1) ps
+
+items_after-append : (n : ℕ) (xs ys : List Pair) → items_after n (xs ++ ys) ≡ items_after n xs ++ items_after (lines_after n xs) ys
+items_after-append n [] ys = refl
+items_after-append n (x ∷ xs) ys = ap (λ v. item (n + 1) (pair x.0 x.1) ∷ v) (items_after-append (n + 1) xs ys)
+
+distinct-later : (key value : List ℕ) (before after : List Pair) → AreDistinct (before ++ ((key, value) ∷ after)) → HasNoKey key after
+distinct-later key value [] after h = h.0
+distinct-later key value (p ∷ before) after h = distinct-later key value before after h.1
+
+-- among pairs with keys of their own, each gives its key its value
+value-among : (n : ℕ) (key value : List ℕ) (before after : List Pair) → AreDistinct (before ++ ((key, value) ∷ after))
+    → value_in (items_after n (before ++ ((key, value) ∷ after))) key ≡ Some value
+value-among n key value before after h =
+    let m = lines_after n before in
+    sym (value_in-only (items_after n (before ++ ((key, value) ∷ after))) key (Some value) (record {
+      before = items_after n before;
+      number = m + 1;
+      after = items_after (m + 1) after;
+      division = items_after-append n before ((key, value) ∷ after);
+      no_later = no-pair (m + 1) key after (distinct-later key value before after h);
+    }))
+
+-- and no other value is one of a pair
+among-value : (n : ℕ) (key value : List ℕ) (ps : List Pair) → IsLastValue (items_after n ps) key value → HasPair ps key value
+among-value n key value ps k = (
+  pairs_in k.before,
+  pairs_in k.after,
+  sym (pairs_in-items n ps) ∙ ap pairs_in k.division ∙ pairs_in-append k.before (item k.number (pair key value) ∷ k.after),
+)
+
+pub map-read_back : (e : Encoding) (s : Settings) (ps : List Pair) → MapIsReadBack e s ps
+map-read_back e s ps h distinct entries is value_at m key value = (
+  (λ same. among-value 0 key value ps (subst (λ v. IsLastValue v key value) read (subst (IsValue entries key) same (m key)))),
+  (λ has. map-only entries value_at m key ∙ ap (λ v. value_in v key) (read ∙ ap (items_after 0) has.2)
+      ∙ value-among 0 key value has.0 has.1 (subst AreDistinct has.2 distinct)),
+)
+  where
+    read : entries ≡ items_after 0 ps
+    read = items_of-only e (wrote e s 0 (calls_of ps)) end entries is ∙ items_of-pairs e s h.encoding h.settings ps h.accepted h.scalars
+
+-- ---- Splitting commutes with decoding.
+
+pub splitting-commutes : (e : Encoding) (bytes : List ℕ) → SplittingCommutes e bytes
+splitting-commutes e bytes text lines d = ((λ k. byline-is_lines e bytes text lines k d), (λ k. lines-is_byline e bytes text lines k d))
+
+line_end-ascii : (c : ℕ) → is_line_end c ≡ true → c < 0x80
+line_end-ascii c h = elim (or_cases (c == line_feed) (c == carriage_return) h) [
+  | inl e ↦ subst (λ v. v < 0x80) (sym (eqb-true c line_feed e)) (lit< tt)
+  | inr e ↦ subst (λ v. v < 0x80) (sym (eqb-true c carriage_return e)) (lit< tt)
+]
+
+pub line_ends-part : (e : Encoding) (before : List ℕ) (c : ℕ) (after : List ℕ) → LineEndsPartPieces e before c after
+line_ends-part e before c after ends aligned ps qs h k =
+    subst (IsPieces e (before ++ (ascii_bytes e c ++ after))) parted (pieces_of-meets e (before ++ (ascii_bytes e c ++ after)))
+  where
+    parted : pieces_of e (before ++ (ascii_bytes e c ++ after)) ≡ ps ++ (piece (ascii_bytes e c) c ∷ qs)
+    parted =
+        pieces_of-cut_ascii e c before after (line_end-ascii c ends) aligned
+        ∙ ap₂ (λ v w. v ++ (piece (ascii_bytes e c) c ∷ w)) (sym (pieces_of-only e before ps h)) (sym (pieces_of-only e after qs k))

@@ -1,0 +1,101 @@
+-- The three laws of the format: one reading, reading inverts writing, splitting commutes with decoding.
+use Rattle.std.specs.Prelude.{◌≡◌, ◌≢◌, ◌↔◌, ℕ, true, List, [], ◌∷◌, ◌++◌, Option, Some}
+use Rattle.properties_format.specs.Text.{is_line_end}
+use Rattle.properties_format.specs.Pieces.{Piece, piece}
+use Rattle.properties_format.specs.Encoding.{Encoding, output_encoding, byte_order_mark, ascii_bytes, IsPieces, IsDecoded, IsAligned}
+use Rattle.properties_format.specs.Lines.{InputEnd, end, Line, Lines, IsLines, numbered_lines}
+use Rattle.properties_format.specs.Cut.{IsByline}
+use Rattle.properties_format.specs.Groups.{IsGroups, joined}
+use Rattle.properties_format.specs.Split.{IsSplit}
+use Rattle.properties_format.specs.Escapes.{IsMeaning}
+use Rattle.properties_format.specs.Items.{Entry, IsItems}
+use Rattle.properties_format.specs.Maps.{IsMap}
+use Rattle.properties_format.specs.Settings.{Settings}
+use Rattle.properties_format.specs.Writing.{Call, wrote, items_read_back, ArePrefixesClean, AreOfScalars, AreGoodSettings}
+use Rattle.properties_format.specs.Pairs.{Pair, pairs_in, calls_of, AreAccepted, ArePairsOfScalars}
+
+-- ---- One reading.
+
+-- One value meets it, and no other does.
+pub record HasOne {A : Type 0} (Meets : A → Type 0) : Type 0 where
+  pub value : A
+  pub meets : Meets value
+  pub only : (other : A) → Meets other → other ≡ value
+
+-- The input, up to this ending, has one reading: its body one list of pieces, and it one text; the text one list of
+-- lines; the lines one division into groups; what a group is put together to is one of blank, a comment and a pair, in
+-- one way; each text of it means one text or breaks in one way; and so it has one list of items.
+pub record HasOneReading (e : Encoding) (bytes : List ℕ) (ending : InputEnd) : Type 0 where
+  pub pieces : HasOne (IsPieces (byte_order_mark e bytes).encoding (byte_order_mark e bytes).body)
+  pub text : HasOne (IsDecoded e bytes)
+  pub lines : HasOne (IsLines text.value)
+  pub groups : HasOne (IsGroups (numbered_lines lines.value ending) ending)
+  pub splits : (group : List Line) → HasOne (IsSplit (joined group))
+  pub meanings : (part : List ℕ) → HasOne (IsMeaning part)
+  pub items : HasOne (IsItems e bytes ending)
+
+-- ---- Reading inverts writing.
+
+-- Calls whose lines are read back: the encoding is one that is written, the settings before the calls are good, each
+-- prefix under which a comment is written holds no backslash, and the texts are of scalar values.
+pub record AreReadBack (e : Encoding) (s : Settings) (calls : List Call) : Type 0 where
+  pub encoding : output_encoding e ≡ e
+  pub settings : AreGoodSettings s
+  pub prefixes : ArePrefixesClean s calls
+  pub scalars : AreOfScalars calls
+
+-- The same of pairs under one setting, each of them accepted.
+pub record ArePairsReadBack (e : Encoding) (s : Settings) (pairs : List Pair) : Type 0 where
+  pub encoding : output_encoding e ≡ e
+  pub settings : AreGoodSettings s
+  pub accepted : AreAccepted s pairs
+  pub scalars : ArePairsOfScalars pairs
+
+-- what a list of pairs writes, where no line stands before it
+abbrev pub wrote_pairs : Encoding → Settings → List Pair → List ℕ
+wrote_pairs e s pairs = wrote e s 0 (calls_of pairs)
+
+-- What calls wrote has the items that they told, and no others.
+abbrev pub ReadingInvertsWriting : Encoding → Settings → List Call → Type 0
+ReadingInvertsWriting e s calls = AreReadBack e s calls → (entries : List Entry) → IsItems e (wrote e s 0 calls) end entries ↔ (entries ≡ items_read_back s 0 calls)
+
+-- Under one setting, two lists of accepted pairs write equal bytes exactly if they are equal.
+abbrev pub EqualBytesOfEqualPairs : Encoding → Settings → List Pair → List Pair → Type 0
+EqualBytesOfEqualPairs e s ps qs = ArePairsReadBack e s ps → ArePairsReadBack e s qs → wrote_pairs e s ps ≡ wrote_pairs e s qs ↔ (ps ≡ qs)
+
+-- Reading pairs that were written, and writing them anew, changes no byte.
+abbrev pub WritingAnewChangesNothing : Encoding → Settings → List Pair → Type 0
+WritingAnewChangesNothing e s ps =
+    ArePairsReadBack e s ps → (entries : List Entry) → IsItems e (wrote_pairs e s ps) end entries → wrote_pairs e s (pairs_in entries) ≡ wrote_pairs e s ps
+
+-- this pair is among the pairs
+abbrev pub HasPair : List Pair → List ℕ → List ℕ → Type 0
+HasPair pairs key value = (before : List Pair) × (after : List Pair) × (pairs ≡ before ++ ((key, value) ∷ after))
+
+-- no pair has the key
+abbrev pub HasNoKey : List ℕ → List Pair → Type 0
+HasNoKey key [] = Unit {0}
+HasNoKey key (p ∷ pairs) = (p.0 ≢ key) × HasNoKey key pairs
+
+-- no two pairs have one key
+abbrev pub AreDistinct : List Pair → Type 0
+AreDistinct [] = Unit {0}
+AreDistinct (p ∷ pairs) = HasNoKey p.0 pairs × AreDistinct pairs
+
+-- The map of pairs that were written, each with a key of its own, has exactly these pairs.
+abbrev pub MapIsReadBack : Encoding → Settings → List Pair → Type 0
+MapIsReadBack e s ps =
+    ArePairsReadBack e s ps → AreDistinct ps → (entries : List Entry) → IsItems e (wrote_pairs e s ps) end entries
+    → (value_at : List ℕ → Option (List ℕ)) → IsMap entries value_at → (key value : List ℕ) → value_at key ≡ Some value ↔ HasPair ps key value
+
+-- ---- Splitting commutes with decoding.
+
+-- The lines of the bytes, each decoded by itself, are the lines of the decoded text.
+abbrev pub SplittingCommutes : Encoding → List ℕ → Type 0
+SplittingCommutes e bytes = (text : List ℕ) (lines : Lines) → IsDecoded e bytes text → IsByline e bytes lines ↔ IsLines text lines
+
+-- A CR or an LF among the bytes of a body, where a unit may begin, parts the pieces before it from those after it.
+abbrev pub LineEndsPartPieces : Encoding → List ℕ → ℕ → List ℕ → Type 0
+LineEndsPartPieces e before c after =
+    is_line_end c ≡ true → IsAligned e before → (ps qs : List Piece) → IsPieces e before ps → IsPieces e after qs
+    → IsPieces e (before ++ (ascii_bytes e c ++ after)) (ps ++ (piece (ascii_bytes e c) c ∷ qs))
