@@ -18,5 +18,6 @@ pub mod LineSearch
 pub mod LineFinder
 pub mod LineJoiner
 pub mod PropertiesIter
+pub mod LentItems
 pub mod NaturalLines
 pub mod ReadLines
