@@ -1,12 +1,12 @@
 -- How items come of logical lines.
 use Rattle.std.proofs.Common.{◌≡◌, ℕ, true, false, List, [], ◌++◌, refl, sym, ap, ap₂, ◌∙◌, inl, inr, append_assoc}
-use Rattle.std.specs.Prelude.{Ok, Err, ◌⊎◌}
+use Rattle.std.specs.Prelude.{◌⊎◌, Some}
 use Rattle.std.specs.Str.{chars}
 use Rattle.std.proofs.lemmas.Bool.{cases_Bool}
 use Rattle.properties_format.specs.Split as split
 use Rattle.properties_format.specs.Split.{IsSplit}
 use Rattle.properties_format.specs.Escapes.{Means}
-use Rattle.properties_format.specs.Entries.{comment, pair}
+use Rattle.properties_format.specs.Entries.{Content, Entry, item, comment, pair}
 use Rattle.properties_format.specs.Items.{ignored, given, broken}
 use Rattle.properties_format.specs.Reading.Items.{outcome_of}
 use Rattle.properties_format.specs.Entries.{malformed}
@@ -19,12 +19,17 @@ use Rattle.properties_format.specs.Lines.{InputEnd, end, fault, more}
 use Rattle.properties_format.specs.ItemsToCome.{ReaderState}
 use Rattle.properties_format.specs.Reading.ItemsToCome.{items_to_come}
 use Rattle.properties_format.proofs.ItemsToCome.Unique.{items_to_come-done}
-use Rattle.java_properties.specs.Line.{number_of, content_of}
+use Rattle.java_properties.specs.Errors.{IsBareError}
+use Rattle.java_properties.specs.LentItems.{found_content, spans_of, AreTextsIn, IsFoundIn}
 use Rattle.java_properties.specs.LineFinder.{PassesSome}
 use Rattle.java_properties.proofs.LineJoiner.{some-start, some-on, all-on}
 use Rattle.java_properties.specs.LineJoiner.{IsLazyItems, JoinsError, JoinsNext, Comes, Joiner, numbered_line}
-use Rattle.java_properties.specs.PropertiesIter.{said, entry_of, IsNoItem, IsCommentOf, IsPairOf, Gives, BreaksOff, GivesNext, GivesNone, GivesMalformed}
-use Rattle.java_properties.specs.declared.line.Line.{Line}
+use Rattle.java_properties.specs.Parsing.{spanned, in_characters}
+use Rattle.java_properties.specs.PropertiesIter.{IsNoItem, Gives, BreaksOff, GivesEntry, GivesNone, GivesMalformed}
+use Rattle.java_properties.specs.declared.error.ErrorKind.TheVariants.{Memory}
+use Rattle.java_properties.specs.declared.iter.found.Found.{Found}
+use Rattle.java_properties.specs.declared.iter.found.FoundContent.{FoundContent}
+use Rattle.java_properties.specs.declared.iter.found.FoundContent.TheVariants as found
 use Rattle.java_properties.specs.declared.error.PropertiesError.{PropertiesError}
 
 -- ---- a logical line
@@ -56,20 +61,16 @@ value-no_item x raw_key raw_value key number e h m (inl (kind, b, is)) =
     inl (kind, sym (outcome_of-only x (broken kind) (inr (inr (record { raw_key = raw_key; raw_value = raw_value; key = key; split = h; key_means = m; breaks = b })))), is)
 value-no_item x raw_key raw_value key number e h m (inr is) = inr is
 
--- ---- the line of a logical line
+-- ---- what was found in a logical line
 
-pub comment-line : (x raw : List ℕ) (number : ℕ) (line : Line) → IsSplit x (split.comment raw) → IsCommentOf number raw (Ok line)
-    → (number_of line ≡ number) × (outcome_of x ≡ given (said (content_of line)))
-comment-line x raw number line h (n, (text, m, e)) = (n, comment-item x raw text h m ∙ ap given (sym e))
+content-item : (line : List ℕ) (content : FoundContent) → IsSplit (chars line) (in_characters (spanned line (Some (spans_of content)))) → AreTextsIn line content
+    → outcome_of (chars line) ≡ given (found_content line content)
+content-item line (found.Comment text) h t = comment-item (chars line) _ _ h t.means
+content-item line (found.KVPair key value) h t = pair-item (chars line) _ _ _ _ h t.0.means t.1.means
 
-pub pair-line : (x raw_key raw_value : List ℕ) (number : ℕ) (line : Line) → IsSplit x (split.pair raw_key raw_value) → IsPairOf number raw_key raw_value (Ok line)
-    → (number_of line ≡ number) × (outcome_of x ≡ given (said (content_of line)))
-pair-line x raw_key raw_value number line h (n, (key, value, m, k, e)) = (n, pair-item x raw_key raw_value key value h m k ∙ ap given (sym e))
-
-pub pair-no_item : (x raw_key raw_value : List ℕ) (number : ℕ) (e : PropertiesError) → IsSplit x (split.pair raw_key raw_value) → IsPairOf number raw_key raw_value (Err e)
-    → IsNoItem number x e
-pair-no_item x raw_key raw_value number e h (inl k) = key-no_item x raw_key raw_value number e h k
-pair-no_item x raw_key raw_value number e h (inr (key, m, k)) = value-no_item x raw_key raw_value key number e h m k
+-- it is the item of that line
+pub found-item : (line : List ℕ) (f : Found) → IsFoundIn line f → outcome_of (chars line) ≡ given (found_content line f.content)
+found-item line f h = content-item line f.content h.slices h.texts
 
 -- ---- item after item
 
@@ -123,10 +124,9 @@ module _ {R : Type 0} {reader : Reader R} where
   passed-after {s} {r = r} h g q d ending = ap (λ v. items_to_come s v ending) (append_assoc r q d) ∙ passed-on h g (q ++ d) ending
 
   -- an item came
-  pub gives-line : {s t : ReaderState} {from to next : R} {r : List ℕ} (number : ℕ) (new : Joiner) (line : Line) → Passed reader s from r t to
-      → JoinsNext reader t to number new next → (number_of line ≡ number) × (outcome_of (chars new.line) ≡ given (said (content_of line)))
-      → GivesNext reader s from line new.state next
-  gives-line {s} {t} {r = r} number new line h n (same, o) = record {
+  pub gives-item : {s t : ReaderState} {from to next : R} {r : List ℕ} (number : ℕ) (new : Joiner) (content : Content) → Passed reader s from r t to
+      → JoinsNext reader t to number new next → outcome_of (chars new.line) ≡ given content → GivesEntry reader s from (item number content) new.state next
+  gives-item {s} {t} {r = r} number new content h n o = record {
     bytes = r ++ n.bytes;
     read = read-more h.read n.read;
     live = passed-live h n.live;
@@ -136,13 +136,12 @@ module _ {R : Type 0} {reader : Reader R} where
     lazy = passed-lazy h n.live n.lazy;
   }
     where
-      by-comes : Comes t n.bytes (numbered_line number new) new.state → Gives s (r ++ n.bytes) (entry_of line) new.state
-      by-comes (Comes.going_on k logical) = rw same (Gives.going_on k (record {
+      by-comes : Comes t n.bytes (numbered_line number new) new.state → Gives s (r ++ n.bytes) (item number content) new.state
+      by-comes (Comes.going_on k logical) = Gives.going_on k (record {
         items = λ d ending.
-            passed-after h n.live n.bytes d ending ∙ logical.items d ending ∙ followed-given number (chars new.line) (said (content_of line)) (items_to_come new.state d ending) o;
-      }))
-      by-comes (Comes.at_last k items) = rw same (Gives.at_last k (
-          passed-on h n.live n.bytes end ∙ items ∙ followed-given number (chars new.line) (said (content_of line)) [] o))
+            passed-after h n.live n.bytes d ending ∙ logical.items d ending ∙ followed-given number (chars new.line) content (items_to_come new.state d ending) o;
+      })
+      by-comes (Comes.at_last k items) = Gives.at_last k (passed-on h n.live n.bytes end ∙ items ∙ followed-given number (chars new.line) content [] o)
 
   -- a blank line came
   pub passed-blank : {s t : ReaderState} {from to next : R} {r : List ℕ} (number : ℕ) (new : Joiner) → Passed reader s from r t to
@@ -224,3 +223,8 @@ module _ {R : Type 0} {reader : Reader R} where
       ended = λ f. elim k.2 [ inl e ↦ absurd (cc) | inr e ↦ e ];
     }
   ])
+
+  -- an item came for which there was no memory
+  pub item-lost : {s t u : ReaderState} {from to : R} {entry : Entry} {e : PropertiesError} → GivesEntry reader s from entry t to → IsBareError Memory e
+      → (s.is_done ≡ false) × JoinsError reader s from e u to
+  item-lost n is = (n.live, inr (inr (record { bytes = n.bytes; read = n.read; is = is; lazy = n.lazy })))

@@ -17,6 +17,7 @@ pub mod LineSearch
 pub mod LineJoiner
 pub mod Comparisons
 pub mod Items
+pub mod LentItems
 pub mod Readings
 pub mod Joining
 pub mod JoinedRuns

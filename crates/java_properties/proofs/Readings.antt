@@ -19,11 +19,10 @@ use Rattle.java_properties.specs.Errors.{IsBareError}
 use Rattle.java_properties.specs.LineFinder.{PassesSome}
 use Rattle.java_properties.proofs.LineJoiner.{some-start, some-on, all-on}
 use Rattle.java_properties.specs.LineJoiner.{JoinsError}
-use Rattle.java_properties.specs.PropertiesIter.{entry_of, Gives, BreaksOff, GivesNext, GivesNone, GivesMalformed}
+use Rattle.java_properties.specs.PropertiesIter.{Gives, BreaksOff, GivesEntry, GivesNone, GivesMalformed}
 use Rattle.java_properties.specs.ReadLines.{IsReading, BeginsItems, ReadsWhole, StopsMalformed, StopsFailed, StopsEarly}
 use Rattle.java_properties.specs.declared.error.ErrorKind.TheVariants as kind
 use Rattle.java_properties.specs.declared.error.PropertiesError.{PropertiesError}
-use Rattle.java_properties.specs.declared.line.Line.{Line}
 
 -- the items that are computed are a reading
 pub reading-of : (e : Encoding) (bytes : List ℕ) (ending : InputEnd) (entries : List Entry) → items_of e bytes ending ≡ entries → IsReading e bytes ending entries
@@ -60,21 +59,21 @@ module _ {R : Type 0} {reader : Reader R} where
   collected-start e from = record { read = read-none from; comes = Comes.going_on refl (λ d ending. sym (items_to_come-start e d ending)); passes = λ g. some-start (start e) }
 
   -- an item came
-  pub collected-next : {e : Encoding} {from to next : R} {r : List ℕ} {entries : List Entry} {s t : ReaderState} (line : Line) → Collected reader e from r entries s to
-      → (n : GivesNext reader s to line t next) → Collected reader e from (r ++ n.bytes) (entries ++ entry_of line ∷ []) t next
-  collected-next {e} {to = to} {next = next} {r = r} {entries} {s} {t} line h n = record {
+  pub collected-next : {e : Encoding} {from to next : R} {r : List ℕ} {entries : List Entry} {s t : ReaderState} {entry : Entry} → Collected reader e from r entries s to
+      → (n : GivesEntry reader s to entry t next) → Collected reader e from (r ++ n.bytes) (entries ++ entry ∷ []) t next
+  collected-next {e} {to = to} {next = next} {r = r} {entries} {s} {t} {entry} h n = record {
     read = read-more h.read n.read;
     comes = by-comes h.comes n.gives;
     passes = λ g. some-on (h.passes n.live) (n.passes g);
   }
     where
-      by-comes : Comes e r entries (reader.at_end to) s → Gives s n.bytes (entry_of line) t → Comes e (r ++ n.bytes) (entries ++ entry_of line ∷ []) (reader.at_end next) t
+      by-comes : Comes e r entries (reader.at_end to) s → Gives s n.bytes entry t → Comes e (r ++ n.bytes) (entries ++ entry ∷ []) (reader.at_end next) t
       by-comes (Comes.at_last d k m) g = let l = n.live in absurd (cc)
       by-comes (Comes.going_on g m) (Gives.going_on k reads) = Comes.going_on k (λ d ending.
           ap (λ v. items_of e v ending) (append_assoc r n.bytes d)
           ∙ m (n.bytes ++ d) ending
           ∙ ap (λ v. entries ++ v) (reads.items d ending)
-          ∙ sym (append_assoc entries (entry_of line ∷ []) (items_to_come t d ending)))
+          ∙ sym (append_assoc entries (entry ∷ []) (items_to_come t d ending)))
       by-comes (Comes.going_on g m) (Gives.at_last k items) = Comes.at_last k (n.ended k) (m n.bytes end ∙ ap (λ v. entries ++ v) items)
 
   -- no more came
@@ -95,21 +94,21 @@ module _ {R : Type 0} {reader : Reader R} where
           subst P (sym i.1) (record { bytes = r; read = h.read; ended = k; reading = reading-of e r end entries m })
 
   -- the items begin with those before a line that could not be kept
-  pub collected-lost : {e : Encoding} {from to next : R} {r : List ℕ} {entries : List Entry} {s t : ReaderState} {error : PropertiesError} (line : Line)
-      → Collected reader e from r entries s to → GivesNext reader s to line t next → IsBareError kind.Memory error → StopsEarly reader e from entries error next
-  collected-lost {e} {to = to} {next = next} {r = r} {entries} {s} {t} line h n is =
+  pub collected-lost : {e : Encoding} {from to next : R} {r : List ℕ} {entries : List Entry} {s t : ReaderState} {entry : Entry} {error : PropertiesError}
+      → Collected reader e from r entries s to → GivesEntry reader s to entry t next → IsBareError kind.Memory error → StopsEarly reader e from entries error next
+  collected-lost {e} {to = to} {next = next} {r = r} {entries} {s} {t} {entry} h n is =
       record { bytes = r ++ n.bytes; read = read-more h.read n.read; is = inr is; begins = by-comes h.comes n.gives }
     where
-      by-comes : Comes e r entries (reader.at_end to) s → Gives s n.bytes (entry_of line) t → BeginsItems e (r ++ n.bytes) entries (reader.at_end next)
+      by-comes : Comes e r entries (reader.at_end to) s → Gives s n.bytes entry t → BeginsItems e (r ++ n.bytes) entries (reader.at_end next)
       by-comes (Comes.at_last d k m) g = let l = n.live in absurd (cc)
       by-comes (Comes.going_on g m) (Gives.going_on k reads) = inl (λ d ending. (
-        entry_of line ∷ items_to_come t d ending,
+        entry ∷ items_to_come t d ending,
         items-are e ((r ++ n.bytes) ++ d) ending _ (
             ap (λ v. items_of e v ending) (append_assoc r n.bytes d) ∙ m (n.bytes ++ d) ending ∙ ap (λ v. entries ++ v) (reads.items d ending)
             ),
       ))
       by-comes (Comes.going_on g m) (Gives.at_last k items) =
-          inr (n.ended k, (entry_of line ∷ [], items-are e (r ++ n.bytes) end _ (m n.bytes end ∙ ap (λ v. entries ++ v) items)))
+          inr (n.ended k, (entry ∷ [], items-are e (r ++ n.bytes) end _ (m n.bytes end ∙ ap (λ v. entries ++ v) items)))
 
   -- malformed escapes came
   pub collected-malformed : {e : Encoding} {from to next : R} {r : List ℕ} {entries : List Entry} {s : ReaderState} {error : PropertiesError} → Collected reader e from r entries s to

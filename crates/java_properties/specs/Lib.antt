@@ -20,6 +20,7 @@ pub mod LineSearch
 pub mod LineFinder
 pub mod LineJoiner
 pub mod PropertiesIter
+pub mod LentItems
 pub mod NaturalLines
 pub mod ReadLines
 pub mod Maps

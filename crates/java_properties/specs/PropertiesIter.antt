@@ -5,10 +5,8 @@ use Rattle.counted_io.specs.Streams.{Reader, HasRead, IsSameReader}
 use Rattle.properties_format.specs.Lines.{InputEnd, end}
 use Rattle.properties_format.specs.Entries as entry
 use Rattle.properties_format.specs.Entries.{Content, Entry, item, malformed}
-use Rattle.properties_format.specs.Escapes.{Malformed, Means}
-use Rattle.java_properties.specs.Escaping.{IsRefused}
-use Rattle.std.specs.declared.string.String.{String}
-use Rattle.properties_format.specs.Items.{ignored, given, broken}
+use Rattle.properties_format.specs.Escapes.{Malformed}
+use Rattle.properties_format.specs.Items.{broken}
 use Rattle.properties_format.specs.Reading.Items.{outcome_of}
 use Rattle.properties_format.specs.ItemsToCome.{ReaderState}
 use Rattle.properties_format.specs.Reading.ItemsToCome.{items_to_come}
@@ -23,10 +21,11 @@ use Rattle.java_properties.specs.declared.line.Line.{Line}
 use Rattle.java_properties.specs.declared.line.LineContent.{LineContent}
 use Rattle.java_properties.specs.declared.line.LineContent.TheVariants.{Comment, KVPair}
 
--- an iterator: its reader, and where it stands
+-- an iterator: its reader, where it stands, and the logical line that came last, in UTF-8
 pub record Reading (R : Type 0) : Type 0 where
   pub reader : R
   pub state : ReaderState
+  pub line : List ℕ
 
 -- the entry that a line is
 abbrev pub said : LineContent → Content
@@ -36,33 +35,10 @@ said (KVPair key value) = entry.pair (chars (string_bytes key)) (chars (string_b
 abbrev pub entry_of : Line → Entry
 entry_of line = item (number_of line) (said (content_of line))
 
--- the text with its escapes resolved, or why there is none
-abbrev pub IsResolved : {Z : Type 0} → List ℕ → ℕ → Result (String Z) PropertiesError → Type 0
-IsResolved text line (Ok meant) = Means text (chars (string_bytes meant))
-IsResolved text line (Err e) = IsRefused text line e
-
--- the line of a comment, and of a pair, by their texts before escapes are resolved; of a pair the key breaks first
-abbrev pub IsCommentOf : ℕ → List ℕ → Result Line PropertiesError → Type 0
-IsCommentOf number raw (Ok line) = (number_of line ≡ number) × ((text : List ℕ) × Means raw text × (said (content_of line) ≡ entry.comment text))
-IsCommentOf number raw (Err e) = IsRefused raw number e
-
-abbrev pub IsPairOf : ℕ → List ℕ → List ℕ → Result Line PropertiesError → Type 0
-IsPairOf number raw_key raw_value (Ok line) =
-    (number_of line ≡ number)
-    × ((key : List ℕ) × (value : List ℕ) × Means raw_key key × Means raw_value value × (said (content_of line) ≡ entry.pair key value))
-IsPairOf number raw_key raw_value (Err e) =
-    IsRefused raw_key number e ⊎ ((key : List ℕ) × Means raw_key key × IsRefused raw_value number e)
-
 -- Why a logical line gave no item: its escapes are malformed, or there was no memory.
 abbrev pub IsNoItem : ℕ → List ℕ → PropertiesError → Type 0
 IsNoItem number text e =
     ((kind : Malformed) × (outcome_of text ≡ broken kind) × IsMalformed kind number e) ⊎ IsBareError kind.Memory e
-
--- the item of a logical line, where it has one
-abbrev pub IsItemOf : ℕ → List ℕ → Result (Option Line) PropertiesError → Type 0
-IsItemOf number text (Ok None) = outcome_of text ≡ ignored
-IsItemOf number text (Ok (Some line)) = (number_of line ≡ number) × (outcome_of text ≡ given (said (content_of line)))
-IsItemOf number text (Err e) = IsNoItem number text e
 
 -- After the bytes that were read this entry comes, whatever comes after them, and then what the new state gives; or it is
 -- the last, and the input ended.
@@ -76,14 +52,17 @@ pub data BreaksOff (old : ReaderState) (bytes : List ℕ) (entry : Entry) (at_en
   at_last : at_end ≡ true → items_to_come old bytes end ≡ entry ∷ [] → BreaksOff old bytes entry at_end
 
 -- An item came. Where what was held gave it already, nothing was read.
-pub record GivesNext {R : Type 0} (reader : Reader R) (old : ReaderState) (from : R) (line : Line) (new : ReaderState) (to : R) : Type 0 where
+pub record GivesEntry {R : Type 0} (reader : Reader R) (old : ReaderState) (from : R) (entry : Entry) (new : ReaderState) (to : R) : Type 0 where
   pub bytes : List ℕ
   pub read : HasRead reader from bytes to
   pub live : old.is_done ≡ false
-  pub gives : Gives old bytes (entry_of line) new
+  pub gives : Gives old bytes entry new
   pub passes : new.is_done ≡ false → PassesSome old bytes new
   pub ended : new.is_done ≡ true → reader.at_end to ≡ true
   pub lazy : IsLazyItems old from bytes to
+
+abbrev pub GivesNext : {R : Type 0} → Reader R → ReaderState → R → Line → ReaderState → R → Type 0
+GivesNext reader old from line new to = GivesEntry reader old from (entry_of line) new to
 
 -- No item comes any more: the input ended, or the iterator was at its end and reads nothing.
 pub record GivesNone {R : Type 0} (reader : Reader R) (old : ReaderState) (from : R) (new : ReaderState) (to : R) : Type 0 where

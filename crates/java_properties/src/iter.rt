@@ -1,14 +1,18 @@
 // The items of a file, one after another.
 
-ghost use Rattle.std.specs.Prelude.{◌≡◌, IsOkAnd};
+ghost use Rattle.std.specs.Prelude.{◌≡◌, ◌<◌, [], IsOkAnd, OnSome};
+ghost use Rattle.std.specs.Str.{chars};
 ghost use Rattle.std.specs.Iterator.{at_most};
 ghost use Rattle.properties_format.specs.Encoding.{windows_1252};
 ghost use Rattle.properties_format.specs.ItemsToCome.{start};
 ghost use Rattle.java_properties.specs.Encoding.{encoding_of};
 ghost use Rattle.java_properties.specs.LineFinder.{lines_left};
+ghost use Rattle.java_properties.specs.LentItems.{lent_entry, found_entry, BorrowsPlain, IsFoundIn, AdvanceGives, NextRefGives};
 ghost use Rattle.java_properties.specs.PropertiesIter.{Reading, NextGives};
 
+mod found;
 pub(crate) mod items;
+mod lent;
 mod whole;
 
 use crate::encoding::Encoding;
@@ -16,6 +20,8 @@ use crate::error::PropertiesError;
 use crate::iter::items::ItemReader;
 use crate::line::Line;
 use counted_io::CountedRead;
+pub use found::Found;
+pub use lent::{ContentRef, LineRef};
 use std::alloc::Global;
 use std::marker::Model;
 pub use whole::{Stopped, read_lines};
@@ -43,14 +49,14 @@ pub struct PropertiesIter<R> {
 impl<R> Model for PropertiesIter<R> {
     ghost Value = { Reading R };
 
-    ghost view = { λ it. record { reader = it.reader; state = it.items } };
+    ghost view = { λ it. record { reader = it.reader; state = it.items.state; line = it.items.line } };
 }
 
 impl<R: CountedRead> PropertiesIter<R> {
     /// Reads windows-1252, unless a byte order mark says another encoding. It reads nothing yet, and takes no memory
     /// before the first item is asked for.
     pub fn new(alloc: Global, input: R) -> Result<PropertiesIter<R>, PropertiesError>
-        ensures { IsOkAnd result (λ it. it ≡ record { reader = input; state = start windows_1252 }) }
+        ensures { IsOkAnd result (λ it. it ≡ record { reader = input; state = start windows_1252; line = [] }) }
     {
         PropertiesIter::new_with_encoding(alloc, input, Encoding::WINDOWS_1252)
     }
@@ -62,12 +68,52 @@ impl<R: CountedRead> PropertiesIter<R> {
         input: R,
         encoding: Encoding,
     ) -> Result<PropertiesIter<R>, PropertiesError>
-        ensures { IsOkAnd result (λ it. it ≡ record { reader = input; state = start (encoding_of encoding) }) }
+        ensures { IsOkAnd result (λ it. it ≡ record { reader = input; state = start (encoding_of encoding); line = [] }) }
     {
         Ok(PropertiesIter {
             reader: input,
             items: ItemReader::new(alloc, encoding),
         })
+    }
+
+    /// The next item, lent until the next call, as `next` would have returned it; or an error, or `None`.
+    ///
+    /// It takes memory only for texts whose escapes have to be resolved, and for lines that don't stand in the input as
+    /// they are. The two calls may be mixed.
+    pub fn next_ref(&mut self) -> Option<Result<LineRef<'_>, PropertiesError>>
+        ensures { NextRefGives R.CountedRead self.old result }
+    {
+        match self.advance()? {
+            Ok(found) => Some(Ok(self.get(found))),
+            Err(error) => Some(Err(error)),
+        }
+    }
+
+    /// Comes to the next item, which [`get`](Self::get) then lends; or an error, or `None`.
+    ///
+    /// The two calls are `next_ref` in two steps, for loops that are proved of: what was found borrows nothing, so a
+    /// caller knows where the iterator stands.
+    ///
+    /// ```text
+    /// while let Some(found) = items.advance() {
+    ///     let line = items.get(found?);
+    ///     println!(rt; "{}", line.line_number())?;
+    /// }
+    /// ```
+    pub fn advance(&mut self) -> Option<Result<Found, PropertiesError>>
+        ensures gives { AdvanceGives R.CountedRead self.old result self.new }
+        ensures nearer { OnSome result (lines_left self.new.state < lines_left self.old.state) }
+    {
+        self.items.advance(&mut self.reader)
+    }
+
+    /// The item that [`advance`](Self::advance) has found, lent until the next call.
+    pub fn get(&self, found: Found) -> LineRef<'_>
+        requires { IsFoundIn self.now.line found }
+        ensures item { lent_entry result ≡ found_entry self.now.line found }
+        ensures borrowed { BorrowsPlain (chars self.now.line) result.content }
+    {
+        self.items.get(found)
     }
 
     /// The reader, after the bytes that were read so far.

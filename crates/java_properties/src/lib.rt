@@ -30,7 +30,7 @@ mod writer;
 
 pub use encoding::Encoding;
 pub use error::{Cause, ErrorKind, PropertiesError};
-pub use iter::{PropertiesIter, Stopped, read_lines};
+pub use iter::{ContentRef, Found, LineRef, PropertiesIter, Stopped, read_lines};
 pub use line::{Line, LineContent};
 pub use maps::{read, write};
 pub use writer::{Call, LineEnding, PropertiesWriter, run_calls};

@@ -10,19 +10,18 @@ use Rattle.properties_format.specs.Lines.{end}
 use Rattle.properties_format.specs.Pairs.{pairs_in, ArePairsOfScalars}
 use Rattle.properties_format.specs.Reading.ItemsToCome.{items_to_come}
 use Rattle.properties_format.proofs.Items.Unique.{items_of-meets}
-use Rattle.java_properties.specs.Line.{number_of, content_of}
 use Rattle.java_properties.specs.LineJoiner.{JoinsError}
-use Rattle.java_properties.specs.PropertiesIter.{Reading, said, entry_of, GivesNext, GivesNone, GivesMalformed}
+use Rattle.java_properties.specs.PropertiesIter.{Reading, GivesEntry, GivesNone, GivesMalformed}
 use Rattle.java_properties.specs.PropertiesWriter.{Writing, new_writer, Flushes, HasFlushedSink, RefusesFlush, FailsInFlush}
 use Rattle.java_properties.specs.ReadLines.{BeginsItems}
 use Rattle.java_properties.specs.declared.error.PropertiesError.{PropertiesError}
-use Rattle.java_properties.specs.declared.line.Line.{Line}
-use Rattle.java_properties.specs.declared.line.LineContent.{LineContent}
-use Rattle.java_properties.specs.declared.line.LineContent.TheVariants.{Comment, KVPair}
-use Rattle.java_properties.proofs.ReadBack.Scalars.{string-scalars}
 use Rattle.java_properties.proofs.Readings.{Comes, Collected, collected-start, collected-next, collected-none, collected-malformed, collected-error}
-use Rattle.propfilter.specs.Filter.{AreItems, WritesIfPair, HasFiltered, StopsInReading, StopsInWriting, StopsInFlush, Filters}
+use Rattle.propfilter.specs.Filter.{AreItems, HasScalars, WritesIfPair, HasFiltered, StopsInReading, StopsInWriting, StopsInFlush, Filters}
 use Rattle.propfilter.proofs.Pairs.{HasWrittenPairs, pairs-none, pairs-comment, pairs-more, pairs-live, pairs-fail, pairs-refused, pairs-flushed, pairs-flush, pairs-flush-failed}
+
+-- the content of an entry
+pub same-content : {number number' : ℕ} {content content' : Content} → item number content ≡ item number' content' → content ≡ content'
+same-content h = cc
 
 -- one item more
 AreItems-more : (xs : List Entry) (number : ℕ) (content : Content) → AreItems xs → AreItems (xs ++ (item number content ∷ []))
@@ -31,14 +30,14 @@ AreItems-more (item n c ∷ xs) number content h = AreItems-more xs number conte
 AreItems-more (malformed kind n ∷ xs) number content h = absurd h
 AreItems-more (read_fault n ∷ xs) number content h = absurd h
 
--- the texts of an item are of scalar values, as all texts of a program are
-scalars-more : (xs : List Entry) (number : ℕ) (content : LineContent) → ArePairsOfScalars (pairs_in xs) → ArePairsOfScalars (pairs_in (xs ++ (item number (said content) ∷ [])))
-scalars-more [] number (Comment text) h = tt
-scalars-more [] number (KVPair key value) h = ((string-scalars key, string-scalars value), tt)
-scalars-more (item n (comment text) ∷ xs) number content h = scalars-more xs number content h
-scalars-more (item n (pair key value) ∷ xs) number content h = (h.0, scalars-more xs number content h.1)
-scalars-more (malformed kind n ∷ xs) number content h = scalars-more xs number content h
-scalars-more (read_fault n ∷ xs) number content h = scalars-more xs number content h
+-- the texts of pairs are of scalar values, one more among them
+scalars-more : (xs : List Entry) (number : ℕ) (content : Content) → ArePairsOfScalars (pairs_in xs) → HasScalars content → ArePairsOfScalars (pairs_in (xs ++ (item number content ∷ [])))
+scalars-more [] number (comment text) h q = tt
+scalars-more [] number (pair key value) h q = (q, tt)
+scalars-more (item n (comment text) ∷ xs) number content h q = scalars-more xs number content h q
+scalars-more (item n (pair key value) ∷ xs) number content h q = (h.0, scalars-more xs number content h.1 q)
+scalars-more (malformed kind n ∷ xs) number content h q = scalars-more xs number content h q
+scalars-more (read_fault n ∷ xs) number content h q = scalars-more xs number content h q
 
 -- The items that came were all that the reader gave so far, and their pairs were written.
 pub record HasPassed {R W : Type 0} (reader : Reader R) (sink : Sink W) (e : Encoding) (input : R) (output : W) (it : Reading R) (w : Writing W) : Type 0 where
@@ -68,40 +67,41 @@ begins {e} {bytes} {items} {s = s} (Comes.going_on g m) =
 begins {e} {bytes} {items} (Comes.at_last d k m) =
     inr (k, ([], subst (IsItems e bytes end) (m ∙ sym (append-nil items)) (items_of-meets e bytes end)))
 
-module _ {R W : Type 0} {reader : Reader R} {sink : Sink W} {e : Encoding} {input : R} {output : W} {it next : Reading R} {w : Writing W} where
+module _ {R W : Type 0} {reader : Reader R} {sink : Sink W} {e : Encoding} {input : R} {output : W} {it : Reading R} {w : Writing W} where
   -- An item came, and was written if it is a pair.
-  pub passed-more : (new : Writing W) (line : Line) → HasPassed reader sink e input output it w
-      → GivesNext reader it.state it.reader line next.state next.reader → WritesIfPair sink w (said (content_of line)) (Ok tt) new
-      → HasPassed reader sink e input output next new
-  passed-more new line h n k = record {
-    items = h.items ++ (entry_of line ∷ []);
-    whole = AreItems-more h.items (number_of line) (said (content_of line)) h.whole;
-    scalars = scalars-more h.items (number_of line) (content_of line) h.scalars;
+  pub passed-more : {next : Reading R} (new : Writing W) (number : ℕ) (content : Content) → HasPassed reader sink e input output it w
+      → GivesEntry reader it.state it.reader (item number content) next.state next.reader → WritesIfPair sink w content (Ok tt) new
+      → HasScalars content → HasPassed reader sink e input output next new
+  passed-more new number content h n k q = record {
+    items = h.items ++ (item number content ∷ []);
+    whole = AreItems-more h.items number content h.whole;
+    scalars = scalars-more h.items number content h.scalars q;
     bytes = h.bytes ++ n.bytes;
-    collected = collected-next line h.collected n;
-    pairs = written (said (content_of line)) k;
+    collected = collected-next h.collected n;
+    pairs = written content k;
   }
     where
-      written : (c : Content) → WritesIfPair sink w c (Ok tt) new → HasWrittenPairs sink e output (h.items ++ (item (number_of line) c ∷ [])) new
-      written (comment text) k = rw k.1 (pairs-comment (number_of line) text h.pairs)
-      written (pair key value) k = pairs-more (number_of line) key value h.pairs k
+      written : (c : Content) → WritesIfPair sink w c (Ok tt) new → HasWrittenPairs sink e output (h.items ++ (item number c ∷ [])) new
+      written (comment text) k = rw k.1 (pairs-comment number text h.pairs)
+      written (pair key value) k = pairs-more number key value h.pairs k
 
+module _ {R W : Type 0} {reader : Reader R} {sink : Sink W} {e : Encoding} {input : R} {output : W} {it : Reading R} {w : Writing W} {after : ReaderState} {to : R} where
   -- A pair came, and was not written.
-  pub stops-writing : {error : PropertiesError} (new : Writing W) (line : Line) → HasPassed reader sink e input output it w
-      → GivesNext reader it.state it.reader line next.state next.reader → WritesIfPair sink w (said (content_of line)) (Err error) new
-      → StopsInWriting reader sink e input output error next.reader new.sink
-  stops-writing {error = error} new line h n k = by-content (said (content_of line)) (begins came.comes) k
+  pub stops-writing : {error : PropertiesError} (new : Writing W) (number : ℕ) (content : Content) → HasPassed reader sink e input output it w
+      → GivesEntry reader it.state it.reader (item number content) after to → WritesIfPair sink w content (Err error) new
+      → StopsInWriting reader sink e input output error to new.sink
+  stops-writing {error = error} new number content h n k = by-content content (begins came.comes) k
     where
-      came : Collected reader e input (h.bytes ++ n.bytes) (h.items ++ (entry_of line ∷ [])) next.state next.reader
-      came = collected-next line h.collected n
+      came : Collected reader e input (h.bytes ++ n.bytes) (h.items ++ (item number content ∷ [])) after to
+      came = collected-next h.collected n
 
-      by-content : (c : Content) → BeginsItems e (h.bytes ++ n.bytes) (h.items ++ (item (number_of line) c ∷ [])) (reader.at_end next.reader)
+      by-content : (c : Content) → BeginsItems e (h.bytes ++ n.bytes) (h.items ++ (item number c ∷ [])) (reader.at_end to)
           → WritesIfPair sink w c (Err error) new
-          → StopsInWriting reader sink e input output error next.reader new.sink
+          → StopsInWriting reader sink e input output error to new.sink
       by-content (comment text) b k = absurd (let same = k.0 in cc)
       by-content (pair key value) b k = record {
         items = h.items;
-        number = number_of line;
+        number = number;
         key = key;
         value = value;
         whole = h.whole;
@@ -113,8 +113,8 @@ module _ {R W : Type 0} {reader : Reader R} {sink : Sink W} {e : Encoding} {inpu
 
   -- reading stopped, and the sink was flushed
   pub stops-reading : {error : PropertiesError} (new : Writing W) (flush : Result Unit PropertiesError) → HasPassed reader sink e input output it w
-      → it.state.is_done ≡ false → GivesMalformed reader it.state it.reader error next.reader ⊎ JoinsError reader it.state it.reader error next.state next.reader
-      → Flushes sink w flush new → StopsInReading reader sink e input output error next.reader new.sink
+      → it.state.is_done ≡ false → GivesMalformed reader it.state it.reader error to ⊎ JoinsError reader it.state it.reader error after to
+      → Flushes sink w flush new → StopsInReading reader sink e input output error to new.sink
   stops-reading new flush h live k f = record {
     items = h.items;
     whole = h.whole;
@@ -123,22 +123,22 @@ module _ {R W : Type 0} {reader : Reader R} {sink : Sink W} {e : Encoding} {inpu
   }
 
   -- no item came any more, and the sink was flushed
-  filtered : {new : Writing W} → HasPassed reader sink e input output it w → GivesNone reader it.state it.reader next.state next.reader
-      → HasFlushedSink sink w new → HasFiltered reader sink e input output next.reader new.sink
+  filtered : {new : Writing W} → HasPassed reader sink e input output it w → GivesNone reader it.state it.reader after to
+      → HasFlushedSink sink w new → HasFiltered reader sink e input output to new.sink
   filtered h n f =
       let k = pairs-flushed h.pairs f in
       record { items = h.items; whole = h.whole; scalars = h.scalars; reads = collected-none h.collected n; written = k.0; flushed = k.1 }
 
   -- or the flush failed
   stops-flush : {error : PropertiesError} (new : Writing W) → HasPassed reader sink e input output it w
-      → GivesNone reader it.state it.reader next.state next.reader → RefusesFlush w error new ⊎ FailsInFlush sink w error new → StopsInFlush reader sink e input output error next.reader new.sink
+      → GivesNone reader it.state it.reader after to → RefusesFlush w error new ⊎ FailsInFlush sink w error new → StopsInFlush reader sink e input output error to new.sink
   stops-flush new h n (inl k) = absurd (let live = pairs-live h.pairs in let failed = k.failed in cc)
   stops-flush new h n (inr k) =
       record { items = h.items; whole = h.whole; reads = collected-none h.collected n; fails = pairs-flush-failed h.pairs k }
 
   -- what is returned where no item comes any more
   pub returns : (new : Writing W) (result : Result Unit PropertiesError) → HasPassed reader sink e input output it w
-      → GivesNone reader it.state it.reader next.state next.reader → Flushes sink w result new
-      → Filters reader sink e input output result next.reader new.sink
+      → GivesNone reader it.state it.reader after to → Flushes sink w result new
+      → Filters reader sink e input output result to new.sink
   returns new (Ok done) h n f = filtered h n f
   returns new (Err error) h n f = inr (inr (stops-flush new h n f))

@@ -1,7 +1,8 @@
 -- What `filter` does: it reads the items of an input, and writes each pair as one line.
-use Rattle.std.specs.Prelude.{◌≡◌, ◌⊎◌, ◌+◌, ◌^◌, ◌==◌, ℕ, true, List, [], ◌∷◌, ◌++◌, length, Option, Some, None, Result, Ok, Err}
+use Rattle.std.specs.Prelude.{◌≡◌, All, ◌⊎◌, ◌+◌, ◌^◌, ◌==◌, ℕ, true, List, [], ◌∷◌, ◌++◌, length, Option, Some, None, Result, Ok, Err}
 use Rattle.std.specs.declared.io.Error.{Error}
 use Rattle.counted_io.specs.Streams.{Reader, HasRead, Sink, HasWritten, HasFaulted, HasFailedFlush, IsProperPrefix, CameFromWrite}
+use Rattle.properties_format.specs.Text.{scalar}
 use Rattle.properties_format.specs.Encoding.{Encoding, output_encoding}
 use Rattle.properties_format.specs.Entries.{Content, comment, pair, Entry, item, malformed, read_fault}
 use Rattle.properties_format.specs.Printing.{printed}
@@ -40,6 +41,11 @@ AreItems [] = Unit {0}
 AreItems (item number content ∷ entries) = AreItems entries
 AreItems (malformed kind number ∷ entries) = ⊥
 AreItems (read_fault number ∷ entries) = ⊥
+
+-- the texts of a pair are of scalar values
+abbrev pub HasScalars : Content → Type 0
+HasScalars (comment text) = Unit {0}
+HasScalars (pair key value) = All scalar key × All scalar value
 
 -- ---- what was written
 

@@ -5,12 +5,14 @@ ghost use Rattle.counted_io.specs.Streams.{IsSameReader, IsSameSink};
 ghost use Rattle.properties_format.specs.Encoding.{output_encoding};
 ghost use Rattle.properties_format.specs.ItemsToCome.{start};
 ghost use Rattle.java_properties.specs.Encoding.{encoding_of};
-ghost use Rattle.java_properties.specs.PropertiesIter.{said};
+ghost use Rattle.java_properties.specs.LentItems.{said_by, found_content, IsFoundIn};
 ghost use Rattle.java_properties.specs.PropertiesWriter.{new_writer};
-ghost use Rattle.propfilter.specs.Filter.{Filters, Settles, WritesIfPair};
+ghost use Rattle.propfilter.specs.Filter.{Filters, Settles, HasScalars, WritesIfPair};
 
 use counted_io::{CountedRead, CountedWrite};
-use java_properties::{Encoding, LineContent, PropertiesError, PropertiesIter, PropertiesWriter};
+use java_properties::{
+    ContentRef, Encoding, Found, PropertiesError, PropertiesIter, PropertiesWriter,
+};
 use std::alloc::Global;
 
 /// Reads the items of an input in this encoding, and writes each pair as one line in its output encoding. Comments are
@@ -60,9 +62,9 @@ fn write_pairs<R: CountedRead, W: CountedWrite>(
     ensures same_reader { IsSameReader R.CountedRead items.old.reader items.new.reader }
     ensures same_sink { IsSameSink W.CountedWrite lines.old.sink lines.new.sink }
 {
-    while let Some(item) = items.next() {
-        match item {
-            Ok(line) => write_if_pair(&mut *lines, line.content())?,
+    while let Some(found) = items.advance() {
+        match found {
+            Ok(found) => write_found(items, found, &mut *lines)?,
             Err(error) => {
                 // The reader's error is returned, whatever the flush says.
                 let _ = lines.flush();
@@ -73,15 +75,31 @@ fn write_pairs<R: CountedRead, W: CountedWrite>(
     lines.finish()
 }
 
+// Writes the item that was found last, where it is a pair.
+fn write_found<R: CountedRead, W: CountedWrite>(
+    items: &PropertiesIter<R>,
+    found: Found,
+    lines: &mut PropertiesWriter<W>,
+) -> Result<(), PropertiesError>
+    requires { IsFoundIn items.now.line found }
+    ensures writes { let content = found_content items.now.line found.content in
+        WritesIfPair W.CountedWrite lines.old content result lines.new }
+    ensures scalars { HasScalars (found_content items.now.line found.content) }
+    ensures same_sink { IsSameSink W.CountedWrite lines.old.sink lines.new.sink }
+{
+    write_if_pair(lines, items.get(found).content())
+}
+
 fn write_if_pair<W: CountedWrite>(
     lines: &mut PropertiesWriter<W>,
-    content: &LineContent,
+    content: &ContentRef<'_>,
 ) -> Result<(), PropertiesError>
-    ensures writes { WritesIfPair W.CountedWrite lines.old (said content.now) result lines.new }
+    ensures writes { WritesIfPair W.CountedWrite lines.old (said_by content.now) result lines.new }
+    ensures scalars { HasScalars (said_by content.now) }
     ensures same_sink { IsSameSink W.CountedWrite lines.old.sink lines.new.sink }
 {
     match content {
-        LineContent::KVPair(key, value) => lines.write(key.as_str(), value.as_str()),
-        LineContent::Comment(_) => Ok(()),
+        ContentRef::KVPair(key, value) => lines.write(key.as_str(), value.as_str()),
+        ContentRef::Comment(_) => Ok(()),
     }
 }

@@ -13,7 +13,7 @@ use Rattle.properties_format.proofs.Maps.{map-none, map-comment, map-pair}
 use Rattle.java_properties.specs.Errors.{IsBareError}
 use Rattle.java_properties.specs.Line.{number_of, content_of}
 use Rattle.java_properties.specs.LineJoiner.{JoinsError}
-use Rattle.java_properties.specs.PropertiesIter.{said, entry_of, GivesNext, GivesNone, GivesMalformed}
+use Rattle.java_properties.specs.PropertiesIter.{said, entry_of, GivesEntry, GivesNone, GivesMalformed}
 use Rattle.java_properties.specs.ReadLines.{entries_in}
 use Rattle.java_properties.specs.Maps.{value_at, InsertsIfPair, HasReadMap, StopsReadingMap}
 use Rattle.java_properties.specs.declared.error.ErrorKind.TheVariants as kind
@@ -43,12 +43,12 @@ module _ {R Y Z S : Type 0} {reader : Reader R} where
 
   -- an item came, and went into the map if it is a pair
   pub passed-more : {from to next : R} {m n : HashMap (String Y) (String Z) S} {s t : ReaderState} (line : Line) → HasPassed reader from m s to
-      → GivesNext reader s to line t next → InsertsIfPair m (said (content_of line)) (Ok tt) n → HasPassed reader from n t next
+      → GivesEntry reader s to (entry_of line) t next → InsertsIfPair m (said (content_of line)) (Ok tt) n → HasPassed reader from n t next
   passed-more {from = from} {next = next} {m = m} {n = n} {t = t} line h g k = record {
     lines = h.lines ++ (line ∷ []);
     bytes = h.bytes ++ g.bytes;
     collected = let P : List Entry → Type 0 = λ v. Collected reader windows_1252 from (h.bytes ++ g.bytes) v t next in
-        subst P (entries-more h.lines line) (collected-next line h.collected g);
+        subst P (entries-more h.lines line) (collected-next h.collected g);
     is_map = let P : List Entry → Type 0 = λ v. IsMap v (value_at n) in subst P (entries-more h.lines line) (by-content (said (content_of line)) k);
   }
     where
@@ -60,8 +60,8 @@ module _ {R Y Z S : Type 0} {reader : Reader R} where
 
   -- an item came for which there was no memory
   pub passed-lost : {from to next : R} {m : HashMap (String Y) (String Z) S} {s t : ReaderState} {error : PropertiesError} (line : Line) → HasPassed reader from m s to
-      → GivesNext reader s to line t next → IsBareError kind.Memory error → StopsReadingMap reader from error next
-  passed-lost line h g is = record { lines = h.lines; stops = inr (inr (collected-lost line h.collected g is)) }
+      → GivesEntry reader s to (entry_of line) t next → IsBareError kind.Memory error → StopsReadingMap reader from error next
+  passed-lost line h g is = record { lines = h.lines; stops = inr (inr (collected-lost h.collected g is)) }
 
   -- an error came
   pub passed-error : {from to next : R} {m : HashMap (String Y) (String Z) S} {s t : ReaderState} {error : PropertiesError} → HasPassed reader from m s to

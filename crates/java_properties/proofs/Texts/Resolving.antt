@@ -36,7 +36,7 @@ holds-encodes (c ∷ cs) = holds-front c cs (encode c) (encoded c) (holds-encode
 pub holds_backslash-text : (bs : List ℕ) → IsUtf8 bs → holds_backslash (chars bs) ≡ holds_backslash bs
 holds_backslash-text bs u = sym (holds-encodes (chars bs)) ∙ ap holds_backslash (encodes-chars bs u)
 
-no_backslash : (cs : List ℕ) → holds_backslash cs ≡ false → HasNoBackslash cs
+pub no_backslash : (cs : List ℕ) → holds_backslash cs ≡ false → HasNoBackslash cs
 no_backslash [] h = tt
 no_backslash (c ∷ cs) h = let p = or_parts (c == backslash) (holds_backslash cs) h in (p.0, no_backslash cs p.1)
 

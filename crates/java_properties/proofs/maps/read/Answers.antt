@@ -1,7 +1,8 @@
-use Rattle.std.proofs.Common.{refl, sym, ◌∙◌, subst}
+use Rattle.std.proofs.Common.{refl, sym, ap, ◌∙◌, subst}
 use Rattle.std.proofs.lemmas.Result.{err_from_is_err_and}
 use Rattle.properties_format.specs.ItemsToCome.{ReaderState}
 use Rattle.counted_io.specs.Streams.{reader}
+use Rattle.java_properties.specs.LineJoiner.{Joiner}
 use Rattle.java_properties.proofs.TextMaps.Reading.{HasPassed, passed-none, passed-more, passed-lost, passed-error, passed-all}
 use Rattle.java_properties.proofs.maps.read.Goals as goal
 
@@ -10,7 +11,7 @@ loop-item-init g c =
     let r = reader g.R.Read g.R.CountedRead in
     let P : ReaderState → Type 0 = λ v. HasPassed r c.args.input.now c.new-map.result v c.args.input.now in
     record {
-      passed = subst P (sym c.new-items.ensures) (passed-none {reader = r} c.args.input.now c.new-map.result c.new-map.ensures.empty);
+      passed = subst P (sym (ap (λ v. let w : Joiner = v in w.state) c.new-items.ensures)) (passed-none {reader = r} c.args.input.now c.new-map.result c.new-map.ensures.empty);
       same_reader = refl;
     }
 

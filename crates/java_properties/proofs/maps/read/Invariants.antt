@@ -5,9 +5,9 @@ use Rattle.java_properties.proofs.maps.read.Given as goal
 
 abbrev pub invariant-loop-item : goal.invariant-loop-item
 invariant-loop-item g l = record {
-  passed : HasPassed (reader g.R.Read g.R.CountedRead) l.fn.input l.map l.items l.input;
+  passed : HasPassed (reader g.R.Read g.R.CountedRead) l.fn.input l.map l.items.state l.input;
   same_reader : IsSameReader (reader g.R.Read g.R.CountedRead) l.fn.input l.input;
 }
 
 abbrev pub decreases-loop-item : goal.decreases-loop-item
-decreases-loop-item g l = lines_left l.items
+decreases-loop-item g l = lines_left l.items.state

@@ -3,12 +3,12 @@ use Rattle.java_properties.specs.LineFinder.{lines_left}
 use Rattle.propfilter.proofs.Filtering.{HasPassed}
 use Rattle.propfilter.proofs.filter.write_pairs.Given as goal
 
-abbrev pub invariant-loop-item : goal.invariant-loop-item
-invariant-loop-item g l = record {
+abbrev pub invariant-loop-found : goal.invariant-loop-found
+invariant-loop-found g l = record {
   passed : HasPassed (reader g.R.Read g.R.CountedRead) (sink g.W.Write g.W.CountedWrite) l.fn.items.state.encoding l.fn.items.reader l.fn.lines.sink l.items l.lines;
   same_reader : IsSameReader (reader g.R.Read g.R.CountedRead) l.fn.items.reader l.items.reader;
   same_sink : IsSameSink (sink g.W.Write g.W.CountedWrite) l.fn.lines.sink l.lines.sink;
 }
 
-abbrev pub decreases-loop-item : goal.decreases-loop-item
-decreases-loop-item g l = lines_left l.items.state
+abbrev pub decreases-loop-found : goal.decreases-loop-found
+decreases-loop-found g l = lines_left l.items.state

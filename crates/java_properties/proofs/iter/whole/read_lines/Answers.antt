@@ -4,6 +4,7 @@ use Rattle.properties_format.specs.ItemsToCome.{ReaderState}
 use Rattle.counted_io.specs.Streams.{reader}
 use Rattle.java_properties.specs.Encoding.{encoding_of}
 use Rattle.java_properties.specs.ReadLines.{entries_in, StopsEarly}
+use Rattle.java_properties.specs.LineJoiner.{Joiner}
 use Rattle.java_properties.specs.PropertiesIter.{entry_of}
 use Rattle.std.proofs.lemmas.List.{map-append}
 use Rattle.java_properties.proofs.Readings.{Collected, collected-start, collected-next, collected-none, collected-lost, collected-malformed, collected-error}
@@ -13,9 +14,9 @@ pub loop-item-init : goal.loop-item-init
 loop-item-init g c =
     let e = encoding_of c.args.encoding in
     let P : ReaderState → Type 0 = λ v. Collected (reader g.R.Read g.R.CountedRead) e c.args.input.now [] [] v c.args.input.now in
-    let Q : List Entry → Type 0 = λ v. Collected (reader g.R.Read g.R.CountedRead) e c.args.input.now [] v c.new-items.result c.args.input.now in
+    let Q : List Entry → Type 0 = λ v. Collected (reader g.R.Read g.R.CountedRead) e c.args.input.now [] v c.new-items.result.state c.args.input.now in
     record {
-      collected = ([], subst Q (sym (ap entries_in c.new-lines.ensures.items)) (subst P (sym c.new-items.ensures) (collected-start e c.args.input.now)));
+      collected = ([], subst Q (sym (ap entries_in c.new-lines.ensures.items)) (subst P (sym (ap (λ v. let w : Joiner = v in w.state) c.new-items.ensures)) (collected-start e c.args.input.now)));
       same_reader = refl;
     }
 
@@ -23,10 +24,10 @@ pub loop-item-preserved : goal.loop-item-preserved
 loop-item-preserved g c =
     let next = rw c.in-Ok.is at c.in-Some.ensures.gives in
     let bytes = c.loop-item.invariant.collected.0 ++ next.bytes in
-    let Q : List Entry → Type 0 = λ v. Collected (reader g.R.Read g.R.CountedRead) (encoding_of c.args.encoding) c.args.input.now bytes v c.next_item.new.self c.next_item.new.reader in
+    let Q : List Entry → Type 0 = λ v. Collected (reader g.R.Read g.R.CountedRead) (encoding_of c.args.encoding) c.args.input.now bytes v c.next_item.new.self.state c.next_item.new.reader in
     let added = ap entries_in c.in_default-push.ensures.items ∙ map-append entry_of c.loop-item.lines.items (c.in-Ok.line ∷ []) in
     record {
-      collected = (bytes, subst Q (sym added) (collected-next c.in-Ok.line c.loop-item.invariant.collected.1 next));
+      collected = (bytes, subst Q (sym added) (collected-next c.loop-item.invariant.collected.1 next));
       same_reader = c.next_item.ensures.same_reader ∙ c.loop-item.invariant.same_reader;
     }
 
@@ -34,7 +35,7 @@ pub returns-in-Err-push-clause-reads : goal.returns-in-Err-push-clause-reads
 returns-in-Err-push-clause-reads g c =
     let next = rw c.in-Ok.is at c.in-Some.ensures.gives in
     let Q : List Entry → Type 0 = λ v. StopsEarly (reader g.R.Read g.R.CountedRead) (encoding_of c.args.encoding) c.args.input.now v c.from-error.result c.next_item.new.reader in
-    let lost = collected-lost c.in-Ok.line c.loop-item.invariant.collected.1 next c.from-error.ensures in
+    let lost = collected-lost c.loop-item.invariant.collected.1 next c.from-error.ensures in
     inr (inr (subst Q (sym (ap entries_in c.in-Err-push.ensures.items)) lost))
 
 pub returns-in-Err-clause-reads : goal.returns-in-Err-clause-reads

@@ -2,12 +2,12 @@ use Rattle.std.proofs.Common.{◌≤◌, ℕ, List}
 use Rattle.counted_io.specs.Streams.{reader, IsSameReader}
 use Rattle.java_properties.specs.LineFinder.{lines_left}
 use Rattle.java_properties.proofs.Items.{Passed}
-use Rattle.java_properties.proofs.iter.items.ItemReader.next_item.Given as goal
+use Rattle.java_properties.proofs.iter.items.ItemReader.advance.Given as goal
 
 abbrev pub invariant-loop-found : goal.invariant-loop-found
 invariant-loop-found g l = record {
-  passed : (bytes : List ℕ) × Passed (reader g.R.Read g.R.CountedRead) l.fn.self l.fn.reader bytes l.self-inside.lines.state l.reader;
-  left : lines_left l.self-inside.lines.state ≤ lines_left l.fn.self;
+  passed : (bytes : List ℕ) × Passed (reader g.R.Read g.R.CountedRead) l.fn.self.state l.fn.reader bytes l.self-inside.lines.state l.reader;
+  left : lines_left l.self-inside.lines.state ≤ lines_left l.fn.self.state;
   same_reader : IsSameReader (reader g.R.Read g.R.CountedRead) l.fn.reader l.reader;
 }
 

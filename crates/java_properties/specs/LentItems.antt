@@ -1,0 +1,163 @@
+-- What a contract sees of items that are lent, and of what is found of them before that.
+use Rattle.std.specs.Prelude.{◌≡◌, ◌⊎◌, ℕ, Bool, true, false, not, List, Option, Some, None, Result, Ok, Err}
+use Rattle.std.specs.Option.{is_some}
+use Rattle.std.specs.Str.{chars}
+use Rattle.std.specs.String.{string_bytes}
+use Rattle.std.specs.Cow.{cow_str_bytes}
+use Rattle.std.specs.declared.borrow.CowStr.{CowStr}
+use Rattle.std.specs.declared.borrow.CowStr.TheVariants.{Borrowed, Owned}
+use Rattle.std.specs.declared.string.String.{String}
+use Rattle.counted_io.specs.Streams.{Reader, IsSameReader}
+use Rattle.properties_format.specs.Entries as entry
+use Rattle.properties_format.specs.Entries.{Content, Entry, item}
+use Rattle.properties_format.specs.Escapes.{Means}
+use Rattle.properties_format.specs.Split as split
+use Rattle.properties_format.specs.Split.{IsSplit}
+use Rattle.properties_format.specs.Items.{ignored}
+use Rattle.properties_format.specs.Reading.Items.{outcome_of}
+use Rattle.java_properties.specs.Errors.{IsBareError}
+use Rattle.java_properties.specs.Escaping.{IsRefused, holds_backslash}
+use Rattle.properties_format.specs.ItemsToCome.{ReaderState}
+use Rattle.java_properties.specs.LineJoiner.{Joiner, JoinsError}
+use Rattle.java_properties.specs.Line.{number_of, content_of}
+use Rattle.java_properties.specs.Parsing.{bytes_in, spanned, in_characters, IsSpan}
+use Rattle.java_properties.specs.PropertiesIter.{Reading, entry_of, IsNoItem, GivesEntry, GivesNone, GivesMalformed}
+use Rattle.java_properties.specs.declared.error.ErrorKind.TheVariants as kind
+use Rattle.java_properties.specs.declared.error.PropertiesError.{PropertiesError}
+use Rattle.java_properties.specs.declared.iter.found.Found.{Found}
+use Rattle.java_properties.specs.declared.iter.found.FoundContent.{FoundContent}
+use Rattle.java_properties.specs.declared.iter.found.FoundContent.TheVariants as found
+use Rattle.java_properties.specs.declared.iter.found.FoundText.{FoundText}
+use Rattle.java_properties.specs.declared.iter.lent.ContentRef.{ContentRef}
+use Rattle.java_properties.specs.declared.iter.lent.ContentRef.TheVariants as lent
+use Rattle.java_properties.specs.declared.iter.lent.LineRef.{LineRef}
+use Rattle.java_properties.specs.declared.line.Line.{Line}
+use Rattle.java_properties.specs.declared.line.LineContent.{LineContent}
+use Rattle.java_properties.specs.declared.line.LineContent.TheVariants as own
+use Rattle.java_properties.specs.declared.parse.ParsedSpans.{ParsedSpans}
+use Rattle.java_properties.specs.declared.parse.ParsedSpans.TheVariants as spans
+use Rattle.java_properties.specs.declared.parse.Span.{Span}
+
+-- ---- lent items
+
+-- the entry that a lent item is
+abbrev pub said_by : ContentRef → Content
+said_by (lent.Comment text) = entry.comment (chars (cow_str_bytes text))
+said_by (lent.KVPair key value) = entry.pair (chars (cow_str_bytes key)) (chars (cow_str_bytes value))
+
+abbrev pub lent_entry : LineRef → Entry
+lent_entry line = item line.line_number (said_by line.content)
+
+abbrev pub is_borrowed : {Z : Type 0} → CowStr Z → Bool
+is_borrowed (Borrowed text) = true
+is_borrowed (Owned text) = false
+
+-- Of this logical line each text is borrowed exactly where its slice of the line holds no backslash.
+abbrev pub BorrowsPlain : List ℕ → ContentRef → Type 0
+BorrowsPlain line (lent.Comment text) = (raw : List ℕ) × IsSplit line (split.comment raw) × (is_borrowed text ≡ not (holds_backslash raw))
+BorrowsPlain line (lent.KVPair key value) =
+    (raw_key : List ℕ) × (raw_value : List ℕ) × IsSplit line (split.pair raw_key raw_value)
+    × (is_borrowed key ≡ not (holds_backslash raw_key)) × (is_borrowed value ≡ not (holds_backslash raw_value))
+
+-- The texts of an item are those of a lent one.
+abbrev pub IsCopyOf : ContentRef → LineContent → Type 0
+IsCopyOf (lent.Comment text) (own.Comment copy) = string_bytes copy ≡ cow_str_bytes text
+IsCopyOf (lent.Comment text) (own.KVPair key value) = ⊥
+IsCopyOf (lent.KVPair key value) (own.Comment copy) = ⊥
+IsCopyOf (lent.KVPair key value) (own.KVPair key_copy value_copy) =
+    (string_bytes key_copy ≡ cow_str_bytes key) × (string_bytes value_copy ≡ cow_str_bytes value)
+
+-- The item of a lent one; or there was no memory for it.
+abbrev pub IsLineOf : LineRef → Result Line PropertiesError → Type 0
+IsLineOf line (Ok copy) = (number_of copy ≡ line.line_number) × IsCopyOf line.content (content_of copy)
+IsLineOf line (Err e) = IsBareError kind.Memory e
+
+abbrev pub IsContentOf : ContentRef → Result LineContent PropertiesError → Type 0
+IsContentOf content (Ok copy) = IsCopyOf content copy
+IsContentOf content (Err e) = IsBareError kind.Memory e
+
+-- ---- what was found
+
+-- the bytes of a text: of its slice of the line, or of what its escapes were resolved to
+abbrev pub bytes_of : {Z : Type 0} → List ℕ → Option (String Z) → List ℕ
+bytes_of slice None = slice
+bytes_of slice (Some text) = string_bytes text
+
+abbrev pub found_bytes : List ℕ → FoundText → List ℕ
+found_bytes line text = bytes_of (bytes_in line text.span) text.resolved
+
+abbrev pub found_content : List ℕ → FoundContent → Content
+found_content line (found.Comment text) = entry.comment (chars (found_bytes line text))
+found_content line (found.KVPair key value) = entry.pair (chars (found_bytes line key)) (chars (found_bytes line value))
+
+-- the entry that was found in this line
+abbrev pub found_entry : List ℕ → Found → Entry
+found_entry line found = item found.line_number (found_content line found.content)
+
+abbrev pub spans_of : FoundContent → ParsedSpans
+spans_of (found.Comment text) = spans.Comment text.span
+spans_of (found.KVPair key value) = spans.KVPair key.span value.span
+
+-- The text is what a slice of the line means, and was resolved exactly where that holds a backslash.
+pub record IsTextIn (line : List ℕ) (text : FoundText) : Type 0 where
+  pub span : IsSpan line text.span
+  pub means : Means (chars (bytes_in line text.span)) (chars (found_bytes line text))
+  pub resolved : is_some text.resolved ≡ holds_backslash (chars (bytes_in line text.span))
+
+abbrev pub AreTextsIn : List ℕ → FoundContent → Type 0
+AreTextsIn line (found.Comment text) = IsTextIn line text
+AreTextsIn line (found.KVPair key value) = IsTextIn line key × IsTextIn line value
+
+-- It was found in this logical line.
+pub record IsFoundIn (line : List ℕ) (found : Found) : Type 0 where
+  pub slices : IsSplit (chars line) (in_characters (spanned line (Some (spans_of found.content))))
+  pub texts : AreTextsIn line found.content
+
+-- The text of this span of the line; or why there is none.
+abbrev pub FindsText : List ℕ → ℕ → Span → Result FoundText PropertiesError → Type 0
+FindsText line number span (Ok text) = (text.span ≡ span) × IsTextIn line text
+FindsText line number span (Err e) = IsRefused (chars (bytes_in line span)) number e
+
+-- The texts of these spans of the line; or why there are none. Of a pair the key breaks first.
+abbrev pub FindsContent : List ℕ → ℕ → ParsedSpans → Result FoundContent PropertiesError → Type 0
+FindsContent line number spans (Ok content) = (spans_of content ≡ spans) × AreTextsIn line content
+FindsContent line number spans (Err e) = IsNoItem number (chars line) e
+
+-- What was found in a logical line, where it isn't blank.
+abbrev pub FindsIn : List ℕ → ℕ → Result (Option Found) PropertiesError → Type 0
+FindsIn line number (Ok None) = outcome_of (chars line) ≡ ignored
+FindsIn line number (Ok (Some found)) = (found.line_number ≡ number) × IsFoundIn line found
+FindsIn line number (Err e) = IsNoItem number (chars line) e
+
+-- What was found is an item; or there was no memory for it, and the reading ended.
+abbrev pub Owns : Joiner → Found → Result Line PropertiesError → Joiner → Type 0
+Owns old found (Ok line) new = (entry_of line ≡ found_entry old.line found) × (new ≡ old)
+Owns old found (Err e) new = IsBareError kind.Memory e × (new ≡ record old { state = record old.state { is_done = true } })
+
+-- ---- the calls
+
+-- What the next item is, as it is found, and what looking for it leaves. After `None` and after an error the iterator is
+-- at its end.
+abbrev pub FindsItem : {R : Type 0} → Reader R → ReaderState → R → Option (Result Found PropertiesError) → Joiner → R → Type 0
+FindsItem reader old from None new to = GivesNone reader old from new.state to
+FindsItem reader old from (Some (Ok found)) new to = GivesEntry reader old from (found_entry new.line found) new.state to × IsFoundIn new.line found
+FindsItem reader old from (Some (Err e)) new to =
+    (old.is_done ≡ false) × (new.state.is_done ≡ true) × (GivesMalformed reader old from e to ⊎ JoinsError reader old from e new.state to)
+
+-- the same of an iterator, which keeps the reader that it was made of
+abbrev pub AdvanceGives : {R : Type 0} → Reader R → Reading R → Option (Result Found PropertiesError) → Reading R → Type 0
+AdvanceGives reader old answer new =
+    FindsItem reader old.state old.reader answer (record { state = new.state; line = new.line }) new.reader × IsSameReader reader old.reader new.reader
+
+-- What the next item is, as it is lent, and what lending it leaves.
+abbrev pub LendsItem : {R : Type 0} → Reader R → Reading R → Option (Result LineRef PropertiesError) → Reading R → Type 0
+LendsItem reader old None new = GivesNone reader old.state old.reader new.state new.reader
+LendsItem reader old (Some (Ok line)) new =
+    GivesEntry reader old.state old.reader (lent_entry line) new.state new.reader × BorrowsPlain (chars new.line) line.content
+LendsItem reader old (Some (Err e)) new =
+    (old.state.is_done ≡ false) × (new.state.is_done ≡ true)
+    × (GivesMalformed reader old.state old.reader e new.reader ⊎ JoinsError reader old.state old.reader e new.state new.reader)
+
+-- It is the next item, by what some reading of the iterator's reader gave.
+abbrev pub NextRefGives : {R : Type 0} → Reader R → Reading R → Option (Result LineRef PropertiesError) → Type 0
+NextRefGives {R} reader old answer = (new : Reading R) × LendsItem reader old answer new × IsSameReader reader old.reader new.reader

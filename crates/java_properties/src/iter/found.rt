@@ -1,0 +1,155 @@
+// What is found of an item before it is lent: it borrows nothing, so that reading can go on around it.
+
+ghost use Rattle.std.specs.Prelude.{◌≡◌, Some, not};
+ghost use Rattle.std.specs.Option.{is_some};
+ghost use Rattle.std.specs.Str.{chars};
+ghost use Rattle.std.specs.Cow.{cow_str_bytes};
+ghost use Rattle.java_properties.specs.Parsing.{AreSpans, IsSpan, in_characters, spanned};
+ghost use Rattle.properties_format.specs.Split.{IsSplit};
+ghost use Rattle.java_properties.specs.LentItems.{lent_entry, said_by, is_borrowed, BorrowsPlain, found_bytes, found_content, found_entry, AreTextsIn, spans_of, IsFoundIn, IsTextIn, FindsText, FindsContent, FindsIn};
+
+use crate::error::PropertiesError;
+use crate::escape::unescape;
+use crate::iter::lent::{ContentRef, LineRef};
+use crate::parse::{ParsedSpans, Span, parse_spans};
+use std::alloc::Global;
+use std::borrow::CowStr;
+
+/// An item that [`advance`](crate::PropertiesIter::advance) has found, for
+/// [`get`](crate::PropertiesIter::get).
+///
+/// It borrows nothing: it holds where the texts stand in the line that the iterator keeps, and the texts whose
+/// escapes had to be resolved.
+#[derive(Drop)]
+pub struct Found {
+    line_number: usize,
+    content: FoundContent,
+}
+
+#[derive(Drop)]
+enum FoundContent {
+    Comment(FoundText),
+    KVPair(FoundText, FoundText),
+}
+
+#[derive(Drop)]
+struct FoundText {
+    span: Span,
+    // The text with its escapes resolved, where its slice of the line holds a backslash.
+    resolved: Option<String>,
+}
+
+/// What a logical line is that begins in the line of this number, where it isn't blank.
+pub(crate) fn find_in(
+    alloc: Global,
+    line_number: usize,
+    line: &str,
+) -> Result<Option<Found>, PropertiesError>
+    ensures { FindsIn line.now line_number result }
+{
+    let Some(spans) = parse_spans(line) else {
+        return Ok(None);
+    };
+    match find_content(alloc, line_number, line, spans) {
+        Ok(content) => Ok(Some(Found {
+            line_number,
+            content,
+        })),
+        Err(error) => Err(error),
+    }
+}
+
+fn find_content(
+    alloc: Global,
+    line_number: usize,
+    line: &str,
+    spans: ParsedSpans,
+) -> Result<FoundContent, PropertiesError>
+    requires spans { AreSpans line.now (Some spans) }
+    requires slices { IsSplit (chars line.now) (in_characters (spanned line.now (Some spans))) }
+    ensures { FindsContent line.now line_number spans result }
+{
+    match spans {
+        ParsedSpans::Comment(text) => match find_text(alloc, line_number, line, text) {
+            Ok(text) => Ok(FoundContent::Comment(text)),
+            Err(error) => Err(error),
+        },
+        ParsedSpans::KVPair(key, value) => {
+            let key = match find_text(alloc, line_number, line, key) {
+                Ok(key) => key,
+                Err(error) => return Err(error),
+            };
+            match find_text(alloc, line_number, line, value) {
+                Ok(value) => Ok(FoundContent::KVPair(key, value)),
+                Err(error) => Err(error),
+            }
+        }
+    }
+}
+
+fn find_text(
+    alloc: Global,
+    line_number: usize,
+    line: &str,
+    span: Span,
+) -> Result<FoundText, PropertiesError>
+    requires { IsSpan line.now span }
+    ensures { FindsText line.now line_number span result }
+{
+    match unescape(alloc, span.cut(line), line_number) {
+        Ok(CowStr::Borrowed(_)) => Ok(FoundText {
+            span,
+            resolved: None,
+        }),
+        Ok(CowStr::Owned(text)) => Ok(FoundText {
+            span,
+            resolved: Some(text),
+        }),
+        Err(error) => Err(error),
+    }
+}
+
+impl Found {
+    /// The item, cut out of the line in which it was found.
+    pub(crate) fn cut(self, line: &str) -> LineRef<'_>
+        requires { IsFoundIn line.now self }
+        ensures item { lent_entry result ≡ found_entry line.now self }
+        ensures borrowed { BorrowsPlain (chars line.now) result.content }
+    {
+        let Found {
+            line_number,
+            content,
+        } = self;
+        LineRef::new(line_number, content.cut(line))
+    }
+}
+
+impl FoundContent {
+    fn cut(self, line: &str) -> ContentRef<'_>
+        requires texts { AreTextsIn line.now self }
+        requires slices { IsSplit (chars line.now) (in_characters (spanned line.now (Some (spans_of self)))) }
+        ensures said { said_by result ≡ found_content line.now self }
+        ensures borrowed { BorrowsPlain (chars line.now) result }
+    {
+        match self {
+            FoundContent::Comment(text) => ContentRef::Comment(text.cut(line)),
+            FoundContent::KVPair(key, value) => {
+                ContentRef::KVPair(key.cut(line), value.cut(line))
+            }
+        }
+    }
+}
+
+impl FoundText {
+    fn cut(self, line: &str) -> CowStr<'_>
+        requires { IsTextIn line.now self }
+        ensures text { cow_str_bytes result ≡ found_bytes line.now self }
+        ensures borrowed { is_borrowed result ≡ not (is_some self.resolved) }
+    {
+        let FoundText { span, resolved } = self;
+        match resolved {
+            None => CowStr::Borrowed(span.cut(line)),
+            Some(text) => CowStr::Owned(text),
+        }
+    }
+}
