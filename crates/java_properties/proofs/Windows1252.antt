@@ -44,10 +44,11 @@ pub encodes-more : (text run rest more : List ℕ) (at c b : ℕ) → at < lengt
     → EncodesFront text (take (at + 1) (set run at b)) more
 encodes-more text run rest more at c b h front e k =
     let xs = front.0 in
-    let byte : map windows_1252_byte (c ∷ []) ≡ map Some (b ∷ []) = ap (λ o. o ∷ []) k in
-    (xs ++ c ∷ [],
-    front.1 ∙ ap (λ v. xs ++ v) e ∙ sym (append_assoc xs (c ∷ []) more),
-    map-append windows_1252_byte xs (c ∷ [])
-    ∙ ap₂ (λ x y. x ++ y) front.2 byte
-    ∙ sym (map-append Some (take at run) (b ∷ []))
-    ∙ ap (map Some) (sym (take_more_set run at b h)))
+    let byte : map windows_1252_byte (c ∷ []) ≡ map Some (b ∷ []) = ap (λ o. o ∷ []) k in (
+      xs ++ c ∷ [],
+      front.1 ∙ ap (λ v. xs ++ v) e ∙ sym (append_assoc xs (c ∷ []) more),
+      map-append windows_1252_byte xs (c ∷ [])
+          ∙ ap₂ (λ x y. x ++ y) front.2 byte
+          ∙ sym (map-append Some (take at run) (b ∷ []))
+          ∙ ap (map Some) (sym (take_more_set run at b h)),
+    )

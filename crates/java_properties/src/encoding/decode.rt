@@ -8,8 +8,7 @@ ghost use Rattle.java_properties.specs.Encoding.{encoding_of};
 ghost use Rattle.java_properties.specs.Decoding.{IsBorrowed, IsText, text_of};
 
 use super::run::decode_run;
-use super::windows_1252;
-use super::{Encoding, utf_8};
+use super::{Encoding, utf_8, windows_1252};
 use std::alloc::{AllocError, Global};
 use std::borrow::CowStr;
 

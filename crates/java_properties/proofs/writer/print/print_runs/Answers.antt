@@ -25,8 +25,9 @@ loop-characters-preserved c =
     let text = chars c.loop-characters.rest.now in
     let after = c.next.new.self.rest.now in
     let parts = chars_past_char run.result.rest.now after c.in-Some.character run.ensures.is_text (sym c.chars-characters.ensures.rest ∙ c.in-Some.ensures.steps.0) in
-    let E : List ℕ → Type 0 = EncodesFront text bytes in
-    (search rules,
-    rw c.as_str-rest.ensures
-    (run-more c.loop-characters.line.items c.print_bytes.new.line.items c.print_in_key_or_value.new.line.items _ text bytes (chars after) c.in-Some.character c.loop-characters.invariant.1
-    (subst E parts run.ensures.encoded) c.in_ok-print_bytes.ensures c.in_ok-print_in_key_or_value-in-Some.ensures))
+    let E : List ℕ → Type 0 = EncodesFront text bytes in (
+      search rules,
+      rw c.as_str-rest.ensures
+          (run-more c.loop-characters.line.items c.print_bytes.new.line.items c.print_in_key_or_value.new.line.items _ text bytes (chars after) c.in-Some.character c.loop-characters.invariant.1
+          (subst E parts run.ensures.encoded) c.in_ok-print_bytes.ensures c.in_ok-print_in_key_or_value-in-Some.ensures),
+    )
