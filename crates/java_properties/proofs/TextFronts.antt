@@ -1,5 +1,5 @@
 -- Fronts of bytes that are text as they stand.
-use Rattle.std.proofs.Common.{◌≡◌, ◌↔◌, ◌<◌, ℕ, Bool, true, nat_lt, List, [], ◌∷◌, ◌++◌, length, take, drop, ◌-◌, length-drop, refl, sym, ap, ◌∙◌, subst, ltb-true, inl, inr, append-nil, append_assoc}
+use Rattle.std.proofs.Common.{◌≡◌, ◌↔◌, ◌<◌, ◌≤◌, arith, length-append, ℕ, Bool, true, nat_lt, List, [], ◌∷◌, ◌++◌, length, take, drop, ◌-◌, length-drop, refl, sym, ap, ◌∙◌, subst, ltb-true, inl, inr, append-nil, append_assoc}
 use Rattle.std.specs.Prelude.{Result, Ok, Err, MatchResult, OnOk, is_ok, IsSome, take_while, if◌then◌else◌}
 use Rattle.std.specs.Result.{result_ok}
 use Rattle.std.specs.List.{AllByRecursion}
@@ -11,7 +11,7 @@ use Rattle.std.proofs.lemmas.Bool.{cases_Bool, and_from}
 use Rattle.std.proofs.lemmas.List.{nil_from_length}
 use Rattle.std.proofs.lemmas.List.Elements.{All-from_recursion}
 use Rattle.std.proofs.lemmas.List.Sums.{take_while-cons}
-use Rattle.std.proofs.lemmas.Str.{chars-append, chars-encodes}
+use Rattle.std.proofs.lemmas.Str.{chars-append, chars-encodes, length-encode, len_utf8_bounds}
 use Rattle.std.proofs.lemmas.Str.Ascii.{IsAscii-from_all}
 use Rattle.properties_format.specs.Pieces.{characters}
 use Rattle.properties_format.specs.Encoding.{Encoding, windows_1252, utf_8, utf_16le, utf_16be}
@@ -65,18 +65,11 @@ text-decoded utf_8 d h = whole-front utf_8 d (characters-text d [] (IsUtf8-from_
 text-decoded utf_16le d h = absurd h
 text-decoded utf_16be d h = absurd h
 
--- A text or a character that is pushed.
+-- A text that is pushed.
 pub pushed-text : {E : Type 0} (r : Result Unit E) (old new more : List ℕ)
     → IsUtf8 old → new ≡ (if is_ok r then old ++ more else old) → OnOk r (chars new ≡ chars old ++ chars more)
 pushed-text (Ok done) old new more u e = ap chars e ∙ chars-append old more u
 pushed-text (Err error) old new more u e = tt
-
-pub pushed-character : {E : Type 0} (r : Result Unit E) (old new : List ℕ) (c : ℕ) → IsUtf8 old → IsScalar c
-    → new ≡ (if is_ok r then old ++ encode_utf8 c else old) → OnOk r (chars new ≡ chars old ++ c ∷ [])
-pushed-character (Ok done) old new c u h e =
-    let own : chars (encode_utf8 c) ≡ c ∷ [] = ap chars (sym (append-nil (encode_utf8 c))) ∙ chars-encodes (c ∷ []) (and_from (is_scalar c) true h refl) in
-    ap chars e ∙ chars-append old (encode_utf8 c) u ∙ ap (λ v. chars old ++ v) own
-pushed-character (Err error) old new c u h e = tt
 
 -- ---- The steps of decoding: what was decoded, `text`, and the characters of the `rest` make `all`.
 
@@ -91,17 +84,42 @@ module _ (e : Encoding) (text front rest after all : List ℕ) (joins : text ++ 
       ∙ ap (λ v. text ++ v) (sym split)
       ∙ joins
 
-  -- the front is taken, and the first piece of what is after it
-  pub decoded-more : (b : ℕ) (d : List ℕ) (c n : ℕ) → after ≡ b ∷ d → c ≡ (first_piece e b d).character → n ≡ length (first_piece e b d).bytes
-      → ((text ++ front) ++ c ∷ []) ++ characters (pieces_of e (drop n after)) ≡ all
-  decoded-more b d c n h k l =
-      let step : characters (pieces_of e after) ≡ c ∷ characters (pieces_of e (drop n after)) =
-      rw (h, k, l) (characters-step e b d) in
-      append_assoc (text ++ front) (c ∷ []) (characters (pieces_of e (drop n after)))
-      ∙ ap (λ v. (text ++ front) ++ v) (sym step)
+  -- the front is taken, and a run of what is after it
+  pub decoded-run : (more last : List ℕ) → more ++ characters (pieces_of e last) ≡ characters (pieces_of e after)
+      → ((text ++ front) ++ more) ++ characters (pieces_of e last) ≡ all
+  decoded-run more last h =
+      append_assoc (text ++ front) more (characters (pieces_of e last))
+      ∙ ap (λ v. (text ++ front) ++ v) h
       ∙ append_assoc text front (characters (pieces_of e after))
       ∙ ap (λ v. text ++ v) (sym split)
       ∙ joins
+
+-- a text and a character more
+pub chars-more : (old new : List ℕ) (c : ℕ) → IsUtf8 old → IsScalar c → new ≡ old ++ encode_utf8 c → chars new ≡ chars old ++ c ∷ []
+chars-more old new c u h e =
+    let own : chars (encode_utf8 c) ≡ c ∷ [] = ap chars (sym (append-nil (encode_utf8 c))) ∙ chars-encodes (c ∷ []) (and_from (is_scalar c) true h refl) in
+    ap chars e ∙ chars-append old (encode_utf8 c) u ∙ ap (λ v. chars old ++ v) own
+
+-- what is written byte by byte after a front
+pub put-more : (front xs old new : List ℕ) (b : ℕ) → new ≡ old ++ b ∷ [] → old ≡ front ++ xs → new ≡ front ++ (xs ++ b ∷ [])
+put-more front xs old new b h k = h ∙ ap (λ v. v ++ b ∷ []) k ∙ append_assoc front xs (b ∷ [])
+
+-- what follows a character is shorter
+pub past-shorter : (bs rest : List ℕ) (c : ℕ) → bs ≡ encode_utf8 c ++ rest → length rest < length bs
+past-shorter bs rest c h =
+    let one : 1 ≤ length (encode_utf8 c) = rw (length-encode c) (len_utf8_bounds c).0 in
+    rw h (omega (arith, length-append (encode_utf8 c) rest, one))
+
+-- the first piece is taken to a text
+pub decoded-one : (e : Encoding) (old new all : List ℕ) (b : ℕ) (d : List ℕ) (c n : ℕ) → IsUtf8 old → IsScalar c → new ≡ old ++ encode_utf8 c
+    → chars old ++ characters (pieces_of e (b ∷ d)) ≡ all → c ≡ (first_piece e b d).character → n ≡ length (first_piece e b d).bytes
+    → chars new ++ characters (pieces_of e (drop n (b ∷ d))) ≡ all
+decoded-one e old new all b d c n u s h joins k l =
+    let step : characters (pieces_of e (b ∷ d)) ≡ c ∷ characters (pieces_of e (drop n (b ∷ d))) = rw (k, l) (characters-step e b d) in
+    ap (λ v. v ++ characters (pieces_of e (drop n (b ∷ d)))) (chars-more old new c u s h)
+    ∙ append_assoc (chars old) (c ∷ []) (characters (pieces_of e (drop n (b ∷ d))))
+    ∙ ap (λ v. chars old ++ v) (sym step)
+    ∙ joins
 
 -- from a place to the end
 pub taken-rest : (n : ℕ) (d : List ℕ) → take (length d - n) (drop n d) ≡ drop n d

@@ -1,7 +1,9 @@
 -- The byte of a character, by its place in the table.
-use Rattle.std.proofs.Common.{◌≡◌, ℕ, ◌+◌, ◌<◌, ◌≤◌, ◌==◌, ◌&&◌, not, false, cond, nat_lt, nat_le, List, [], ◌∷◌, Some, refl, sym, ap, ◌∙◌, inl, inr, add_assoc, arith, le-leb, lt-ltb, le-ltb}
+use Rattle.std.proofs.Common.{◌≡◌, ℕ, ◌+◌, ◌<◌, ◌≤◌, ◌==◌, ◌&&◌, not, false, cond, nat_lt, nat_le, List, [], ◌∷◌, ◌++◌, map, take, set, length, append_assoc, ap₂, Some, refl, sym, ap, ◌∙◌, inl, inr, add_assoc, arith, le-leb, lt-ltb, le-ltb}
 use Rattle.std.specs.Prelude.{option_map, position}
 use Rattle.std.specs.List.{position_from}
+use Rattle.std.proofs.lemmas.List.{take_more_set, map-append}
+use Rattle.java_properties.specs.Encoding.{EncodesFront}
 use Rattle.std.proofs.lemmas.Bool.{cases_Bool, cond-false, cases_lt, and_from, and_left, and_right}
 use Rattle.std.proofs.lemmas.Iterator.Adapters.{position_from-zero}
 use Rattle.properties_format.specs.Windows1252.{windows_1252_table, is_in_table, place_from, windows_1252_byte}
@@ -36,3 +38,17 @@ byte_by_place c place h e =
     ∙ place_from-position 0x80 windows_1252_table c
     ∙ ap (option_map (λ i. 0x80 + i)) (sym e)
     ∙ ap Some (let k : 0x80 + place ≡ place + 0x80 = omega arith in k)
+
+-- one character more at the front of a text
+pub encodes-more : (text run rest more : List ℕ) (at c b : ℕ) → at < length run → EncodesFront text (take at run) rest → rest ≡ c ∷ more → windows_1252_byte c ≡ Some b
+    → EncodesFront text (take (at + 1) (set run at b)) more
+encodes-more text run rest more at c b h front e k =
+    let xs = front.0 in
+    let byte : map windows_1252_byte (c ∷ []) ≡ map Some (b ∷ []) = ap (λ o. o ∷ []) k in (
+      xs ++ c ∷ [],
+      front.1 ∙ ap (λ v. xs ++ v) e ∙ sym (append_assoc xs (c ∷ []) more),
+      map-append windows_1252_byte xs (c ∷ [])
+          ∙ ap₂ (λ x y. x ++ y) front.2 byte
+          ∙ sym (map-append Some (take at run) (b ∷ []))
+          ∙ ap (map Some) (sym (take_more_set run at b h)),
+    )

@@ -1,10 +1,11 @@
 -- What is appended for a text, by where it stands.
-use Rattle.std.specs.Prelude.{◌≡◌, ℕ, nat_lt, ◌==◌, Bool, if◌then◌else◌, List, [], ◌∷◌, ◌++◌, Result, OnOk}
+use Rattle.std.specs.Prelude.{◌≡◌, ℕ, nat_lt, ◌==◌, Bool, false, if◌then◌else◌, List, [], ◌∷◌, ◌++◌, Result, OnOk}
 use Rattle.std.specs.Global.{Vec}
 use Rattle.std.specs.Str.{chars}
 use Rattle.properties_format.specs.Printing as format
 use Rattle.properties_format.specs.Text.{tab, line_feed, form_feed, space, backslash}
 use Rattle.java_properties.specs.Encoding.{output_of}
+use Rattle.java_properties.specs.declared.encoding.encode.OutputEncoding.TheVariants.{Windows1252}
 use Rattle.java_properties.specs.declared.writer.print.Repertoire.{Repertoire}
 use Rattle.java_properties.specs.declared.writer.print.Place.{Place}
 use Rattle.java_properties.specs.declared.writer.print.Place.TheVariants.{KeyOrValue, Comment, Prefix}
@@ -17,6 +18,10 @@ place_of Prefix = format.in_prefix
 -- where memory was found, the buffer has the bytes after those that it had
 abbrev pub AppendsOnOk : {E : Type 0} → Vec ℕ → List ℕ → Result Unit E → Vec ℕ → Type 0
 AppendsOnOk old bytes result new = OnOk result (new.items ≡ old.items ++ bytes)
+
+-- all of windows-1252, as while ASCII alone is off
+abbrev pub all_of_windows_1252 : Repertoire
+all_of_windows_1252 = record { encoding = Windows1252; ascii_only = false }
 
 -- the bytes of a character, of a text and of a key, in a repertoire
 abbrev pub character_bytes : Repertoire → Place → ℕ → List ℕ

@@ -10,12 +10,13 @@ mod decode_iter;
 mod encode;
 mod first_piece;
 mod read_ahead;
+mod run;
 mod utf_16;
 mod utf_8;
 mod windows_1252;
 
 pub use decode_iter::DecodeIter;
-pub use encode::{OutputEncoding, push_encoded};
+pub use encode::{OutputEncoding, encode_run, push_encoded};
 
 /// The encodings of properties files, by the names of the WHATWG Encoding Standard.
 #[allow(non_camel_case_types)]

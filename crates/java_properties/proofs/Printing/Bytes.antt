@@ -1,22 +1,24 @@
 -- Texts that are printed byte by byte.
 use Rattle.std.proofs.Common.{◌≡◌, ℕ, ◌+◌, ◌-◌, ◌<◌, ◌≤◌, ◌==◌, Bool, true, false, cond, nat_lt, List, [], ◌∷◌, ◌++◌, refl, sym, ap, ap₂, ◌∙◌, inl, inr, append_assoc, append-nil, arith, length, take, drop, get_or, lit<, le-ltb, lt-ltb, ne_eqb, eqb-true}
-use Rattle.std.specs.Prelude.{not, encode_utf8, encode_utf8_all, slice_index, unwrap_or}
+use Rattle.std.specs.Prelude.{Some, map, not, ◌&&◌, encode_utf8, encode_utf8_all, slice_index, unwrap_or}
 use Rattle.std.specs.Str.{chars, IsUtf8, IsAscii}
-use Rattle.std.proofs.lemmas.Bool.{cases_Bool, cases_lt, agree_below_at, false_from_ne_true}
+use Rattle.std.proofs.lemmas.Bool.{cases_Bool, cases_lt, cond-true, cond-false, agree_below_at, false_from_ne_true}
 use Rattle.std.specs.List.{All}
 use Rattle.std.proofs.lemmas.List.Elements.{All-head, All-tail}
 use Rattle.std.proofs.lemmas.Str.Ascii.{All-from_ascii}
 use Rattle.std.proofs.lemmas.Str.{encodes-chars, chars-IsAscii, encode_ascii}
 use Rattle.std.proofs.lemmas.List.{take_more, take_all, length-drop, take-append-drop, take-take}
 use Rattle.properties_format.specs.Text.{space, backslash}
-use Rattle.properties_format.specs.Encoding.{Encoding, utf_8}
-use Rattle.properties_format.specs.Printing.{in_key_or_value, literal, is_special, has_letter, letter_escape, spelt, spelt_text, encoded_text}
-use Rattle.properties_format.proofs.Printing.Characters.{AreAscii, encoded_text-append, encoded_text-ascii, encoded-ascii, special-ascii, letter_escape-ascii}
+use Rattle.properties_format.specs.Windows1252.{windows_1252_byte, windows_1252_table, is_in_table, place_from}
+use Rattle.properties_format.specs.Encoding.{Encoding, windows_1252, utf_8, one_byte, encoded}
+use Rattle.properties_format.specs.Printing.{in_key_or_value, unicode_escape, literal, is_special, has_letter, letter_escape, spelt, spelt_text, encoded_text}
+use Rattle.properties_format.proofs.Printing.Characters.{AreAscii, encoded_text-append, spelt_text-append, encoded_text-ascii, encoded-ascii, special-ascii, letter_escape-ascii}
 use Rattle.properties_format.proofs.Encodings.Utf8Characters.{encode-two, encode-three, encode-four}
-use Rattle.java_properties.specs.Encoding.{output_of}
-use Rattle.java_properties.specs.Printing.{spelt_byte, spelt_bytes, backslashes_before, last_of, Stands}
+use Rattle.java_properties.specs.Encoding.{output_of, EncodesFront}
+use Rattle.java_properties.specs.Printing.{spelt_byte, spelt_bytes, backslashes_before, last_of, text_bytes, Stands, all_of_windows_1252}
 use Rattle.java_properties.specs.declared.writer.print.Repertoire.{Repertoire}
 use Rattle.java_properties.specs.declared.encoding.encode.OutputEncoding.TheVariants.{Utf8}
+use Rattle.java_properties.specs.declared.writer.print.Place.TheVariants.{KeyOrValue}
 use Rattle.java_properties.proofs.Printing.Characters.{encoded_escape}
 
 -- ---- bytes, one after another
@@ -176,3 +178,80 @@ off false h = refl
 
 pub stands-utf_8 : (r : Repertoire) (bs : List ℕ) → r.encoding ≡ Utf8 → not r.ascii_only ≡ true → IsUtf8 bs → Stands r bs
 stands-utf_8 r bs is on u = rw (is, off r.ascii_only on) (utf_8-text (chars bs) ∙ ap spelt_bytes (encodes-chars bs u))
+
+-- ---- windows-1252
+
+place-past : (n : ℕ) (xs : List ℕ) (c b : ℕ) → place_from n xs c ≡ Some b → n ≤ b
+place-past n [] c b h = absurd (cc)
+place-past n (x ∷ xs) c b h = elim (cases_Bool (x == c)) [
+  | inl e ↦ let same : Some n ≡ Some b = sym (cond-true (x == c) (Some n) (place_from (n + 1) xs c) e) ∙ h in le_from_same n b (some-same n b same)
+  | inr e ↦ le-before n b (place-past (n + 1) xs c b (sym (cond-false (x == c) (Some n) (place_from (n + 1) xs c) e) ∙ h))
+]
+  where
+    some-same : (n b : ℕ) → Some n ≡ Some b → n ≡ b
+    some-same n b h = cc
+
+    le_from_same : (n b : ℕ) → n ≡ b → n ≤ b
+    le_from_same n b h = omega arith
+
+    le-before : (n b : ℕ) → n + 1 ≤ b → n ≤ b
+    le-before n b h = omega arith
+
+-- the byte of a character past ASCII is past ASCII
+byte-past : (c b : ℕ) → 0x80 ≤ c → windows_1252_byte c ≡ Some b → 0x80 ≤ b
+byte-past c b h e = elim (cases_Bool (nat_lt c 0x100 && not (is_in_table c))) [
+  | inl k ↦ own c b h (sym (cond-true (nat_lt c 0x100 && not (is_in_table c)) (Some c) (place_from 0x80 windows_1252_table c) k) ∙ e)
+  | inr k ↦ place-past 0x80 windows_1252_table c b (sym (cond-false (nat_lt c 0x100 && not (is_in_table c)) (Some c) (place_from 0x80 windows_1252_table c) k) ∙ e)
+]
+  where
+    own : (c b : ℕ) → 0x80 ≤ c → Some c ≡ Some b → 0x80 ≤ b
+    own c b h e = let same : c ≡ b = cc in omega arith
+
+-- a character that has a byte is printed as that byte is
+byte-spelt : (c b : ℕ) → windows_1252_byte c ≡ Some b → encoded_text windows_1252 (spelt windows_1252 false in_key_or_value c) ≡ spelt_byte b
+byte-spelt c b e = elim (cases_lt c 0x80) [
+  | inl h ↦
+      let own : Some (b ∷ []) ≡ Some (c ∷ []) = sym (ap one_byte e) ∙ encoded-ascii windows_1252 c h in
+      let same : b ≡ c = cc in
+      ascii-spelt windows_1252 false c h ∙ ap spelt_byte (sym same)
+  | inr h ↦
+      let known : encoded windows_1252 c ≡ Some (b ∷ []) = ap one_byte e in
+      rw (past-special c h, past-letter c h, past-control c h, known) (rw known (sym (past-byte b (byte-past c b h e))))
+]
+
+-- and so are several
+bytes-spelt : (cs bs : List ℕ) → map windows_1252_byte cs ≡ map Some bs → encoded_text windows_1252 (spelt_text windows_1252 false in_key_or_value cs) ≡ spelt_bytes bs
+bytes-spelt [] [] h = refl
+bytes-spelt [] (b ∷ bs) h = absurd (cc)
+bytes-spelt (c ∷ cs) [] h = absurd (cc)
+bytes-spelt (c ∷ cs) (b ∷ bs) h =
+    let first : windows_1252_byte c ≡ Some b = cc in
+    let more : map windows_1252_byte cs ≡ map Some bs = cc in
+    encoded_text-append windows_1252 (spelt windows_1252 false in_key_or_value c) (spelt_text windows_1252 false in_key_or_value cs)
+    ∙ ap₂ (λ x y. x ++ y) (byte-spelt c b first) (bytes-spelt cs bs more)
+
+spelt-front : (text bs rest : List ℕ) → EncodesFront text bs rest
+    → text_bytes all_of_windows_1252 KeyOrValue text ≡ spelt_bytes bs ++ text_bytes all_of_windows_1252 KeyOrValue rest
+spelt-front text bs rest h =
+    ap (text_bytes all_of_windows_1252 KeyOrValue) h.1
+    ∙ ap (encoded_text windows_1252) (spelt_text-append windows_1252 false in_key_or_value h.0 rest)
+    ∙ encoded_text-append windows_1252 (spelt_text windows_1252 false in_key_or_value h.0) (spelt_text windows_1252 false in_key_or_value rest)
+    ∙ ap (λ v. v ++ text_bytes all_of_windows_1252 KeyOrValue rest) (bytes-spelt h.0 bs h.2)
+
+-- a run is the rest of a text
+pub run-last : (line new whole text bs : List ℕ) → line ++ text_bytes all_of_windows_1252 KeyOrValue text ≡ whole → EncodesFront text bs [] → new ≡ line ++ spelt_bytes bs
+    → new ≡ whole
+run-last line new whole text bs held h e =
+    e ∙ ap (λ v. line ++ v) (sym (append-nil (spelt_bytes bs)) ∙ sym (spelt-front text bs [] h)) ∙ held
+
+-- a run, and a character after it
+pub run-more : (line new last whole text bs rest : List ℕ) (c : ℕ) → line ++ text_bytes all_of_windows_1252 KeyOrValue text ≡ whole → EncodesFront text bs (c ∷ rest)
+    → new ≡ line ++ spelt_bytes bs → last ≡ new ++ encoded_text windows_1252 (spelt windows_1252 false in_key_or_value c)
+    → last ++ text_bytes all_of_windows_1252 KeyOrValue rest ≡ whole
+run-more line new last whole text bs rest c held h e f =
+    ap (λ v. v ++ text_bytes all_of_windows_1252 KeyOrValue rest) (f ∙ ap (λ v. v ++ encoded_text windows_1252 (spelt windows_1252 false in_key_or_value c)) e)
+    ∙ append_assoc (line ++ spelt_bytes bs) (encoded_text windows_1252 (spelt windows_1252 false in_key_or_value c)) (text_bytes all_of_windows_1252 KeyOrValue rest)
+    ∙ append_assoc line (spelt_bytes bs) (encoded_text windows_1252 (spelt windows_1252 false in_key_or_value c) ++ text_bytes all_of_windows_1252 KeyOrValue rest)
+    ∙ ap (λ v. line ++ (spelt_bytes bs ++ v)) (sym (encoded_text-append windows_1252 (spelt windows_1252 false in_key_or_value c) (spelt_text windows_1252 false in_key_or_value rest)))
+    ∙ ap (λ v. line ++ v) (sym (spelt-front text bs (c ∷ rest) h))
+    ∙ held

@@ -1,17 +1,19 @@
 // Bytes to characters.
 
-ghost use Rattle.std.specs.Prelude.{◌≡◌, [], ◌∷◌, OnOk, ◌≤◌, ◌++◌, ◌↔◌, length, IfOk, IfSome, IsSome};
+ghost use Rattle.std.specs.Prelude.{◌≡◌, OnOk, ◌≤◌, ◌++◌, ◌↔◌, length, IfOk, IfSome, IsSome};
 ghost use Rattle.std.specs.Str.{chars};
 ghost use Rattle.std.specs.String.{string_bytes};
 ghost use Rattle.std.specs.Cow.{cow_str_bytes};
 ghost use Rattle.java_properties.specs.Encoding.{encoding_of};
 ghost use Rattle.java_properties.specs.Decoding.{IsBorrowed, IsText, text_of};
 
-use super::first_piece::first_piece;
-use super::windows_1252::{self, character_of};
-use super::{Encoding, utf_8};
+use super::run::decode_run;
+use super::{Encoding, utf_8, windows_1252};
 use std::alloc::{AllocError, Global};
 use std::borrow::CowStr;
+
+// How many bytes of text are decoded at once.
+const RUN: usize = 256;
 
 /// The text of some bytes by themselves, as of one line. It is lent where the bytes are that text already.
 pub fn decode_line(
@@ -41,21 +43,24 @@ fn as_text(encoding: Encoding, bytes: &[u8]) -> Option<&str>
     }
 }
 
-// The text of some bytes: what stands as text at the front, one piece, and so on.
+// The text of some bytes: what stands as text at the front, a run of characters, and so on.
 fn decode(alloc: Global, encoding: Encoding, bytes: &[u8]) -> Result<String, AllocError>
     ensures { IfOk result (λ text. chars (string_bytes text) ≡ text_of encoding bytes.now) }
 {
     let mut text = String::with_capacity(alloc, bytes.len())?;
+    let mut run = [0; RUN];
     let mut rest = bytes;
     loop {
         let (front, after) = text_front(encoding, rest);
         push_text(&mut text, front)?;
-        let Some((first, others)) = after.split_first() else {
+        if after.is_empty() {
             return Ok(text);
-        };
-        let piece = first_piece(encoding, *first, others);
-        push_character(&mut text, piece.character)?;
-        rest = &after[piece.length..];
+        }
+        let decoded = decode_run(&mut run, encoding, after);
+        // SAFETY: a run is text.
+        let more = unsafe { str::from_utf8_unchecked(&run[..decoded.length]) };
+        push_text(&mut text, more)?;
+        rest = decoded.rest;
     }
 }
 
@@ -65,13 +70,6 @@ pub fn push_text(text: &mut String, more: &str) -> Result<(), AllocError>
         (chars (string_bytes text.new) ≡ chars (string_bytes text.old) ++ chars more.now) }
 {
     text.push_str(more)
-}
-
-fn push_character(text: &mut String, character: char) -> Result<(), AllocError>
-    ensures { OnOk result
-        (chars (string_bytes text.new) ≡ chars (string_bytes text.old) ++ character ∷ []) }
-{
-    text.push(character)
 }
 
 // What stands as text at the front, and what is after it.

@@ -1,8 +1,9 @@
 // Characters to bytes.
 
-ghost use Rattle.std.specs.Prelude.{◌≡◌, ◌++◌, [], is_some, unwrap_or, IfOk, OnOk};
+ghost use Rattle.std.specs.Prelude.{◌≡◌, ◌≤◌, ◌++◌, [], length, take, is_some, unwrap_or, IfOk, OnOk};
+ghost use Rattle.std.specs.Str.{chars, IsUtf8};
 ghost use Rattle.properties_format.specs.Encoding.{encoded, output_encoding};
-ghost use Rattle.java_properties.specs.Encoding.{encoding_of, output_of};
+ghost use Rattle.java_properties.specs.Encoding.{encoding_of, output_of, EncodesFront};
 
 use super::Encoding;
 use super::windows_1252::byte_of;
@@ -50,4 +51,40 @@ pub fn push_encoded(
         }
     }
     Ok(true)
+}
+
+/// What was encoded of a text.
+#[derive(Clone, Copy)]
+pub struct Encoded<'a> {
+    /// How many bytes it is.
+    pub length: usize,
+    /// The text that is left.
+    pub rest: &'a str,
+}
+
+/// Encodes characters at the front in windows-1252, up to one that it lacks, as far as there is room.
+pub fn encode_run<'a>(run: &mut [u8], text: &'a str) -> Encoded<'a>
+    ensures within { result.length ≤ length run.new }
+    ensures same_room { length run.new ≡ length run.old }
+    ensures is_text { IsUtf8 result.rest.now }
+    ensures left { length result.rest.now ≤ length text.now }
+    ensures encoded { EncodesFront (chars text.now) (take result.length run.new) (chars result.rest.now) }
+{
+    let mut at = 0;
+    let mut characters = text.chars();
+    while at < run.len() {
+        let rest = characters.as_str();
+        let Some(character) = characters.next() else {
+            return Encoded { length: at, rest };
+        };
+        let Some(byte) = byte_of(character) else {
+            return Encoded { length: at, rest };
+        };
+        run[at] = byte;
+        at += 1;
+    }
+    Encoded {
+        length: at,
+        rest: characters.as_str(),
+    }
 }

@@ -6,13 +6,18 @@ ghost use Rattle.std.specs.Str.{chars};
 ghost use Rattle.properties_format.specs.Text.{backslash};
 ghost use Rattle.properties_format.specs.Printing.{unit_escape, unicode_escape, literal, spelt, spelt_text, encoded_text, is_bom_like, with_first_escaped, spelt_key, in_key_or_value, in_comment};
 ghost use Rattle.java_properties.specs.Encoding.{output_of};
-ghost use Rattle.java_properties.specs.Printing.{AppendsOnOk, Stands, character_bytes, text_bytes, key_bytes, spelt_byte};
+ghost use Rattle.java_properties.specs.declared.encoding.encode.OutputEncoding.TheVariants.{Windows1252};
+ghost use Rattle.java_properties.specs.declared.writer.print.Place.TheVariants.{KeyOrValue};
+ghost use Rattle.java_properties.specs.Printing.{all_of_windows_1252, AppendsOnOk, Stands, character_bytes, text_bytes, key_bytes, spelt_byte};
 
-use crate::encoding::{OutputEncoding, push_encoded};
+use crate::encoding::{OutputEncoding, encode_run, push_encoded};
 use bytes::print_bytes;
 use std::alloc::AllocError;
 
 mod bytes;
+
+// How many characters are encoded at once.
+const RUN: usize = 64;
 
 const HEXADECIMAL: [u8; 16] = *b"0123456789abcdef";
 
@@ -51,6 +56,11 @@ const ASCII: Repertoire = Repertoire {
     ascii_only: true,
 };
 
+const WINDOWS_1252: Repertoire = Repertoire {
+    encoding: OutputEncoding::Windows1252,
+    ascii_only: false,
+};
+
 /// Prints a text.
 pub fn print_text(
     line: &mut Vec<u8>,
@@ -60,8 +70,15 @@ pub fn print_text(
 ) -> Result<(), AllocError>
     ensures { AppendsOnOk line.old (text_bytes repertoire place (chars text.now)) result line.new }
 {
-    match place {
-        Place::KeyOrValue if stands(repertoire, text) => print_bytes(line, text.as_bytes()),
+    match (place, repertoire) {
+        (Place::KeyOrValue, _) if stands(repertoire, text) => print_bytes(line, text.as_bytes()),
+        (
+            Place::KeyOrValue,
+            Repertoire {
+                encoding: OutputEncoding::Windows1252,
+                ascii_only: false,
+            },
+        ) => print_runs(line, text),
         _ => print_characters(line, repertoire, place, text),
     }
 }
@@ -73,6 +90,27 @@ fn stands(repertoire: Repertoire, text: &str) -> bool
     match repertoire.encoding {
         OutputEncoding::Utf8 if !repertoire.ascii_only => true,
         _ => text.is_ascii(),
+    }
+}
+
+// Prints a key or a value in windows-1252: a run of characters that have a byte, one character, and so on.
+fn print_runs(line: &mut Vec<u8>, text: &str) -> Result<(), AllocError>
+    ensures { let bytes = text_bytes all_of_windows_1252 KeyOrValue (chars text.now) in
+        AppendsOnOk line.old bytes result line.new }
+{
+    let mut run = [0; RUN];
+    let mut rest = text;
+    loop {
+        let encoded = encode_run(&mut run, rest);
+        print_bytes(line, &run[..encoded.length])?;
+        let mut characters = encoded.rest.chars();
+        match characters.next() {
+            None => return Ok(()),
+            Some(character) => {
+                print_in_key_or_value(line, WINDOWS_1252, character)?;
+                rest = characters.as_str();
+            }
+        }
     }
 }
 
