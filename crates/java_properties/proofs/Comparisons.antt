@@ -140,6 +140,11 @@ call-eq (call.Ending x) (call.Ending y) = ending-eq x y
 call-eq (call.Ending x) other = ((λ e. absurd (cc)), (λ h. absurd h))
 call-eq call.Flush call.Flush = ((λ e. tt), (λ h. refl))
 call-eq call.Flush other = ((λ e. absurd (cc)), (λ h. absurd h))
+call-eq (call.AsciiOnly true) (call.AsciiOnly true) = ((λ e. refl), (λ h. refl))
+call-eq (call.AsciiOnly true) (call.AsciiOnly false) = ((λ e. absurd (cc)), (λ h. absurd (cc)))
+call-eq (call.AsciiOnly false) (call.AsciiOnly true) = ((λ e. absurd (cc)), (λ h. absurd (cc)))
+call-eq (call.AsciiOnly false) (call.AsciiOnly false) = ((λ e. refl), (λ h. refl))
+call-eq (call.AsciiOnly on) other = ((λ e. absurd (cc)), (λ h. absurd h))
 
 -- a clone of a call
 pub call-clone : (x y : Call) → (call_clone.ghosts).is_clone x y → IsSameCall x y
@@ -155,3 +160,5 @@ call-clone (call.Ending x) (call.Ending y) e = cc
 call-clone (call.Ending x) other e = absurd e
 call-clone call.Flush call.Flush e = tt
 call-clone call.Flush other e = absurd e
+call-clone (call.AsciiOnly on) (call.AsciiOnly same) e = cc
+call-clone (call.AsciiOnly on) other e = absurd e

@@ -35,6 +35,7 @@ IsSameCall (Prefix x) (Prefix y) = string_bytes x ≡ string_bytes y
 IsSameCall (Separator x) (Separator y) = string_bytes x ≡ string_bytes y
 IsSameCall (Ending x) (Ending y) = x ≡ y
 IsSameCall Flush Flush = Unit {0}
+IsSameCall (AsciiOnly on) (AsciiOnly other) = on ≡ other
 IsSameCall call other = ⊥
 
 -- ---- calls that were made

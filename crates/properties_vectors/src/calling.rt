@@ -1,5 +1,6 @@
 //! What callers write. docs/CALLING.md shows these texts and explains them.
 
+pub mod catalogue;
 pub mod convert;
 pub mod count;
 pub mod lint;

@@ -2,7 +2,7 @@
 use Rattle.std.proofs.Common.{◌≡◌, [], ◌∷◌, refl}
 use Rattle.std.specs.Prelude.{codes}
 use Rattle.std.specs.Char.{encode_utf8}
-use Rattle.properties_format.specs.Encoding.{windows_1252, utf_16le, utf_16be}
+use Rattle.properties_format.specs.Encoding.{windows_1252, utf_8, utf_16le, utf_16be}
 use Rattle.properties_format.specs.Reading.Encoding.{pieces_of}
 use Rattle.properties_format.specs.Lines.{end}
 use Rattle.properties_format.specs.Reading.Split.{split_of}
@@ -82,6 +82,15 @@ replace_a_join : set_key_result windows_1252 (codes "a\\\n") (codes "a") (codes 
 unfolding items_of pieces_of split_of meaning_of held_groups_of
 replace_a_join = refl
 
+replace_the_first : set_key_result windows_1252 (codes "a=1\rb=2") (codes "a") (codes "3") ≡ edited (codes "a=3\rb=2")
+unfolding items_of pieces_of split_of meaning_of held_groups_of
+replace_the_first = refl
+
+-- of a join, the line ending of its last line
+replace_a_longer_join : set_key_result windows_1252 (codes "a\\\nb\r\nc") (codes "ab") (codes "3") ≡ edited (codes "ab=3\r\nc")
+unfolding items_of pieces_of split_of meaning_of held_groups_of
+replace_a_longer_join = refl
+
 replace_after_a_mark : set_key_result windows_1252 (0xef ∷ 0xbb ∷ 0xbf ∷ 0x61 ∷ 0x3d ∷ 0x31 ∷ 0x0d ∷ 0x0a ∷ []) (codes "a") (codes "é") ≡ edited (0xef ∷ 0xbb ∷ 0xbf ∷ 0x61 ∷ 0x3d ∷ 0xc3 ∷ 0xa9 ∷ 0x0d ∷ 0x0a ∷ [])
 unfolding items_of pieces_of split_of meaning_of held_groups_of encode_utf8
 replace_after_a_mark = refl
@@ -94,6 +103,21 @@ append_a_mark_like_key = refl
 replace_a_mark_like_key : set_key_result windows_1252 (codes "\\u00feÿ=1\n") (codes "þÿ") (codes "2") ≡ edited (codes "\\u00feÿ=2\n")
 unfolding items_of pieces_of split_of meaning_of held_groups_of
 replace_a_mark_like_key = refl
+
+-- elsewhere it stands raw
+append_a_mark_like_key_later : set_key_result windows_1252 (codes "a=1\n") (codes "þÿ") (codes "x") ≡ edited (codes "a=1\nþÿ=x\n")
+unfolding items_of pieces_of split_of meaning_of held_groups_of
+append_a_mark_like_key_later = refl
+
+-- and the front of a body may come after a byte order mark
+append_a_mark_like_key_after_a_mark : set_key_result windows_1252 (codes "ï»¿") (0xfeff ∷ []) [] ≡ edited (codes "ï»¿\\ufeff=\n")
+unfolding items_of pieces_of split_of meaning_of held_groups_of encode_utf8
+append_a_mark_like_key_after_a_mark = refl
+
+-- blanks, separators and comment signs are escaped at every place
+append_escaped : set_key_result windows_1252 [] (codes "a =") (codes " é #") ≡ edited (codes "a\\ \\==\\ é\\ \\#\n")
+unfolding items_of pieces_of split_of meaning_of held_groups_of
+append_escaped = refl
 
 -- every pair with the key is removed, with its line ending
 remove_nothing : remove_key_result windows_1252 (codes "a=1\n#c") (codes "z") ≡ edited (codes "a=1\n#c")
@@ -122,6 +146,25 @@ remove_before_a_mark : remove_key_result windows_1252 (codes "a=1\nþÿ=2\n") (c
 unfolding items_of pieces_of split_of meaning_of held_groups_of
 remove_before_a_mark = refl
 
+-- after a byte order mark it gets none, since only one mark is taken off
+remove_before_a_second_mark : remove_key_result windows_1252 (codes "ï»¿a\nï»¿=2") (codes "a") ≡ edited (codes "ï»¿ï»¿=2")
+unfolding items_of pieces_of split_of meaning_of held_groups_of encode_utf8
+remove_before_a_second_mark = refl
+
+remove_before_another_mark : remove_key_result windows_1252 (codes "ï»¿a\nþÿ") (codes "a") ≡ edited (codes "ï»¿þÿ")
+unfolding items_of pieces_of split_of meaning_of held_groups_of encode_utf8
+remove_before_another_mark = refl
+
+-- a comment is no pair
+remove_no_comment : remove_key_result windows_1252 (codes "#a\n=a") (codes "a") ≡ edited (codes "#a\n=a")
+unfolding items_of pieces_of split_of meaning_of held_groups_of
+remove_no_comment = refl
+
+-- what could not be decoded is the replacement character in a key, too
+remove_a_replacement : remove_key_result utf_8 (0xe9 ∷ 0x3d ∷ 0x31 ∷ 0x0a ∷ 0x62 ∷ []) (0xfffd ∷ []) ≡ edited (codes "b")
+unfolding items_of pieces_of split_of meaning_of held_groups_of encode_utf8
+remove_a_replacement = refl
+
 -- UTF-16 is not edited
 no_utf_16 : remove_key_result utf_16be [] (codes "a") ≡ unsupported
 unfolding items_of pieces_of split_of meaning_of held_groups_of
@@ -130,6 +173,11 @@ no_utf_16 = refl
 no_utf_16_by_its_mark : set_key_result windows_1252 (0xff ∷ 0xfe ∷ 0x61 ∷ 0x00 ∷ []) (codes "a") (codes "b") ≡ unsupported
 unfolding items_of pieces_of split_of meaning_of held_groups_of
 no_utf_16_by_its_mark = refl
+
+-- and this is said before a malformed escape is
+no_utf_16_before_a_fault : set_key_result windows_1252 (0xff ∷ 0xfe ∷ 0x5c ∷ 0x00 ∷ 0x75 ∷ 0x00 ∷ []) (codes "a") (codes "b") ≡ unsupported
+unfolding items_of pieces_of split_of meaning_of held_groups_of
+no_utf_16_before_a_fault = refl
 
 -- nor is a source with a malformed escape
 first_fault : set_key_result windows_1252 (codes "a=1\n\\u1=x") (codes "a") (codes "b") ≡ unreadable not_enough_digits 2
@@ -152,3 +200,12 @@ no_edits = refl
 no_edits_of_utf_16 : edit_all_result utf_16le [] [] ≡ unsupported
 unfolding items_of pieces_of split_of meaning_of held_groups_of
 no_edits_of_utf_16 = refl
+
+no_edits_of_a_fault : edit_all_result windows_1252 (codes "\\u1") [] ≡ unreadable not_enough_digits 1
+unfolding items_of pieces_of split_of meaning_of held_groups_of
+no_edits_of_a_fault = refl
+
+-- the lines are sought anew after each edit: an LF that has come to a CR goes with its line
+edits_of_new_lines : edit_all_result windows_1252 (codes "x\ra\n\nb") (remove (codes "a") ∷ remove (codes "x") ∷ []) ≡ edited (codes "b")
+unfolding items_of pieces_of split_of meaning_of held_groups_of
+edits_of_new_lines = refl

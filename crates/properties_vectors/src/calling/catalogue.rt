@@ -1,0 +1,62 @@
+// The messages of a program, in a language and in general.
+
+use counted_io::CountedRead;
+use java_properties::{Encoding, LineContent, PropertiesError, PropertiesIter};
+use std::alloc::Global;
+use std::collections::HashMap;
+
+/// Messages by their keys.
+#[derive(Drop)]
+pub struct Catalogue {
+    messages: HashMap<String, String>,
+}
+
+impl Catalogue {
+    /// No messages yet.
+    pub fn new(alloc: Global) -> Catalogue {
+        Catalogue {
+            messages: HashMap::new(alloc),
+        }
+    }
+
+    /// Adds the messages of a file in UTF-8. They take the place of those with the same keys.
+    pub fn add<R: CountedRead>(
+        &mut self,
+        alloc: Global,
+        input: &mut R,
+    ) -> Result<(), PropertiesError> {
+        for item in PropertiesIter::new_with_encoding(alloc, input, Encoding::UTF_8)? {
+            if let LineContent::KVPair(key, message) = item?.consume_content() {
+                let _ = self.messages.insert(key, message)?;
+            }
+        }
+        Ok(())
+    }
+
+    /// The message of this key, or the key where it has none.
+    pub fn message<'a>(&'a self, key: &'a str) -> &'a str {
+        match self.messages.get(key) {
+            Some(message) => message.as_str(),
+            None => key,
+        }
+    }
+}
+
+#[cfg(test)]
+mod tests {
+    use super::*;
+    use std::test::Fail;
+
+    #[test]
+    fn falls_back_to_the_general_message(rt: HostRuntime) -> Result<(), Fail> {
+        let mut catalogue = Catalogue::new(rt.alloc());
+        let mut general: &[u8] = b"hello = Hello\nbye = Good bye\n";
+        let mut german: &[u8] = "# nur die Begrüßung\nhello = Grüß Gott\n".as_bytes();
+        assert!(rt; catalogue.add(rt.alloc(), &mut general).is_ok());
+        assert!(rt; catalogue.add(rt.alloc(), &mut german).is_ok());
+        assert_eq!(rt; catalogue.message("hello"), "Grüß Gott");
+        assert_eq!(rt; catalogue.message("bye"), "Good bye");
+        assert_eq!(rt; catalogue.message("thanks"), "thanks");
+        Ok(())
+    }
+}
