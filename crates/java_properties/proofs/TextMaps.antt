@@ -3,3 +3,5 @@ pub mod Values
 pub mod Reading
 pub mod Order
 pub mod Writing
+pub mod Distinct
+pub mod ReadBack

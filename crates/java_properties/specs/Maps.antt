@@ -11,7 +11,9 @@ use Rattle.std.specs.Cmp.Lexicographic.{slice_cmp}
 use Rattle.std.specs.declared.string.String.{String}
 use Rattle.counted_io.specs.Streams.{Reader, Sink, HasWritten}
 use Rattle.properties_format.specs.Encoding.{windows_1252}
-use Rattle.properties_format.specs.Entries.{Content, comment, pair}
+use Rattle.properties_format.specs.Entries.{Content, comment, pair, Entry}
+use Rattle.properties_format.specs.Lines.{end}
+use Rattle.properties_format.specs.Items.{IsItems}
 use Rattle.properties_format.specs.Maps.{IsMap}
 use Rattle.properties_format.specs.Settings.{default_settings}
 use Rattle.properties_format.specs.Writing.{Call, pair_call, flush_call, wrote}
@@ -103,3 +105,16 @@ pub record StopsInCalls {W Y Z S : Type 0} (sink : Sink W) (m : HashMap (String 
 abbrev pub WritesMap : {W Y Z S : Type 0} → Sink W → HashMap (String Y) (String Z) S → W → Result Unit PropertiesError → W → Type 0
 WritesMap sink m old (Ok done) new = HasWrittenMap sink m old new
 WritesMap sink m old (Err error) new = Refuses kind.Memory old error new ⊎ StopsInCalls sink m old error new
+
+-- ---- reading what was written
+
+-- The sink took bytes whose items, by themselves and in windows-1252, have the map that was written: each key has its value, and no other key has one.
+pub record IsMapReadBack {W Y Z S : Type 0} (sink : Sink W) (m : HashMap (String Y) (String Z) S) (old new : W) : Type 0 where
+  pub bytes : List ℕ
+  pub written : HasWritten sink old bytes new
+  pub read : (items : List Entry) → IsItems windows_1252 bytes end items → IsMap items (value_at m)
+
+-- What writing a map says of reading it: where it was written, it is read back.
+abbrev pub MapReadsBack : {W Y Z S : Type 0} → Sink W → HashMap (String Y) (String Z) S → W → Result Unit PropertiesError → W → Type 0
+MapReadsBack sink m old (Ok done) new = IsMapReadBack sink m old new
+MapReadsBack sink m old (Err error) new = Unit {0}

@@ -3,7 +3,7 @@
 ghost use Rattle.std.specs.Prelude.{IfOk};
 ghost use Rattle.counted_io.specs.Streams.{IsSameReader, IsSameSink};
 ghost use Rattle.java_properties.specs.PropertiesIter.{said};
-ghost use Rattle.java_properties.specs.Maps.{texts_of, InsertsIfPair, ReadsMap, AreInOrder, WritesMap};
+ghost use Rattle.java_properties.specs.Maps.{texts_of, InsertsIfPair, ReadsMap, AreInOrder, WritesMap, MapReadsBack};
 
 use crate::encoding::{Encoding, OutputEncoding};
 use crate::error::PropertiesError;
@@ -58,7 +58,7 @@ fn insert_if_pair(
 
 /// Writes each entry of a map as one line, in windows-1252 and by the settings of a new writer, and flushes the sink.
 ///
-/// The keys ascend by their UTF-8 bytes.
+/// The keys ascend by their UTF-8 bytes. What was written is read back as the same map.
 ///
 /// ```text
 /// let mut output = Counted::new(Vec::new(alloc));
@@ -71,6 +71,7 @@ pub fn write<W: CountedWrite>(
     map: &HashMap<String, String>,
 ) -> Result<(), PropertiesError>
     ensures writes { WritesMap W.CountedWrite map.now writer.old result writer.new }
+    ensures reads_back { MapReadsBack W.CountedWrite map.now writer.old result writer.new }
     ensures same_sink { IsSameSink W.CountedWrite writer.old writer.new }
 {
     let pairs = pairs_in_order(alloc, map)?;

@@ -106,7 +106,7 @@ pairs_in-append (malformed kind n ∷ xs) ys = pairs_in-append xs ys
 pairs_in-append (read_fault n ∷ xs) ys = pairs_in-append xs ys
 
 -- no item of pairs without the key is a pair with it
-no-pair : (n : ℕ) (key : List ℕ) (ps : List Pair) → HasNoKey key ps → HasNoPair key (items_after n ps)
+pub no-pair : (n : ℕ) (key : List ℕ) (ps : List Pair) → HasNoKey key ps → HasNoPair key (items_after n ps)
 no-pair n key [] h = tt
 no-pair n key (p ∷ ps) h = (h.0, no-pair (n + 1) key ps h.1)
 
@@ -124,7 +124,7 @@ distinct-later key value [] after h = h.0
 distinct-later key value (p ∷ before) after h = distinct-later key value before after h.1
 
 -- among pairs with keys of their own, each gives its key its value
-value-among : (n : ℕ) (key value : List ℕ) (before after : List Pair) → AreDistinct (before ++ ((key, value) ∷ after))
+pub value-among : (n : ℕ) (key value : List ℕ) (before after : List Pair) → AreDistinct (before ++ ((key, value) ∷ after))
     → value_in (items_after n (before ++ ((key, value) ∷ after))) key ≡ Some value
 value-among n key value before after h =
     let m = lines_after n before in

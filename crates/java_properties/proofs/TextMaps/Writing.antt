@@ -32,7 +32,7 @@ pub new-writing : {W : Type 0} (engine : Engine) (to : W) → output_of engine.e
 new-writing engine to a b c d = rw (a, b, c, d) refl
 
 -- a new writer takes every pair
-accepted : (key value : List ℕ) → is_accepted default_settings (pair_call key value) ≡ true
+pub accepted : (key value : List ℕ) → is_accepted default_settings (pair_call key value) ≡ true
 accepted [] value = refl
 accepted (c ∷ key) value = refl
 

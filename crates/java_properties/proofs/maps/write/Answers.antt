@@ -4,6 +4,7 @@ use Rattle.counted_io.specs.Streams.{sink}
 use Rattle.java_properties.specs.Engine.{writing}
 use Rattle.java_properties.specs.PropertiesWriter.{Writing}
 use Rattle.java_properties.proofs.TextMaps.Writing.{HasMadeFirst, new-writing, first-none, first-more, first-all, stops-in-pair, writes}
+use Rattle.java_properties.proofs.TextMaps.ReadBack.{writes-read_back}
 use Rattle.java_properties.proofs.maps.write.Goals as goal
 
 pub loop-key-init : goal.loop-key-init
@@ -56,3 +57,6 @@ returns-clause-writes g c =
     let above : length items ≤ c.loop-key.key-index = omega arith in
     let made = first-all s from items c.loop-key.key-index last above held.made in
     writes s from items c.args.map.now held.in_order last (writing c.flush.new.self c.flush.new.sink) c.flush.result made c.flush.ensures.flushes
+
+pub returns-clause-reads_back : goal.returns-clause-reads_back
+returns-clause-reads_back g c = writes-read_back (sink g.W.Write g.W.CountedWrite) c.args.map.now c.args.writer.now _ c.flush.result (returns-clause-writes g c)

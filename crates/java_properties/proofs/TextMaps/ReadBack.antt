@@ -1,0 +1,160 @@
+-- A map that was written is read back as it was.
+use Rattle.std.proofs.Common.{◌≡◌, ◌≢◌, ℕ, Bool, true, false, List, [], ◌∷◌, ◌++◌, refl, ap, sym, ◌∙◌, subst, append_assoc}
+use Rattle.std.specs.Prelude.{All, map, Option, Some, None, Result, Ok, Err, bytes_eq, cond, string_bytes}
+use Rattle.std.specs.Option.{option_map}
+use Rattle.std.specs.Str.{chars, IsUtf8}
+use Rattle.std.specs.HashMap.{HashMap}
+use Rattle.std.specs.List.{AllByRecursion}
+use Rattle.std.specs.List.Sorted.{IsPermutation}
+use Rattle.std.specs.Map.{lookup}
+use Rattle.std.specs.declared.string.String.{String}
+use Rattle.std.proofs.lemmas.Bool.{cond-true, cond-false}
+use Rattle.std.proofs.lemmas.List.Elements.{recursion_from_All, All-from_recursion}
+use Rattle.std.proofs.lemmas.List.Sorted.{All-permutation, IsPermutation-sym, IsPermutation-map}
+use Rattle.std.proofs.lemmas.Slice.Eq.{bytes_eq-Decides}
+use Rattle.std.proofs.lemmas.Str.{IsUtf8-string_bytes}
+use Rattle.counted_io.specs.Streams.{Sink, HasWritten}
+use Rattle.properties_format.specs.Text.{scalar}
+use Rattle.properties_format.specs.Encoding.{windows_1252}
+use Rattle.properties_format.specs.Entries.{Entry}
+use Rattle.properties_format.specs.Lines.{end}
+use Rattle.properties_format.specs.Items.{IsItems}
+use Rattle.properties_format.specs.Maps.{IsValue}
+use Rattle.properties_format.specs.Reading.Maps.{value_in}
+use Rattle.properties_format.specs.Settings.{default_settings}
+use Rattle.properties_format.specs.Writing.{pair_call, wrote}
+use Rattle.properties_format.specs.Pairs.{Pair, calls_of, items_after, AreAccepted, ArePairsOfScalars}
+use Rattle.properties_format.specs.Laws.{HasPair, HasNoKey, AreDistinct}
+use Rattle.properties_format.proofs.Items.Unique.{items_of-only}
+use Rattle.properties_format.proofs.Maps.{value_in-meets, value_in-only}
+use Rattle.properties_format.proofs.Laws.{no-pair, value-among}
+use Rattle.properties_format.proofs.ReadBack.Law.{default_settings-good}
+use Rattle.properties_format.proofs.ReadBack.Lists.{items_of-pairs}
+use Rattle.java_properties.specs.Maps.{Texts, characters, value_at, entry_texts, calls_for, WritesMap, MapReadsBack}
+use Rattle.java_properties.specs.declared.error.PropertiesError.{PropertiesError}
+use Rattle.java_properties.proofs.ReadBack.Scalars.{string-scalars}
+use Rattle.java_properties.proofs.TextMaps.Distinct.{pair_of, AreKeysUtf8, ascending-distinct}
+use Rattle.java_properties.proofs.TextMaps.Writing.{accepted}
+
+-- ---- pairs in another order
+
+-- each of the pairs after some is among all of them
+among-after : (before ps : List Pair) → AllByRecursion (λ p. HasPair (before ++ ps) p.0 p.1) ps
+among-after before [] = tt
+among-after before (p ∷ ps) =
+    ((before, ps, refl), subst (λ v. AllByRecursion (λ q. HasPair v q.0 q.1) ps) (append_assoc before (p ∷ []) ps) (among-after (before ++ (p ∷ [])) ps))
+
+-- what holds of all holds of one
+all-at : (P : Pair → Type 0) (before : List Pair) (p : Pair) (after : List Pair) → AllByRecursion P (before ++ (p ∷ after)) → P p
+all-at P [] p after h = h.0
+all-at P (q ∷ before) p after h = all-at P before p after h.1
+
+moved-pair : (xs ys : List Pair) (key value : List ℕ) → IsPermutation xs ys → HasPair xs key value → HasPair ys key value
+moved-pair xs ys key value moved has =
+    let P : Pair → Type 0 = λ p. HasPair ys p.0 p.1 in
+    let all = All-permutation P ys xs (IsPermutation-sym xs ys moved) (All-from_recursion P ys (among-after [] ys)) in
+    all-at P has.0 (key, value) has.1 (subst (AllByRecursion P) has.2 (recursion_from_All P xs all))
+
+no_key-all : (key : List ℕ) (ps : List Pair) → HasNoKey key ps → AllByRecursion (λ p. p.0 ≢ key) ps
+no_key-all key [] h = tt
+no_key-all key (p ∷ ps) h = (h.0, no_key-all key ps h.1)
+
+all-no_key : (key : List ℕ) (ps : List Pair) → AllByRecursion (λ p. p.0 ≢ key) ps → HasNoKey key ps
+all-no_key key [] h = tt
+all-no_key key (p ∷ ps) h = (h.0, all-no_key key ps h.1)
+
+moved-none : (xs ys : List Pair) (key : List ℕ) → IsPermutation xs ys → HasNoKey key xs → HasNoKey key ys
+moved-none xs ys key moved h =
+    let P : Pair → Type 0 = λ p. p.0 ≢ key in
+    all-no_key key ys (recursion_from_All P ys (All-permutation P xs ys moved (All-from_recursion P xs (no_key-all key xs h))))
+
+-- ---- what a map has at a key
+
+-- the key has this value among the pairs, or none
+abbrev IsAmong : List Pair → List ℕ → Option (List ℕ) → Type 0
+IsAmong ps key (Some value) = HasPair ps key value
+IsAmong ps key None = HasNoKey key ps
+
+among-more : (p : Pair) (ps : List Pair) (key : List ℕ) (o : Option (List ℕ)) → p.0 ≢ key → IsAmong ps key o → IsAmong (p ∷ ps) key o
+among-more p ps key None apart h = (apart, h)
+among-more p ps key (Some value) apart h = (p ∷ h.0, h.1, ap (λ v. p ∷ v) h.2)
+
+-- the entries of a map, as characters
+abbrev character_pairs : {Y Z : Type 0} → List (String Y × String Z) → List Pair
+character_pairs entries = map pair_of (map entry_texts entries)
+
+abbrev value_among : {Y Z : Type 0} → List ℕ → List (String Y × String Z) → Option (List ℕ)
+value_among key entries = option_map characters (lookup (λ k. bytes_eq key (characters k)) entries)
+
+-- one entry more, by whether it has the key
+entry-says : {Y Z : Type 0} (key : List ℕ) (e : String Y × String Z) (entries : List (String Y × String Z)) (b : Bool) → bytes_eq key (characters e.0) ≡ b
+    → IsAmong (character_pairs entries) key (value_among key entries) → IsAmong (character_pairs (e ∷ entries)) key (value_among key (e ∷ entries))
+entry-says key e entries true t h =
+    let same : key ≡ characters e.0 = (bytes_eq-Decides key (characters e.0)).0 t in
+    rw t ([], character_pairs entries, ap (λ v. (v, characters e.1) ∷ character_pairs entries) (sym same))
+entry-says key e entries false t h =
+    let apart : characters e.0 ≢ key = λ same. let yes = (bytes_eq-Decides key (characters e.0)).1 (sym same) in absurd (cc) in
+    rw t (among-more (characters e.0, characters e.1) (character_pairs entries) key (value_among key entries) apart h)
+
+entries-say : {Y Z : Type 0} (key : List ℕ) (entries : List (String Y × String Z)) → IsAmong (character_pairs entries) key (value_among key entries)
+entries-say key [] = tt
+entries-say key (e ∷ entries) = entry-says key e entries (bytes_eq key (characters e.0)) refl (entries-say key entries)
+
+-- among pairs with keys of their own it is the value of the items
+among-value_in : (ps : List Pair) (key : List ℕ) (o : Option (List ℕ)) → AreDistinct ps → IsAmong ps key o → o ≡ value_in (items_after 0 ps) key
+among-value_in ps key None distinct h = value_in-only (items_after 0 ps) key None (no-pair 0 key ps h)
+among-value_in ps key (Some value) distinct h =
+    sym (ap (λ v. value_in (items_after 0 v) key) h.2 ∙ value-among 0 key value h.0 h.1 (subst AreDistinct h.2 distinct))
+
+moved-among : (xs ys : List Pair) (key : List ℕ) (o : Option (List ℕ)) → IsPermutation xs ys → IsAmong xs key o → IsAmong ys key o
+moved-among xs ys key None moved h = moved-none xs ys key moved h
+moved-among xs ys key (Some value) moved h = moved-pair xs ys key value moved h
+
+-- ---- the pairs of a map
+
+-- their calls
+calls-are : (pairs : List Texts) → calls_for pairs ≡ calls_of (map pair_of pairs)
+calls-are [] = refl
+calls-are (texts ∷ pairs) = ap (λ v. pair_call (chars texts.0) (chars texts.1) ∷ v) (calls-are pairs)
+
+-- they are all accepted
+pairs-accepted : (ps : List Pair) → AreAccepted default_settings ps
+pairs-accepted [] = tt
+pairs-accepted (p ∷ ps) = (accepted p.0 p.1, pairs-accepted ps)
+
+-- and their texts are texts of the program
+abbrev AreTexts : Texts → Type 0
+AreTexts texts = IsUtf8 texts.0 × All scalar (chars texts.0) × All scalar (chars texts.1)
+
+entries-texts : {Y Z : Type 0} (entries : List (String Y × String Z)) → AllByRecursion AreTexts (map entry_texts entries)
+entries-texts [] = tt
+entries-texts (e ∷ entries) = ((IsUtf8-string_bytes e.0, string-scalars e.0, string-scalars e.1), entries-texts entries)
+
+texts-utf8 : (pairs : List Texts) → AllByRecursion AreTexts pairs → AreKeysUtf8 pairs
+texts-utf8 [] h = tt
+texts-utf8 (texts ∷ pairs) h = (h.0.0, texts-utf8 pairs h.1)
+
+texts-scalars : (pairs : List Texts) → AllByRecursion AreTexts pairs → ArePairsOfScalars (map pair_of pairs)
+texts-scalars [] h = tt
+texts-scalars (texts ∷ pairs) h = ((h.0.1, h.0.2), texts-scalars pairs h.1)
+
+-- What writing a map says of reading it.
+pub writes-read_back : {W Y Z S : Type 0} (sink : Sink W) (m : HashMap (String Y) (String Z) S) (old new : W) (result : Result Unit PropertiesError)
+    → WritesMap sink m old result new → MapReadsBack sink m old result new
+writes-read_back sink m old new (Err error) h = tt
+writes-read_back sink m old new (Ok done) h =
+    let xs = map entry_texts m.entries in
+    let ps = map pair_of h.pairs in
+    let bytes = wrote windows_1252 default_settings 0 (calls_of ps) in
+    let texts = recursion_from_All AreTexts h.pairs (All-permutation AreTexts xs h.pairs h.in_order.entries (All-from_recursion AreTexts xs (entries-texts m.entries))) in
+    let distinct = ascending-distinct h.pairs (texts-utf8 h.pairs texts) h.in_order.ascend in
+    let moved = IsPermutation-map pair_of xs h.pairs h.in_order.entries in
+    let told = items_of-pairs windows_1252 default_settings refl default_settings-good ps (pairs-accepted ps) (texts-scalars h.pairs texts) in
+    record {
+      bytes = bytes;
+      written = subst (λ v. HasWritten sink old (wrote windows_1252 default_settings 0 v) new) (calls-are h.pairs) h.written;
+      read = λ items is key.
+          let same = among-value_in ps key (value_at m key) distinct (moved-among (map pair_of xs) ps key (value_at m key) moved (entries-say key m.entries)) in
+          let all : items ≡ items_after 0 ps = items_of-only windows_1252 bytes end items is ∙ told in
+          subst (IsValue items key) (ap (λ v. value_in v key) all ∙ sym same) (value_in-meets items key);
+    }
