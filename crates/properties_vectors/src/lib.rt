@@ -8,4 +8,6 @@ pub mod calling;
 #[cfg(test)]
 mod reading;
 #[cfg(test)]
+mod refused;
+#[cfg(test)]
 mod writing;
