@@ -12,4 +12,6 @@ mod laws;
 #[cfg(test)]
 mod reading;
 #[cfg(test)]
+mod refused;
+#[cfg(test)]
 mod writing;

@@ -1,0 +1,121 @@
+// Readers.
+
+use super::is_memory;
+use java_properties::{
+    Encoding, ErrorKind, Line, LineContent, PropertiesIter, Stopped, read_lines,
+};
+use std::alloc::Global;
+use std::process::Abort;
+use std::test::Fail;
+
+// Pairs and a comment in windows-1252, with lines that are decoded, unescaped and joined.
+const INPUT: &[u8] = b"a=1\n# c\xe9\nk\\u00e9y=x\xe9\\\n y\nlast=1";
+
+const PAIRS: [(&str, &str); 4] = [
+    ("a", "1"),
+    ("", "c\u{e9}"),
+    ("k\u{e9}y", "x\u{e9}y"),
+    ("last", "1"),
+];
+
+// Whether it is the item at this place, where a comment has no key.
+fn is_item(line: &Line, at: usize) -> bool {
+    let Some((key, value)) = PAIRS.get(at) else {
+        return false;
+    };
+    match line.content() {
+        LineContent::Comment(text) => key.is_empty() && text.as_str() == *value,
+        LineContent::KVPair(a_key, a_value) => a_key.as_str() == *key && a_value.as_str() == *value,
+    }
+}
+
+// Each item, or Memory after some of them and nothing after it.
+fn check_items(rt: &impl Abort, alloc: Global, input: &[u8]) -> Result<(), Fail> {
+    let mut items = PropertiesIter::new(alloc, input)?;
+    let mut count = 0usize;
+    while let Some(item) = items.next() {
+        match item {
+            Ok(line) => assert!(rt; is_item(&line, count)),
+            Err(error) => {
+                assert!(rt; is_memory(&error));
+                assert!(rt; items.next().is_none());
+                return Ok(());
+            }
+        }
+        count = count.saturating_add(1);
+    }
+    assert_eq!(rt; count, PAIRS.len());
+    Ok(())
+}
+
+#[test]
+fn items_end_where_memory_is_refused(rt: HostRuntime) -> Result<(), Fail> {
+    check_items(&rt, rt.alloc(), INPUT)
+}
+
+// A line that is longer than what is read at once.
+#[test]
+fn a_long_line_is_read_or_refused(rt: HostRuntime) -> Result<(), Fail> {
+    let bytes = [b'x'; 20_000];
+    let mut input = bytes.as_slice();
+    match read_lines(rt.alloc(), &mut input, Encoding::UTF_16LE) {
+        Ok(lines) => assert_eq!(rt; lines.len(), 1),
+        Err(Stopped { lines, error }) => {
+            assert!(rt; is_memory(&error));
+            assert!(rt; lines.is_empty());
+        }
+    }
+    Ok(())
+}
+
+// The lines before Memory are a beginning of the items.
+#[test]
+fn lines_end_where_memory_is_refused(rt: HostRuntime) -> Result<(), Fail> {
+    let mut input = INPUT;
+    let lines = match read_lines(rt.alloc(), &mut input, Encoding::WINDOWS_1252) {
+        Ok(lines) => {
+            assert_eq!(rt; lines.len(), PAIRS.len());
+            lines
+        }
+        Err(Stopped { lines, error }) => {
+            assert!(rt; is_memory(&error));
+            lines
+        }
+    };
+    for (at, line) in lines.iter().enumerate() {
+        assert!(rt; is_item(line, at));
+    }
+    Ok(())
+}
+
+// A malformed escape is told as that, or Memory is, and never another error.
+#[test]
+fn a_malformed_escape_is_told_or_memory_is(rt: HostRuntime) -> Result<(), Fail> {
+    let mut input = b"a=1\nk=\xe9\\ud83d".as_slice();
+    match read_lines(rt.alloc(), &mut input, Encoding::WINDOWS_1252) {
+        Ok(_) => Err(Fail::from("a malformed escape was read")),
+        Err(Stopped { lines, error }) => {
+            if !is_memory(&error) {
+                assert_eq!(rt; lines.len(), 1);
+                assert_eq!(rt; error.kind(), ErrorKind::InvalidCharacter);
+                assert_eq!(rt; error.line_number(), Some(2));
+            }
+            Ok(())
+        }
+    }
+}
+
+#[test]
+fn a_clone_is_equal_or_refused(rt: HostRuntime) -> Result<(), Fail> {
+    let mut input = b"a=1".as_slice();
+    let Ok(lines) = read_lines(rt.alloc(), &mut input, Encoding::UTF_8) else {
+        return Ok(());
+    };
+    for line in &lines {
+        if let Ok(copy) = line.clone() {
+            assert!(rt; copy == *line);
+        }
+        assert!(rt; is_item(line, 0));
+    }
+    Ok(())
+}
