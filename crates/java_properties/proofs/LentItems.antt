@@ -1,8 +1,7 @@
 -- What is found in a logical line.
 use Rattle.std.proofs.Common.{◌≡◌, ℕ, true, refl, false, not, List, sym, ap, ◌∙◌, subst}
-use Rattle.std.specs.Prelude.{Err, Ok, None, Bool}
+use Rattle.std.specs.Prelude.{None, Bool}
 use Rattle.std.specs.Str.{chars}
-use Rattle.std.proofs.lemmas.Bool.{cases_Bool}
 use Rattle.properties_format.specs.Escapes.{Means}
 use Rattle.properties_format.specs.Split as split
 use Rattle.properties_format.specs.Split.{IsSplit}

@@ -11,7 +11,7 @@ use Rattle.std.proofs.lemmas.List.{take_more, take_all, length-drop, take-append
 use Rattle.properties_format.specs.Text.{space, backslash}
 use Rattle.properties_format.specs.Windows1252.{windows_1252_byte, windows_1252_table, is_in_table, place_from}
 use Rattle.properties_format.specs.Encoding.{Encoding, windows_1252, utf_8, one_byte, encoded}
-use Rattle.properties_format.specs.Printing.{in_key_or_value, unicode_escape, literal, is_special, has_letter, letter_escape, spelt, spelt_text, encoded_text}
+use Rattle.properties_format.specs.Printing.{in_key_or_value, literal, is_special, has_letter, letter_escape, spelt, spelt_text, encoded_text}
 use Rattle.properties_format.proofs.Printing.Characters.{AreAscii, encoded_text-append, spelt_text-append, encoded_text-ascii, encoded-ascii, special-ascii, letter_escape-ascii}
 use Rattle.properties_format.proofs.Encodings.Utf8Characters.{encode-two, encode-three, encode-four}
 use Rattle.java_properties.specs.Encoding.{output_of, EncodesFront}

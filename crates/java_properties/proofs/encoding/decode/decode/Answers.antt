@@ -1,4 +1,4 @@
-use Rattle.std.proofs.Common.{◌≡◌, rules, ◌++◌, [], ◌∷◌, ap, ◌∙◌, eqb-true, sym, ap₂}
+use Rattle.std.proofs.Common.{◌++◌, ap, ◌∙◌, eqb-true, sym, ap₂}
 use Rattle.std.specs.Str.{chars}
 use Rattle.std.proofs.lemmas.Str.{chars-nil}
 use Rattle.properties_format.specs.Pieces.{characters}

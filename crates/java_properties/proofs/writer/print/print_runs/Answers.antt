@@ -1,10 +1,8 @@
-use Rattle.std.proofs.Common.{◌≡◌, ◌++◌, ◌∷◌, [], List, ℕ, sym, ap, ◌∙◌, take, subst, rules}
+use Rattle.std.proofs.Common.{List, ℕ, sym, ap, ◌∙◌, take, subst, rules}
 use Rattle.std.specs.Str.{chars}
 use Rattle.std.proofs.lemmas.Str.{chars-nil, chars_past_char}
 use Rattle.std.proofs.lemmas.List.{nil_from_length}
 use Rattle.java_properties.specs.Encoding.{EncodesFront}
-use Rattle.java_properties.specs.Printing.{text_bytes, all_of_windows_1252}
-use Rattle.java_properties.specs.declared.writer.print.Place.TheVariants.{KeyOrValue}
 use Rattle.java_properties.proofs.Printing.Bytes.{run-last, run-more}
 use Rattle.java_properties.proofs.writer.print.print_runs.Goals as goal
 
