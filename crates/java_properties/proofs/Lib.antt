@@ -18,4 +18,5 @@ pub mod Items
 pub mod Readings
 pub mod Joining
 pub mod JoinedRuns
+pub mod ReadInto
 pub mod TextMaps

@@ -20,4 +20,5 @@ pub mod LineJoiner
 pub mod PropertiesIter
 pub mod NaturalLines
 pub mod ReadLines
+pub mod ReadInto
 pub mod Maps

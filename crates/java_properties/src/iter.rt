@@ -8,6 +8,7 @@ ghost use Rattle.java_properties.specs.Encoding.{encoding_of};
 ghost use Rattle.java_properties.specs.LineFinder.{lines_left};
 ghost use Rattle.java_properties.specs.PropertiesIter.{Reading, NextGives};
 
+mod into;
 pub(crate) mod items;
 mod whole;
 
@@ -68,6 +69,13 @@ impl<R: CountedRead> PropertiesIter<R> {
             reader: input,
             items: ItemReader::new(alloc, encoding),
         })
+    }
+
+    /// The reader, after the bytes that were read so far.
+    pub fn get_ref(&self) -> &R
+        ensures { result.now ≡ self.now.reader }
+    {
+        &self.reader
     }
 
     /// The reader, after the bytes that were read so far.
