@@ -21,4 +21,5 @@ pub mod LentItems
 pub mod Readings
 pub mod Joining
 pub mod JoinedRuns
+pub mod ReadInto
 pub mod TextMaps

@@ -23,4 +23,5 @@ pub mod PropertiesIter
 pub mod LentItems
 pub mod NaturalLines
 pub mod ReadLines
+pub mod ReadInto
 pub mod Maps

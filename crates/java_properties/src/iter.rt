@@ -11,6 +11,7 @@ ghost use Rattle.java_properties.specs.LentItems.{lent_entry, found_entry, Borro
 ghost use Rattle.java_properties.specs.PropertiesIter.{Reading, NextGives};
 
 mod found;
+mod into;
 pub(crate) mod items;
 mod lent;
 mod whole;
@@ -114,6 +115,13 @@ impl<R: CountedRead> PropertiesIter<R> {
         ensures borrowed { BorrowsPlain (chars self.now.line) result.content }
     {
         self.items.get(found)
+    }
+
+    /// The reader, after the bytes that were read so far.
+    pub fn get_ref(&self) -> &R
+        ensures { result.now ≡ self.now.reader }
+    {
+        &self.reader
     }
 
     /// The reader, after the bytes that were read so far.

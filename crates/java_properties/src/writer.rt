@@ -180,6 +180,13 @@ impl<W: CountedWrite> PropertiesWriter<W> {
     }
 
     /// The sink, with what was written so far.
+    pub fn get_ref(&self) -> &W
+        ensures { result.now ≡ self.now.sink }
+    {
+        &self.sink
+    }
+
+    /// The sink, with what was written so far.
     pub fn into_inner(self) -> W
         ensures { result ≡ self.sink }
     {

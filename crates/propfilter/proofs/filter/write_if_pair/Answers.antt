@@ -1,3 +1,4 @@
+use Rattle.std.specs.Str.{chars}
 use Rattle.std.proofs.lemmas.Str.{scalars-chars}
 use Rattle.java_properties.proofs.Printing.Keys.{scalars-all}
 use Rattle.propfilter.proofs.filter.write_if_pair.Goals as goal
@@ -6,6 +7,6 @@ pub returns-in-KVPair-clause-scalars : goal.returns-in-KVPair-clause-scalars
 returns-in-KVPair-clause-scalars g c =
     let key = c.as_str.result.now in
     let value = c.as_str-in-KVPair.result.now in
-    let key_scalars = rw c.as_str.ensures.value at scalars-all _ (scalars-chars key c.as_str.utf8) in
-    let value_scalars = rw c.as_str-in-KVPair.ensures.value at scalars-all _ (scalars-chars value c.as_str-in-KVPair.utf8) in
+    let key_scalars = rw c.as_str.ensures.value at (scalars-all (chars key) (scalars-chars key c.as_str.utf8)) in
+    let value_scalars = rw c.as_str-in-KVPair.ensures.value at (scalars-all (chars value) (scalars-chars value c.as_str-in-KVPair.utf8)) in
     rw c.in-KVPair.is (key_scalars, value_scalars)

@@ -1,0 +1,61 @@
+-- Lines that are read into a closure, one after another.
+use Rattle.std.proofs.Common.{◌≡◌, List, [], ◌∷◌, ◌++◌, refl, ap, sym, ◌∙◌, subst, append-nil, append_assoc}
+use Rattle.std.specs.Prelude.{Some, None, Result, Ok, Err}
+use Rattle.std.specs.Global.{Global}
+use Rattle.std.specs.declared.string.String.{String}
+use Rattle.std.proofs.lemmas.Fn.{FoldsTo-push}
+use Rattle.counted_io.specs.Streams.{Reader}
+use Rattle.java_properties.specs.Line.{content_of}
+use Rattle.java_properties.specs.PropertiesIter.{Reading, NextGives}
+use Rattle.java_properties.specs.ReadInto.{KeyAndValue, pair_of, pairs_among, GivesLines, IsCalledOn, last_answer, ReadsInto}
+use Rattle.java_properties.specs.declared.error.PropertiesError.{PropertiesError}
+use Rattle.java_properties.specs.declared.line.Line.{Line}
+use Rattle.java_properties.specs.declared.line.LineContent.{LineContent}
+use Rattle.java_properties.specs.declared.line.LineContent.TheVariants.{Comment, KVPair}
+
+-- These lines came so far, and the closure was called on their pairs.
+pub record HasCalled {R F : Type 0} (reader : Reader R) (step : F → String Global → String Global → Unit {0} → F → Type 0) (old : Reading R) (f : F) (it : Reading R) (g : F) : Type 0 where
+  pub lines : List Line
+  pub given : GivesLines reader old lines it
+  pub called : IsCalledOn step f (pairs_among lines) g
+
+-- the pairs of one line more
+pairs-more : (lines : List Line) (line : Line) → pairs_among (lines ++ (line ∷ [])) ≡ pairs_among lines ++ pair_of (content_of line)
+pairs-more [] line = append-nil (pair_of (content_of line))
+pairs-more (l ∷ lines) line = rw (pairs-more lines line) (sym (append_assoc (pair_of (content_of l)) (pairs_among lines) (pair_of (content_of line))))
+
+module _ {R F : Type 0} {reader : Reader R} {step : F → String Global → String Global → Unit {0} → F → Type 0} {old : Reading R} {f : F} where
+  pub called-none : HasCalled reader step old f old f
+  called-none = record { lines = []; given = refl; called = refl }
+
+  module _ {it : Reading R} {g : F} (next : Reading R) (line : Line) (content : LineContent) (h : HasCalled reader step old f it g) (is : content ≡ content_of line) (gives : NextGives reader it (Some (Ok line)) next) where
+    given-more : GivesLines reader old (h.lines ++ (line ∷ [])) next
+    given-more = FoldsTo-push (λ before (l : Line) after. NextGives reader before (Some (Ok l)) after) old h.lines it line next h.given gives
+
+    -- a comment came
+    called-same : (text : String Global) → content ≡ Comment text → HasCalled reader step old f next g
+    called-same text comment =
+        let none = pairs-more h.lines line ∙ ap (λ c. pairs_among h.lines ++ pair_of c) (sym is ∙ comment) ∙ append-nil (pairs_among h.lines) in
+        let P : List KeyAndValue → Type 0 = λ v. IsCalledOn step f v g in
+        record { lines = h.lines ++ (line ∷ []); given = given-more; called = subst P (sym none) h.called }
+
+    -- no pair came
+    pub called-other : ((key value : String Global) → content ≡ KVPair key value → ⊥) → HasCalled reader step old f next g
+    called-other other = by content refl
+      where
+        by : (c : LineContent) → content ≡ c → HasCalled reader step old f next g
+        by (Comment text) e = called-same text e
+        by (KVPair key value) e = absurd (other key value e)
+
+    -- a pair came, and the closure was called on it
+    pub called-more : (k : F) (key value : String Global) → content ≡ KVPair key value → step g key value tt k → HasCalled reader step old f next k
+    called-more k key value pair call =
+        let one = pairs-more h.lines line ∙ ap (λ c. pairs_among h.lines ++ pair_of c) (sym is ∙ pair) in
+        let P : List KeyAndValue → Type 0 = λ v. IsCalledOn step f v k in
+        let push = FoldsTo-push (λ before (e : KeyAndValue) after. step before e.0 e.1 tt after) f (pairs_among h.lines) g (key, value) k h.called call in
+        record { lines = h.lines ++ (line ∷ []); given = given-more; called = subst P (sym one) push }
+
+  -- no line comes any more
+  pub called-all : {it : Reading R} {g : F} (next : Reading R) (result : Result Unit PropertiesError) → HasCalled reader step old f it g
+      → NextGives reader it (last_answer result) next → ReadsInto reader step old f result next
+  called-all {it} {g} next result h ended = record { lines = h.lines; last = g; called = h.called; before_end = it; given = h.given; ended = ended }

@@ -1,0 +1,48 @@
+-- What reading into a closure does.
+use Rattle.std.specs.Prelude.{◌≡◌, List, [], ◌∷◌, ◌++◌, Option, Some, None, Result, Ok, Err}
+use Rattle.std.specs.Global.{Global}
+use Rattle.std.specs.List.{FoldsTo, flat_map}
+use Rattle.std.specs.declared.string.String.{String}
+use Rattle.counted_io.specs.Streams.{Reader}
+use Rattle.java_properties.specs.Line.{content_of}
+use Rattle.java_properties.specs.PropertiesIter.{Reading, NextGives}
+use Rattle.java_properties.specs.declared.error.PropertiesError.{PropertiesError}
+use Rattle.java_properties.specs.declared.line.Line.{Line}
+use Rattle.java_properties.specs.declared.line.LineContent.{LineContent}
+use Rattle.java_properties.specs.declared.line.LineContent.TheVariants.{Comment, KVPair}
+
+-- a key and its value
+abbrev pub KeyAndValue : Type 0
+KeyAndValue = String Global × String Global
+
+-- the pair of a line, where it is one
+abbrev pub pair_of : LineContent → List KeyAndValue
+pair_of (Comment text) = []
+pair_of (KVPair key value) = (key, value) ∷ []
+
+-- the pairs among some lines
+abbrev pub pairs_among : List Line → List KeyAndValue
+pairs_among lines = flat_map (λ line. pair_of (content_of line)) lines
+
+-- these lines came, each by one call of `next`
+abbrev pub GivesLines : {R : Type 0} → Reader R → Reading R → List Line → Reading R → Type 0
+GivesLines reader = FoldsTo (λ before line after. NextGives reader before (Some (Ok line)) after)
+
+-- the closure was called on these pairs, in order, and on nothing else
+abbrev pub IsCalledOn : {F : Type 0} → (F → String Global → String Global → Unit {0} → F → Type 0) → F → List KeyAndValue → F → Type 0
+IsCalledOn step = FoldsTo (λ before entry after. step before entry.0 entry.1 tt after)
+
+-- what `next` said when no more lines came
+abbrev pub last_answer : Result Unit PropertiesError → Option (Result Line PropertiesError)
+last_answer (Ok done) = None
+last_answer (Err error) = Some (Err error)
+
+-- The lines that came are all that were to come before the end or an error, and the closure was called on the pairs among them.
+pub record ReadsInto {R F : Type 0} (reader : Reader R) (step : F → String Global → String Global → Unit {0} → F → Type 0)
+    (old : Reading R) (f : F) (result : Result Unit PropertiesError) (new : Reading R) : Type 0 where
+  pub lines : List Line
+  pub last : F
+  pub called : IsCalledOn step f (pairs_among lines) last
+  pub before_end : Reading R
+  pub given : GivesLines reader old lines before_end
+  pub ended : NextGives reader before_end (last_answer result) new
