@@ -2,5 +2,6 @@
 
 pub mod convert;
 pub mod count;
+pub mod find;
 pub mod lint;
 pub mod load;
