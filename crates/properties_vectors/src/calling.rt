@@ -3,5 +3,6 @@
 pub mod catalogue;
 pub mod convert;
 pub mod count;
+pub mod find;
 pub mod lint;
 pub mod load;

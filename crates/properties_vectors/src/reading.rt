@@ -5,6 +5,7 @@ mod displays;
 mod encodings;
 mod escapes;
 mod faults;
+mod lent;
 mod lines;
 mod printed;
 pub mod support;
