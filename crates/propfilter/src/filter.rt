@@ -81,3 +81,6 @@ fn write_if_pair<W: CountedWrite>(
         LineContent::Comment(_) => Ok(()),
     }
 }
+
+#[cfg(test)]
+mod tests;
