@@ -12,16 +12,20 @@ use Rattle.propfilter.specs.Filter.{Filters}
 abbrev pub usage : List ℕ
 usage = codes "usage: propfilter [windows-1252|utf-8|utf-16le|utf-16be [ascii]]"
 
--- The text was sent as a line, or a proper prefix of it where the sink failed, and then the sink was flushed, or its flush failed.
-pub record HasSaid {W : Type 0} (sink : Sink W) (old : W) (text : List ℕ) (new : W) : Type 0 where
+-- the line that says a text
+abbrev pub line_of : List ℕ → List ℕ
+line_of text = text ++ (line_feed ∷ [])
+
+-- The line was sent, or a proper prefix of it where the sink failed, and then the sink was flushed, or its flush failed.
+pub record HasSaid {W : Type 0} (sink : Sink W) (old : W) (line : List ℕ) (new : W) : Type 0 where
   pub middle : W
   pub result : Result Unit (Option Error)
-  pub sent : Sends sink old (text ++ (line_feed ∷ [])) result middle
+  pub sent : Sends sink old line result middle
   pub flushed : HasFlushed sink middle new ⊎ ((source : Error) × HasFailedFlush sink middle source new)
 
--- A text is said as a line. Where memory runs out for it, nothing is.
-abbrev pub Says : {W : Type 0} → Sink W → W → List ℕ → W → Type 0
-Says sink old text new = HasSaid sink old text new ⊎ (new ≡ old)
+-- A text is said as a line, if there is memory for the line.
+abbrev pub SaysIfRoom : {W : Type 0} → Sink W → W → List ℕ → W → Type 0
+SaysIfRoom sink old text new = HasSaid sink old (line_of text) new ⊎ (new ≡ old)
 
 -- ---- arguments
 
@@ -52,7 +56,7 @@ status_of (Err error) = 1
 -- What is said of it: nothing, or the text of the error.
 abbrev pub SaysError : {W : Type 0} → Sink W → W → Result Unit PropertiesError → W → Type 0
 SaysError sink old (Ok done) new = new ≡ old
-SaysError sink old (Err error) new = (text : List ℕ) × (error_display error ≡ Some text) × Says sink old text new
+SaysError sink old (Err error) new = (text : List ℕ) × (error_display error ≡ Some text) × SaysIfRoom sink old text new
 
 -- The input was filtered to the output in the encoding that was asked for, and an error was said on `errors`.
 pub record HasRun {R W E : Type 0} (reader : Reader R) (sink : Sink W) (error_sink : Sink E) (arguments : List (List ℕ)) (input : R) (output : W) (errors : E)
@@ -71,7 +75,7 @@ pub record RefusesArguments {R W E : Type 0} (error_sink : Sink E) (arguments : 
   pub answer : status ≡ 2
   pub unread : input' ≡ input
   pub unwritten : output' ≡ output
-  pub says : Says error_sink errors usage errors'
+  pub says : HasSaid error_sink errors (line_of usage) errors'
 
 -- What the program does with these arguments.
 abbrev pub Runs : {R W E : Type 0} → Reader R → Sink W → Sink E → List (List ℕ) → R → W → E → ℕ → R → W → E → Type 0

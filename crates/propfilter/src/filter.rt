@@ -103,3 +103,6 @@ fn write_if_pair<W: CountedWrite>(
         ContentRef::Comment(_) => Ok(()),
     }
 }
+
+#[cfg(test)]
+mod tests;

@@ -3,15 +3,15 @@
 ghost use Rattle.std.specs.Prelude.{◌∷◌, [], IfSome, map, string_bytes};
 ghost use Rattle.std.specs.Option.{option_map};
 ghost use Rattle.java_properties.specs.Encoding.{encoding_of};
-ghost use Rattle.propfilter.specs.Run.{IsAsked, Runs, Says};
+ghost use Rattle.java_properties.specs.DisplayTexts.{error_display};
+ghost use Rattle.propfilter.specs.Run.{HasSaid, IsAsked, Runs, SaysIfRoom};
 
 use crate::filter::filter;
 use counted_io::{CountedRead, CountedWrite, send};
-use java_properties::Encoding;
+use java_properties::{Encoding, PropertiesError};
 use std::alloc::Global;
-use std::fmt::Display;
 
-const USAGE: &str = "usage: propfilter [windows-1252|utf-8|utf-16le|utf-16be [ascii]]";
+const USAGE: &str = "usage: propfilter [windows-1252|utf-8|utf-16le|utf-16be [ascii]]\n";
 
 /// Filters `input` to `output` in the encoding that the arguments name, and returns the exit status: 0, or 1 at an
 /// error, whose text goes to `errors` as a line.
@@ -37,13 +37,13 @@ pub fn run<R: CountedRead, W: CountedWrite, E: CountedWrite>(
         input.old output.old errors.old result input.new output.new errors.new }
 {
     let Some(encoding) = encoding_asked(arguments) else {
-        say(alloc, errors, USAGE);
+        say(errors, USAGE);
         return 2;
     };
     match filter(alloc, input, output, encoding) {
         Ok(()) => 0,
         Err(error) => {
-            say(alloc, errors, error);
+            say_error(alloc, errors, error);
             1
         }
     }
@@ -71,13 +71,20 @@ fn encoding_named(name: &str) -> Option<Encoding>
     }
 }
 
-// Says a text as a line. What fails is dropped: there is nowhere left to tell it.
-fn say<E: CountedWrite, T: Display + Drop>(alloc: Global, errors: &mut E, text: T)
-    ensures { IfSome (T.output text) (λ text. Says E.CountedWrite errors.old text errors.new) }
+// Says a line. What fails is dropped: there is nowhere left to tell it.
+fn say<E: CountedWrite>(errors: &mut E, line: &str)
+    ensures { HasSaid E.CountedWrite errors.old line.now errors.new }
 {
-    if let Ok(line) = format!(in alloc; "{text}\n") {
-        let _ = send(errors, line.as_bytes());
-        let _ = errors.flush_counted();
+    let _ = send(errors, line.as_bytes());
+    let _ = errors.flush_counted();
+}
+
+// Says an error as a line, if there is memory for its text.
+fn say_error<E: CountedWrite>(alloc: Global, errors: &mut E, error: PropertiesError)
+    ensures { IfSome (error_display error) (λ text. SaysIfRoom E.CountedWrite errors.old text errors.new) }
+{
+    if let Ok(line) = format!(in alloc; "{error}\n") {
+        say(errors, line.as_str());
     }
 }
 

@@ -111,3 +111,27 @@ fn tells_of_a_fault(rt: HostRuntime) {
         b"I/O error (line_number = 2)\n".as_slice()
     );
 }
+
+// A refused growth ends with status 1 and is told, or it was that of the text that tells something, and nothing is.
+#[test]
+fn tells_of_refused_memory(rt: HostRuntime) {
+    let Ok(output) = Vec::with_capacity(rt.alloc(), 64) else {
+        return;
+    };
+    let Ok(errors) = Vec::with_capacity(rt.alloc(), 64) else {
+        return;
+    };
+    let (mut output, mut errors) = (Counted::new(output), Counted::new(errors));
+    let mut input = b"a=1\nk=\\u12".as_slice();
+    let status = run(rt.alloc(), &[], &mut input, &mut output, &mut errors);
+    assert_eq!(rt; status, 1);
+    let (output, errors) = (output.into_inner(), errors.into_inner());
+    assert!(rt; matches!(output.as_slice(), b"" | b"a=1\n"));
+    assert!(rt;
+        matches!(
+            errors.as_slice(),
+            b"" | b"Out of memory. (line_number = unknown)\n"
+                | b"Malformed \\uxxxx encoding: not enough digits. (line_number = 2)\n"
+        )
+    );
+}

@@ -15,5 +15,5 @@ returns-in-Err g c =
       result = Err c.in-Err.error;
       filters = filters;
       answer = refl;
-      says = (shown.0, shown.1, rw shown.1 at c.say-in-Err.ensures);
+      says = (shown.0, shown.1, rw shown.1 at c.say_error.ensures);
     })
