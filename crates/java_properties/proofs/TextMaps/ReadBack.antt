@@ -1,6 +1,6 @@
 -- A map that was written is read back as it was.
 use Rattle.std.proofs.Common.{◌≡◌, ◌≢◌, ℕ, Bool, true, false, List, [], ◌∷◌, ◌++◌, refl, ap, sym, ◌∙◌, subst, append_assoc}
-use Rattle.std.specs.Prelude.{All, map, Option, Some, None, Result, Ok, Err, bytes_eq, cond, string_bytes}
+use Rattle.std.specs.Prelude.{All, map, Option, Some, None, Result, Ok, Err, bytes_eq}
 use Rattle.std.specs.Option.{option_map}
 use Rattle.std.specs.Str.{chars, IsUtf8}
 use Rattle.std.specs.HashMap.{HashMap}
@@ -8,7 +8,6 @@ use Rattle.std.specs.List.{AllByRecursion}
 use Rattle.std.specs.List.Sorted.{IsPermutation}
 use Rattle.std.specs.Map.{lookup}
 use Rattle.std.specs.declared.string.String.{String}
-use Rattle.std.proofs.lemmas.Bool.{cond-true, cond-false}
 use Rattle.std.proofs.lemmas.List.Elements.{recursion_from_All, All-from_recursion}
 use Rattle.std.proofs.lemmas.List.Sorted.{All-permutation, IsPermutation-sym, IsPermutation-map}
 use Rattle.std.proofs.lemmas.Slice.Eq.{bytes_eq-Decides}
@@ -16,9 +15,7 @@ use Rattle.std.proofs.lemmas.Str.{IsUtf8-string_bytes}
 use Rattle.counted_io.specs.Streams.{Sink, HasWritten}
 use Rattle.properties_format.specs.Text.{scalar}
 use Rattle.properties_format.specs.Encoding.{windows_1252}
-use Rattle.properties_format.specs.Entries.{Entry}
 use Rattle.properties_format.specs.Lines.{end}
-use Rattle.properties_format.specs.Items.{IsItems}
 use Rattle.properties_format.specs.Maps.{IsValue}
 use Rattle.properties_format.specs.Reading.Maps.{value_in}
 use Rattle.properties_format.specs.Settings.{default_settings}
