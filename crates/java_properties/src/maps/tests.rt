@@ -31,3 +31,22 @@ fn writes_by_the_order_of_the_keys(rt: HostRuntime) -> Result<(), Fail> {
     assert_eq!(rt; output.into_inner().as_slice(), expected);
     Ok(())
 }
+
+#[test]
+fn reads_back_what_it_wrote(rt: HostRuntime) -> Result<(), Fail> {
+    let alloc = rt.alloc();
+    let mut map = HashMap::new(alloc);
+    map.insert(
+        String::from_str(alloc, "\u{fe}\u{ff}")?,
+        String::from_str(alloc, "")?,
+    )?;
+    let mut output = Counted::new(Vec::new(alloc));
+    write(alloc, &mut output, &map)?;
+    let bytes = output.into_inner();
+    let mut input = bytes.as_slice();
+    let again = read(alloc, &mut input)?;
+    assert_eq!(rt; again.len(), 1);
+    let value = again.get("\u{fe}\u{ff}").map(|value| value.as_str());
+    assert_eq!(rt; value, Some(""));
+    Ok(())
+}
