@@ -16,12 +16,12 @@ pub record HasWrittenAscii {W : Type 0} (sink : Sink W) (old : Writing W) (calls
   pub in_both : IsCleanWriting old calls → AreItemsInBoth bytes (format.items_read_back old.settings 0 calls)
 
 -- The sink took bytes of ASCII alone, and then perhaps a write or a flush failed.
-pub record HasBegunAscii {W : Type 0} (sink : Sink W) (old new : Writing W) : Type 0 where
+pub record TakesAscii {W : Type 0} (sink : Sink W) (old new : W) : Type 0 where
   pub bytes : List ℕ
-  pub taken : HasWritten sink old.sink bytes new.sink ⊎ HasFaulted sink old.sink bytes new.sink
+  pub taken : HasWritten sink old bytes new ⊎ HasFaulted sink old bytes new
   pub ascii : AreAsciiBytes bytes
 
 -- Where the first call turns ASCII alone on and none turns it off, ASCII alone is written, also at an error.
 abbrev pub WritesAscii : {W : Type 0} → Sink W → Writing W → List format.Call → Result (Vec Bool) PropertiesError → Writing W → Type 0
 WritesAscii sink old calls (Ok answers) new = AreAsciiOnly calls → HasWrittenAscii sink old calls new
-WritesAscii sink old calls (Err error) new = AreAsciiOnly calls → HasBegunAscii sink old new
+WritesAscii sink old calls (Err error) new = AreAsciiOnly calls → TakesAscii sink old.sink new.sink

@@ -15,7 +15,7 @@ use Rattle.properties_format.specs.Printing.{Place, in_key_or_value, in_comment,
 use Rattle.properties_format.specs.Writing.{Call, comment_call, pair_call, prefix_call, separator_call, ending_call, flush_call, ascii_only_call, settings_after_call, settings_after, written_line, lines_with, line_bytes, wrote, items_read_back, ArePrefixesClean, AreOfScalars, AreGoodSettings}
 use Rattle.properties_format.specs.AsciiOnly.{KeepsAsciiOnly, AllKeepAsciiOnly, AreAsciiOnly, AreAsciiBytes, AreItemsInBoth}
 use Rattle.properties_format.proofs.Printing.Characters.{AreAscii, AreAscii-append, encoded_text-ascii, line_end-ascii, good_separator-ascii, may_stand-ascii, spelt-either}
-use Rattle.properties_format.proofs.ReadBack.Lines.{settings_after_call-good, settings_after-good}
+use Rattle.properties_format.proofs.Settings.Tests.{IsGoodSeparator-from_test}
 use Rattle.properties_format.proofs.ReadBack.Unmarked.{front-unmarked}
 use Rattle.properties_format.proofs.ReadBack.Law.{IsItems-wrote}
 
@@ -129,22 +129,25 @@ call-on s (ending_call line_ending) on k = on
 call-on s flush_call on k = on
 call-on s (ascii_only_call mode) on k = k
 
-wrote-shared : (e f : Encoding) (s : Settings) (n : ℕ) (calls : List Call) → s.ascii_only ≡ true → AllKeepAsciiOnly calls → AreGoodSettings s → AreOfScalars calls
-    → AreShared f (wrote e s n calls) (wrote f s n calls)
-wrote-shared e f s n [] on k g h = record { ascii = tt; same = refl }
-wrote-shared e f s n (call ∷ calls) on k g h =
+-- a good separator stays one
+separator-kept : (s : Settings) (call : Call) → IsGoodSeparator s.kv_separator → IsGoodSeparator (settings_after_call s call).kv_separator
+separator-kept s (comment_call text) g = g
+separator-kept s (pair_call key value) g = g
+separator-kept s (prefix_call prefix) g = cond_both (is_good_prefix prefix) (record s { comment_prefix = prefix }) s (λ v. IsGoodSeparator v.kv_separator) (λ h. g) (λ h. g)
+separator-kept s (separator_call separator) g =
+    cond_both (is_good_separator separator) (record s { kv_separator = separator }) s (λ v. IsGoodSeparator v.kv_separator) (λ h. IsGoodSeparator-from_test separator h) (λ h. g)
+separator-kept s (ending_call line_ending) g = g
+separator-kept s flush_call g = g
+separator-kept s (ascii_only_call mode) g = g
+
+wrote-shared : (e f : Encoding) (s : Settings) (n : ℕ) (calls : List Call) → s.ascii_only ≡ true → AllKeepAsciiOnly calls → IsGoodSeparator s.kv_separator → AreShared f (wrote e s n calls) (wrote f s n calls)
+wrote-shared e f s n [] on k g = record { ascii = tt; same = refl }
+wrote-shared e f s n (call ∷ calls) on k g =
     let o = written_line s call in
     let t = settings_after_call s call in
     let m = lines_with n o in
-    shared-append f (line_bytes e s n o) (line_bytes f s n o) (wrote e t m calls) (wrote f t m calls)
-    (line-shared e f s n o on g.separator) (wrote-shared e f t m calls (call-on s call on k.0) k.1 (settings_after_call-good s call g h.0) h.1)
-
--- the calls of a list that turns ASCII alone on first
-calls-shared : (e f : Encoding) (s : Settings) (n : ℕ) (calls : List Call) → AreAsciiOnly calls → AreGoodSettings s → AreOfScalars calls → AreShared f (wrote e s n calls) (wrote f s n calls)
-calls-shared e f s n [] k g h = absurd k
-calls-shared e f s n (call ∷ calls) k g h =
-    subst (λ v. AreShared f (wrote e s n (v ∷ calls)) (wrote f s n (v ∷ calls))) (sym k.0)
-    (wrote-shared e f (record s { ascii_only = true }) n calls refl k.1 (record { prefix = g.prefix; scalars = g.scalars; separator = g.separator }) h.1)
+    shared-append f (line_bytes e s n o) (line_bytes f s n o) (wrote e t m calls) (wrote f t m calls) (line-shared e f s n o on g)
+    (wrote-shared e f t m calls (call-on s call on k.0) k.1 (separator-kept s call g))
 
 -- a text of ASCII, as bytes
 bytes-ascii : (x : List ℕ) → AreAscii x → AreAsciiBytes x
@@ -154,18 +157,54 @@ bytes-ascii x h = All-from_recursion (λ b. b < 0x80) x (go x h)
     go [] h = tt
     go (b ∷ x) h = (h.0, go x h.1)
 
+ascii-front : (x y : List ℕ) → AreAscii (x ++ y) → AreAscii x
+ascii-front [] y h = tt
+ascii-front (c ∷ x) y h = (h.0, ascii-front x y h.1)
+
+-- ---- from settings on that have ASCII alone on
+
+module _ (e : Encoding) (s : Settings) (on : s.ascii_only ≡ true) (good : IsGoodSeparator s.kv_separator) where
+  -- While it is on, every byte that is written is one of ASCII.
+  pub wrote-on : (n : ℕ) (calls : List Call) → AllKeepAsciiOnly calls → AreAsciiBytes (wrote e s n calls)
+  wrote-on n calls k = bytes-ascii (wrote e s n calls) (wrote-shared e e s n calls on k good).ascii
+
+  -- And so is a beginning of a line after these bytes.
+  pub wrote-on_line : (n : ℕ) (calls : List Call) (t : Settings) (first : Bool) (line : Content) (part rest : List ℕ) → AllKeepAsciiOnly calls
+      → t.ascii_only ≡ true → IsGoodSeparator t.kv_separator → printed e t first line ≡ part ++ rest → AreAsciiBytes (wrote e s n calls ++ part)
+  wrote-on_line n calls t first line part rest k next g same =
+      bytes-ascii (wrote e s n calls ++ part)
+      (AreAscii-append (wrote e s n calls) part (wrote-shared e e s n calls on k good).ascii (ascii-front part rest (subst AreAscii same (printed-shared e e t first line next g).ascii)))
+
+-- What a writer without lines wrote then has the same items in windows-1252 and in UTF-8: those that the calls told.
+pub wrote-on_both : (e : Encoding) (s : Settings) (calls : List Call) → s.ascii_only ≡ true → AllKeepAsciiOnly calls → AreGoodSettings s → ArePrefixesClean s calls → AreOfScalars calls
+    → AreItemsInBoth (wrote e s 0 calls) (items_read_back s 0 calls)
+wrote-on_both e s calls on k g c h =
+    record {
+      in_windows_1252 = subst (λ b. IsItems windows_1252 b end (items_read_back s 0 calls)) (wrote-shared windows_1252 e s 0 calls on k g.separator).same (IsItems-wrote windows_1252 s calls refl g c h);
+      in_utf_8 = subst (λ b. IsItems utf_8 b end (items_read_back s 0 calls)) (wrote-shared utf_8 e s 0 calls on k g.separator).same (IsItems-wrote utf_8 s calls refl g c h);
+    }
+
+-- ---- where the first call turns it on
+
+-- the settings with it on
+abbrev turned_on : Settings → Settings
+turned_on s = record s { ascii_only = true }
+
+turned-good : (s : Settings) → AreGoodSettings s → AreGoodSettings (turned_on s)
+turned-good s g = record { prefix = g.prefix; scalars = g.scalars; separator = g.separator }
+
 -- Where ASCII alone is turned on by the first call and not turned off, every byte that is written is one of ASCII.
-pub wrote-ascii : (e : Encoding) (s : Settings) (n : ℕ) (calls : List Call) → AreAsciiOnly calls → AreGoodSettings s → AreOfScalars calls → AreAsciiBytes (wrote e s n calls)
-wrote-ascii e s n calls k g h = bytes-ascii (wrote e s n calls) (calls-shared e e s n calls k g h).ascii
+pub wrote-ascii : (e : Encoding) (s : Settings) (n : ℕ) (calls : List Call) → AreAsciiOnly calls → IsGoodSeparator s.kv_separator → AreAsciiBytes (wrote e s n calls)
+wrote-ascii e s n [] k g = absurd k
+wrote-ascii e s n (call ∷ calls) k g = subst (λ v. AreAsciiBytes (wrote e s n (v ∷ calls))) (sym k.0) (wrote-on e (turned_on s) refl g n calls k.1)
 
 -- And what a writer without lines wrote has the same items in windows-1252 and in UTF-8: those that the calls told.
 pub AreItemsInBoth-wrote : (e : Encoding) (s : Settings) (calls : List Call) → AreAsciiOnly calls → AreGoodSettings s → ArePrefixesClean s calls → AreOfScalars calls
     → AreItemsInBoth (wrote e s 0 calls) (items_read_back s 0 calls)
-AreItemsInBoth-wrote e s calls k g c h =
-    record {
-      in_windows_1252 = subst (λ b. IsItems windows_1252 b end (items_read_back s 0 calls)) (calls-shared windows_1252 e s 0 calls k g h).same (IsItems-wrote windows_1252 s calls refl g c h);
-      in_utf_8 = subst (λ b. IsItems utf_8 b end (items_read_back s 0 calls)) (calls-shared utf_8 e s 0 calls k g h).same (IsItems-wrote utf_8 s calls refl g c h);
-    }
+AreItemsInBoth-wrote e s [] k g c h = absurd k
+AreItemsInBoth-wrote e s (call ∷ calls) k g c h =
+    subst (λ v. AreItemsInBoth (wrote e s 0 (v ∷ calls)) (items_read_back s 0 (v ∷ calls))) (sym k.0)
+    (wrote-on_both e (turned_on s) calls refl k.1 (turned-good s g) (subst (λ v. ArePrefixesClean s (v ∷ calls)) k.0 c) h.1)
 
 -- ---- a beginning of the calls
 
@@ -173,38 +212,25 @@ keep-front : (xs ys : List Call) → AllKeepAsciiOnly (xs ++ ys) → AllKeepAsci
 keep-front [] ys k = tt
 keep-front (x ∷ xs) ys k = (k.0, keep-front xs ys k.1)
 
-scalars-front : (xs ys : List Call) → AreOfScalars (xs ++ ys) → AreOfScalars xs
-scalars-front [] ys h = tt
-scalars-front (x ∷ xs) ys h = (h.0, scalars-front xs ys h.1)
-
-begun-text : (e : Encoding) (s : Settings) (n : ℕ) (xs ys : List Call) → AreAsciiOnly (xs ++ ys) → AreGoodSettings s → AreOfScalars (xs ++ ys) → AreAscii (wrote e s n xs)
-begun-text e s n [] ys k g h = tt
-begun-text e s n (x ∷ xs) ys k g h = (calls-shared e e s n (x ∷ xs) (k.0, keep-front xs ys k.1) g (scalars-front (x ∷ xs) ys h)).ascii
-
 -- The bytes of a beginning of the calls are of ASCII.
-pub begun-ascii : (e : Encoding) (s : Settings) (n : ℕ) (xs ys : List Call) → AreAsciiOnly (xs ++ ys) → AreGoodSettings s → AreOfScalars (xs ++ ys) → AreAsciiBytes (wrote e s n xs)
-begun-ascii e s n xs ys k g h = bytes-ascii (wrote e s n xs) (begun-text e s n xs ys k g h)
+pub begun-ascii : (e : Encoding) (s : Settings) (n : ℕ) (xs ys : List Call) → AreAsciiOnly (xs ++ ys) → IsGoodSeparator s.kv_separator → AreAsciiBytes (wrote e s n xs)
+begun-ascii e s n [] ys k g = bytes-ascii [] tt
+begun-ascii e s n (x ∷ xs) ys k g = wrote-ascii e s n (x ∷ xs) (k.0, keep-front xs ys k.1) g
 
 kept-on : (s : Settings) (calls : List Call) → s.ascii_only ≡ true → AllKeepAsciiOnly calls → (settings_after s calls).ascii_only ≡ true
 kept-on s [] on k = on
 kept-on s (call ∷ calls) on k = kept-on (settings_after_call s call) calls (call-on s call on k.0) k.1
 
--- the settings after a beginning, before a call that isn't the first
-begun-on : (s : Settings) (xs : List Call) (call : Call) (ys : List Call) → AreAsciiOnly (xs ++ (call ∷ ys)) → (call ≡ ascii_only_call true → ⊥) → (settings_after s xs).ascii_only ≡ true
-begun-on s [] call ys k other = absurd (other k.0)
-begun-on s (x ∷ xs) call ys k other =
-    subst (λ v. (settings_after s (v ∷ xs)).ascii_only ≡ true) (sym k.0) (kept-on (record s { ascii_only = true }) xs refl (keep-front xs (call ∷ ys) k.1))
-
-ascii-front : (x y : List ℕ) → AreAscii (x ++ y) → AreAscii x
-ascii-front [] y h = tt
-ascii-front (c ∷ x) y h = (h.0, ascii-front x y h.1)
+kept-separator : (s : Settings) (calls : List Call) → IsGoodSeparator s.kv_separator → IsGoodSeparator (settings_after s calls).kv_separator
+kept-separator s [] g = g
+kept-separator s (call ∷ calls) g = kept-separator (settings_after_call s call) calls (separator-kept s call g)
 
 -- And so are these bytes, and then a beginning of the line that the next call writes.
 pub begun-line_ascii : (e : Encoding) (s : Settings) (n : ℕ) (xs : List Call) (call : Call) (ys : List Call) (first : Bool) (line : Content) (part rest : List ℕ) → (call ≡ ascii_only_call true → ⊥)
-    → AreAsciiOnly (xs ++ (call ∷ ys)) → AreGoodSettings s → AreOfScalars (xs ++ (call ∷ ys)) → printed e (settings_after s xs) first line ≡ part ++ rest → AreAsciiBytes (wrote e s n xs ++ part)
-begun-line_ascii e s n xs call ys first line part rest other k g h same =
-    let t = settings_after s xs in
-    let good = settings_after-good s xs g (scalars-front xs (call ∷ ys) h) in
-    let whole = (printed-shared e e t first line (begun-on s xs call ys k other) good.separator).ascii in
-    bytes-ascii (wrote e s n xs ++ part)
-    (AreAscii-append (wrote e s n xs) part (begun-text e s n xs (call ∷ ys) k g h) (ascii-front part rest (subst AreAscii same whole)))
+    → AreAsciiOnly (xs ++ (call ∷ ys)) → IsGoodSeparator s.kv_separator → printed e (settings_after s xs) first line ≡ part ++ rest → AreAsciiBytes (wrote e s n xs ++ part)
+begun-line_ascii e s n [] call ys first line part rest other k g same = absurd (other k.0)
+begun-line_ascii e s n (x ∷ xs) call ys first line part rest other k g same =
+    let kept = keep-front xs (call ∷ ys) k.1 in
+    let go = λ (same : printed e (settings_after s (ascii_only_call true ∷ xs)) first line ≡ part ++ rest).
+        wrote-on_line e (turned_on s) refl g n xs (settings_after (turned_on s) xs) first line part rest kept (kept-on (turned_on s) xs refl kept) (kept-separator (turned_on s) xs g) same in
+    subst (λ v. AreAsciiBytes (wrote e s n (v ∷ xs) ++ part)) (sym k.0) (go (subst (λ v. printed e (settings_after s (v ∷ xs)) first line ≡ part ++ rest) k.0 same))

@@ -1,6 +1,6 @@
 -- What is printed of the errors of filtering, which hold no text that was refused.
 use Rattle.std.proofs.Common.{◌≡◌, ℕ, List, refl, inl, inr}
-use Rattle.std.specs.Prelude.{Option, Some, None, Err}
+use Rattle.std.specs.Prelude.{Bool, Option, Some, None, Err}
 use Rattle.std.specs.Option.{option_map}
 use Rattle.counted_io.specs.Streams.{Reader, Sink}
 use Rattle.properties_format.specs.Encoding.{Encoding}
@@ -18,14 +18,14 @@ shown : (error : PropertiesError) → refused_of error ≡ None → (text : List
 shown error h = let none = nothing-of _ error.refused h in rw none (_, refl)
 
 -- and the errors of filtering are of that kind
-pub filter-shown : {R W : Type 0} (reader : Reader R) (sink : Sink W) (e : Encoding) (input input' : R) (output output' : W) (error : PropertiesError)
-    → Filters reader sink e input output (Err error) input' output' → (text : List ℕ) × (error_display error ≡ Some text)
-filter-shown reader sink e input input' output output' error (inl h) = elim h.stops [
+pub filter-shown : {R W : Type 0} (reader : Reader R) (sink : Sink W) (e : Encoding) (only : Bool) (input input' : R) (output output' : W) (error : PropertiesError)
+    → Filters reader sink e only input output (Err error) input' output' → (text : List ℕ) × (error_display error ≡ Some text)
+filter-shown reader sink e only input input' output output' error (inl h) = elim h.stops [
   | inl k ↦ shown error k.is.its_text
   | inr k ↦ elim k [ inl f ↦ shown error f.is.its_text | inr f ↦ elim f.is [ inl is ↦ shown error is.0.its_text | inr is ↦ shown error is.its_text ] ]
 ]
-filter-shown reader sink e input input' output output' error (inr (inl h)) = elim h.fails [
+filter-shown reader sink e only input input' output output' error (inr (inl h)) = elim h.fails [
   | inl k ↦ shown error k.is.its_text
   | inr k ↦ elim k.is [ inl is ↦ shown error is.its_text | inr is ↦ shown error is.0.its_text ]
 ]
-filter-shown reader sink e input input' output output' error (inr (inr h)) = shown error h.fails.is.its_text
+filter-shown reader sink e only input input' output output' error (inr (inr h)) = shown error h.fails.is.its_text

@@ -16,7 +16,7 @@ use Rattle.java_properties.specs.PropertiesWriter.{Writing, new_writer, Flushes,
 use Rattle.java_properties.specs.ReadLines.{BeginsItems}
 use Rattle.java_properties.specs.declared.error.PropertiesError.{PropertiesError}
 use Rattle.java_properties.proofs.Readings.{Comes, Collected, collected-start, collected-next, collected-none, collected-malformed, collected-error}
-use Rattle.propfilter.specs.Filter.{AreItems, HasScalars, WritesIfPair, HasFiltered, StopsInReading, StopsInWriting, StopsInFlush, Filters}
+use Rattle.propfilter.specs.Filter.{pair_writer, AreItems, HasScalars, WritesIfPair, HasFiltered, StopsInReading, StopsInWriting, StopsInFlush, Filters}
 use Rattle.propfilter.proofs.Pairs.{HasWrittenPairs, pairs-none, pairs-comment, pairs-more, pairs-live, pairs-fail, pairs-refused, pairs-flushed, pairs-flush, pairs-flush-failed}
 
 -- the content of an entry
@@ -40,24 +40,24 @@ scalars-more (malformed kind n ∷ xs) number content h q = scalars-more xs numb
 scalars-more (read_fault n ∷ xs) number content h q = scalars-more xs number content h q
 
 -- The items that came were all that the reader gave so far, and their pairs were written.
-pub record HasPassed {R W : Type 0} (reader : Reader R) (sink : Sink W) (e : Encoding) (input : R) (output : W) (it : Reading R) (w : Writing W) : Type 0 where
+pub record HasPassed {R W : Type 0} (reader : Reader R) (sink : Sink W) (e : Encoding) (only : Bool) (input : R) (output : W) (it : Reading R) (w : Writing W) : Type 0 where
   pub items : List Entry
   pub whole : AreItems items
   pub scalars : ArePairsOfScalars (pairs_in items)
   pub bytes : List ℕ
   pub collected : Collected reader e input bytes items it.state it.reader
-  pub pairs : HasWrittenPairs sink e output items w
+  pub pairs : HasWrittenPairs sink e only output items w
 
 -- before the first item
-pub passed-none : {R W : Type 0} (reader : Reader R) (sink : Sink W) (e : Encoding) (it : Reading R) (w : Writing W) → it.state ≡ start e
-    → w ≡ new_writer (output_encoding e) w.sink → HasPassed reader sink e it.reader w.sink it w
-passed-none reader sink e it w fresh new = record {
+pub passed-none : {R W : Type 0} (reader : Reader R) (sink : Sink W) (e : Encoding) (only : Bool) (it : Reading R) (w : Writing W) → it.state ≡ start e
+    → w ≡ pair_writer e only w.sink → HasPassed reader sink e only it.reader w.sink it w
+passed-none reader sink e only it w fresh new = record {
   items = [];
   whole = tt;
   scalars = tt;
   bytes = [];
   collected = subst (λ s. Collected reader e it.reader [] [] s it.reader) (sym fresh) (collected-start e it.reader);
-  pairs = subst (λ v. HasWrittenPairs sink e w.sink [] v) (sym new) (pairs-none sink e w.sink);
+  pairs = subst (λ v. HasWrittenPairs sink e only w.sink [] v) (sym new) (pairs-none sink e only w.sink);
 }
 
 -- what came so far is a beginning of the items
@@ -67,11 +67,11 @@ begins {e} {bytes} {items} {s = s} (Comes.going_on g m) =
 begins {e} {bytes} {items} (Comes.at_last d k m) =
     inr (k, ([], subst (IsItems e bytes end) (m ∙ sym (append-nil items)) (items_of-meets e bytes end)))
 
-module _ {R W : Type 0} {reader : Reader R} {sink : Sink W} {e : Encoding} {input : R} {output : W} {it : Reading R} {w : Writing W} where
+module _ {R W : Type 0} {reader : Reader R} {sink : Sink W} {e : Encoding} {only : Bool} {input : R} {output : W} {it : Reading R} {w : Writing W} where
   -- An item came, and was written if it is a pair.
-  pub passed-more : {next : Reading R} (new : Writing W) (number : ℕ) (content : Content) → HasPassed reader sink e input output it w
+  pub passed-more : {next : Reading R} (new : Writing W) (number : ℕ) (content : Content) → HasPassed reader sink e only input output it w
       → GivesEntry reader it.state it.reader (item number content) next.state next.reader → WritesIfPair sink w content (Ok tt) new
-      → HasScalars content → HasPassed reader sink e input output next new
+      → HasScalars content → HasPassed reader sink e only input output next new
   passed-more new number content h n k q = record {
     items = h.items ++ (item number content ∷ []);
     whole = AreItems-more h.items number content h.whole;
@@ -81,15 +81,15 @@ module _ {R W : Type 0} {reader : Reader R} {sink : Sink W} {e : Encoding} {inpu
     pairs = written content k;
   }
     where
-      written : (c : Content) → WritesIfPair sink w c (Ok tt) new → HasWrittenPairs sink e output (h.items ++ (item number c ∷ [])) new
+      written : (c : Content) → WritesIfPair sink w c (Ok tt) new → HasWrittenPairs sink e only output (h.items ++ (item number c ∷ [])) new
       written (comment text) k = rw k.1 (pairs-comment number text h.pairs)
       written (pair key value) k = pairs-more number key value h.pairs k
 
-module _ {R W : Type 0} {reader : Reader R} {sink : Sink W} {e : Encoding} {input : R} {output : W} {it : Reading R} {w : Writing W} {after : ReaderState} {to : R} where
+module _ {R W : Type 0} {reader : Reader R} {sink : Sink W} {e : Encoding} {only : Bool} {input : R} {output : W} {it : Reading R} {w : Writing W} {after : ReaderState} {to : R} where
   -- A pair came, and was not written.
-  pub stops-writing : {error : PropertiesError} (new : Writing W) (number : ℕ) (content : Content) → HasPassed reader sink e input output it w
+  pub stops-writing : {error : PropertiesError} (new : Writing W) (number : ℕ) (content : Content) → HasPassed reader sink e only input output it w
       → GivesEntry reader it.state it.reader (item number content) after to → WritesIfPair sink w content (Err error) new
-      → StopsInWriting reader sink e input output error to new.sink
+      → StopsInWriting reader sink e only input output error to new.sink
   stops-writing {error = error} new number content h n k = by-content content (begins came.comes) k
     where
       came : Collected reader e input (h.bytes ++ n.bytes) (h.items ++ (item number content ∷ [])) after to
@@ -97,7 +97,7 @@ module _ {R W : Type 0} {reader : Reader R} {sink : Sink W} {e : Encoding} {inpu
 
       by-content : (c : Content) → BeginsItems e (h.bytes ++ n.bytes) (h.items ++ (item number c ∷ [])) (reader.at_end to)
           → WritesIfPair sink w c (Err error) new
-          → StopsInWriting reader sink e input output error to new.sink
+          → StopsInWriting reader sink e only input output error to new.sink
       by-content (comment text) b k = absurd (let same = k.0 in cc)
       by-content (pair key value) b k = record {
         items = h.items;
@@ -112,9 +112,9 @@ module _ {R W : Type 0} {reader : Reader R} {sink : Sink W} {e : Encoding} {inpu
       }
 
   -- reading stopped, and the sink was flushed
-  pub stops-reading : {error : PropertiesError} (new : Writing W) (flush : Result Unit PropertiesError) → HasPassed reader sink e input output it w
+  pub stops-reading : {error : PropertiesError} (new : Writing W) (flush : Result Unit PropertiesError) → HasPassed reader sink e only input output it w
       → it.state.is_done ≡ false → GivesMalformed reader it.state it.reader error to ⊎ JoinsError reader it.state it.reader error after to
-      → Flushes sink w flush new → StopsInReading reader sink e input output error to new.sink
+      → Flushes sink w flush new → StopsInReading reader sink e only input output error to new.sink
   stops-reading new flush h live k f = record {
     items = h.items;
     whole = h.whole;
@@ -123,22 +123,22 @@ module _ {R W : Type 0} {reader : Reader R} {sink : Sink W} {e : Encoding} {inpu
   }
 
   -- no item came any more, and the sink was flushed
-  filtered : {new : Writing W} → HasPassed reader sink e input output it w → GivesNone reader it.state it.reader after to
-      → HasFlushedSink sink w new → HasFiltered reader sink e input output to new.sink
+  filtered : {new : Writing W} → HasPassed reader sink e only input output it w → GivesNone reader it.state it.reader after to
+      → HasFlushedSink sink w new → HasFiltered reader sink e only input output to new.sink
   filtered h n f =
       let k = pairs-flushed h.pairs f in
       record { items = h.items; whole = h.whole; scalars = h.scalars; reads = collected-none h.collected n; written = k.0; flushed = k.1 }
 
   -- or the flush failed
-  stops-flush : {error : PropertiesError} (new : Writing W) → HasPassed reader sink e input output it w
-      → GivesNone reader it.state it.reader after to → RefusesFlush w error new ⊎ FailsInFlush sink w error new → StopsInFlush reader sink e input output error to new.sink
+  stops-flush : {error : PropertiesError} (new : Writing W) → HasPassed reader sink e only input output it w
+      → GivesNone reader it.state it.reader after to → RefusesFlush w error new ⊎ FailsInFlush sink w error new → StopsInFlush reader sink e only input output error to new.sink
   stops-flush new h n (inl k) = absurd (let live = pairs-live h.pairs in let failed = k.failed in cc)
   stops-flush new h n (inr k) =
       record { items = h.items; whole = h.whole; reads = collected-none h.collected n; fails = pairs-flush-failed h.pairs k }
 
   -- what is returned where no item comes any more
-  pub returns : (new : Writing W) (result : Result Unit PropertiesError) → HasPassed reader sink e input output it w
+  pub returns : (new : Writing W) (result : Result Unit PropertiesError) → HasPassed reader sink e only input output it w
       → GivesNone reader it.state it.reader after to → Flushes sink w result new
-      → Filters reader sink e input output result to new.sink
+      → Filters reader sink e only input output result to new.sink
   returns new (Ok done) h n f = filtered h n f
   returns new (Err error) h n f = inr (inr (stops-flush new h n f))

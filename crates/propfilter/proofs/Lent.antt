@@ -1,7 +1,7 @@
 -- What was done to streams that were lent was done to the streams themselves.
 use Rattle.std.proofs.Common.{◌≡◌, ℕ, List, inl, inr}
 use Rattle.std.specs.Borrow.{MutBor}
-use Rattle.std.specs.Prelude.{Option, Some, None, Result, Ok, Err}
+use Rattle.std.specs.Prelude.{Bool, Option, Some, None, Result, Ok, Err}
 use Rattle.std.specs.declared.io.Error.{Error}
 use Rattle.counted_io.specs.Streams.{Reader, HasRead, HasFailed, Sink, HasWritten, HasFaulted, HasFailedFlush, CameFromWrite}
 use Rattle.properties_format.specs.Encoding.{Encoding}
@@ -66,8 +66,8 @@ module _ {W : Type 0} {sink : Sink W} {old new : MutBor W} where
   flush-lent : {error : Error} → HasFailedFlush (lent_sink sink) old error new → HasFailedFlush sink old.now error new.now
   flush-lent h = record { kept = h.kept; risen = h.risen; same = h.same; given = (h.given.0.now, h.given.1) }
 
-  pair-lent : {e : Encoding} {items : List Entry} {key value : List ℕ} {error : PropertiesError} → FailsInPair (lent_sink sink) e old items key value error new
-      → FailsInPair sink e old.now items key value error new.now
+  pair-lent : {e : Encoding} {only : Bool} {items : List Entry} {key value : List ℕ} {error : PropertiesError} → FailsInPair (lent_sink sink) e only old items key value error new
+      → FailsInPair sink e only old.now items key value error new.now
   pair-lent h =
       record { part = h.part; begins = h.begins; faulted = faulted-lent h.faulted; cause = h.cause; given = came h.cause h.given; is = h.is }
     where
@@ -75,8 +75,8 @@ module _ {W : Type 0} {sink : Sink W} {old new : MutBor W} where
       came None h = (h.0.now, h.1, h.2, h.3)
       came (Some error) h = (h.0.now, h.1, h.2)
 
-  refused-lent : {e : Encoding} {items : List Entry} {error : PropertiesError} → RefusesPair (lent_sink sink) e old items error new
-      → RefusesPair sink e old.now items error new.now
+  refused-lent : {e : Encoding} {only : Bool} {items : List Entry} {error : PropertiesError} → RefusesPair (lent_sink sink) e only old items error new
+      → RefusesPair sink e only old.now items error new.now
   refused-lent h = record { written = written-lent h.written; is = h.is }
 
 takes-lent : {W : Type 0} {sink : Sink W} {old new : MutBor W} (bytes : List ℕ) → TakesAndFlushes (lent_sink sink) old bytes new
@@ -86,13 +86,13 @@ takes-lent bytes (inr h) = inr (h.0.now, written-lent h.1, (h.2.0, flush-lent h.
 
 -- ---- both
 
-after-lent : {W : Type 0} {sink : Sink W} {output output' : MutBor W} {e : Encoding} {items : List Entry} {error : PropertiesError}
-    → FailsAfterPairs (lent_sink sink) e output items error output' → FailsAfterPairs sink e output.now items error output'.now
+after-lent : {W : Type 0} {sink : Sink W} {output output' : MutBor W} {e : Encoding} {only : Bool} {items : List Entry} {error : PropertiesError}
+    → FailsAfterPairs (lent_sink sink) e only output items error output' → FailsAfterPairs sink e only output.now items error output'.now
 after-lent h = record { middle = h.middle.now; written = written-lent h.written; source = h.source; flushed = flush-lent h.flushed; is = h.is }
 
-module _ {R W : Type 0} (reader : Reader R) (sink : Sink W) (e : Encoding) (input : MutBor R) (output : MutBor W) (input' : MutBor R) (output' : MutBor W) where
-  pub filters-lent : (result : Result Unit PropertiesError) → Filters (lent_reader reader) (lent_sink sink) e input output result input' output'
-      → Filters reader sink e input.now output.now result input'.now output'.now
+module _ {R W : Type 0} (reader : Reader R) (sink : Sink W) (e : Encoding) (only : Bool) (input : MutBor R) (output : MutBor W) (input' : MutBor R) (output' : MutBor W) where
+  pub filters-lent : (result : Result Unit PropertiesError) → Filters (lent_reader reader) (lent_sink sink) e only input output result input' output'
+      → Filters reader sink e only input.now output.now result input'.now output'.now
   filters-lent (Ok done) h =
       record { items = h.items; whole = h.whole; scalars = h.scalars; reads = whole-lent h.reads; written = written-lent h.written; flushed = h.flushed }
   filters-lent (Err error) (inl h) = inl (record {
@@ -116,7 +116,7 @@ module _ {R W : Type 0} (reader : Reader R) (sink : Sink W) (e : Encoding) (inpu
       inr (inr (record { items = h.items; whole = h.whole; reads = whole-lent h.reads; fails = after-lent h.fails }))
 
 -- equals stand for equals
-pub filters-same : {R W : Type 0} (reader : Reader R) (sink : Sink W) (result : Result Unit PropertiesError) (e e' : Encoding) (input input' new new' : R) (output output' to to' : W)
-    → Filters reader sink e input output result new to → e ≡ e' → input ≡ input' → output ≡ output' → new ≡ new' → to ≡ to'
-    → Filters reader sink e' input' output' result new' to'
-filters-same reader sink result e e' input input' new new' output output' to to' h a b c d f = rw (← a, ← b, ← c, ← d, ← f) h
+pub filters-same : {R W : Type 0} (reader : Reader R) (sink : Sink W) (result : Result Unit PropertiesError) (e e' : Encoding) (only only' : Bool) (input input' new new' : R) (output output' to to' : W)
+    → Filters reader sink e only input output result new to → e ≡ e' → only ≡ only' → input ≡ input' → output ≡ output' → new ≡ new' → to ≡ to'
+    → Filters reader sink e' only' input' output' result new' to'
+filters-same reader sink result e e' only only' input input' new new' output output' to to' h a m b c d f = rw (← a, ← m, ← b, ← c, ← d, ← f) h

@@ -3,3 +3,5 @@ pub mod Filtering
 pub mod Lent
 pub mod Errors
 pub mod Settled
+pub mod AsciiOnly
+pub mod Arguments

@@ -1,5 +1,5 @@
 -- Filtering what filtering wrote changes nothing.
-use Rattle.std.proofs.Common.{◌≡◌, ℕ, List, [], ◌∷◌, ◌++◌, refl, ap, sym, ◌∙◌}
+use Rattle.std.proofs.Common.{◌≡◌, ℕ, false, List, [], ◌∷◌, ◌++◌, refl, ap, sym, ◌∙◌}
 use Rattle.std.specs.Prelude.{Result, Ok, Err}
 use Rattle.counted_io.specs.Streams.{Reader, Sink}
 use Rattle.properties_format.specs.Encoding.{Encoding, output_encoding}
@@ -19,15 +19,15 @@ use Rattle.propfilter.proofs.Pairs.{pair-accepted}
 -- a new writer takes all pairs
 pairs-accepted : (ps : List Pair) → AreAccepted default_settings ps
 pairs-accepted [] = tt
-pairs-accepted (p ∷ ps) = (pair-accepted p.0 p.1, pairs-accepted ps)
+pairs-accepted (p ∷ ps) = (pair-accepted false p.0 p.1, pairs-accepted ps)
 
 -- An Ok of filtering says what its output is read as.
 pub filters-settles : {R W : Type 0} (reader : Reader R) (sink : Sink W) (e : Encoding) (input input' : R) (output output' : W) (result : Result Unit PropertiesError)
-    → Filters reader sink e input output result input' output' → Settles reader sink e input output result input' output'
+    → Filters reader sink e false input output result input' output' → Settles reader sink e input output result input' output'
 filters-settles reader sink e input input' output output' (Ok done) h =
     let a = output_encoding e in
     let ps = pairs_in h.items in
-    let lines = pair_lines e h.items in
+    let lines = pair_lines e false h.items in
     let read = items_of-pairs a default_settings (output_encoding-own e) default_settings-good ps (pairs-accepted ps) h.scalars in
     record {
       items = h.items;

@@ -1,18 +1,20 @@
 -- What `filter` does: it reads the items of an input, and writes each pair as one line.
-use Rattle.std.specs.Prelude.{◌≡◌, All, ◌⊎◌, ◌+◌, ◌^◌, ◌==◌, ℕ, true, List, [], ◌∷◌, ◌++◌, length, Option, Some, None, Result, Ok, Err}
+use Rattle.std.specs.Prelude.{◌≡◌, All, ◌⊎◌, ◌+◌, ◌^◌, ◌==◌, ℕ, Bool, true, false, List, [], ◌∷◌, ◌++◌, length, Option, Some, None, Result, Ok, Err}
 use Rattle.std.specs.declared.io.Error.{Error}
 use Rattle.counted_io.specs.Streams.{Reader, HasRead, Sink, HasWritten, HasFaulted, HasFailedFlush, IsProperPrefix, CameFromWrite}
 use Rattle.properties_format.specs.Text.{scalar}
 use Rattle.properties_format.specs.Encoding.{Encoding, output_encoding}
 use Rattle.properties_format.specs.Entries.{Content, comment, pair, Entry, item, malformed, read_fault}
 use Rattle.properties_format.specs.Printing.{printed}
-use Rattle.properties_format.specs.Settings.{default_settings}
+use Rattle.properties_format.specs.Settings.{Settings, default_settings}
 use Rattle.properties_format.specs.Lines.{end}
 use Rattle.properties_format.specs.Items.{IsItems}
 use Rattle.properties_format.specs.Writing.{Call, wrote}
 use Rattle.properties_format.specs.Pairs.{pairs_in, calls_of, items_after, ArePairsOfScalars}
+use Rattle.properties_format.specs.AsciiOnly.{AreAsciiBytes, AreItemsInBoth}
+use Rattle.java_properties.specs.AsciiOnly.{TakesAscii}
 use Rattle.java_properties.specs.Errors.{cause_of_write, IsError, IsBareError, IsStreamError}
-use Rattle.java_properties.specs.PropertiesWriter.{Writing, WritesLine}
+use Rattle.java_properties.specs.PropertiesWriter.{Writing, WritesLine, new_writer, with_settings}
 use Rattle.java_properties.specs.ReadLines.{BeginsItems, ReadsWhole, StopsMalformed, StopsFailed, StopsEarly}
 use Rattle.java_properties.specs.declared.error.ErrorKind.TheVariants as kind
 use Rattle.java_properties.specs.declared.error.PropertiesError.{PropertiesError}
@@ -27,13 +29,21 @@ pair_calls entries = calls_of (pairs_in entries)
 abbrev pub pair_count : List Entry → ℕ
 pair_count entries = length (pair_calls entries)
 
--- the lines of these pairs, of an input in this encoding: each printed by the settings of a new writer
-abbrev pub pair_lines : Encoding → List Entry → List ℕ
-pair_lines e entries = wrote (output_encoding e) default_settings 0 (pair_calls entries)
+-- the settings of a new writer, with ASCII alone on or off
+abbrev pub settings_with : Bool → Settings
+settings_with only = record default_settings { ascii_only = only }
+
+-- the writer of the pairs of an input in this encoding, before the first
+abbrev pub pair_writer : {W : Type 0} → Encoding → Bool → W → Writing W
+pair_writer e only sink = with_settings (new_writer (output_encoding e) sink) (settings_with only)
+
+-- the lines of these pairs, of an input in this encoding: each printed by these settings
+abbrev pub pair_lines : Encoding → Bool → List Entry → List ℕ
+pair_lines e only entries = wrote (output_encoding e) (settings_with only) 0 (pair_calls entries)
 
 -- the line of a pair after these
-abbrev pub next_pair_line : Encoding → List Entry → List ℕ → List ℕ → List ℕ
-next_pair_line e entries key value = printed (output_encoding e) default_settings (pair_count entries == 0) (pair key value)
+abbrev pub next_pair_line : Encoding → Bool → List Entry → List ℕ → List ℕ → List ℕ
+next_pair_line e only entries key value = printed (output_encoding e) (settings_with only) (pair_count entries == 0) (pair key value)
 
 -- all of them are items: no text was malformed, and no read failed
 abbrev pub AreItems : List Entry → Type 0
@@ -61,47 +71,47 @@ TakesAndFlushes {W} sink old bytes new =
     ⊎ ((middle : W) × HasWritten sink old bytes middle × ((source : Error) × HasFailedFlush sink middle source new))
 
 -- The pairs of these items were written, and a proper prefix of the line of this pair. Then a write failed, and the error has the number of that line and what the sink said.
-pub record FailsInPair {W : Type 0} (sink : Sink W) (e : Encoding) (old : W) (items : List Entry) (key value : List ℕ) (error : PropertiesError) (new : W) : Type 0 where
+pub record FailsInPair {W : Type 0} (sink : Sink W) (e : Encoding) (only : Bool) (old : W) (items : List Entry) (key value : List ℕ) (error : PropertiesError) (new : W) : Type 0 where
   pub part : List ℕ
-  pub begins : IsProperPrefix part (next_pair_line e items key value)
-  pub faulted : HasFaulted sink old (pair_lines e items ++ part) new
+  pub begins : IsProperPrefix part (next_pair_line e only items key value)
+  pub faulted : HasFaulted sink old (pair_lines e only items ++ part) new
   pub cause : Option Error
   pub given : CameFromWrite sink cause new
   pub is : IsError kind.Io (Some (pair_count items + 1)) (cause_of_write cause) error
 
 -- The pairs of these items were written, but the flush after them failed, by this error of the sink's own.
-pub record FailsAfterPairs {W : Type 0} (sink : Sink W) (e : Encoding) (old : W) (items : List Entry) (error : PropertiesError) (new : W) : Type 0 where
+pub record FailsAfterPairs {W : Type 0} (sink : Sink W) (e : Encoding) (only : Bool) (old : W) (items : List Entry) (error : PropertiesError) (new : W) : Type 0 where
   pub middle : W
-  pub written : HasWritten sink old (pair_lines e items) middle
+  pub written : HasWritten sink old (pair_lines e only items) middle
   pub source : Error
   pub flushed : HasFailedFlush sink middle source new
   pub is : IsStreamError None source error
 
 -- The pairs of these items were written, but not this one, for which memory ran out or the numbers for lines.
-pub record RefusesPair {W : Type 0} (sink : Sink W) (e : Encoding) (old : W) (items : List Entry) (error : PropertiesError) (new : W) : Type 0 where
-  pub written : HasWritten sink old (pair_lines e items) new
+pub record RefusesPair {W : Type 0} (sink : Sink W) (e : Encoding) (only : Bool) (old : W) (items : List Entry) (error : PropertiesError) (new : W) : Type 0 where
+  pub written : HasWritten sink old (pair_lines e only items) new
   pub is : IsBareError kind.Memory error ⊎ IsBareError kind.TooManyLines error × (pair_count items + 1 ≡ 2 ^ 64)
 
 -- ---- how it ends
 
 -- The input was read to its end, its pairs were written, and the sink was flushed. Their texts are of scalar values.
-pub record HasFiltered {R W : Type 0} (reader : Reader R) (sink : Sink W) (e : Encoding) (input : R) (output : W) (input' : R) (output' : W) : Type 0 where
+pub record HasFiltered {R W : Type 0} (reader : Reader R) (sink : Sink W) (e : Encoding) (only : Bool) (input : R) (output : W) (input' : R) (output' : W) : Type 0 where
   pub items : List Entry
   pub whole : AreItems items
   pub scalars : ArePairsOfScalars (pairs_in items)
   pub reads : ReadsWhole reader e input items input'
-  pub written : HasWritten sink output (pair_lines e items) output'
+  pub written : HasWritten sink output (pair_lines e only items) output'
   pub flushed : sink.is_flushed output' ≡ true
 
 -- Reading stopped after these items: at malformed escapes, at a fault, or since memory ran out or the numbers for lines. Their pairs were written, and the sink was flushed, or its flush failed.
-pub record StopsInReading {R W : Type 0} (reader : Reader R) (sink : Sink W) (e : Encoding) (input : R) (output : W) (error : PropertiesError) (input' : R) (output' : W) : Type 0 where
+pub record StopsInReading {R W : Type 0} (reader : Reader R) (sink : Sink W) (e : Encoding) (only : Bool) (input : R) (output : W) (error : PropertiesError) (input' : R) (output' : W) : Type 0 where
   pub items : List Entry
   pub whole : AreItems items
   pub stops : StopsMalformed reader e input items error input' ⊎ (StopsFailed reader e input items error input' ⊎ StopsEarly reader e input items error input')
-  pub written : TakesAndFlushes sink output (pair_lines e items) output'
+  pub written : TakesAndFlushes sink output (pair_lines e only items) output'
 
 -- Writing stopped at a pair, which comes after these items.
-pub record StopsInWriting {R W : Type 0} (reader : Reader R) (sink : Sink W) (e : Encoding) (input : R) (output : W) (error : PropertiesError) (input' : R) (output' : W) : Type 0 where
+pub record StopsInWriting {R W : Type 0} (reader : Reader R) (sink : Sink W) (e : Encoding) (only : Bool) (input : R) (output : W) (error : PropertiesError) (input' : R) (output' : W) : Type 0 where
   pub items : List Entry
   pub number : ℕ
   pub key : List ℕ
@@ -110,21 +120,21 @@ pub record StopsInWriting {R W : Type 0} (reader : Reader R) (sink : Sink W) (e 
   pub bytes : List ℕ
   pub read : HasRead reader input bytes input'
   pub begins : BeginsItems e bytes (items ++ (item number (pair key value) ∷ [])) (reader.at_end input')
-  pub fails : FailsInPair sink e output items key value error output' ⊎ RefusesPair sink e output items error output'
+  pub fails : FailsInPair sink e only output items key value error output' ⊎ RefusesPair sink e only output items error output'
 
 -- The input was read to its end and its pairs were written, but the flush failed.
-pub record StopsInFlush {R W : Type 0} (reader : Reader R) (sink : Sink W) (e : Encoding) (input : R) (output : W) (error : PropertiesError) (input' : R) (output' : W) : Type 0 where
+pub record StopsInFlush {R W : Type 0} (reader : Reader R) (sink : Sink W) (e : Encoding) (only : Bool) (input : R) (output : W) (error : PropertiesError) (input' : R) (output' : W) : Type 0 where
   pub items : List Entry
   pub whole : AreItems items
   pub reads : ReadsWhole reader e input items input'
-  pub fails : FailsAfterPairs sink e output items error output'
+  pub fails : FailsAfterPairs sink e only output items error output'
 
 -- What filtering an input to an output does.
-abbrev pub Filters : {R W : Type 0} → Reader R → Sink W → Encoding → R → W → Result Unit PropertiesError → R → W → Type 0
-Filters reader sink e input output (Ok done) input' output' = HasFiltered reader sink e input output input' output'
-Filters reader sink e input output (Err error) input' output' =
-    StopsInReading reader sink e input output error input' output'
-    ⊎ (StopsInWriting reader sink e input output error input' output' ⊎ StopsInFlush reader sink e input output error input' output')
+abbrev pub Filters : {R W : Type 0} → Reader R → Sink W → Encoding → Bool → R → W → Result Unit PropertiesError → R → W → Type 0
+Filters reader sink e only input output (Ok done) input' output' = HasFiltered reader sink e only input output input' output'
+Filters reader sink e only input output (Err error) input' output' =
+    StopsInReading reader sink e only input output error input' output'
+    ⊎ (StopsInWriting reader sink e only input output error input' output' ⊎ StopsInFlush reader sink e only input output error input' output')
 
 -- ---- filtering twice
 
@@ -137,9 +147,25 @@ pub record HasSettled {R W : Type 0} (reader : Reader R) (sink : Sink W) (e : En
   pub written : HasWritten sink output bytes output'
   pub back : IsItems (output_encoding e) bytes end (items_after 0 (pairs_in items))
   pub only : (others : List Entry) → IsItems (output_encoding e) bytes end others → others ≡ items_after 0 (pairs_in items)
-  pub same : pair_lines (output_encoding e) (items_after 0 (pairs_in items)) ≡ bytes
+  pub same : pair_lines (output_encoding e) false (items_after 0 (pairs_in items)) ≡ bytes
 
 -- What filtering says of filtering its output anew.
 abbrev pub Settles : {R W : Type 0} → Reader R → Sink W → Encoding → R → W → Result Unit PropertiesError → R → W → Type 0
 Settles reader sink e input output (Ok done) input' output' = HasSettled reader sink e input output input' output'
 Settles reader sink e input output (Err error) input' output' = Unit {0}
+
+-- ---- with ASCII alone on
+
+-- The sink took bytes of ASCII alone, which have the same items in windows-1252 and in UTF-8: the pairs of the input, one a line and under its number.
+pub record HasFilteredAscii {R W : Type 0} (reader : Reader R) (sink : Sink W) (e : Encoding) (input : R) (output : W) (input' : R) (output' : W) : Type 0 where
+  pub items : List Entry
+  pub reads : ReadsWhole reader e input items input'
+  pub bytes : List ℕ
+  pub written : HasWritten sink output bytes output'
+  pub ascii : AreAsciiBytes bytes
+  pub in_both : AreItemsInBoth bytes (items_after 0 (pairs_in items))
+
+-- What filtering says of ASCII where it is on. At an error, too, the sink took ASCII alone.
+abbrev pub FiltersToAscii : {R W : Type 0} → Reader R → Sink W → Encoding → R → W → Result Unit PropertiesError → R → W → Type 0
+FiltersToAscii reader sink e input output (Ok done) input' output' = HasFilteredAscii reader sink e input output input' output'
+FiltersToAscii reader sink e input output (Err error) input' output' = TakesAscii sink output output'

@@ -1,13 +1,11 @@
 // The pairs of a reader, to a sink.
 
-ghost use Rattle.std.specs.Prelude.{◌≡◌};
+ghost use Rattle.std.specs.Prelude.{◌≡◌, true, false};
 ghost use Rattle.counted_io.specs.Streams.{IsSameReader, IsSameSink};
-ghost use Rattle.properties_format.specs.Encoding.{output_encoding};
 ghost use Rattle.properties_format.specs.ItemsToCome.{start};
 ghost use Rattle.java_properties.specs.Encoding.{encoding_of};
 ghost use Rattle.java_properties.specs.LentItems.{said_by, found_content, IsFoundIn};
-ghost use Rattle.java_properties.specs.PropertiesWriter.{new_writer};
-ghost use Rattle.propfilter.specs.Filter.{Filters, Settles, HasScalars, WritesIfPair};
+ghost use Rattle.propfilter.specs.Filter.{pair_writer, Filters, FiltersToAscii, Settles, HasScalars, WritesIfPair};
 
 use counted_io::{CountedRead, CountedWrite};
 use java_properties::{
@@ -36,29 +34,71 @@ pub fn filter<R: CountedRead, W: CountedWrite>(
     encoding: Encoding,
 ) -> Result<(), PropertiesError>
     ensures filters { let e = encoding_of encoding in
-        Filters R.CountedRead W.CountedWrite e input.old writer.old result input.new writer.new }
+        Filters R.CountedRead W.CountedWrite e false input.old writer.old result input.new writer.new }
     ensures settles { let e = encoding_of encoding in
         Settles R.CountedRead W.CountedWrite e input.old writer.old result input.new writer.new }
 {
+    filter_with(alloc, input, writer, encoding, false)
+}
+
+/// Does as [`filter`], and writes every character past U+007F as an escape, also where the output encoding has it.
+///
+/// What is written is ASCII alone, and is read back the same in windows-1252 and in UTF-8.
+///
+/// ```text
+/// let mut input: &[u8] = b"a=caf\xe9";
+/// let mut output = Counted::new(Vec::new(alloc));
+/// filter_ascii(alloc, &mut input, &mut output, Encoding::WINDOWS_1252)?;
+/// // The sink holds `a=caf\u00e9` and a line feed.
+/// ```
+pub fn filter_ascii<R: CountedRead, W: CountedWrite>(
+    alloc: Global,
+    input: &mut R,
+    writer: &mut W,
+    encoding: Encoding,
+) -> Result<(), PropertiesError>
+    ensures filters { let e = encoding_of encoding in
+        Filters R.CountedRead W.CountedWrite e true input.old writer.old result input.new writer.new }
+    ensures ascii { let e = encoding_of encoding in
+        FiltersToAscii R.CountedRead W.CountedWrite e input.old writer.old result input.new writer.new }
+{
+    filter_with(alloc, input, writer, encoding, true)
+}
+
+fn filter_with<R: CountedRead, W: CountedWrite>(
+    alloc: Global,
+    input: &mut R,
+    writer: &mut W,
+    encoding: Encoding,
+    ascii_only: bool,
+) -> Result<(), PropertiesError>
+    ensures { let e = encoding_of encoding in
+        Filters R.CountedRead W.CountedWrite e ascii_only
+        input.old writer.old result input.new writer.new }
+{
     let mut items = PropertiesIter::new_with_encoding(alloc, input, encoding)?;
     let mut lines = PropertiesWriter::new_with_encoding(alloc, writer, encoding)?;
+    lines.set_ascii_only(ascii_only);
     let result = write_pairs(&mut items, &mut lines);
     let _ = items.into_inner();
     let _ = lines.into_inner();
     result
 }
 
-// Both are new, and of one encoding.
+// Both are new, and of one encoding; the writer may be set to ASCII alone.
 fn write_pairs<R: CountedRead, W: CountedWrite>(
     items: &mut PropertiesIter<R>,
     lines: &mut PropertiesWriter<W>,
 ) -> Result<(), PropertiesError>
     requires reading { items.old.state ≡ start items.old.state.encoding }
-    requires writing { lines.old ≡ new_writer (output_encoding items.old.state.encoding) lines.old.sink }
+    requires writing { let only = lines.old.settings.ascii_only in
+        lines.old ≡ pair_writer items.old.state.encoding only lines.old.sink }
     ensures filters { let e = items.old.state.encoding in
         let input = items.old.reader in
+        let only = lines.old.settings.ascii_only in
         let output = lines.old.sink in
-        Filters R.CountedRead W.CountedWrite e input output result items.new.reader lines.new.sink }
+        Filters R.CountedRead W.CountedWrite e only
+        input output result items.new.reader lines.new.sink }
     ensures same_reader { IsSameReader R.CountedRead items.old.reader items.new.reader }
     ensures same_sink { IsSameSink W.CountedWrite lines.old.sink lines.new.sink }
 {

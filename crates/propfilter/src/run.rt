@@ -4,20 +4,28 @@ ghost use Rattle.std.specs.Prelude.{◌∷◌, [], IfSome, map, string_bytes};
 ghost use Rattle.std.specs.Option.{option_map};
 ghost use Rattle.java_properties.specs.Encoding.{encoding_of};
 ghost use Rattle.java_properties.specs.DisplayTexts.{error_display};
-ghost use Rattle.propfilter.specs.Run.{HasSaid, IsAsked, Runs, SaysIfRoom};
+ghost use Rattle.propfilter.specs.Filter.{Filters};
+ghost use Rattle.propfilter.specs.Run.{asked_of, HasSaid, IsAsked, IsNamed, IsNamedWith, Runs, SaysIfRoom};
 
-use crate::filter::filter;
+use crate::filter::{filter, filter_ascii};
 use counted_io::{CountedRead, CountedWrite, send};
 use java_properties::{Encoding, PropertiesError};
 use std::alloc::Global;
 
 const USAGE: &str = "usage: propfilter [windows-1252|utf-8|utf-16le|utf-16be [ascii]]\n";
 
+// What arguments ask for.
+#[derive(Clone, Copy)]
+struct Asked {
+    encoding: Encoding,
+    ascii_only: bool,
+}
+
 /// Filters `input` to `output` in the encoding that the arguments name, and returns the exit status: 0, or 1 at an
 /// error, whose text goes to `errors` as a line.
 ///
-/// Without arguments the encoding is windows-1252. Arguments that name none print the usage on `errors`: the status
-/// is 2, and nothing is read. What can't be printed on `errors` is dropped.
+/// Without arguments the encoding is windows-1252. A second argument `ascii` asks for ASCII alone. Other arguments print
+/// the usage on `errors`: the status is 2, and nothing is read. What can't be printed on `errors` is dropped.
 ///
 /// ```text
 /// let mut input: &[u8] = b"b = 2";
@@ -36,11 +44,11 @@ pub fn run<R: CountedRead, W: CountedWrite, E: CountedWrite>(
         Runs R.CountedRead W.CountedWrite E.CountedWrite names
         input.old output.old errors.old result input.new output.new errors.new }
 {
-    let Some(encoding) = encoding_asked(arguments) else {
+    let Some(asked) = asked_for(arguments) else {
         say(errors, USAGE);
         return 2;
     };
-    match filter(alloc, input, output, encoding) {
+    match filter_asked(alloc, input, output, asked) {
         Ok(()) => 0,
         Err(error) => {
             say_error(alloc, errors, error);
@@ -49,18 +57,59 @@ pub fn run<R: CountedRead, W: CountedWrite, E: CountedWrite>(
     }
 }
 
-fn encoding_asked(arguments: &[String]) -> Option<Encoding>
-    ensures { IsAsked (map string_bytes arguments.now) (option_map encoding_of result) }
+fn filter_asked<R: CountedRead, W: CountedWrite>(
+    alloc: Global,
+    input: &mut R,
+    output: &mut W,
+    asked: Asked,
+) -> Result<(), PropertiesError>
+    ensures { let e = encoding_of asked.encoding in
+        Filters R.CountedRead W.CountedWrite e asked.ascii_only
+        input.old output.old result input.new output.new }
+{
+    if asked.ascii_only {
+        return filter_ascii(alloc, input, output, asked.encoding);
+    }
+    filter(alloc, input, output, asked.encoding)
+}
+
+#[tactic(auto, using(crate::proofs::Arguments::named_alone))]
+fn asked_for(arguments: &[String]) -> Option<Asked>
+    ensures { IsAsked (map string_bytes arguments.now) (option_map asked_of result) }
 {
     match arguments {
-        [] => Some(Encoding::WINDOWS_1252),
-        [name] => encoding_named(name.as_str()),
+        [] => Some(Asked {
+            encoding: Encoding::WINDOWS_1252,
+            ascii_only: false,
+        }),
+        [name] => asked_by_name(name.as_str(), false),
+        [name, word] => asked_with_word(name.as_str(), word.as_str()),
         _ => None,
     }
 }
 
+#[tactic(auto, using(crate::proofs::Arguments::named_ascii))]
+fn asked_with_word(name: &str, word: &str) -> Option<Asked>
+    ensures { IsAsked (name.now ∷ word.now ∷ []) (option_map asked_of result) }
+{
+    match word {
+        "ascii" => asked_by_name(name, true),
+        _ => None,
+    }
+}
+
+fn asked_by_name(name: &str, ascii_only: bool) -> Option<Asked>
+    ensures { IsNamedWith name.now ascii_only (option_map asked_of result) }
+{
+    let encoding = encoding_named(name)?;
+    Some(Asked {
+        encoding,
+        ascii_only,
+    })
+}
+
 fn encoding_named(name: &str) -> Option<Encoding>
-    ensures { IsAsked (name.now ∷ []) (option_map encoding_of result) }
+    ensures { IsNamed name.now (option_map encoding_of result) }
 {
     match name {
         "windows-1252" => Some(Encoding::WINDOWS_1252),

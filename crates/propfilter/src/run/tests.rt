@@ -73,6 +73,67 @@ fn reads_the_encoding_that_is_named(rt: HostRuntime) -> Result<(), Fail> {
     Ok(())
 }
 
+// The arguments, as owned texts.
+fn words(alloc: Global, arguments: &[&str]) -> Result<Vec<String>, Fail> {
+    let mut words = Vec::new(alloc);
+    for argument in arguments {
+        words.push(String::from_str(alloc, argument)?)?;
+    }
+    Ok(words)
+}
+
+#[test]
+fn writes_ascii_where_it_is_asked_for(rt: HostRuntime) -> Result<(), Fail> {
+    let rows: [(&str, &[u8], &[u8]); 4] = [
+        ("utf-8", b"k=\xe6\x97\xa5\n", b"k=\\u65e5\n"),
+        ("windows-1252", b"k=\xe9", b"k=\\u00e9\n"),
+        ("utf-16le", b"\xff\xfea\0=\0\xe9\0", b"a=\\u00e9\n"),
+        ("utf-16be", b"\0a\0=\0\xe9", b"a=\\u00e9\n"),
+    ];
+    for (name, input, wanted) in rows {
+        let arguments = words(rt.alloc(), &[name, "ascii"])?;
+        let (status, output, errors) = filtered(rt.alloc(), arguments.as_slice(), input);
+        assert_eq!(rt; status, 0);
+        assert_eq!(rt; output.as_slice(), wanted);
+        assert_eq!(rt; errors.as_slice(), b"".as_slice());
+    }
+    Ok(())
+}
+
+#[test]
+fn takes_ascii_after_an_encoding_alone(rt: HostRuntime) -> Result<(), Fail> {
+    let rows: [&[&str]; 5] = [
+        &["ascii"],
+        &["utf-8", "ascii", "ascii"],
+        &["ascii", "utf-8"],
+        &["utf-8", "utf-8"],
+        &["x", "ascii"],
+    ];
+    let usage = b"usage: propfilter [windows-1252|utf-8|utf-16le|utf-16be [ascii]]\n".as_slice();
+    for row in rows {
+        let arguments = words(rt.alloc(), row)?;
+        let (status, output, errors) = filtered(
+            rt.alloc(),
+            arguments.as_slice(),
+            b"a=1".as_slice(),
+        );
+        assert_eq!(rt; status, 2);
+        assert_eq!(rt; output.as_slice(), b"".as_slice());
+        assert_eq!(rt; errors.as_slice(), usage);
+    }
+    Ok(())
+}
+
+#[test]
+fn filters_to_ascii(rt: HostRuntime) -> Result<(), Fail> {
+    let alloc = rt.alloc();
+    let mut input = b"\xff\xfea\0=\0\xe9\0".as_slice();
+    let mut output = Counted::new(Vec::new(alloc));
+    filter_ascii(alloc, &mut input, &mut output, Encoding::UTF_16LE)?;
+    assert_eq!(rt; output.into_inner().as_slice(), b"a=\\u00e9\n".as_slice());
+    Ok(())
+}
+
 #[test]
 fn tells_of_malformed_escapes(rt: HostRuntime) {
     let input: &[u8] = b"a=1\nk=\\u12";

@@ -11,7 +11,7 @@ loop-found-init g c =
     let s = sink g.W.Write g.W.CountedWrite in
     let items = c.args.items.now in
     record {
-      passed = passed-none r s items.state.encoding items c.args.lines.now c.requires.reading c.requires.writing;
+      passed = passed-none r s items.state.encoding c.args.lines.now.settings.ascii_only items c.args.lines.now c.requires.reading c.requires.writing;
       same_reader = refl;
       same_sink = refl;
     }

@@ -7,10 +7,11 @@ use Rattle.propfilter.proofs.run.run.Goals as goal
 
 pub returns-in-Err : goal.returns-in-Err
 returns-in-Err g c =
-    let filters = c.in-Err.ensures.filters in
-    let shown = filter-shown (reader g.R.Read g.R.CountedRead) (sink g.W.Write g.W.CountedWrite) _ _ _ _ _ c.in-Err.error filters in
+    let filters = c.in-Err.ensures in
+    let shown = filter-shown (reader g.R.Read g.R.CountedRead) (sink g.W.Write g.W.CountedWrite) _ _ _ _ _ _ c.in-Err.error filters in
     inl (record {
-      encoding = encoding_of c.in-Some.encoding;
+      encoding = encoding_of c.in-Some.asked.encoding;
+      only = c.in-Some.asked.ascii_only;
       asked = c.in-Some.ensures;
       result = Err c.in-Err.error;
       filters = filters;
