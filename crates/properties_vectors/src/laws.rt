@@ -1,27 +1,14 @@
 // What calls write, and what is read of it: reading inverts writing.
 
 use crate::reading::support::{Entry, check_rows};
-use crate::writing::support::{Step, memory_sink};
-use java_properties::{Call, Encoding, LineEnding, PropertiesWriter, run_calls};
-use std::alloc::{AllocError, Global};
+use crate::writing::support::{Step, call_of, memory_sink};
+use java_properties::{Encoding, LineEnding, PropertiesWriter, run_calls};
+use std::alloc::Global;
 use std::process::Abort;
 use std::test::Fail;
 
 // Calls, the bytes that they write, and the items of these bytes.
 type Row<'a> = (&'a [Step<'a>], &'a [u8], &'a [Entry<'a>]);
-
-fn call(alloc: Global, step: Step<'_>) -> Result<Call, AllocError> {
-    Ok(match step {
-        Step::Comment(text) => Call::Comment(String::from_str(alloc, text)?),
-        Step::Pair(key, value) => {
-            let key = String::from_str(alloc, key)?;
-            Call::Pair(key, String::from_str(alloc, value)?)
-        }
-        Step::Prefix(prefix) => Call::Prefix(String::from_str(alloc, prefix)?),
-        Step::Separator(separator) => Call::Separator(String::from_str(alloc, separator)?),
-        Step::Ending(line_ending) => Call::Ending(line_ending),
-    })
-}
 
 // Each row is written by a writer of its own, and its bytes are read back.
 fn check_written_rows(
@@ -33,7 +20,7 @@ fn check_written_rows(
     for (place, (steps, bytes, items)) in rows.iter().enumerate() {
         let mut calls = Vec::new(alloc);
         for step in *steps {
-            calls.push(call(alloc, *step)?)?;
+            calls.push(call_of(alloc, *step)?)?;
         }
         let sink = memory_sink(alloc);
         let mut writer = PropertiesWriter::new_with_encoding(alloc, sink, encoding)?;

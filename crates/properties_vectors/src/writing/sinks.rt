@@ -1,6 +1,6 @@
 // What is left and answered where a sink takes little or fails.
 
-use super::support::{Step, is_fault, is_plain, take};
+use super::support::{Step, call_of, is_fault, is_plain, take};
 use counted_io::{ScriptedSink, SinkFault};
 use java_properties::{Call, ErrorKind, LineEnding, PropertiesError, PropertiesWriter, run_calls};
 use std::alloc::{AllocError, Global};
@@ -115,19 +115,6 @@ fn each_write_of_a_line_may_fail(rt: HostRuntime) -> Result<(), Fail> {
         }
     }
     Ok(())
-}
-
-fn call_of(alloc: Global, step: Step<'_>) -> Result<Call, AllocError> {
-    Ok(match step {
-        Step::Comment(text) => Call::Comment(String::from_str(alloc, text)?),
-        Step::Pair(key, value) => Call::Pair(
-            String::from_str(alloc, key)?,
-            String::from_str(alloc, value)?,
-        ),
-        Step::Prefix(prefix) => Call::Prefix(String::from_str(alloc, prefix)?),
-        Step::Separator(separator) => Call::Separator(String::from_str(alloc, separator)?),
-        Step::Ending(line_ending) => Call::Ending(line_ending),
-    })
 }
 
 // The same lines and a flush, as a list of calls. Made again after a fault, they don't touch the sink.
