@@ -6,6 +6,8 @@
 
 pub mod calling;
 #[cfg(test)]
+mod maps;
+#[cfg(test)]
 mod reading;
 #[cfg(test)]
 mod writing;

@@ -5,4 +5,4 @@ mod displays;
 mod printing;
 mod settings;
 mod sinks;
-mod support;
+pub mod support;
