@@ -1,6 +1,6 @@
 -- A map that is written, pair after pair.
 use Rattle.std.proofs.Common.{◌≡◌, ℕ, ◌+◌, ◌<◌, ◌≤◌, true, false, zero, suc, List, [], ◌∷◌, ◌++◌, length, get_or, take, drop, refl, ap, sym, ◌∙◌, inl, inr, subst, append_assoc, arith}
-use Rattle.std.specs.Prelude.{◌⊎◌, map, Result, Ok, Err, string_bytes}
+use Rattle.std.specs.Prelude.{map, Result, Ok, Err, string_bytes}
 use Rattle.std.specs.Borrow.{Bor}
 use Rattle.std.specs.Str.{chars}
 use Rattle.std.specs.HashMap.{HashMap}
@@ -16,7 +16,7 @@ use Rattle.properties_format.specs.Writing.{Call, pair_call, flush_call, is_acce
 use Rattle.java_properties.specs.Encoding.{output_of}
 use Rattle.java_properties.specs.Engine.{writing}
 use Rattle.java_properties.specs.Errors.{kind_of}
-use Rattle.java_properties.specs.PropertiesWriter.{Writing, new_writer, WritesLine, Flushes, HasWrittenLine, RefusesLine, FailsInLine, IsRefusedBy, RefusesFlush, FailsInFlush}
+use Rattle.java_properties.specs.PropertiesWriter.{Writing, new_writer, WritesLine, Flushes, HasWrittenLine, IsRefusedBy}
 use Rattle.java_properties.specs.Calls.{HasMade, is_not_accepted}
 use Rattle.java_properties.specs.Maps.{Texts, lent_texts, texts_of, call_for, calls_for, AreInOrder, StopsInCalls, WritesMap}
 use Rattle.java_properties.specs.declared.error.ErrorKind.{ErrorKind}

@@ -1,9 +1,7 @@
-use Rattle.std.proofs.Common.{◌<◌, ◌≤◌, ◌≡◌, length, refl, sym, ◌∙◌, inr, subst, arith}
+use Rattle.std.proofs.Common.{◌<◌, ◌≤◌, length, refl, ◌∙◌, inr, subst, arith}
 use Rattle.std.proofs.lemmas.Result.{err_from_is_err_and}
 use Rattle.counted_io.specs.Streams.{sink}
-use Rattle.properties_format.specs.Encoding.{windows_1252}
 use Rattle.java_properties.specs.Engine.{writing}
-use Rattle.java_properties.specs.Maps.{texts_of, AreInOrder}
 use Rattle.java_properties.specs.PropertiesWriter.{Writing}
 use Rattle.java_properties.proofs.TextMaps.Writing.{HasMadeFirst, new-writing, first-none, first-more, first-all, stops-in-pair, writes}
 use Rattle.java_properties.proofs.maps.write.Goals as goal
