@@ -232,5 +232,5 @@ begun-line_ascii e s n [] call ys first line part rest other k g same = absurd (
 begun-line_ascii e s n (x ∷ xs) call ys first line part rest other k g same =
     let kept = keep-front xs (call ∷ ys) k.1 in
     let go = λ (same : printed e (settings_after s (ascii_only_call true ∷ xs)) first line ≡ part ++ rest).
-        wrote-on_line e (turned_on s) refl g n xs (settings_after (turned_on s) xs) first line part rest kept (kept-on (turned_on s) xs refl kept) (kept-separator (turned_on s) xs g) same in
+    wrote-on_line e (turned_on s) refl g n xs (settings_after (turned_on s) xs) first line part rest kept (kept-on (turned_on s) xs refl kept) (kept-separator (turned_on s) xs g) same in
     subst (λ v. AreAsciiBytes (wrote e s n (v ∷ xs) ++ part)) (sym k.0) (go (subst (λ v. printed e (settings_after s (v ∷ xs)) first line ≡ part ++ rest) k.0 same))

@@ -10,6 +10,8 @@ pub mod calling;
 #[cfg(test)]
 mod laws;
 #[cfg(test)]
+mod maps;
+#[cfg(test)]
 mod reading;
 #[cfg(test)]
 mod refused;
