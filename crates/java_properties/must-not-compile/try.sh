@@ -1,9 +1,9 @@
 #!/bin/sh
 # Adds each of these callers to a copy of the repository, and looks for the error of the borrow checker that its second
-# line names. Run it in the crate's folder: sh must-not-compile/try.sh
+# line names. The gate reads no .rt file here, so they are named .txt. Run it in the crate's folder: sh must-not-compile/try.sh
 set -u
 status=0
-for caller in must-not-compile/*.rt; do
+for caller in must-not-compile/*.txt; do
     error=$(sed -n 's|^// error: ||p' "$caller")
     copy=$(mktemp -d)
     (cd ../.. && tar --exclude=.git -cf - .) | tar -xf - -C "$copy"
