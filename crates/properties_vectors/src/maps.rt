@@ -8,10 +8,11 @@ use std::collections::HashMap;
 use std::io;
 use std::test::Fail;
 
-// What a map has, or is to have.
-type Pairs<'a> = &'a [(&'a str, &'a str)];
+/// What a map has, or is to have.
+pub type Pairs<'a> = &'a [(&'a str, &'a str)];
 
-fn map_of(alloc: Global, pairs: Pairs<'_>) -> Result<HashMap<String, String>, PropertiesError> {
+/// The map of these pairs.
+pub fn map_of(alloc: Global, pairs: Pairs<'_>) -> Result<HashMap<String, String>, PropertiesError> {
     let mut map = HashMap::new(alloc);
     for (key, value) in pairs {
         map.insert(
@@ -89,9 +90,10 @@ fn text_of(alloc: Global, pairs: &[(String, String)]) -> Result<String, AllocErr
 
 #[test]
 fn pairs_are_handed_over(rt: HostRuntime) -> Result<(), Fail> {
-    let rows: [(&[u8], &str); 4] = [
+    let rows: [(&[u8], &str); 5] = [
         (b"", ""),
         (b"#c\n!d", ""),
+        (b"a=b\n", "a=b\n"),
         (b"#c\nb\na=x", "b=\na=x\n"),
         (b"a=1\na=2\n#c\na=1", "a=1\na=2\na=1\n"),
     ];
@@ -105,20 +107,27 @@ fn pairs_are_handed_over(rt: HostRuntime) -> Result<(), Fail> {
 
 #[test]
 fn pairs_before_an_error_are_handed_over(rt: HostRuntime) -> Result<(), Fail> {
-    let (pairs, answer) = read_pairs(rt.alloc(), b"a=1\nk=\\u12\nb=2")?;
-    assert!(rt; is_plain(&answer, ErrorKind::NotEnoughDigits, Some(2)));
-    assert_eq!(rt; text_of(rt.alloc(), pairs.as_slice())?.as_str(), "a=1\n");
+    for bytes in [b"a=1\nk=\\u12".as_slice(), b"a=1\nk=\\u12\nb=2"] {
+        let (pairs, answer) = read_pairs(rt.alloc(), bytes)?;
+        assert!(rt; is_plain(&answer, ErrorKind::NotEnoughDigits, Some(2)));
+        assert_eq!(rt; text_of(rt.alloc(), pairs.as_slice())?.as_str(), "a=1\n");
+    }
     Ok(())
 }
 
 #[test]
 fn maps_are_written(rt: HostRuntime) -> Result<(), Fail> {
-    let rows: [(Pairs<'_>, &[u8]); 5] = [
+    let rows: [(Pairs<'_>, &[u8]); 6] = [
         (&[], b""),
         (&[("a", "b")], b"a=b\n"),
         (&[("b", "2"), ("a", "1")], b"a=1\nb=2\n"),
         (&[("\u{e9}", "1"), ("z", "2")], b"z=2\n\xe9=1\n"),
         (&[("aa", ""), ("", "x"), ("a", " ")], b"=x\na=\\ \naa=\n"),
+        // By the units of UTF-16 the first key would come first.
+        (
+            &[("\u{1f41e}", "1"), ("\u{ff5e}", "2")],
+            b"\\uff5e=2\n\\ud83d\\udc1e=1\n",
+        ),
     ];
     for (pairs, wanted) in rows {
         let mut sink = memory_sink(rt.alloc());

@@ -9,3 +9,4 @@ mod lent;
 mod lines;
 mod printed;
 pub mod support;
+mod values;
