@@ -2,7 +2,8 @@
 
 use super::is_memory;
 use java_properties::{
-    Encoding, ErrorKind, Line, LineContent, PropertiesIter, Stopped, read_lines,
+    ContentRef, Encoding, ErrorKind, Line, LineContent, LineRef, PropertiesIter, Stopped,
+    read_lines,
 };
 use std::alloc::Global;
 use std::process::Abort;
@@ -18,6 +19,9 @@ const PAIRS: [(&str, &str); 4] = [
     ("last", "1"),
 ];
 
+// The pairs among them.
+const HANDED_OVER: [(&str, &str); 3] = [("a", "1"), ("k\u{e9}y", "x\u{e9}y"), ("last", "1")];
+
 // Whether it is the item at this place, where a comment has no key.
 fn is_item(line: &Line, at: usize) -> bool {
     let Some((key, value)) = PAIRS.get(at) else {
@@ -26,6 +30,17 @@ fn is_item(line: &Line, at: usize) -> bool {
     match line.content() {
         LineContent::Comment(text) => key.is_empty() && text.as_str() == *value,
         LineContent::KVPair(a_key, a_value) => a_key.as_str() == *key && a_value.as_str() == *value,
+    }
+}
+
+// Whether what is lent is the item at this place.
+fn is_lent_item(line: &LineRef<'_>, at: usize) -> bool {
+    let Some((key, value)) = PAIRS.get(at) else {
+        return false;
+    };
+    match line.content() {
+        ContentRef::Comment(text) => key.is_empty() && text.as_str() == *value,
+        ContentRef::KVPair(a_key, a_value) => a_key.as_str() == *key && a_value.as_str() == *value,
     }
 }
 
@@ -51,6 +66,105 @@ fn check_items(rt: &impl Abort, alloc: Global, input: &[u8]) -> Result<(), Fail>
 #[test]
 fn items_end_where_memory_is_refused(rt: HostRuntime) -> Result<(), Fail> {
     check_items(&rt, rt.alloc(), INPUT)
+}
+
+// Each lent item, or Memory after some of them and nothing after it. Says whether each came.
+fn lends_each_item(rt: &impl Abort, alloc: Global) -> Result<bool, Fail> {
+    let mut items = PropertiesIter::new(alloc, INPUT)?;
+    for at in 0..PAIRS.len() {
+        let is_lent = match items.next_ref() {
+            Some(Ok(line)) => {
+                assert!(rt; is_lent_item(&line, at));
+                true
+            }
+            Some(Err(error)) => {
+                assert!(rt; is_memory(&error));
+                false
+            }
+            None => panic!(rt; "no item {at}"),
+        };
+        if !is_lent {
+            assert!(rt; items.next_ref().is_none());
+            assert!(rt; items.next().is_none());
+            return Ok(false);
+        }
+    }
+    assert!(rt; items.next_ref().is_none());
+    Ok(true)
+}
+
+// One growth at most is refused, so a second reading comes to the end.
+#[test]
+fn lent_items_end_where_memory_is_refused(rt: HostRuntime) -> Result<(), Fail> {
+    if !lends_each_item(&rt, rt.alloc())? {
+        assert!(rt; lends_each_item(&rt, rt.alloc())?);
+    }
+    Ok(())
+}
+
+// A copy of the item at this place is made at once, or is refused and then made. The item is lent all the same.
+fn check_copy(rt: &impl Abort, alloc: Global, lent: &LineRef<'_>, at: usize) -> Result<(), Fail> {
+    let copy = match lent.to_line(alloc) {
+        Ok(copy) => copy,
+        Err(error) => {
+            assert!(rt; is_memory(&error));
+            assert!(rt; is_lent_item(lent, at));
+            lent.to_line(alloc)?
+        }
+    };
+    assert!(rt; is_item(&copy, at));
+    Ok(())
+}
+
+#[test]
+fn a_refused_copy_is_made_the_next_time(rt: HostRuntime) -> Result<(), Fail> {
+    let mut items = PropertiesIter::new(rt.alloc(), INPUT)?;
+    for at in 0..PAIRS.len() {
+        match items.next_ref() {
+            Some(Ok(lent)) => check_copy(&rt, rt.alloc(), &lent, at)?,
+            Some(Err(error)) => {
+                assert!(rt; is_memory(&error));
+                return Ok(());
+            }
+            None => panic!(rt; "no item {at}"),
+        }
+    }
+    assert!(rt; items.next_ref().is_none());
+    Ok(())
+}
+
+// Each pair is handed over, or Memory is returned after some of them and nothing comes after it. Says whether each
+// was.
+fn hands_over_each_pair(rt: &impl Abort, alloc: Global) -> Result<bool, Fail> {
+    let mut items = PropertiesIter::new(alloc, INPUT)?;
+    let mut count = 0usize;
+    let mut all_are_pairs = true;
+    let answer = items.read_into(|key, value| {
+        if HANDED_OVER.get(count) != Some(&(key.as_str(), value.as_str())) {
+            all_are_pairs = false;
+        }
+        count = count.saturating_add(1);
+    });
+    assert!(rt; all_are_pairs);
+    assert!(rt; items.next().is_none());
+    match answer {
+        Ok(()) => {
+            assert_eq!(rt; count, HANDED_OVER.len());
+            Ok(true)
+        }
+        Err(error) => {
+            assert!(rt; is_memory(&error));
+            Ok(false)
+        }
+    }
+}
+
+#[test]
+fn pairs_are_handed_over_until_memory_is_refused(rt: HostRuntime) -> Result<(), Fail> {
+    if !hands_over_each_pair(&rt, rt.alloc())? {
+        assert!(rt; hands_over_each_pair(&rt, rt.alloc())?);
+    }
+    Ok(())
 }
 
 // A line that is longer than what is read at once.

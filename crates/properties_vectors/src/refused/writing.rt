@@ -1,6 +1,6 @@
 // Writers and sinks.
 
-use super::is_memory;
+use super::{is_memory, roomy_sink, takes_at_once};
 use counted_io::{Counted, CountedWrite, ScriptedSink, SinkFault};
 use java_properties::{
     Call, Cause, Encoding, ErrorKind, LineEnding, PropertiesError, PropertiesWriter, run_calls,
@@ -9,25 +9,6 @@ use std::alloc::{AllocError, Global};
 use std::io;
 use std::process::Abort;
 use std::test::Fail;
-
-// More bytes than a row writes.
-const ROOM: usize = 256;
-
-// A sink that has room for all, so that none of its growths is refused.
-fn roomy_sink(alloc: Global) -> Result<Counted<Vec<u8>>, AllocError> {
-    Ok(Counted::new(Vec::with_capacity(alloc, ROOM)?))
-}
-
-// One growth at most is refused: so the call succeeds, or is refused and then succeeds. Says whether at once.
-fn takes_at_once(rt: &impl Abort, first: Result<(), PropertiesError>) -> bool {
-    match first {
-        Ok(()) => true,
-        Err(error) => {
-            assert!(rt; is_memory(&error));
-            false
-        }
-    }
-}
 
 fn write_pair<W: CountedWrite>(
     rt: &impl Abort,
