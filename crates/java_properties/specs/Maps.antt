@@ -15,6 +15,7 @@ use Rattle.properties_format.specs.Entries.{Content, comment, pair, Entry}
 use Rattle.properties_format.specs.Lines.{end}
 use Rattle.properties_format.specs.Items.{IsItems}
 use Rattle.properties_format.specs.Maps.{IsMap}
+use Rattle.properties_format.specs.Pairs.{Pair, items_after}
 use Rattle.properties_format.specs.Settings.{default_settings}
 use Rattle.properties_format.specs.Writing.{Call, pair_call, flush_call, wrote}
 use Rattle.java_properties.specs.Calls.{StopsAtCall}
@@ -108,11 +109,25 @@ WritesMap sink m old (Err error) new = Refuses kind.Memory old error new ⊎ Sto
 
 -- ---- reading what was written
 
--- The sink took bytes whose items, by themselves and in windows-1252, have the map that was written: each key has its value, and no other key has one.
+-- a key and its value, as characters
+abbrev pub pair_of : Texts → Pair
+pair_of texts = (chars texts.0, chars texts.1)
+
+-- the items of these pairs, one a line from the first line on
+abbrev pub items_for : List Texts → List Entry
+items_for pairs = items_after 0 (map pair_of pairs)
+
+-- The sink took bytes that are read back, by themselves and in windows-1252, as the map's pairs in order, one a line. They
+-- have no other items, so none is malformed. The map of these items is the one that was written: each key has its value,
+-- and no other key has one.
 pub record IsMapReadBack {W Y Z S : Type 0} (sink : Sink W) (m : HashMap (String Y) (String Z) S) (old new : W) : Type 0 where
   pub bytes : List ℕ
   pub written : HasWritten sink old bytes new
-  pub read : (items : List Entry) → IsItems windows_1252 bytes end items → IsMap items (value_at m)
+  pub pairs : List Texts
+  pub in_order : AreInOrder m pairs
+  pub items : IsItems windows_1252 bytes end (items_for pairs)
+  pub only : (others : List Entry) → IsItems windows_1252 bytes end others → others ≡ items_for pairs
+  pub is_map : IsMap (items_for pairs) (value_at m)
 
 -- What writing a map says of reading it: where it was written, it is read back.
 abbrev pub MapReadsBack : {W Y Z S : Type 0} → Sink W → HashMap (String Y) (String Z) S → W → Result Unit PropertiesError → W → Type 0

@@ -12,12 +12,8 @@ use Rattle.std.proofs.lemmas.Map.Text.{is_eq-slice_cmp}
 use Rattle.std.proofs.lemmas.Slice.Eq.{bytes_eq-Decides}
 use Rattle.std.proofs.lemmas.Str.{encodes-chars}
 use lib.Utf8.{encodes}
-use Rattle.properties_format.specs.Pairs.{Pair}
 use Rattle.properties_format.specs.Laws.{HasNoKey, AreDistinct}
-
--- a key and its value, given as bytes, as characters
-abbrev pub pair_of : List ℕ × List ℕ → Pair
-pair_of texts = (chars texts.0, chars texts.1)
+use Rattle.java_properties.specs.Maps.{pair_of}
 
 -- the keys are UTF-8
 abbrev pub AreKeysUtf8 : List (List ℕ × List ℕ) → Type 0

@@ -16,21 +16,22 @@ use Rattle.counted_io.specs.Streams.{Sink, HasWritten}
 use Rattle.properties_format.specs.Text.{scalar}
 use Rattle.properties_format.specs.Encoding.{windows_1252}
 use Rattle.properties_format.specs.Lines.{end}
+use Rattle.properties_format.specs.Items.{IsItems}
 use Rattle.properties_format.specs.Maps.{IsValue}
 use Rattle.properties_format.specs.Reading.Maps.{value_in}
 use Rattle.properties_format.specs.Settings.{default_settings}
 use Rattle.properties_format.specs.Writing.{pair_call, wrote}
 use Rattle.properties_format.specs.Pairs.{Pair, calls_of, items_after, AreAccepted, ArePairsOfScalars}
 use Rattle.properties_format.specs.Laws.{HasPair, HasNoKey, AreDistinct}
-use Rattle.properties_format.proofs.Items.Unique.{items_of-only}
+use Rattle.properties_format.proofs.Items.Unique.{items_of-meets, items_of-only}
 use Rattle.properties_format.proofs.Maps.{value_in-meets, value_in-only}
 use Rattle.properties_format.proofs.Laws.{no-pair, value-among}
 use Rattle.properties_format.proofs.ReadBack.Law.{default_settings-good}
 use Rattle.properties_format.proofs.ReadBack.Lists.{items_of-pairs}
-use Rattle.java_properties.specs.Maps.{Texts, characters, value_at, entry_texts, calls_for, WritesMap, MapReadsBack}
+use Rattle.java_properties.specs.Maps.{Texts, characters, value_at, entry_texts, calls_for, pair_of, items_for, WritesMap, MapReadsBack}
 use Rattle.java_properties.specs.declared.error.PropertiesError.{PropertiesError}
 use Rattle.java_properties.proofs.ReadBack.Scalars.{string-scalars}
-use Rattle.java_properties.proofs.TextMaps.Distinct.{pair_of, AreKeysUtf8, ascending-distinct}
+use Rattle.java_properties.proofs.TextMaps.Distinct.{AreKeysUtf8, ascending-distinct}
 use Rattle.java_properties.proofs.TextMaps.Writing.{accepted}
 
 -- ---- pairs in another order
@@ -150,8 +151,11 @@ writes-read_back sink m old new (Ok done) h =
     record {
       bytes = bytes;
       written = subst (λ v. HasWritten sink old (wrote windows_1252 default_settings 0 v) new) (calls-are h.pairs) h.written;
-      read = λ items is key.
+      pairs = h.pairs;
+      in_order = h.in_order;
+      items = subst (IsItems windows_1252 bytes end) told (items_of-meets windows_1252 bytes end);
+      only = λ others is. items_of-only windows_1252 bytes end others is ∙ told;
+      is_map = λ key.
           let same = among-value_in ps key (value_at m key) distinct (moved-among (map pair_of xs) ps key (value_at m key) moved (entries-say key m.entries)) in
-          let all : items ≡ items_after 0 ps = items_of-only windows_1252 bytes end items is ∙ told in
-          subst (IsValue items key) (ap (λ v. value_in v key) all ∙ sym same) (value_in-meets items key);
+          subst (IsValue (items_for h.pairs) key) (sym same) (value_in-meets (items_for h.pairs) key);
     }
