@@ -1,5 +1,7 @@
 -- Lines that are read into a closure, one after another.
 use Rattle.std.proofs.Common.{◌≡◌, List, [], ◌∷◌, ◌++◌, refl, ap, sym, ◌∙◌, subst, append-nil, append_assoc}
+use denote.Param.Always.{always_mut, mut_next}
+use denote.Param.Members.{Mut, Called}
 use Rattle.std.specs.Prelude.{Some, Result, Ok}
 use Rattle.std.specs.Global.{Global}
 use Rattle.std.specs.declared.string.String.{String}
@@ -7,7 +9,7 @@ use Rattle.std.proofs.lemmas.Fn.{FoldsTo-push}
 use Rattle.counted_io.specs.Streams.{Reader}
 use Rattle.java_properties.specs.Line.{content_of}
 use Rattle.java_properties.specs.PropertiesIter.{Reading, NextGives}
-use Rattle.java_properties.specs.ReadInto.{KeyAndValue, pair_of, pairs_among, GivesLines, IsCalledOn, last_answer, ReadsInto}
+use Rattle.java_properties.specs.ReadInto.{KeyAndValue, pair_of, pairs_among, GivesLines, IsCalledOn, CallableOnPairs, last_answer, ReadsInto}
 use Rattle.java_properties.specs.declared.error.PropertiesError.{PropertiesError}
 use Rattle.java_properties.specs.declared.line.Line.{Line}
 use Rattle.java_properties.specs.declared.line.LineContent.{LineContent}
@@ -59,3 +61,17 @@ module _ {R F : Type 0} {reader : Reader R} {step : F → String Global → Stri
   pub called-all : {it : Reading R} {g : F} (next : Reading R) (result : Result Unit PropertiesError) → HasCalled reader step old f it g
       → NextGives reader it (last_answer result) next → ReadsInto reader step old f result next
   called-all {it} {g} next result h ended = record { lines = h.lines; last = g; called = h.called; before_end = it; given = h.given; ended = ended }
+
+-- a closure that may always be called may be given to `read_into`
+module _ {F : Type 0} (g : Mut F (String Global × (String Global × Unit {0})) (Unit {0})) where
+  abbrev Calls : F → String Global → String Global → Unit {0} → F → Type 0
+  Calls before key value r after = Called g before (key, (value, tt)) r after
+
+  always_after : (pairs : List KeyAndValue) (f last : F) → always_mut g f → IsCalledOn Calls f pairs last → always_mut g last
+  always_after [] f last h e = subst (always_mut g) e h
+  always_after (x ∷ pairs) f last h e = always_after pairs e.0 last (mut_next g f (x.0, (x.1, tt)) tt e.0 e.0 e.1 refl h) e.2
+
+  pub CallableOnPairs-always : {R : Type 0} (reader : Reader R) (old : Reading R) (f : F) → always_mut g f
+      → CallableOnPairs reader Calls (λ k key value. g.pre k (key, (value, tt))) old f
+  CallableOnPairs-always reader old f h lines line before after k key value given called next pair =
+      ((always_after (pairs_among lines) f k h called).at ((key, (value, tt)) ∷ [])).0

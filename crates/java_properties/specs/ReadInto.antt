@@ -1,5 +1,5 @@
 -- What reading into a closure does.
-use Rattle.std.specs.Prelude.{List, [], ◌∷◌, Option, Some, None, Result, Ok, Err}
+use Rattle.std.specs.Prelude.{◌≡◌, List, [], ◌∷◌, Option, Some, None, Result, Ok, Err}
 use Rattle.std.specs.Global.{Global}
 use Rattle.std.specs.List.{FoldsTo, flat_map}
 use Rattle.std.specs.declared.string.String.{String}
@@ -31,6 +31,13 @@ GivesLines reader = FoldsTo (λ before line after. NextGives reader before (Some
 -- the closure was called on these pairs, in order, and on nothing else
 abbrev pub IsCalledOn : {F : Type 0} → (F → String Global → String Global → Unit {0} → F → Type 0) → F → List KeyAndValue → F → Type 0
 IsCalledOn step = FoldsTo (λ before entry after. step before entry.0 entry.1 tt after)
+
+-- the closure may be called on the pair that comes next, once it was called on the pairs before it, and on nothing else
+abbrev pub CallableOnPairs : {R F : Type 0} → Reader R → (F → String Global → String Global → Unit {0} → F → Type 0) → (F → String Global → String Global → Type 0)
+    → Reading R → F → Type 0
+CallableOnPairs {R} {F} reader step pre old f = (lines : List Line) (line : Line) (before after : Reading R) (g : F) (key value : String Global)
+    → GivesLines reader old lines before → IsCalledOn step f (pairs_among lines) g
+    → NextGives reader before (Some (Ok line)) after → content_of line ≡ KVPair key value → pre g key value
 
 -- what `next` said when no more lines came
 abbrev pub last_answer : Result Unit PropertiesError → Option (Result Line PropertiesError)

@@ -1,6 +1,6 @@
 // The pairs of a reader, to a closure.
 
-ghost use Rattle.java_properties.specs.ReadInto.{ReadsInto};
+ghost use Rattle.java_properties.specs.ReadInto.{CallableOnPairs, ReadsInto};
 
 use crate::error::PropertiesError;
 use crate::iter::PropertiesIter;
@@ -21,7 +21,7 @@ impl<R: CountedRead> PropertiesIter<R> {
     /// })?;
     /// ```
     pub fn read_into<F: FnMut(String, String)>(&mut self, mut f: F) -> Result<(), PropertiesError>
-        requires callable { F.IsAlwaysCallable f }
+        requires callable { CallableOnPairs R.CountedRead F.step F.pre self.old f }
         ensures reads { ReadsInto R.CountedRead F.step self.old f result self.new }
     {
         while let Some(item) = self.next() {

@@ -1,11 +1,10 @@
-use Rattle.std.proofs.Common.{of_calls}
 use Rattle.std.specs.Prelude.{Ok, Err}
 use Rattle.std.proofs.lemmas.Result.{err_from_is_err_and}
 use Rattle.java_properties.proofs.ReadInto.{called-none, called-other, called-more, called-all}
 use Rattle.java_properties.proofs.iter.PropertiesIter.read_into.Goals as goal
 
 pub loop-item-init : goal.loop-item-init
-loop-item-init g c = record { called = called-none; callable = c.requires.callable }
+loop-item-init g c = record { called = called-none }
 
 pub returns-in_err-line : goal.returns-in_err-line
 returns-in_err-line g c =
@@ -19,7 +18,6 @@ loop-item-preserved g c =
     let held = c.loop-item.invariant in
     record {
       called = called-more c.next.new.self c.in_ok-line.line c.consume_content.result held.called c.consume_content.ensures gives _ _ _ c.in-KVPair.is c.f.ensures;
-      callable = search of_calls;
     }
 
 pub loop-item-preserved-in_default-consume_content : goal.loop-item-preserved-in_default-consume_content
@@ -28,7 +26,6 @@ loop-item-preserved-in_default-consume_content g c =
     let held = c.loop-item.invariant in
     record {
       called = called-other c.next.new.self c.in_ok-line.line c.consume_content.result held.called c.consume_content.ensures gives c.in_default-consume_content.not-KVPair;
-      callable = held.callable;
     }
 
 pub returns : goal.returns

@@ -6,7 +6,6 @@ use Rattle.java_properties.proofs.iter.PropertiesIter.read_into.Given as goal
 abbrev pub invariant-loop-item : goal.invariant-loop-item
 invariant-loop-item g l = record {
   called : HasCalled (reader g.R.Read g.R.CountedRead) (goal.F-step g) l.fn.self l.fn.f l.self l.f;
-  callable : goal.F-IsAlwaysCallable g l.f;
 }
 
 abbrev pub decreases-loop-item : goal.decreases-loop-item
