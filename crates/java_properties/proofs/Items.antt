@@ -1,6 +1,6 @@
 -- How items come of logical lines.
 use Rattle.std.proofs.Common.{◌≡◌, ℕ, true, false, List, [], ◌++◌, refl, sym, ap, ap₂, ◌∙◌, inl, inr, append_assoc}
-use Rattle.std.specs.Prelude.{◌⊎◌, Some}
+use Rattle.std.specs.Prelude.{◌⊎◌, Option, Some, None, Result, Ok, Err}
 use Rattle.std.specs.Str.{chars}
 use Rattle.std.proofs.lemmas.Bool.{cases_Bool}
 use Rattle.properties_format.specs.Split as split
@@ -20,7 +20,7 @@ use Rattle.properties_format.specs.ItemsToCome.{ReaderState}
 use Rattle.properties_format.specs.Reading.ItemsToCome.{items_to_come}
 use Rattle.properties_format.proofs.ItemsToCome.Unique.{items_to_come-done}
 use Rattle.java_properties.specs.Errors.{IsBareError}
-use Rattle.java_properties.specs.LentItems.{found_content, spans_of, AreTextsIn, IsFoundIn}
+use Rattle.java_properties.specs.LentItems.{found_content, spans_of, AreTextsIn, IsFoundIn, FindsItem, FindsPlain}
 use Rattle.java_properties.specs.LineFinder.{PassesSome}
 use Rattle.java_properties.proofs.LineJoiner.{some-start, some-on, all-on}
 use Rattle.java_properties.specs.LineJoiner.{IsLazyItems, JoinsError, JoinsNext, Comes, Joiner, numbered_line}
@@ -71,6 +71,12 @@ content-item line (found.KVPair key value) h t = pair-item (chars line) _ _ _ _ 
 -- it is the item of that line
 pub found-item : (line : List ℕ) (f : Found) → IsFoundIn line f → outcome_of (chars line) ≡ given (found_content line f.content)
 found-item line f h = content-item line f.content h.slices h.texts
+
+-- a line of which nothing plain was found is blank
+pub plain-blank : (line : List ℕ) (number : ℕ) (answer : Option Found) → FindsPlain line number answer → ((f : Found) → answer ≡ Some f → ⊥)
+    → outcome_of (chars line) ≡ ignored
+plain-blank line number (Some f) h k = absurd (k f refl)
+plain-blank line number None h k = h
 
 -- ---- item after item
 
@@ -223,6 +229,59 @@ module _ {R : Type 0} {reader : Reader R} where
       ended = λ f. elim k.2 [ inl e ↦ absurd (cc) | inr e ↦ e ];
     }
   ])
+
+  -- what comes after them, as it is said of the reading before them
+  passed-entry : {s t u : ReaderState} {from to next : R} {r : List ℕ} {entry : Entry} → Passed reader s from r t to → GivesEntry reader t to entry u next
+      → GivesEntry reader s from entry u next
+  passed-entry {s} {t} {u} {r = r} {entry} h n = record {
+    bytes = r ++ n.bytes;
+    read = read-more h.read n.read;
+    live = passed-live h n.live;
+    gives = on n.gives;
+    passes = λ g. some-on (h.passes n.live) (n.passes g);
+    ended = n.ended;
+    lazy = passed-lazy h n.live n.lazy;
+  }
+    where
+      on : Gives t n.bytes entry u → Gives s (r ++ n.bytes) entry u
+      on (Gives.going_on k e) = Gives.going_on k (record { items = λ d ending. passed-after h n.live n.bytes d ending ∙ e.items d ending })
+      on (Gives.at_last k items) = Gives.at_last k (passed-on h n.live n.bytes end ∙ items)
+
+  passed-ended : {s t u : ReaderState} {from to next : R} {r : List ℕ} → Passed reader s from r t to → GivesNone reader t to u next → GivesNone reader s from u next
+  passed-ended {s} {t} {r = r} h n = elim (cases_Bool t.is_done) [
+    | inl d ↦ let k = n.idle d in passed-none h d k.0 k.1
+    | inr g ↦ record {
+      bytes = r ++ n.bytes;
+      read = read-more h.read n.read;
+      items = passed-on h g n.bytes end ∙ n.items;
+      done = n.done;
+      idle = λ e. let l = passed-live h g in absurd (cc);
+      ended = λ f. n.ended g;
+    }
+  ]
+
+  passed-malformed : {s t : ReaderState} {from to next : R} {r : List ℕ} {e : PropertiesError} → Passed reader s from r t to → t.is_done ≡ false
+      → GivesMalformed reader t to e next → GivesMalformed reader s from e next
+  passed-malformed {s} {t} {next = next} {r = r} h g n = record {
+    bytes = r ++ n.bytes;
+    number = n.number;
+    kind = n.kind;
+    read = read-more h.read n.read;
+    is = n.is;
+    breaks = on n.breaks;
+    lazy = passed-lazy h g n.lazy;
+  }
+    where
+      on : BreaksOff t n.bytes (malformed n.kind n.number) (reader.at_end next) → BreaksOff s (r ++ n.bytes) (malformed n.kind n.number) (reader.at_end next)
+      on (BreaksOff.before_all f) = BreaksOff.before_all (λ d ending. passed-after h g n.bytes d ending ∙ f d ending)
+      on (BreaksOff.at_last k items) = BreaksOff.at_last k (passed-on h g n.bytes end ∙ items)
+
+  pub passed-finds : {s t : ReaderState} {from to : R} {r : List ℕ} (answer : Option (Result Found PropertiesError)) (new : Joiner) (next : R) → Passed reader s from r t to
+      → FindsItem reader t to answer new next → FindsItem reader s from answer new next
+  passed-finds None new next h n = passed-ended h n
+  passed-finds (Some (Ok found)) new next h n = (passed-entry h n.0, n.1)
+  passed-finds (Some (Err e)) new next h (live, done, inl n) = (passed-live h live, done, inl (passed-malformed h live n))
+  passed-finds (Some (Err e)) new next h (live, done, inr n) = let k = passed-error h live n in (k.0, done, inr k.1)
 
   -- an item came for which there was no memory
   pub item-lost : {s t u : ReaderState} {from to : R} {entry : Entry} {e : PropertiesError} → GivesEntry reader s from entry t to → IsBareError Memory e

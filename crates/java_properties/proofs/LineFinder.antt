@@ -1,5 +1,5 @@
 -- How a line is sought and found, step by step.
-use Rattle.std.proofs.Common.{◌≡◌, ◌<◌, ◌≤◌, ◌==◌, ◌&&◌, ◌+◌, ℕ, Bool, true, false, List, [], ◌∷◌, ◌++◌, take, drop, length, refl, sym, ap, ap₂, ◌∙◌, append_assoc, length-append, inl, inr, arith, eqb-true, append-nil, subst}
+use Rattle.std.proofs.Common.{◌≡◌, ◌^◌, ◌<◌, ◌≤◌, ◌==◌, ◌&&◌, ◌+◌, ℕ, Bool, true, false, List, [], ◌∷◌, ◌++◌, take, drop, length, refl, sym, ap, ap₂, ◌∙◌, append_assoc, length-append, inl, inr, arith, eqb-true, append-nil, subst}
 use Rattle.std.specs.Prelude.{Option, Some, None, Err}
 use Rattle.std.proofs.Math.Seq.{drop-append_seam, take-length}
 use Rattle.std.proofs.lemmas.Grind.{common_steps}
@@ -28,10 +28,13 @@ use Rattle.java_properties.specs.InputBuffer.{HasFilled, Fills}
 use Rattle.java_properties.specs.declared.input.FillError.{FillError}
 use Rattle.java_properties.specs.declared.input.FillError.TheVariants.{Memory, Io}
 use Rattle.java_properties.specs.LineSearch.{unit_size, whole_units, end_character, IsFirstLineEnd, FindsLineEnd}
-use Rattle.java_properties.proofs.LineSearch.{searched-more, length-ascii_bytes}
+use Rattle.memchr.specs.Find.{IsFirst, Passes}
+use Rattle.java_properties.proofs.LineSearch.{searched-more, length-ascii_bytes, found-byte, nothing_searched}
 use Rattle.java_properties.specs.declared.error.PropertiesError.{PropertiesError}
 use Rattle.java_properties.specs.declared.lines.search.LineEnd.{LineEnd}
-use Rattle.java_properties.specs.LineFinder.{IsSettled, HoldsNoEndYet, IsAlike, SkipsFeed, PassesFeed, Settles, SettlesLast, Along, IsAtLast, IsReady, HoldsLineEnd, LooksFor, Looks, HasFound, HasEnded, HasBroken, HasNoRoom, Seeks, Finder, Passes, FindsNext, FindsError, IsRefused}
+use Rattle.java_properties.specs.declared.lines.seeker.HeldLine.{HeldLine}
+use Rattle.java_properties.specs.LineFinder as finder
+use Rattle.java_properties.specs.LineFinder.{IsSettled, HoldsNoEndYet, IsAlike, SkipsFeed, PassesFeed, Settles, SettlesLast, Along, IsAtLast, IsReady, HoldsLineEnd, LooksFor, Looks, HasFound, HasEnded, HasBroken, HasNoRoom, Seeks, PassesFirst, IsHeldLine, end_after, Finder, TakesHeld, FindsNext, FindsError, IsRefused}
 use Rattle.java_properties.specs.declared.encoding.byte_order_mark.ByteOrderMark.{ByteOrderMark}
 use Rattle.java_properties.specs.declared.encoding.byte_order_mark.ByteOrderMark.TheVariants.{Present, Absent, Undecided}
 
@@ -395,7 +398,62 @@ last-state t w d h k =
     let none : drop (length t.held) t.held ≡ [] = grind (arith, common_steps) in
     rw (h, k, none, take-length t.held) refl
 
+-- ---- lines that are held
+
+pub first-lf : (s : ReaderState) (n : ℕ) → s.is_decided ≡ true → s.after_cr ≡ true → n ≤ length s.held → s.held ≡ ascii_bytes s.encoding line_feed ++ drop n s.held
+    → PassesFirst s n
+first-lf s n d a w h = record { within = w; alike = (skips-lf s (drop n s.held) d a h).alike }
+
+pub first-none : (s : ReaderState) (r : Bool) → s.is_decided ≡ true → length (ascii_bytes s.encoding line_feed) ≤ length s.held
+    → ((rest : List ℕ) → s.held ≡ ascii_bytes s.encoding line_feed ++ rest → r ≡ true) → r ≡ false → PassesFirst s 0
+first-none s r d l h k =
+    record { within = omega arith; alike = (skips-none s r d (omega (arith, l, length-ascii_bytes s.encoding line_feed)) h k).alike }
+
+-- a search of the bytes finds such a line
+pub peeks : (s : ReaderState) (line : HeldLine) → s.is_done ≡ false → s.is_decided ≡ true → s.passed + 1 < 2 ^ 64 → unit_size s.encoding ≡ 1 → PassesFirst s line.start
+    → IsFirst (Passes is_line_end (drop line.start s.held)) 0 (length (drop line.start s.held)) (Some line.length) → IsHeldLine s line
+peeks s line g d n u first h =
+    let t = after_passed s (drop line.start s.held) in
+    let found = found-byte s.encoding t.held 0 line.length u (nothing_searched s.encoding t.held) h.0 h.1 in
+    record {
+      numbered = n;
+      bytes = u;
+      first = first;
+      holds = found-line t (end_after t.held line.length) g (record { decided = d; after_end = refl }) found;
+    }
+
+-- such a line is taken
+pub takes-held : {s : ReaderState} (line : HeldLine) (number : ℕ) (new : Finder) → IsHeldLine s line → number ≡ s.passed + 1
+    → new ≡ found_at (after_passed s (drop line.start s.held)) (end_after (drop line.start s.held) line.length) number → TakesHeld s number new
+takes-held {s} line number new h n e =
+    let t = after_passed s (drop line.start s.held) in
+    let line_end = end_after (drop line.start s.held) line.length in
+    let c = end_character line_end.is_cr in
+    let took = lines-then h.first.alike.gives (lines-take t (take line.length t.held) c h.holds.rest h.holds.line) in
+    let P : Finder → Type 0 = λ v. TakesHeld s number v in
+    subst P (sym e) (record {
+      live = h.holds.line.going;
+      numbered = n;
+      reads = rw (← found-state t line_end number h.holds n) (rw n took);
+      going = h.holds.line.going;
+      counted = refl;
+      encoding = refl;
+    })
+
 module _ {R : Type 0} {reader : Reader R} where
+  -- it is the next, and nothing is read
+  pub held-next : {old : ReaderState} {from : R} (number : ℕ) (new : Finder) → TakesHeld old number new → FindsNext reader old from number new from
+  held-next {from = from} number new h = record {
+    bytes = [];
+    read = read-none from;
+    live = h.live;
+    numbered = h.numbered;
+    passes = finder.Passes.going_on h.going h.reads;
+    counted = λ d. h.counted;
+    ended = λ d. let g = h.going in absurd (cc);
+    lazy = inl (refl, refl);
+  }
+
   pub found-next : {old begun t : ReaderState} {from to : R} (line_end : LineEnd) (number : ℕ) (new : Finder) → begun ≡ old → HasFound reader begun from line_end t to → old.is_done ≡ false
       → number ≡ old.passed + 1 → new ≡ found_at t line_end number → FindsNext reader old from number new to
   found-next {old} {t = t} {from} {to} line_end number new same sought g n e =
@@ -410,7 +468,7 @@ module _ {R : Type 0} {reader : Reader R} where
         read = h.along.read;
         live = g;
         numbered = n;
-        passes = Passes.going_on h.held.line.going (rw (← found-state t line_end number h.held k) (rw k took));
+        passes = finder.Passes.going_on h.held.line.going (rw (← found-state t line_end number h.held k) (rw k took));
         counted = λ d. refl;
         ended = λ d. let b = h.held.line.going in absurd (cc);
         lazy = h.along.lazy;
@@ -429,7 +487,7 @@ module _ {R : Type 0} {reader : Reader R} where
         read = h.read;
         live = g;
         numbered = n;
-        passes = Passes.at_last refl (rw k (gives-on (h.last.gives end) (gives-last t u [] h.last.none refl)));
+        passes = finder.Passes.at_last refl (rw k (gives-on (h.last.gives end) (gives-last t u [] h.last.none refl)));
         counted = λ d. absurd (cc);
         ended = λ d. h.ended;
         lazy = inr h.last.lazy;

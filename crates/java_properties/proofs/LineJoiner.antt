@@ -14,12 +14,29 @@ use Rattle.properties_format.specs.Reading.Items.{outcome_of, followed}
 use Rattle.properties_format.specs.Reading.ItemsToCome.{items_to_come, natural_to_come, last_to_come, entries_pending, entries_of_logical, logical_pending}
 use Rattle.properties_format.proofs.ItemsToCome.Entries.{joining-open, joining-closed, joining-done, pending-comment_line, pending-closed, pending-open, pending-done, items_to_come-pending}
 use Rattle.properties_format.proofs.ItemsToCome.Steps.{lines-start, lines-on, on-start, on-open, logical-comment_line, logical-closed}
+use Rattle.properties_format.specs.Pieces.{characters}
+use Rattle.properties_format.specs.Reading.Encoding.{pieces_of}
+use Rattle.properties_format.specs.Reading.ReaderSteps.{ReadsLines}
 use Rattle.java_properties.specs.Errors.{IsBareError}
+use Rattle.java_properties.specs.Escaping.{holds_backslash}
+use Rattle.java_properties.proofs.Texts.Resolving.{plain-closed}
 use Rattle.java_properties.specs.LineFinder as finder
-use Rattle.java_properties.specs.LineFinder.{Finder, Passes, PassesSome, PassesAll, IsLazy, FindsError, FindsFault, FindsTooMany, FindsNoRoom}
-use Rattle.java_properties.specs.LineJoiner.{line_text, join_of, Pends, Closes, IsLazyJoin, IsLazyItems, GoesOn, JoinsAll, JoinError, Joiner, numbered_line, FindsNext, Comes, JoinsAfter, JoinsNext, JoinsError}
+use Rattle.java_properties.specs.LineFinder.{Finder, Passes, PassesSome, PassesAll, IsLazy, TakesHeld, FindsError, FindsFault, FindsTooMany, FindsNoRoom}
+use Rattle.java_properties.specs.LineJoiner.{line_text, join_of, Pends, Closes, IsLazyJoin, IsLazyItems, GoesOn, JoinsAll, JoinError, Joiner, numbered_line, TakesPlain, JoinsPlain, FindsNext, Comes, JoinsAfter, JoinsNext, JoinsError}
 use Rattle.java_properties.specs.declared.error.ErrorKind.TheVariants as kind
 use Rattle.java_properties.specs.declared.error.PropertiesError.{PropertiesError}
+
+-- a line that was held, and is its own text
+pub takes-plain : (s : ReaderState) (number : ℕ) (f : Finder) → TakesHeld s number f → characters (pieces_of f.state.encoding f.line) ≡ chars f.line
+    → holds_backslash (chars f.line) ≡ false → TakesPlain s number (record { state = f.state; line = f.line })
+takes-plain s number f h same plain =
+    let P : List ℕ → Type 0 = λ v. ReadsLines s [] (record { number = number; text = v } ∷ []) f.state in
+    record { live = h.live; numbered = h.numbered; reads = subst P same h.reads; going = h.going; counted = h.counted; plain = plain }
+
+-- none came
+pub not-plain : {old new : Joiner} {answer : Option ℕ} → JoinsPlain old answer new → ((number : ℕ) → answer ≡ Some number → ⊥) → new ≡ old
+not-plain {answer = Some number} h k = absurd (k number refl)
+not-plain {answer = None} h k = h
 
 -- ---- where no line comes
 
@@ -274,6 +291,19 @@ module _ {R : Type 0} {reader : Reader R} where
     ended = n.ended;
     lazy = lazy-items s n.lazy;
   }
+
+  -- and so is a plain one
+  pub joins-plain : {s : ReaderState} {from : R} (number : ℕ) (new : Joiner) → TakesPlain s number new → JoinsNext reader s from number new from
+  joins-plain {from = from} number new h = joins-alone number new (record {
+    bytes = [];
+    read = read-none from;
+    live = h.live;
+    numbered = h.numbered;
+    passes = Passes.going_on h.going h.reads;
+    counted = λ d. h.counted;
+    ended = λ d. let g = h.going in absurd (cc);
+    lazy = inl (refl, refl);
+  }) (inr (plain-closed (chars new.line) h.plain))
 
   -- what was held when a join began, and gave no item
   lazy-join : {s : ReaderState} {from to next : R} {q : List ℕ} (number : ℕ) (mid : Joiner) (n : FindsNext reader s from number mid to)

@@ -129,6 +129,11 @@ FindsIn line number (Ok None) = outcome_of (chars line) ≡ ignored
 FindsIn line number (Ok (Some found)) = (found.line_number ≡ number) × IsFoundIn line found
 FindsIn line number (Err e) = IsNoItem number (chars line) e
 
+-- the same of a line without a backslash
+abbrev pub FindsPlain : List ℕ → ℕ → Option Found → Type 0
+FindsPlain line number None = outcome_of (chars line) ≡ ignored
+FindsPlain line number (Some found) = (found.line_number ≡ number) × IsFoundIn line found
+
 -- What was found is an item; or there was no memory for it, and the reading ended.
 abbrev pub Owns : Joiner → Found → Result Line PropertiesError → Joiner → Type 0
 Owns old found (Ok line) new = (entry_of line ≡ found_entry old.line found) × (new ≡ old)

@@ -1,7 +1,8 @@
 -- What a contract sees of the line finder and of the seeker in it, and what their calls give and leave.
-use Rattle.std.specs.Prelude.{◌≡◌, ◌⊎◌, ◌+◌, ◌-◌, ◌^◌, ◌<◌, ◌≤◌, ℕ, Bool, true, false, if◌then◌else◌, List, [], ◌∷◌, take, length, Option, Some, None, Result, Ok, Err}
+use Rattle.std.specs.Prelude.{◌≡◌, ◌⊎◌, ◌+◌, ◌-◌, ◌^◌, ◌<◌, ◌≤◌, ℕ, Bool, true, false, if◌then◌else◌, List, [], ◌∷◌, take, drop, length, get_or, ◌==◌, Option, Some, None, Result, Ok, Err}
 use Rattle.std.specs.declared.io.Error.{Error}
 use Rattle.counted_io.specs.Streams.{Reader, HasRead, HasFailed}
+use Rattle.properties_format.specs.Text.{carriage_return}
 use Rattle.properties_format.specs.Cut.{HoldsNoLineEndUnit}
 use Rattle.properties_format.specs.Reading.Waiting.{awaits_bom}
 use Rattle.properties_format.specs.Lines as format
@@ -11,7 +12,7 @@ use Rattle.properties_format.specs.Reading.Encoding.{pieces_of}
 use Rattle.properties_format.specs.Entries.{read_fault}
 use Rattle.properties_format.specs.ItemsToCome.{ReaderState}
 use Rattle.properties_format.specs.Reading.ItemsToCome.{natural_to_come, last_to_come}
-use Rattle.properties_format.specs.Reading.ReaderSteps.{Gives, ReadsLines, HoldsLine, HoldsNoEnd, after_read}
+use Rattle.properties_format.specs.Reading.ReaderSteps.{Gives, ReadsLines, HoldsLine, HoldsNoEnd, after_read, after_passed}
 use Rattle.java_properties.specs.LineSearch.{unit_size, end_character, IsSearched}
 use Rattle.java_properties.specs.Errors.{IsBareError, IsStreamError}
 use Rattle.java_properties.specs.declared.error.ErrorKind.TheVariants as kind
@@ -19,6 +20,7 @@ use Rattle.java_properties.specs.declared.error.PropertiesError.{PropertiesError
 use Rattle.java_properties.specs.declared.input.FillError.{FillError}
 use Rattle.java_properties.specs.declared.input.FillError.TheVariants.{Memory, Io}
 use Rattle.java_properties.specs.declared.lines.search.LineEnd.{LineEnd}
+use Rattle.java_properties.specs.declared.lines.seeker.HeldLine.{HeldLine}
 
 -- ---- what is held
 
@@ -139,6 +141,24 @@ Seeks reader old from (Ok None) new to = HasEnded reader old from new to
 Seeks reader old from (Err (Io error)) new to = HasBroken reader old from error new to
 Seeks reader old from (Err (Memory error)) new to = HasNoRoom reader old from to
 
+-- ---- lines that are held
+
+-- The bytes after so many come next: after an LF that is of the line end before, or where none is.
+pub record PassesFirst (s : ReaderState) (count : ℕ) : Type 0 where
+  pub within : count ≤ length s.held
+  pub alike : IsAlike s (after_passed s (drop count s.held))
+
+-- the line end after so many bytes, where units are bytes
+abbrev pub end_after : List ℕ → ℕ → LineEnd
+end_after bytes at = record { at = at; is_cr = get_or bytes at 0 == carriage_return }
+
+-- A line is held with its end, units are bytes, and there is a number for it.
+pub record IsHeldLine (s : ReaderState) (line : HeldLine) : Type 0 where
+  pub numbered : s.passed + 1 < 2 ^ 64
+  pub bytes : unit_size s.encoding ≡ 1
+  pub first : PassesFirst s line.start
+  pub holds : HoldsLineEnd (after_passed s (drop line.start s.held)) (end_after (drop line.start s.held) line.length)
+
 -- ---- finding lines
 
 -- where it stands, and the bytes of the line that it found last
@@ -170,6 +190,15 @@ pub record PassesAll (old : ReaderState) (bytes : List ℕ) : Type 0 where
 -- the line that was found, decoded, under its number
 abbrev pub found_line : ℕ → Finder → format.Line
 found_line number finder = record { number = number; text = characters (pieces_of finder.state.encoding finder.line) }
+
+-- A line that was held is found, and more may come.
+pub record TakesHeld (old : ReaderState) (number : ℕ) (new : Finder) : Type 0 where
+  pub live : old.is_done ≡ false
+  pub numbered : number ≡ old.passed + 1
+  pub reads : ReadsLines old [] (found_line number new ∷ []) new.state
+  pub going : new.state.is_done ≡ false
+  pub counted : new.state.passed ≡ number
+  pub encoding : new.state.encoding ≡ old.encoding
 
 -- A line was found.
 pub record FindsNext {R : Type 0} (reader : Reader R) (old : ReaderState) (from : R) (number : ℕ) (new : Finder) (to : R) : Type 0 where

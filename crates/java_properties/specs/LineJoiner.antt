@@ -13,8 +13,9 @@ use Rattle.properties_format.specs.Entries.{read_fault}
 use Rattle.properties_format.specs.ItemsToCome.{ReaderState}
 use Rattle.properties_format.specs.Reading.Items.{outcome_of, followed}
 use Rattle.properties_format.specs.Reading.ItemsToCome.{items_to_come, entries_pending}
-use Rattle.properties_format.specs.Reading.ReaderSteps.{ReadsLogical}
+use Rattle.properties_format.specs.Reading.ReaderSteps.{ReadsLines, ReadsLogical}
 use Rattle.java_properties.specs.Errors.{IsBareError, IsStreamError}
+use Rattle.java_properties.specs.Escaping.{holds_backslash}
 use Rattle.java_properties.specs.LineFinder.{Finder, Passes, PassesSome, PassesAll, IsLazy, FindsError}
 use Rattle.java_properties.specs.declared.error.ErrorKind.TheVariants as kind
 use Rattle.java_properties.specs.declared.error.PropertiesError.{PropertiesError}
@@ -45,6 +46,20 @@ abbrev pub Finds : {R : Type 0} → Reader R → Joiner → R → Option (Result
 Finds reader old from None new to = (old.state.is_done ≡ true) × (new.state ≡ old.state) × (to ≡ from)
 Finds reader old from (Some (Ok number)) new to = FindsNext reader old.state from number new to
 Finds reader old from (Some (Err e)) new to = (old.state.is_done ≡ false) × (new.state.is_done ≡ true) × FindsError reader old.state from e new.state to
+
+-- A natural line that was held came as it stands, and holds no backslash.
+pub record TakesPlain (old : ReaderState) (number : ℕ) (new : Joiner) : Type 0 where
+  pub live : old.is_done ≡ false
+  pub numbered : number ≡ old.passed + 1
+  pub reads : ReadsLines old [] (numbered_line number new ∷ []) new.state
+  pub going : new.state.is_done ≡ false
+  pub counted : new.state.passed ≡ number
+  pub plain : holds_backslash (chars new.line) ≡ false
+
+-- What coming to a plain line does.
+abbrev pub JoinsPlain : Joiner → Option ℕ → Joiner → Type 0
+JoinsPlain old None new = new ≡ old
+JoinsPlain old (Some number) new = TakesPlain old.state number new
 
 -- the text of the line that was found, decoded
 abbrev pub line_text : Finder → List ℕ

@@ -33,6 +33,13 @@ pub fn unescape(alloc: Global, s: &str, line: usize) -> Result<CowStr<'_>, Prope
     Ok(CowStr::Owned(text))
 }
 
+/// Whether the text holds a backslash.
+pub fn has_backslash(s: &str) -> bool
+    ensures { result ≡ holds_backslash (chars s.now) }
+{
+    memchr(b'\\', s.as_bytes()).is_some()
+}
+
 // Appends the text with its escapes resolved.
 fn push_resolved(text: &mut String, s: &str, line: usize) -> Result<(), PropertiesError>
     ensures { Appends (chars s.now) line (chars (string_bytes text.old)) result (chars (string_bytes text.new)) }

@@ -1,6 +1,7 @@
 -- Texts whose escapes are resolved one after another.
 use Rattle.std.proofs.Common.{◌≡◌, ℕ, suc, ◌<◌, ◌+◌, ◌-◌, ◌==◌, ◌||◌, true, false, List, [], ◌∷◌, ◌++◌, length, take, drop, get_or, refl, ap, sym, ◌∙◌, subst, inl, inr, append_assoc, append-nil, arith}
-use Rattle.std.specs.Prelude.{Some, None, slice_range}
+use Rattle.std.specs.Prelude.{Option, Some, None, slice_range, ◌%◌}
+use Rattle.std.specs.Option.{is_some}
 use lib.Utf8.{encode, encodes}
 use Rattle.std.specs.Char.{IsScalar}
 use Rattle.std.specs.Str.{IsUtf8, IsCharBoundary, chars}
@@ -11,6 +12,8 @@ use Rattle.memchr.specs.Find.{IsFirstByte, is_byte}
 use Rattle.properties_format.specs.Text.{backslash}
 use Rattle.properties_format.specs.Escapes.{Malformed, Meaning, means, breaks, Means, Breaks, IsMeaning}
 use Rattle.properties_format.specs.Reading.Escapes.{in_front, meaning_of}
+use Rattle.properties_format.specs.Groups.{ending_backslashes, is_open}
+use Rattle.properties_format.proofs.Groups.Open.{ending_backslashes-after}
 use Rattle.properties_format.proofs.Escapes.Laws.{HasNoBackslash, meaning_of-plain_front, meaning_of-plain}
 use Rattle.properties_format.proofs.Escapes.Unique.{text_in_front, text_in_front-means, text_in_front-breaks, breaks-only, meaning_of-meets}
 use Rattle.java_properties.specs.Escaping.{holds_backslash, IsRefused}
@@ -120,6 +123,30 @@ pub plain : (bytes bs : List ℕ) → IsUtf8 bs → bytes ≡ bs → IsFirstByte
 plain bytes bs u same h =
     let none = holds_backslash-text bs u ∙ found_none bs (subst (λ v. IsFirstByte (is_byte backslash) v None) same h) in
     record { holds = none; meaning = meaning_of-plain (chars bs) (no_backslash (chars bs) none) }
+
+-- what a search tells
+pub tells_backslash : (bytes bs : List ℕ) (found : Option ℕ) → IsUtf8 bs → bytes ≡ bs → IsFirstByte (is_byte backslash) bytes found
+    → is_some found ≡ holds_backslash (chars bs)
+tells_backslash bytes bs (Some at) u same h = sym (split_at bytes bs at u same h).holds
+tells_backslash bytes bs None u same h = sym (plain bytes bs u same h).holds
+
+-- a part of a text without a backslash holds none
+pub holds-part : (xs ys zs : List ℕ) → holds_backslash (xs ++ (ys ++ zs)) ≡ false → holds_backslash ys ≡ false
+holds-part [] [] zs h = refl
+holds-part [] (y ∷ ys) zs h =
+    let p = or_parts (y == backslash) (holds_backslash (ys ++ zs)) h in
+    ap (λ v. v || holds_backslash ys) p.0 ∙ holds-part [] ys zs p.1
+holds-part (x ∷ xs) ys zs h = holds-part xs ys zs (or_parts (x == backslash) (holds_backslash (xs ++ (ys ++ zs))) h).1
+
+-- and it is not open
+none-ending : (xs : List ℕ) → holds_backslash xs ≡ false → ending_backslashes xs ≡ 0
+none-ending [] h = refl
+none-ending (x ∷ xs) h =
+    let p = or_parts (x == backslash) (holds_backslash xs) h in
+    ending_backslashes-after [] x xs p.0 ∙ none-ending xs p.1
+
+pub plain-closed : (xs : List ℕ) → holds_backslash xs ≡ false → is_open xs ≡ false
+plain-closed xs h = ap (λ n. n % 2 == 1) (none-ending xs h)
 
 -- the beginning of a text, as a slice of it
 pub slice-front : (bs : List ℕ) (at : ℕ) → slice_range bs 0 at ≡ take at bs

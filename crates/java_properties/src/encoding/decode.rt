@@ -31,8 +31,8 @@ pub fn decode_line(
     }
 }
 
-// The bytes, where they are text as they stand.
-fn as_text(encoding: Encoding, bytes: &[u8]) -> Option<&str>
+/// The bytes, where they are text as they stand.
+pub fn as_text(encoding: Encoding, bytes: &[u8]) -> Option<&str>
     ensures exactly { IsSome result ↔ IsText (encoding_of encoding) bytes.now }
     ensures same { IfSome result (λ text. text.now ≡ bytes.now) }
 {

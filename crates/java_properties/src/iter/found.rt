@@ -1,12 +1,13 @@
 // What is found of an item before it is lent: it borrows nothing, so that reading can go on around it.
 
-ghost use Rattle.std.specs.Prelude.{◌≡◌, Some, not};
+ghost use Rattle.std.specs.Prelude.{◌≡◌, Some, None, false, not};
 ghost use Rattle.std.specs.Option.{is_some};
 ghost use Rattle.std.specs.Str.{chars};
 ghost use Rattle.std.specs.Cow.{cow_str_bytes};
 ghost use Rattle.java_properties.specs.Parsing.{AreSpans, IsSpan, in_characters, spanned};
 ghost use Rattle.properties_format.specs.Split.{IsSplit};
-ghost use Rattle.java_properties.specs.LentItems.{lent_entry, said_by, is_borrowed, BorrowsPlain, found_bytes, found_content, found_entry, AreTextsIn, spans_of, IsFoundIn, IsTextIn, FindsText, FindsContent, FindsIn};
+ghost use Rattle.java_properties.specs.Escaping.{holds_backslash};
+ghost use Rattle.java_properties.specs.LentItems.{lent_entry, said_by, is_borrowed, BorrowsPlain, found_bytes, found_content, found_entry, AreTextsIn, spans_of, IsFoundIn, IsTextIn, FindsText, FindsContent, FindsIn, FindsPlain};
 
 use crate::error::PropertiesError;
 use crate::escape::unescape;
@@ -59,6 +60,27 @@ pub(crate) fn find_in(
     }
 }
 
+/// The same of a line without a backslash, which takes no memory.
+#[inline]
+pub(crate) fn find_plain(line_number: usize, line: &str) -> Option<Found>
+    requires { holds_backslash (chars line.now) ≡ false }
+    ensures { FindsPlain line.now line_number result }
+{
+    let Some(spans) = parse_spans(line) else {
+        return None;
+    };
+    let content = match spans {
+        ParsedSpans::Comment(text) => FoundContent::Comment(FoundText::plain(text)),
+        ParsedSpans::KVPair(key, value) => {
+            FoundContent::KVPair(FoundText::plain(key), FoundText::plain(value))
+        }
+    };
+    Some(Found {
+        line_number,
+        content,
+    })
+}
+
 fn find_content(
     alloc: Global,
     line_number: usize,
@@ -97,10 +119,7 @@ fn find_text(
     ensures { FindsText line.now line_number span result }
 {
     match unescape(alloc, span.cut(line), line_number) {
-        Ok(CowStr::Borrowed(_)) => Ok(FoundText {
-            span,
-            resolved: None,
-        }),
+        Ok(CowStr::Borrowed(_)) => Ok(FoundText::plain(span)),
         Ok(CowStr::Owned(text)) => Ok(FoundText {
             span,
             resolved: Some(text),
@@ -141,6 +160,16 @@ impl FoundContent {
 }
 
 impl FoundText {
+    // A text that holds no escape.
+    fn plain(span: Span) -> FoundText
+        ensures { result ≡ record { span = span; resolved = None } }
+    {
+        FoundText {
+            span,
+            resolved: None,
+        }
+    }
+
     fn cut(self, line: &str) -> CowStr<'_>
         requires { IsTextIn line.now self }
         ensures text { cow_str_bytes result ≡ found_bytes line.now self }

@@ -12,7 +12,7 @@ ghost use Rattle.java_properties.specs.PropertiesIter.{GivesItem};
 
 use crate::encoding::Encoding;
 use crate::error::PropertiesError;
-use crate::iter::found::{Found, find_in};
+use crate::iter::found::{Found, find_in, find_plain};
 use crate::iter::lent::LineRef;
 use crate::line::Line;
 use crate::lines::joiner::LineJoiner;
@@ -53,8 +53,32 @@ impl ItemReader {
         ensures same_reader { IsSameReader R.CountedRead reader.old reader.new }
         ensures nearer { OnSome result (lines_left self.new.state < lines_left self.old.state) }
     {
-        while let Some(found) = self.lines.next_line(reader) {
-            let number = match found {
+        if let Some(number) = self.lines.next_plain() {
+            if let Some(item) = find_plain(number, self.lines.line()) {
+                return Some(Ok(item));
+            }
+        }
+        self.read_item(reader)
+    }
+
+    // The same where the line is blank, or has to be read, decoded, joined or resolved. It stands apart, since room for its
+    // large answers is cleared at each call.
+    #[inline(never)]
+    fn read_item<R: CountedRead>(
+        &mut self,
+        reader: &mut R,
+    ) -> Option<Result<Found, PropertiesError>>
+        ensures finds { FindsItem R.CountedRead self.old.state reader.old result self.new reader.new }
+        ensures same_reader { IsSameReader R.CountedRead reader.old reader.new }
+        ensures nearer { OnSome result (lines_left self.new.state < lines_left self.old.state) }
+    {
+        'lines: loop {
+            'plain: while let Some(number) = self.lines.next_plain() {
+                if let Some(item) = find_plain(number, self.lines.line()) {
+                    return Some(Ok(item));
+                }
+            }
+            let number = match self.lines.next_line(reader)? {
                 Ok(number) => number,
                 Err(error) => return Some(Err(error)),
             };
@@ -67,7 +91,6 @@ impl ItemReader {
                 }
             }
         }
-        None
     }
 
     /// The item that was found last.

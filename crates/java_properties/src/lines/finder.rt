@@ -1,16 +1,16 @@
 // Natural lines among undecoded bytes.
 
-ghost use Rattle.std.specs.Prelude.{◌≡◌, ◌≤◌, ◌<◌, true, [], take, drop, length, OnSome};
+ghost use Rattle.std.specs.Prelude.{◌≡◌, ◌≤◌, ◌<◌, true, [], take, drop, length, IfSome, OnSome};
 ghost use Rattle.counted_io.specs.Streams.{IsSameReader};
 ghost use Rattle.properties_format.specs.ItemsToCome.{start};
 ghost use Rattle.java_properties.specs.Encoding.{encoding_of};
-ghost use Rattle.java_properties.specs.LineFinder.{Finder, Finds, IsRefused, lines_left};
+ghost use Rattle.java_properties.specs.LineFinder.{Finder, Finds, IsHeldLine, IsRefused, TakesHeld, lines_left};
 
 use crate::encoding::Encoding;
 use crate::error::PropertiesError;
 use crate::input::FillError;
 use crate::lines::search::unit_size;
-use crate::lines::seeker::LineSeeker;
+use crate::lines::seeker::{HeldLine, LineSeeker};
 use counted_io::CountedRead;
 use std::alloc::Global;
 use std::marker::Model;
@@ -73,6 +73,42 @@ impl LineFinder {
         ensures { self.new ≡ record self.old { state = record self.old.state { passed = passed } } }
     {
         self.seeker.count_from(passed);
+    }
+
+    /// The next line, where it is held with its end. Nothing is read, and `None` says nothing of what comes.
+    #[inline]
+    pub fn peek(&self) -> Option<HeldLine>
+        ensures { IfSome result (IsHeldLine self.now.state) }
+    {
+        self.seeker.peek(self.taken)
+    }
+
+    /// The bytes of a line that is held.
+    #[inline]
+    pub fn peeked(&self, line: HeldLine) -> &[u8]
+        requires { IsHeldLine self.now.state line }
+        ensures { result.now ≡ take line.length (drop line.start self.now.state.held) }
+    {
+        &self.seeker.held()[self.taken + line.start..][..line.length]
+    }
+
+    /// Finds the line that is held, and returns its number.
+    #[inline]
+    pub fn take_line(&mut self, line: HeldLine) -> usize
+        requires { IsHeldLine self.old.state line }
+        ensures takes { TakesHeld self.old.state result self.new }
+        ensures line { self.new.line ≡ take line.length (drop line.start self.old.state.held) }
+        ensures nearer { lines_left self.new.state < lines_left self.old.state }
+    {
+        // The line and its end are held, so their sizes fit.
+        let _held = self.seeker.held().len();
+        let number = self.seeker.passed() + 1;
+        self.seeker.take(self.taken + line.start);
+        let is_cr = self.seeker.held()[line.length] == b'\r';
+        self.line = line.length;
+        self.taken = line.length + 1;
+        self.seeker.pass(number, is_cr);
+        number
     }
 
     /// Finds the next line, and returns its number; or an error, or `None` where no more come.

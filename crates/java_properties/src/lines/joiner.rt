@@ -7,11 +7,13 @@ ghost use Rattle.counted_io.specs.Streams.{IsSameReader};
 ghost use Rattle.properties_format.specs.ItemsToCome.{start};
 ghost use Rattle.java_properties.specs.Encoding.{encoding_of};
 ghost use Rattle.java_properties.specs.LineFinder.{lines_left};
-ghost use Rattle.java_properties.specs.LineJoiner.{Joiner, Finds, OnOkDecodes, Joins, JoinsAfter, JoinsOn, Adds};
+ghost use Rattle.java_properties.specs.Escaping.{holds_backslash};
+ghost use Rattle.java_properties.specs.LineJoiner.{Joiner, Finds, OnOkDecodes, Joins, JoinsAfter, JoinsOn, JoinsPlain, Adds};
 
 use crate::encoding::Encoding;
-use crate::encoding::decode::{decode_line, push_text};
+use crate::encoding::decode::{as_text, decode_line, push_text};
 use crate::error::PropertiesError;
+use crate::escape::has_backslash;
 use crate::lines::finder::LineFinder;
 use crate::lines::join::{addition, is_comment_line, is_open, without_open_backslash};
 use counted_io::CountedRead;
@@ -69,6 +71,24 @@ impl LineJoiner {
         ensures { self.new ≡ record self.old { state = record self.old.state { is_done = true } } }
     {
         self.finder.end();
+    }
+
+    /// Comes to the next logical line where it is plain: it is held with its end, its bytes are its text, and they hold
+    /// no backslash. It returns its number, reads nothing and takes no memory. `None` leaves all as it was, and says
+    /// nothing of what comes.
+    #[inline]
+    pub fn next_plain(&mut self) -> Option<usize>
+        ensures joins { JoinsPlain self.old result self.new }
+        ensures nearer { OnSome result (lines_left self.new.state < lines_left self.old.state) }
+    {
+        let line = self.finder.peek()?;
+        let text = as_text(self.finder.encoding(), self.finder.peeked(line))?;
+        if has_backslash(text) {
+            return None;
+        }
+        let number = self.finder.take_line(line);
+        self.is_kept = false;
+        Some(number)
     }
 
     /// Comes to the next logical line, and returns the number of its first natural line; or an error, or `None` where

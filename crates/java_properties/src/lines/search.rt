@@ -81,8 +81,9 @@ fn find_in_units(encoding: Encoding, bytes: &[u8], from: usize) -> Option<LineEn
     None
 }
 
-// The place of the first byte like a CR or an LF, from this place on.
-fn find_end_byte(bytes: &[u8], from: usize) -> Option<usize>
+/// The place of the first byte like a CR or an LF, from this place on.
+#[inline]
+pub fn find_end_byte(bytes: &[u8], from: usize) -> Option<usize>
     requires { from ≤ length bytes.now }
     ensures { IsFirst (Passes is_line_end bytes.now) from (length bytes.now) result }
 {

@@ -1,6 +1,6 @@
 // Line ends, sought among the undecoded bytes that are held, and read on where none is.
 
-ghost use Rattle.std.specs.Prelude.{◌≡◌, ◌<◌, ◌≤◌, ◌^◌, false, true, drop, length};
+ghost use Rattle.std.specs.Prelude.{◌≡◌, ◌<◌, ◌≤◌, ◌^◌, false, true, drop, length, IfSome};
 ghost use Rattle.counted_io.specs.Streams.{IsSameReader};
 ghost use Rattle.properties_format.specs.Text.{line_feed};
 ghost use Rattle.properties_format.specs.Encoding.{ascii_bytes};
@@ -10,15 +10,24 @@ ghost use Rattle.java_properties.specs.Encoding.{encoding_of};
 ghost use Rattle.java_properties.specs.Decoding.{TellsBom};
 ghost use Rattle.java_properties.specs.InputBuffer.{Fills};
 ghost use Rattle.java_properties.specs.LineSearch.{unit_size};
-ghost use Rattle.java_properties.specs.LineFinder.{PassesFeed, SkipsFeed, Settles, SettlesLast, IsReady, Looks, Seeks};
+ghost use Rattle.java_properties.specs.LineFinder.{PassesFeed, SkipsFeed, Settles, SettlesLast, IsReady, Looks, Seeks, IsHeldLine, PassesFirst};
 
 use crate::encoding::Encoding;
 use crate::encoding::byte_order_mark::{ByteOrderMark, byte_order_mark};
 use crate::input::{FillError, InputBuffer};
-use crate::lines::search::{LineEnd, find_line_end, unit_size, whole_units};
+use crate::lines::search::{LineEnd, find_end_byte, find_line_end, unit_size, whole_units};
 use counted_io::CountedRead;
 use std::alloc::Global;
 use std::marker::Model;
+
+/// Where a line stands among the bytes that are held, with its end, where units are bytes.
+#[derive(Clone, Copy)]
+pub struct HeldLine {
+    /// Its first byte. An LF may stand before it that is of the line end before.
+    pub start: usize,
+    /// How long it is. The CR or LF that ends it comes next.
+    pub length: usize,
+}
 
 /// Where a reading stands: what is held of the input, and what is known of it.
 #[derive(Drop)]
@@ -121,6 +130,45 @@ impl LineSeeker {
         ensures { self.new ≡ record self.old { held = drop count self.old.held } }
     {
         self.input.take(count);
+    }
+
+    /// The next line, where the bytes that are held after so many have it with its end, and units are bytes. Nothing is
+    /// read, and `None` says nothing of what comes.
+    #[inline]
+    pub fn peek(&self, taken: usize) -> Option<HeldLine>
+        requires { taken ≤ length self.now.held }
+        ensures { let s = record self.now { held = drop taken self.now.held } in IfSome result (IsHeldLine s) }
+    {
+        if self.is_done || !self.is_decided || self.passed == usize::MAX {
+            return None;
+        }
+        if unit_size(self.encoding) != 1 {
+            return None;
+        }
+        let bytes = &self.held()[taken..];
+        let start = self.line_start(bytes)?;
+        let length = find_end_byte(&bytes[start..], 0)?;
+        Some(HeldLine { start, length })
+    }
+
+    // Where the next line starts among these bytes: after an LF that is of the line end before. `None` where too few of
+    // them are held to tell.
+    #[inline]
+    fn line_start(&self, bytes: &[u8]) -> Option<usize>
+        requires { self.now.is_decided ≡ true }
+        ensures { let s = record self.now { held = bytes.now } in IfSome result (PassesFirst s) }
+    {
+        if !self.after_cr {
+            return Some(0);
+        }
+        let feed = line_feed_of(self.encoding);
+        if bytes.len() < feed.len() {
+            None
+        } else if bytes.starts_with(feed) {
+            Some(feed.len())
+        } else {
+            Some(0)
+        }
     }
 
     /// The next line end among the bytes that are held, which reads until there is one. `None` is the end of the
