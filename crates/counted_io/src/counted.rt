@@ -81,21 +81,21 @@ impl<R: Read> Read for Counted<R> {
         ensures flushed { counted_flushed self.new ≡ counted_flushed self.old }
     {
         let has_room = !buf.is_empty();
-        let answer = self.inner.read(buf);
-        match &answer {
+        match self.inner.read(buf) {
             Ok(count) => {
                 if has_room {
-                    self.ended = *count == 0;
+                    self.ended = count == 0;
                 }
+                Ok(count)
             }
-            Err(_) => {
+            Err(error) => {
                 if has_room {
                     self.ended = false;
                 }
                 self.count();
+                Err(error)
             }
         }
-        answer
     }
 }
 
@@ -125,17 +125,22 @@ impl<W: Write> Write for Counted<W> {
         ensures flushed { counted_flushed self.new ≡ flushed_after_write (counted_flushed self.old) result }
         ensures ended { counted_ended self.new ≡ counted_ended self.old }
     {
-        let answer = self.inner.write(bytes);
-        match &answer {
+        match self.inner.write(bytes) {
             Ok(0) => {
                 if !bytes.is_empty() {
                     self.count();
                 }
+                Ok(0)
             }
-            Ok(_) => self.flushed = false,
-            Err(_) => self.count(),
+            Ok(taken) => {
+                self.flushed = false;
+                Ok(taken)
+            }
+            Err(error) => {
+                self.count();
+                Err(error)
+            }
         }
-        answer
     }
 
     fn flush(&mut self) -> io::Result<()>
@@ -144,12 +149,16 @@ impl<W: Write> Write for Counted<W> {
         ensures flushed { counted_flushed self.new ≡ flushed_after_flush (counted_flushed self.old) result }
         ensures ended { counted_ended self.new ≡ counted_ended self.old }
     {
-        let answer = self.inner.flush();
-        match &answer {
-            Ok(_) => self.flushed = true,
-            Err(_) => self.count(),
+        match self.inner.flush() {
+            Ok(()) => {
+                self.flushed = true;
+                Ok(())
+            }
+            Err(error) => {
+                self.count();
+                Err(error)
+            }
         }
-        answer
     }
 }
 

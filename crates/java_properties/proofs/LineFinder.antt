@@ -441,6 +441,19 @@ takes-held {s} line number new h n e =
     })
 
 module _ {R : Type 0} {reader : Reader R} where
+  -- a line that was held is found
+  pub finds-held : {s : ReaderState} {from : R} (number : ℕ) (new : Finder) → TakesHeld s number new → FindsNext reader s from number new from
+  finds-held {from = from} number new h = record {
+    bytes = [];
+    read = read-none from;
+    live = h.live;
+    numbered = h.numbered;
+    passes = finder.Passes.going_on h.going h.reads;
+    counted = λ d. h.counted;
+    ended = λ d. let g = h.going in absurd (cc);
+    lazy = inl (refl, refl);
+  }
+
   pub found-next : {old begun t : ReaderState} {from to : R} (line_end : LineEnd) (number : ℕ) (new : Finder) → begun ≡ old → HasFound reader begun from line_end t to → old.is_done ≡ false
       → number ≡ old.passed + 1 → new ≡ found_at t line_end number → FindsNext reader old from number new to
   found-next {old} {t = t} {from} {to} line_end number new same sought g n e =

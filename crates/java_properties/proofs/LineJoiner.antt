@@ -1,6 +1,6 @@
 -- How natural lines are joined, step by step.
 use Rattle.std.proofs.Common.{◌≡◌, ◌+◌, ℕ, true, false, List, [], ◌∷◌, ◌++◌, refl, sym, ap, ap₂, ◌∙◌, inl, inr, subst, append_assoc, append-nil}
-use Rattle.std.specs.Prelude.{◌⊎◌, Option, Some, None, Err}
+use Rattle.std.specs.Prelude.{◌⊎◌, Option, Some, None, Result, Ok, Err}
 use Rattle.std.specs.Str.{chars}
 use Rattle.std.proofs.lemmas.Bool.{cases_Bool}
 use Rattle.counted_io.specs.Streams.{Reader}
@@ -22,9 +22,22 @@ use Rattle.java_properties.specs.Escaping.{holds_backslash}
 use Rattle.java_properties.proofs.Texts.Resolving.{plain-closed}
 use Rattle.java_properties.specs.LineFinder as finder
 use Rattle.java_properties.specs.LineFinder.{Finder, Passes, PassesSome, PassesAll, IsLazy, TakesHeld, FindsError, FindsFault, FindsTooMany, FindsNoRoom}
-use Rattle.java_properties.specs.LineJoiner.{line_text, join_of, Pends, Closes, IsLazyJoin, IsLazyItems, GoesOn, JoinsAll, JoinError, Joiner, numbered_line, TakesPlain, JoinsPlain, FindsNext, Comes, JoinsAfter, JoinsNext, JoinsError}
+use Rattle.java_properties.specs.LineJoiner.{line_text, join_of, Pends, Closes, IsLazyJoin, IsLazyItems, GoesOn, JoinsAll, JoinError, Joiner, numbered_line, TakesPlain, JoinsPlain, FindsNext, Comes, JoinsAfter, JoinsOn, JoinsNext, JoinsError}
 use Rattle.java_properties.specs.declared.error.ErrorKind.TheVariants as kind
 use Rattle.java_properties.specs.declared.error.PropertiesError.{PropertiesError}
+
+-- what reading a join to its end does, after the line that opened it
+pub joins-after : {R : Type 0} (reader : Reader R) (from to : R) (old new : Joiner) (s : ReaderState) (text : List ℕ) (answer : Result Unit PropertiesError)
+    → JoinsOn reader s from text answer new.state to (chars new.line) → s ≡ old.state → text ≡ without_open_backslash (chars old.line)
+    → JoinsAfter reader old from answer new to
+joins-after {R} reader from to old new s text answer h e k =
+    let P : List ℕ → Type 0 = λ v. JoinsOn reader s from v answer new.state to (chars new.line) in
+    let S : ReaderState → Type 0 = λ v. JoinsOn reader v from (without_open_backslash (chars old.line)) answer new.state to (chars new.line) in
+    by-answer answer (subst S e (subst P k h))
+  where
+    by-answer : (a : Result Unit PropertiesError) → JoinsOn reader old.state from (without_open_backslash (chars old.line)) a new.state to (chars new.line) → JoinsAfter reader old from a new to
+    by-answer (Ok done) h = h
+    by-answer (Err error) h = inr h
 
 -- a line that was held, and is its own text
 pub takes-plain : (s : ReaderState) (number : ℕ) (f : Finder) → TakesHeld s number f → characters (pieces_of f.state.encoding f.line) ≡ chars f.line

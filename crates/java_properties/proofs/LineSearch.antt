@@ -124,6 +124,10 @@ nowhere-from : (d : List ℕ) (from count to : ℕ) → Nowhere (Passes is_line_
     → Nowhere (Passes is_line_end d) from to
 nowhere-from d from count to h le k low high is = h (k - from) (omega arith) (omega arith) (ap is_line_end (read-from d from k low) ∙ is)
 
+-- one that stands at the place where the search begins
+pub first-here : (d : List ℕ) (from : ℕ) → from < length d → is_line_end (get_or d from 0) ≡ true → IsFirst (Passes is_line_end d) from (length d) (Some from)
+first-here d from h e = (record { low = omega arith; high = h; before = λ k low high p. absurd (omega arith) }, e)
+
 -- what was found in the bytes from a place on
 pub first-from : (d : List ℕ) (from : ℕ) (found : Option ℕ) → IsFirstByte is_line_end (take (length d - from) (drop from d)) found
     → from ≤ length d → IsFirst (Passes is_line_end d) from (length d) (option_map (λ k. from + k) found)

@@ -11,7 +11,7 @@ use Rattle.std.proofs.lemmas.Bool.{cases_Bool, and_from}
 use Rattle.std.proofs.lemmas.List.{nil_from_length}
 use Rattle.std.proofs.lemmas.List.Elements.{All-from_recursion}
 use Rattle.std.proofs.lemmas.List.Sums.{take_while-cons}
-use Rattle.std.proofs.lemmas.Str.{chars-append, chars-encodes, length-encode, len_utf8_bounds}
+use Rattle.std.proofs.lemmas.Str.{chars-append, chars-encodes, length-encode, len_utf8_bounds, IsUtf8-from_ascii}
 use Rattle.std.proofs.lemmas.Str.Ascii.{IsAscii-from_all}
 use Rattle.properties_format.specs.Pieces.{characters}
 use Rattle.properties_format.specs.Encoding.{Encoding, windows_1252, utf_8, utf_16le, utf_16be}
@@ -64,6 +64,13 @@ text-decoded windows_1252 d h = whole-front windows_1252 d (characters-ascii d [
 text-decoded utf_8 d h = whole-front utf_8 d (characters-text d [] (IsUtf8-from_well_formed d h))
 text-decoded utf_16le d h = absurd h
 text-decoded utf_16be d h = absurd h
+
+-- and it is UTF-8
+pub text-utf8 : (e : Encoding) (d : List ℕ) → IsText e d → IsUtf8 d
+text-utf8 windows_1252 d h = IsUtf8-from_ascii d h
+text-utf8 utf_8 d h = IsUtf8-from_well_formed d h
+text-utf8 utf_16le d h = absurd h
+text-utf8 utf_16be d h = absurd h
 
 -- A text that is pushed.
 pub pushed-text : {E : Type 0} (r : Result Unit E) (old new more : List ℕ)

@@ -241,6 +241,12 @@ IsRefused number (Io error) e = IsStreamError (Some number) error e
 abbrev pub FindsError : {R : Type 0} → Reader R → ReaderState → R → PropertiesError → ReaderState → R → Type 0
 FindsError reader old from e new to = FindsFault reader old from e to ⊎ (FindsTooMany old from e new to ⊎ FindsNoRoom reader old from e to)
 
+-- an answer that tells first whether there was an error, as one that tells it last
+abbrev pub transposed : {A E : Type 0} → Result (Option A) E → Option (Result A E)
+transposed (Ok None) = None
+transposed (Ok (Some x)) = Some (Ok x)
+transposed (Err e) = Some (Err e)
+
 -- What finding the next line does. At its end for good the finder reads nothing.
 abbrev pub Finds : {R : Type 0} → Reader R → Finder → R → Option (Result ℕ PropertiesError) → Finder → R → Type 0
 Finds reader old from None new to = (old.state.is_done ≡ true) × (new ≡ old) × (to ≡ from)

@@ -1,8 +1,6 @@
 -- What a contract sees of the joiner of lines, and what its calls give and leave.
 use Rattle.std.specs.Prelude.{◌≡◌, ◌⊎◌, ◌+◌, ◌++◌, ℕ, Bool, true, false, List, [], ◌∷◌, Option, Some, None, Result, Ok, Err}
 use Rattle.std.specs.Str.{chars, IsUtf8}
-use Rattle.std.specs.String.{string_bytes}
-use Rattle.std.specs.declared.string.String.{String}
 use Rattle.std.specs.declared.io.Error.{Error}
 use Rattle.counted_io.specs.Streams.{Reader, HasRead, HasFailed}
 use Rattle.properties_format.specs.Lines as format
@@ -65,11 +63,11 @@ JoinsPlain old (Some number) new = TakesPlain old.state number new
 abbrev pub line_text : Finder → List ℕ
 line_text finder = decoded_line finder.state.encoding finder.line
 
--- The line that was found is decoded; or its bytes are its text.
-abbrev pub OnOkDecodes : {E Z : Type 0} → Finder → Result (Option (String Z)) E → Type 0
-OnOkDecodes finder (Ok (Some text)) = chars (string_bytes text) ≡ line_text finder
-OnOkDecodes finder (Ok None) = IsUtf8 finder.line × (chars finder.line ≡ line_text finder)
-OnOkDecodes finder (Err e) = Unit {0}
+-- The line that was found is decoded, and its text is kept; or its bytes are its text.
+abbrev pub OnOkKeeps : {E : Type 0} → Finder → Result Bool E → List ℕ → Type 0
+OnOkKeeps finder (Ok true) text = chars text ≡ line_text finder
+OnOkKeeps finder (Ok false) text = IsUtf8 finder.line × (chars finder.line ≡ line_text finder)
+OnOkKeeps finder (Err e) text = Unit {0}
 
 -- The line that was found is added to a join, and it is told whether it is open.
 abbrev pub Adds : {E : Type 0} → Finder → List ℕ → Result Bool E → List ℕ → Type 0

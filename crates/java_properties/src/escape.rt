@@ -4,6 +4,7 @@ ghost use Rattle.std.specs.Prelude.{◌≡◌, ◌≤◌, ◌<◌, ◌∷◌, �
 ghost use Rattle.std.specs.Char.{IsScalar};
 ghost use Rattle.std.specs.Str.{chars};
 ghost use Rattle.std.specs.String.{string_bytes};
+ghost use Rattle.memchr.specs.Find.{IsFirstByte, is_byte};
 ghost use Rattle.properties_format.specs.Text.{backslash};
 ghost use Rattle.properties_format.specs.Escapes.{letter_u, is_hexadecimal, hexadecimal_value, are_hexadecimal, code_unit, is_high, is_low, pair_character};
 ghost use Rattle.properties_format.specs.Groups.{ending_backslashes};
@@ -45,7 +46,7 @@ fn push_resolved(text: &mut String, s: &str, line: usize) -> Result<(), Properti
     ensures { Appends (chars s.now) line (chars (string_bytes text.old)) result (chars (string_bytes text.new)) }
 {
     let mut rest = s;
-    while let Some(at) = memchr(b'\\', rest.as_bytes()) {
+    while let Some(at) = find_backslash(rest.as_bytes()) {
         text.push_str(&rest[..at])?;
         let escape = match read_escape(&rest[at + 1..]) {
             Ok(escape) => escape,
@@ -56,6 +57,17 @@ fn push_resolved(text: &mut String, s: &str, line: usize) -> Result<(), Properti
     }
     text.push_str(rest)?;
     Ok(())
+}
+
+// The place of the first backslash. Where escapes stand side by side, none is searched for.
+#[inline]
+fn find_backslash(text: &[u8]) -> Option<usize>
+    ensures { IsFirstByte (is_byte backslash) text.now result }
+{
+    match text {
+        [b'\\', ..] => Some(0),
+        _ => memchr(b'\\', text),
+    }
 }
 
 // How escapes are malformed.

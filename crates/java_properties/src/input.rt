@@ -10,7 +10,7 @@ use std::alloc::{AllocError, Global};
 use std::io;
 use std::marker::Model;
 
-// How many bytes the first buffer holds.
+// How many bytes the buffer grows by.
 const ROOM: usize = 1 << 16;
 
 /// Why no bytes could be read.
@@ -30,7 +30,7 @@ impl From<AllocError> for FillError {
     }
 }
 
-/// The bytes that were read and not taken, in one buffer that doubles where they fill it.
+/// The bytes that were read and not taken, in one buffer that grows where they fill it.
 #[derive(Drop)]
 pub struct InputBuffer {
     // The bytes up to `filled` were read, and those from `start` on are held. The others are room.
@@ -101,7 +101,8 @@ impl InputBuffer {
             self.move_down();
             return Ok(());
         }
-        let size = self.bytes.len().saturating_mul(2).max(ROOM);
+        // The vector's capacity doubles all the same. Only what is read next is cleared.
+        let size = self.bytes.len().saturating_add(ROOM);
         self.bytes.resize(size, 0)
     }
 

@@ -6,7 +6,7 @@ ghost use Rattle.java_properties.specs.LineJoiner.{line_text};
 ghost use Rattle.std.specs.Iterator.{at_most};
 ghost use Rattle.properties_format.specs.ItemsToCome.{start};
 ghost use Rattle.java_properties.specs.Encoding.{encoding_of};
-ghost use Rattle.java_properties.specs.LineFinder.{lines_left};
+ghost use Rattle.java_properties.specs.LineFinder.{lines_left, transposed};
 ghost use Rattle.java_properties.specs.NaturalLines.{NaturalReading, NextLineGives};
 
 mod finder;
@@ -85,6 +85,18 @@ impl<R: CountedRead> Iterator for NaturalLines<R> {
                 Some(Err(PropertiesError::from(error)))
             }
         }
+    }
+}
+
+/// Turns a result of an option into an option of a result.
+#[inline]
+pub fn transpose<T, E>(answer: Result<Option<T>, E>) -> Option<Result<T, E>>
+    ensures { result ≡ transposed answer }
+{
+    match answer {
+        Ok(Some(found)) => Some(Ok(found)),
+        Ok(None) => None,
+        Err(error) => Some(Err(error)),
     }
 }
 

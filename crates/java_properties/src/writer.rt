@@ -101,8 +101,10 @@ impl<W: CountedWrite> PropertiesWriter<W> {
         ensures writes { WritesLine W.CountedWrite self.old (entry.comment (chars comment.now)) result self.new }
         ensures same_sink { IsSameSink W.CountedWrite self.old.sink self.new.sink }
     {
+        // `Ok` is made anew, since to pass an answer on copies the room for its error.
         self.engine
-            .write_line(&mut self.sink, Content::Comment(comment))
+            .write_line(&mut self.sink, Content::Comment(comment))?;
+        Ok(())
     }
 
     /// Writes a pair as one line: the key, the separator, the value and the line ending.
@@ -113,8 +115,10 @@ impl<W: CountedWrite> PropertiesWriter<W> {
             WritesLine W.CountedWrite self.old line result self.new }
         ensures same_sink { IsSameSink W.CountedWrite self.old.sink self.new.sink }
     {
+        // `Ok` is made anew, since to pass an answer on copies the room for its error.
         self.engine
-            .write_line(&mut self.sink, Content::KVPair(key, value))
+            .write_line(&mut self.sink, Content::KVPair(key, value))?;
+        Ok(())
     }
 
     /// What comments begin with from here on: blanks or none, then `#` or `!`, then any text without line endings.

@@ -1,5 +1,5 @@
 -- What filtering with ASCII alone on writes.
-use Rattle.std.proofs.Common.{◌≡◌, ◌++◌, ℕ, true, List, [], ◌∷◌, refl, inl, inr, subst}
+use Rattle.std.proofs.Common.{◌++◌, ℕ, true, List, [], ◌∷◌, refl, inl, inr, subst}
 use Rattle.std.specs.Prelude.{Result, Ok, Err}
 use Rattle.counted_io.specs.Streams.{Reader, Sink}
 use Rattle.counted_io.proofs.Streams.{written-failed_flush}

@@ -6,11 +6,10 @@ use Rattle.counted_io.proofs.Streams.{faulted-more, written-flushed}
 use Rattle.properties_format.specs.Printing.{printed}
 use Rattle.properties_format.specs.Encoding.{Encoding, output_encoding}
 use Rattle.properties_format.specs.Entries.{comment, pair, Entry, item, malformed, read_fault}
-use Rattle.properties_format.specs.Settings.{default_settings}
 use Rattle.properties_format.specs.Writing.{pair_call, is_accepted, settings_after, line_count_after}
 use Rattle.java_properties.specs.Calls.{HasMade}
 use Rattle.java_properties.specs.Errors.{kind_of, IsBareError}
-use Rattle.java_properties.specs.PropertiesWriter.{Writing, new_writer, next_line, HasWrittenLine, RefusesLine, FailsInLine, IsRefusedBy, Flushes, HasFlushedSink, FailsInFlush}
+use Rattle.java_properties.specs.PropertiesWriter.{Writing, next_line, HasWrittenLine, RefusesLine, FailsInLine, IsRefusedBy, Flushes, HasFlushedSink, FailsInFlush}
 use Rattle.java_properties.specs.declared.error.ErrorKind.{ErrorKind}
 use Rattle.java_properties.specs.declared.error.ErrorKind.TheVariants as kind
 use Rattle.java_properties.specs.declared.error.PropertiesError.{PropertiesError}

@@ -1,14 +1,12 @@
 -- Filtering what filtering wrote changes nothing.
-use Rattle.std.proofs.Common.{◌≡◌, ℕ, false, List, [], ◌∷◌, ◌++◌, refl, ap, sym, ◌∙◌}
+use Rattle.std.proofs.Common.{false, List, [], ◌∷◌, ap, ◌∙◌}
 use Rattle.std.specs.Prelude.{Result, Ok, Err}
 use Rattle.counted_io.specs.Streams.{Reader, Sink}
 use Rattle.properties_format.specs.Encoding.{Encoding, output_encoding}
-use Rattle.properties_format.specs.Entries.{comment, pair, Entry, item, malformed, read_fault}
 use Rattle.properties_format.specs.Lines.{end}
-use Rattle.properties_format.specs.Items.{IsItems}
 use Rattle.properties_format.specs.Settings.{default_settings}
-use Rattle.properties_format.specs.Writing.{wrote, is_accepted, pair_call}
-use Rattle.properties_format.specs.Pairs.{Pair, pairs_in, calls_of, items_after, AreAccepted, ArePairsOfScalars}
+use Rattle.properties_format.specs.Writing.{wrote}
+use Rattle.properties_format.specs.Pairs.{Pair, pairs_in, calls_of, items_after, AreAccepted}
 use Rattle.properties_format.proofs.Items.Unique.{items_of-meets, items_of-only}
 use Rattle.properties_format.proofs.ReadBack.Law.{default_settings-good, output_encoding-own}
 use Rattle.properties_format.proofs.ReadBack.Lists.{items_of-pairs, pairs_in-items}

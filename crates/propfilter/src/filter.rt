@@ -127,7 +127,8 @@ fn write_found<R: CountedRead, W: CountedWrite>(
     ensures scalars { HasScalars (found_content items.now.line found.content) }
     ensures same_sink { IsSameSink W.CountedWrite lines.old.sink lines.new.sink }
 {
-    write_if_pair(lines, items.get(found).content())
+    write_if_pair(lines, items.get(found).content())?;
+    Ok(())
 }
 
 fn write_if_pair<W: CountedWrite>(
@@ -139,7 +140,10 @@ fn write_if_pair<W: CountedWrite>(
     ensures same_sink { IsSameSink W.CountedWrite lines.old.sink lines.new.sink }
 {
     match content {
-        ContentRef::KVPair(key, value) => lines.write(key.as_str(), value.as_str()),
+        ContentRef::KVPair(key, value) => {
+            lines.write(key.as_str(), value.as_str())?;
+            Ok(())
+        }
         ContentRef::Comment(_) => Ok(()),
     }
 }

@@ -16,6 +16,7 @@ use std::borrow::CowStr;
 const RUN: usize = 256;
 
 /// The text of some bytes by themselves, as of one line. It is lent where the bytes are that text already.
+#[inline]
 pub fn decode_line(
     alloc: Global,
     encoding: Encoding,
@@ -27,11 +28,16 @@ pub fn decode_line(
 {
     match as_text(encoding, bytes) {
         Some(text) => Ok(CowStr::Borrowed(text)),
-        None => Ok(CowStr::Owned(decode(alloc, encoding, bytes)?)),
+        None => {
+            let mut text = String::new(alloc);
+            push_decoded(&mut text, encoding, bytes)?;
+            Ok(CowStr::Owned(text))
+        }
     }
 }
 
 /// The bytes, where they are text as they stand.
+#[inline(always)]
 pub fn as_text(encoding: Encoding, bytes: &[u8]) -> Option<&str>
     ensures exactly { IsSome result ↔ IsText (encoding_of encoding) bytes.now }
     ensures same { IfSome result (λ text. text.now ≡ bytes.now) }
@@ -43,23 +49,25 @@ pub fn as_text(encoding: Encoding, bytes: &[u8]) -> Option<&str>
     }
 }
 
-// The text of some bytes: what stands as text at the front, a run of characters, and so on.
-fn decode(alloc: Global, encoding: Encoding, bytes: &[u8]) -> Result<String, AllocError>
-    ensures { IfOk result (λ text. chars (string_bytes text) ≡ text_of encoding bytes.now) }
+/// Appends the text of some bytes: what stands as text at the front, a run of characters, and so on.
+#[inline(never)]
+pub fn push_decoded(text: &mut String, encoding: Encoding, bytes: &[u8]) -> Result<(), AllocError>
+    ensures { OnOk result
+        (chars (string_bytes text.new) ≡ chars (string_bytes text.old) ++ text_of encoding bytes.now) }
 {
-    let mut text = String::with_capacity(alloc, bytes.len())?;
+    text.reserve(bytes.len())?;
     let mut run = [0; RUN];
     let mut rest = bytes;
     loop {
         let (front, after) = text_front(encoding, rest);
-        push_text(&mut text, front)?;
+        push_text(text, front)?;
         if after.is_empty() {
-            return Ok(text);
+            return Ok(());
         }
         let decoded = decode_run(&mut run, encoding, after);
         // SAFETY: a run is text.
         let more = unsafe { str::from_utf8_unchecked(&run[..decoded.length]) };
-        push_text(&mut text, more)?;
+        push_text(text, more)?;
         rest = decoded.rest;
     }
 }

@@ -47,6 +47,7 @@ impl FirstPiece {
 }
 
 /// The first piece of a first byte and those after it.
+#[inline(always)]
 pub fn first_piece(encoding: Encoding, first: u8, rest: &[u8]) -> FirstPiece
     ensures shown { IsFirstPiece (encoding_of encoding) first rest.now result }
     ensures some { 0 < result.length }

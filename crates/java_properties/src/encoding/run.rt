@@ -28,6 +28,26 @@ pub fn decode_run<'a>(run: &mut [u8], encoding: Encoding, bytes: &'a [u8]) -> De
     ensures left { length result.rest.now ≤ length bytes.now }
     ensures shorter { 0 < length bytes.now → length result.rest.now < length bytes.now }
 {
+    // A loop for each encoding, so that none asks for it at each character.
+    match encoding {
+        Encoding::WINDOWS_1252 => decode_run_of(run, Encoding::WINDOWS_1252, bytes),
+        Encoding::UTF_8 => decode_run_of(run, Encoding::UTF_8, bytes),
+        Encoding::UTF_16LE => decode_run_of(run, Encoding::UTF_16LE, bytes),
+        Encoding::UTF_16BE => decode_run_of(run, Encoding::UTF_16BE, bytes),
+    }
+}
+
+#[inline(always)]
+fn decode_run_of<'a>(run: &mut [u8], encoding: Encoding, bytes: &'a [u8]) -> Decoded<'a>
+    requires room { 4 ≤ length run.old }
+    ensures within { result.length ≤ length run.new }
+    ensures same_room { length run.new ≡ length run.old }
+    ensures is_text { IsUtf8 (take result.length run.new) }
+    ensures text { let text = chars (take result.length run.new) in
+        text ++ text_of encoding result.rest.now ≡ text_of encoding bytes.now }
+    ensures left { length result.rest.now ≤ length bytes.now }
+    ensures shorter { 0 < length bytes.now → length result.rest.now < length bytes.now }
+{
     let mut at = 0;
     let mut rest = bytes;
     while let Some((first, others)) = rest.split_first() {

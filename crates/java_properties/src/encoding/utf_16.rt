@@ -28,6 +28,7 @@ impl ByteOrder {
 }
 
 /// The first piece of a first byte and those after it.
+#[inline]
 pub fn first_piece(order: ByteOrder, first: u8, rest: &[u8]) -> FirstPiece
     ensures { let unit = unit_of order in
         ShowsPiece (first_utf_16_piece unit first rest.now) (awaits_unit unit first rest.now) result }

@@ -109,6 +109,7 @@ pub fn first_piece(first: u8, rest: &[u8]) -> FirstPiece
 }
 
 /// The bytes, where they are well-formed from the first to the last.
+#[inline]
 pub fn as_text(bytes: &[u8]) -> Option<&str>
     ensures exactly { IsSome result ↔ IsWellFormedText bytes.now }
     ensures same { IfSome result (λ text. text.now ≡ bytes.now) }

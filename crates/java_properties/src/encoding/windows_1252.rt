@@ -13,6 +13,7 @@ const HIGH: [char; 32] = [
 ];
 
 /// The character of a byte.
+#[inline]
 pub fn character_of(byte: u8) -> char
     ensures { result ≡ windows_1252_character byte }
 {
@@ -23,6 +24,7 @@ pub fn character_of(byte: u8) -> char
 }
 
 /// The bytes, where they are ASCII, which is UTF-8 as it stands.
+#[inline(always)]
 pub fn as_text(bytes: &[u8]) -> Option<&str>
     ensures exactly { IsSome result ↔ IsAscii bytes.now }
     ensures same { IfSome result (λ text. text.now ≡ bytes.now) }
@@ -51,6 +53,7 @@ fn ascii_length(bytes: &[u8]) -> usize
 }
 
 /// The byte of a character, where there is one.
+#[inline]
 pub fn byte_of(character: char) -> Option<u8>
     ensures { result ≡ windows_1252_byte character }
 {

@@ -5,7 +5,7 @@ ghost use Rattle.std.specs.Str.{chars};
 ghost use Rattle.counted_io.specs.Streams.{IsSameReader};
 ghost use Rattle.properties_format.specs.ItemsToCome.{start};
 ghost use Rattle.java_properties.specs.Encoding.{encoding_of};
-ghost use Rattle.java_properties.specs.LineFinder.{lines_left};
+ghost use Rattle.java_properties.specs.LineFinder.{lines_left, transposed};
 ghost use Rattle.java_properties.specs.LineJoiner.{Joiner};
 ghost use Rattle.java_properties.specs.LentItems.{lent_entry, found_entry, BorrowsPlain, IsFoundIn, FindsItem, Owns};
 ghost use Rattle.java_properties.specs.PropertiesIter.{GivesItem};
@@ -16,6 +16,7 @@ use crate::iter::found::{Found, find_in, find_plain};
 use crate::iter::lent::LineRef;
 use crate::line::Line;
 use crate::lines::joiner::LineJoiner;
+use crate::lines::transpose;
 use counted_io::CountedRead;
 use std::alloc::Global;
 use std::marker::Model;
@@ -58,36 +59,40 @@ impl ItemReader {
                 return Some(Ok(item));
             }
         }
-        self.read_item(reader)
+        transpose(self.read_item(reader))
     }
 
     // The same where the line is blank, or has to be read, decoded, joined or resolved. It stands apart, since room for its
-    // large answers is cleared at each call.
+    // large answers is cleared at each call, and returns another type, so that no plain item is copied through that room.
     #[inline(never)]
     fn read_item<R: CountedRead>(
         &mut self,
         reader: &mut R,
-    ) -> Option<Result<Found, PropertiesError>>
-        ensures finds { FindsItem R.CountedRead self.old.state reader.old result self.new reader.new }
+    ) -> Result<Option<Found>, PropertiesError>
+        ensures finds { let answer = transposed result in
+            FindsItem R.CountedRead self.old.state reader.old answer self.new reader.new }
         ensures same_reader { IsSameReader R.CountedRead reader.old reader.new }
-        ensures nearer { OnSome result (lines_left self.new.state < lines_left self.old.state) }
+        ensures nearer { OnSome (transposed result) (lines_left self.new.state < lines_left self.old.state) }
     {
         'lines: loop {
             'plain: while let Some(number) = self.lines.next_plain() {
                 if let Some(item) = find_plain(number, self.lines.line()) {
-                    return Some(Ok(item));
+                    return Ok(Some(item));
                 }
             }
-            let number = match self.lines.next_line(reader)? {
+            let Some(next) = self.lines.next_line(reader) else {
+                return Ok(None);
+            };
+            let number = match next {
                 Ok(number) => number,
-                Err(error) => return Some(Err(error)),
+                Err(error) => return Err(error),
             };
             match find_in(self.alloc, number, self.lines.line()) {
-                Ok(Some(item)) => return Some(Ok(item)),
+                Ok(Some(item)) => return Ok(Some(item)),
                 Ok(None) => {}
                 Err(error) => {
                     self.lines.end();
-                    return Some(Err(error));
+                    return Err(error);
                 }
             }
         }

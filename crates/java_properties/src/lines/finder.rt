@@ -4,13 +4,14 @@ ghost use Rattle.std.specs.Prelude.{◌≡◌, ◌≤◌, ◌<◌, true, [], tak
 ghost use Rattle.counted_io.specs.Streams.{IsSameReader};
 ghost use Rattle.properties_format.specs.ItemsToCome.{start};
 ghost use Rattle.java_properties.specs.Encoding.{encoding_of};
-ghost use Rattle.java_properties.specs.LineFinder.{Finder, Finds, IsHeldLine, IsRefused, TakesHeld, lines_left};
+ghost use Rattle.java_properties.specs.LineFinder.{Finder, Finds, IsHeldLine, IsRefused, TakesHeld, lines_left, transposed};
 
 use crate::encoding::Encoding;
 use crate::error::PropertiesError;
 use crate::input::FillError;
 use crate::lines::search::unit_size;
 use crate::lines::seeker::{HeldLine, LineSeeker};
+use crate::lines::transpose;
 use counted_io::CountedRead;
 use std::alloc::Global;
 use std::marker::Model;
@@ -114,6 +115,7 @@ impl LineFinder {
     /// Finds the next line, and returns its number; or an error, or `None` where no more come.
     ///
     /// A line that a CR ends is found at once: an LF that comes next belongs to its end.
+    #[inline]
     pub fn find_line<R: CountedRead>(
         &mut self,
         reader: &mut R,
@@ -122,12 +124,28 @@ impl LineFinder {
         ensures same_reader { IsSameReader R.CountedRead reader.old reader.new }
         ensures nearer { OnSome result (lines_left self.new.state < lines_left self.old.state) }
     {
+        if let Some(line) = self.peek() {
+            return Some(Ok(self.take_line(line)));
+        }
+        transpose(self.seek_line(reader))
+    }
+
+    // The same where it may have to be read. It stands apart, since room for its large answers is cleared at each call.
+    #[inline(never)]
+    fn seek_line<R: CountedRead>(
+        &mut self,
+        reader: &mut R,
+    ) -> Result<Option<usize>, PropertiesError>
+        ensures finds { Finds R.CountedRead self.old reader.old (transposed result) self.new reader.new }
+        ensures same_reader { IsSameReader R.CountedRead reader.old reader.new }
+        ensures nearer { OnSome (transposed result) (lines_left self.new.state < lines_left self.old.state) }
+    {
         if self.seeker.is_done() {
-            return None;
+            return Ok(None);
         }
         let Some(number) = self.seeker.passed().checked_add(1) else {
             self.seeker.end();
-            return Some(Err(PropertiesError::too_many_lines()));
+            return Err(PropertiesError::too_many_lines());
         };
         self.seeker.take(self.taken);
         self.line = 0;
@@ -139,17 +157,17 @@ impl LineFinder {
                 self.line = line_end.at;
                 self.taken = line_end.at + unit_size(self.seeker.encoding());
                 self.seeker.pass(number, line_end.is_cr);
-                return Some(Ok(number));
+                Ok(Some(number))
             }
             Ok(None) => {
                 self.line = self.seeker.held().len();
                 self.taken = self.line;
                 self.seeker.end();
-                return Some(Ok(number));
+                Ok(Some(number))
             }
             Err(error) => {
                 self.seeker.end();
-                return Some(Err(refusal(number, error)));
+                Err(refusal(number, error))
             }
         }
     }

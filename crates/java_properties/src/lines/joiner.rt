@@ -1,6 +1,7 @@
 // Natural lines, joined to logical ones.
 
-ghost use Rattle.std.specs.Prelude.{◌≡◌, ◌≤◌, ◌<◌, false, true, [], if◌then◌else◌, OnSome};
+ghost use Rattle.std.specs.Prelude.{◌≡◌, ◌≤◌, ◌<◌, false, true, [], if◌then◌else◌, OnOk, OnSome};
+ghost use Rattle.properties_format.specs.Groups.{without_open_backslash};
 ghost use Rattle.std.specs.Str.{IsUtf8, chars};
 ghost use Rattle.std.specs.String.{string_bytes};
 ghost use Rattle.counted_io.specs.Streams.{IsSameReader};
@@ -8,17 +9,16 @@ ghost use Rattle.properties_format.specs.ItemsToCome.{start};
 ghost use Rattle.java_properties.specs.Encoding.{encoding_of};
 ghost use Rattle.java_properties.specs.LineFinder.{lines_left};
 ghost use Rattle.java_properties.specs.Escaping.{holds_backslash};
-ghost use Rattle.java_properties.specs.LineJoiner.{Joiner, Finds, OnOkDecodes, Joins, JoinsAfter, JoinsOn, JoinsPlain, Adds};
+ghost use Rattle.java_properties.specs.LineJoiner.{Joiner, Finds, OnOkKeeps, Joins, JoinsAfter, JoinsOn, JoinsPlain, Adds};
 
 use crate::encoding::Encoding;
-use crate::encoding::decode::{as_text, decode_line, push_text};
+use crate::encoding::decode::{as_text, decode_line, push_decoded, push_text};
 use crate::error::PropertiesError;
 use crate::escape::has_backslash;
 use crate::lines::finder::LineFinder;
 use crate::lines::join::{addition, is_comment_line, is_open, without_open_backslash};
 use counted_io::CountedRead;
 use std::alloc::{AllocError, Global};
-use std::borrow::CowStr;
 use std::marker::Model;
 
 /// Joins the natural lines of an input to its logical lines, one after another.
@@ -124,9 +124,8 @@ impl LineJoiner {
         ensures same_reader { IsSameReader R.CountedRead reader.old reader.new }
         ensures left { lines_left self.new.state ≤ lines_left self.old.state }
     {
-        let mut text = String::from_str(self.alloc, without_open_backslash(self.line()))?;
-        let joined = join_lines(self.alloc, &mut self.finder, reader, &mut text);
-        self.text = text;
+        keep_opened(&mut self.text, self.is_kept, &self.finder)?;
+        let joined = join_lines(self.alloc, &mut self.finder, reader, &mut self.text);
         self.is_kept = true;
         joined
     }
@@ -145,9 +144,8 @@ impl LineJoiner {
             Ok(number) => number,
             Err(error) => return Some(Err(error)),
         };
-        match decoded(self.alloc, &self.finder) {
-            Ok(Some(text)) => self.text = text,
-            Ok(None) => self.is_kept = false,
+        match keep_decoded(&mut self.text, &self.finder) {
+            Ok(is_kept) => self.is_kept = is_kept,
             Err(error) => {
                 self.end();
                 return Some(Err(PropertiesError::from(error)));
@@ -157,13 +155,46 @@ impl LineJoiner {
     }
 }
 
-// The text of the line that was found, or `None` where its bytes are its text.
-fn decoded(alloc: Global, finder: &LineFinder) -> Result<Option<String>, AllocError>
-    ensures { OnOkDecodes finder.now result }
+// Puts the text of the line that was found in the place of another, unless its bytes are its text, and says whether it
+// did.
+fn keep_decoded(text: &mut String, finder: &LineFinder) -> Result<bool, AllocError>
+    ensures { OnOkKeeps finder.now result (string_bytes text.new) }
 {
-    match decode_line(alloc, finder.encoding(), finder.line())? {
-        CowStr::Borrowed(_) => Ok(None),
-        CowStr::Owned(text) => Ok(Some(text)),
+    let encoding = finder.encoding();
+    let bytes = finder.line();
+    match as_text(encoding, bytes) {
+        Some(_) => Ok(false),
+        None => {
+            text.clear();
+            push_decoded(text, encoding, bytes)?;
+            Ok(true)
+        }
+    }
+}
+
+// Keeps the line that came last, without the backslash that opens it: the text that is kept, or else the line that was
+// found.
+fn keep_opened(text: &mut String, is_kept: bool, finder: &LineFinder) -> Result<(), AllocError>
+    requires { is_kept ≡ false → IsUtf8 finder.now.line }
+    ensures { let line = if is_kept then string_bytes text.old else finder.now.line in
+        OnOk result (chars (string_bytes text.new) ≡ without_open_backslash (chars line)) }
+{
+    if is_kept {
+        close(text);
+        return Ok(());
+    }
+    // SAFETY: the line was decoded, and its bytes were its text.
+    let line = unsafe { str::from_utf8_unchecked(finder.line()) };
+    text.clear();
+    push_text(text, without_open_backslash(line))
+}
+
+// Takes off the backslash that opens a line.
+fn close(text: &mut String)
+    ensures { chars (string_bytes text.new) ≡ without_open_backslash (chars (string_bytes text.old)) }
+{
+    if is_open(text.as_str()) {
+        text.pop();
     }
 }
 

@@ -8,6 +8,7 @@ ghost use Rattle.java_properties.specs.Encoding.{encoding_of};
 ghost use Rattle.java_properties.specs.LineSearch.{unit_size, whole_units, IsSearched, IsLineEndUnit};
 ghost use Rattle.java_properties.specs.LineSearch.{FindsLineEnd, FindsLineEndByte};
 
+use crate::characters::is_line_end;
 use crate::encoding::Encoding;
 use memchr::memchr2;
 
@@ -81,9 +82,22 @@ fn find_in_units(encoding: Encoding, bytes: &[u8], from: usize) -> Option<LineEn
     None
 }
 
-/// The place of the first byte like a CR or an LF, from this place on.
+/// The place of the first byte like a CR or an LF, from this place on. Where line ends stand side by side, none is searched
+/// for.
 #[inline]
 pub fn find_end_byte(bytes: &[u8], from: usize) -> Option<usize>
+    requires { from ≤ length bytes.now }
+    ensures { IsFirst (Passes is_line_end bytes.now) from (length bytes.now) result }
+{
+    if let Some(first) = bytes.get(from) {
+        if is_line_end(char::from(*first)) {
+            return Some(from);
+        }
+    }
+    search_end_byte(bytes, from)
+}
+
+fn search_end_byte(bytes: &[u8], from: usize) -> Option<usize>
     requires { from ≤ length bytes.now }
     ensures { IsFirst (Passes is_line_end bytes.now) from (length bytes.now) result }
 {

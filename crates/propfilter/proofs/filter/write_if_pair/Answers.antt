@@ -3,8 +3,16 @@ use Rattle.std.proofs.lemmas.Str.{scalars-chars}
 use Rattle.java_properties.proofs.Printing.Keys.{scalars-all}
 use Rattle.propfilter.proofs.filter.write_if_pair.Goals as goal
 
-pub returns-in-KVPair-clause-scalars : goal.returns-in-KVPair-clause-scalars
-returns-in-KVPair-clause-scalars g c =
+pub returns-in_ok-write-in-KVPair-clause-scalars : goal.returns-in_ok-write-in-KVPair-clause-scalars
+returns-in_ok-write-in-KVPair-clause-scalars g c =
+    let key = c.as_str.result.now in
+    let value = c.as_str-in-KVPair.result.now in
+    let key_scalars = rw c.as_str.ensures.value at (scalars-all (chars key) (scalars-chars key c.as_str.utf8)) in
+    let value_scalars = rw c.as_str-in-KVPair.ensures.value at (scalars-all (chars value) (scalars-chars value c.as_str-in-KVPair.utf8)) in
+    rw c.in-KVPair.is (key_scalars, value_scalars)
+
+pub returns-in_err-write-in-KVPair-clause-scalars : goal.returns-in_err-write-in-KVPair-clause-scalars
+returns-in_err-write-in-KVPair-clause-scalars g c =
     let key = c.as_str.result.now in
     let value = c.as_str-in-KVPair.result.now in
     let key_scalars = rw c.as_str.ensures.value at (scalars-all (chars key) (scalars-chars key c.as_str.utf8)) in

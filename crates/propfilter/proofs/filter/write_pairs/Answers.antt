@@ -1,8 +1,8 @@
-use Rattle.std.proofs.Common.{refl, ap, ◌∙◌, inl, inr}
+use Rattle.std.proofs.Common.{refl, ◌∙◌, inl, inr}
 use Rattle.std.proofs.lemmas.Result.{err_from_is_err_and}
 use Rattle.counted_io.specs.Streams.{reader, sink}
-use Rattle.java_properties.specs.LentItems.{said_by, found_content}
-use Rattle.propfilter.proofs.Filtering.{same-content, passed-none, passed-more, stops-reading, stops-writing, returns}
+use Rattle.java_properties.specs.LentItems.{found_content}
+use Rattle.propfilter.proofs.Filtering.{passed-none, passed-more, stops-reading, stops-writing, returns}
 use Rattle.propfilter.proofs.filter.write_pairs.Goals as goal
 
 pub loop-found-init : goal.loop-found-init

@@ -3,6 +3,7 @@ use Rattle.std.specs.Str.{chars}
 use Rattle.properties_format.specs.Reading.Items.{outcome_of}
 use Rattle.properties_format.specs.ItemsToCome.{ReaderState}
 use Rattle.counted_io.specs.Streams.{reader}
+use Rattle.java_properties.specs.LineFinder.{transposed}
 use Rattle.java_properties.specs.LineJoiner.{Joiner}
 use Rattle.java_properties.specs.LentItems.{found_content, IsFoundIn}
 use Rattle.java_properties.proofs.LineJoiner.{joins-plain, not-plain}
@@ -25,14 +26,14 @@ pub returns-clause-finds : goal.returns-clause-finds
 returns-clause-finds g c =
     let S : ReaderState → Type 0 = λ v. Passed (reader g.R.Read g.R.CountedRead) c.args.self.now.state c.args.reader.now [] v c.args.reader.now in
     let start = subst S (sym (ap (λ v. let w : Joiner = v in w.state) c.self.view_is)) (passed-start c.args.self.now.state c.args.reader.now) in
-    elim c.match-next_plain.branch [
+    rw c.transpose.ensures (elim c.match-next_plain.branch [
       | in-Some+in_default-find_plain w ↦
           let next = joins-plain w.in-Some.number c.next_plain.new.self w.in-Some.ensures.joins in
           let none = plain-blank w.line.result.now w.in-Some.number w.find_plain.result w.find_plain.ensures w.in_default-find_plain.not-Some in
           let passed = passed-blank w.in-Some.number c.next_plain.new.self start next (ap (λ v. outcome_of (chars v)) (sym w.line.ensures) ∙ none) in
-          passed-finds c.read_item.result c.read_item.new.self c.read_item.new.reader passed c.read_item.ensures.finds
+          passed-finds (transposed c.read_item.result) c.read_item.new.self c.read_item.new.reader passed c.read_item.ensures.finds
       | in_default w ↦
           let same = not-plain c.next_plain.ensures.joins w.in_default.not-Some in
           let passed = subst S (sym (ap (λ v. let w : Joiner = v in w.state) same)) start in
-          passed-finds c.read_item.result c.read_item.new.self c.read_item.new.reader passed c.read_item.ensures.finds
-    ]
+          passed-finds (transposed c.read_item.result) c.read_item.new.self c.read_item.new.reader passed c.read_item.ensures.finds
+    ])

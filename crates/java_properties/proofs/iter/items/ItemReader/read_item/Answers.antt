@@ -43,7 +43,7 @@ returns-in-Err-clause-finds g c =
     let same = not-plain c.next_plain.ensures.joins c.in_default.not-Some in
     let P : ReaderState → Type 0 = λ v. Passed (reader g.R.Read g.R.CountedRead) c.args.self.now.state c.args.reader.now c.plain.invariant.passed.0 v c.lines.reader in
     let passed = subst P (sym (ap (λ v. let w : Joiner = v in w.state) same)) c.plain.invariant.passed.1 in
-    let refused = rw c.in-Err.is at c.in_ok-number.ensures.joins in
+    let refused = rw c.in-Err.is at c.in-Some-next_line.ensures.joins in
     let k = passed-error passed refused.0 refused.2 in
     (k.0, refused.1, inr k.1)
 
@@ -52,7 +52,7 @@ returns-in-Ok-Some-clause-finds g c =
     let same = not-plain c.next_plain.ensures.joins c.in_default.not-Some in
     let P : ReaderState → Type 0 = λ v. Passed (reader g.R.Read g.R.CountedRead) c.args.self.now.state c.args.reader.now c.plain.invariant.passed.0 v c.lines.reader in
     let passed = subst P (sym (ap (λ v. let w : Joiner = v in w.state) same)) c.plain.invariant.passed.1 in
-    let next = rw c.in-Ok.is at c.in_ok-number.ensures.joins in
+    let next = rw c.in-Ok.is at c.in-Some-next_line.ensures.joins in
     let item = c.in-Ok-Some.item in
     let Q : List ℕ → Type 0 = λ v. (item.line_number ≡ c.in-Ok.number) × IsFoundIn v item in
     let is = subst Q c.line-in-lines.ensures (rw c.in-Ok-Some.field-0-is at c.in-Ok-Some.ensures) in
@@ -64,12 +64,12 @@ lines-preserved g c =
     let same = not-plain c.next_plain.ensures.joins c.in_default.not-Some in
     let P : ReaderState → Type 0 = λ v. Passed (reader g.R.Read g.R.CountedRead) c.args.self.now.state c.args.reader.now c.plain.invariant.passed.0 v c.lines.reader in
     let passed = subst P (sym (ap (λ v. let w : Joiner = v in w.state) same)) c.plain.invariant.passed.1 in
-    let next = rw c.in-Ok.is at c.in_ok-number.ensures.joins in
+    let next = rw c.in-Ok.is at c.in-Some-next_line.ensures.joins in
     let none = rw c.in-Ok-None.field-0-is at c.in-Ok-None.ensures in
     let kept = ap (λ v. let w : Joiner = v in lines_left w.state) same in
     record {
       passed = (c.plain.invariant.passed.0 ++ next.bytes, passed-blank c.in-Ok.number c.next_line.new.self passed next (ap (λ v. outcome_of (chars v)) (sym c.line-in-lines.ensures) ∙ none));
-      left = omega (arith, c.lines.invariant.left, c.plain.invariant.left, kept, c.in_ok-number.ensures.nearer);
+      left = omega (arith, c.lines.invariant.left, c.plain.invariant.left, kept, c.in-Some-next_line.ensures.nearer);
       same_reader = c.next_line.ensures.same_reader ∙ c.lines.invariant.same_reader;
     }
 
@@ -78,7 +78,7 @@ returns-in-Err-find_in-clause-finds g c =
     let same = not-plain c.next_plain.ensures.joins c.in_default.not-Some in
     let P : ReaderState → Type 0 = λ v. Passed (reader g.R.Read g.R.CountedRead) c.args.self.now.state c.args.reader.now c.plain.invariant.passed.0 v c.lines.reader in
     let passed = subst P (sym (ap (λ v. let w : Joiner = v in w.state) same)) c.plain.invariant.passed.1 in
-    let next = rw c.in-Ok.is at c.in_ok-number.ensures.joins in
+    let next = rw c.in-Ok.is at c.in-Some-next_line.ensures.joins in
     let Q : List ℕ → Type 0 = λ v. IsNoItem c.in-Ok.number (chars v) c.in-Err-find_in.error in
     let done = ap (λ v. let w : Joiner = v in w.state.is_done) c.end.ensures in
     let k = passed-no_item c.in-Ok.number c.next_line.new.self c.end.new.self.state passed next (subst Q c.line-in-lines.ensures c.in-Err-find_in.ensures) in

@@ -1,7 +1,7 @@
 use Rattle.std.proofs.Common.{◌≡◌, ◌≤◌, ◌+◌, ◌*◌, ◌++◌, length, take}
 use Rattle.std.specs.Str.{chars, IsUtf8}
 use Rattle.java_properties.specs.Decoding.{text_of}
-use Rattle.java_properties.proofs.encoding.run.decode_run.Given as goal
+use Rattle.java_properties.proofs.encoding.run.decode_run_of.Given as goal
 
 -- The text so far and the text of the rest are those of all bytes.
 abbrev pub invariant-loop-first : goal.invariant-loop-first

@@ -5,7 +5,7 @@ use Rattle.std.proofs.lemmas.Str.{IsUtf8-append, IsUtf8-encode, IsUtf8-nil, char
 use Rattle.java_properties.specs.Decoding.{text_of}
 use Rattle.java_properties.specs.Encoding.{encoding_of}
 use Rattle.java_properties.proofs.TextFronts.{decoded-one, taken-rest}
-use Rattle.java_properties.proofs.encoding.run.decode_run.Goals as goal
+use Rattle.java_properties.proofs.encoding.run.decode_run_of.Goals as goal
 
 pub loop-first-init : goal.loop-first-init
 loop-first-init c = record {
