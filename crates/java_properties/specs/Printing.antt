@@ -1,5 +1,5 @@
 -- What is appended for a text, by where it stands.
-use Rattle.std.specs.Prelude.{◌≡◌, ℕ, nat_lt, ◌==◌, Bool, false, if◌then◌else◌, List, [], ◌∷◌, ◌++◌, Result, OnOk}
+use Rattle.std.specs.Prelude.{◌≡◌, ℕ, ◌*◌, ◌≤◌, nat_lt, ◌==◌, length, take, Bool, false, if◌then◌else◌, List, [], ◌∷◌, ◌++◌, Result, OnOk}
 use Rattle.std.specs.Global.{Vec}
 use Rattle.std.specs.Str.{chars}
 use Rattle.properties_format.specs.Printing as format
@@ -8,6 +8,7 @@ use Rattle.java_properties.specs.Encoding.{output_of}
 use Rattle.java_properties.specs.declared.encoding.encode.OutputEncoding.TheVariants.{Windows1252}
 use Rattle.java_properties.specs.declared.writer.print.Repertoire.{Repertoire}
 use Rattle.java_properties.specs.declared.writer.print.Place.{Place}
+use Rattle.java_properties.specs.declared.writer.print.bytes.Printed.{Printed}
 use Rattle.java_properties.specs.declared.writer.print.Place.TheVariants.{KeyOrValue, Comment, Prefix}
 
 abbrev pub place_of : Place → format.Place
@@ -55,6 +56,17 @@ abbrev pub last_of : ℕ → ℕ
 last_of b =
     if format.is_special b then b
     else (if format.has_letter b then (if b == tab then 0x74 else (if b == line_feed then 0x6e else (if b == form_feed then 0x66 else 0x72))) else b)
+
+-- bytes with a backslash before each that is special
+abbrev pub with_backslashes : List ℕ → List ℕ
+with_backslashes [] = []
+with_backslashes (b ∷ bs) = (if format.is_special b then backslash ∷ b ∷ [] else b ∷ []) ++ with_backslashes bs
+
+-- how far bytes were printed, and where what is printed for them stands
+pub record ArePrinted (bytes : List ℕ) (printed : Printed) (out : List ℕ) : Type 0 where
+  pub read : printed.read ≤ length bytes
+  pub written : printed.written ≤ 2 * printed.read
+  pub same : take printed.written out ≡ spelt_bytes (take printed.read bytes)
 
 -- the text of these bytes is printed in a key or a value as they are, byte by byte
 abbrev pub Stands : Repertoire → List ℕ → Type 0

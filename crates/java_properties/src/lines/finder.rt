@@ -115,7 +115,7 @@ impl LineFinder {
     /// Finds the next line, and returns its number; or an error, or `None` where no more come.
     ///
     /// A line that a CR ends is found at once: an LF that comes next belongs to its end.
-    #[inline]
+    #[inline(always)]
     pub fn find_line<R: CountedRead>(
         &mut self,
         reader: &mut R,

@@ -1,10 +1,15 @@
-// Bytes as they are printed in a key or a value, by tables.
+// Bytes as they are printed in a key or a value, by vectors and by tables.
 
 ghost use Rattle.std.specs.Prelude.{◌≡◌, ◌+◌, ◌*◌, ◌<◌, ◌≤◌, ◌++◌, length, take, OnOk};
-ghost use Rattle.java_properties.specs.Printing.{AppendsOnOk, spelt_byte, spelt_bytes, backslashes_before, last_of};
+ghost use Rattle.java_properties.specs.Printing.{AppendsOnOk, ArePrinted, spelt_byte, spelt_bytes, backslashes_before, last_of};
 
 use super::print_byte;
 use std::alloc::AllocError;
+use std::simd::prelude::*;
+use vectors::{has_control, put_16, put_ends};
+
+mod expand;
+mod vectors;
 
 // How many bytes are printed at once.
 const STEP: usize = 64;
@@ -73,21 +78,86 @@ fn put(out: &mut [u8], bytes: &[u8]) -> Printed
     ensures length { length out.new ≡ length out.old }
     ensures printed { take result.written out.new ≡ spelt_bytes (take result.read bytes.now) }
 {
-    let mut at = 0;
-    for index in 0..bytes.len() {
-        let byte = bytes[index];
-        if backslashes_before(byte) > 1 {
+    let first = put_first(out, bytes);
+    let more = put_blocks(out, bytes, first);
+    put_singly(out, bytes, more)
+}
+
+// Prints the odd bytes at the front, so that blocks of sixteen are left, and eight to fifteen bytes all at once. Of
+// shorter ones, and where a control character is near, it prints none.
+#[inline(always)]
+fn put_first(out: &mut [u8], bytes: &[u8]) -> Printed
+    requires { 2 * length bytes.now ≤ length out.old }
+    ensures length { length out.new ≡ length out.old }
+    ensures printed { ArePrinted bytes.now result out.new }
+{
+    if bytes.len() >= 16 {
+        let v = u8x16::from_slice(bytes);
+        if !has_control(v) {
+            let read = (bytes.len() - 1) % 16 + 1;
+            let written = put_16(out, 0, v, read);
+            return Printed { read, written };
+        }
+    } else if bytes.len() >= 8 {
+        let second = bytes.len() - 8;
+        let v: u8x16 = u8x8::from_slice(bytes).shuffle(
+            u8x8::from_slice(&bytes[second..]),
+            [0, 1, 2, 3, 4, 5, 6, 7, 8, 9, 10, 11, 12, 13, 14, 15],
+        );
+        if !has_control(v) {
+            let written = put_ends(out, v, second);
             return Printed {
-                read: index,
-                written: at,
+                read: bytes.len(),
+                written,
             };
         }
-        at = put_byte(out, at, byte);
     }
     Printed {
-        read: bytes.len(),
-        written: at,
+        read: 0,
+        written: 0,
     }
+}
+
+// Goes on by blocks of sixteen, up to one that has a control character.
+#[inline(always)]
+fn put_blocks(out: &mut [u8], bytes: &[u8], so_far: Printed) -> Printed
+    requires room { 2 * length bytes.now ≤ length out.old }
+    requires so_far { ArePrinted bytes.now so_far out.old }
+    ensures length { length out.new ≡ length out.old }
+    ensures printed { ArePrinted bytes.now result out.new }
+{
+    let mut at = so_far.written;
+    let mut read = so_far.read;
+    while bytes.len() - read >= 16 {
+        let v = u8x16::from_slice(&bytes[read..]);
+        if has_control(v) {
+            break;
+        }
+        at = put_16(out, at, v, 16);
+        read += 16;
+    }
+    Printed { read, written: at }
+}
+
+// Goes on byte by byte, up to one that takes a longer escape.
+#[inline(always)]
+fn put_singly(out: &mut [u8], bytes: &[u8], so_far: Printed) -> Printed
+    requires room { 2 * length bytes.now ≤ length out.old }
+    requires so_far { ArePrinted bytes.now so_far out.old }
+    ensures length { length out.new ≡ length out.old }
+    ensures printed { ArePrinted bytes.now result out.new }
+{
+    let mut at = so_far.written;
+    let mut read = so_far.read;
+    while read < bytes.len() {
+        let byte = bytes[read];
+        if backslashes_before(byte) > 1 {
+            break;
+        }
+        at = put_byte(out, at, byte);
+        read += 1;
+    }
+    Printed { read, written: at }
 }
 
 // Prints a byte from this place on, and returns the place after it. There is no branch.

@@ -1,0 +1,15 @@
+use Rattle.std.proofs.Common.{take}
+use Rattle.java_properties.proofs.Printing.Vectors.{front-bits, back-bits, put_ends-is}
+use Rattle.java_properties.proofs.writer.print.bytes.vectors.put_ends.Goals as goal
+
+pub put_8-requires-clause-special : goal.put_8-requires-clause-special
+put_8-requires-clause-special c = front-bits c.args.v (take 8 c.front.result) c.special_bits-bits.result c.fits-v.0 c.special_bits-bits.ensures c.front.ensures.half
+
+pub put_8-requires-2-clause-special : goal.put_8-requires-2-clause-special
+put_8-requires-2-clause-special c = back-bits c.args.v (take 8 c.back.result) c.special_bits-bits.result c.fits-v.0 c.special_bits-bits.ensures c.back.ensures.half
+
+pub returns-clause-printed : goal.returns-clause-printed
+returns-clause-printed c =
+    let front = take 8 c.front.result in
+    let back = take 8 c.back.result in
+    put_ends-is c.put_8.new.out c.put_8-2.new.out c.args.v front back c.put_8.result c.args.kept c.place_after-middle.result c.put_8-2.result c.special_bits-bits.result c.fits-v.0 c.requires.kept c.special_bits-bits.ensures c.front.ensures.half c.back.ensures.half c.put_8.ensures.printed c.place_after-middle.ensures.value c.put_8-2.ensures.printed
