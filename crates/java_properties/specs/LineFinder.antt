@@ -241,7 +241,7 @@ IsRefused number (Io error) e = IsStreamError (Some number) error e
 abbrev pub FindsError : {R : Type 0} → Reader R → ReaderState → R → PropertiesError → ReaderState → R → Type 0
 FindsError reader old from e new to = FindsFault reader old from e to ⊎ (FindsTooMany old from e new to ⊎ FindsNoRoom reader old from e to)
 
--- an answer that tells first whether there was an error, as one that tells it last
+-- a result of an option, as an option of a result
 abbrev pub transposed : {A E : Type 0} → Result (Option A) E → Option (Result A E)
 transposed (Ok None) = None
 transposed (Ok (Some x)) = Some (Ok x)
