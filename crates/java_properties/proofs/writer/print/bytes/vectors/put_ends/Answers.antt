@@ -10,6 +10,11 @@ put_8-requires-2-clause-special c = back-bits c.args.v (take 8 c.back.result) c.
 
 pub returns-clause-printed : goal.returns-clause-printed
 returns-clause-printed c =
+    let first = c.put_8 in
+    let middle = c.place_after-middle in
+    let last = c.put_8-2 in
+    let bits = c.special_bits-bits in
     let front = take 8 c.front.result in
     let back = take 8 c.back.result in
-    put_ends-is c.put_8.new.out c.put_8-2.new.out c.args.v front back c.put_8.result c.args.kept c.place_after-middle.result c.put_8-2.result c.special_bits-bits.result c.fits-v.0 c.requires.kept c.special_bits-bits.ensures c.front.ensures.half c.back.ensures.half c.put_8.ensures.printed c.place_after-middle.ensures.value c.put_8-2.ensures.printed
+    put_ends-is first.new.out last.new.out c.args.v front back first.result c.args.kept middle.result last.result bits.result c.fits-v.0 c.requires.kept
+    bits.ensures c.front.ensures.half c.back.ensures.half first.ensures.printed middle.ensures.value last.ensures.printed
