@@ -8,11 +8,11 @@ use Rattle.properties_format.specs.Reading.Settings.{is_good_separator}
 use Rattle.properties_format.specs.Printing.{encoded_text, spelt_text, spelt_key, in_prefix, in_comment, in_key_or_value}
 use Rattle.properties_format.proofs.Printing.Characters.{printed-comment, printed-pair, line_end-ascii, good_separator-ascii}
 use Rattle.properties_format.proofs.Settings.Tests.{IsGoodSeparator-from_test}
-use Rattle.java_properties.proofs.Printing.Characters.{encoded_text-raw}
-use Rattle.java_properties.specs.Encoding.{output_of}
+use Rattle.properties_text.proofs.Printing.Characters.{encoded_text-raw}
+use Rattle.properties_text.specs.Encoding.{output_of}
 use Rattle.java_properties.specs.Engine.{repertoire_of, line_bytes, content_bytes}
-use Rattle.java_properties.specs.Printing.{text_bytes, key_bytes}
-use Rattle.java_properties.specs.declared.writer.print.Place.TheVariants.{KeyOrValue}
+use Rattle.properties_text.specs.Printing.{text_bytes, key_bytes}
+use Rattle.properties_text.specs.declared.print.Place.TheVariants.{KeyOrValue}
 use Rattle.java_properties.specs.declared.writer.engine.Engine.{Engine}
 
 -- the bytes of the line ending

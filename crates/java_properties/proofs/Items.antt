@@ -12,19 +12,18 @@ use Rattle.properties_format.specs.Reading.Items.{outcome_of}
 use Rattle.properties_format.specs.Entries.{malformed}
 use Rattle.properties_format.proofs.Items.Unique.{outcome_of-only}
 use Rattle.properties_format.proofs.Items.Outcomes.{followed-ignored, followed-given, followed-broken}
-use Rattle.java_properties.specs.Escaping.{IsRefused}
 use Rattle.counted_io.specs.Streams.{Reader, HasRead}
 use Rattle.counted_io.proofs.Streams.{read-none, read-more, failed-more}
 use Rattle.properties_format.specs.Lines.{InputEnd, end, fault, more}
 use Rattle.properties_format.specs.ItemsToCome.{ReaderState}
 use Rattle.properties_format.specs.Reading.ItemsToCome.{items_to_come}
 use Rattle.properties_format.proofs.ItemsToCome.Unique.{items_to_come-done}
-use Rattle.java_properties.specs.Errors.{IsBareError}
+use Rattle.java_properties.specs.Errors.{IsBareError, IsUnresolved}
 use Rattle.java_properties.specs.LentItems.{found_content, spans_of, AreTextsIn, IsFoundIn, FindsItem, FindsPlain}
 use Rattle.java_properties.specs.LineFinder.{PassesSome}
 use Rattle.java_properties.proofs.LineJoiner.{some-start, some-on, all-on}
 use Rattle.java_properties.specs.LineJoiner.{IsLazyItems, JoinsError, JoinsNext, Comes, Joiner, numbered_line}
-use Rattle.java_properties.specs.Parsing.{spanned, in_characters}
+use Rattle.properties_text.specs.Parsing.{spanned, in_characters}
 use Rattle.java_properties.specs.PropertiesIter.{IsNoItem, Gives, BreaksOff, GivesEntry, GivesNone, GivesMalformed}
 use Rattle.java_properties.specs.declared.error.ErrorKind.TheVariants.{Memory}
 use Rattle.java_properties.specs.declared.iter.found.Found.{Found}
@@ -46,17 +45,17 @@ pair-item x raw_key raw_value key value h m n =
     sym (outcome_of-only x (given (pair key value)) (record { raw_key = raw_key; raw_value = raw_value; split = h; key_means = m; value_means = n }))
 
 -- a text of it breaks, or there is no memory
-pub comment-no_item : (x raw : List ℕ) (number : ℕ) (e : PropertiesError) → IsSplit x (split.comment raw) → IsRefused raw number e → IsNoItem number x e
+pub comment-no_item : (x raw : List ℕ) (number : ℕ) (e : PropertiesError) → IsSplit x (split.comment raw) → IsUnresolved raw number e → IsNoItem number x e
 comment-no_item x raw number e h (inl (kind, b, is)) = inl (kind, sym (outcome_of-only x (broken kind) (inl (record { raw = raw; split = h; breaks = b }))), is)
 comment-no_item x raw number e h (inr is) = inr is
 
-pub key-no_item : (x raw_key raw_value : List ℕ) (number : ℕ) (e : PropertiesError) → IsSplit x (split.pair raw_key raw_value) → IsRefused raw_key number e → IsNoItem number x e
+pub key-no_item : (x raw_key raw_value : List ℕ) (number : ℕ) (e : PropertiesError) → IsSplit x (split.pair raw_key raw_value) → IsUnresolved raw_key number e → IsNoItem number x e
 key-no_item x raw_key raw_value number e h (inl (kind, b, is)) =
     inl (kind, sym (outcome_of-only x (broken kind) (inr (inl (record { raw_key = raw_key; raw_value = raw_value; split = h; breaks = b })))), is)
 key-no_item x raw_key raw_value number e h (inr is) = inr is
 
 pub value-no_item : (x raw_key raw_value key : List ℕ) (number : ℕ) (e : PropertiesError) → IsSplit x (split.pair raw_key raw_value) → Means raw_key key
-    → IsRefused raw_value number e → IsNoItem number x e
+    → IsUnresolved raw_value number e → IsNoItem number x e
 value-no_item x raw_key raw_value key number e h m (inl (kind, b, is)) =
     inl (kind, sym (outcome_of-only x (broken kind) (inr (inr (record { raw_key = raw_key; raw_value = raw_value; key = key; split = h; key_means = m; breaks = b })))), is)
 value-no_item x raw_key raw_value key number e h m (inr is) = inr is

@@ -6,16 +6,17 @@ use Rattle.properties_format.specs.Escapes.{Means}
 use Rattle.properties_format.specs.Split as split
 use Rattle.properties_format.specs.Split.{IsSplit}
 use Rattle.properties_format.proofs.Escapes.Laws.{meaning_of-plain}
-use Rattle.java_properties.specs.Escaping.{holds_backslash, IsRefused}
+use Rattle.properties_text.specs.Escaping.{holds_backslash}
+use Rattle.java_properties.specs.Errors.{IsUnresolved}
 use Rattle.java_properties.specs.LentItems.{found_bytes, IsTextIn, IsFoundIn}
-use Rattle.java_properties.specs.Parsing.{bytes_in, IsSpan}
+use Rattle.properties_text.specs.Parsing.{bytes_in, IsSpan}
 use Rattle.java_properties.specs.PropertiesIter.{IsNoItem}
 use Rattle.java_properties.specs.declared.error.PropertiesError.{PropertiesError}
 use Rattle.java_properties.specs.declared.iter.found.FoundText.{FoundText}
 use Rattle.java_properties.specs.declared.iter.found.FoundContent.TheVariants as found
-use Rattle.java_properties.specs.declared.parse.Span.{Span}
+use Rattle.properties_text.specs.declared.parse.Span.{Span}
 use Rattle.java_properties.proofs.Items.{value-no_item}
-use Rattle.java_properties.proofs.Texts.Resolving.{holds-part, no_backslash, means_plain}
+use Rattle.properties_text.proofs.Texts.Resolving.{holds-part, no_backslash, means_plain}
 
 no_other : (b : Bool) → true ≡ not b → b ≡ false
 no_other true h = absurd (cc)
@@ -65,7 +66,7 @@ plain-pair line number key value is_key is_value none h =
 -- the value breaks, of a pair whose key was found
 pub value-breaks : (line : List ℕ) (key value : Span) (found : FoundText) (number : ℕ) (e : PropertiesError)
     → IsSplit (chars line) (split.pair (chars (bytes_in line key)) (chars (bytes_in line value))) → found.span ≡ key → IsTextIn line found
-    → IsRefused (chars (bytes_in line value)) number e → IsNoItem number (chars line) e
+    → IsUnresolved (chars (bytes_in line value)) number e → IsNoItem number (chars line) e
 value-breaks line key value found number e h same f r =
     let P : Span → Type 0 = λ v. Means (chars (bytes_in line v)) (chars (found_bytes line found)) in
     value-no_item (chars line) _ _ _ number e h (subst P same f.means) r

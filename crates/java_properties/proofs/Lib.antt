@@ -1,16 +1,8 @@
-pub mod Windows1252
-pub mod FirstPieces
-pub mod TextFronts
-pub mod ReadAhead
-pub mod DecodeIter
-pub mod Printing
 pub mod Settings
 pub mod Engine
 pub mod Calls
 pub mod ReadBack
 pub mod AsciiOnly
-pub mod Texts
-pub mod Scanning
 mod InputBuffer
 pub mod LineFinder
 pub mod LineSearch

@@ -23,7 +23,7 @@ use Rattle.properties_format.proofs.ItemsToCome.Waiting.{waiting-front, waiting-
 use Rattle.properties_format.proofs.Cut.Units.{no_end_unit-right}
 use Rattle.counted_io.specs.Streams.{Reader, HasRead}
 use Rattle.counted_io.proofs.Streams.{read-none, read-more, failed-more}
-use Rattle.java_properties.specs.Decoding.{TellsBom}
+use Rattle.properties_text.specs.Decoding.{TellsBom}
 use Rattle.java_properties.specs.InputBuffer.{HasFilled, Fills}
 use Rattle.java_properties.specs.declared.input.FillError.{FillError}
 use Rattle.java_properties.specs.declared.input.FillError.TheVariants.{Memory, Io}
@@ -35,8 +35,8 @@ use Rattle.java_properties.specs.declared.lines.search.LineEnd.{LineEnd}
 use Rattle.java_properties.specs.declared.lines.seeker.HeldLine.{HeldLine}
 use Rattle.java_properties.specs.LineFinder as finder
 use Rattle.java_properties.specs.LineFinder.{IsSettled, HoldsNoEndYet, IsAlike, SkipsFeed, PassesFeed, Settles, SettlesLast, Along, IsAtLast, IsReady, HoldsLineEnd, LooksFor, Looks, HasFound, HasEnded, HasBroken, HasNoRoom, Seeks, PassesFirst, IsHeldLine, end_after, Finder, TakesHeld, FindsNext, FindsError, IsRefused}
-use Rattle.java_properties.specs.declared.encoding.byte_order_mark.ByteOrderMark.{ByteOrderMark}
-use Rattle.java_properties.specs.declared.encoding.byte_order_mark.ByteOrderMark.TheVariants.{Present, Absent, Undecided}
+use Rattle.properties_text.specs.declared.encoding.byte_order_mark.ByteOrderMark.{ByteOrderMark}
+use Rattle.properties_text.specs.declared.encoding.byte_order_mark.ByteOrderMark.TheVariants.{Present, Absent, Undecided}
 
 and-false : (b : Bool) → (b && false) ≡ false
 and-false true = refl

@@ -18,8 +18,8 @@ use Rattle.properties_format.specs.Pieces.{characters}
 use Rattle.properties_format.specs.Reading.Encoding.{pieces_of}
 use Rattle.properties_format.specs.Reading.ReaderSteps.{ReadsLines}
 use Rattle.java_properties.specs.Errors.{IsBareError}
-use Rattle.java_properties.specs.Escaping.{holds_backslash}
-use Rattle.java_properties.proofs.Texts.Resolving.{plain-closed}
+use Rattle.properties_text.specs.Escaping.{holds_backslash}
+use Rattle.properties_text.proofs.Texts.Resolving.{plain-closed}
 use Rattle.java_properties.specs.LineFinder as finder
 use Rattle.java_properties.specs.LineFinder.{Finder, Passes, PassesSome, PassesAll, IsLazy, TakesHeld, FindsError, FindsFault, FindsTooMany, FindsNoRoom}
 use Rattle.java_properties.specs.LineJoiner.{line_text, join_of, Pends, Closes, IsLazyJoin, IsLazyItems, GoesOn, JoinsAll, JoinError, Joiner, numbered_line, TakesPlain, JoinsPlain, FindsNext, Comes, JoinsAfter, JoinsOn, JoinsNext, JoinsError}

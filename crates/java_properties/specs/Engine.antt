@@ -3,14 +3,14 @@ use Rattle.std.specs.Prelude.{ℕ, ◌==◌, List, ◌++◌}
 use Rattle.std.specs.Str.{chars}
 use Rattle.properties_format.specs.Entries as format
 use Rattle.properties_format.specs.Printing.{printed, encoded_text}
-use Rattle.java_properties.specs.Encoding.{output_of}
+use Rattle.properties_text.specs.Encoding.{output_of}
 use Rattle.java_properties.specs.PropertiesWriter.{Writing}
-use Rattle.java_properties.specs.Printing.{text_bytes, key_bytes}
+use Rattle.properties_text.specs.Printing.{text_bytes, key_bytes}
 use Rattle.java_properties.specs.declared.writer.engine.Engine.{Engine}
 use Rattle.java_properties.specs.declared.writer.engine.Content.{Content}
 use Rattle.java_properties.specs.declared.writer.engine.Content.TheVariants.{Comment, KVPair}
-use Rattle.java_properties.specs.declared.writer.print.Repertoire.{Repertoire}
-use Rattle.java_properties.specs.declared.writer.print.Place.TheVariants as place
+use Rattle.properties_text.specs.declared.print.Repertoire.{Repertoire}
+use Rattle.properties_text.specs.declared.print.Place.TheVariants as place
 
 abbrev pub content_of : Content → format.Content
 content_of (Comment text) = format.comment (chars text.now)

@@ -1,9 +1,12 @@
 -- What a contract sees of an error.
-use Rattle.std.specs.Prelude.{◌≡◌, ℕ, List, Option, Some, None}
+use Rattle.std.specs.Prelude.{◌≡◌, ◌⊎◌, ℕ, List, Option, Some, None}
 use Rattle.std.specs.Option.{option_map}
 use Rattle.std.specs.Str.{chars}
 use Rattle.std.specs.String.{string_bytes}
-use Rattle.properties_format.specs.Escapes.{Malformed, not_enough_digits, not_hex, invalid_character}
+use Rattle.properties_format.specs.Escapes.{Malformed, Breaks, not_enough_digits, not_hex, invalid_character}
+use Rattle.properties_text.specs.Escaping.{malformed_in}
+use Rattle.properties_text.specs.declared.escape.UnescapeError.{UnescapeError}
+use Rattle.properties_text.specs.declared.escape.UnescapeError.TheVariants as unescape
 use Rattle.java_properties.specs.declared.error.ErrorKind.{ErrorKind}
 use Rattle.java_properties.specs.declared.error.Cause.{Cause}
 use Rattle.java_properties.specs.declared.error.ErrorKind.TheVariants as kind
@@ -59,6 +62,15 @@ malformed_cause invalid_character = cause.None
 -- escapes of this line are so malformed
 abbrev pub IsMalformed : Malformed → ℕ → PropertiesError → Type 0
 IsMalformed malformed line error = IsError (malformed_kind malformed) (Some line) (malformed_cause malformed) error
+
+-- escapes of this line aren't resolved for this reason
+abbrev pub SaysUnresolved : UnescapeError → ℕ → PropertiesError → Type 0
+SaysUnresolved (unescape.Malformed malformed) line error = IsMalformed (malformed_in malformed) line error
+SaysUnresolved unescape.Memory line error = IsBareError kind.Memory error
+
+-- The text breaks, and the error says how, in this line; or there was no memory.
+abbrev pub IsUnresolved : List ℕ → ℕ → PropertiesError → Type 0
+IsUnresolved text line error = ((malformed : Malformed) × Breaks text malformed × IsMalformed malformed line error) ⊎ IsBareError kind.Memory error
 
 -- A text was refused, and the error of this kind has it: no line, and nothing that it came from.
 pub record RefusesText (kind : ErrorKind) (text : List ℕ) (error : PropertiesError) : Type 0 where

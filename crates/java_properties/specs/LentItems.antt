@@ -15,12 +15,12 @@ use Rattle.properties_format.specs.Split as split
 use Rattle.properties_format.specs.Split.{IsSplit}
 use Rattle.properties_format.specs.Items.{ignored}
 use Rattle.properties_format.specs.Reading.Items.{outcome_of}
-use Rattle.java_properties.specs.Errors.{IsBareError}
-use Rattle.java_properties.specs.Escaping.{IsRefused, holds_backslash}
+use Rattle.java_properties.specs.Errors.{IsBareError, IsUnresolved}
+use Rattle.properties_text.specs.Escaping.{holds_backslash}
 use Rattle.properties_format.specs.ItemsToCome.{ReaderState}
 use Rattle.java_properties.specs.LineJoiner.{Joiner, JoinsError}
 use Rattle.java_properties.specs.Line.{number_of, content_of}
-use Rattle.java_properties.specs.Parsing.{bytes_in, spanned, in_characters, IsSpan}
+use Rattle.properties_text.specs.Parsing.{bytes_in, spanned, in_characters, IsSpan}
 use Rattle.java_properties.specs.PropertiesIter.{Reading, entry_of, IsNoItem, GivesEntry, GivesNone, GivesMalformed}
 use Rattle.java_properties.specs.declared.error.ErrorKind.TheVariants as kind
 use Rattle.java_properties.specs.declared.error.PropertiesError.{PropertiesError}
@@ -34,9 +34,9 @@ use Rattle.java_properties.specs.declared.iter.lent.LineRef.{LineRef}
 use Rattle.java_properties.specs.declared.line.Line.{Line}
 use Rattle.java_properties.specs.declared.line.LineContent.{LineContent}
 use Rattle.java_properties.specs.declared.line.LineContent.TheVariants as own
-use Rattle.java_properties.specs.declared.parse.ParsedSpans.{ParsedSpans}
-use Rattle.java_properties.specs.declared.parse.ParsedSpans.TheVariants as spans
-use Rattle.java_properties.specs.declared.parse.Span.{Span}
+use Rattle.properties_text.specs.declared.parse.ParsedSpans.{ParsedSpans}
+use Rattle.properties_text.specs.declared.parse.ParsedSpans.TheVariants as spans
+use Rattle.properties_text.specs.declared.parse.Span.{Span}
 
 -- ---- lent items
 
@@ -116,7 +116,7 @@ pub record IsFoundIn (line : List ℕ) (found : Found) : Type 0 where
 -- The text of this span of the line; or why there is none.
 abbrev pub FindsText : List ℕ → ℕ → Span → Result FoundText PropertiesError → Type 0
 FindsText line number span (Ok text) = (text.span ≡ span) × IsTextIn line text
-FindsText line number span (Err e) = IsRefused (chars (bytes_in line span)) number e
+FindsText line number span (Err e) = IsUnresolved (chars (bytes_in line span)) number e
 
 -- The texts of these spans of the line; or why there are none. Of a pair the key breaks first.
 abbrev pub FindsContent : List ℕ → ℕ → ParsedSpans → Result FoundContent PropertiesError → Type 0

@@ -13,7 +13,7 @@ use Rattle.properties_format.specs.Reading.Items.{outcome_of, followed}
 use Rattle.properties_format.specs.Reading.ItemsToCome.{items_to_come, entries_pending}
 use Rattle.properties_format.specs.Reading.ReaderSteps.{ReadsLines, ReadsLogical}
 use Rattle.java_properties.specs.Errors.{IsBareError, IsStreamError}
-use Rattle.java_properties.specs.Escaping.{holds_backslash}
+use Rattle.properties_text.specs.Escaping.{holds_backslash}
 use Rattle.java_properties.specs.LineFinder.{Finder, Passes, PassesSome, PassesAll, IsLazy, FindsError}
 use Rattle.java_properties.specs.declared.error.ErrorKind.TheVariants as kind
 use Rattle.java_properties.specs.declared.error.PropertiesError.{PropertiesError}

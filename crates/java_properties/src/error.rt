@@ -3,11 +3,12 @@
 ghost use Rattle.std.specs.Prelude.{◌≡◌, Some, None};
 ghost use Rattle.std.specs.Str.{chars};
 ghost use Rattle.std.specs.String.{string_bytes};
-ghost use Rattle.properties_format.specs.Escapes.{not_enough_digits, not_hex, invalid_character};
-ghost use Rattle.java_properties.specs.Errors.{kind_of, line_of, cause_of, cause_of_write, IsError, IsBareError, IsMalformed, IsStreamError, RefusesText};
+ghost use Rattle.properties_text.specs.Escaping.{malformed_in};
+ghost use Rattle.java_properties.specs.Errors.{kind_of, line_of, cause_of, cause_of_write, IsError, IsBareError, IsMalformed, SaysUnresolved, IsStreamError, RefusesText};
 ghost use Rattle.java_properties.specs.DisplayTexts.{description, error_display};
 ghost use Rattle.java_properties.specs.declared.error.ErrorKind.TheVariants.{Io, BadCommentPrefix, BadKvSeparator, EmptyKey, TooManyLines, Failed, Memory};
 
+use properties_text::escape::{Malformed, UnescapeError};
 use std::alloc::{AllocError, AllocFailed};
 use std::error::Error;
 use std::{fmt, io};
@@ -116,25 +117,28 @@ impl PropertiesError {
         PropertiesError::io(line_number, Cause::Io(error))
     }
 
-    /// In the line of this number fewer than four characters come after a `\u`.
-    pub(crate) fn not_enough_digits(line_number: usize) -> PropertiesError
-        ensures { IsMalformed not_enough_digits line_number result }
+    /// Escapes in the line of this number aren't resolved.
+    pub(crate) fn unresolved(line_number: usize, error: UnescapeError) -> PropertiesError
+        ensures { SaysUnresolved error line_number result }
     {
-        PropertiesError::in_line(line_number, ErrorKind::NotEnoughDigits, Cause::None)
+        match error {
+            UnescapeError::Malformed(malformed) => {
+                PropertiesError::malformed(line_number, malformed)
+            }
+            UnescapeError::Memory => PropertiesError::bare(ErrorKind::Memory),
+        }
     }
 
-    /// In the line of this number one of the four characters after a `\u` is no hexadecimal digit.
-    pub(crate) fn not_hex(line_number: usize) -> PropertiesError
-        ensures { IsMalformed not_hex line_number result }
+    // Escapes in the line of this number are so malformed.
+    fn malformed(line_number: usize, malformed: Malformed) -> PropertiesError
+        ensures { IsMalformed (malformed_in malformed) line_number result }
     {
-        PropertiesError::in_line(line_number, ErrorKind::NotHex, Cause::NotHex)
-    }
-
-    /// In the line of this number an escape stands for a surrogate that has no partner.
-    pub(crate) fn invalid_character(line_number: usize) -> PropertiesError
-        ensures { IsMalformed invalid_character line_number result }
-    {
-        PropertiesError::in_line(line_number, ErrorKind::InvalidCharacter, Cause::None)
+        let (kind, cause) = match malformed {
+            Malformed::NotEnoughDigits => (ErrorKind::NotEnoughDigits, Cause::None),
+            Malformed::NotHex => (ErrorKind::NotHex, Cause::NotHex),
+            Malformed::InvalidCharacter => (ErrorKind::InvalidCharacter, Cause::None),
+        };
+        PropertiesError::in_line(line_number, kind, cause)
     }
 
     pub(crate) fn too_many_lines() -> PropertiesError

@@ -15,22 +15,18 @@
 //! ```
 #![tactic(auto)]
 
-mod characters;
-mod encoding;
 mod error;
-mod escape;
 mod input;
 mod iter;
 pub mod laws;
 mod line;
 mod lines;
 mod maps;
-mod parse;
 mod writer;
 
-pub use encoding::Encoding;
 pub use error::{Cause, ErrorKind, PropertiesError};
 pub use iter::{ContentRef, Found, LineRef, PropertiesIter, Stopped, read_lines};
 pub use line::{Line, LineContent};
 pub use maps::{read, write};
+pub use properties_text::encoding::Encoding;
 pub use writer::{Call, LineEnding, PropertiesWriter, run_calls};

@@ -5,7 +5,7 @@ ghost use Rattle.std.specs.Str.{chars};
 ghost use Rattle.java_properties.specs.LineJoiner.{line_text};
 ghost use Rattle.std.specs.Iterator.{at_most};
 ghost use Rattle.properties_format.specs.ItemsToCome.{start};
-ghost use Rattle.java_properties.specs.Encoding.{encoding_of};
+ghost use Rattle.properties_text.specs.Encoding.{encoding_of};
 ghost use Rattle.java_properties.specs.LineFinder.{lines_left, transposed};
 ghost use Rattle.java_properties.specs.NaturalLines.{NaturalReading, NextLineGives};
 
@@ -16,11 +16,11 @@ mod logical;
 mod search;
 mod seeker;
 
-use crate::encoding::Encoding;
-use crate::encoding::decode::decode_line;
 use crate::error::PropertiesError;
 use crate::lines::finder::LineFinder;
 use counted_io::CountedRead;
+use properties_text::encoding::Encoding;
+use properties_text::encoding::decode::decode_line;
 use std::alloc::{AllocError, Global};
 use std::borrow::CowStr;
 use std::marker::Model;

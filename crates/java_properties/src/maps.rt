@@ -5,12 +5,12 @@ ghost use Rattle.counted_io.specs.Streams.{IsSameReader, IsSameSink};
 ghost use Rattle.java_properties.specs.PropertiesIter.{said};
 ghost use Rattle.java_properties.specs.Maps.{texts_of, InsertsIfPair, ReadsMap, AreInOrder, WritesMap, MapReadsBack};
 
-use crate::encoding::{Encoding, OutputEncoding};
 use crate::error::PropertiesError;
 use crate::iter::items::ItemReader;
 use crate::line::LineContent;
 use crate::writer::engine::{Content, Engine};
 use counted_io::{CountedRead, CountedWrite};
+use properties_text::encoding::{Encoding, OutputEncoding};
 use std::alloc::{AllocError, Global};
 use std::collections::HashMap;
 

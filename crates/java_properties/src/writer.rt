@@ -5,20 +5,19 @@ ghost use Rattle.std.specs.Str.{chars};
 ghost use Rattle.counted_io.specs.Streams.{IsSameSink};
 ghost use Rattle.properties_format.specs.Encoding.{windows_1252, output_encoding};
 ghost use Rattle.properties_format.specs.Entries as entry;
-ghost use Rattle.java_properties.specs.Encoding.{encoding_of};
+ghost use Rattle.properties_text.specs.Encoding.{encoding_of};
 ghost use Rattle.java_properties.specs.ReadBack.{IsGoodWriter};
 ghost use Rattle.java_properties.specs.PropertiesWriter.{new_writer, WritesLine, Flushes, SetsPrefix, SetsSeparator, SetsEnding, SetsAsciiOnly};
 
-use crate::encoding::{Encoding, OutputEncoding};
 use crate::error::PropertiesError;
 use counted_io::CountedWrite;
 use engine::{Content, Engine};
+use properties_text::encoding::{Encoding, OutputEncoding};
 use std::alloc::Global;
 use std::marker::Model;
 
 mod calls;
 pub(crate) mod engine;
-mod print;
 mod settings;
 
 pub use calls::{Call, run_calls};

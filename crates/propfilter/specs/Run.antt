@@ -6,7 +6,7 @@ use Rattle.properties_format.specs.Encoding.{Encoding, windows_1252, utf_8, utf_
 use Rattle.properties_format.specs.Text.{line_feed}
 use Rattle.java_properties.specs.DisplayTexts.{error_display}
 use Rattle.java_properties.specs.declared.error.PropertiesError.{PropertiesError}
-use Rattle.java_properties.specs.Encoding.{encoding_of}
+use Rattle.properties_text.specs.Encoding.{encoding_of}
 use Rattle.propfilter.specs.Filter.{Filters}
 use Rattle.propfilter.specs.declared.run.Asked.{Asked}
 

@@ -3,7 +3,7 @@
 ghost use Rattle.std.specs.Prelude.{◌≡◌, true, false};
 ghost use Rattle.counted_io.specs.Streams.{IsSameReader, IsSameSink};
 ghost use Rattle.properties_format.specs.ItemsToCome.{start};
-ghost use Rattle.java_properties.specs.Encoding.{encoding_of};
+ghost use Rattle.properties_text.specs.Encoding.{encoding_of};
 ghost use Rattle.java_properties.specs.LentItems.{said_by, found_content, IsFoundIn};
 ghost use Rattle.propfilter.specs.Filter.{pair_writer, Filters, FiltersToAscii, Settles, HasScalars, WritesIfPair};
 

@@ -2,7 +2,7 @@
 
 ghost use Rattle.std.specs.Prelude.{◌∷◌, [], IfSome, map, string_bytes};
 ghost use Rattle.std.specs.Option.{option_map};
-ghost use Rattle.java_properties.specs.Encoding.{encoding_of};
+ghost use Rattle.properties_text.specs.Encoding.{encoding_of};
 ghost use Rattle.java_properties.specs.DisplayTexts.{error_display};
 ghost use Rattle.propfilter.specs.Filter.{Filters};
 ghost use Rattle.propfilter.specs.Run.{asked_of, HasSaid, IsAsked, IsNamed, IsNamedWith, Runs, SaysIfRoom};

@@ -12,7 +12,7 @@ use Rattle.java_properties.specs.Calls.{call_in, calls_in}
 use Rattle.java_properties.specs.declared.writer.calls.Call.{Call}
 use Rattle.java_properties.specs.declared.writer.calls.Call.TheVariants.{Comment, Pair, Prefix, Separator}
 use Rattle.java_properties.specs.declared.writer.settings.Settings.TheInside.{Inside}
-use Rattle.java_properties.proofs.Printing.Keys.{scalars-all}
+use Rattle.properties_text.proofs.Printing.Keys.{scalars-all}
 
 -- the characters of a text are scalar values
 pub string-scalars : {Z : Type 0} (s : String Z) → All scalar (chars (string_bytes s))

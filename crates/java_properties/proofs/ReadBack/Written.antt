@@ -5,12 +5,12 @@ use Rattle.properties_format.specs.Encoding.{output_encoding}
 use Rattle.properties_format.specs.Writing.{Call, wrote, AreOfScalars}
 use Rattle.properties_format.proofs.Items.Unique.{items_of-only}
 use Rattle.properties_format.proofs.ReadBack.Law.{items_of-wrote, IsItems-wrote}
-use Rattle.java_properties.specs.Encoding.{output_of}
+use Rattle.properties_text.specs.Encoding.{output_of}
 use Rattle.java_properties.specs.PropertiesWriter.{Writing}
 use Rattle.java_properties.specs.Calls.{HasMade}
 use Rattle.java_properties.specs.ReadBack.{IsGoodWriter, IsCleanWriting, IsReadBack}
-use Rattle.java_properties.specs.declared.encoding.encode.OutputEncoding.{OutputEncoding}
-use Rattle.java_properties.specs.declared.encoding.encode.OutputEncoding.TheVariants.{Windows1252, Utf8}
+use Rattle.properties_text.specs.declared.encoding.encode.OutputEncoding.{OutputEncoding}
+use Rattle.properties_text.specs.declared.encoding.encode.OutputEncoding.TheVariants.{Windows1252, Utf8}
 
 -- the encoding of a writer is one that is written
 pub output_of-own : (e : OutputEncoding) → output_encoding (output_of e) ≡ output_of e

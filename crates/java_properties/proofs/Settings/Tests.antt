@@ -13,7 +13,7 @@ use Rattle.properties_format.specs.Reading.Settings.{holds_no_line_end}
 use Rattle.properties_format.specs.Reading.Settings.{is_blanks, is_good_prefix, is_signed_separator, is_good_separator}
 use Rattle.properties_format.specs.Settings.{IsGoodPrefix, IsGoodSeparator}
 use Rattle.properties_format.proofs.Settings.Tests.{sign_not_blank, separator_not_blank, is_good_prefix-from, is_good_separator-from}
-use Rattle.java_properties.proofs.Texts.Characters.{chars-empty}
+use Rattle.properties_text.proofs.Texts.Characters.{chars-empty}
 
 -- what a test says of the characters is what it says of the first and of the others
 pub past_first : (test : List ℕ → Bool) (whole last : Bool) (bs rest : List ℕ) (c : ℕ) → IsUtf8 bs → bs ≡ encode_utf8 c ++ rest

@@ -4,15 +4,15 @@ ghost use Rattle.std.specs.Prelude.{◌≡◌, Some, None, false, not};
 ghost use Rattle.std.specs.Option.{is_some};
 ghost use Rattle.std.specs.Str.{chars};
 ghost use Rattle.std.specs.Cow.{cow_str_bytes};
-ghost use Rattle.java_properties.specs.Parsing.{AreSpans, IsSpan, in_characters, spanned};
+ghost use Rattle.properties_text.specs.Parsing.{AreSpans, IsSpan, in_characters, spanned};
 ghost use Rattle.properties_format.specs.Split.{IsSplit};
-ghost use Rattle.java_properties.specs.Escaping.{holds_backslash};
+ghost use Rattle.properties_text.specs.Escaping.{holds_backslash};
 ghost use Rattle.java_properties.specs.LentItems.{lent_entry, said_by, is_borrowed, BorrowsPlain, found_bytes, found_content, found_entry, AreTextsIn, spans_of, IsFoundIn, IsTextIn, FindsText, FindsContent, FindsIn, FindsPlain};
 
 use crate::error::PropertiesError;
-use crate::escape::unescape;
 use crate::iter::lent::{ContentRef, LineRef};
-use crate::parse::{ParsedSpans, Span, parse_spans};
+use properties_text::escape::unescape;
+use properties_text::parse::{ParsedSpans, Span, parse_spans};
 use std::alloc::Global;
 use std::borrow::CowStr;
 
@@ -118,13 +118,13 @@ fn find_text(
     requires { IsSpan line.now span }
     ensures { FindsText line.now line_number span result }
 {
-    match unescape(alloc, span.cut(line), line_number) {
+    match unescape(alloc, span.cut(line)) {
         Ok(CowStr::Borrowed(_)) => Ok(FoundText::plain(span)),
         Ok(CowStr::Owned(text)) => Ok(FoundText {
             span,
             resolved: Some(text),
         }),
-        Err(error) => Err(error),
+        Err(error) => Err(PropertiesError::unresolved(line_number, error)),
     }
 }
 

@@ -4,13 +4,12 @@ ghost use Rattle.std.specs.Prelude.{◌≡◌, ◌<◌, [], OnSome};
 ghost use Rattle.std.specs.Str.{chars};
 ghost use Rattle.counted_io.specs.Streams.{IsSameReader};
 ghost use Rattle.properties_format.specs.ItemsToCome.{start};
-ghost use Rattle.java_properties.specs.Encoding.{encoding_of};
+ghost use Rattle.properties_text.specs.Encoding.{encoding_of};
 ghost use Rattle.java_properties.specs.LineFinder.{lines_left, transposed};
 ghost use Rattle.java_properties.specs.LineJoiner.{Joiner};
 ghost use Rattle.java_properties.specs.LentItems.{lent_entry, found_entry, BorrowsPlain, IsFoundIn, FindsItem, Owns};
 ghost use Rattle.java_properties.specs.PropertiesIter.{GivesItem};
 
-use crate::encoding::Encoding;
 use crate::error::PropertiesError;
 use crate::iter::found::{Found, find_in, find_plain};
 use crate::iter::lent::LineRef;
@@ -18,6 +17,7 @@ use crate::line::Line;
 use crate::lines::joiner::LineJoiner;
 use crate::lines::transpose;
 use counted_io::CountedRead;
+use properties_text::encoding::Encoding;
 use std::alloc::Global;
 use std::marker::Model;
 

@@ -2,13 +2,13 @@
 
 ghost use Rattle.counted_io.specs.Streams.{IsSameReader};
 ghost use Rattle.java_properties.specs.ReadLines.{ReadsLines};
-ghost use Rattle.java_properties.specs.Encoding.{encoding_of};
+ghost use Rattle.properties_text.specs.Encoding.{encoding_of};
 
-use crate::encoding::Encoding;
 use crate::error::PropertiesError;
 use crate::iter::items::ItemReader;
 use crate::line::Line;
 use counted_io::CountedRead;
+use properties_text::encoding::Encoding;
 use std::alloc::Global;
 
 /// Why a reading ended early, and the items before that.

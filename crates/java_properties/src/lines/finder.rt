@@ -3,16 +3,16 @@
 ghost use Rattle.std.specs.Prelude.{◌≡◌, ◌≤◌, ◌<◌, true, [], take, drop, length, IfSome, OnSome};
 ghost use Rattle.counted_io.specs.Streams.{IsSameReader};
 ghost use Rattle.properties_format.specs.ItemsToCome.{start};
-ghost use Rattle.java_properties.specs.Encoding.{encoding_of};
+ghost use Rattle.properties_text.specs.Encoding.{encoding_of};
 ghost use Rattle.java_properties.specs.LineFinder.{Finder, Finds, IsHeldLine, IsRefused, TakesHeld, lines_left, transposed};
 
-use crate::encoding::Encoding;
 use crate::error::PropertiesError;
 use crate::input::FillError;
 use crate::lines::search::unit_size;
 use crate::lines::seeker::{HeldLine, LineSeeker};
 use crate::lines::transpose;
 use counted_io::CountedRead;
+use properties_text::encoding::Encoding;
 use std::alloc::Global;
 use std::marker::Model;
 

@@ -5,9 +5,9 @@ ghost use Rattle.std.specs.Str.{chars};
 ghost use Rattle.properties_format.specs.Text.{without_leading_blanks};
 ghost use Rattle.properties_format.specs.Groups.{addition, is_comment_line, is_open, without_open_backslash};
 
-use crate::characters::is_comment_sign;
-use crate::escape::count_ending_backslashes;
-use crate::parse::leading_blanks;
+use properties_text::characters::is_comment_sign;
+use properties_text::escape::count_ending_backslashes;
+use properties_text::parse::leading_blanks;
 
 /// Whether the first character that is no blank is a comment sign.
 pub fn is_comment_line(text: &str) -> bool

@@ -6,18 +6,18 @@ ghost use Rattle.std.specs.Str.{IsUtf8, chars};
 ghost use Rattle.std.specs.String.{string_bytes};
 ghost use Rattle.counted_io.specs.Streams.{IsSameReader};
 ghost use Rattle.properties_format.specs.ItemsToCome.{start};
-ghost use Rattle.java_properties.specs.Encoding.{encoding_of};
+ghost use Rattle.properties_text.specs.Encoding.{encoding_of};
 ghost use Rattle.java_properties.specs.LineFinder.{lines_left};
-ghost use Rattle.java_properties.specs.Escaping.{holds_backslash};
+ghost use Rattle.properties_text.specs.Escaping.{holds_backslash};
 ghost use Rattle.java_properties.specs.LineJoiner.{Joiner, Finds, OnOkKeeps, Joins, JoinsAfter, JoinsOn, JoinsPlain, Adds};
 
-use crate::encoding::Encoding;
-use crate::encoding::decode::{as_text, decode_line, push_decoded, push_text};
 use crate::error::PropertiesError;
-use crate::escape::has_backslash;
 use crate::lines::finder::LineFinder;
 use crate::lines::join::{addition, is_comment_line, is_open, without_open_backslash};
 use counted_io::CountedRead;
+use properties_text::encoding::Encoding;
+use properties_text::encoding::decode::{as_text, decode_line, push_decoded, push_text};
+use properties_text::escape::has_backslash;
 use std::alloc::{AllocError, Global};
 use std::marker::Model;
 

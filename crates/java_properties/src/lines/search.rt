@@ -4,13 +4,13 @@ ghost use Rattle.std.specs.Prelude.{◌≡◌, ◌≤◌, length, take};
 ghost use Rattle.memchr.specs.Find.{IsFirst, Passes};
 ghost use Rattle.properties_format.specs.Text.{is_line_end};
 ghost use Rattle.properties_format.specs.Lines.{HoldsNoLineEnd};
-ghost use Rattle.java_properties.specs.Encoding.{encoding_of};
+ghost use Rattle.properties_text.specs.Encoding.{encoding_of};
 ghost use Rattle.java_properties.specs.LineSearch.{unit_size, whole_units, IsSearched, IsLineEndUnit};
 ghost use Rattle.java_properties.specs.LineSearch.{FindsLineEnd, FindsLineEndByte};
 
-use crate::characters::is_line_end;
-use crate::encoding::Encoding;
 use memchr::memchr2;
+use properties_text::characters::is_line_end;
+use properties_text::encoding::Encoding;
 
 /// Where a line end stands among undecoded bytes.
 #[derive(Clone, Copy, Debug, PartialEq, Eq)]

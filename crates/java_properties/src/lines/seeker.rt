@@ -6,17 +6,17 @@ ghost use Rattle.properties_format.specs.Text.{line_feed};
 ghost use Rattle.properties_format.specs.Encoding.{ascii_bytes};
 ghost use Rattle.properties_format.specs.ItemsToCome.{ReaderState, start};
 ghost use Rattle.properties_format.specs.Reading.ReaderSteps.{after_decided};
-ghost use Rattle.java_properties.specs.Encoding.{encoding_of};
-ghost use Rattle.java_properties.specs.Decoding.{TellsBom};
+ghost use Rattle.properties_text.specs.Encoding.{encoding_of};
+ghost use Rattle.properties_text.specs.Decoding.{TellsBom};
 ghost use Rattle.java_properties.specs.InputBuffer.{Fills};
 ghost use Rattle.java_properties.specs.LineSearch.{unit_size};
 ghost use Rattle.java_properties.specs.LineFinder.{PassesFeed, SkipsFeed, Settles, SettlesLast, IsReady, Looks, Seeks, IsHeldLine, PassesFirst};
 
-use crate::encoding::Encoding;
-use crate::encoding::byte_order_mark::{ByteOrderMark, byte_order_mark};
 use crate::input::{FillError, InputBuffer};
 use crate::lines::search::{LineEnd, find_end_byte, find_line_end, unit_size, whole_units};
 use counted_io::CountedRead;
+use properties_text::encoding::Encoding;
+use properties_text::encoding::byte_order_mark::{ByteOrderMark, byte_order_mark};
 use std::alloc::Global;
 use std::marker::Model;
 

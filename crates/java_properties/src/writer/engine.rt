@@ -7,14 +7,14 @@ ghost use Rattle.properties_format.specs.Settings.{default_settings};
 ghost use Rattle.properties_format.specs.Writing.{is_accepted};
 ghost use Rattle.counted_io.specs.Streams.{IsSameSink};
 ghost use Rattle.java_properties.specs.Engine.{content_of, writing, repertoire_of, line_bytes, content_bytes};
-ghost use Rattle.java_properties.specs.Printing.{AppendsOnOk};
+ghost use Rattle.properties_text.specs.Printing.{AppendsOnOk};
 ghost use Rattle.java_properties.specs.PropertiesWriter.{call_of, WritesLine, Flushes};
 
-use super::print::{Place, Repertoire, print_key, print_raw, print_text};
 use super::settings::Settings;
-use crate::encoding::OutputEncoding;
 use crate::error::PropertiesError;
 use counted_io::{CountedWrite, send};
+use properties_text::encoding::OutputEncoding;
+use properties_text::print::{Place, Repertoire, print_key, print_raw, print_text};
 use std::alloc::{AllocError, Global};
 
 /// What a line is to say.

@@ -8,8 +8,8 @@ ghost use Rattle.properties_format.specs.Reading.Settings.{is_blanks, is_good_pr
 ghost use Rattle.properties_format.specs.Writing.{is_empty, AreGoodSettings};
 ghost use Rattle.java_properties.specs.Settings.{ending_of, with_ending, with_ascii_only, TakesPrefix, TakesSeparator};
 
-use crate::characters::{is_blank, is_comment_sign, is_line_end, is_separator};
 use crate::error::PropertiesError;
+use properties_text::characters::{is_blank, is_comment_sign, is_line_end, is_separator};
 use std::alloc::Global;
 use std::fmt;
 use std::marker::Model;

@@ -2,7 +2,7 @@
 
 ghost use Rattle.std.specs.Prelude.{IfOk};
 ghost use Rattle.counted_io.specs.Streams.{IsSameReader};
-ghost use Rattle.java_properties.specs.Encoding.{encoding_of};
+ghost use Rattle.properties_text.specs.Encoding.{encoding_of};
 ghost use Rattle.properties_vectors.specs.Counts.{CountsItems};
 
 use counted_io::CountedRead;

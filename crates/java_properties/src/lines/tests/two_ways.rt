@@ -1,8 +1,8 @@
 // Lines that are found among bytes and then decoded, beside the lines of the text that the whole input is decoded to.
 
-use crate::encoding::{DecodeIter, Encoding};
 use crate::lines::{NaturalLine, NaturalLines};
 use counted_io::{ScriptedReader, Tail};
+use properties_text::encoding::{DecodeIter, Encoding};
 use std::alloc::{AllocError, Global};
 use std::process::Abort;
 use std::test::Fail;

@@ -1,6 +1,6 @@
 use Rattle.std.specs.Str.{chars}
 use Rattle.std.proofs.lemmas.Str.{scalars-chars}
-use Rattle.java_properties.proofs.Printing.Keys.{scalars-all}
+use Rattle.properties_text.proofs.Printing.Keys.{scalars-all}
 use Rattle.propfilter.proofs.filter.write_if_pair.Goals as goal
 
 pub returns-in_ok-write-in-KVPair-clause-scalars : goal.returns-in_ok-write-in-KVPair-clause-scalars

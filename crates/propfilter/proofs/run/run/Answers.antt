@@ -1,6 +1,6 @@
 use Rattle.std.proofs.Common.{refl, inl}
 use Rattle.std.specs.Prelude.{Err}
-use Rattle.java_properties.specs.Encoding.{encoding_of}
+use Rattle.properties_text.specs.Encoding.{encoding_of}
 use Rattle.counted_io.specs.Streams.{reader, sink}
 use Rattle.propfilter.proofs.Errors.{filter-shown}
 use Rattle.propfilter.proofs.run.run.Goals as goal

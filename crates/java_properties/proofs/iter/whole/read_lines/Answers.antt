@@ -2,7 +2,7 @@ use Rattle.std.proofs.Common.{◌++◌, ◌∷◌, ◌∙◌, List, [], sym, ap,
 use Rattle.properties_format.specs.Entries.{Entry}
 use Rattle.properties_format.specs.ItemsToCome.{ReaderState}
 use Rattle.counted_io.specs.Streams.{reader}
-use Rattle.java_properties.specs.Encoding.{encoding_of}
+use Rattle.properties_text.specs.Encoding.{encoding_of}
 use Rattle.java_properties.specs.ReadLines.{entries_in, StopsEarly}
 use Rattle.java_properties.specs.LineJoiner.{Joiner}
 use Rattle.java_properties.specs.PropertiesIter.{entry_of}

@@ -1,6 +1,6 @@
 use Rattle.std.proofs.Common.{ℕ, List}
 use Rattle.counted_io.specs.Streams.{reader, IsSameReader}
-use Rattle.java_properties.specs.Encoding.{encoding_of}
+use Rattle.properties_text.specs.Encoding.{encoding_of}
 use Rattle.java_properties.specs.LineFinder.{lines_left}
 use Rattle.java_properties.specs.ReadLines.{entries_in}
 use Rattle.java_properties.proofs.Readings.{Collected}

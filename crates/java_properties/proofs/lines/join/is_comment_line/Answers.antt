@@ -4,7 +4,7 @@ use Rattle.std.proofs.lemmas.List.{get_or_read}
 use borrow.Author.Tests.{ltb-true, ltb-false}
 use Rattle.properties_format.specs.Text.{is_comment_sign}
 use Rattle.properties_format.specs.Groups.{is_comment_line}
-use Rattle.java_properties.proofs.Texts.Joins.{comment_line-first, comment_line-blank}
+use Rattle.properties_text.proofs.Texts.Joins.{comment_line-first, comment_line-blank}
 use Rattle.java_properties.proofs.lines.join.is_comment_line.Goals as goal
 
 pub returns-in-Some : goal.returns-in-Some

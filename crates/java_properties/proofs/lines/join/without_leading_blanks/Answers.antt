@@ -2,7 +2,7 @@ use Rattle.std.proofs.Common.{◌≡◌, ◌≤◌, length, drop, sym, ap, subst
 use Rattle.std.specs.Str.{IsUtf8, chars}
 use Rattle.std.proofs.lemmas.Str.{IsCharBoundary-from_drop}
 use Rattle.properties_format.specs.Text.{without_leading_blanks}
-use Rattle.java_properties.proofs.Texts.Split.{without_leading_blanks-part}
+use Rattle.properties_text.proofs.Texts.Split.{without_leading_blanks-part}
 use Rattle.java_properties.proofs.lines.join.without_leading_blanks.Goals as goal
 
 pub range_from-requires : goal.range_from-requires

@@ -1,6 +1,6 @@
 use Rattle.std.proofs.Common.{◌≡◌, ◌-◌, length, take, sym, ap, ◌∙◌, arith}
 use Rattle.std.specs.Str.{chars}
-use Rattle.java_properties.proofs.Texts.Joins.{cut_open}
+use Rattle.properties_text.proofs.Texts.Joins.{cut_open}
 use Rattle.java_properties.proofs.lines.join.without_open_backslash.Goals as goal
 
 pub overflow_sub-text : goal.overflow_sub-text

@@ -3,7 +3,7 @@ use Rattle.std.specs.Str.{chars}
 use Rattle.std.specs.String.{string_bytes}
 use Rattle.std.proofs.lemmas.Str.{IsUtf8-string_bytes}
 use Rattle.properties_format.specs.Groups.{is_open}
-use Rattle.java_properties.proofs.Texts.Joins.{popped}
+use Rattle.properties_text.proofs.Texts.Joins.{popped}
 use Rattle.java_properties.proofs.lines.joiner.close.Goals as goal
 
 pub returns-then-is_open : goal.returns-then-is_open

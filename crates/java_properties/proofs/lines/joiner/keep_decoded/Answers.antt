@@ -2,8 +2,8 @@ use Rattle.std.proofs.Common.{◌++◌, ◌∙◌, refl, sym, ap, ap₂, subst}
 use Rattle.std.specs.Str.{chars, IsUtf8}
 use Rattle.std.proofs.lemmas.Str.{chars-nil}
 use Rattle.properties_format.specs.Reading.Cut.{decoded_line}
-use Rattle.java_properties.specs.Encoding.{encoding_of}
-use Rattle.java_properties.proofs.TextFronts.{text-decoded, text-utf8}
+use Rattle.properties_text.specs.Encoding.{encoding_of}
+use Rattle.properties_text.proofs.TextFronts.{text-decoded, text-utf8}
 use Rattle.java_properties.proofs.lines.joiner.keep_decoded.Goals as goal
 
 pub returns-in-Some : goal.returns-in-Some

@@ -1,5 +1,5 @@
 use Rattle.std.proofs.Common.{◌-◌, length}
-use Rattle.java_properties.specs.Encoding.{encoding_of}
+use Rattle.properties_text.specs.Encoding.{encoding_of}
 use Rattle.java_properties.specs.LineSearch.{IsSearched}
 use Rattle.java_properties.proofs.lines.search.find_in_units.Given as goal
 

@@ -3,11 +3,11 @@ use Rattle.std.specs.Str.{chars}
 use Rattle.properties_format.specs.Pieces.{characters}
 use Rattle.properties_format.specs.ItemsToCome.{ReaderState}
 use Rattle.properties_format.specs.Reading.Encoding.{pieces_of}
-use Rattle.java_properties.specs.Encoding.{encoding_of}
-use Rattle.java_properties.specs.Escaping.{holds_backslash}
+use Rattle.properties_text.specs.Encoding.{encoding_of}
+use Rattle.properties_text.specs.Escaping.{holds_backslash}
 use Rattle.java_properties.specs.LineJoiner.{Joiner, TakesPlain}
 use Rattle.java_properties.proofs.LineJoiner.{takes-plain}
-use Rattle.java_properties.proofs.TextFronts.{text-decoded}
+use Rattle.properties_text.proofs.TextFronts.{text-decoded}
 use Rattle.java_properties.proofs.lines.joiner.LineJoiner.next_plain.Goals as goal
 
 pub returns-clause-joins : goal.returns-clause-joins

@@ -4,7 +4,7 @@ use Rattle.std.specs.String.{string_bytes}
 use Rattle.std.proofs.lemmas.Str.{IsUtf8-string_bytes}
 use Rattle.std.proofs.lemmas.Result.{err_from_is_err_and}
 use Rattle.properties_format.specs.Groups.{is_comment_line, is_open}
-use Rattle.java_properties.proofs.Texts.Joins.{popped}
+use Rattle.properties_text.proofs.Texts.Joins.{popped}
 use Rattle.java_properties.proofs.Joining.{text-added, join-begins, join-goes_on, join-closes, join-ends, join-fails, join-lacks, stands-alone}
 use Rattle.java_properties.proofs.lines.logical.LogicalLines.join.Goals as goal
 use Rattle.java_properties.proofs.lines.logical.LogicalLines.join.Goals.{then-is_comment_line-via-then-is_comment_line, then-is_comment_line-via-else-is_comment_line+then-not-is_open}

@@ -1,7 +1,7 @@
 use Rattle.std.proofs.Common.{ap, ◌∙◌}
 use Rattle.std.proofs.lemmas.Result.{on_ok_weaker}
 use Rattle.properties_format.specs.Text.{line_ending_text}
-use Rattle.java_properties.specs.Encoding.{output_of}
+use Rattle.properties_text.specs.Encoding.{output_of}
 use Rattle.java_properties.specs.Engine.{content_of}
 use Rattle.java_properties.specs.declared.writer.engine.Engine.{Engine}
 use Rattle.java_properties.proofs.Engine.{line_ending-bytes, line-built}

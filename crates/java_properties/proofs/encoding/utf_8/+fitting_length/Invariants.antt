@@ -1,5 +1,0 @@
-use Rattle.std.proofs.Common.{length}
-use Rattle.java_properties.proofs.encoding.utf_8.+fitting_length.Given as goal
-
-abbrev pub decreases-fitting_length : goal.decreases-fitting_length
-decreases-fitting_length l = length l.ranges.now

@@ -1,9 +1,0 @@
-use Rattle.std.proofs.Common.{◌≡◌, ◌++◌, length}
-use Rattle.java_properties.specs.Printing.{spelt_bytes}
-use Rattle.java_properties.proofs.writer.print.bytes.print_bytes.Given as goal
-
-abbrev pub invariant-loop-first : goal.invariant-loop-first
-invariant-loop-first l = (length l.piece ≡ 128) × (l.line.items ++ spelt_bytes l.rest ≡ l.fn.line.items ++ spelt_bytes l.bytes)
-
-abbrev pub decreases-loop-first : goal.decreases-loop-first
-decreases-loop-first l = length l.rest

@@ -1,5 +1,0 @@
-use Rattle.java_properties.proofs.Printing.Vectors.{has_control-is}
-use Rattle.java_properties.proofs.writer.print.bytes.vectors.has_control.Goals as goal
-
-pub returns : goal.returns
-returns c = has_control-is c.args.v c.fits-v.0

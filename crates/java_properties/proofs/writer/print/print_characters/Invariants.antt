@@ -1,8 +1,0 @@
-use Rattle.std.proofs.Common.{◌≡◌, ◌++◌}
-use Rattle.properties_format.specs.Printing.{spelt_text, encoded_text}
-use Rattle.java_properties.specs.Encoding.{output_of}
-use Rattle.java_properties.specs.Printing.{place_of}
-use Rattle.java_properties.proofs.writer.print.print_characters.Given as goal
-
-abbrev pub invariant-loop-character : goal.invariant-loop-character
-invariant-loop-character l = l.line.items ≡ l.initial.line.items ++ encoded_text (output_of l.repertoire.encoding) (spelt_text (output_of l.repertoire.encoding) l.repertoire.ascii_only (place_of l.place) l.yielded)

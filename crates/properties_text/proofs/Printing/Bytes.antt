@@ -1,0 +1,257 @@
+-- Texts that are printed byte by byte.
+use Rattle.std.proofs.Common.{◌≡◌, ℕ, ◌+◌, ◌-◌, ◌<◌, ◌≤◌, ◌==◌, Bool, true, false, cond, nat_lt, List, [], ◌∷◌, ◌++◌, refl, sym, ap, ap₂, ◌∙◌, inl, inr, append_assoc, append-nil, arith, length, take, drop, get_or, lit<, le-ltb, lt-ltb, ne_eqb, eqb-true}
+use Rattle.std.specs.Prelude.{Some, map, not, ◌&&◌, encode_utf8, encode_utf8_all, slice_index, unwrap_or}
+use Rattle.std.specs.Str.{chars, IsUtf8, IsAscii}
+use Rattle.std.proofs.lemmas.Bool.{cases_Bool, cases_lt, cond-true, cond-false, agree_below_at, false_from_ne_true}
+use Rattle.std.specs.List.{All}
+use Rattle.std.proofs.lemmas.List.Elements.{All-head, All-tail}
+use Rattle.std.proofs.lemmas.Str.Ascii.{All-from_ascii}
+use Rattle.std.proofs.lemmas.Str.{encodes-chars, chars-IsAscii, encode_ascii}
+use Rattle.std.proofs.lemmas.List.{take_more, take_all, length-drop, take-append-drop, take-take}
+use Rattle.properties_format.specs.Text.{space, backslash}
+use Rattle.properties_format.specs.Windows1252.{windows_1252_byte, windows_1252_table, is_in_table, place_from}
+use Rattle.properties_format.specs.Encoding.{Encoding, windows_1252, utf_8, one_byte, encoded}
+use Rattle.properties_format.specs.Printing.{in_key_or_value, literal, is_special, has_letter, letter_escape, spelt, spelt_text, encoded_text}
+use Rattle.properties_format.proofs.Printing.Characters.{AreAscii, encoded_text-append, spelt_text-append, encoded_text-ascii, encoded-ascii, special-ascii, letter_escape-ascii}
+use Rattle.properties_format.proofs.Encodings.Utf8Characters.{encode-two, encode-three, encode-four}
+use Rattle.properties_text.specs.Encoding.{output_of, EncodesFront}
+use Rattle.properties_text.specs.Printing.{spelt_byte, spelt_bytes, backslashes_before, last_of, text_bytes, Stands, all_of_windows_1252}
+use Rattle.properties_text.specs.declared.print.Repertoire.{Repertoire}
+use Rattle.properties_text.specs.declared.encoding.encode.OutputEncoding.TheVariants.{Utf8}
+use Rattle.properties_text.specs.declared.print.Place.TheVariants.{KeyOrValue}
+use Rattle.properties_text.proofs.Printing.Characters.{encoded_escape}
+
+-- ---- bytes, one after another
+
+pub spelt_bytes-append : (x y : List ℕ) → spelt_bytes (x ++ y) ≡ spelt_bytes x ++ spelt_bytes y
+spelt_bytes-append [] y = refl
+spelt_bytes-append (b ∷ x) y = ap (λ v. spelt_byte b ++ v) (spelt_bytes-append x y) ∙ sym (append_assoc (spelt_byte b) (spelt_bytes x) (spelt_bytes y))
+
+-- one byte by the tables
+pub spelt_byte-tables : (b : ℕ) (before : List ℕ) → backslashes_before b < 2
+    → spelt_byte b ≡ cond (backslashes_before b == 1) (backslash ∷ last_of b ∷ []) (last_of b ∷ [])
+spelt_byte-tables b before h = elim (cases_Bool (is_special b)) [
+  | inl s ↦ rw s refl
+  | inr s ↦ elim (cases_Bool (has_letter b)) [
+    | inl l ↦ rw (s, l) refl
+    | inr l ↦ elim (cases_Bool (nat_lt b space)) [
+      | inl k ↦ absurd (let two : backslashes_before b ≡ 2 = rw (s, l, k) refl in omega (arith, two, h))
+      | inr k ↦ rw (s, l, k) refl
+    ]
+  ]
+]
+
+-- ---- the tables
+
+abbrev before-table : List ℕ
+before-table =
+    2 ∷ 2 ∷ 2 ∷ 2 ∷ 2 ∷ 2 ∷ 2 ∷ 2 ∷ 2 ∷ 1 ∷ 1 ∷ 2 ∷ 1 ∷ 1 ∷ 2 ∷ 2 ∷ 2 ∷ 2 ∷ 2 ∷ 2 ∷ 2 ∷ 2 ∷ 2 ∷ 2 ∷ 2 ∷ 2 ∷ 2 ∷ 2 ∷ 2 ∷ 2 ∷ 2 ∷ 2 ∷
+    1 ∷ 1 ∷ 0 ∷ 1 ∷ 0 ∷ 0 ∷ 0 ∷ 0 ∷ 0 ∷ 0 ∷ 0 ∷ 0 ∷ 0 ∷ 0 ∷ 0 ∷ 0 ∷ 0 ∷ 0 ∷ 0 ∷ 0 ∷ 0 ∷ 0 ∷ 0 ∷ 0 ∷ 0 ∷ 0 ∷ 1 ∷ 0 ∷ 0 ∷ 1 ∷ 0 ∷ 0 ∷
+    0 ∷ 0 ∷ 0 ∷ 0 ∷ 0 ∷ 0 ∷ 0 ∷ 0 ∷ 0 ∷ 0 ∷ 0 ∷ 0 ∷ 0 ∷ 0 ∷ 0 ∷ 0 ∷ 0 ∷ 0 ∷ 0 ∷ 0 ∷ 0 ∷ 0 ∷ 0 ∷ 0 ∷ 0 ∷ 0 ∷ 0 ∷ 0 ∷ 1 ∷ 0 ∷ 0 ∷ 0 ∷
+    0 ∷ 0 ∷ 0 ∷ 0 ∷ 0 ∷ 0 ∷ 0 ∷ 0 ∷ 0 ∷ 0 ∷ 0 ∷ 0 ∷ 0 ∷ 0 ∷ 0 ∷ 0 ∷ 0 ∷ 0 ∷ 0 ∷ 0 ∷ 0 ∷ 0 ∷ 0 ∷ 0 ∷ 0 ∷ 0 ∷ 0 ∷ 0 ∷ 0 ∷ 0 ∷ 0 ∷ 0 ∷
+    0 ∷ 0 ∷ 0 ∷ 0 ∷ 0 ∷ 0 ∷ 0 ∷ 0 ∷ 0 ∷ 0 ∷ 0 ∷ 0 ∷ 0 ∷ 0 ∷ 0 ∷ 0 ∷ 0 ∷ 0 ∷ 0 ∷ 0 ∷ 0 ∷ 0 ∷ 0 ∷ 0 ∷ 0 ∷ 0 ∷ 0 ∷ 0 ∷ 0 ∷ 0 ∷ 0 ∷ 0 ∷
+    0 ∷ 0 ∷ 0 ∷ 0 ∷ 0 ∷ 0 ∷ 0 ∷ 0 ∷ 0 ∷ 0 ∷ 0 ∷ 0 ∷ 0 ∷ 0 ∷ 0 ∷ 0 ∷ 0 ∷ 0 ∷ 0 ∷ 0 ∷ 0 ∷ 0 ∷ 0 ∷ 0 ∷ 0 ∷ 0 ∷ 0 ∷ 0 ∷ 0 ∷ 0 ∷ 0 ∷ 0 ∷
+    0 ∷ 0 ∷ 0 ∷ 0 ∷ 0 ∷ 0 ∷ 0 ∷ 0 ∷ 0 ∷ 0 ∷ 0 ∷ 0 ∷ 0 ∷ 0 ∷ 0 ∷ 0 ∷ 0 ∷ 0 ∷ 0 ∷ 0 ∷ 0 ∷ 0 ∷ 0 ∷ 0 ∷ 0 ∷ 0 ∷ 0 ∷ 0 ∷ 0 ∷ 0 ∷ 0 ∷ 0 ∷
+    0 ∷ 0 ∷ 0 ∷ 0 ∷ 0 ∷ 0 ∷ 0 ∷ 0 ∷ 0 ∷ 0 ∷ 0 ∷ 0 ∷ 0 ∷ 0 ∷ 0 ∷ 0 ∷ 0 ∷ 0 ∷ 0 ∷ 0 ∷ 0 ∷ 0 ∷ 0 ∷ 0 ∷ 0 ∷ 0 ∷ 0 ∷ 0 ∷ 0 ∷ 0 ∷ 0 ∷ 0 ∷ []
+
+abbrev last-table : List ℕ
+last-table =
+    0 ∷ 1 ∷ 2 ∷ 3 ∷ 4 ∷ 5 ∷ 6 ∷ 7 ∷ 8 ∷ 116 ∷ 110 ∷ 11 ∷ 102 ∷ 114 ∷ 14 ∷ 15 ∷ 16 ∷ 17 ∷ 18 ∷ 19 ∷ 20 ∷ 21 ∷ 22 ∷ 23 ∷ 24 ∷ 25 ∷ 26 ∷ 27 ∷ 28 ∷ 29 ∷ 30 ∷ 31 ∷
+    32 ∷ 33 ∷ 34 ∷ 35 ∷ 36 ∷ 37 ∷ 38 ∷ 39 ∷ 40 ∷ 41 ∷ 42 ∷ 43 ∷ 44 ∷ 45 ∷ 46 ∷ 47 ∷ 48 ∷ 49 ∷ 50 ∷ 51 ∷ 52 ∷ 53 ∷ 54 ∷ 55 ∷ 56 ∷ 57 ∷ 58 ∷ 59 ∷ 60 ∷ 61 ∷ 62 ∷ 63 ∷
+    64 ∷ 65 ∷ 66 ∷ 67 ∷ 68 ∷ 69 ∷ 70 ∷ 71 ∷ 72 ∷ 73 ∷ 74 ∷ 75 ∷ 76 ∷ 77 ∷ 78 ∷ 79 ∷ 80 ∷ 81 ∷ 82 ∷ 83 ∷ 84 ∷ 85 ∷ 86 ∷ 87 ∷ 88 ∷ 89 ∷ 90 ∷ 91 ∷ 92 ∷ 93 ∷ 94 ∷ 95 ∷
+    96 ∷ 97 ∷ 98 ∷ 99 ∷ 100 ∷ 101 ∷ 102 ∷ 103 ∷ 104 ∷ 105 ∷ 106 ∷ 107 ∷ 108 ∷ 109 ∷ 110 ∷ 111 ∷ 112 ∷ 113 ∷ 114 ∷ 115 ∷ 116 ∷ 117 ∷ 118 ∷ 119 ∷ 120 ∷ 121 ∷ 122 ∷ 123 ∷ 124 ∷ 125 ∷ 126 ∷ 127 ∷
+    128 ∷ 129 ∷ 130 ∷ 131 ∷ 132 ∷ 133 ∷ 134 ∷ 135 ∷ 136 ∷ 137 ∷ 138 ∷ 139 ∷ 140 ∷ 141 ∷ 142 ∷ 143 ∷ 144 ∷ 145 ∷ 146 ∷ 147 ∷ 148 ∷ 149 ∷ 150 ∷ 151 ∷ 152 ∷ 153 ∷ 154 ∷ 155 ∷ 156 ∷ 157 ∷ 158 ∷ 159 ∷
+    160 ∷ 161 ∷ 162 ∷ 163 ∷ 164 ∷ 165 ∷ 166 ∷ 167 ∷ 168 ∷ 169 ∷ 170 ∷ 171 ∷ 172 ∷ 173 ∷ 174 ∷ 175 ∷ 176 ∷ 177 ∷ 178 ∷ 179 ∷ 180 ∷ 181 ∷ 182 ∷ 183 ∷ 184 ∷ 185 ∷ 186 ∷ 187 ∷ 188 ∷ 189 ∷ 190 ∷ 191 ∷
+    192 ∷ 193 ∷ 194 ∷ 195 ∷ 196 ∷ 197 ∷ 198 ∷ 199 ∷ 200 ∷ 201 ∷ 202 ∷ 203 ∷ 204 ∷ 205 ∷ 206 ∷ 207 ∷ 208 ∷ 209 ∷ 210 ∷ 211 ∷ 212 ∷ 213 ∷ 214 ∷ 215 ∷ 216 ∷ 217 ∷ 218 ∷ 219 ∷ 220 ∷ 221 ∷ 222 ∷ 223 ∷
+    224 ∷ 225 ∷ 226 ∷ 227 ∷ 228 ∷ 229 ∷ 230 ∷ 231 ∷ 232 ∷ 233 ∷ 234 ∷ 235 ∷ 236 ∷ 237 ∷ 238 ∷ 239 ∷ 240 ∷ 241 ∷ 242 ∷ 243 ∷ 244 ∷ 245 ∷ 246 ∷ 247 ∷ 248 ∷ 249 ∷ 250 ∷ 251 ∷ 252 ∷ 253 ∷ 254 ∷ 255 ∷ []
+
+pub before-at : (b : ℕ) → b < 256 → slice_index before-table b ≡ backslashes_before b
+before-at b h = eqb-true _ _ (agree_below_at (λ b. slice_index before-table b == backslashes_before b) (λ k. true) 256 b refl h)
+
+pub last-at : (b : ℕ) → b < 256 → slice_index last-table b ≡ last_of b
+last-at b h = eqb-true _ _ (agree_below_at (λ b. slice_index last-table b == last_of b) (λ k. true) 256 b refl h)
+
+-- one byte more
+pub spelt_bytes-more : (bs : List ℕ) (i : ℕ) → i < length bs → spelt_bytes (take (i + 1) bs) ≡ spelt_bytes (take i bs) ++ spelt_byte (get_or bs i 0)
+spelt_bytes-more bs i h =
+    ap spelt_bytes (take_more bs i 0 h)
+    ∙ spelt_bytes-append (take i bs) (get_or bs i 0 ∷ [])
+    ∙ ap (λ v. spelt_bytes (take i bs) ++ v) (append-nil (spelt_byte (get_or bs i 0)))
+
+-- those at the front, and what is after them
+pub printed-front : (line out rest new whole : List ℕ) (size n read written : ℕ) → size ≡ length rest → read ≤ n
+    → take written out ≡ spelt_bytes (take read (take n rest)) → new ≡ line ++ take written out → line ++ spelt_bytes rest ≡ whole
+    → new ++ spelt_bytes (take (size - read) (drop read rest)) ≡ whole
+printed-front line out rest new whole size n read written is_size within printed appended held =
+    ap₂ (λ x y. x ++ spelt_bytes y)
+    (appended ∙ ap (λ v. line ++ v) (printed ∙ ap spelt_bytes (take-take read n rest within)))
+    (take_all (size - read) (drop read rest) (omega (arith, is_size, length-drop read rest)))
+    ∙ append_assoc line (spelt_bytes (take read rest)) (spelt_bytes (drop read rest))
+    ∙ ap (λ v. line ++ v) (sym (spelt_bytes-append (take read rest) (drop read rest)) ∙ ap spelt_bytes (take-append-drop read rest))
+    ∙ held
+
+-- ---- ASCII
+
+-- an ASCII character may stand as itself
+literal-ascii : (e : Encoding) (only : Bool) (c : ℕ) → c < 0x80 → literal e only c ≡ c ∷ []
+literal-ascii e true c h = rw (lt-ltb c 0x80 h, encoded-ascii e c h) refl
+literal-ascii e false c h = rw (encoded-ascii e c h) refl
+
+-- an ASCII character is printed as its byte is
+pub ascii-spelt : (e : Encoding) (only : Bool) (c : ℕ) → c < 0x80 → encoded_text e (spelt e only in_key_or_value c) ≡ spelt_byte c
+ascii-spelt e only c h = elim (cases_Bool (is_special c)) [
+  | inl s ↦ rw s (encoded_text-ascii e (backslash ∷ c ∷ []) (lit< tt, (h, tt)))
+  | inr s ↦ elim (cases_Bool (has_letter c)) [
+    | inl l ↦ rw (s, l) (encoded_text-ascii e (letter_escape c) (letter_escape-ascii c))
+    | inr l ↦ elim (cases_Bool (nat_lt c space)) [
+      | inl k ↦ rw (s, l, k) (encoded_escape e c)
+      | inr k ↦ rw (s, l, k) (rw (literal-ascii e only c h) (ap (λ o. unwrap_or o [] ++ []) (encoded-ascii e c h)))
+    ]
+  ]
+]
+
+-- and a text of them is printed as its bytes are
+ascii-text : (e : Encoding) (only : Bool) (cs : List ℕ) → AreAscii cs → encoded_text e (spelt_text e only in_key_or_value cs) ≡ spelt_bytes cs
+ascii-text e only [] h = refl
+ascii-text e only (c ∷ cs) h =
+    encoded_text-append e (spelt e only in_key_or_value c) (spelt_text e only in_key_or_value cs)
+    ∙ ap₂ (λ x y. x ++ y) (ascii-spelt e only c h.0) (ascii-text e only cs h.1)
+
+are-ascii : (bs : List ℕ) → All (λ b. b < 128) bs → AreAscii bs
+are-ascii [] h = tt
+are-ascii (b ∷ bs) h = (All-head (λ b. b < 128) b bs h, are-ascii bs (All-tail (λ b. b < 128) b bs h))
+
+pub stands-ascii : (r : Repertoire) (bs : List ℕ) → IsAscii bs → Stands r bs
+stands-ascii r bs h = rw (chars-IsAscii bs h) (ascii-text (output_of r.encoding) r.ascii_only bs (are-ascii bs (All-from_ascii bs h)))
+
+-- ---- UTF-8
+
+-- every byte is past ASCII
+abbrev ArePast : List ℕ → Type 0
+ArePast [] = Unit {0}
+ArePast (b ∷ bs) = (0x80 ≤ b) × ArePast bs
+
+past-special : (b : ℕ) → 0x80 ≤ b → is_special b ≡ false
+past-special b h = false_from_ne_true (is_special b) (λ t. absurd (omega (arith, special-ascii b t)))
+
+past-letter : (b : ℕ) → 0x80 ≤ b → has_letter b ≡ false
+past-letter b h = rw (ne_eqb b 0x09 (omega arith), ne_eqb b 0x0a (omega arith), ne_eqb b 0x0c (omega arith), ne_eqb b 0x0d (omega arith)) refl
+
+past-control : (b : ℕ) → 0x80 ≤ b → nat_lt b space ≡ false
+past-control b h = le-ltb b space (omega arith)
+
+-- which stands as it is
+past-byte : (b : ℕ) → 0x80 ≤ b → spelt_byte b ≡ b ∷ []
+past-byte b h = rw (past-special b h, past-letter b h, past-control b h) refl
+
+past-bytes : (bs : List ℕ) → ArePast bs → spelt_bytes bs ≡ bs
+past-bytes [] h = refl
+past-bytes (b ∷ bs) h = ap₂ (λ x y. x ++ y) (past-byte b h.0) (past-bytes bs h.1)
+
+-- so do the bytes of a character past ASCII
+encode-past : (c : ℕ) → 0x80 ≤ c → ArePast (encode_utf8 c)
+encode-past c h = elim (cases_lt c 0x800) [
+  | inl k ↦ rw (encode-two c h k) (omega arith, (omega arith, tt))
+  | inr k ↦ elim (cases_lt c 0x1_0000) [
+    | inl m ↦ rw (encode-three c k m) (omega arith, (omega arith, (omega arith, tt)))
+    | inr m ↦ rw (encode-four c m) (omega arith, (omega arith, (omega arith, (omega arith, tt))))
+  ]
+]
+
+utf_8-spelt : (c : ℕ) → encoded_text utf_8 (spelt utf_8 false in_key_or_value c) ≡ spelt_bytes (encode_utf8 c)
+utf_8-spelt c = elim (cases_lt c 0x80) [
+  | inl h ↦ ascii-spelt utf_8 false c h ∙ sym (ap spelt_bytes (encode_ascii c h) ∙ append-nil (spelt_byte c))
+  | inr h ↦
+      rw (past-special c h, past-letter c h, past-control c h) (append-nil (encode_utf8 c) ∙ sym (past-bytes (encode_utf8 c) (encode-past c h)))
+]
+
+utf_8-text : (cs : List ℕ) → encoded_text utf_8 (spelt_text utf_8 false in_key_or_value cs) ≡ spelt_bytes (encode_utf8_all cs)
+utf_8-text [] = refl
+utf_8-text (c ∷ cs) =
+    encoded_text-append utf_8 (spelt utf_8 false in_key_or_value c) (spelt_text utf_8 false in_key_or_value cs)
+    ∙ ap₂ (λ x y. x ++ y) (utf_8-spelt c) (utf_8-text cs)
+    ∙ sym (spelt_bytes-append (encode_utf8 c) (encode_utf8_all cs))
+
+off : (b : Bool) → not b ≡ true → b ≡ false
+off true h = sym h
+off false h = refl
+
+pub stands-utf_8 : (r : Repertoire) (bs : List ℕ) → r.encoding ≡ Utf8 → not r.ascii_only ≡ true → IsUtf8 bs → Stands r bs
+stands-utf_8 r bs is on u = rw (is, off r.ascii_only on) (utf_8-text (chars bs) ∙ ap spelt_bytes (encodes-chars bs u))
+
+-- ---- windows-1252
+
+place-past : (n : ℕ) (xs : List ℕ) (c b : ℕ) → place_from n xs c ≡ Some b → n ≤ b
+place-past n [] c b h = absurd (cc)
+place-past n (x ∷ xs) c b h = elim (cases_Bool (x == c)) [
+  | inl e ↦ let same : Some n ≡ Some b = sym (cond-true (x == c) (Some n) (place_from (n + 1) xs c) e) ∙ h in le_from_same n b (some-same n b same)
+  | inr e ↦ le-before n b (place-past (n + 1) xs c b (sym (cond-false (x == c) (Some n) (place_from (n + 1) xs c) e) ∙ h))
+]
+  where
+    some-same : (n b : ℕ) → Some n ≡ Some b → n ≡ b
+    some-same n b h = cc
+
+    le_from_same : (n b : ℕ) → n ≡ b → n ≤ b
+    le_from_same n b h = omega arith
+
+    le-before : (n b : ℕ) → n + 1 ≤ b → n ≤ b
+    le-before n b h = omega arith
+
+-- the byte of a character past ASCII is past ASCII
+byte-past : (c b : ℕ) → 0x80 ≤ c → windows_1252_byte c ≡ Some b → 0x80 ≤ b
+byte-past c b h e = elim (cases_Bool (nat_lt c 0x100 && not (is_in_table c))) [
+  | inl k ↦ own c b h (sym (cond-true (nat_lt c 0x100 && not (is_in_table c)) (Some c) (place_from 0x80 windows_1252_table c) k) ∙ e)
+  | inr k ↦ place-past 0x80 windows_1252_table c b (sym (cond-false (nat_lt c 0x100 && not (is_in_table c)) (Some c) (place_from 0x80 windows_1252_table c) k) ∙ e)
+]
+  where
+    own : (c b : ℕ) → 0x80 ≤ c → Some c ≡ Some b → 0x80 ≤ b
+    own c b h e = let same : c ≡ b = cc in omega arith
+
+-- a character that has a byte is printed as that byte is
+byte-spelt : (c b : ℕ) → windows_1252_byte c ≡ Some b → encoded_text windows_1252 (spelt windows_1252 false in_key_or_value c) ≡ spelt_byte b
+byte-spelt c b e = elim (cases_lt c 0x80) [
+  | inl h ↦
+      let own : Some (b ∷ []) ≡ Some (c ∷ []) = sym (ap one_byte e) ∙ encoded-ascii windows_1252 c h in
+      let same : b ≡ c = cc in
+      ascii-spelt windows_1252 false c h ∙ ap spelt_byte (sym same)
+  | inr h ↦
+      let known : encoded windows_1252 c ≡ Some (b ∷ []) = ap one_byte e in
+      rw (past-special c h, past-letter c h, past-control c h, known) (rw known (sym (past-byte b (byte-past c b h e))))
+]
+
+-- and so are several
+bytes-spelt : (cs bs : List ℕ) → map windows_1252_byte cs ≡ map Some bs → encoded_text windows_1252 (spelt_text windows_1252 false in_key_or_value cs) ≡ spelt_bytes bs
+bytes-spelt [] [] h = refl
+bytes-spelt [] (b ∷ bs) h = absurd (cc)
+bytes-spelt (c ∷ cs) [] h = absurd (cc)
+bytes-spelt (c ∷ cs) (b ∷ bs) h =
+    let first : windows_1252_byte c ≡ Some b = cc in
+    let more : map windows_1252_byte cs ≡ map Some bs = cc in
+    encoded_text-append windows_1252 (spelt windows_1252 false in_key_or_value c) (spelt_text windows_1252 false in_key_or_value cs)
+    ∙ ap₂ (λ x y. x ++ y) (byte-spelt c b first) (bytes-spelt cs bs more)
+
+spelt-front : (text bs rest : List ℕ) → EncodesFront text bs rest
+    → text_bytes all_of_windows_1252 KeyOrValue text ≡ spelt_bytes bs ++ text_bytes all_of_windows_1252 KeyOrValue rest
+spelt-front text bs rest h =
+    ap (text_bytes all_of_windows_1252 KeyOrValue) h.1
+    ∙ ap (encoded_text windows_1252) (spelt_text-append windows_1252 false in_key_or_value h.0 rest)
+    ∙ encoded_text-append windows_1252 (spelt_text windows_1252 false in_key_or_value h.0) (spelt_text windows_1252 false in_key_or_value rest)
+    ∙ ap (λ v. v ++ text_bytes all_of_windows_1252 KeyOrValue rest) (bytes-spelt h.0 bs h.2)
+
+-- a run is the rest of a text
+pub run-last : (line new whole text bs : List ℕ) → line ++ text_bytes all_of_windows_1252 KeyOrValue text ≡ whole → EncodesFront text bs [] → new ≡ line ++ spelt_bytes bs
+    → new ≡ whole
+run-last line new whole text bs held h e =
+    e ∙ ap (λ v. line ++ v) (sym (append-nil (spelt_bytes bs)) ∙ sym (spelt-front text bs [] h)) ∙ held
+
+-- a run, and a character after it
+pub run-more : (line new last whole text bs rest : List ℕ) (c : ℕ) → line ++ text_bytes all_of_windows_1252 KeyOrValue text ≡ whole → EncodesFront text bs (c ∷ rest)
+    → new ≡ line ++ spelt_bytes bs → last ≡ new ++ encoded_text windows_1252 (spelt windows_1252 false in_key_or_value c)
+    → last ++ text_bytes all_of_windows_1252 KeyOrValue rest ≡ whole
+run-more line new last whole text bs rest c held h e f =
+    ap (λ v. v ++ text_bytes all_of_windows_1252 KeyOrValue rest) (f ∙ ap (λ v. v ++ encoded_text windows_1252 (spelt windows_1252 false in_key_or_value c)) e)
+    ∙ append_assoc (line ++ spelt_bytes bs) (encoded_text windows_1252 (spelt windows_1252 false in_key_or_value c)) (text_bytes all_of_windows_1252 KeyOrValue rest)
+    ∙ append_assoc line (spelt_bytes bs) (encoded_text windows_1252 (spelt windows_1252 false in_key_or_value c) ++ text_bytes all_of_windows_1252 KeyOrValue rest)
+    ∙ ap (λ v. line ++ (spelt_bytes bs ++ v)) (sym (encoded_text-append windows_1252 (spelt windows_1252 false in_key_or_value c) (spelt_text windows_1252 false in_key_or_value rest)))
+    ∙ ap (λ v. line ++ v) (sym (spelt-front text bs (c ∷ rest) h))
+    ∙ held

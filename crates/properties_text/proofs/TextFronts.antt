@@ -1,0 +1,133 @@
+-- Fronts of bytes that are text as they stand.
+use Rattle.std.proofs.Common.{◌≡◌, ◌↔◌, ◌<◌, ◌≤◌, arith, length-append, ℕ, Bool, true, nat_lt, List, [], ◌∷◌, ◌++◌, length, take, drop, ◌-◌, length-drop, refl, sym, ap, ◌∙◌, subst, ltb-true, inl, inr, append-nil, append_assoc}
+use Rattle.std.specs.Prelude.{Result, Ok, Err, MatchResult, OnOk, is_ok, IsSome, take_while, if◌then◌else◌}
+use Rattle.std.specs.Result.{result_ok}
+use Rattle.std.specs.List.{AllByRecursion}
+use Rattle.std.specs.Str.{IsAscii, IsUtf8, chars}
+use Rattle.std.proofs.Math.Utf8.{scalar as is_scalar}
+use Rattle.std.specs.Char.{IsScalar, encode_utf8}
+use Rattle.std.proofs.Math.Seq.{take-length}
+use Rattle.std.proofs.lemmas.Bool.{cases_Bool, and_from}
+use Rattle.std.proofs.lemmas.List.{nil_from_length}
+use Rattle.std.proofs.lemmas.List.Elements.{All-from_recursion}
+use Rattle.std.proofs.lemmas.List.Sums.{take_while-cons}
+use Rattle.std.proofs.lemmas.Str.{chars-append, chars-encodes, length-encode, len_utf8_bounds, IsUtf8-from_ascii}
+use Rattle.std.proofs.lemmas.Str.Ascii.{IsAscii-from_all}
+use Rattle.properties_format.specs.Pieces.{characters}
+use Rattle.properties_format.specs.Encoding.{Encoding, windows_1252, utf_8, utf_16le, utf_16be}
+use Rattle.properties_format.specs.Reading.Encoding.{first_piece, pieces_of}
+use Rattle.properties_format.proofs.Encodings.Pieces.{pieces_of-nil}
+use Rattle.properties_format.proofs.Encodings.Waiting.{characters-step}
+use Rattle.properties_format.proofs.Encodings.WellFormed.{IsUtf8-from_well_formed, characters-ascii, characters-text}
+use Rattle.properties_text.specs.Decoding.{IsText}
+
+-- an answer is there exactly where its fact holds
+pub ok-exactly : {X E : Type 0} (A : X → Type 0) (B : E → Type 0) (P : Type 0) (r : Result X E)
+    → MatchResult r (λ x. A x × P) (λ e. ¬ P × B e) → IsSome (result_ok r) ↔ P
+ok-exactly A B P (Ok x) h = (λ k. h.1, λ k. refl)
+ok-exactly A B P (Err e) h = (λ k. absurd (cc), λ k. absurd (h.0 k))
+
+-- a byte of ASCII
+abbrev pub is_ascii : ℕ → Bool
+is_ascii b = nat_lt b 0x80
+
+passing : (bs : List ℕ) → AllByRecursion (λ b. b < 0x80) (take_while is_ascii bs)
+passing [] = tt
+passing (b ∷ bs) = elim (cases_Bool (is_ascii b)) [
+  | inl h ↦ rw (take_while-cons, h) (ltb-true b 0x80 h, passing bs)
+  | inr h ↦ rw (take_while-cons, h) tt
+]
+
+passing-front : (bs : List ℕ) → take (length (take_while is_ascii bs)) bs ≡ take_while is_ascii bs
+passing-front [] = refl
+passing-front (b ∷ bs) = elim (cases_Bool (is_ascii b)) [
+  | inl h ↦ rw (take_while-cons, h) (ap (λ v. b ∷ v) (passing-front bs))
+  | inr h ↦ rw (take_while-cons, h) refl
+]
+
+-- the first of the bytes that are ASCII
+pub front-ascii : (n : ℕ) (bs : List ℕ) → n ≡ length (take_while is_ascii bs) → IsAscii (take n bs)
+front-ascii n bs h =
+    let front = take_while is_ascii bs in
+    subst IsAscii (sym (ap (λ v. take v bs) h ∙ passing-front bs)) (IsAscii-from_all front (All-from_recursion (λ b. b < 0x80) front (passing bs)))
+
+whole-front : (e : Encoding) (d : List ℕ) → characters (pieces_of e (d ++ [])) ≡ chars d ++ characters (pieces_of e []) → chars d ≡ characters (pieces_of e d)
+whole-front e d h =
+    sym (append-nil (chars d))
+    ∙ sym (ap (λ v. chars d ++ characters v) (pieces_of-nil e))
+    ∙ sym h
+    ∙ ap (λ v. characters (pieces_of e v)) (append-nil d)
+
+-- Text is decoded to its characters.
+pub text-decoded : (e : Encoding) (d : List ℕ) → IsText e d → chars d ≡ characters (pieces_of e d)
+text-decoded windows_1252 d h = whole-front windows_1252 d (characters-ascii d [] h)
+text-decoded utf_8 d h = whole-front utf_8 d (characters-text d [] (IsUtf8-from_well_formed d h))
+text-decoded utf_16le d h = absurd h
+text-decoded utf_16be d h = absurd h
+
+-- and it is UTF-8
+pub text-utf8 : (e : Encoding) (d : List ℕ) → IsText e d → IsUtf8 d
+text-utf8 windows_1252 d h = IsUtf8-from_ascii d h
+text-utf8 utf_8 d h = IsUtf8-from_well_formed d h
+text-utf8 utf_16le d h = absurd h
+text-utf8 utf_16be d h = absurd h
+
+-- A text that is pushed.
+pub pushed-text : {E : Type 0} (r : Result Unit E) (old new more : List ℕ)
+    → IsUtf8 old → new ≡ (if is_ok r then old ++ more else old) → OnOk r (chars new ≡ chars old ++ chars more)
+pushed-text (Ok done) old new more u e = ap chars e ∙ chars-append old more u
+pushed-text (Err error) old new more u e = tt
+
+-- ---- The steps of decoding: what was decoded, `text`, and the characters of the `rest` make `all`.
+
+module _ (e : Encoding) (text front rest after all : List ℕ) (joins : text ++ characters (pieces_of e rest) ≡ all)
+    (split : characters (pieces_of e rest) ≡ front ++ characters (pieces_of e after)) where
+  -- the front is taken, and nothing is after it
+  pub decoded-all : length after ≡ 0 → text ++ front ≡ all
+  decoded-all h =
+      sym (append-nil (text ++ front))
+      ∙ ap (λ v. (text ++ front) ++ v) (sym (ap (λ v. characters (pieces_of e v)) (nil_from_length after h) ∙ ap characters (pieces_of-nil e)))
+      ∙ append_assoc text front (characters (pieces_of e after))
+      ∙ ap (λ v. text ++ v) (sym split)
+      ∙ joins
+
+  -- the front is taken, and a run of what is after it
+  pub decoded-run : (more last : List ℕ) → more ++ characters (pieces_of e last) ≡ characters (pieces_of e after)
+      → ((text ++ front) ++ more) ++ characters (pieces_of e last) ≡ all
+  decoded-run more last h =
+      append_assoc (text ++ front) more (characters (pieces_of e last))
+      ∙ ap (λ v. (text ++ front) ++ v) h
+      ∙ append_assoc text front (characters (pieces_of e after))
+      ∙ ap (λ v. text ++ v) (sym split)
+      ∙ joins
+
+-- a text and a character more
+pub chars-more : (old new : List ℕ) (c : ℕ) → IsUtf8 old → IsScalar c → new ≡ old ++ encode_utf8 c → chars new ≡ chars old ++ c ∷ []
+chars-more old new c u h e =
+    let own : chars (encode_utf8 c) ≡ c ∷ [] = ap chars (sym (append-nil (encode_utf8 c))) ∙ chars-encodes (c ∷ []) (and_from (is_scalar c) true h refl) in
+    ap chars e ∙ chars-append old (encode_utf8 c) u ∙ ap (λ v. chars old ++ v) own
+
+-- what is written byte by byte after a front
+pub put-more : (front xs old new : List ℕ) (b : ℕ) → new ≡ old ++ b ∷ [] → old ≡ front ++ xs → new ≡ front ++ (xs ++ b ∷ [])
+put-more front xs old new b h k = h ∙ ap (λ v. v ++ b ∷ []) k ∙ append_assoc front xs (b ∷ [])
+
+-- what follows a character is shorter
+pub past-shorter : (bs rest : List ℕ) (c : ℕ) → bs ≡ encode_utf8 c ++ rest → length rest < length bs
+past-shorter bs rest c h =
+    let one : 1 ≤ length (encode_utf8 c) = rw (length-encode c) (len_utf8_bounds c).0 in
+    rw h (omega (arith, length-append (encode_utf8 c) rest, one))
+
+-- the first piece is taken to a text
+pub decoded-one : (e : Encoding) (old new all : List ℕ) (b : ℕ) (d : List ℕ) (c n : ℕ) → IsUtf8 old → IsScalar c → new ≡ old ++ encode_utf8 c
+    → chars old ++ characters (pieces_of e (b ∷ d)) ≡ all → c ≡ (first_piece e b d).character → n ≡ length (first_piece e b d).bytes
+    → chars new ++ characters (pieces_of e (drop n (b ∷ d))) ≡ all
+decoded-one e old new all b d c n u s h joins k l =
+    let step : characters (pieces_of e (b ∷ d)) ≡ c ∷ characters (pieces_of e (drop n (b ∷ d))) = rw (k, l) (characters-step e b d) in
+    ap (λ v. v ++ characters (pieces_of e (drop n (b ∷ d)))) (chars-more old new c u s h)
+    ∙ append_assoc (chars old) (c ∷ []) (characters (pieces_of e (drop n (b ∷ d))))
+    ∙ ap (λ v. chars old ++ v) (sym step)
+    ∙ joins
+
+-- from a place to the end
+pub taken-rest : (n : ℕ) (d : List ℕ) → take (length d - n) (drop n d) ≡ drop n d
+taken-rest n d = ap (λ v. take v (drop n d)) (sym (length-drop n d)) ∙ take-length (drop n d)

@@ -1,0 +1,227 @@
+-- Texts whose escapes are resolved one after another.
+use Rattle.std.proofs.Common.{◌≡◌, ℕ, suc, ◌<◌, ◌+◌, ◌-◌, ◌==◌, ◌||◌, true, false, List, [], ◌∷◌, ◌++◌, length, take, drop, get_or, refl, ap, sym, ◌∙◌, subst, inl, inr, append_assoc, append-nil, arith}
+use Rattle.std.specs.Prelude.{Option, Some, None, slice_range, ◌%◌}
+use Rattle.std.specs.Option.{is_some}
+use lib.Utf8.{encode, encodes}
+use Rattle.std.specs.Char.{IsScalar}
+use Rattle.std.specs.Str.{IsUtf8, IsCharBoundary, chars}
+use Rattle.std.proofs.lemmas.Bool.{cases_Bool, or_from, or_parts, eqb-true, false_from_ne_true}
+use Rattle.std.proofs.lemmas.List.{take-append-drop, drop_more, get_or-take, length-take-le}
+use Rattle.std.proofs.lemmas.Str.{encodes-chars, chars-append, chars-encodes, IsUtf8-take, IsUtf8-drop, IsCharBoundary-before_ascii, IsCharBoundary-after_ascii}
+use Rattle.memchr.specs.Find.{IsFirstByte, is_byte}
+use Rattle.properties_format.specs.Text.{backslash}
+use Rattle.properties_format.specs.Escapes.{Malformed, Meaning, means, breaks, Means, Breaks, IsMeaning}
+use Rattle.properties_format.specs.Reading.Escapes.{in_front, meaning_of}
+use Rattle.properties_format.specs.Groups.{ending_backslashes, is_open}
+use Rattle.properties_format.proofs.Groups.Open.{ending_backslashes-after}
+use Rattle.properties_format.proofs.Escapes.Laws.{HasNoBackslash, meaning_of-plain_front, meaning_of-plain}
+use Rattle.properties_format.proofs.Escapes.Unique.{text_in_front, text_in_front-means, text_in_front-breaks, breaks-only, meaning_of-meets}
+use Rattle.properties_text.specs.Escaping.{holds_backslash, malformed_in, IsRefused}
+use Rattle.properties_text.specs.declared.escape.UnescapeError.{UnescapeError}
+use Rattle.properties_text.specs.declared.escape.UnescapeError.TheVariants as error
+use Rattle.properties_text.proofs.Texts.Characters.{AreWide, IsEncoded, one, wide, encoded, wide-no_backslash, character_and}
+
+-- ---- where a backslash stands
+
+holds-wide : (bs rest : List ℕ) → AreWide bs → holds_backslash (bs ++ rest) ≡ holds_backslash rest
+holds-wide [] rest w = refl
+holds-wide (b ∷ bs) rest w = rw (wide-no_backslash b w.0) (holds-wide bs rest w.1)
+
+holds-front : (c : ℕ) (cs bytes : List ℕ) → IsEncoded c bytes → holds_backslash (encodes cs) ≡ holds_backslash cs
+    → holds_backslash (bytes ++ encodes cs) ≡ holds_backslash (c ∷ cs)
+holds-front c cs bytes (one e) ih = rw e (ap (λ v. c == backslash || v) ih)
+holds-front c cs bytes (wide h b bs e l k) ih = rw (e, wide-no_backslash b l, wide-no_backslash c h) (holds-wide bs (encodes cs) k ∙ ih)
+
+holds-encodes : (cs : List ℕ) → holds_backslash (encodes cs) ≡ holds_backslash cs
+holds-encodes [] = refl
+holds-encodes (c ∷ cs) = holds-front c cs (encode c) (encoded c) (holds-encodes cs)
+
+-- a text holds a backslash in bytes where it does in characters
+pub holds_backslash-text : (bs : List ℕ) → IsUtf8 bs → holds_backslash (chars bs) ≡ holds_backslash bs
+holds_backslash-text bs u = sym (holds-encodes (chars bs)) ∙ ap holds_backslash (encodes-chars bs u)
+
+pub no_backslash : (cs : List ℕ) → holds_backslash cs ≡ false → HasNoBackslash cs
+no_backslash [] h = tt
+no_backslash (c ∷ cs) h = let p = or_parts (c == backslash) (holds_backslash cs) h in (p.0, no_backslash cs p.1)
+
+nowhere : (xs : List ℕ) → ((k : ℕ) → k < length xs → (get_or xs k 0 == backslash) ≡ true → ⊥) → holds_backslash xs ≡ false
+nowhere [] h = refl
+nowhere (x ∷ xs) h =
+    or_from (x == backslash) (holds_backslash xs)
+    (false_from_ne_true (x == backslash) (h 0 (omega arith)))
+    (nowhere xs (λ k l e. h (suc k) (omega arith) e))
+
+holds-append : (xs ys : List ℕ) → holds_backslash (xs ++ backslash ∷ ys) ≡ true
+holds-append [] ys = refl
+holds-append (x ∷ xs) ys = elim (cases_Bool (x == backslash)) [
+  | inl e ↦ rw e refl
+  | inr e ↦ rw e (holds-append xs ys)
+]
+
+-- The first backslash of these bytes stands there.
+pub record IsFirstBackslash (bs : List ℕ) (at : ℕ) : Type 0 where
+  pub inside : at < length bs
+  pub plain : holds_backslash (take at bs) ≡ false
+  pub there : drop at bs ≡ backslash ∷ drop (at + 1) bs
+  pub byte : get_or bs at 0 ≡ backslash
+
+found_some : (bs : List ℕ) (at : ℕ) → IsFirstByte (is_byte backslash) bs (Some at) → IsFirstBackslash bs at
+found_some bs at h =
+    let inside : at < length bs = h.0.high in
+    let is : get_or bs at 0 ≡ backslash = eqb-true (get_or bs at 0) backslash h.1 in
+    record {
+      inside = inside;
+      plain = nowhere (take at bs) (λ k l e.
+          let m : k < at = omega (arith, length-take-le at bs (omega arith)) in
+          h.0.before k (omega arith) m (ap (λ v. v == backslash) (sym (get_or-take at bs k 0 m)) ∙ e));
+      there = drop_more bs at 0 inside ∙ ap (λ v. v ∷ drop (at + 1) bs) is;
+      byte = is;
+    }
+
+found_none : (bs : List ℕ) → IsFirstByte (is_byte backslash) bs None → holds_backslash bs ≡ false
+found_none bs h = nowhere bs (λ k l e. h k (omega arith) l e)
+
+-- A text up to its first backslash, and the text after that.
+pub record IsSplitAt (bs : List ℕ) (at : ℕ) : Type 0 where
+  pub front_utf8 : IsUtf8 (take at bs)
+  pub rest_utf8 : IsUtf8 (drop at bs)
+  pub after_utf8 : IsUtf8 (drop (at + 1) bs)
+  pub boundary : IsCharBoundary bs at
+  pub boundary_after : IsCharBoundary bs (at + 1)
+  pub holds : holds_backslash (chars bs) ≡ true
+  pub characters : chars (drop at bs) ≡ backslash ∷ chars (drop (at + 1) bs)
+  pub meaning : meaning_of (chars bs) ≡ text_in_front (chars (take at bs)) (meaning_of (chars (drop at bs)))
+
+-- where a search for it has found one in the bytes of a text
+pub split_at : (bytes bs : List ℕ) (at : ℕ) → IsUtf8 bs → bytes ≡ bs → IsFirstByte (is_byte backslash) bytes (Some at) → IsSplitAt bs at
+unfolding encode
+split_at bytes bs at u same h =
+    let f : IsFirstBackslash bs at = found_some bs at (subst (λ v. IsFirstByte (is_byte backslash) v (Some at)) same h) in
+    let here = IsCharBoundary-before_ascii bs at f.inside (omega (arith, f.byte)) in
+    let past = IsCharBoundary-after_ascii bs at u f.inside (omega (arith, f.byte)) in
+    let front : IsUtf8 (take at bs) = IsUtf8-take bs at u here in
+    let rest : IsUtf8 (drop at bs) = IsUtf8-drop bs at u here in
+    let whole : bs ≡ take at bs ++ drop at bs = sym (take-append-drop at bs) in
+    let plain = no_backslash (chars (take at bs)) (holds_backslash-text (take at bs) front ∙ f.plain) in
+    record {
+      front_utf8 = front;
+      rest_utf8 = rest;
+      after_utf8 = IsUtf8-drop bs (at + 1) u past;
+      boundary = here;
+      boundary_after = past;
+      holds = holds_backslash-text bs u ∙ ap holds_backslash (whole ∙ ap (λ v. take at bs ++ v) f.there) ∙ holds-append (take at bs) (drop (at + 1) bs);
+      characters = (character_and (drop at bs) (drop (at + 1) bs) backslash rest f.there).characters;
+      meaning = ap meaning_of (ap chars whole ∙ chars-append (take at bs) (drop at bs) front) ∙ meaning_of-plain_front (chars (take at bs)) (chars (drop at bs)) plain;
+    }
+
+-- A text that holds none.
+pub record IsBareError (bs : List ℕ) : Type 0 where
+  pub holds : holds_backslash (chars bs) ≡ false
+  pub meaning : meaning_of (chars bs) ≡ means (chars bs)
+
+-- where a search has found none
+pub plain : (bytes bs : List ℕ) → IsUtf8 bs → bytes ≡ bs → IsFirstByte (is_byte backslash) bytes None → IsBareError bs
+plain bytes bs u same h =
+    let none = holds_backslash-text bs u ∙ found_none bs (subst (λ v. IsFirstByte (is_byte backslash) v None) same h) in
+    record { holds = none; meaning = meaning_of-plain (chars bs) (no_backslash (chars bs) none) }
+
+-- what a search tells
+pub tells_backslash : (bytes bs : List ℕ) (found : Option ℕ) → IsUtf8 bs → bytes ≡ bs → IsFirstByte (is_byte backslash) bytes found
+    → is_some found ≡ holds_backslash (chars bs)
+tells_backslash bytes bs (Some at) u same h = sym (split_at bytes bs at u same h).holds
+tells_backslash bytes bs None u same h = sym (plain bytes bs u same h).holds
+
+-- a part of a text without a backslash holds none
+pub holds-part : (xs ys zs : List ℕ) → holds_backslash (xs ++ (ys ++ zs)) ≡ false → holds_backslash ys ≡ false
+holds-part [] [] zs h = refl
+holds-part [] (y ∷ ys) zs h =
+    let p = or_parts (y == backslash) (holds_backslash (ys ++ zs)) h in
+    ap (λ v. v || holds_backslash ys) p.0 ∙ holds-part [] ys zs p.1
+holds-part (x ∷ xs) ys zs h = holds-part xs ys zs (or_parts (x == backslash) (holds_backslash (xs ++ (ys ++ zs))) h).1
+
+-- and it is not open
+none-ending : (xs : List ℕ) → holds_backslash xs ≡ false → ending_backslashes xs ≡ 0
+none-ending [] h = refl
+none-ending (x ∷ xs) h =
+    let p = or_parts (x == backslash) (holds_backslash xs) h in
+    ending_backslashes-after [] x xs p.0 ∙ none-ending xs p.1
+
+pub plain-closed : (xs : List ℕ) → holds_backslash xs ≡ false → is_open xs ≡ false
+plain-closed xs h = ap (λ n. n % 2 == 1) (none-ending xs h)
+
+-- the beginning of a text, as a slice of it
+pub slice-front : (bs : List ℕ) (at : ℕ) → slice_range bs 0 at ≡ take at bs
+slice-front bs at = ap (λ n. take n bs) (let k : at - 0 ≡ at = omega arith in k)
+
+-- ---- what has been resolved so far
+
+text_in_front-append : (xs ys : List ℕ) (m : Meaning) → text_in_front (xs ++ ys) m ≡ text_in_front xs (text_in_front ys m)
+text_in_front-append [] ys m = refl
+text_in_front-append (x ∷ xs) ys m = ap (in_front x) (text_in_front-append xs ys m)
+
+-- a text and a character were appended
+pub pushed : (text front : List ℕ) (c : ℕ) (grown all : List ℕ) → IsUtf8 text → IsUtf8 front → IsScalar c → grown ≡ text ++ front → all ≡ grown ++ encode c
+    → chars all ≡ chars text ++ (chars front ++ c ∷ [])
+pushed text front c grown all u v s e f =
+    ap chars (f ∙ ap (λ w. w ++ encode c) e ∙ append_assoc text front (encode c))
+    ∙ chars-append text (front ++ encode c) u
+    ∙ ap (λ w. chars text ++ w) (chars-append front (encode c) v)
+    ∙ ap (λ w. chars text ++ (chars front ++ w)) (ap chars (sym (append-nil (encode c))) ∙ chars-encodes (c ∷ []) (rw s refl))
+
+-- the text breaks, where what is left of it does
+pub broken : (text : List ℕ) (kind : Malformed) → meaning_of text ≡ breaks kind → Breaks text kind
+broken text kind e = subst (IsMeaning text) e (meaning_of-meets text)
+
+-- Of a text, what has been resolved was appended, and the rest is still to come.
+pub record IsResolvedTo (text before now rest : List ℕ) : Type 0 where
+  pub done : List ℕ
+  pub grown : now ≡ before ++ done
+  pub meaning : meaning_of text ≡ text_in_front done (meaning_of rest)
+
+pub resolved_none : (text before : List ℕ) → IsResolvedTo text before before text
+resolved_none text before = record { done = []; grown = sym (append-nil before); meaning = refl }
+
+-- text without a backslash, and an escape
+pub resolved_more : (text before now rest front after to next : List ℕ) (c : ℕ) → IsResolvedTo text before now rest
+    → meaning_of rest ≡ text_in_front front (meaning_of after) → meaning_of after ≡ in_front c (meaning_of to) → next ≡ now ++ (front ++ c ∷ [])
+    → IsResolvedTo text before next to
+resolved_more text before now rest front after to next c r e f g = record {
+  done = r.done ++ (front ++ c ∷ []);
+  grown = g ∙ ap (λ v. v ++ (front ++ c ∷ [])) r.grown ∙ append_assoc before r.done (front ++ c ∷ []);
+  meaning = r.meaning
+      ∙ ap (text_in_front r.done) (e ∙ ap (text_in_front front) f ∙ sym (text_in_front-append front (c ∷ []) (meaning_of to)))
+      ∙ sym (text_in_front-append r.done (front ++ c ∷ []) (meaning_of to));
+}
+
+-- the last of it
+pub resolved_end : (text before now rest next : List ℕ) → IsResolvedTo text before now rest → meaning_of rest ≡ means rest → next ≡ now ++ rest
+    → (meant : List ℕ) × (meaning_of text ≡ means meant) × (next ≡ before ++ meant)
+resolved_end text before now rest next r e g = (
+  r.done ++ rest,
+  r.meaning ∙ ap (text_in_front r.done) e ∙ text_in_front-means r.done rest,
+  g ∙ ap (λ v. v ++ rest) r.grown ∙ append_assoc before r.done rest,
+)
+
+-- an escape that breaks
+pub resolved_broken : (text before now rest front after : List ℕ) (kind : Malformed) → IsResolvedTo text before now rest
+    → meaning_of rest ≡ text_in_front front (meaning_of after) → meaning_of after ≡ breaks kind → Breaks text kind
+resolved_broken text before now rest front after kind r e f = broken text kind (
+    r.meaning ∙ ap (text_in_front r.done) (e ∙ ap (text_in_front front) f ∙ text_in_front-breaks front kind) ∙ text_in_front-breaks r.done kind)
+
+-- ---- what stands before the first escape
+
+-- what the rest is refused by, the whole is
+pub refused_front : (text front rest : List ℕ) (e : UnescapeError) → meaning_of text ≡ text_in_front front (meaning_of rest) → IsRefused rest e → IsRefused text e
+refused_front text front rest (error.Malformed malformed) m b =
+    let kind = malformed_in malformed in
+    broken text kind (m ∙ ap (text_in_front front) (sym (breaks-only rest kind b)) ∙ text_in_front-breaks front kind)
+refused_front text front rest error.Memory m b = b
+
+-- what the rest means, with what stands before it
+pub means_front : (text front rest meant : List ℕ) → meaning_of text ≡ text_in_front front (meaning_of rest) → meaning_of rest ≡ means meant
+    → Means text (front ++ meant)
+means_front text front rest meant m e =
+    subst (IsMeaning text) (m ∙ ap (text_in_front front) e ∙ text_in_front-means front meant) (meaning_of-meets text)
+
+pub means_plain : (text : List ℕ) → meaning_of text ≡ means text → Means text text
+means_plain text e = subst (IsMeaning text) e (meaning_of-meets text)

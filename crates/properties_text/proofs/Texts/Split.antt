@@ -1,0 +1,236 @@
+-- A line is split alike in bytes and in characters.
+use Rattle.std.proofs.Common.{◌≡◌, ℕ, ◌≤◌, ◌==◌, Bool, true, false, List, [], ◌∷◌, ◌++◌, refl, ap, sym, ◌∙◌, subst, inl, inr}
+use lib.Utf8.{encode, encodes, scalars, scalar}
+use Rattle.std.specs.Str.{IsUtf8, chars}
+use Rattle.std.proofs.lemmas.Str.{chars-encodes, encodes-chars, scalars-chars}
+use Rattle.std.proofs.lemmas.Bool.{cases_Bool, cond-true, cond-false, and_parts}
+use Rattle.properties_format.specs.Text.{backslash, is_blank, is_separator, is_comment_sign, without_leading_blanks}
+use Rattle.properties_format.specs.Split.{Logical, comment, IsSplit}
+use Rattle.properties_format.specs.Reading.Split.{without_trailing_blanks, unless_last_blank, trimmed, Cut, with_front, ends_key, cut_key, past_separator, pair_of, split_full, split_of}
+use Rattle.properties_format.proofs.Split.Blanks.{without_leading_blanks-meets, without_trailing_blanks-meets}
+use Rattle.properties_format.proofs.Split.Keys.{with_text, cut_key-meets}
+use Rattle.properties_format.proofs.Split.Unique.{split_of-meets}
+use Rattle.properties_text.specs.Parsing.{in_characters}
+use Rattle.properties_text.proofs.Texts.Characters.{AreWide, IsEncoded, one, wide, encoded, wide-no_backslash, wide-no_blank, wide-no_separator, wide-no_comment_sign, wide-no_end, scalars-parts, IsPart, part_by}
+
+-- ---- blanks at the front
+
+leading-front : (c : ℕ) (cs bytes : List ℕ) → IsEncoded c bytes → without_leading_blanks (encodes cs) ≡ encodes (without_leading_blanks cs)
+    → bytes ≡ encode c → without_leading_blanks (bytes ++ encodes cs) ≡ encodes (without_leading_blanks (c ∷ cs))
+leading-front c cs bytes (one e) ih is = elim (cases_Bool (is_blank c)) [
+  | inl b ↦ rw (e, b) ih
+  | inr b ↦ rw (e, b, ← is, e) refl
+]
+leading-front c cs bytes (wide h b bs e l k) ih is = rw (e, wide-no_blank b l, wide-no_blank c h, ← is, e) refl
+
+without_leading_blanks-encodes : (cs : List ℕ) → without_leading_blanks (encodes cs) ≡ encodes (without_leading_blanks cs)
+without_leading_blanks-encodes [] = refl
+without_leading_blanks-encodes (c ∷ cs) = leading-front c cs (encode c) (encoded c) (without_leading_blanks-encodes cs) refl
+
+without_leading_blanks-scalars : (cs : List ℕ) → scalars cs ≡ true → scalars (without_leading_blanks cs) ≡ true
+without_leading_blanks-scalars cs h =
+    let r = without_leading_blanks-meets cs in
+    (scalars-parts r.before (without_leading_blanks cs) (rw r.whole at h)).1
+
+pub without_leading_blanks-part : (bs : List ℕ) → IsUtf8 bs → IsPart without_leading_blanks bs
+without_leading_blanks-part = part_by without_leading_blanks without_leading_blanks-encodes without_leading_blanks-scalars
+
+-- ---- blanks at the end
+
+-- a text that is not empty keeps a character in front of it
+unless-some : (c b : ℕ) (bs : List ℕ) → unless_last_blank c (b ∷ bs) ≡ c ∷ b ∷ bs
+unless-some c b bs = refl
+
+unless-wide : (c : ℕ) (y : List ℕ) → 128 ≤ c → unless_last_blank c y ≡ c ∷ y
+unless-wide c [] h = rw (wide-no_blank c h) refl
+unless-wide c (d ∷ y) h = refl
+
+-- bytes that are no blanks stay in front
+trailing-wide : (bs rest : List ℕ) → AreWide bs → without_trailing_blanks (bs ++ rest) ≡ bs ++ without_trailing_blanks rest
+trailing-wide [] rest w = refl
+trailing-wide (b ∷ bs) rest w = ap (unless_last_blank b) (trailing-wide bs rest w.1) ∙ unless-wide b (bs ++ without_trailing_blanks rest) w.0
+
+-- a character in front of a text is a blank that ends it, in characters as in bytes
+trailing-one : (c : ℕ) (cs : List ℕ) → encode c ≡ c ∷ [] → unless_last_blank c (encodes cs) ≡ encodes (unless_last_blank c cs)
+trailing-one c [] e = elim (cases_Bool (is_blank c)) [ inl b ↦ rw b refl | inr b ↦ rw (b, e) refl ]
+trailing-one c (d ∷ cs) e = elim (encoded d) [
+  | one f ↦ rw (f, e) refl
+  | wide h b bs f l k ↦ rw (f, e) refl
+]
+
+trailing-front : (c : ℕ) (cs bytes : List ℕ) → IsEncoded c bytes → without_trailing_blanks (encodes cs) ≡ encodes (without_trailing_blanks cs)
+    → bytes ≡ encode c → without_trailing_blanks (bytes ++ encodes cs) ≡ encodes (without_trailing_blanks (c ∷ cs))
+trailing-front c cs bytes (one e) ih is = rw e (ap (unless_last_blank c) ih ∙ trailing-one c (without_trailing_blanks cs) (sym is ∙ e))
+trailing-front c cs bytes (wide h b bs e l k) ih is =
+    ap (λ v. without_trailing_blanks (v ++ encodes cs)) e
+    ∙ trailing-wide (b ∷ bs) (encodes cs) (l, k)
+    ∙ ap (λ v. v ++ without_trailing_blanks (encodes cs)) (sym e ∙ is)
+    ∙ ap (λ v. encode c ++ v) ih
+    ∙ ap encodes (sym (unless-wide c (without_trailing_blanks cs) h))
+
+without_trailing_blanks-encodes : (cs : List ℕ) → without_trailing_blanks (encodes cs) ≡ encodes (without_trailing_blanks cs)
+without_trailing_blanks-encodes [] = refl
+without_trailing_blanks-encodes (c ∷ cs) = trailing-front c cs (encode c) (encoded c) (without_trailing_blanks-encodes cs) refl
+
+without_trailing_blanks-scalars : (cs : List ℕ) → scalars cs ≡ true → scalars (without_trailing_blanks cs) ≡ true
+without_trailing_blanks-scalars cs h =
+    let r = without_trailing_blanks-meets cs in
+    (scalars-parts (without_trailing_blanks cs) r.after (rw r.whole at h)).0
+
+pub without_trailing_blanks-part : (bs : List ℕ) → IsUtf8 bs → IsPart without_trailing_blanks bs
+without_trailing_blanks-part = part_by without_trailing_blanks without_trailing_blanks-encodes without_trailing_blanks-scalars
+
+-- ---- keys
+
+cut-wide : (bs rest : List ℕ) → AreWide bs → cut_key (bs ++ rest) false ≡ with_text bs (cut_key rest false)
+cut-wide [] rest w = refl
+cut-wide (b ∷ bs) rest w = rw (wide-no_backslash b w.0, wide-no_end b w.0) (ap (with_front b) (cut-wide bs rest w.1))
+
+-- a key and its rest, in bytes
+in_bytes : Cut → Cut
+in_bytes cut = record { key = encodes cut.key; rest = encodes cut.rest }
+
+cut-front : (c : ℕ) (cs bytes : List ℕ) → IsEncoded c bytes
+    → ((is_escaped : Bool) → cut_key (encodes cs) is_escaped ≡ in_bytes (cut_key cs is_escaped))
+    → bytes ≡ encode c → (is_escaped : Bool) → cut_key (bytes ++ encodes cs) is_escaped ≡ in_bytes (cut_key (c ∷ cs) is_escaped)
+unfolding in_bytes
+cut-front c cs bytes (one e) ih is true = rw (e, ← is, e) (ap (with_front c) (ih false))
+cut-front c cs bytes (one e) ih is false = elim (cases_Bool (c == backslash)) [
+  | inl b ↦ rw (e, b, ← is, e) (ap (with_front c) (ih true))
+  | inr b ↦ elim (cases_Bool (ends_key c)) [
+    | inl k ↦ rw (e, b, k, ← is, e) refl
+    | inr k ↦ rw (e, b, k, ← is, e) (ap (with_front c) (ih false))
+  ]
+]
+cut-front c cs bytes (wide h b bs e l k) ih is true =
+    ap (λ v. cut_key (v ++ encodes cs) true) e
+    ∙ ap (with_front b) (cut-wide bs (encodes cs) k)
+    ∙ ap (with_text (b ∷ bs)) (ih false)
+    ∙ ap (λ v. with_text v (in_bytes (cut_key cs false))) (sym e ∙ is)
+cut-front c cs bytes (wide h b bs e l k) ih is false =
+    ap (λ v. cut_key (v ++ encodes cs) false) e
+    ∙ cut-wide (b ∷ bs) (encodes cs) (l, k)
+    ∙ ap (with_text (b ∷ bs)) (ih false)
+    ∙ ap (λ v. with_text v (in_bytes (cut_key cs false))) (sym e ∙ is)
+    ∙ ap in_bytes (let m : with_front c (cut_key cs false) ≡ cut_key (c ∷ cs) false = rw (wide-no_backslash c h, wide-no_end c h) refl in m)
+
+cut_key-encodes : (cs : List ℕ) (is_escaped : Bool) → cut_key (encodes cs) is_escaped ≡ in_bytes (cut_key cs is_escaped)
+unfolding in_bytes
+cut_key-encodes [] is_escaped = refl
+cut_key-encodes (c ∷ cs) is_escaped = cut-front c cs (encode c) (encoded c) (cut_key-encodes cs) refl is_escaped
+
+-- the key that a text begins with, and what comes after it
+abbrev pub key_of : List ℕ → List ℕ
+key_of x = (cut_key x false).key
+
+abbrev pub rest_of : List ℕ → List ℕ
+rest_of x = (cut_key x false).rest
+
+cut-scalars : (cs : List ℕ) → scalars cs ≡ true → (scalars (key_of cs) ≡ true) × (scalars (rest_of cs) ≡ true)
+cut-scalars cs h = let r = cut_key-meets cs in scalars-parts (key_of cs) (rest_of cs) (rw r.whole at h)
+
+key_of-encodes : (cs : List ℕ) → key_of (encodes cs) ≡ encodes (key_of cs)
+unfolding in_bytes
+key_of-encodes cs = ap (λ k. k.key) (cut_key-encodes cs false)
+
+rest_of-encodes : (cs : List ℕ) → rest_of (encodes cs) ≡ encodes (rest_of cs)
+unfolding in_bytes
+rest_of-encodes cs = ap (λ k. k.rest) (cut_key-encodes cs false)
+
+pub key_of-part : (bs : List ℕ) → IsUtf8 bs → IsPart key_of bs
+key_of-part = part_by key_of key_of-encodes (λ cs h. (cut-scalars cs h).0)
+
+pub rest_of-part : (bs : List ℕ) → IsUtf8 bs → IsPart rest_of bs
+rest_of-part = part_by rest_of rest_of-encodes (λ cs h. (cut-scalars cs h).1)
+
+-- ---- separators
+
+past-front : (c : ℕ) (cs bytes : List ℕ) → IsEncoded c bytes → bytes ≡ encode c → past_separator (bytes ++ encodes cs) ≡ encodes (past_separator (c ∷ cs))
+past-front c cs bytes (one e) is = elim (cases_Bool (is_separator c)) [
+  | inl s ↦ rw (e, s) (without_leading_blanks-encodes cs)
+  | inr s ↦ rw (e, s, ← is, e) refl
+]
+past-front c cs bytes (wide h b bs e l k) is = rw (e, wide-no_separator b l, wide-no_separator c h, ← is, e) refl
+
+past_separator-encodes : (cs : List ℕ) → past_separator (encodes cs) ≡ encodes (past_separator cs)
+past_separator-encodes [] = refl
+past_separator-encodes (c ∷ cs) = past-front c cs (encode c) (encoded c) refl
+
+past_separator-scalars : (cs : List ℕ) → scalars cs ≡ true → scalars (past_separator cs) ≡ true
+past_separator-scalars [] h = refl
+past_separator-scalars (c ∷ cs) h = elim (cases_Bool (is_separator c)) [
+  | inl s ↦ rw s (without_leading_blanks-scalars cs (and_parts (scalar c) (scalars cs) h).1)
+  | inr s ↦ rw s h
+]
+
+pub past_separator-part : (bs : List ℕ) → IsUtf8 bs → IsPart past_separator bs
+past_separator-part = part_by past_separator past_separator-encodes past_separator-scalars
+
+-- the value of what comes after a key
+abbrev pub value_of : List ℕ → List ℕ
+value_of rest = past_separator (without_leading_blanks rest)
+
+-- one part of another
+part-of : (f g : List ℕ → List ℕ) (bs : List ℕ) → IsPart g bs → IsPart f (g bs) → IsPart (λ x. f (g x)) bs
+part-of f g bs p q = record { utf8 = q.utf8; same = q.same ∙ ap f p.same }
+
+pub value_of-part : (bs : List ℕ) → IsUtf8 bs → IsPart value_of bs
+value_of-part bs u =
+    let p = without_leading_blanks-part bs u in
+    part-of past_separator without_leading_blanks bs p (past_separator-part (without_leading_blanks bs) p.utf8)
+
+pub trimmed-part : (bs : List ℕ) → IsUtf8 bs → IsPart trimmed bs
+trimmed-part bs u =
+    let p = without_leading_blanks-part bs u in
+    part-of without_trailing_blanks without_leading_blanks bs p (without_trailing_blanks-part (without_leading_blanks bs) p.utf8)
+
+-- ---- lines
+
+pub full-pair : (y : List ℕ) (b : ℕ) (bs : List ℕ) → y ≡ b ∷ bs → is_comment_sign b ≡ false → split_full y ≡ pair_of (cut_key y false)
+full-pair y b bs e m = rw e (cond-false (is_comment_sign b) _ _ m)
+
+pub full-comment : (y : List ℕ) (b : ℕ) (bs : List ℕ) → y ≡ b ∷ bs → is_comment_sign b ≡ true → split_full y ≡ comment (trimmed bs)
+full-comment y b bs e m = rw e (cond-true (is_comment_sign b) _ _ m)
+
+pairs-alike : (bs : List ℕ) → IsUtf8 bs → pair_of (cut_key (chars bs) false) ≡ in_characters (pair_of (cut_key bs false))
+pairs-alike bs u =
+    let k = key_of-part bs u in
+    let r = rest_of-part bs u in
+    let v = value_of-part (rest_of bs) r.utf8 in
+    rw (k.same, v.same, r.same) refl
+
+comments-alike : (cs : List ℕ) → scalars cs ≡ true → comment (trimmed cs) ≡ in_characters (comment (trimmed (encodes cs)))
+comments-alike cs h = ap comment (ap trimmed (sym (chars-encodes cs h)) ∙ sym (trimmed-part (encodes cs) (cs, (h, refl))).same)
+
+-- a text that begins with no blank
+full-alike : (cs : List ℕ) → scalars cs ≡ true → split_full cs ≡ in_characters (split_full (encodes cs))
+full-alike [] h = refl
+full-alike (c ∷ cs) h = go (encode c) (encoded c) refl
+  where
+    pairs : pair_of (cut_key (c ∷ cs) false) ≡ in_characters (pair_of (cut_key (encodes (c ∷ cs)) false))
+    pairs = ap (λ v. pair_of (cut_key v false)) (sym (chars-encodes (c ∷ cs) h)) ∙ pairs-alike (encodes (c ∷ cs)) (c ∷ cs, (h, refl))
+
+    go : (bytes : List ℕ) → IsEncoded c bytes → bytes ≡ encode c → split_full (c ∷ cs) ≡ in_characters (split_full (encodes (c ∷ cs)))
+    go bytes (one e) is =
+        let whole : encodes (c ∷ cs) ≡ c ∷ encodes cs = ap (λ v. v ++ encodes cs) (sym is ∙ e) in
+        elim (cases_Bool (is_comment_sign c)) [
+          | inl m ↦ full-comment (c ∷ cs) c cs refl m ∙ comments-alike cs (and_parts (scalar c) (scalars cs) h).1
+              ∙ ap in_characters (sym (full-comment (encodes (c ∷ cs)) c (encodes cs) whole m))
+          | inr m ↦ full-pair (c ∷ cs) c cs refl m ∙ pairs ∙ ap in_characters (sym (full-pair (encodes (c ∷ cs)) c (encodes cs) whole m))
+        ]
+    go bytes (wide l b bs e k w) is =
+        let whole : encodes (c ∷ cs) ≡ b ∷ bs ++ encodes cs = ap (λ v. v ++ encodes cs) (sym is ∙ e) in
+        full-pair (c ∷ cs) c cs refl (wide-no_comment_sign c l)
+        ∙ pairs
+        ∙ ap in_characters (sym (full-pair (encodes (c ∷ cs)) b (bs ++ encodes cs) whole (wide-no_comment_sign b k)))
+
+full-text : (bs : List ℕ) → IsUtf8 bs → split_full (chars bs) ≡ in_characters (split_full bs)
+full-text bs u = full-alike (chars bs) (scalars-chars bs u) ∙ ap (λ v. in_characters (split_full v)) (encodes-chars bs u)
+
+pub split_of-text : (bs : List ℕ) → IsUtf8 bs → split_of (chars bs) ≡ in_characters (split_of bs)
+unfolding split_of
+split_of-text bs u = let p = without_leading_blanks-part bs u in ap split_full (sym p.same) ∙ full-text (without_leading_blanks bs) p.utf8
+
+-- what the bytes are split into, the characters are
+pub split-characters : (bs : List ℕ) (x : Logical) → IsUtf8 bs → split_of bs ≡ x → IsSplit (chars bs) (in_characters x)
+split-characters bs x u e = subst (IsSplit (chars bs)) (split_of-text bs u ∙ ap in_characters e) (split_of-meets (chars bs))

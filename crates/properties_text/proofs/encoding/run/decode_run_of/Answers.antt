@@ -1,0 +1,33 @@
+use Rattle.std.proofs.Common.{refl, ◌++◌, ◌≡◌, ◌∷◌, ◌∙◌, rules, arith, sym, subst, ap, length}
+use Rattle.std.proofs.lemmas.List.{length-drop}
+use Rattle.std.specs.Str.{IsUtf8}
+use Rattle.std.proofs.lemmas.Str.{IsUtf8-append, IsUtf8-encode, IsUtf8-nil, chars-nil}
+use Rattle.properties_text.specs.Decoding.{text_of}
+use Rattle.properties_text.specs.Encoding.{encoding_of}
+use Rattle.properties_text.proofs.TextFronts.{decoded-one, taken-rest}
+use Rattle.properties_text.proofs.encoding.run.decode_run_of.Goals as goal
+
+pub loop-first-init : goal.loop-first-init
+loop-first-init c = record {
+  same_room = refl;
+  within = omega arith;
+  left = omega arith;
+  is_text = IsUtf8-nil;
+  text = ap (λ v. v ++ text_of c.args.encoding c.args.bytes.now) chars-nil;
+}
+
+pub loop-first-preserved : goal.loop-first-preserved
+loop-first-preserved c =
+    let held = c.loop-first.invariant in
+    let put = c.put_character-at.ensures in
+    let shown = c.first_piece-next.ensures.shown in
+    let whole : c.loop-first.rest.now ≡ c.in-Some.first.now ∷ c.in-Some.others.now = search (rules, c.in-Some.ensures.cases) in
+    let some = c.first_piece-next.ensures.some in
+    let long = ap length whole in
+    record {
+      same_room = put.same_room ∙ held.same_room;
+      within = omega (arith, put.within, put.same_room, held.within, c.if-run-at-lt4.false);
+      left = rw (taken-rest, length-drop c.first_piece-next.result.length c.loop-first.rest.now) (omega (arith, put.within, held.left, some, long));
+      is_text = subst IsUtf8 (sym put.text) (IsUtf8-append _ _ held.is_text (IsUtf8-encode _ put.scalar));
+      text = rw (taken-rest, whole) (decoded-one (encoding_of c.args.encoding) _ _ _ c.in-Some.first.now c.in-Some.others.now _ _ held.is_text put.scalar put.text (rw whole at held.text) shown.character_is shown.length_is);
+    }

@@ -1,0 +1,6 @@
+use Rattle.std.proofs.Common.{◌∙◌}
+use Rattle.properties_text.proofs.Texts.Resolving.{tells_backslash}
+use Rattle.properties_text.proofs.escape.has_backslash.Goals as goal
+
+pub returns : goal.returns
+returns c = c.is_some.ensures ∙ tells_backslash c.as_bytes.result.now c.args.s.now c.memchr.result c.utf8.s c.as_bytes.ensures.value c.memchr.ensures

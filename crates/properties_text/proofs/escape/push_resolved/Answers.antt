@@ -1,0 +1,46 @@
+use Rattle.std.proofs.Common.{◌∷◌, ◌++◌, string_bytes, take, drop, sym, ap, ◌∙◌}
+use Rattle.std.specs.Str.{chars}
+use Rattle.std.proofs.lemmas.Str.{IsUtf8-string_bytes, chars-append}
+use Rattle.properties_format.specs.Text.{backslash}
+use Rattle.properties_format.specs.Reading.Escapes.{in_front, meaning_of}
+use Rattle.properties_text.specs.Escaping.{malformed_in}
+use Rattle.properties_text.proofs.Texts.Resolving.{split_at, plain, slice-front, pushed, resolved_none, resolved_more, resolved_end, resolved_broken}
+use Rattle.properties_text.proofs.escape.push_resolved.Goals as goal
+
+pub loop-at-init : goal.loop-at-init
+loop-at-init c = record { utf8 = c.utf8.s; resolved = resolved_none (chars c.args.s.now) (chars (string_bytes c.args.text.now)) }
+
+pub range_from-requires : goal.range_from-requires
+range_from-requires c = λ _. (split_at c.as_bytes.result.now c.loop-at.rest.now c.in-Some.at c.loop-at.invariant.utf8 c.as_bytes.ensures.value c.in-Some.ensures).boundary_after
+
+pub returns-in-Err : goal.returns-in-Err
+returns-in-Err c =
+    let rest = c.loop-at.rest.now in
+    let at = c.in-Some.at in
+    let s = split_at c.as_bytes.result.now rest at c.loop-at.invariant.utf8 c.as_bytes.ensures.value c.in-Some.ensures in
+    let kind = malformed_in c.in-Err.malformed in
+    resolved_broken (chars c.args.s.now) _ _ (chars rest) (chars (take at rest)) (chars (drop at rest)) kind c.loop-at.invariant.resolved s.meaning
+    (ap meaning_of (s.characters ∙ ap (λ v. backslash ∷ chars v) (sym c.range_from.ensures.value)) ∙ c.in-Err.ensures.meaning)
+
+pub loop-at-preserved : goal.loop-at-preserved
+loop-at-preserved c =
+    let rest = c.loop-at.rest.now in
+    let at = c.in-Some.at in
+    let s = split_at c.as_bytes.result.now rest at c.loop-at.invariant.utf8 c.as_bytes.ensures.value c.in-Some.ensures in
+    let text = string_bytes c.loop-at.text in
+    let grown = c.in_ok-push_str.ensures.bytes ∙ ap (λ v. text ++ v) (c.range.ensures.value ∙ slice-front rest at) in
+    record {
+      utf8 = c.rest-rest.utf8;
+      resolved = resolved_more (chars c.args.s.now) _ _ (chars rest) (chars (take at rest)) (chars (drop at rest)) (chars c.rest-rest.result.now) _ c.in-Ok.escape.character
+          c.loop-at.invariant.resolved s.meaning
+          (ap meaning_of (s.characters ∙ ap (λ v. backslash ∷ chars v) (sym c.range_from.ensures.value)) ∙ c.in-Ok.ensures.meaning
+          ∙ ap (λ v. in_front c.in-Ok.escape.character (meaning_of (chars v))) (sym c.rest-rest.ensures))
+          (pushed text (take at rest) c.in-Ok.escape.character _ _ (IsUtf8-string_bytes c.loop-at.text) s.front_utf8 c.in-Ok.ensures.scalar grown c.in_ok-push.ensures.bytes);
+    }
+
+pub returns : goal.returns
+returns c =
+    let rest = c.loop-at.rest.now in
+    let p = plain c.as_bytes.result.now rest c.loop-at.invariant.utf8 c.as_bytes.ensures.value c.in_default.ensures in
+    resolved_end (chars c.args.s.now) _ _ (chars rest) _ c.loop-at.invariant.resolved p.meaning
+    (ap chars c.in_ok-push_str-2.ensures.bytes ∙ chars-append (string_bytes c.loop-at.text) rest (IsUtf8-string_bytes c.loop-at.text))

@@ -1,0 +1,17 @@
+use Rattle.std.proofs.Common.{◌+◌, refl, ◌∙◌, arith}
+use Rattle.properties_text.proofs.Printing.Vectors.{more-is}
+use Rattle.properties_text.proofs.print.bytes.put_blocks.Goals as goal
+
+pub loop-read-preserved : goal.loop-read-preserved
+loop-read-preserved c =
+    let held = c.loop-read.invariant in
+    let put = c.put_16-at.ensures in
+    let bytes = c.args.bytes.now in
+    record {
+      same = put.length ∙ held.same;
+      printed = record {
+        read = omega arith;
+        written = omega arith;
+        same = more-is c.loop-read.out c.put_16-at.new.out bytes c.loop-read.at c.put_16-at.result c.loop-read.read 16 (c.loop-read.read + 16) (c.has_control.ensures.0 c.if-has_control.false) (omega arith) refl put.printed held.printed.same;
+      };
+    }

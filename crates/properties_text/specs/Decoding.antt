@@ -1,0 +1,72 @@
+-- What each part of the decoder gives: the byte order mark, the first piece, and text that stands as it is.
+use Rattle.std.specs.Prelude.{◌≡◌, ℕ, ◌≤◌, Bool, true, false, List, length, drop}
+use Rattle.std.specs.Str.{IsAscii}
+use Rattle.std.specs.declared.borrow.CowStr.{CowStr}
+use Rattle.std.specs.declared.borrow.CowStr.TheVariants.{Borrowed, Owned}
+use Rattle.properties_format.specs.Encoding as format
+use Rattle.properties_format.specs.Pieces.{Piece, characters}
+use Rattle.properties_format.specs.Utf8.{Range, from_to, IsWellFormedText}
+use Rattle.properties_format.specs.Utf16.{low_first, high_first}
+use Rattle.properties_format.specs.Reading.Encoding.{first_piece, pieces_of}
+use Rattle.properties_format.specs.Reading.Waiting.{awaits_bom, awaits_more}
+use Rattle.properties_text.specs.Encoding.{encoding_of}
+use Rattle.properties_text.specs.declared.encoding.Encoding.{Encoding}
+use Rattle.properties_text.specs.declared.encoding.byte_order_mark.ByteOrderMark.{ByteOrderMark}
+use Rattle.properties_text.specs.declared.encoding.byte_order_mark.ByteOrderMark.TheVariants.{Present, Absent, Undecided}
+use Rattle.properties_text.specs.declared.encoding.first_piece.FirstPiece.{FirstPiece}
+use Rattle.properties_text.specs.declared.encoding.utf_8.ByteRange.{ByteRange}
+use Rattle.properties_text.specs.declared.encoding.utf_16.ByteOrder.{ByteOrder}
+use Rattle.properties_text.specs.declared.encoding.utf_16.ByteOrder.TheVariants.{LowFirst, HighFirst}
+
+-- ---- The byte order mark.
+
+-- whatever encoding is asked for, the bytes are in this one, or in the one asked for, from this place on
+abbrev pub IsInForce : List ℕ → format.Encoding → ℕ → Type 0
+IsInForce b e n = (asked : format.Encoding) → format.byte_order_mark asked b ≡ record { encoding = e; body = drop n b }
+
+abbrev pub IsUnmarked : List ℕ → Type 0
+IsUnmarked b = (asked : format.Encoding) → format.byte_order_mark asked b ≡ record { encoding = asked; body = b }
+
+-- what is told of the byte order mark at the front of some bytes
+abbrev pub TellsBom : List ℕ → ByteOrderMark → Type 0
+TellsBom b (Present e n) = IsInForce b (encoding_of e) n × (awaits_bom b ≡ false) × (n ≤ length b)
+TellsBom b Absent = IsUnmarked b × (awaits_bom b ≡ false)
+TellsBom b Undecided = IsUnmarked b × (awaits_bom b ≡ true)
+
+-- ---- The first piece.
+
+-- how the two bytes of a unit make it
+abbrev pub unit_of : ByteOrder → ℕ → ℕ → ℕ
+unit_of LowFirst = low_first
+unit_of HighFirst = high_first
+
+abbrev pub range_of : ByteRange → Range
+range_of r = from_to r.0 r.1
+
+-- this piece is shown, and whether bytes that come may change it
+pub record ShowsPiece (p : Piece) (waits : Bool) (shown : FirstPiece) : Type 0 where
+  pub character_is : shown.character ≡ p.character
+  pub length_is : shown.length ≡ length p.bytes
+  pub may_change_is : shown.may_change ≡ waits
+
+-- the first piece of a first byte and those after it is shown
+abbrev pub IsFirstPiece : format.Encoding → ℕ → List ℕ → FirstPiece → Type 0
+IsFirstPiece e b d shown = ShowsPiece (first_piece e b d) (awaits_more e b d) shown
+
+-- ---- Text.
+
+-- the characters of some bytes by themselves
+abbrev pub text_of : Encoding → List ℕ → List ℕ
+text_of encoding d = characters (pieces_of (encoding_of encoding) d)
+
+-- The bytes are text as they stand, in UTF-8: they are ASCII, or well-formed from the first to the last. In UTF-16 none are.
+abbrev pub IsText : format.Encoding → List ℕ → Type 0
+IsText format.windows_1252 d = IsAscii d
+IsText format.utf_8 d = IsWellFormedText d
+IsText format.utf_16le d = ⊥
+IsText format.utf_16be d = ⊥
+
+-- the text is lent, and not one of its own
+abbrev pub IsBorrowed : {Z : Type 0} → CowStr Z → Type 0
+IsBorrowed (Borrowed text) = Unit {0}
+IsBorrowed (Owned text) = ⊥

@@ -1,0 +1,80 @@
+-- What a contract sees of escapes.
+use Rattle.std.specs.Prelude.{◌≡◌, ◌<◌, ◌||◌, ◌==◌, ℕ, Bool, true, false, List, [], ◌∷◌, ◌++◌, length, Option, Some, None, Result, Ok, Err}
+use Rattle.std.specs.Str.{chars}
+use Rattle.std.specs.Cow.{cow_str_bytes}
+use Rattle.std.specs.declared.borrow.CowStr.{CowStr}
+use Rattle.std.specs.declared.borrow.CowStr.TheVariants as cow
+use Rattle.properties_format.specs.Text.{backslash}
+use Rattle.properties_format.specs.Escapes as format
+use Rattle.properties_format.specs.Reading.Escapes.{in_front, meaning_of}
+use Rattle.properties_text.specs.declared.escape.Malformed.{Malformed}
+use Rattle.properties_text.specs.declared.escape.Malformed.TheVariants.{NotEnoughDigits, NotHex, InvalidCharacter}
+use Rattle.properties_text.specs.declared.escape.UnescapeError.{UnescapeError}
+use Rattle.properties_text.specs.declared.escape.UnescapeError.TheVariants as error
+use Rattle.properties_text.specs.declared.escape.Escape.{Escape}
+use Rattle.properties_text.specs.declared.escape.CodeUnit.{CodeUnit}
+use Rattle.properties_text.specs.declared.escape.Four.{Four}
+
+-- the text holds a backslash
+abbrev pub holds_backslash : List ℕ → Bool
+holds_backslash [] = false
+holds_backslash (c ∷ cs) = c == backslash || holds_backslash cs
+
+-- the answer is a text that was lent
+abbrev pub is_lent : {Z E : Type 0} → Result (CowStr Z) E → Bool
+is_lent (Ok (cow.Borrowed text)) = true
+is_lent (Ok (cow.Owned text)) = false
+is_lent (Err e) = false
+
+abbrev pub malformed_in : Malformed → format.Malformed
+malformed_in NotEnoughDigits = format.not_enough_digits
+malformed_in NotHex = format.not_hex
+malformed_in InvalidCharacter = format.invalid_character
+
+-- The text breaks, and the error says how; or there was no memory.
+abbrev pub IsRefused : List ℕ → UnescapeError → Type 0
+IsRefused text (error.Malformed malformed) = format.Breaks text (malformed_in malformed)
+IsRefused text error.Memory = Unit
+
+-- What resolving the escapes of a text answers: the text that it means; or how it breaks; or that there was no memory.
+abbrev pub Unescapes : {Z : Type 0} → List ℕ → Result (CowStr Z) UnescapeError → Type 0
+Unescapes text (Ok meant) = format.Means text (chars (cow_str_bytes meant))
+Unescapes text (Err e) = IsRefused text e
+
+-- The text begins with an escape, which stands for a character before what the rest means; or it breaks at its front.
+abbrev pub Resolves : List ℕ → Result Escape Malformed → Type 0
+Resolves text (Ok escape) = meaning_of text ≡ in_front escape.character (meaning_of (chars escape.rest.now))
+Resolves text (Err malformed) = meaning_of text ≡ format.breaks (malformed_in malformed)
+
+-- The text is four hexadecimal digits, which write this, and a rest.
+pub record IsUnit (text : List ℕ) (value : ℕ) (rest : List ℕ) : Type 0 where
+  pub digits : format.Four
+  pub whole : text ≡ format.four_text digits ++ rest
+  pub hexadecimal : format.are_hexadecimal digits ≡ true
+  pub writes : value ≡ format.code_unit digits
+
+-- The text begins with four characters that are not all hexadecimal digits.
+pub record LacksDigit (text : List ℕ) : Type 0 where
+  pub four : format.Four
+  pub rest : List ℕ
+  pub whole : text ≡ format.four_text four ++ rest
+  pub not_hexadecimal : format.are_hexadecimal four ≡ false
+
+abbrev pub ReadsUnit : List ℕ → Result CodeUnit Malformed → Type 0
+ReadsUnit text (Ok unit) = IsUnit text unit.value (chars unit.rest.now)
+ReadsUnit text (Err NotEnoughDigits) = length text < 4
+ReadsUnit text (Err NotHex) = LacksDigit text
+ReadsUnit text (Err InvalidCharacter) = ⊥
+
+abbrev pub four_of : Four → format.Four
+four_of four = record { first = four.first; second = four.second; third = four.third; fourth = four.fourth }
+
+-- The text begins with these four characters, or has fewer.
+abbrev pub StartsWithFour : List ℕ → Option Four → Type 0
+StartsWithFour text None = length text < 4
+StartsWithFour text (Some four) = text ≡ format.four_text (four_of four) ++ chars four.rest.now
+
+-- What resolving the escapes of a text and appending it to another answers and leaves.
+abbrev pub Appends : List ℕ → List ℕ → Result Unit UnescapeError → List ℕ → Type 0
+Appends text before (Ok done) after = (meant : List ℕ) × (meaning_of text ≡ format.means meant) × (after ≡ before ++ meant)
+Appends text before (Err e) after = IsRefused text e

@@ -1,0 +1,7 @@
+pub mod Encoding
+pub mod Decoding
+pub mod ReadAhead
+pub mod DecodeIter
+pub mod Parsing
+pub mod Escaping
+pub mod Printing

@@ -1,0 +1,43 @@
+-- What a contract sees of the parts of a line.
+use Rattle.std.specs.Prelude.{◌≤◌, ◌-◌, ℕ, List, length, take, drop, Option, Some, None}
+use Rattle.std.specs.Str.{chars, IsCharBoundary}
+use Rattle.properties_format.specs.Split.{Logical, blank, comment, pair}
+use Rattle.properties_text.specs.declared.parse.ParsedLine.{ParsedLine}
+use Rattle.properties_text.specs.declared.parse.ParsedLine.TheVariants as line
+use Rattle.properties_text.specs.declared.parse.ParsedSpans.{ParsedSpans}
+use Rattle.properties_text.specs.declared.parse.ParsedSpans.TheVariants as spans
+use Rattle.properties_text.specs.declared.parse.Span.{Span}
+
+-- what a line is, in bytes
+abbrev pub parsed : Option ParsedLine → Logical
+parsed None = blank
+parsed (Some (line.Comment text)) = comment text.now
+parsed (Some (line.KVPair key value)) = pair key.now value.now
+
+-- the bytes of a span of a line
+abbrev pub bytes_in : List ℕ → Span → List ℕ
+bytes_in line span = take (span.end - span.start) (drop span.start line)
+
+-- what a line is, in bytes, where its parts stand there
+abbrev pub spanned : List ℕ → Option ParsedSpans → Logical
+spanned line None = blank
+spanned line (Some (spans.Comment text)) = comment (bytes_in line text)
+spanned line (Some (spans.KVPair key value)) = pair (bytes_in line key) (bytes_in line value)
+
+-- the same in characters
+abbrev pub in_characters : Logical → Logical
+in_characters blank = blank
+in_characters (comment text) = comment (chars text)
+in_characters (pair key value) = pair (chars key) (chars value)
+
+-- The span is one of the line, and cuts no character.
+pub record IsSpan (line : List ℕ) (span : Span) : Type 0 where
+  pub ordered : span.start ≤ span.end
+  pub within : span.end ≤ length line
+  pub starts_whole : IsCharBoundary line span.start
+  pub ends_whole : IsCharBoundary line span.end
+
+abbrev pub AreSpans : List ℕ → Option ParsedSpans → Type 0
+AreSpans line None = Unit {0}
+AreSpans line (Some (spans.Comment text)) = IsSpan line text
+AreSpans line (Some (spans.KVPair key value)) = IsSpan line key × IsSpan line value

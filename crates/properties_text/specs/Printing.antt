@@ -1,0 +1,73 @@
+-- What is appended for a text, by where it stands.
+use Rattle.std.specs.Prelude.{◌≡◌, ℕ, ◌*◌, ◌≤◌, nat_lt, ◌==◌, length, take, Bool, false, if◌then◌else◌, List, [], ◌∷◌, ◌++◌, Result, OnOk}
+use Rattle.std.specs.Global.{Vec}
+use Rattle.std.specs.Str.{chars}
+use Rattle.properties_format.specs.Printing as format
+use Rattle.properties_format.specs.Text.{tab, line_feed, form_feed, space, backslash}
+use Rattle.properties_text.specs.Encoding.{output_of}
+use Rattle.properties_text.specs.declared.encoding.encode.OutputEncoding.TheVariants.{Windows1252}
+use Rattle.properties_text.specs.declared.print.Repertoire.{Repertoire}
+use Rattle.properties_text.specs.declared.print.Place.{Place}
+use Rattle.properties_text.specs.declared.print.bytes.Printed.{Printed}
+use Rattle.properties_text.specs.declared.print.Place.TheVariants.{KeyOrValue, Comment, Prefix}
+
+abbrev pub place_of : Place → format.Place
+place_of KeyOrValue = format.in_key_or_value
+place_of Comment = format.in_comment
+place_of Prefix = format.in_prefix
+
+-- where memory was found, the buffer has the bytes after those that it had
+abbrev pub AppendsOnOk : {E : Type 0} → Vec ℕ → List ℕ → Result Unit E → Vec ℕ → Type 0
+AppendsOnOk old bytes result new = OnOk result (new.items ≡ old.items ++ bytes)
+
+-- all of windows-1252, as while ASCII alone is off
+abbrev pub all_of_windows_1252 : Repertoire
+all_of_windows_1252 = record { encoding = Windows1252; ascii_only = false }
+
+-- the bytes of a character, of a text and of a key, in a repertoire
+abbrev pub character_bytes : Repertoire → Place → ℕ → List ℕ
+character_bytes r place c = format.encoded_text (output_of r.encoding) (format.spelt (output_of r.encoding) r.ascii_only (place_of place) c)
+
+abbrev pub text_bytes : Repertoire → Place → List ℕ → List ℕ
+text_bytes r place text = format.encoded_text (output_of r.encoding) (format.spelt_text (output_of r.encoding) r.ascii_only (place_of place) text)
+
+abbrev pub key_bytes : Repertoire → Bool → List ℕ → List ℕ
+key_bytes r first key = format.encoded_text (output_of r.encoding) (format.spelt_key (output_of r.encoding) r.ascii_only first key)
+
+-- ---- bytes of an output encoding
+
+-- a byte as it is printed in a key or a value: past ASCII it stands as it is
+abbrev pub spelt_byte : ℕ → List ℕ
+spelt_byte b =
+    if format.is_special b then backslash ∷ b ∷ []
+    else (if format.has_letter b then format.letter_escape b else (if nat_lt b space then format.unicode_escape b else b ∷ []))
+
+-- and several, byte by byte
+abbrev pub spelt_bytes : List ℕ → List ℕ
+spelt_bytes [] = []
+spelt_bytes (b ∷ bs) = spelt_byte b ++ spelt_bytes bs
+
+-- how many backslashes stand before the last byte of that, or 2 where it is a longer escape
+abbrev pub backslashes_before : ℕ → ℕ
+backslashes_before b = if format.is_special b then 1 else (if format.has_letter b then 1 else (if nat_lt b space then 2 else 0))
+
+-- the last byte of that, where it is no longer escape
+abbrev pub last_of : ℕ → ℕ
+last_of b =
+    if format.is_special b then b
+    else (if format.has_letter b then (if b == tab then 0x74 else (if b == line_feed then 0x6e else (if b == form_feed then 0x66 else 0x72))) else b)
+
+-- bytes with a backslash before each that is special
+abbrev pub with_backslashes : List ℕ → List ℕ
+with_backslashes [] = []
+with_backslashes (b ∷ bs) = (if format.is_special b then backslash ∷ b ∷ [] else b ∷ []) ++ with_backslashes bs
+
+-- how far bytes were printed, and where what is printed for them stands
+pub record ArePrinted (bytes : List ℕ) (printed : Printed) (out : List ℕ) : Type 0 where
+  pub read : printed.read ≤ length bytes
+  pub written : printed.written ≤ 2 * printed.read
+  pub same : take printed.written out ≡ spelt_bytes (take printed.read bytes)
+
+-- the text of these bytes is printed in a key or a value as they are, byte by byte
+abbrev pub Stands : Repertoire → List ℕ → Type 0
+Stands r bytes = text_bytes r KeyOrValue (chars bytes) ≡ spelt_bytes bytes

@@ -1,0 +1,29 @@
+// The byte order mark at the front of an input.
+
+ghost use Rattle.properties_text.specs.Decoding.{TellsBom};
+
+use super::Encoding;
+
+/// What the bytes at the front of an input tell of a byte order mark.
+#[derive(Clone, Copy, Debug, PartialEq, Eq)]
+pub enum ByteOrderMark {
+    /// It is there: the encoding that it says, and how many bytes it has.
+    Present(Encoding, usize),
+    /// There is none.
+    Absent,
+    /// More bytes decide it. Where none come, there is none.
+    Undecided,
+}
+
+/// The byte order mark that these bytes begin with.
+pub fn byte_order_mark(bytes: &[u8]) -> ByteOrderMark
+    ensures { TellsBom bytes.now result }
+{
+    match bytes {
+        [0xef, 0xbb, 0xbf, ..] => ByteOrderMark::Present(Encoding::UTF_8, 3),
+        [0xfe, 0xff, ..] => ByteOrderMark::Present(Encoding::UTF_16BE, 2),
+        [0xff, 0xfe, ..] => ByteOrderMark::Present(Encoding::UTF_16LE, 2),
+        [] | [0xef] | [0xef, 0xbb] | [0xfe] | [0xff] => ByteOrderMark::Undecided,
+        _ => ByteOrderMark::Absent,
+    }
+}

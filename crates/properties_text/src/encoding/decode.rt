@@ -1,0 +1,93 @@
+// Bytes to characters.
+
+ghost use Rattle.std.specs.Prelude.{◌≡◌, OnOk, ◌≤◌, ◌++◌, ◌↔◌, length, IfOk, IfSome, IsSome};
+ghost use Rattle.std.specs.Str.{chars};
+ghost use Rattle.std.specs.String.{string_bytes};
+ghost use Rattle.std.specs.Cow.{cow_str_bytes};
+ghost use Rattle.properties_text.specs.Encoding.{encoding_of};
+ghost use Rattle.properties_text.specs.Decoding.{IsBorrowed, IsText, text_of};
+
+use super::run::decode_run;
+use super::{Encoding, utf_8, windows_1252};
+use std::alloc::{AllocError, Global};
+use std::borrow::CowStr;
+
+// How many bytes of text are decoded at once.
+const RUN: usize = 256;
+
+/// The text of some bytes by themselves, as of one line. It is lent where the bytes are that text already.
+#[inline]
+pub fn decode_line(
+    alloc: Global,
+    encoding: Encoding,
+    bytes: &[u8],
+) -> Result<CowStr<'_>, AllocError>
+    ensures text { IfOk result (λ text. chars (cow_str_bytes text) ≡ text_of encoding bytes.now) }
+    ensures lent { IfOk result (λ text. IsBorrowed text ↔ IsText (encoding_of encoding) bytes.now) }
+    ensures same { IfOk result (λ text. IsBorrowed text → cow_str_bytes text ≡ bytes.now) }
+{
+    match as_text(encoding, bytes) {
+        Some(text) => Ok(CowStr::Borrowed(text)),
+        None => {
+            let mut text = String::new(alloc);
+            push_decoded(&mut text, encoding, bytes)?;
+            Ok(CowStr::Owned(text))
+        }
+    }
+}
+
+/// The bytes, where they are text as they stand.
+#[inline(always)]
+pub fn as_text(encoding: Encoding, bytes: &[u8]) -> Option<&str>
+    ensures exactly { IsSome result ↔ IsText (encoding_of encoding) bytes.now }
+    ensures same { IfSome result (λ text. text.now ≡ bytes.now) }
+{
+    match encoding {
+        Encoding::WINDOWS_1252 => windows_1252::as_text(bytes),
+        Encoding::UTF_8 => utf_8::as_text(bytes),
+        Encoding::UTF_16LE | Encoding::UTF_16BE => None,
+    }
+}
+
+/// Appends the text of some bytes: what stands as text at the front, a run of characters, and so on.
+#[inline(never)]
+pub fn push_decoded(text: &mut String, encoding: Encoding, bytes: &[u8]) -> Result<(), AllocError>
+    ensures { OnOk result
+        (chars (string_bytes text.new) ≡ chars (string_bytes text.old) ++ text_of encoding bytes.now) }
+{
+    text.reserve(bytes.len())?;
+    let mut run = [0; RUN];
+    let mut rest = bytes;
+    loop {
+        let (front, after) = text_front(encoding, rest);
+        push_text(text, front)?;
+        if after.is_empty() {
+            return Ok(());
+        }
+        let decoded = decode_run(&mut run, encoding, after);
+        // SAFETY: a run is text.
+        let more = unsafe { str::from_utf8_unchecked(&run[..decoded.length]) };
+        push_text(text, more)?;
+        rest = decoded.rest;
+    }
+}
+
+/// Appends a text.
+pub fn push_text(text: &mut String, more: &str) -> Result<(), AllocError>
+    ensures { OnOk result
+        (chars (string_bytes text.new) ≡ chars (string_bytes text.old) ++ chars more.now) }
+{
+    text.push_str(more)
+}
+
+// What stands as text at the front, and what is after it.
+fn text_front(encoding: Encoding, bytes: &[u8]) -> (&str, &[u8])
+    ensures text { text_of encoding bytes.now ≡ chars result.0.now ++ text_of encoding result.1.now }
+    ensures within { length result.1.now ≤ length bytes.now }
+{
+    match encoding {
+        Encoding::WINDOWS_1252 => windows_1252::text_front(bytes),
+        Encoding::UTF_8 => utf_8::text_front(bytes),
+        Encoding::UTF_16LE | Encoding::UTF_16BE => ("", bytes),
+    }
+}

@@ -1,0 +1,90 @@
+// Characters to bytes.
+
+ghost use Rattle.std.specs.Prelude.{◌≡◌, ◌≤◌, ◌++◌, [], length, take, is_some, unwrap_or, IfOk, OnOk};
+ghost use Rattle.std.specs.Str.{chars, IsUtf8};
+ghost use Rattle.properties_format.specs.Encoding.{encoded, output_encoding};
+ghost use Rattle.properties_text.specs.Encoding.{encoding_of, output_of, EncodesFront};
+
+use super::Encoding;
+use super::windows_1252::byte_of;
+use std::alloc::AllocError;
+
+/// The encodings that are written.
+#[derive(Clone, Copy, PartialEq, Eq)]
+pub enum OutputEncoding {
+    /// One byte a character, where it has one.
+    Windows1252,
+    /// One to four bytes a character.
+    Utf8,
+}
+
+impl From<Encoding> for OutputEncoding {
+    ghost from_gives = { λ from to. output_of to ≡ output_encoding (encoding_of from) };
+
+    fn from(encoding: Encoding) -> OutputEncoding {
+        match encoding {
+            Encoding::WINDOWS_1252 => OutputEncoding::Windows1252,
+            Encoding::UTF_8 | Encoding::UTF_16LE | Encoding::UTF_16BE => OutputEncoding::Utf8,
+        }
+    }
+}
+
+/// Appends the bytes of a character, and says whether it has any in the encoding.
+pub fn push_encoded(
+    bytes: &mut Vec<u8>,
+    encoding: OutputEncoding,
+    character: char,
+) -> Result<bool, AllocError>
+    ensures said { IfOk result (λ done. done ≡ is_some (encoded (output_of encoding) character)) }
+    ensures appended { let appended = unwrap_or (encoded (output_of encoding) character) [] in
+        OnOk result (bytes.new.items ≡ bytes.old.items ++ appended) }
+{
+    match encoding {
+        OutputEncoding::Windows1252 => {
+            let Some(byte) = byte_of(character) else {
+                return Ok(false);
+            };
+            bytes.push(byte)?;
+        }
+        OutputEncoding::Utf8 => {
+            bytes.extend_from_slice(character.encode_utf8(&mut [0; 4]).as_bytes())?;
+        }
+    }
+    Ok(true)
+}
+
+/// What was encoded of a text.
+#[derive(Clone, Copy)]
+pub struct Encoded<'a> {
+    /// How many bytes it is.
+    pub length: usize,
+    /// The text that is left.
+    pub rest: &'a str,
+}
+
+/// Encodes characters at the front in windows-1252, up to one that it lacks, as far as there is room.
+pub fn encode_run<'a>(run: &mut [u8], text: &'a str) -> Encoded<'a>
+    ensures within { result.length ≤ length run.new }
+    ensures same_room { length run.new ≡ length run.old }
+    ensures is_text { IsUtf8 result.rest.now }
+    ensures left { length result.rest.now ≤ length text.now }
+    ensures encoded { EncodesFront (chars text.now) (take result.length run.new) (chars result.rest.now) }
+{
+    let mut at = 0;
+    let mut characters = text.chars();
+    while at < run.len() {
+        let rest = characters.as_str();
+        let Some(character) = characters.next() else {
+            return Encoded { length: at, rest };
+        };
+        let Some(byte) = byte_of(character) else {
+            return Encoded { length: at, rest };
+        };
+        run[at] = byte;
+        at += 1;
+    }
+    Encoded {
+        length: at,
+        rest: characters.as_str(),
+    }
+}

@@ -1,0 +1,70 @@
+// Units of two bytes, of which surrogates stand for a character in pairs.
+
+ghost use Rattle.std.specs.Prelude.{◌≡◌, ℕ, ◌∷◌, true};
+ghost use Rattle.properties_format.specs.Surrogates.{is_high, is_low, pair_character};
+ghost use Rattle.properties_format.specs.Reading.Utf16.{first_utf_16_piece, high_piece};
+ghost use Rattle.properties_format.specs.Reading.Waiting.{awaits_unit};
+ghost use Rattle.properties_text.specs.Decoding.{ShowsPiece, unit_of};
+
+use super::first_piece::FirstPiece;
+
+/// In which order the two bytes of a unit stand.
+#[derive(Clone, Copy, Debug, PartialEq, Eq)]
+pub enum ByteOrder {
+    LowFirst,
+    HighFirst,
+}
+
+impl ByteOrder {
+    fn unit(self, first: u8, second: u8) -> u16
+        ensures { result ≡ unit_of self first second }
+    {
+        let (low, high) = match self {
+            ByteOrder::LowFirst => (first, second),
+            ByteOrder::HighFirst => (second, first),
+        };
+        u16::from(high) * 0x100 + u16::from(low)
+    }
+}
+
+/// The first piece of a first byte and those after it.
+#[inline]
+pub fn first_piece(order: ByteOrder, first: u8, rest: &[u8]) -> FirstPiece
+    ensures { let unit = unit_of order in
+        ShowsPiece (first_utf_16_piece unit first rest.now) (awaits_unit unit first rest.now) result }
+{
+    let Some((&second, after)) = rest.split_first() else {
+        return FirstPiece::broken(1, true);
+    };
+    let unit = order.unit(first, second);
+    match unit {
+        0xd800..=0xdbff => high_piece(order, unit, after),
+        0xdc00..=0xdfff => FirstPiece::broken(2, false),
+        _ => FirstPiece::whole(u32::from(unit), 2),
+    }
+}
+
+// The piece of a high unit and what is after it.
+fn high_piece(order: ByteOrder, high: u16, after: &[u8]) -> FirstPiece
+    requires { is_high high ≡ true }
+    ensures { (a b : ℕ) → let unit = unit_of order in unit a b ≡ high
+        → ShowsPiece (high_piece unit a b after.now) (awaits_unit unit a (b ∷ after.now)) result }
+{
+    match after {
+        [] => FirstPiece::broken(2, true),
+        [_] => FirstPiece::broken(3, true),
+        [third, fourth, ..] => match order.unit(*third, *fourth) {
+            low @ 0xdc00..=0xdfff => FirstPiece::whole(pair_character(high, low), 4),
+            _ => FirstPiece::broken(2, false),
+        },
+    }
+}
+
+// The character of a high unit and a low one.
+fn pair_character(high: u16, low: u16) -> u32
+    requires high { is_high high ≡ true }
+    requires low { is_low low ≡ true }
+    ensures { result ≡ pair_character high low }
+{
+    0x1_0000 + u32::from(high - 0xd800) * 0x400 + u32::from(low - 0xdc00)
+}

@@ -1,0 +1,132 @@
+// Sequences of one to four bytes, which the first byte says.
+
+ghost use Rattle.std.specs.Prelude.{◌≡◌, ◌++◌, ◌+◌, ◌*◌, ◌%◌, ◌^◌, ◌<◌, ◌≤◌, ◌∷◌, map, length, Some, None, IsSome, IfSome, ◌↔◌, MatchOption};
+ghost use Rattle.std.specs.Str.{IsUtf8};
+ghost use Rattle.properties_format.specs.Utf8.{well_formed_rows, sequence_character, IsWellFormedText};
+ghost use Rattle.properties_format.specs.Reading.Utf8.{is_in, ranges_after, fitting};
+ghost use Rattle.properties_format.specs.Encoding.{utf_8};
+ghost use Rattle.properties_text.specs.Decoding.{IsFirstPiece, range_of};
+
+use super::first_piece::FirstPiece;
+
+// The bytes from the first to the second.
+#[derive(Clone, Copy)]
+struct ByteRange(u8, u8);
+
+impl ByteRange {
+    fn contains(self, byte: u8) -> bool
+        ensures { result ≡ is_in (range_of self) byte }
+    {
+        let ByteRange(least, most) = self;
+        least <= byte && byte <= most
+    }
+}
+
+// What most bytes after the first are.
+const TAIL: ByteRange = ByteRange(0x80, 0xbf);
+
+// What the byte after one of these first bytes is.
+const AFTER_E0: ByteRange = ByteRange(0xa0, 0xbf);
+
+const AFTER_ED: ByteRange = ByteRange(0x80, 0x9f);
+
+const AFTER_F0: ByteRange = ByteRange(0x90, 0xbf);
+
+const AFTER_F4: ByteRange = ByteRange(0x80, 0x8f);
+
+// The ranges of the bytes after a first byte, where it begins a sequence.
+fn ranges_after(first: u8) -> Option<&'static [ByteRange]>
+    ensures { MatchOption result
+        (ranges_after well_formed_rows first ≡ None)
+        (λ ranges. ranges_after well_formed_rows first ≡ Some (map range_of ranges.now)) }
+{
+    match first {
+        0x00..=0x7f => Some(&[]),
+        0xc2..=0xdf => Some(&[TAIL]),
+        0xe0 => Some(&[AFTER_E0, TAIL]),
+        0xe1..=0xec | 0xee..=0xef => Some(&[TAIL, TAIL]),
+        0xed => Some(&[AFTER_ED, TAIL]),
+        0xf0 => Some(&[AFTER_F0, TAIL, TAIL]),
+        0xf1..=0xf3 => Some(&[TAIL, TAIL, TAIL]),
+        0xf4 => Some(&[AFTER_F4, TAIL, TAIL]),
+        _ => None,
+    }
+}
+
+// How many bytes at the front are in their ranges.
+fn fitting_length(ranges: &[ByteRange], bytes: &[u8]) -> usize
+    ensures value { result ≡ length (fitting (map range_of ranges.now) bytes.now) }
+    ensures within { result ≤ length bytes.now }
+{
+    let Some((range, ranges)) = ranges.split_first() else {
+        return 0;
+    };
+    let Some((byte, bytes)) = bytes.split_first() else {
+        return 0;
+    };
+    if range.contains(*byte) {
+        1 + fitting_length(ranges, bytes)
+    } else {
+        0
+    }
+}
+
+// The character of a sequence: the payload bits of its bytes, one after another.
+fn sequence_character(first: u8, tail: &[u8]) -> u32
+    ensures { result ≡ sequence_character (first ∷ tail.now) }
+{
+    match tail {
+        [] => u32::from(first % 0x80),
+        [second] => with_tail(u32::from(first % 0x20), *second),
+        [second, third] => with_tail(with_tail(u32::from(first % 0x10), *second), *third),
+        [second, third, fourth, ..] => with_tail(
+            with_tail(with_tail(u32::from(first % 0x08), *second), *third),
+            *fourth,
+        ),
+    }
+}
+
+fn with_tail(bits: u32, tail: u8) -> u32
+    requires { bits < 2 ^ 26 }
+    ensures { result ≡ bits * 2 ^ 6 + tail % 2 ^ 6 }
+{
+    bits * 0x40 + u32::from(tail % 0x40)
+}
+
+/// The first piece of a first byte and those after it.
+pub fn first_piece(first: u8, rest: &[u8]) -> FirstPiece
+    ensures { IsFirstPiece utf_8 first rest.now result }
+{
+    let Some(ranges) = ranges_after(first) else {
+        return FirstPiece::broken(1, false);
+    };
+    let fitting = fitting_length(ranges, rest);
+    if fitting == ranges.len() {
+        FirstPiece::whole(sequence_character(first, &rest[..fitting]), 1 + fitting)
+    } else {
+        FirstPiece::broken(1 + fitting, fitting == rest.len())
+    }
+}
+
+/// The bytes, where they are well-formed from the first to the last.
+#[inline]
+pub fn as_text(bytes: &[u8]) -> Option<&str>
+    ensures exactly { IsSome result ↔ IsWellFormedText bytes.now }
+    ensures same { IfSome result (λ text. text.now ≡ bytes.now) }
+{
+    str::from_utf8(bytes).ok()
+}
+
+/// The longest front that is well-formed, and what is after it.
+pub fn text_front(bytes: &[u8]) -> (&str, &[u8])
+    ensures whole { bytes.now ≡ result.0.now ++ result.1.now }
+    ensures text { IsUtf8 result.0.now }
+{
+    match str::from_utf8(bytes) {
+        Ok(text) => (text, &[]),
+        Err(error) => {
+            let (front, after) = bytes.split_at(error.valid_up_to());
+            (unsafe { str::from_utf8_unchecked(front) }, after)
+        }
+    }
+}

@@ -1,0 +1,14 @@
+//! The texts of properties files: their bytes, their parts, and what their escapes stand for.
+//!
+//! What a reader or a writer of such files does with a single line stands here, and knows nothing of streams. Bytes are
+//! decoded by [`decode_line`](encoding::decode::decode_line), a logical line is cut into its parts by
+//! [`parse_line`](parse::parse_line), escapes are resolved by [`unescape`](escape::unescape), and texts are printed by
+//! [`print_text`](print::print_text). [`DecodeIter`](encoding::DecodeIter) alone reads: it gives the characters of a
+//! whole input.
+#![tactic(auto)]
+
+pub mod characters;
+pub mod encoding;
+pub mod escape;
+pub mod parse;
+pub mod print;

@@ -1,0 +1,175 @@
+// A logical line, cut into its parts.
+
+ghost use Rattle.std.specs.Prelude.{◌≡◌, ◌≤◌, Some, false, length, take, drop};
+ghost use Rattle.std.specs.Str.{chars};
+ghost use Rattle.properties_format.specs.Text.{without_leading_blanks};
+ghost use Rattle.properties_format.specs.Split.{IsSplit};
+ghost use Rattle.properties_format.specs.Reading.Split.{without_trailing_blanks, trimmed, ends_key, cut_key, past_separator};
+ghost use Rattle.properties_text.specs.Parsing.{parsed, bytes_in, spanned, in_characters, IsSpan, AreSpans};
+
+use crate::characters::{is_blank, is_comment_sign, is_separator};
+
+/// The parts of a line, before their escapes are resolved.
+#[derive(Clone, Copy)]
+pub enum ParsedLine<'a> {
+    /// The text after the comment sign, without the blanks around it.
+    Comment(&'a str),
+    /// The key, and the value with the blanks that end it.
+    KVPair(&'a str, &'a str),
+}
+
+/// Where a part of a line stands, in bytes from the start of the line.
+#[derive(Clone, Copy)]
+pub struct Span {
+    pub start: usize,
+    pub end: usize,
+}
+
+/// Where the parts of a line stand.
+#[derive(Clone, Copy)]
+pub enum ParsedSpans {
+    /// As the text of a [`ParsedLine::Comment`].
+    Comment(Span),
+    /// As the key and the value of a [`ParsedLine::KVPair`].
+    KVPair(Span, Span),
+}
+
+/// The comment or the pair of a line, or `None` where the line is blanks alone.
+///
+/// Line ends are characters like others here.
+pub fn parse_line(line: &str) -> Option<ParsedLine<'_>>
+    ensures slices { IsSplit line.now (parsed result) }
+    ensures meets { IsSplit (chars line.now) (in_characters (parsed result)) }
+{
+    let spans = parse_spans(line)?;
+    Some(spans.cut(line))
+}
+
+/// Where the parts of a line stand, or `None` where the line is blanks alone.
+pub fn parse_spans(line: &str) -> Option<ParsedSpans>
+    ensures slices { IsSplit line.now (spanned line.now result) }
+    ensures meets { IsSplit (chars line.now) (in_characters (spanned line.now result)) }
+    ensures spans { AreSpans line.now result }
+{
+    let bytes = line.as_bytes();
+    let start = leading_blanks(bytes);
+    let first = *bytes.get(start)?;
+    if is_comment_sign(char::from(first)) {
+        return Some(ParsedSpans::Comment(trimmed_span(bytes, start + 1)));
+    }
+    let key_end = start + key_length(&bytes[start..]);
+    let value_start = key_end + separator_length(&bytes[key_end..]);
+    let key = Span {
+        start,
+        end: key_end,
+    };
+    let value = Span {
+        start: value_start,
+        end: bytes.len(),
+    };
+    Some(ParsedSpans::KVPair(key, value))
+}
+
+// Where the bytes from here on stand without the blanks around them.
+fn trimmed_span(line: &[u8], from: usize) -> Span
+    requires { from ≤ length line.now }
+    ensures ordered { result.start ≤ result.end }
+    ensures within { result.end ≤ length line.now }
+    ensures start { drop result.start line.now ≡ without_leading_blanks (drop from line.now) }
+    ensures text { bytes_in line.now result ≡ trimmed (drop from line.now) }
+{
+    let start = from + leading_blanks(&line[from..]);
+    let end = start + length_without_trailing_blanks(&line[start..]);
+    Span { start, end }
+}
+
+impl ParsedSpans {
+    /// The parts of the line in which these spans were found.
+    pub fn cut(self, line: &str) -> ParsedLine<'_>
+        requires { AreSpans line.now (Some self) }
+        ensures { parsed (Some result) ≡ spanned line.now (Some self) }
+    {
+        match self {
+            ParsedSpans::Comment(text) => ParsedLine::Comment(text.cut(line)),
+            ParsedSpans::KVPair(key, value) => ParsedLine::KVPair(key.cut(line), value.cut(line)),
+        }
+    }
+}
+
+impl Span {
+    /// The part of the line in which this span was found.
+    pub fn cut(self, line: &str) -> &str
+        requires { IsSpan line.now self }
+        ensures { result.now ≡ bytes_in line.now self }
+    {
+        &line[self.start..self.end]
+    }
+}
+
+/// How many blanks the text begins with.
+pub fn leading_blanks(text: &[u8]) -> usize
+    ensures within { result ≤ length text.now }
+    ensures rest { drop result text.now ≡ without_leading_blanks text.now }
+{
+    for (at, byte) in text.iter().enumerate() {
+        if !is_blank(char::from(*byte)) {
+            return at;
+        }
+    }
+    text.len()
+}
+
+// How long the text is without the blanks that end it.
+fn length_without_trailing_blanks(text: &[u8]) -> usize
+    ensures within { result ≤ length text.now }
+    ensures front { take result text.now ≡ without_trailing_blanks text.now }
+{
+    let mut end = text.len();
+    while end > 0 && is_blank(char::from(text[end - 1])) {
+        end -= 1;
+    }
+    end
+}
+
+// How long the key is that the text begins with. It ends where a blank or a separator stands, unless a backslash
+// takes that character.
+fn key_length(text: &[u8]) -> usize
+    ensures within { result ≤ length text.now }
+    ensures key { (cut_key text.now false).key ≡ take result text.now }
+    ensures rest { (cut_key text.now false).rest ≡ drop result text.now }
+{
+    let mut is_escaped = false;
+    for (at, byte) in text.iter().enumerate() {
+        if is_escaped {
+            is_escaped = false;
+        } else if *byte == b'\\' {
+            is_escaped = true;
+        } else if ends_key(*byte) {
+            return at;
+        }
+    }
+    text.len()
+}
+
+// How much stands before the value, in a text that begins where the key ends.
+fn separator_length(text: &[u8]) -> usize
+    ensures within { result ≤ length text.now }
+    ensures rest { drop result text.now ≡ past_separator (without_leading_blanks text.now) }
+{
+    let blanks = leading_blanks(text);
+    match text.get(blanks) {
+        Some(byte) if is_separator(char::from(*byte)) => {
+            blanks + 1 + leading_blanks(&text[blanks + 1..])
+        }
+        _ => blanks,
+    }
+}
+
+fn ends_key(byte: u8) -> bool
+    ensures { result ≡ ends_key byte }
+{
+    is_blank(char::from(byte)) || is_separator(char::from(byte))
+}
+
+#[cfg(test)]
+mod tests;

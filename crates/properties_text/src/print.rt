@@ -1,0 +1,313 @@
+// Texts as they are printed.
+
+ghost use Rattle.std.specs.Prelude.{◌≡◌, true, ◌++◌, ◌∷◌, ◌<◌, ◌||◌, not, nat_lt, [], OnOk};
+ghost use Rattle.std.specs.Char.{digit_char};
+ghost use Rattle.std.specs.Str.{chars};
+ghost use Rattle.properties_format.specs.Text.{backslash};
+ghost use Rattle.properties_format.specs.Printing.{unit_escape, unicode_escape, literal, spelt, spelt_text, encoded_text, is_bom_like, with_first_escaped, spelt_key, in_key_or_value, in_comment};
+ghost use Rattle.properties_text.specs.Encoding.{output_of};
+ghost use Rattle.properties_text.specs.declared.encoding.encode.OutputEncoding.TheVariants.{Windows1252};
+ghost use Rattle.properties_text.specs.declared.print.Place.TheVariants.{KeyOrValue};
+ghost use Rattle.properties_text.specs.Printing.{all_of_windows_1252, AppendsOnOk, Stands, character_bytes, text_bytes, key_bytes, spelt_byte};
+
+use crate::encoding::{OutputEncoding, encode_run, push_encoded};
+use bytes::print_bytes;
+use std::alloc::AllocError;
+
+mod bytes;
+
+// How many characters are encoded at once.
+const RUN: usize = 64;
+
+const HEXADECIMAL: [u8; 16] = *b"0123456789abcdef";
+
+/// Where a text stands in a line, which says what is escaped.
+#[derive(Clone, Copy)]
+pub enum Place {
+    /// All that would not be read back as itself.
+    KeyOrValue,
+    /// The backslash, and what ends lines.
+    Comment,
+    /// Nothing but what the repertoire lacks.
+    Prefix,
+}
+
+/// Which characters stand as themselves: those that the encoding has, or of them those up to U+007F alone.
+#[derive(Clone, Copy)]
+pub struct Repertoire {
+    /// What the line is encoded in.
+    pub encoding: OutputEncoding,
+    /// Whether every character past U+007F is escaped.
+    pub ascii_only: bool,
+}
+
+impl Repertoire {
+    // Whether the character may stand as itself, as far as ASCII alone goes.
+    fn lets_stand(self, character: char) -> bool
+        ensures { result ≡ (not self.ascii_only || nat_lt character 0x80) }
+    {
+        !self.ascii_only || character.is_ascii()
+    }
+}
+
+// Of ASCII characters every repertoire prints the same.
+const ASCII: Repertoire = Repertoire {
+    encoding: OutputEncoding::Windows1252,
+    ascii_only: true,
+};
+
+const WINDOWS_1252: Repertoire = Repertoire {
+    encoding: OutputEncoding::Windows1252,
+    ascii_only: false,
+};
+
+/// Prints a text.
+pub fn print_text(
+    line: &mut Vec<u8>,
+    repertoire: Repertoire,
+    place: Place,
+    text: &str,
+) -> Result<(), AllocError>
+    ensures { AppendsOnOk line.old (text_bytes repertoire place (chars text.now)) result line.new }
+{
+    match (place, repertoire) {
+        (Place::KeyOrValue, _) if stands(repertoire, text) => print_bytes(line, text.as_bytes()),
+        (
+            Place::KeyOrValue,
+            Repertoire {
+                encoding: OutputEncoding::Windows1252,
+                ascii_only: false,
+            },
+        ) => print_runs(line, text),
+        _ => print_characters(line, repertoire, place, text),
+    }
+}
+
+// Whether the bytes of the text are what is printed, but for escapes of ASCII.
+fn stands(repertoire: Repertoire, text: &str) -> bool
+    ensures { result ≡ true → Stands repertoire text.now }
+{
+    match repertoire.encoding {
+        OutputEncoding::Utf8 if !repertoire.ascii_only => true,
+        _ => text.is_ascii(),
+    }
+}
+
+// Prints a key or a value in windows-1252: a run of characters that have a byte, one character, and so on.
+fn print_runs(line: &mut Vec<u8>, text: &str) -> Result<(), AllocError>
+    ensures { let bytes = text_bytes all_of_windows_1252 KeyOrValue (chars text.now) in
+        AppendsOnOk line.old bytes result line.new }
+{
+    let mut run = [0; RUN];
+    let mut rest = text;
+    loop {
+        let encoded = encode_run(&mut run, rest);
+        print_bytes(line, &run[..encoded.length])?;
+        let mut characters = encoded.rest.chars();
+        match characters.next() {
+            None => return Ok(()),
+            Some(character) => {
+                print_in_key_or_value(line, WINDOWS_1252, character)?;
+                rest = characters.as_str();
+            }
+        }
+    }
+}
+
+// Prints a text, character by character.
+fn print_characters(
+    line: &mut Vec<u8>,
+    repertoire: Repertoire,
+    place: Place,
+    text: &str,
+) -> Result<(), AllocError>
+    ensures { AppendsOnOk line.old (text_bytes repertoire place (chars text.now)) result line.new }
+{
+    for character in text.chars() {
+        print_character(line, repertoire, place, character)?;
+    }
+    Ok(())
+}
+
+/// Prints a key. At the front of the first line it isn't to be taken for a byte order mark.
+pub fn print_key(
+    line: &mut Vec<u8>,
+    repertoire: Repertoire,
+    first: bool,
+    key: &str,
+) -> Result<(), AllocError>
+    ensures { AppendsOnOk line.old (key_bytes repertoire first (chars key.now)) result line.new }
+{
+    if first && is_bom_like(repertoire, key) {
+        return print_with_first_escaped(line, repertoire, key);
+    }
+    print_text(line, repertoire, Place::KeyOrValue, key)
+}
+
+/// Appends a text as it is.
+pub fn print_raw(line: &mut Vec<u8>, text: &str) -> Result<(), AllocError>
+    ensures { AppendsOnOk line.old text.now result line.new }
+{
+    line.extend_from_slice(text.as_bytes())
+}
+
+// Whether a key's bytes begin like a byte order mark, by its first characters alone.
+fn is_bom_like(repertoire: Repertoire, key: &str) -> bool
+    ensures { result ≡ is_bom_like (output_of repertoire.encoding) repertoire.ascii_only (chars key.now) }
+{
+    if repertoire.ascii_only {
+        return false;
+    }
+    match repertoire.encoding {
+        OutputEncoding::Windows1252 => {
+            key.starts_with("\u{ef}\u{bb}\u{bf}")
+                || key.starts_with("\u{fe}\u{ff}")
+                || key.starts_with("\u{ff}\u{fe}")
+        }
+        OutputEncoding::Utf8 => key.starts_with("\u{feff}"),
+    }
+}
+
+// A key with its first character as an escape.
+fn print_with_first_escaped(
+    line: &mut Vec<u8>,
+    repertoire: Repertoire,
+    key: &str,
+) -> Result<(), AllocError>
+    ensures { let e = output_of repertoire.encoding in
+        let text = with_first_escaped e repertoire.ascii_only (chars key.now) in
+        AppendsOnOk line.old (encoded_text e text) result line.new }
+{
+    let mut characters = key.chars();
+    let Some(character) = characters.next() else {
+        return Ok(());
+    };
+    print_escape(line, character)?;
+    print_text(line, repertoire, Place::KeyOrValue, characters.as_str())
+}
+
+fn print_character(
+    line: &mut Vec<u8>,
+    repertoire: Repertoire,
+    place: Place,
+    character: char,
+) -> Result<(), AllocError>
+    ensures { AppendsOnOk line.old (character_bytes repertoire place character) result line.new }
+{
+    match place {
+        Place::KeyOrValue => print_in_key_or_value(line, repertoire, character),
+        Place::Comment => print_in_comment(line, repertoire, character),
+        Place::Prefix => print_literal(line, repertoire, character),
+    }
+}
+
+#[tactic(auto, using(crate::proofs::Printing::Characters::encoded_pair, crate::proofs::Printing::Characters::encoded_escape))]
+fn print_in_key_or_value(
+    line: &mut Vec<u8>,
+    repertoire: Repertoire,
+    character: char,
+) -> Result<(), AllocError>
+    ensures { let bytes = character_bytes repertoire Place.KeyOrValue character in
+        AppendsOnOk line.old bytes result line.new }
+{
+    match character {
+        '\t' => print_after_backslash(line, b't'),
+        '\n' => print_after_backslash(line, b'n'),
+        '\x0c' => print_after_backslash(line, b'f'),
+        '\r' => print_after_backslash(line, b'r'),
+        ' ' => print_after_backslash(line, b' '),
+        '!' => print_after_backslash(line, b'!'),
+        '#' => print_after_backslash(line, b'#'),
+        ':' => print_after_backslash(line, b':'),
+        '=' => print_after_backslash(line, b'='),
+        '\\' => print_after_backslash(line, b'\\'),
+        _ if character < ' ' => print_escape(line, character),
+        _ => print_literal(line, repertoire, character),
+    }
+}
+
+fn print_in_comment(
+    line: &mut Vec<u8>,
+    repertoire: Repertoire,
+    character: char,
+) -> Result<(), AllocError>
+    ensures { let bytes = character_bytes repertoire Place.Comment character in
+        AppendsOnOk line.old bytes result line.new }
+{
+    match character {
+        '\n' => print_after_backslash(line, b'n'),
+        '\r' => print_after_backslash(line, b'r'),
+        '\\' => print_after_backslash(line, b'\\'),
+        _ => print_literal(line, repertoire, character),
+    }
+}
+
+// As itself, or as an escape where it may not stand so.
+#[tactic(auto, using(crate::proofs::Printing::Characters::literal_known))]
+fn print_literal(
+    line: &mut Vec<u8>,
+    repertoire: Repertoire,
+    character: char,
+) -> Result<(), AllocError>
+    ensures { let e = output_of repertoire.encoding in
+        let text = literal e repertoire.ascii_only character in
+        AppendsOnOk line.old (encoded_text e text) result line.new }
+{
+    if repertoire.lets_stand(character) && push_encoded(line, repertoire.encoding, character)? {
+        return Ok(());
+    }
+    print_escape(line, character)
+}
+
+// Prints a byte of an output encoding. Past ASCII it stands as it is.
+fn print_byte(line: &mut Vec<u8>, byte: u8) -> Result<(), AllocError>
+    ensures { AppendsOnOk line.old (spelt_byte byte) result line.new }
+{
+    if byte < 0x80 {
+        print_in_key_or_value(line, ASCII, char::from(byte))
+    } else {
+        line.extend_from_slice(&[byte])
+    }
+}
+
+fn print_after_backslash(line: &mut Vec<u8>, byte: u8) -> Result<(), AllocError>
+    ensures { AppendsOnOk line.old (backslash ∷ byte ∷ []) result line.new }
+{
+    line.extend_from_slice(&[b'\\', byte])
+}
+
+// As `\u` and four digits, or as two such escapes of a high and a low surrogate.
+fn print_escape(line: &mut Vec<u8>, character: char) -> Result<(), AllocError>
+    ensures { AppendsOnOk line.old (unicode_escape character) result line.new }
+{
+    let code = u32::from(character);
+    if code < 0x1_0000 {
+        return print_unit(line, code);
+    }
+    let above = code - 0x1_0000;
+    print_unit(line, 0xd800 + above / 0x400)?;
+    print_unit(line, 0xdc00 + above % 0x400)
+}
+
+fn print_unit(line: &mut Vec<u8>, unit: u32) -> Result<(), AllocError>
+    ensures { AppendsOnOk line.old (unit_escape unit) result line.new }
+{
+    line.extend_from_slice(&[
+        b'\\',
+        b'u',
+        hexadecimal_digit(unit / 0x1000 % 0x10),
+        hexadecimal_digit(unit / 0x100 % 0x10),
+        hexadecimal_digit(unit / 0x10 % 0x10),
+        hexadecimal_digit(unit % 0x10),
+    ])
+}
+
+fn hexadecimal_digit(value: u32) -> u8
+    requires { value < 16 }
+    ensures { result ≡ digit_char value }
+{
+    HEXADECIMAL[value as usize]
+}
+
+#[cfg(test)]
+mod tests;

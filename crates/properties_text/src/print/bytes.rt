@@ -1,0 +1,190 @@
+// Bytes as they are printed in a key or a value, by vectors and by tables.
+
+ghost use Rattle.std.specs.Prelude.{◌≡◌, ◌+◌, ◌*◌, ◌<◌, ◌≤◌, ◌++◌, length, take, OnOk};
+ghost use Rattle.properties_text.specs.Printing.{AppendsOnOk, ArePrinted, spelt_byte, spelt_bytes, backslashes_before, last_of};
+
+use super::print_byte;
+use std::alloc::AllocError;
+use std::simd::prelude::*;
+use vectors::{has_control, put_16, put_ends};
+
+mod expand;
+mod vectors;
+
+// How many bytes are printed at once.
+const STEP: usize = 64;
+
+// How many backslashes are printed before the last byte of what is printed for a byte, or 2 where that is a longer
+// escape.
+const BEFORE: [u8; 256] = [
+    2, 2, 2, 2, 2, 2, 2, 2, 2, 1, 1, 2, 1, 1, 2, 2, 2, 2, 2, 2, 2, 2, 2, 2, 2, 2, 2, 2, 2, 2, 2, 2,
+    1, 1, 0, 1, 0, 0, 0, 0, 0, 0, 0, 0, 0, 0, 0, 0, 0, 0, 0, 0, 0, 0, 0, 0, 0, 0, 1, 0, 0, 1, 0, 0,
+    0, 0, 0, 0, 0, 0, 0, 0, 0, 0, 0, 0, 0, 0, 0, 0, 0, 0, 0, 0, 0, 0, 0, 0, 0, 0, 0, 0, 1, 0, 0, 0,
+    0, 0, 0, 0, 0, 0, 0, 0, 0, 0, 0, 0, 0, 0, 0, 0, 0, 0, 0, 0, 0, 0, 0, 0, 0, 0, 0, 0, 0, 0, 0, 0,
+    0, 0, 0, 0, 0, 0, 0, 0, 0, 0, 0, 0, 0, 0, 0, 0, 0, 0, 0, 0, 0, 0, 0, 0, 0, 0, 0, 0, 0, 0, 0, 0,
+    0, 0, 0, 0, 0, 0, 0, 0, 0, 0, 0, 0, 0, 0, 0, 0, 0, 0, 0, 0, 0, 0, 0, 0, 0, 0, 0, 0, 0, 0, 0, 0,
+    0, 0, 0, 0, 0, 0, 0, 0, 0, 0, 0, 0, 0, 0, 0, 0, 0, 0, 0, 0, 0, 0, 0, 0, 0, 0, 0, 0, 0, 0, 0, 0,
+    0, 0, 0, 0, 0, 0, 0, 0, 0, 0, 0, 0, 0, 0, 0, 0, 0, 0, 0, 0, 0, 0, 0, 0, 0, 0, 0, 0, 0, 0, 0, 0,
+];
+
+// The last byte of what is printed for a byte.
+const LAST: [u8; 256] = [
+    0, 1, 2, 3, 4, 5, 6, 7, 8, 116, 110, 11, 102, 114, 14, 15, 16, 17, 18, 19, 20, 21, 22, 23, 24,
+    25, 26, 27, 28, 29, 30, 31, 32, 33, 34, 35, 36, 37, 38, 39, 40, 41, 42, 43, 44, 45, 46, 47, 48,
+    49, 50, 51, 52, 53, 54, 55, 56, 57, 58, 59, 60, 61, 62, 63, 64, 65, 66, 67, 68, 69, 70, 71, 72,
+    73, 74, 75, 76, 77, 78, 79, 80, 81, 82, 83, 84, 85, 86, 87, 88, 89, 90, 91, 92, 93, 94, 95, 96,
+    97, 98, 99, 100, 101, 102, 103, 104, 105, 106, 107, 108, 109, 110, 111, 112, 113, 114, 115,
+    116, 117, 118, 119, 120, 121, 122, 123, 124, 125, 126, 127, 128, 129, 130, 131, 132, 133, 134,
+    135, 136, 137, 138, 139, 140, 141, 142, 143, 144, 145, 146, 147, 148, 149, 150, 151, 152, 153,
+    154, 155, 156, 157, 158, 159, 160, 161, 162, 163, 164, 165, 166, 167, 168, 169, 170, 171, 172,
+    173, 174, 175, 176, 177, 178, 179, 180, 181, 182, 183, 184, 185, 186, 187, 188, 189, 190, 191,
+    192, 193, 194, 195, 196, 197, 198, 199, 200, 201, 202, 203, 204, 205, 206, 207, 208, 209, 210,
+    211, 212, 213, 214, 215, 216, 217, 218, 219, 220, 221, 222, 223, 224, 225, 226, 227, 228, 229,
+    230, 231, 232, 233, 234, 235, 236, 237, 238, 239, 240, 241, 242, 243, 244, 245, 246, 247, 248,
+    249, 250, 251, 252, 253, 254, 255,
+];
+
+/// Prints bytes as they stand, but for those that are escaped. Bytes past ASCII stand as they are.
+pub fn print_bytes(line: &mut Vec<u8>, bytes: &[u8]) -> Result<(), AllocError>
+    ensures { AppendsOnOk line.old (spelt_bytes bytes.now) result line.new }
+{
+    let mut piece = [0; 2 * STEP];
+    let mut rest = bytes;
+    while let Some(first) = rest.first() {
+        let printed = put(&mut piece, &rest[..rest.len().min(STEP)]);
+        if printed.read == 0 {
+            print_byte(line, *first)?;
+            rest = &rest[1..];
+        } else {
+            line.extend_from_slice(&piece[..printed.written])?;
+            rest = &rest[printed.read..];
+        }
+    }
+    Ok(())
+}
+
+// How many bytes were printed, and to how many.
+#[derive(Clone, Copy)]
+struct Printed {
+    read: usize,
+    written: usize,
+}
+
+// Prints bytes up to one that takes a longer escape.
+fn put(out: &mut [u8], bytes: &[u8]) -> Printed
+    requires { 2 * length bytes.now ≤ length out.old }
+    ensures read { result.read ≤ length bytes.now }
+    ensures written { result.written ≤ length out.new }
+    ensures length { length out.new ≡ length out.old }
+    ensures printed { take result.written out.new ≡ spelt_bytes (take result.read bytes.now) }
+{
+    let first = put_first(out, bytes);
+    let more = put_blocks(out, bytes, first);
+    put_singly(out, bytes, more)
+}
+
+// Prints the odd bytes at the front, so that blocks of sixteen are left, and eight to fifteen bytes all at once. Of
+// shorter ones, and where a control character is near, it prints none.
+#[inline(always)]
+fn put_first(out: &mut [u8], bytes: &[u8]) -> Printed
+    requires { 2 * length bytes.now ≤ length out.old }
+    ensures length { length out.new ≡ length out.old }
+    ensures printed { ArePrinted bytes.now result out.new }
+{
+    if bytes.len() >= 16 {
+        let v = u8x16::from_slice(bytes);
+        if !has_control(v) {
+            let read = (bytes.len() - 1) % 16 + 1;
+            let written = put_16(out, 0, v, read);
+            return Printed { read, written };
+        }
+    } else if bytes.len() >= 8 {
+        let second = bytes.len() - 8;
+        let v: u8x16 = u8x8::from_slice(bytes).shuffle(
+            u8x8::from_slice(&bytes[second..]),
+            [0, 1, 2, 3, 4, 5, 6, 7, 8, 9, 10, 11, 12, 13, 14, 15],
+        );
+        if !has_control(v) {
+            let written = put_ends(out, v, second);
+            return Printed {
+                read: bytes.len(),
+                written,
+            };
+        }
+    }
+    Printed {
+        read: 0,
+        written: 0,
+    }
+}
+
+// Goes on by blocks of sixteen, up to one that has a control character.
+#[inline(always)]
+fn put_blocks(out: &mut [u8], bytes: &[u8], so_far: Printed) -> Printed
+    requires room { 2 * length bytes.now ≤ length out.old }
+    requires so_far { ArePrinted bytes.now so_far out.old }
+    ensures length { length out.new ≡ length out.old }
+    ensures printed { ArePrinted bytes.now result out.new }
+{
+    let mut at = so_far.written;
+    let mut read = so_far.read;
+    while bytes.len() - read >= 16 {
+        let v = u8x16::from_slice(&bytes[read..]);
+        if has_control(v) {
+            break;
+        }
+        at = put_16(out, at, v, 16);
+        read += 16;
+    }
+    Printed { read, written: at }
+}
+
+// Goes on byte by byte, up to one that takes a longer escape.
+#[inline(always)]
+fn put_singly(out: &mut [u8], bytes: &[u8], so_far: Printed) -> Printed
+    requires room { 2 * length bytes.now ≤ length out.old }
+    requires so_far { ArePrinted bytes.now so_far out.old }
+    ensures length { length out.new ≡ length out.old }
+    ensures printed { ArePrinted bytes.now result out.new }
+{
+    let mut at = so_far.written;
+    let mut read = so_far.read;
+    while read < bytes.len() {
+        let byte = bytes[read];
+        if backslashes_before(byte) > 1 {
+            break;
+        }
+        at = put_byte(out, at, byte);
+        read += 1;
+    }
+    Printed { read, written: at }
+}
+
+// Prints a byte from this place on, and returns the place after it. There is no branch.
+#[inline(always)]
+fn put_byte(out: &mut [u8], at: usize, byte: u8) -> usize
+    requires room { at + 2 ≤ length out.old }
+    requires short { backslashes_before byte < 2 }
+    ensures length { length out.new ≡ length out.old }
+    ensures within { result ≤ at + 2 }
+    ensures printed { take result out.new ≡ take at out.old ++ spelt_byte byte }
+{
+    out[at] = b'\\';
+    let last = at + usize::from(backslashes_before(byte));
+    out[last] = last_of(byte);
+    last + 1
+}
+
+#[inline(always)]
+fn backslashes_before(byte: u8) -> u8
+    ensures { result ≡ backslashes_before byte }
+{
+    BEFORE[usize::from(byte)]
+}
+
+#[inline(always)]
+fn last_of(byte: u8) -> u8
+    ensures { result ≡ last_of byte }
+{
+    LAST[usize::from(byte)]
+}

@@ -1,0 +1,129 @@
+// Texts and the bytes that they are printed as.
+
+use super::*;
+use std::alloc::Global;
+use std::test::Fail;
+
+const UTF_8: Repertoire = Repertoire {
+    encoding: OutputEncoding::Utf8,
+    ascii_only: false,
+};
+
+// The bytes after others that stood there.
+fn printed(
+    alloc: Global,
+    repertoire: Repertoire,
+    place: Place,
+    text: &str,
+) -> Result<Vec<u8>, Fail> {
+    let mut line = Vec::from_slice(alloc, b"|")?;
+    print_text(&mut line, repertoire, place, text)?;
+    Ok(line)
+}
+
+#[test]
+fn prints_texts(rt: HostRuntime) -> Result<(), Fail> {
+    let rows: [(Repertoire, Place, &str, &[u8]); 15] = [
+        (UTF_8, Place::KeyOrValue, "", b"|"),
+        (
+            UTF_8,
+            Place::KeyOrValue,
+            "a plain text of more than sixteen characters",
+            b"|a\\ plain\\ text\\ of\\ more\\ than\\ sixteen\\ characters",
+        ),
+        (
+            UTF_8,
+            Place::KeyOrValue,
+            "\t\n\x0c\r !#:=\\",
+            b"|\\t\\n\\f\\r\\ \\!\\#\\:\\=\\\\",
+        ),
+        (
+            UTF_8,
+            Place::KeyOrValue,
+            "\0\x1f\x7f",
+            b"|\\u0000\\u001f\x7f",
+        ),
+        (
+            UTF_8,
+            Place::KeyOrValue,
+            "\u{e9}\u{1f41e}",
+            b"|\xc3\xa9\xf0\x9f\x90\x9e",
+        ),
+        (
+            WINDOWS_1252,
+            Place::KeyOrValue,
+            "\u{e9}\u{20ac}",
+            b"|\xe9\x80",
+        ),
+        (
+            WINDOWS_1252,
+            Place::KeyOrValue,
+            "\u{80}\u{3042}",
+            b"|\\u0080\\u3042",
+        ),
+        (
+            WINDOWS_1252,
+            Place::KeyOrValue,
+            "\u{1f41e}",
+            b"|\\ud83d\\udc1e",
+        ),
+        (ASCII, Place::KeyOrValue, "\u{e9}\x7f", b"|\\u00e9\x7f"),
+        (
+            UTF_8,
+            Place::Comment,
+            " a = #\t\\\r\n",
+            b"| a = #\t\\\\\\r\\n",
+        ),
+        (
+            WINDOWS_1252,
+            Place::Comment,
+            "\u{e9} \u{3042}",
+            b"|\xe9 \\u3042",
+        ),
+        (ASCII, Place::Comment, "\u{e9}", b"|\\u00e9"),
+        (UTF_8, Place::Prefix, "# \\\u{e9}", b"|# \\\xc3\xa9"),
+        (WINDOWS_1252, Place::Prefix, "# \u{3042}", b"|# \\u3042"),
+        (ASCII, Place::Prefix, "# \u{e9}", b"|# \\u00e9"),
+    ];
+    for (repertoire, place, text, wanted) in rows {
+        assert_eq!(rt;
+            printed(rt.alloc(), repertoire, place, text)?.as_slice(),
+            wanted
+        );
+    }
+    Ok(())
+}
+
+#[test]
+fn prints_keys_that_are_no_byte_order_mark(rt: HostRuntime) -> Result<(), Fail> {
+    let rows: [(Repertoire, bool, &str, &[u8]); 9] = [
+        (WINDOWS_1252, true, "a", b"a"),
+        (WINDOWS_1252, true, "\u{fe}\u{ff}", b"\\u00fe\xff"),
+        (WINDOWS_1252, true, "\u{ff}\u{fe}", b"\\u00ff\xfe"),
+        (
+            WINDOWS_1252,
+            true,
+            "\u{ef}\u{bb}\u{bf}x",
+            b"\\u00ef\xbb\xbfx",
+        ),
+        (WINDOWS_1252, true, "\u{ef}\u{bb}", b"\xef\xbb"),
+        (WINDOWS_1252, false, "\u{fe}\u{ff}", b"\xfe\xff"),
+        (ASCII, true, "\u{fe}\u{ff}", b"\\u00fe\\u00ff"),
+        (UTF_8, true, "\u{feff}x", b"\\ufeffx"),
+        (UTF_8, false, "\u{feff}x", b"\xef\xbb\xbfx"),
+    ];
+    for (repertoire, first, key, wanted) in rows {
+        let mut line = Vec::new(rt.alloc());
+        print_key(&mut line, repertoire, first, key)?;
+        assert_eq!(rt; line.as_slice(), wanted);
+    }
+    Ok(())
+}
+
+#[test]
+fn prints_raw_texts(rt: HostRuntime) -> Result<(), Fail> {
+    let mut line = Vec::from_slice(rt.alloc(), b"a")?;
+    print_raw(&mut line, " = \\")?;
+    assert_eq!(rt; line.as_slice(), b"a = \\".as_slice());
+    Ok(())
+}
