@@ -6,3 +6,5 @@ pub mod DecodeIter
 pub mod Printing
 pub mod Texts
 pub mod Scanning
+pub mod KeyFronts
+pub mod AsciiFronts

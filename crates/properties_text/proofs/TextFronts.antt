@@ -1,18 +1,14 @@
 -- Fronts of bytes that are text as they stand.
-use Rattle.std.proofs.Common.{◌≡◌, ◌↔◌, ◌<◌, ◌≤◌, arith, length-append, ℕ, Bool, true, nat_lt, List, [], ◌∷◌, ◌++◌, length, take, drop, ◌-◌, length-drop, refl, sym, ap, ◌∙◌, subst, ltb-true, inl, inr, append-nil, append_assoc}
-use Rattle.std.specs.Prelude.{Result, Ok, Err, MatchResult, OnOk, is_ok, IsSome, take_while, if◌then◌else◌}
+use Rattle.std.proofs.Common.{◌≡◌, ◌↔◌, ◌<◌, ◌≤◌, arith, length-append, ℕ, true, List, [], ◌∷◌, ◌++◌, length, take, drop, ◌-◌, length-drop, refl, sym, ap, ◌∙◌, append-nil, append_assoc}
+use Rattle.std.specs.Prelude.{Result, Ok, Err, MatchResult, OnOk, is_ok, IsSome, if◌then◌else◌}
 use Rattle.std.specs.Result.{result_ok}
-use Rattle.std.specs.List.{AllByRecursion}
-use Rattle.std.specs.Str.{IsAscii, IsUtf8, chars}
+use Rattle.std.specs.Str.{IsUtf8, chars}
 use Rattle.std.proofs.Math.Utf8.{scalar as is_scalar}
 use Rattle.std.specs.Char.{IsScalar, encode_utf8}
 use Rattle.std.proofs.Math.Seq.{take-length}
-use Rattle.std.proofs.lemmas.Bool.{cases_Bool, and_from}
+use Rattle.std.proofs.lemmas.Bool.{and_from}
 use Rattle.std.proofs.lemmas.List.{nil_from_length}
-use Rattle.std.proofs.lemmas.List.Elements.{All-from_recursion}
-use Rattle.std.proofs.lemmas.List.Sums.{take_while-cons}
 use Rattle.std.proofs.lemmas.Str.{chars-append, chars-encodes, length-encode, len_utf8_bounds, IsUtf8-from_ascii}
-use Rattle.std.proofs.lemmas.Str.Ascii.{IsAscii-from_all}
 use Rattle.properties_format.specs.Pieces.{characters}
 use Rattle.properties_format.specs.Encoding.{Encoding, windows_1252, utf_8, utf_16le, utf_16be}
 use Rattle.properties_format.specs.Reading.Encoding.{first_piece, pieces_of}
@@ -26,30 +22,6 @@ pub ok-exactly : {X E : Type 0} (A : X → Type 0) (B : E → Type 0) (P : Type 
     → MatchResult r (λ x. A x × P) (λ e. ¬ P × B e) → IsSome (result_ok r) ↔ P
 ok-exactly A B P (Ok x) h = (λ k. h.1, λ k. refl)
 ok-exactly A B P (Err e) h = (λ k. absurd (cc), λ k. absurd (h.0 k))
-
--- a byte of ASCII
-abbrev pub is_ascii : ℕ → Bool
-is_ascii b = nat_lt b 0x80
-
-passing : (bs : List ℕ) → AllByRecursion (λ b. b < 0x80) (take_while is_ascii bs)
-passing [] = tt
-passing (b ∷ bs) = elim (cases_Bool (is_ascii b)) [
-  | inl h ↦ rw (take_while-cons, h) (ltb-true b 0x80 h, passing bs)
-  | inr h ↦ rw (take_while-cons, h) tt
-]
-
-passing-front : (bs : List ℕ) → take (length (take_while is_ascii bs)) bs ≡ take_while is_ascii bs
-passing-front [] = refl
-passing-front (b ∷ bs) = elim (cases_Bool (is_ascii b)) [
-  | inl h ↦ rw (take_while-cons, h) (ap (λ v. b ∷ v) (passing-front bs))
-  | inr h ↦ rw (take_while-cons, h) refl
-]
-
--- the first of the bytes that are ASCII
-pub front-ascii : (n : ℕ) (bs : List ℕ) → n ≡ length (take_while is_ascii bs) → IsAscii (take n bs)
-front-ascii n bs h =
-    let front = take_while is_ascii bs in
-    subst IsAscii (sym (ap (λ v. take v bs) h ∙ passing-front bs)) (IsAscii-from_all front (All-from_recursion (λ b. b < 0x80) front (passing bs)))
 
 whole-front : (e : Encoding) (d : List ℕ) → characters (pieces_of e (d ++ [])) ≡ chars d ++ characters (pieces_of e []) → chars d ≡ characters (pieces_of e d)
 whole-front e d h =

@@ -1,5 +1,6 @@
 -- What each part of the decoder gives: the byte order mark, the first piece, and text that stands as it is.
-use Rattle.std.specs.Prelude.{◌≡◌, ℕ, ◌≤◌, Bool, true, false, List, length, drop}
+use Rattle.std.specs.Prelude.{◌≡◌, ℕ, ◌≤◌, ◌<◌, ◌+◌, ◌++◌, Bool, true, false, List, [], ◌∷◌, length, drop}
+use Rattle.std.specs.List.{AllByRecursion}
 use Rattle.std.specs.Str.{IsAscii}
 use Rattle.std.specs.declared.borrow.CowStr.{CowStr}
 use Rattle.std.specs.declared.borrow.CowStr.TheVariants.{Borrowed, Owned}
@@ -11,9 +12,11 @@ use Rattle.properties_format.specs.Reading.Encoding.{first_piece, pieces_of}
 use Rattle.properties_format.specs.Reading.Waiting.{awaits_bom, awaits_more}
 use Rattle.properties_text.specs.Encoding.{encoding_of}
 use Rattle.properties_text.specs.declared.encoding.Encoding.{Encoding}
+use Rattle.properties_text.specs.declared.encoding.Encoding.TheVariants.{UTF_16LE, UTF_16BE}
 use Rattle.properties_text.specs.declared.encoding.byte_order_mark.ByteOrderMark.{ByteOrderMark}
 use Rattle.properties_text.specs.declared.encoding.byte_order_mark.ByteOrderMark.TheVariants.{Present, Absent, Undecided}
 use Rattle.properties_text.specs.declared.encoding.first_piece.FirstPiece.{FirstPiece}
+use Rattle.properties_text.specs.declared.encoding.run.AsciiFront.{AsciiFront}
 use Rattle.properties_text.specs.declared.encoding.utf_8.ByteRange.{ByteRange}
 use Rattle.properties_text.specs.declared.encoding.utf_16.ByteOrder.{ByteOrder}
 use Rattle.properties_text.specs.declared.encoding.utf_16.ByteOrder.TheVariants.{LowFirst, HighFirst}
@@ -58,6 +61,23 @@ IsFirstPiece e b d shown = ShowsPiece (first_piece e b d) (awaits_more e b d) sh
 -- the characters of some bytes by themselves
 abbrev pub text_of : Encoding → List ℕ → List ℕ
 text_of encoding d = characters (pieces_of (encoding_of encoding) d)
+
+-- These are four characters of ASCII, and the bytes after them.
+pub record AreFour (a b c d : ℕ) (rest : List ℕ) (front : AsciiFront) : Type 0 where
+  pub text : front.text ≡ a ∷ b ∷ c ∷ d ∷ []
+  pub rest_is : front.rest.now ≡ rest
+  pub ascii : AllByRecursion (λ u. u < 0x80) (a ∷ b ∷ c ∷ d ∷ [])
+
+-- The text of some bytes begins with these four characters of ASCII, and goes on with that of these bytes.
+pub record IsAsciiFront (encoding : Encoding) (bytes : List ℕ) (front : AsciiFront) : Type 0 where
+  pub ascii : AllByRecursion (λ u. u < 0x80) front.text
+  pub four : length front.text ≡ 4
+  pub same : text_of encoding bytes ≡ front.text ++ text_of encoding front.rest.now
+  pub shorter : length front.rest.now + 4 ≤ length bytes
+
+abbrev pub utf_16_of : ByteOrder → Encoding
+utf_16_of LowFirst = UTF_16LE
+utf_16_of HighFirst = UTF_16BE
 
 -- The bytes are text as they stand, in UTF-8: they are ASCII, or well-formed from the first to the last. In UTF-16 none are.
 abbrev pub IsText : format.Encoding → List ℕ → Type 0

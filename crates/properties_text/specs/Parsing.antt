@@ -1,12 +1,18 @@
 -- What a contract sees of the parts of a line.
-use Rattle.std.specs.Prelude.{◌≤◌, ◌-◌, ℕ, List, length, take, drop, Option, Some, None}
+use Rattle.std.specs.Prelude.{◌≤◌, ◌-◌, ◌||◌, ◌==◌, not, ℕ, Bool, List, length, take, drop, Option, Some, None}
 use Rattle.std.specs.Str.{chars, IsCharBoundary}
+use Rattle.properties_format.specs.Text.{backslash}
+use Rattle.properties_format.specs.Reading.Split.{ends_key}
 use Rattle.properties_format.specs.Split.{Logical, blank, comment, pair}
 use Rattle.properties_text.specs.declared.parse.ParsedLine.{ParsedLine}
 use Rattle.properties_text.specs.declared.parse.ParsedLine.TheVariants as line
 use Rattle.properties_text.specs.declared.parse.ParsedSpans.{ParsedSpans}
 use Rattle.properties_text.specs.declared.parse.ParsedSpans.TheVariants as spans
 use Rattle.properties_text.specs.declared.parse.Span.{Span}
+
+-- a character of a key that neither ends it nor takes the next one
+abbrev pub is_plain : ℕ → Bool
+is_plain c = not (c == backslash || ends_key c)
 
 -- what a line is, in bytes
 abbrev pub parsed : Option ParsedLine → Logical

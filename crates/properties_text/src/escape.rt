@@ -45,7 +45,11 @@ impl From<AllocError> for UnescapeError {
 
 /// The text with its escapes resolved, which is the text itself where it holds no backslash.
 ///
-/// A backslash that stands last is U+0000.
+/// A backslash that stands last is U+0000. Of several malformed escapes the error is that of the first.
+///
+/// ```text
+/// let text = unescape(alloc, r"caf\u00e9\tbar")?; // `café`, a tab and `bar`, owned
+/// ```
 pub fn unescape(alloc: Global, s: &str) -> Result<CowStr<'_>, UnescapeError>
     ensures meaning { Unescapes (chars s.now) result }
     ensures lent { is_lent result ≡ not (holds_backslash (chars s.now)) }

@@ -12,3 +12,4 @@ pub mod encoding;
 pub mod escape;
 pub mod parse;
 pub mod print;
+mod vectors;

@@ -1,13 +1,16 @@
 // A logical line, cut into its parts.
 
-ghost use Rattle.std.specs.Prelude.{◌≡◌, ◌≤◌, Some, false, length, take, drop};
+ghost use Rattle.std.specs.Prelude.{◌≡◌, ◌≤◌, Some, true, false, length, take, drop};
+ghost use Rattle.std.specs.List.{All};
 ghost use Rattle.std.specs.Str.{chars};
 ghost use Rattle.properties_format.specs.Text.{without_leading_blanks};
 ghost use Rattle.properties_format.specs.Split.{IsSplit};
 ghost use Rattle.properties_format.specs.Reading.Split.{without_trailing_blanks, trimmed, ends_key, cut_key, past_separator};
-ghost use Rattle.properties_text.specs.Parsing.{parsed, bytes_in, spanned, in_characters, IsSpan, AreSpans};
+ghost use Rattle.properties_text.specs.Parsing.{is_plain, parsed, bytes_in, spanned, in_characters, IsSpan, AreSpans};
 
 use crate::characters::{is_blank, is_comment_sign, is_separator};
+use crate::vectors::{has_control, special_bits};
+use std::simd::prelude::*;
 
 /// The parts of a line, before their escapes are resolved.
 #[derive(Clone, Copy)]
@@ -37,6 +40,12 @@ pub enum ParsedSpans {
 /// The comment or the pair of a line, or `None` where the line is blanks alone.
 ///
 /// Line ends are characters like others here.
+///
+/// ```text
+/// if let Some(ParsedLine::KVPair(key, value)) = parse_line(r"a\ key : a\tvalue") {
+///     // The key is `a\ key`, and the value `a\tvalue`: the escapes stand as they did.
+/// }
+/// ```
 pub fn parse_line(line: &str) -> Option<ParsedLine<'_>>
     ensures slices { IsSplit line.now (parsed result) }
     ensures meets { IsSplit (chars line.now) (in_characters (parsed result)) }
@@ -138,17 +147,40 @@ fn key_length(text: &[u8]) -> usize
     ensures key { (cut_key text.now false).key ≡ take result text.now }
     ensures rest { (cut_key text.now false).rest ≡ drop result text.now }
 {
+    let mut at = plain_front(text);
     let mut is_escaped = false;
-    for (at, byte) in text.iter().enumerate() {
+    while at < text.len() {
+        let byte = text[at];
         if is_escaped {
             is_escaped = false;
-        } else if *byte == b'\\' {
+        } else if byte == b'\\' {
             is_escaped = true;
-        } else if ends_key(*byte) {
+        } else if ends_key(byte) {
             return at;
         }
+        at += 1;
     }
-    text.len()
+    at
+}
+
+// How many bytes at the front neither end a key nor are backslashes, as far as blocks of sixteen tell.
+fn plain_front(text: &[u8]) -> usize
+    ensures within { result ≤ length text.now }
+    ensures plain { All (λ c. is_plain c ≡ true) (take result text.now) }
+{
+    let mut at = 0;
+    while text.len() - at >= 16 {
+        let v = u8x16::from_slice(&text[at..]);
+        if has_control(v) {
+            break;
+        }
+        let first = special_bits(v).trailing_zeros() as usize;
+        if first < 16 {
+            return at + first;
+        }
+        at += 16;
+    }
+    at
 }
 
 // How much stands before the value, in a text that begins where the key ends.

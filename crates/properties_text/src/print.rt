@@ -61,7 +61,11 @@ const WINDOWS_1252: Repertoire = Repertoire {
     ascii_only: false,
 };
 
-/// Prints a text.
+/// Appends the bytes of a text, escaped as its place in a line asks for.
+///
+/// ```text
+/// print_text(&mut line, repertoire, Place::KeyOrValue, "a b")?; // appends `a\ b`
+/// ```
 pub fn print_text(
     line: &mut Vec<u8>,
     repertoire: Repertoire,
@@ -129,7 +133,7 @@ fn print_characters(
     Ok(())
 }
 
-/// Prints a key. At the front of the first line it isn't to be taken for a byte order mark.
+/// Appends the bytes of a key. At the front of the first line it isn't to be taken for a byte order mark.
 pub fn print_key(
     line: &mut Vec<u8>,
     repertoire: Repertoire,
@@ -148,7 +152,14 @@ pub fn print_key(
 pub fn print_raw(line: &mut Vec<u8>, text: &str) -> Result<(), AllocError>
     ensures { AppendsOnOk line.old text.now result line.new }
 {
-    line.extend_from_slice(text.as_bytes())
+    match text.as_bytes() {
+        // What stands between keys and values, and what ends lines, is mostly one byte.
+        [byte] => {
+            line.push(*byte)?;
+            Ok(())
+        }
+        bytes => line.extend_from_slice(bytes),
+    }
 }
 
 // Whether a key's bytes begin like a byte order mark, by its first characters alone.

@@ -54,7 +54,7 @@ impl ItemReader {
         ensures same_reader { IsSameReader R.CountedRead reader.old reader.new }
         ensures nearer { OnSome result (lines_left self.new.state < lines_left self.old.state) }
     {
-        if let Some(number) = self.lines.next_plain() {
+        while let Some(number) = self.lines.next_plain() {
             if let Some(item) = find_plain(number, self.lines.line()) {
                 return Some(Ok(item));
             }
@@ -75,11 +75,6 @@ impl ItemReader {
         ensures nearer { OnSome (transposed result) (lines_left self.new.state < lines_left self.old.state) }
     {
         'lines: loop {
-            'plain: while let Some(number) = self.lines.next_plain() {
-                if let Some(item) = find_plain(number, self.lines.line()) {
-                    return Ok(Some(item));
-                }
-            }
             let Some(next) = self.lines.next_line(reader) else {
                 return Ok(None);
             };
@@ -93,6 +88,11 @@ impl ItemReader {
                 Err(error) => {
                     self.lines.end();
                     return Err(error);
+                }
+            }
+            'plain: while let Some(number) = self.lines.next_plain() {
+                if let Some(item) = find_plain(number, self.lines.line()) {
+                    return Ok(Some(item));
                 }
             }
         }

@@ -65,6 +65,19 @@ last-table =
     192 ∷ 193 ∷ 194 ∷ 195 ∷ 196 ∷ 197 ∷ 198 ∷ 199 ∷ 200 ∷ 201 ∷ 202 ∷ 203 ∷ 204 ∷ 205 ∷ 206 ∷ 207 ∷ 208 ∷ 209 ∷ 210 ∷ 211 ∷ 212 ∷ 213 ∷ 214 ∷ 215 ∷ 216 ∷ 217 ∷ 218 ∷ 219 ∷ 220 ∷ 221 ∷ 222 ∷ 223 ∷
     224 ∷ 225 ∷ 226 ∷ 227 ∷ 228 ∷ 229 ∷ 230 ∷ 231 ∷ 232 ∷ 233 ∷ 234 ∷ 235 ∷ 236 ∷ 237 ∷ 238 ∷ 239 ∷ 240 ∷ 241 ∷ 242 ∷ 243 ∷ 244 ∷ 245 ∷ 246 ∷ 247 ∷ 248 ∷ 249 ∷ 250 ∷ 251 ∷ 252 ∷ 253 ∷ 254 ∷ 255 ∷ []
 
+-- a byte before which no backslash stands
+pub plain-byte : (b : ℕ) → backslashes_before b ≡ 0 → spelt_byte b ≡ b ∷ []
+plain-byte b h = elim (cases_Bool (is_special b)) [
+  | inl s ↦ absurd (let one : backslashes_before b ≡ 1 = rw s refl in omega (arith, one, h))
+  | inr s ↦ elim (cases_Bool (has_letter b)) [
+    | inl l ↦ absurd (let one : backslashes_before b ≡ 1 = rw (s, l) refl in omega (arith, one, h))
+    | inr l ↦ elim (cases_Bool (nat_lt b space)) [
+      | inl k ↦ absurd (let two : backslashes_before b ≡ 2 = rw (s, l, k) refl in omega (arith, two, h))
+      | inr k ↦ rw (s, l, k) refl
+    ]
+  ]
+]
+
 pub before-at : (b : ℕ) → b < 256 → slice_index before-table b ≡ backslashes_before b
 before-at b h = eqb-true _ _ (agree_below_at (λ b. slice_index before-table b == backslashes_before b) (λ k. true) 256 b refl h)
 

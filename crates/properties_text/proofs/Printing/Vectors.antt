@@ -13,7 +13,7 @@ use Rattle.properties_format.specs.Text.{space, backslash}
 use Rattle.properties_format.specs.Printing.{is_special, has_letter}
 use Rattle.properties_text.specs.Printing.{spelt_byte, spelt_bytes, with_backslashes}
 use Rattle.properties_text.specs.declared.print.bytes.expand.TheConstants.{EXPAND}
-use Rattle.properties_text.specs.declared.print.bytes.vectors.TheConstants.{SPECIAL}
+use Rattle.properties_text.specs.declared.vectors.TheConstants.{SPECIAL}
 use Rattle.properties_text.proofs.Printing.Bytes.{spelt_bytes-append}
 
 -- ---- the table

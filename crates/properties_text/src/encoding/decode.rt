@@ -16,6 +16,12 @@ use std::borrow::CowStr;
 const RUN: usize = 256;
 
 /// The text of some bytes by themselves, as of one line. It is lent where the bytes are that text already.
+///
+/// What is no character of the encoding is U+FFFD, as often as the WHATWG Encoding Standard says.
+///
+/// ```text
+/// let text = decode_line(alloc, Encoding::WINDOWS_1252, b"caf\xe9")?; // `café`, owned
+/// ```
 #[inline]
 pub fn decode_line(
     alloc: Global,
@@ -49,7 +55,7 @@ pub fn as_text(encoding: Encoding, bytes: &[u8]) -> Option<&str>
     }
 }
 
-/// Appends the text of some bytes: what stands as text at the front, a run of characters, and so on.
+/// Appends the text of some bytes: of UTF-8 what stands as text at the front, a run of characters, and so on.
 #[inline(never)]
 pub fn push_decoded(text: &mut String, encoding: Encoding, bytes: &[u8]) -> Result<(), AllocError>
     ensures { OnOk result
@@ -80,14 +86,13 @@ pub fn push_text(text: &mut String, more: &str) -> Result<(), AllocError>
     text.push_str(more)
 }
 
-// What stands as text at the front, and what is after it.
+// What stands as text at the front of UTF-8, and what is after it. Other encodings are decoded in runs alone.
 fn text_front(encoding: Encoding, bytes: &[u8]) -> (&str, &[u8])
     ensures text { text_of encoding bytes.now ≡ chars result.0.now ++ text_of encoding result.1.now }
     ensures within { length result.1.now ≤ length bytes.now }
 {
     match encoding {
-        Encoding::WINDOWS_1252 => windows_1252::text_front(bytes),
         Encoding::UTF_8 => utf_8::text_front(bytes),
-        Encoding::UTF_16LE | Encoding::UTF_16BE => ("", bytes),
+        Encoding::WINDOWS_1252 | Encoding::UTF_16LE | Encoding::UTF_16BE => ("", bytes),
     }
 }

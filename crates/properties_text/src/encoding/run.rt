@@ -1,12 +1,14 @@
 // Many characters at once: the text of bytes at the front, in a piece of memory.
 
-ghost use Rattle.std.specs.Prelude.{◌≡◌, ◌≤◌, ◌<◌, ◌+◌, ◌%◌, ◌++◌, ◌∷◌, [], length, take};
+ghost use Rattle.std.specs.Prelude.{◌≡◌, ◌≤◌, ◌<◌, ◌+◌, ◌%◌, ◌++◌, ◌∷◌, [], length, take, IfSome};
 ghost use Rattle.std.specs.Char.{encode_utf8, IsScalar};
 ghost use Rattle.std.specs.Str.{chars, IsUtf8};
-ghost use Rattle.properties_text.specs.Decoding.{text_of};
+ghost use Rattle.properties_text.specs.Decoding.{text_of, utf_16_of, AreFour, IsAsciiFront};
+ghost use Rattle.properties_text.specs.declared.encoding.Encoding.TheVariants.{WINDOWS_1252};
 
 use super::Encoding;
 use super::first_piece::first_piece;
+use super::utf_16::ByteOrder;
 
 /// What was decoded of some bytes.
 #[derive(Clone, Copy)]
@@ -54,11 +56,96 @@ fn decode_run_of<'a>(run: &mut [u8], encoding: Encoding, bytes: &'a [u8]) -> Dec
         if run.len() - at < 4 {
             return Decoded { length: at, rest };
         }
-        let next = first_piece(encoding, *first, others);
-        at = put_character(run, at, next.character);
-        rest = &rest[next.length..];
+        if let Some(front) = ascii_front(encoding, rest) {
+            at = put_four(run, at, front.text);
+            rest = front.rest;
+        } else {
+            let next = first_piece(encoding, *first, others);
+            at = put_character(run, at, next.character);
+            rest = &rest[next.length..];
+        }
     }
     Decoded { length: at, rest }
+}
+
+// Four characters of ASCII, and the bytes after them.
+#[derive(Clone, Copy)]
+struct AsciiFront<'a> {
+    text: [u8; 4],
+    rest: &'a [u8],
+}
+
+// Four characters of ASCII at the front, where they stand there. In UTF-8 none are sought, since text that stands as it is
+// was taken before.
+#[inline(always)]
+fn ascii_front(encoding: Encoding, bytes: &[u8]) -> Option<AsciiFront<'_>>
+    ensures { IfSome result (IsAsciiFront encoding bytes.now) }
+{
+    match encoding {
+        Encoding::WINDOWS_1252 => ascii_bytes(bytes),
+        Encoding::UTF_8 => None,
+        Encoding::UTF_16LE => ascii_units(ByteOrder::LowFirst, bytes),
+        Encoding::UTF_16BE => ascii_units(ByteOrder::HighFirst, bytes),
+    }
+}
+
+#[inline(always)]
+fn ascii_bytes(bytes: &[u8]) -> Option<AsciiFront<'_>>
+    ensures { IfSome result (IsAsciiFront WINDOWS_1252 bytes.now) }
+{
+    if bytes.len() < 4 {
+        return None;
+    }
+    four_of_ascii(
+        u16::from(bytes[0]),
+        u16::from(bytes[1]),
+        u16::from(bytes[2]),
+        u16::from(bytes[3]),
+        &bytes[4..],
+    )
+}
+
+#[inline(always)]
+fn ascii_units(order: ByteOrder, bytes: &[u8]) -> Option<AsciiFront<'_>>
+    ensures { IfSome result (IsAsciiFront (utf_16_of order) bytes.now) }
+{
+    if bytes.len() < 8 {
+        return None;
+    }
+    four_of_ascii(
+        order.unit(bytes[0], bytes[1]),
+        order.unit(bytes[2], bytes[3]),
+        order.unit(bytes[4], bytes[5]),
+        order.unit(bytes[6], bytes[7]),
+        &bytes[8..],
+    )
+}
+
+// These four units, where all of them are ASCII.
+#[inline(always)]
+fn four_of_ascii(a: u16, b: u16, c: u16, d: u16, rest: &[u8]) -> Option<AsciiFront<'_>>
+    ensures { IfSome result (AreFour a b c d rest.now) }
+{
+    if a < 0x80 && b < 0x80 && c < 0x80 && d < 0x80 {
+        Some(AsciiFront {
+            text: [a as u8, b as u8, c as u8, d as u8],
+            rest,
+        })
+    } else {
+        None
+    }
+}
+
+// Writes four bytes from this place on, and returns the place after them.
+#[inline(always)]
+fn put_four(run: &mut [u8], at: usize, text: [u8; 4]) -> usize
+    requires { at + 4 ≤ length run.old }
+    ensures after { result ≡ at + 4 }
+    ensures same_room { length run.new ≡ length run.old }
+    ensures text { take result run.new ≡ take at run.old ++ text }
+{
+    run[at..at + 4].copy_from_slice(&text);
+    at + 4
 }
 
 // Writes a character from this place on, and returns the place after it.

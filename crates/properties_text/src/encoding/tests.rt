@@ -13,13 +13,28 @@ use std::io;
 use std::test::Fail;
 
 // An encoding that is asked for, some bytes, and the text that they are decoded to.
-const ROWS: [(Encoding, &[u8], &str); 21] = [
+const ROWS: [(Encoding, &[u8], &str); 24] = [
     (
         Encoding::WINDOWS_1252,
         b"\x80\x81\x9f\xe9",
         "\u{20ac}\u{81}\u{178}\u{e9}",
     ),
     (Encoding::UTF_8, b"\xf0\x9f\x90\x9e", "\u{1f41e}"),
+    (
+        Encoding::WINDOWS_1252,
+        b"eight and\xe9abc\x80",
+        "eight and\u{e9}abc\u{20ac}",
+    ),
+    (
+        Encoding::UTF_16LE,
+        b"l\0o\0n\0g\0e\0\xe9\0x\0y\0z\0\0\x41",
+        "longe\u{e9}xyz\u{4100}",
+    ),
+    (
+        Encoding::UTF_16BE,
+        b"\0l\0o\0n\0g\0e\0\xe9\0x\0y\0z\x41\0",
+        "longe\u{e9}xyz\u{4100}",
+    ),
     (Encoding::UTF_8, b"\xf0\x9f\x90", "\u{fffd}"),
     (Encoding::UTF_8, b"\xed\xa0\x80", "\u{fffd}\u{fffd}\u{fffd}"),
     (Encoding::UTF_8, b"\xf0\x80A", "\u{fffd}\u{fffd}A"),

@@ -16,7 +16,8 @@ pub enum ByteOrder {
 }
 
 impl ByteOrder {
-    fn unit(self, first: u8, second: u8) -> u16
+    /// The unit of two bytes.
+    pub fn unit(self, first: u8, second: u8) -> u16
         ensures { result ≡ unit_of self first second }
     {
         let (low, high) = match self {

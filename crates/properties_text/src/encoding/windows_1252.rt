@@ -1,6 +1,6 @@
 // One byte a character.
 
-ghost use Rattle.std.specs.Prelude.{◌≡◌, ◌<◌, ◌==◌, ◌++◌, ◌↔◌, length, position, take_while, nat_lt, ◌≤◌, IfSome, IsSome};
+ghost use Rattle.std.specs.Prelude.{◌≡◌, ◌<◌, ◌==◌, ◌↔◌, length, position, IfSome, IsSome};
 ghost use Rattle.std.specs.Str.{IsAscii};
 ghost use Rattle.properties_format.specs.Windows1252.{windows_1252_character, windows_1252_byte};
 
@@ -34,22 +34,6 @@ pub fn as_text(bytes: &[u8]) -> Option<&str>
     } else {
         None
     }
-}
-
-/// The ASCII at the front, and what is after it.
-pub fn text_front(bytes: &[u8]) -> (&str, &[u8])
-    ensures whole { bytes.now ≡ result.0.now ++ result.1.now }
-    ensures ascii { IsAscii result.0.now }
-{
-    let (front, after) = bytes.split_at(ascii_length(bytes));
-    (unsafe { str::from_utf8_unchecked(front) }, after)
-}
-
-fn ascii_length(bytes: &[u8]) -> usize
-    ensures value { result ≡ length (take_while (λ b. nat_lt b 0x80) bytes.now) }
-    ensures within { result ≤ length bytes.now }
-{
-    bytes.iter().take_while(|byte| **byte < 0x80).count()
 }
 
 /// The byte of a character, where there is one.

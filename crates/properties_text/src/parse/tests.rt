@@ -27,6 +27,22 @@ fn cuts_lines_into_slices(rt: HostRuntime) -> Result<(), Fail> {
         ("\t!\x0c foo\t \x0c", r#"comment "foo""#),
         ("# \u{e9} \u{e9} ", "comment \"\u{e9} \u{e9}\""),
         ("a = b", r#"pair "a" "b""#),
+        (
+            "a.key.of.many.letters=b",
+            r#"pair "a.key.of.many.letters" "b""#,
+        ),
+        (
+            r"a.key.of\ many\=letters:b",
+            r#"pair "a.key.of\\ many\\=letters" "b""#,
+        ),
+        (
+            "a.key.of.many.letters\tb",
+            r#"pair "a.key.of.many.letters" "b""#,
+        ),
+        (
+            "a.key!of#many.letters b",
+            r#"pair "a.key!of#many.letters" "b""#,
+        ),
         ("a : b", r#"pair "a" "b""#),
         ("a b", r#"pair "a" "b""#),
         (" a : b", r#"pair "a" "b""#),

@@ -4,15 +4,19 @@ ghost use Rattle.std.specs.Prelude.{◌≡◌, ◌+◌, ◌*◌, ◌<◌, ◌≤
 ghost use Rattle.properties_text.specs.Printing.{AppendsOnOk, ArePrinted, spelt_byte, spelt_bytes, backslashes_before, last_of};
 
 use super::print_byte;
+use crate::vectors::has_control;
 use std::alloc::AllocError;
 use std::simd::prelude::*;
-use vectors::{has_control, put_16, put_ends};
+use vectors::{put_16, put_ends};
 
 mod expand;
 mod vectors;
 
 // How many bytes are printed at once.
 const STEP: usize = 64;
+
+// Fewer bytes are printed one by one, since no vector holds them.
+const FEW: usize = 8;
 
 // How many backslashes are printed before the last byte of what is printed for a byte, or 2 where that is a longer
 // escape.
@@ -48,6 +52,9 @@ const LAST: [u8; 256] = [
 pub fn print_bytes(line: &mut Vec<u8>, bytes: &[u8]) -> Result<(), AllocError>
     ensures { AppendsOnOk line.old (spelt_bytes bytes.now) result line.new }
 {
+    if bytes.len() < FEW {
+        return print_few(line, bytes);
+    }
     let mut piece = [0; 2 * STEP];
     let mut rest = bytes;
     while let Some(first) = rest.first() {
@@ -60,6 +67,28 @@ pub fn print_bytes(line: &mut Vec<u8>, bytes: &[u8]) -> Result<(), AllocError>
             rest = &rest[printed.read..];
         }
     }
+    Ok(())
+}
+
+// Prints bytes one by one.
+fn print_few(line: &mut Vec<u8>, bytes: &[u8]) -> Result<(), AllocError>
+    ensures { AppendsOnOk line.old (spelt_bytes bytes.now) result line.new }
+{
+    for byte in bytes {
+        print_one(line, *byte)?;
+    }
+    Ok(())
+}
+
+// Prints a byte. Most stand as they are.
+#[inline(always)]
+fn print_one(line: &mut Vec<u8>, byte: u8) -> Result<(), AllocError>
+    ensures { AppendsOnOk line.old (spelt_byte byte) result line.new }
+{
+    if backslashes_before(byte) > 0 {
+        return print_byte(line, byte);
+    }
+    line.push(byte)?;
     Ok(())
 }
 

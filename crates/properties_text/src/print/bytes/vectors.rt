@@ -1,27 +1,14 @@
 // Sixteen bytes at once, as they are printed in a key or a value.
 
-ghost use Rattle.std.specs.Prelude.{◌≡◌, ◌↔◌, ◌+◌, ◌*◌, ◌%◌, ◌^◌, ◌<◌, ◌≤◌, ◌++◌, false, length, take, drop, replicate, map, count_ones};
-ghost use Rattle.std.specs.List.{All};
+ghost use Rattle.std.specs.Prelude.{◌≡◌, ◌+◌, ◌*◌, ◌%◌, ◌^◌, ◌<◌, ◌≤◌, ◌++◌, length, take, drop, replicate, map, count_ones};
 ghost use Rattle.std.specs.Simd.Lanes.{mask_l};
-ghost use Rattle.properties_format.specs.Text.{space, backslash};
+ghost use Rattle.properties_format.specs.Text.{backslash};
 ghost use Rattle.properties_format.specs.Printing.{is_special};
 ghost use Rattle.properties_text.specs.Printing.{with_backslashes};
 
 use super::expand::EXPAND;
+use crate::vectors::special_bits;
 use std::simd::prelude::*;
-
-// The special byte with these low four bits, or 0.
-static SPECIAL: [u8; 16] = [
-    b' ', b'!', 0, b'#', 0, 0, 0, 0, 0, 0, b':', 0, b'\\', b'=', 0, 0,
-];
-
-/// Whether a control character is among them.
-#[inline(always)]
-pub fn has_control(v: u8x16) -> bool
-    ensures { (result ≡ false) ↔ All (λ b. space ≤ b) v }
-{
-    v.simd_lt(u8x16::splat(b' ')).to_bitmask() != 0
-}
 
 /// Prints sixteen bytes from this place on, and returns the place after the first `kept` of them.
 #[inline(always)]
@@ -87,16 +74,6 @@ fn place_after(at: usize, bits: u64, count: usize) -> usize
 {
     let first = bits % (1 << count);
     at + (count + first.count_ones() as usize)
-}
-
-// Bit i is set where byte i is special.
-#[inline(always)]
-fn special_bits(v: u8x16) -> u64
-    ensures { result ≡ mask_l (map is_special v) }
-{
-    let low = v & u8x16::splat(15);
-    let special = u8x16::from_array(SPECIAL).swizzle_dyn(low);
-    v.simd_eq(special).to_bitmask()
 }
 
 // Prints the first eight lanes, where these bits say which are special. The other lanes are backslashes.

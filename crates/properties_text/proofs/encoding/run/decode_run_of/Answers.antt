@@ -1,9 +1,10 @@
 use Rattle.std.proofs.Common.{refl, ◌++◌, ◌≡◌, ◌∷◌, ◌∙◌, rules, arith, sym, subst, ap, length}
 use Rattle.std.proofs.lemmas.List.{length-drop}
 use Rattle.std.specs.Str.{IsUtf8}
-use Rattle.std.proofs.lemmas.Str.{IsUtf8-append, IsUtf8-encode, IsUtf8-nil, chars-nil}
+use Rattle.std.proofs.lemmas.Str.{IsUtf8-append, IsUtf8-encode, IsUtf8-from_ascii, IsUtf8-nil, chars-nil}
 use Rattle.properties_text.specs.Decoding.{text_of}
 use Rattle.properties_text.specs.Encoding.{encoding_of}
+use Rattle.properties_text.proofs.AsciiFronts.{are-ascii, decoded-front}
 use Rattle.properties_text.proofs.TextFronts.{decoded-one, taken-rest}
 use Rattle.properties_text.proofs.encoding.run.decode_run_of.Goals as goal
 
@@ -30,4 +31,17 @@ loop-first-preserved c =
       left = rw (taken-rest, length-drop c.first_piece-next.result.length c.loop-first.rest.now) (omega (arith, put.within, held.left, some, long));
       is_text = subst IsUtf8 (sym put.text) (IsUtf8-append _ _ held.is_text (IsUtf8-encode _ put.scalar));
       text = rw (taken-rest, whole) (decoded-one (encoding_of c.args.encoding) _ _ _ c.in-Some.first.now c.in-Some.others.now _ _ held.is_text put.scalar put.text (rw whole at held.text) shown.character_is shown.length_is);
+    }
+
+pub loop-first-preserved-in-Some-ascii_front : goal.loop-first-preserved-in-Some-ascii_front
+loop-first-preserved-in-Some-ascii_front c =
+    let held = c.loop-first.invariant in
+    let put = c.put_four-at.ensures in
+    let front = c.in-Some-ascii_front.ensures in
+    record {
+      same_room = put.same_room ∙ held.same_room;
+      within = omega (arith, put.after, put.same_room, held.within, c.if-run-at-lt4.false);
+      left = omega (arith, put.after, held.left, front.shorter);
+      is_text = subst IsUtf8 (sym put.text) (IsUtf8-append _ _ held.is_text (IsUtf8-from_ascii _ (are-ascii _ front.ascii)));
+      text = decoded-front _ _ _ _ _ _ held.is_text (are-ascii _ front.ascii) put.text held.text front.same;
     }

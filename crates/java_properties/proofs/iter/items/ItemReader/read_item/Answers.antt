@@ -20,66 +20,69 @@ lines-init g c =
       same_reader = refl;
     }
 
-pub returns-in-Some-find_plain-clause-finds : goal.returns-in-Some-find_plain-clause-finds
-returns-in-Some-find_plain-clause-finds g c =
-    let next = joins-plain c.in-Some.number c.next_plain.new.self c.in-Some.ensures.joins in
-    let item = c.in-Some-find_plain.item in
-    let P : List ℕ → Type 0 = λ v. (item.line_number ≡ c.in-Some.number) × IsFoundIn v item in
-    let is = subst P c.line.ensures c.in-Some-find_plain.ensures in
-    let line = c.next_plain.new.self.line in
-    (rw is.0 (gives-item c.in-Some.number c.next_plain.new.self (found_content line item.content) c.plain.invariant.passed.1 next (found-item line item is.1)), is.1)
-
-pub plain-preserved : goal.plain-preserved
-plain-preserved g c =
-    let next = joins-plain c.in-Some.number c.next_plain.new.self c.in-Some.ensures.joins in
-    let none = plain-blank c.line.result.now c.in-Some.number c.find_plain.result c.find_plain.ensures c.in_default-find_plain.not-Some in
-    record {
-      passed = (c.plain.invariant.passed.0 ++ next.bytes, passed-blank c.in-Some.number c.next_plain.new.self c.plain.invariant.passed.1 next (ap (λ v. outcome_of (chars v)) (sym c.line.ensures) ∙ none));
-      left = omega (arith, c.plain.invariant.left, c.in-Some.ensures.nearer);
-    }
-
 pub returns-in-Err-clause-finds : goal.returns-in-Err-clause-finds
 returns-in-Err-clause-finds g c =
-    let same = not-plain c.next_plain.ensures.joins c.in_default.not-Some in
-    let P : ReaderState → Type 0 = λ v. Passed (reader g.R.Read g.R.CountedRead) c.args.self.now.state c.args.reader.now c.plain.invariant.passed.0 v c.lines.reader in
-    let passed = subst P (sym (ap (λ v. let w : Joiner = v in w.state) same)) c.plain.invariant.passed.1 in
-    let refused = rw c.in-Err.is at c.in-Some-next_line.ensures.joins in
-    let k = passed-error passed refused.0 refused.2 in
+    let refused = rw c.in-Err.is at c.in-Some.ensures.joins in
+    let k = passed-error c.lines.invariant.passed.1 refused.0 refused.2 in
     (k.0, refused.1, inr k.1)
 
 pub returns-in-Ok-Some-clause-finds : goal.returns-in-Ok-Some-clause-finds
 returns-in-Ok-Some-clause-finds g c =
-    let same = not-plain c.next_plain.ensures.joins c.in_default.not-Some in
-    let P : ReaderState → Type 0 = λ v. Passed (reader g.R.Read g.R.CountedRead) c.args.self.now.state c.args.reader.now c.plain.invariant.passed.0 v c.lines.reader in
-    let passed = subst P (sym (ap (λ v. let w : Joiner = v in w.state) same)) c.plain.invariant.passed.1 in
-    let next = rw c.in-Ok.is at c.in-Some-next_line.ensures.joins in
+    let next = rw c.in-Ok.is at c.in-Some.ensures.joins in
     let item = c.in-Ok-Some.item in
-    let Q : List ℕ → Type 0 = λ v. (item.line_number ≡ c.in-Ok.number) × IsFoundIn v item in
-    let is = subst Q c.line-in-lines.ensures (rw c.in-Ok-Some.field-0-is at c.in-Ok-Some.ensures) in
+    let P : List ℕ → Type 0 = λ v. (item.line_number ≡ c.in-Ok.number) × IsFoundIn v item in
+    let is = subst P c.line.ensures (rw c.in-Ok-Some.field-0-is at c.in-Ok-Some.ensures) in
     let line = c.next_line.new.self.line in
-    (rw is.0 (gives-item c.in-Ok.number c.next_line.new.self (found_content line item.content) passed next (found-item line item is.1)), is.1)
-
-pub lines-preserved : goal.lines-preserved
-lines-preserved g c =
-    let same = not-plain c.next_plain.ensures.joins c.in_default.not-Some in
-    let P : ReaderState → Type 0 = λ v. Passed (reader g.R.Read g.R.CountedRead) c.args.self.now.state c.args.reader.now c.plain.invariant.passed.0 v c.lines.reader in
-    let passed = subst P (sym (ap (λ v. let w : Joiner = v in w.state) same)) c.plain.invariant.passed.1 in
-    let next = rw c.in-Ok.is at c.in-Some-next_line.ensures.joins in
-    let none = rw c.in-Ok-None.field-0-is at c.in-Ok-None.ensures in
-    let kept = ap (λ v. let w : Joiner = v in lines_left w.state) same in
-    record {
-      passed = (c.plain.invariant.passed.0 ++ next.bytes, passed-blank c.in-Ok.number c.next_line.new.self passed next (ap (λ v. outcome_of (chars v)) (sym c.line-in-lines.ensures) ∙ none));
-      left = omega (arith, c.lines.invariant.left, c.plain.invariant.left, kept, c.in-Some-next_line.ensures.nearer);
-      same_reader = c.next_line.ensures.same_reader ∙ c.lines.invariant.same_reader;
-    }
+    (rw is.0 (gives-item c.in-Ok.number c.next_line.new.self (found_content line item.content) c.lines.invariant.passed.1 next (found-item line item is.1)), is.1)
 
 pub returns-in-Err-find_in-clause-finds : goal.returns-in-Err-find_in-clause-finds
 returns-in-Err-find_in-clause-finds g c =
-    let same = not-plain c.next_plain.ensures.joins c.in_default.not-Some in
-    let P : ReaderState → Type 0 = λ v. Passed (reader g.R.Read g.R.CountedRead) c.args.self.now.state c.args.reader.now c.plain.invariant.passed.0 v c.lines.reader in
-    let passed = subst P (sym (ap (λ v. let w : Joiner = v in w.state) same)) c.plain.invariant.passed.1 in
-    let next = rw c.in-Ok.is at c.in-Some-next_line.ensures.joins in
-    let Q : List ℕ → Type 0 = λ v. IsNoItem c.in-Ok.number (chars v) c.in-Err-find_in.error in
+    let next = rw c.in-Ok.is at c.in-Some.ensures.joins in
+    let P : List ℕ → Type 0 = λ v. IsNoItem c.in-Ok.number (chars v) c.in-Err-find_in.error in
     let done = ap (λ v. let w : Joiner = v in w.state.is_done) c.end.ensures in
-    let k = passed-no_item c.in-Ok.number c.next_line.new.self c.end.new.self.state passed next (subst Q c.line-in-lines.ensures c.in-Err-find_in.ensures) in
+    let k = passed-no_item c.in-Ok.number c.next_line.new.self c.end.new.self.state c.lines.invariant.passed.1 next (subst P c.line.ensures c.in-Err-find_in.ensures) in
     (k.0, done, k.1)
+
+pub plain-init : goal.plain-init
+plain-init g c =
+    let next = rw c.in-Ok.is at c.in-Some.ensures.joins in
+    let none = rw c.in-Ok-None.field-0-is at c.in-Ok-None.ensures in
+    record {
+      passed = (
+        c.lines.invariant.passed.0 ++ next.bytes,
+        passed-blank c.in-Ok.number c.next_line.new.self c.lines.invariant.passed.1 next (ap (λ v. outcome_of (chars v)) (sym c.line.ensures) ∙ none),
+      );
+      left = omega arith;
+    }
+
+pub returns-in-Some-find_plain-clause-finds : goal.returns-in-Some-find_plain-clause-finds
+returns-in-Some-find_plain-clause-finds g c =
+    let next = joins-plain c.in-Some-next_plain.number c.next_plain.new.self c.in-Some-next_plain.ensures.joins in
+    let item = c.in-Some-find_plain.item in
+    let P : List ℕ → Type 0 = λ v. (item.line_number ≡ c.in-Some-next_plain.number) × IsFoundIn v item in
+    let is = subst P c.line-in-Some-next_plain.ensures c.in-Some-find_plain.ensures in
+    let line = c.next_plain.new.self.line in
+    (rw is.0 (gives-item c.in-Some-next_plain.number c.next_plain.new.self (found_content line item.content) c.plain.invariant.passed.1 next (found-item line item is.1)), is.1)
+
+pub plain-preserved : goal.plain-preserved
+plain-preserved g c =
+    let next = joins-plain c.in-Some-next_plain.number c.next_plain.new.self c.in-Some-next_plain.ensures.joins in
+    let none = plain-blank c.line-in-Some-next_plain.result.now c.in-Some-next_plain.number c.find_plain.result c.find_plain.ensures c.in_default-find_plain.not-Some in
+    record {
+      passed = (
+        c.plain.invariant.passed.0 ++ next.bytes,
+        passed-blank c.in-Some-next_plain.number c.next_plain.new.self c.plain.invariant.passed.1 next (ap (λ v. outcome_of (chars v)) (sym c.line-in-Some-next_plain.ensures) ∙ none),
+      );
+      left = omega (arith, c.plain.invariant.left, c.in-Some-next_plain.ensures.nearer);
+    }
+
+pub lines-preserved : goal.lines-preserved
+lines-preserved g c =
+    let same = not-plain c.next_plain.ensures.joins c.in_default-next_plain.not-Some in
+    let P : ReaderState → Type 0 = λ v. Passed (reader g.R.Read g.R.CountedRead) c.args.self.now.state c.args.reader.now c.plain.invariant.passed.0 v c.next_line.new.reader in
+    let kept = ap (λ v. let w : Joiner = v in lines_left w.state) same in
+    record {
+      passed = (c.plain.invariant.passed.0, subst P (sym (ap (λ v. let w : Joiner = v in w.state) same)) c.plain.invariant.passed.1);
+      left = omega (arith, c.lines.invariant.left, c.plain.invariant.left, kept, c.in-Some.ensures.nearer);
+      same_reader = c.next_line.ensures.same_reader ∙ c.lines.invariant.same_reader;
+    }

@@ -1,5 +1,5 @@
 use Rattle.properties_text.proofs.Printing.Vectors.{low-below, special_bits-is}
-use Rattle.properties_text.proofs.print.bytes.vectors.special_bits.Goals as goal
+use Rattle.properties_text.proofs.vectors.special_bits.Goals as goal
 
 pub swizzle-special : goal.swizzle-special
 swizzle-special c = low-below c.args.v c.fits-v.0

@@ -1,0 +1,32 @@
+// Sixteen bytes at once.
+
+ghost use Rattle.std.specs.Prelude.{◌≡◌, ◌↔◌, ◌≤◌, false, map};
+ghost use Rattle.std.specs.List.{All};
+ghost use Rattle.std.specs.Simd.Lanes.{mask_l};
+ghost use Rattle.properties_format.specs.Text.{space};
+ghost use Rattle.properties_format.specs.Printing.{is_special};
+
+use std::simd::prelude::*;
+
+// The special byte with these low four bits, or 0.
+static SPECIAL: [u8; 16] = [
+    b' ', b'!', 0, b'#', 0, 0, 0, 0, 0, 0, b':', 0, b'\\', b'=', 0, 0,
+];
+
+/// Whether a control character is among them.
+#[inline(always)]
+pub fn has_control(v: u8x16) -> bool
+    ensures { (result ≡ false) ↔ All (λ b. space ≤ b) v }
+{
+    v.simd_lt(u8x16::splat(b' ')).to_bitmask() != 0
+}
+
+/// Bit i is set where byte i is special.
+#[inline(always)]
+pub fn special_bits(v: u8x16) -> u64
+    ensures { result ≡ mask_l (map is_special v) }
+{
+    let low = v & u8x16::splat(15);
+    let special = u8x16::from_array(SPECIAL).swizzle_dyn(low);
+    v.simd_eq(special).to_bitmask()
+}
