@@ -129,7 +129,7 @@ impl PropertiesError {
         }
     }
 
-    // Escapes in the line of this number are so malformed.
+    // In the line of this number an escape is malformed in this way.
     fn malformed(line_number: usize, malformed: Malformed) -> PropertiesError
         ensures { IsMalformed (malformed_in malformed) line_number result }
     {

@@ -1,4 +1,4 @@
-// The kinds of characters that the format knows. A byte is asked about by `char::from`, since all of them are ASCII.
+//! The kinds of characters that the format knows. A byte is asked about by `char::from`, since all of them are ASCII.
 
 ghost use Rattle.std.specs.Prelude.{◌≡◌};
 ghost use Rattle.properties_format.specs.Text.{is_blank, is_comment_sign, is_separator, is_line_end};

@@ -1,4 +1,4 @@
-// Bytes to characters, and characters to bytes.
+//! Bytes to characters, and characters to bytes.
 
 ghost use Rattle.std.specs.Prelude.{◌≡◌};
 ghost use Rattle.properties_format.specs.Encoding.{output_encoding};

@@ -1,4 +1,4 @@
-// What the escapes of a key, a value or a comment's text stand for.
+//! What the escapes of a key, a value or a comment's text stand for.
 
 ghost use Rattle.std.specs.Prelude.{◌≡◌, ◌≤◌, ◌<◌, ◌∷◌, ◌&&◌, ℕ, List, not, length, IfOk, IfSome, Some, None, if◌then◌else◌};
 ghost use Rattle.std.specs.Char.{IsScalar};
@@ -29,7 +29,7 @@ pub enum Malformed {
 /// Why the escapes of a text aren't resolved.
 #[derive(Clone, Copy, Debug, PartialEq, Eq)]
 pub enum UnescapeError {
-    /// The first escape that is malformed is so malformed.
+    /// An escape is malformed. Of several the first one says how.
     Malformed(Malformed),
     /// Memory ran out.
     Memory,

@@ -1,4 +1,4 @@
-// A logical line, cut into its parts.
+//! A logical line, cut into its parts.
 
 ghost use Rattle.std.specs.Prelude.{◌≡◌, ◌≤◌, Some, true, false, length, take, drop};
 ghost use Rattle.std.specs.List.{All};
@@ -24,7 +24,9 @@ pub enum ParsedLine<'a> {
 /// Where a part of a line stands, in bytes from the start of the line.
 #[derive(Clone, Copy)]
 pub struct Span {
+    /// The place of its first byte.
     pub start: usize,
+    /// The place after its last byte.
     pub end: usize,
 }
 
@@ -163,7 +165,8 @@ fn key_length(text: &[u8]) -> usize
     at
 }
 
-// How many bytes at the front neither end a key nor are backslashes, as far as blocks of sixteen tell.
+// At least so many bytes at the front neither end a key nor are backslashes: those in blocks of sixteen before a special
+// byte, and before a block with a control character.
 fn plain_front(text: &[u8]) -> usize
     ensures within { result ≤ length text.now }
     ensures plain { All (λ c. is_plain c ≡ true) (take result text.now) }

@@ -1,4 +1,4 @@
-// Texts as they are printed.
+//! Texts as they are printed.
 
 ghost use Rattle.std.specs.Prelude.{◌≡◌, true, ◌++◌, ◌∷◌, ◌<◌, ◌||◌, not, nat_lt, [], OnOk};
 ghost use Rattle.std.specs.Char.{digit_char};
@@ -24,7 +24,7 @@ const HEXADECIMAL: [u8; 16] = *b"0123456789abcdef";
 /// Where a text stands in a line, which says what is escaped.
 #[derive(Clone, Copy)]
 pub enum Place {
-    /// All that would not be read back as itself.
+    /// Blanks, separators, comment signs, backslashes and what is below the space.
     KeyOrValue,
     /// The backslash, and what ends lines.
     Comment,
@@ -133,7 +133,7 @@ fn print_characters(
     Ok(())
 }
 
-/// Appends the bytes of a key. At the front of the first line it isn't to be taken for a byte order mark.
+/// Appends the bytes of a key. The `first` of a file isn't to be taken for a byte order mark.
 pub fn print_key(
     line: &mut Vec<u8>,
     repertoire: Repertoire,
@@ -148,7 +148,7 @@ pub fn print_key(
     print_text(line, repertoire, Place::KeyOrValue, key)
 }
 
-/// Appends a text as it is.
+/// Appends a text as it is, in UTF-8.
 pub fn print_raw(line: &mut Vec<u8>, text: &str) -> Result<(), AllocError>
     ensures { AppendsOnOk line.old text.now result line.new }
 {

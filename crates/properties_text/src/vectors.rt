@@ -13,7 +13,7 @@ static SPECIAL: [u8; 16] = [
     b' ', b'!', 0, b'#', 0, 0, 0, 0, 0, 0, b':', 0, b'\\', b'=', 0, 0,
 ];
 
-/// Whether a control character is among them.
+/// Whether a byte below the space is among them.
 #[inline(always)]
 pub fn has_control(v: u8x16) -> bool
     ensures { (result ≡ false) ↔ All (λ b. space ≤ b) v }

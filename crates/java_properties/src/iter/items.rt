@@ -62,8 +62,8 @@ impl ItemReader {
         transpose(self.read_item(reader))
     }
 
-    // The same where the line is blank, or has to be read, decoded, joined or resolved. It stands apart, since room for its
-    // large answers is cleared at each call, and returns another type, so that no plain item is copied through that room.
+    // The same where the next line isn't plain. It stands apart, since room for its large answers is cleared at each call,
+    // and returns another type, so that no plain item is copied through that room.
     #[inline(never)]
     fn read_item<R: CountedRead>(
         &mut self,

@@ -1,4 +1,4 @@
-// The byte order mark at the front of an input.
+//! The byte order mark at the front of an input.
 
 ghost use Rattle.properties_text.specs.Decoding.{TellsBom};
 

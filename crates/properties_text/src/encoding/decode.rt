@@ -1,4 +1,4 @@
-// Bytes to characters.
+//! Bytes to characters.
 
 ghost use Rattle.std.specs.Prelude.{◌≡◌, OnOk, ◌≤◌, ◌++◌, ◌↔◌, length, IfOk, IfSome, IsSome};
 ghost use Rattle.std.specs.Str.{chars};
@@ -15,7 +15,8 @@ use std::borrow::CowStr;
 // How many bytes of text are decoded at once.
 const RUN: usize = 256;
 
-/// The text of some bytes by themselves, as of one line. It is lent where the bytes are that text already.
+/// The text of some bytes by themselves, as of one line. It is lent where the bytes are that text already, as those of
+/// UTF-16 never are.
 ///
 /// What is no character of the encoding is U+FFFD, as often as the WHATWG Encoding Standard says.
 ///
@@ -55,13 +56,14 @@ pub fn as_text(encoding: Encoding, bytes: &[u8]) -> Option<&str>
     }
 }
 
-/// Appends the text of some bytes: of UTF-8 what stands as text at the front, a run of characters, and so on.
+/// Appends the text of some bytes. Where memory runs out, a part of it may have been appended.
 #[inline(never)]
 pub fn push_decoded(text: &mut String, encoding: Encoding, bytes: &[u8]) -> Result<(), AllocError>
     ensures { OnOk result
         (chars (string_bytes text.new) ≡ chars (string_bytes text.old) ++ text_of encoding bytes.now) }
 {
     text.reserve(bytes.len())?;
+    // What stands as text at the front is copied, then a run of characters is decoded, and so on.
     let mut run = [0; RUN];
     let mut rest = bytes;
     loop {

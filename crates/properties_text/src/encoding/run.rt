@@ -75,8 +75,8 @@ struct AsciiFront<'a> {
     rest: &'a [u8],
 }
 
-// Four characters of ASCII at the front, where they stand there. In UTF-8 none are sought, since text that stands as it is
-// was taken before.
+// Four characters of ASCII at the front, if there are four. In UTF-8 none are sought, since a run begins where text that
+// stands as it is ends.
 #[inline(always)]
 fn ascii_front(encoding: Encoding, bytes: &[u8]) -> Option<AsciiFront<'_>>
     ensures { IfSome result (IsAsciiFront encoding bytes.now) }

@@ -31,7 +31,7 @@ const BEFORE: [u8; 256] = [
     0, 0, 0, 0, 0, 0, 0, 0, 0, 0, 0, 0, 0, 0, 0, 0, 0, 0, 0, 0, 0, 0, 0, 0, 0, 0, 0, 0, 0, 0, 0, 0,
 ];
 
-// The last byte of what is printed for a byte.
+// The last byte of what is printed for a byte, where that is no longer escape.
 const LAST: [u8; 256] = [
     0, 1, 2, 3, 4, 5, 6, 7, 8, 116, 110, 11, 102, 114, 14, 15, 16, 17, 18, 19, 20, 21, 22, 23, 24,
     25, 26, 27, 28, 29, 30, 31, 32, 33, 34, 35, 36, 37, 38, 39, 40, 41, 42, 43, 44, 45, 46, 47, 48,
