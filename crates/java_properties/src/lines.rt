@@ -1,6 +1,6 @@
 // Natural lines: those that a line end ends, and the last one.
 
-ghost use Rattle.std.specs.Prelude.{◌≡◌, IfOk, string_bytes};
+ghost use Rattle.std.specs.Prelude.{◌≡◌, Some, Err, IfOk, string_bytes};
 ghost use Rattle.std.specs.Str.{chars};
 ghost use Rattle.java_properties.specs.LineJoiner.{line_text};
 ghost use Rattle.std.specs.Iterator.{at_most};
@@ -96,8 +96,17 @@ pub fn transpose<T, E>(answer: Result<Option<T>, E>) -> Option<Result<T, E>>
     match answer {
         Ok(Some(found)) => Some(Ok(found)),
         Ok(None) => None,
-        Err(error) => Some(Err(error)),
+        Err(error) => failed(error),
     }
+}
+
+// It stands apart, since an error stands elsewhere in this answer than in the one it comes from: a copy of it here would
+// cut all that stands in the two answers into single bytes.
+#[inline(never)]
+fn failed<T, E>(error: E) -> Option<Result<T, E>>
+    ensures { result ≡ Some (Err error) }
+{
+    Some(Err(error))
 }
 
 // The text of the line that was found.
