@@ -5,6 +5,7 @@ pub mod ReadBack
 pub mod AsciiOnly
 mod InputBuffer
 pub mod LineFinder
+pub mod PlainLines
 pub mod LineSearch
 pub mod LineJoiner
 pub mod Comparisons

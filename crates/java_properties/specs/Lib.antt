@@ -10,6 +10,7 @@ pub mod Line
 pub mod DisplayTexts
 pub mod InputBuffer
 pub mod LineSearch
+pub mod PlainLines
 pub mod LineFinder
 pub mod LineJoiner
 pub mod PropertiesIter

@@ -152,6 +152,14 @@ pub record PassesFirst (s : ReaderState) (count : ℕ) : Type 0 where
 abbrev pub end_after : List ℕ → ℕ → LineEnd
 end_after bytes at = record { at = at; is_cr = get_or bytes at 0 == carriage_return }
 
+-- The next line starts after so many bytes, units are bytes, and there is a number for it.
+pub record IsLineStart (s : ReaderState) (start : ℕ) : Type 0 where
+  pub going : s.is_done ≡ false
+  pub decided : s.is_decided ≡ true
+  pub numbered : s.passed + 1 < 2 ^ 64
+  pub bytes : unit_size s.encoding ≡ 1
+  pub first : PassesFirst s start
+
 -- A line is held with its end, units are bytes, and there is a number for it.
 pub record IsHeldLine (s : ReaderState) (line : HeldLine) : Type 0 where
   pub numbered : s.passed + 1 < 2 ^ 64

@@ -13,6 +13,7 @@ use Rattle.properties_format.specs.Reading.Items.{outcome_of, followed}
 use Rattle.properties_format.specs.Reading.ItemsToCome.{items_to_come, entries_pending}
 use Rattle.properties_format.specs.Reading.ReaderSteps.{ReadsLines, ReadsLogical}
 use Rattle.java_properties.specs.Errors.{IsBareError, IsStreamError}
+use Rattle.properties_text.specs.Decoding.{IsText}
 use Rattle.properties_text.specs.Escaping.{holds_backslash}
 use Rattle.java_properties.specs.LineFinder.{Finder, Passes, PassesSome, PassesAll, IsLazy, FindsError}
 use Rattle.java_properties.specs.declared.error.ErrorKind.TheVariants as kind
@@ -44,6 +45,11 @@ abbrev pub Finds : {R : Type 0} → Reader R → Joiner → R → Option (Result
 Finds reader old from None new to = (old.state.is_done ≡ true) × (new.state ≡ old.state) × (to ≡ from)
 Finds reader old from (Some (Ok number)) new to = FindsNext reader old.state from number new to
 Finds reader old from (Some (Err e)) new to = (old.state.is_done ≡ false) × (new.state.is_done ≡ true) × FindsError reader old.state from e new.state to
+
+-- The bytes of a line are its text, which holds no backslash.
+pub record IsTextLine (s : ReaderState) (bytes : List ℕ) : Type 0 where
+  pub text : IsText s.encoding bytes
+  pub unescaped : holds_backslash (chars bytes) ≡ false
 
 -- A natural line that was held came as it stands, and holds no backslash.
 pub record TakesPlain (old : ReaderState) (number : ℕ) (new : Joiner) : Type 0 where

@@ -13,6 +13,7 @@ mod finder;
 mod join;
 pub mod joiner;
 mod logical;
+mod plain;
 mod search;
 mod seeker;
 

@@ -4,7 +4,7 @@ ghost use Rattle.std.specs.Prelude.{◌≡◌, ◌≤◌, ◌<◌, true, [], tak
 ghost use Rattle.counted_io.specs.Streams.{IsSameReader};
 ghost use Rattle.properties_format.specs.ItemsToCome.{start};
 ghost use Rattle.properties_text.specs.Encoding.{encoding_of};
-ghost use Rattle.java_properties.specs.LineFinder.{Finder, Finds, IsHeldLine, IsRefused, TakesHeld, lines_left, transposed};
+ghost use Rattle.java_properties.specs.LineFinder.{Finder, Finds, IsHeldLine, IsLineStart, IsRefused, TakesHeld, lines_left, transposed};
 
 use crate::error::PropertiesError;
 use crate::input::FillError;
@@ -82,6 +82,24 @@ impl LineFinder {
         ensures { IfSome result (IsHeldLine self.now.state) }
     {
         self.seeker.peek(self.taken)
+    }
+
+    /// Where the next line starts among the bytes that are held, if it may be held whole. `None` says nothing of what
+    /// comes.
+    #[inline]
+    pub fn peek_start(&self) -> Option<usize>
+        ensures { IfSome result (IsLineStart self.now.state) }
+    {
+        self.seeker.peek_start(self.taken)
+    }
+
+    /// The bytes that are held from such a place on.
+    #[inline]
+    pub fn held_from(&self, start: usize) -> &[u8]
+        requires { start ≤ length self.now.state.held }
+        ensures { result.now ≡ drop start self.now.state.held }
+    {
+        &self.seeker.held()[self.taken + start..]
     }
 
     /// The bytes of a line that is held.

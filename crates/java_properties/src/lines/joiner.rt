@@ -1,19 +1,21 @@
 // Natural lines, joined to logical ones.
 
-ghost use Rattle.std.specs.Prelude.{◌≡◌, ◌≤◌, ◌<◌, false, true, [], if◌then◌else◌, OnOk, OnSome};
+ghost use Rattle.std.specs.Prelude.{◌≡◌, ◌≤◌, ◌<◌, false, true, [], take, drop, if◌then◌else◌, OnOk, OnSome};
 ghost use Rattle.properties_format.specs.Groups.{without_open_backslash};
 ghost use Rattle.std.specs.Str.{IsUtf8, chars};
 ghost use Rattle.std.specs.String.{string_bytes};
 ghost use Rattle.counted_io.specs.Streams.{IsSameReader};
 ghost use Rattle.properties_format.specs.ItemsToCome.{start};
 ghost use Rattle.properties_text.specs.Encoding.{encoding_of};
-ghost use Rattle.java_properties.specs.LineFinder.{lines_left};
+ghost use Rattle.java_properties.specs.LineFinder.{lines_left, IsHeldLine};
 ghost use Rattle.properties_text.specs.Escaping.{holds_backslash};
-ghost use Rattle.java_properties.specs.LineJoiner.{Joiner, Finds, OnOkKeeps, Joins, JoinsAfter, JoinsOn, JoinsPlain, Adds};
+ghost use Rattle.java_properties.specs.LineJoiner.{Joiner, Finds, OnOkKeeps, Joins, JoinsAfter, JoinsOn, JoinsPlain, TakesPlain, IsTextLine, Adds};
 
 use crate::error::PropertiesError;
 use crate::lines::finder::LineFinder;
 use crate::lines::join::{addition, is_comment_line, is_open, without_open_backslash};
+use crate::lines::plain::{Front, plain_front};
+use crate::lines::seeker::HeldLine;
 use counted_io::CountedRead;
 use properties_text::encoding::Encoding;
 use properties_text::encoding::decode::{as_text, decode_line, push_decoded, push_text};
@@ -81,14 +83,39 @@ impl LineJoiner {
         ensures joins { JoinsPlain self.old result self.new }
         ensures nearer { OnSome result (lines_left self.new.state < lines_left self.old.state) }
     {
+        let start = self.finder.peek_start()?;
+        match plain_front(self.finder.held_from(start)) {
+            Front::Line(length) => Some(self.take_plain(HeldLine { start, length })),
+            Front::Backslash => None,
+            Front::Unknown => self.next_text(),
+        }
+    }
+
+    // The same, by a search for its end, for what is no text, and for backslashes.
+    #[inline(never)]
+    fn next_text(&mut self) -> Option<usize>
+        ensures joins { JoinsPlain self.old result self.new }
+        ensures nearer { OnSome result (lines_left self.new.state < lines_left self.old.state) }
+    {
         let line = self.finder.peek()?;
         let text = as_text(self.finder.encoding(), self.finder.peeked(line))?;
         if has_backslash(text) {
             return None;
         }
+        Some(self.take_plain(line))
+    }
+
+    // Takes a line that is held, whose bytes are its text.
+    #[inline]
+    fn take_plain(&mut self, line: HeldLine) -> usize
+        requires held { IsHeldLine self.old.state line }
+        requires plain { IsTextLine self.old.state (take line.length (drop line.start self.old.state.held)) }
+        ensures takes { TakesPlain self.old.state result self.new }
+        ensures nearer { lines_left self.new.state < lines_left self.old.state }
+    {
         let number = self.finder.take_line(line);
         self.is_kept = false;
-        Some(number)
+        number
     }
 
     /// Comes to the next logical line, and returns the number of its first natural line; or an error, or `None` where

@@ -10,7 +10,7 @@ ghost use Rattle.properties_text.specs.Encoding.{encoding_of};
 ghost use Rattle.properties_text.specs.Decoding.{TellsBom};
 ghost use Rattle.java_properties.specs.InputBuffer.{Fills};
 ghost use Rattle.java_properties.specs.LineSearch.{unit_size};
-ghost use Rattle.java_properties.specs.LineFinder.{PassesFeed, SkipsFeed, Settles, SettlesLast, IsReady, Looks, Seeks, IsHeldLine, PassesFirst};
+ghost use Rattle.java_properties.specs.LineFinder.{PassesFeed, SkipsFeed, Settles, SettlesLast, IsReady, Looks, Seeks, IsHeldLine, IsLineStart, PassesFirst};
 
 use crate::input::{FillError, InputBuffer};
 use crate::lines::search::{LineEnd, find_end_byte, find_line_end, unit_size, whole_units};
@@ -139,16 +139,25 @@ impl LineSeeker {
         requires { taken ≤ length self.now.held }
         ensures { let s = record self.now { held = drop taken self.now.held } in IfSome result (IsHeldLine s) }
     {
+        let start = self.peek_start(taken)?;
+        let length = find_end_byte(&self.held()[taken + start..], 0)?;
+        Some(HeldLine { start, length })
+    }
+
+    /// Where the next line starts among the bytes that are held after so many, if it may be held whole and units are
+    /// bytes. `None` says nothing of what comes.
+    #[inline]
+    pub fn peek_start(&self, taken: usize) -> Option<usize>
+        requires { taken ≤ length self.now.held }
+        ensures { let s = record self.now { held = drop taken self.now.held } in IfSome result (IsLineStart s) }
+    {
         if self.is_done || !self.is_decided || self.passed == usize::MAX {
             return None;
         }
         if unit_size(self.encoding) != 1 {
             return None;
         }
-        let bytes = &self.held()[taken..];
-        let start = self.line_start(bytes)?;
-        let length = find_end_byte(&bytes[start..], 0)?;
-        Some(HeldLine { start, length })
+        self.line_start(&self.held()[taken..])
     }
 
     // Where the next line starts among these bytes: after an LF that is of the line end before. `None` where too few of

@@ -233,23 +233,28 @@ low_each v = Each1-zip2 bit_and (λ j. j < 16) v (replicate 16 15) (Each2-splat 
 pub low-below : (v : List ℕ) → length v ≡ 16 → SwzOk w8 16 16 0 (low v)
 low-below v long = SwzOk-from_below w8 16 1 16 0 (low v) refl (omega (arith, length-zip2 bit_and v (replicate 16 15) long)) (low_each v)
 
-pub special_bits-is : (v : List ℕ) → length v ≡ 16 → Each1 (Fits w8) v
-    → mask_l (map (top 7) (zip2 (λ a b. cond (eqb a b) 255 0) v (swz_l w8 16 SPECIAL 0 (low v)))) % 2 ^ 64 ≡ mask_l (map is_special v)
-special_bits-is v long fits =
-    let near = λ (b : ℕ). get_or SPECIAL (b % 16) 0 in
+-- the bytes that a table of sixteen has under their low four bits
+pub nibble_bits-is : (table : List ℕ) (test : ℕ → Bool) → ((b : ℕ) → b < 256 → eqb b (get_or table (b % 16) 0) ≡ test b) → (v : List ℕ) → length v ≡ 16 → Each1 (Fits w8) v
+    → mask_l (map (top 7) (zip2 (λ a b. cond (eqb a b) 255 0) v (swz_l w8 16 table 0 (low v)))) % 2 ^ 64 ≡ mask_l (map test v)
+nibble_bits-is table test at v long fits =
+    let near = λ (b : ℕ). get_or table (b % 16) 0 in
     let nibbles : low v ≡ map (λ b. b % 16) v = zip2_splat bit_and v 16 15 long ∙ masked v in
-    let found : swz_l w8 16 SPECIAL 0 (low v) ≡ map near v =
-    swizzled SPECIAL (low v) (omega (arith, length-zip2 bit_and v (replicate 16 15) long)) (low_each v)
-    ∙ ap (map (λ k. get_or SPECIAL k 0)) nibbles ∙ map-map (λ k. get_or SPECIAL k 0) (λ b. b % 16) v in
+    let found : swz_l w8 16 table 0 (low v) ≡ map near v =
+    swizzled table (low v) (omega (arith, length-zip2 bit_and v (replicate 16 15) long)) (low_each v)
+    ∙ ap (map (λ k. get_or table k 0)) nibbles ∙ map-map (λ k. get_or table k 0) (λ b. b % 16) v in
     ap (λ l. mask_l l % 2 ^ 64)
-    (tops_compared w8 eqb v (swz_l w8 16 SPECIAL 0 (low v))
+    (tops_compared w8 eqb v (swz_l w8 16 table 0 (low v))
     ∙ zip2_of_maps eqb (λ b. b) near v (sym (map-id v)) found
-    ∙ map_same (λ b. eqb b (near b)) is_special v special_at fits)
-    ∙ mask_l-mod (map is_special v) 64 (omega (arith, length-map v is_special))
+    ∙ map_same (λ b. eqb b (near b)) test v at fits)
+    ∙ mask_l-mod (map test v) 64 (omega (arith, length-map v test))
   where
     masked : (v : List ℕ) → map (λ b. bit_and b 15) v ≡ map (λ b. b % 16) v
     masked [] = refl
     masked (b ∷ v) = ap₂ (λ x xs. x ∷ xs) (and_mask b 4) (masked v)
+
+pub special_bits-is : (v : List ℕ) → length v ≡ 16 → Each1 (Fits w8) v
+    → mask_l (map (top 7) (zip2 (λ a b. cond (eqb a b) 255 0) v (swz_l w8 16 SPECIAL 0 (low v)))) % 2 ^ 64 ≡ mask_l (map is_special v)
+special_bits-is = nibble_bits-is SPECIAL is_special special_at
 
 -- ---- where no control character is
 
