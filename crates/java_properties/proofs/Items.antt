@@ -18,7 +18,10 @@ use Rattle.properties_format.specs.Lines.{InputEnd, end, fault, more}
 use Rattle.properties_format.specs.ItemsToCome.{ReaderState}
 use Rattle.properties_format.specs.Reading.ItemsToCome.{items_to_come}
 use Rattle.properties_format.proofs.ItemsToCome.Unique.{items_to_come-done}
-use Rattle.java_properties.specs.Errors.{IsBareError, IsUnresolved}
+use Rattle.properties_text.specs.Escaping.{malformed_in, IsRefused}
+use Rattle.properties_text.specs.declared.escape.UnescapeError.{UnescapeError}
+use Rattle.properties_text.specs.declared.escape.UnescapeError.TheVariants as unescape
+use Rattle.java_properties.specs.Errors.{IsBareError, IsUnresolved, SaysUnresolved}
 use Rattle.java_properties.specs.LentItems.{found_content, spans_of, AreTextsIn, IsFoundIn, FindsItem, FindsPlain}
 use Rattle.java_properties.specs.LineFinder.{PassesSome}
 use Rattle.java_properties.proofs.LineJoiner.{some-start, some-on, all-on}
@@ -43,6 +46,11 @@ pub pair-item : (x raw_key raw_value key value : List ℕ) → IsSplit x (split.
     → outcome_of x ≡ given (pair key value)
 pair-item x raw_key raw_value key value h m n =
     sym (outcome_of-only x (given (pair key value)) (record { raw_key = raw_key; raw_value = raw_value; split = h; key_means = m; value_means = n }))
+
+-- Why a text was refused is said of a line.
+pub unresolved : (text : List ℕ) (e : UnescapeError) (number : ℕ) (error : PropertiesError) → IsRefused text e → SaysUnresolved e number error → IsUnresolved text number error
+unresolved text (unescape.Malformed why) number error h says = inl (malformed_in why, h, says)
+unresolved text unescape.Memory number error h says = inr says
 
 -- a text of it breaks, or there is no memory
 pub comment-no_item : (x raw : List ℕ) (number : ℕ) (e : PropertiesError) → IsSplit x (split.comment raw) → IsUnresolved raw number e → IsNoItem number x e

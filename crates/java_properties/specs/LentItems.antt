@@ -15,8 +15,9 @@ use Rattle.properties_format.specs.Split as split
 use Rattle.properties_format.specs.Split.{IsSplit}
 use Rattle.properties_format.specs.Items.{ignored}
 use Rattle.properties_format.specs.Reading.Items.{outcome_of}
-use Rattle.java_properties.specs.Errors.{IsBareError, IsUnresolved}
-use Rattle.properties_text.specs.Escaping.{holds_backslash}
+use Rattle.java_properties.specs.Errors.{IsBareError, SaysUnresolved}
+use Rattle.properties_text.specs.Escaping.{holds_backslash, IsRefused}
+use Rattle.properties_text.specs.declared.escape.UnescapeError.{UnescapeError}
 use Rattle.properties_format.specs.ItemsToCome.{ReaderState}
 use Rattle.java_properties.specs.LineJoiner.{Joiner, JoinsError}
 use Rattle.java_properties.specs.Line.{number_of, content_of}
@@ -114,14 +115,14 @@ pub record IsFoundIn (line : List ℕ) (found : Found) : Type 0 where
   pub texts : AreTextsIn line found.content
 
 -- The text of this span of the line; or why there is none.
-abbrev pub FindsText : List ℕ → ℕ → Span → Result FoundText PropertiesError → Type 0
-FindsText line number span (Ok text) = (text.span ≡ span) × IsTextIn line text
-FindsText line number span (Err e) = IsUnresolved (chars (bytes_in line span)) number e
+abbrev pub FindsText : List ℕ → Span → Result FoundText UnescapeError → Type 0
+FindsText line span (Ok text) = (text.span ≡ span) × IsTextIn line text
+FindsText line span (Err e) = IsRefused (chars (bytes_in line span)) e
 
--- The texts of these spans of the line; or why there are none. Of a pair the key breaks first.
-abbrev pub FindsContent : List ℕ → ℕ → ParsedSpans → Result FoundContent PropertiesError → Type 0
-FindsContent line number spans (Ok content) = (spans_of content ≡ spans) × AreTextsIn line content
-FindsContent line number spans (Err e) = IsNoItem number (chars line) e
+-- The texts of these spans of the line; or why there are none, whatever the line's number. Of a pair the key breaks first.
+abbrev pub FindsContent : List ℕ → ParsedSpans → Result FoundContent UnescapeError → Type 0
+FindsContent line spans (Ok content) = (spans_of content ≡ spans) × AreTextsIn line content
+FindsContent line spans (Err e) = (number : ℕ) (error : PropertiesError) → SaysUnresolved e number error → IsNoItem number (chars line) error
 
 -- What was found in a logical line, where it isn't blank.
 abbrev pub FindsIn : List ℕ → ℕ → Result (Option Found) PropertiesError → Type 0

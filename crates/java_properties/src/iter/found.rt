@@ -11,7 +11,7 @@ ghost use Rattle.java_properties.specs.LentItems.{lent_entry, said_by, is_borrow
 
 use crate::error::PropertiesError;
 use crate::iter::lent::{ContentRef, LineRef};
-use properties_text::escape::unescape;
+use properties_text::escape::{UnescapeError, has_backslash, unescape};
 use properties_text::parse::{ParsedSpans, Span, parse_spans};
 use std::alloc::Global;
 use std::borrow::CowStr;
@@ -48,15 +48,18 @@ pub(crate) fn find_in(
 ) -> Result<Option<Found>, PropertiesError>
     ensures { FindsIn line.now line_number result }
 {
+    if !has_backslash(line) {
+        return Ok(find_plain(line_number, line));
+    }
     let Some(spans) = parse_spans(line) else {
         return Ok(None);
     };
-    match find_content(alloc, line_number, line, spans) {
+    match find_content(alloc, line, spans) {
         Ok(content) => Ok(Some(Found {
             line_number,
             content,
         })),
-        Err(error) => Err(error),
+        Err(error) => Err(PropertiesError::unresolved(line_number, error)),
     }
 }
 
@@ -83,25 +86,24 @@ pub(crate) fn find_plain(line_number: usize, line: &str) -> Option<Found>
 
 fn find_content(
     alloc: Global,
-    line_number: usize,
     line: &str,
     spans: ParsedSpans,
-) -> Result<FoundContent, PropertiesError>
+) -> Result<FoundContent, UnescapeError>
     requires spans { AreSpans line.now (Some spans) }
     requires slices { IsSplit (chars line.now) (in_characters (spanned line.now (Some spans))) }
-    ensures { FindsContent line.now line_number spans result }
+    ensures { FindsContent line.now spans result }
 {
     match spans {
-        ParsedSpans::Comment(text) => match find_text(alloc, line_number, line, text) {
+        ParsedSpans::Comment(text) => match find_text(alloc, line, text) {
             Ok(text) => Ok(FoundContent::Comment(text)),
             Err(error) => Err(error),
         },
         ParsedSpans::KVPair(key, value) => {
-            let key = match find_text(alloc, line_number, line, key) {
+            let key = match find_text(alloc, line, key) {
                 Ok(key) => key,
                 Err(error) => return Err(error),
             };
-            match find_text(alloc, line_number, line, value) {
+            match find_text(alloc, line, value) {
                 Ok(value) => Ok(FoundContent::KVPair(key, value)),
                 Err(error) => Err(error),
             }
@@ -109,14 +111,9 @@ fn find_content(
     }
 }
 
-fn find_text(
-    alloc: Global,
-    line_number: usize,
-    line: &str,
-    span: Span,
-) -> Result<FoundText, PropertiesError>
+fn find_text(alloc: Global, line: &str, span: Span) -> Result<FoundText, UnescapeError>
     requires { IsSpan line.now span }
-    ensures { FindsText line.now line_number span result }
+    ensures { FindsText line.now span result }
 {
     match unescape(alloc, span.cut(line)) {
         Ok(CowStr::Borrowed(_)) => Ok(FoundText::plain(span)),
@@ -124,7 +121,7 @@ fn find_text(
             span,
             resolved: Some(text),
         }),
-        Err(error) => Err(PropertiesError::unresolved(line_number, error)),
+        Err(error) => Err(error),
     }
 }
 
