@@ -1,10 +1,15 @@
 -- The steps of a search for a line end among undecoded bytes.
-use Rattle.std.proofs.Common.{◌≡◌, ◌<◌, ◌≤◌, ◌+◌, ◌-◌, ◌%◌, ◌==◌, ℕ, suc, zero, true, false, Bool, List, [], ◌∷◌, ◌++◌, take, drop, length, get_or}
+use Rattle.std.proofs.Common.{cond, not, eqb, map, inl, inr, ◌≡◌, ◌<◌, ◌≤◌, ◌+◌, ◌-◌, ◌%◌, ◌==◌, ℕ, suc, zero, true, false, Bool, List, [], ◌∷◌, ◌++◌, take, drop, length, get_or}
 use Rattle.std.proofs.Common.{drop-cons, length-append, length-drop, refl, sym, ap, subst, ◌∙◌, arith}
 use Rattle.std.specs.Prelude.{Option, Some, None, option_map}
 use Rattle.std.proofs.Math.Seq.{take-add}
-use Rattle.std.proofs.lemmas.Bool.{false_from_ne_true}
-use Rattle.std.proofs.lemmas.List.{take-append-drop, take_rest, length-take-le, take-append-le, get_or-drop}
+use Rattle.std.specs.List.{prefix_len}
+use Rattle.std.specs.Int.Count.{count_trailing_zeros}
+use Rattle.std.specs.Simd.Lanes.{mask_l}
+use Rattle.std.proofs.lemmas.Bool.{false_from_ne_true, cases_Bool, cases_lt, eqb-true, agree_below_at}
+use Rattle.std.proofs.lemmas.List.Sums.{prefix_len_passes, prefix_len_stops}
+use Rattle.std.proofs.lemmas.Simd.{first_set_mask_l}
+use Rattle.std.proofs.lemmas.List.{take-append-drop, take_rest, length-take-le, take-append-le, get_or-drop, get_or-take}
 use Rattle.std.proofs.lemmas.Bool.Decides.{nat_tests}
 use Rattle.std.proofs.lemmas.Grind.{common_steps}
 use Rattle.memchr.specs.Find.{Nowhere, NoneBefore, Passes, IsFirst, IsFirstByte}
@@ -15,6 +20,7 @@ use Rattle.properties_format.specs.Cut.{HoldsNoLineEndUnit}
 use Rattle.properties_format.proofs.Cut.Units.{no_end_unit-append, no_end_unit-left, no_end-no_unit}
 use Rattle.java_properties.specs.LineSearch.{unit_size, whole_units, IsSearched, end_character, IsFirstLineEnd}
 use Rattle.java_properties.specs.declared.lines.search.LineEnd.{LineEnd}
+use Rattle.java_properties.specs.declared.lines.search.TheConstants.{LINE_ENDS}
 
 -- ---- Units.
 
@@ -124,9 +130,84 @@ nowhere-from : (d : List ℕ) (from count to : ℕ) → Nowhere (Passes is_line_
     → Nowhere (Passes is_line_end d) from to
 nowhere-from d from count to h le k low high is = h (k - from) (omega arith) (omega arith) (ap is_line_end (read-from d from k low) ∙ is)
 
--- one that stands at the place where the search begins
-pub first-here : (d : List ℕ) (from : ℕ) → from < length d → is_line_end (get_or d from 0) ≡ true → IsFirst (Passes is_line_end d) from (length d) (Some from)
-first-here d from h e = (record { low = omega arith; high = h; before = λ k low high p. absurd (omega arith) }, e)
+-- ---- Blocks of sixteen.
+
+-- one look-up
+pub line_end_at : (b : ℕ) → b < 256 → eqb b (get_or LINE_ENDS (b % 16) 0) ≡ is_line_end b
+line_end_at b h = agree_below_at (λ b. eqb b (get_or LINE_ENDS (b % 16) 0)) is_line_end 256 b refl h
+
+-- The first bit that is set is that of the first lane that passes.
+pub record IsFirstLane (test : ℕ → Bool) (v : List ℕ) (first : ℕ) : Type 0 where
+  pub before : (k : ℕ) → k < first → k < 16 → test (get_or v k 0) ≡ false
+  pub there : first < 16 → test (get_or v first 0) ≡ true
+
+pub first-lane : (test : ℕ → Bool) (v : List ℕ) (bits first : ℕ) → length v ≡ 16 → bits ≡ mask_l (map test v) → first ≡ count_trailing_zeros 64 bits → IsFirstLane test v first
+unfolding count_trailing_zeros
+first-lane test v bits first long is at =
+    let n = prefix_len (λ b. not (test b)) v in
+    let set = first_set_mask_l test v 16 long (omega arith) in
+    let clear : (k : ℕ) → k < n → test (get_or v k 0) ≡ false = λ k h. not_true (test (get_or v k 0)) (prefix_len_passes (λ b. not (test b)) v k 0 h) in
+    elim (cases_Bool (eqb bits 0)) [
+      | inl none ↦
+          let zero_bits : bits ≡ 0 = eqb-true bits 0 none in
+          let whole : 16 ≡ n = sym (ap (λ b. cond (eqb b 0) 16 (count_trailing_zeros 64 b)) (sym is ∙ zero_bits)) ∙ set in
+          let many : first ≡ 64 = at ∙ ap (count_trailing_zeros 64) zero_bits in
+          record { before = λ k h small. clear k (omega (arith, whole, small)); there = λ h. absurd (omega (arith, many, h)) }
+      | inr some ↦
+          let same : first ≡ n = at ∙ sym (rw some refl) ∙ ap (λ b. cond (eqb b 0) 16 (count_trailing_zeros 64 b)) is ∙ set in
+          record {
+            before = λ k h small. clear k (omega (arith, same, h));
+            there = λ h. subst (λ k. test (get_or v k 0) ≡ true) (sym same) (not_false (test (get_or v n 0)) (prefix_len_stops (λ b. not (test b)) v 0 (omega (arith, same, h, long))));
+          }
+    ]
+  where
+    not_true : (b : Bool) → not b ≡ true → b ≡ false
+    not_true true h = absurd (cc)
+    not_true false h = refl
+
+    not_false : (b : Bool) → not b ≡ false → b ≡ true
+    not_false true h = refl
+    not_false false h = absurd (cc)
+
+-- No line end stands in the lanes before it.
+pub nowhere-more : (bytes : List ℕ) (from at n first : ℕ) → at + 16 ≤ length bytes → n ≤ first → n ≤ 16 → Nowhere (Passes is_line_end bytes) from at → IsFirstLane is_line_end (take 16 (drop at bytes)) first
+    → Nowhere (Passes is_line_end bytes) from (at + n)
+nowhere-more bytes from at n first within low small none lane k i j p = elim (cases_lt k at) [
+  | inl h ↦ none k i h p
+  | inr h ↦
+      let place = k - at in
+      let same : get_or (take 16 (drop at bytes)) place 0 ≡ get_or bytes k 0 =
+      get_or-take 16 (drop at bytes) place 0 (omega (arith, h, j, small)) ∙ get_or-drop at bytes place 0 ∙ ap (λ i. get_or bytes i 0) (let e : at + place ≡ k = omega (arith, h) in e) in
+      absurd (cc (p, same, lane.before place (omega (arith, h, j, low)) (omega (arith, h, j, small))))
+]
+
+-- The first lane that is one is the first of all.
+pub first-in-block : (bytes : List ℕ) (from at first : ℕ) → from ≤ at → at + 16 ≤ length bytes → first < 16 → Nowhere (Passes is_line_end bytes) from at
+    → IsFirstLane is_line_end (take 16 (drop at bytes)) first → IsFirst (Passes is_line_end bytes) from (length bytes) (Some (at + first))
+first-in-block bytes from at first low within small none lane =
+    let same : get_or (take 16 (drop at bytes)) first 0 ≡ get_or bytes (at + first) 0 = get_or-take 16 (drop at bytes) first 0 small ∙ get_or-drop at bytes first 0 in (
+      record { low = omega (arith, low); high = omega (arith, within, small); before = nowhere-more bytes from at first first within (omega arith) (omega (arith, small)) none lane },
+      ap is_line_end (sym same) ∙ lane.there small,
+    )
+
+-- A search goes on where another found none.
+pub first-on : (bytes : List ℕ) (from at : ℕ) (found : Option ℕ) → from ≤ at → Nowhere (Passes is_line_end bytes) from at → IsFirst (Passes is_line_end bytes) at (length bytes) found
+    → IsFirst (Passes is_line_end bytes) from (length bytes) found
+first-on bytes from at None low none h = λ k i j p. elim (cases_lt k at) [
+  | inl l ↦ none k i l p
+  | inr l ↦ h k l j p
+]
+first-on bytes from at (Some place) low none h = (
+  record {
+    low = omega (arith, low, h.0.low);
+    high = h.0.high;
+    before = λ k i j p. elim (cases_lt k at) [
+      | inl l ↦ none k i l p
+      | inr l ↦ h.0.before k l j p
+    ];
+  },
+  h.1,
+)
 
 -- what was found in the bytes from a place on
 pub first-from : (d : List ℕ) (from : ℕ) (found : Option ℕ) → IsFirstByte is_line_end (take (length d - from) (drop from d)) found

@@ -1,6 +1,7 @@
 // The search for line ends among undecoded bytes.
 
-ghost use Rattle.std.specs.Prelude.{◌≡◌, ◌≤◌, length, take};
+ghost use Rattle.std.specs.Prelude.{◌≡◌, ◌≤◌, length, take, map};
+ghost use Rattle.std.specs.Simd.Lanes.{mask_l};
 ghost use Rattle.memchr.specs.Find.{IsFirst, Passes};
 ghost use Rattle.properties_format.specs.Text.{is_line_end};
 ghost use Rattle.properties_format.specs.Lines.{HoldsNoLineEnd};
@@ -9,8 +10,14 @@ ghost use Rattle.java_properties.specs.LineSearch.{unit_size, whole_units, IsSea
 ghost use Rattle.java_properties.specs.LineSearch.{FindsLineEnd, FindsLineEndByte};
 
 use memchr::memchr2;
-use properties_text::characters::is_line_end;
 use properties_text::encoding::Encoding;
+use std::simd::prelude::*;
+
+// How far a line end is near. Past that, a search by larger steps pays.
+const NEAR: usize = 128;
+
+// The line end with these low four bits, or else a byte with other low bits.
+static LINE_ENDS: [u8; 16] = [1, 0, 0, 0, 0, 0, 0, 0, 0, 0, b'\n', 0, 0, b'\r', 0, 0];
 
 /// Where a line end stands among undecoded bytes.
 #[derive(Clone, Copy, Debug, PartialEq, Eq)]
@@ -82,19 +89,32 @@ fn find_in_units(encoding: Encoding, bytes: &[u8], from: usize) -> Option<LineEn
     None
 }
 
-/// The place of the first byte like a CR or an LF, from this place on. Where line ends stand side by side, none is searched
-/// for.
+/// The place of the first byte like a CR or an LF, from this place on. Where it is near, it is found without a call.
 #[inline]
 pub fn find_end_byte(bytes: &[u8], from: usize) -> Option<usize>
     requires { from ≤ length bytes.now }
     ensures { IsFirst (Passes is_line_end bytes.now) from (length bytes.now) result }
 {
-    if let Some(first) = bytes.get(from) {
-        if is_line_end(char::from(*first)) {
-            return Some(from);
+    let mut at = from;
+    while at - from < NEAR && bytes.len() - at >= 16 {
+        let v = u8x16::from_slice(&bytes[at..]);
+        let first = line_end_bits(v).trailing_zeros() as usize;
+        if first < 16 {
+            return Some(at + first);
         }
+        at += 16;
     }
-    search_end_byte(bytes, from)
+    search_end_byte(bytes, at)
+}
+
+// Bit i is set where byte i is a CR or an LF.
+#[inline(always)]
+fn line_end_bits(v: u8x16) -> u64
+    ensures { result ≡ mask_l (map is_line_end v) }
+{
+    let low = v & u8x16::splat(15);
+    let ends = u8x16::from_array(LINE_ENDS).swizzle_dyn(low);
+    v.simd_eq(ends).to_bitmask()
 }
 
 fn search_end_byte(bytes: &[u8], from: usize) -> Option<usize>
