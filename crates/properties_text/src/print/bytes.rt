@@ -1,8 +1,9 @@
 // Bytes as they are printed in a key or a value, by vectors and by tables.
 
-ghost use Rattle.std.specs.Prelude.{◌≡◌, ◌+◌, ◌*◌, ◌<◌, ◌≤◌, ◌++◌, length, take, OnOk};
+ghost use Rattle.std.specs.Prelude.{◌≡◌, ◌+◌, ◌*◌, ◌<◌, ◌≤◌, ◌++◌, length, take, IfOk, OnOk};
 ghost use Rattle.properties_text.specs.Printing.{AppendsOnOk, ArePrinted, spelt_byte, spelt_bytes, backslashes_before, last_of};
 
+use super::line_buffer::{LineBuffer, make_room};
 use super::print_byte;
 use crate::vectors::has_control;
 use std::alloc::AllocError;
@@ -14,9 +15,6 @@ mod vectors;
 
 // How many bytes are printed at once.
 const STEP: usize = 64;
-
-// Fewer bytes are printed one by one, since no vector holds them.
-const FEW: usize = 8;
 
 // How many backslashes are printed before the last byte of what is printed for a byte, or 2 where that is a longer
 // escape.
@@ -49,47 +47,32 @@ const LAST: [u8; 256] = [
 ];
 
 /// Prints bytes as they stand, but for those that are escaped. Bytes past ASCII stand as they are.
-pub fn print_bytes(line: &mut Vec<u8>, bytes: &[u8]) -> Result<(), AllocError>
+pub fn print_bytes(line: &mut LineBuffer, bytes: &[u8]) -> Result<(), AllocError>
     ensures { AppendsOnOk line.old (spelt_bytes bytes.now) result line.new }
 {
-    if bytes.len() < FEW {
-        return print_few(line, bytes);
-    }
-    let mut piece = [0; 2 * STEP];
     let mut rest = bytes;
     while let Some(first) = rest.first() {
-        let printed = put(&mut piece, &rest[..rest.len().min(STEP)]);
-        if printed.read == 0 {
+        let read = print_short(line, &rest[..rest.len().min(STEP)])?;
+        if read == 0 {
             print_byte(line, *first)?;
             rest = &rest[1..];
         } else {
-            line.extend_from_slice(&piece[..printed.written])?;
-            rest = &rest[printed.read..];
+            rest = &rest[read..];
         }
     }
     Ok(())
 }
 
-// Prints bytes one by one.
-fn print_few(line: &mut Vec<u8>, bytes: &[u8]) -> Result<(), AllocError>
-    ensures { AppendsOnOk line.old (spelt_bytes bytes.now) result line.new }
-{
-    for byte in bytes {
-        print_one(line, *byte)?;
-    }
-    Ok(())
-}
-
-// Prints a byte. Most stand as they are.
+// Prints bytes up to one that takes a longer escape, and returns how many.
 #[inline(always)]
-fn print_one(line: &mut Vec<u8>, byte: u8) -> Result<(), AllocError>
-    ensures { AppendsOnOk line.old (spelt_byte byte) result line.new }
+fn print_short(line: &mut LineBuffer, bytes: &[u8]) -> Result<usize, AllocError>
+    ensures within { IfOk result (λ read. read ≤ length bytes.now) }
+    ensures printed { IfOk result (λ read. line.new ≡ line.old ++ spelt_bytes (take read bytes.now)) }
 {
-    if backslashes_before(byte) > 0 {
-        return print_byte(line, byte);
-    }
-    line.push(byte)?;
-    Ok(())
+    make_room(&mut line.bytes, line.filled, 2 * bytes.len())?;
+    let printed = put_after(&mut line.bytes, line.filled, bytes);
+    line.filled += printed.written;
+    Ok(printed.read)
 }
 
 // How many bytes were printed, and to how many.
@@ -97,6 +80,19 @@ fn print_one(line: &mut Vec<u8>, byte: u8) -> Result<(), AllocError>
 struct Printed {
     read: usize,
     written: usize,
+}
+
+// Prints bytes after the first `filled`, up to one that takes a longer escape.
+#[inline(always)]
+fn put_after(out: &mut [u8], filled: usize, bytes: &[u8]) -> Printed
+    requires { filled + 2 * length bytes.now ≤ length out.old }
+    ensures length { length out.new ≡ length out.old }
+    ensures read { result.read ≤ length bytes.now }
+    ensures written { filled + result.written ≤ length out.new }
+    ensures printed { let bytes = spelt_bytes (take result.read bytes.now) in
+        take (filled + result.written) out.new ≡ take filled out.old ++ bytes }
+{
+    put(&mut out[filled..], bytes)
 }
 
 // Prints bytes up to one that takes a longer escape.
