@@ -102,6 +102,7 @@ fn stands(repertoire: Repertoire, text: &str) -> bool
 }
 
 // Prints a key or a value in windows-1252: a run of characters that have a byte, one character, and so on.
+#[inline(never)]
 fn print_runs(line: &mut LineBuffer, text: &str) -> Result<(), AllocError>
     ensures { let bytes = text_bytes all_of_windows_1252 KeyOrValue (chars text.now) in
         AppendsOnOk line.old bytes result line.new }
@@ -123,6 +124,7 @@ fn print_runs(line: &mut LineBuffer, text: &str) -> Result<(), AllocError>
 }
 
 // Prints a text, character by character.
+#[inline(never)]
 fn print_characters(
     line: &mut LineBuffer,
     repertoire: Repertoire,
@@ -181,6 +183,7 @@ fn is_bom_like(repertoire: Repertoire, key: &str) -> bool
 }
 
 // A key with its first character as an escape.
+#[inline(never)]
 fn print_with_first_escaped(
     line: &mut LineBuffer,
     repertoire: Repertoire,

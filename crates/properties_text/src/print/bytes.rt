@@ -16,6 +16,9 @@ mod vectors;
 // How many bytes are printed at once.
 const STEP: usize = 64;
 
+// Fewer bytes are printed one by one, since no vector holds them.
+const FEW: usize = 8;
+
 // How many backslashes are printed before the last byte of what is printed for a byte, or 2 where that is a longer
 // escape.
 const BEFORE: [u8; 256] = [
@@ -50,6 +53,18 @@ const LAST: [u8; 256] = [
 pub fn print_bytes(line: &mut LineBuffer, bytes: &[u8]) -> Result<(), AllocError>
     ensures { AppendsOnOk line.old (spelt_bytes bytes.now) result line.new }
 {
+    let read = print_short(line, &bytes[..bytes.len().min(STEP)])?;
+    if read == bytes.len() {
+        return Ok(());
+    }
+    print_rest(line, &bytes[read..])
+}
+
+// Prints what is left of a text, which is long or has bytes that take a longer escape.
+#[inline(never)]
+fn print_rest(line: &mut LineBuffer, bytes: &[u8]) -> Result<(), AllocError>
+    ensures { AppendsOnOk line.old (spelt_bytes bytes.now) result line.new }
+{
     let mut rest = bytes;
     while let Some(first) = rest.first() {
         let read = print_short(line, &rest[..rest.len().min(STEP)])?;
@@ -82,6 +97,11 @@ struct Printed {
     written: usize,
 }
 
+const NOTHING: Printed = Printed {
+    read: 0,
+    written: 0,
+};
+
 // Prints bytes after the first `filled`, up to one that takes a longer escape.
 #[inline(always)]
 fn put_after(out: &mut [u8], filled: usize, bytes: &[u8]) -> Printed
@@ -103,16 +123,20 @@ fn put(out: &mut [u8], bytes: &[u8]) -> Printed
     ensures length { length out.new ≡ length out.old }
     ensures printed { take result.written out.new ≡ spelt_bytes (take result.read bytes.now) }
 {
+    if bytes.len() < FEW {
+        return put_singly(out, bytes, NOTHING);
+    }
     let first = put_first(out, bytes);
     let more = put_blocks(out, bytes, first);
     put_singly(out, bytes, more)
 }
 
-// Prints the odd bytes at the front, so that blocks of sixteen are left, and eight to fifteen bytes all at once. Of
-// shorter ones, and where a control character is near, it prints none.
+// Prints the odd bytes at the front, so that blocks of sixteen are left, and eight to fifteen bytes all at once. Where
+// a control character is near, it prints none.
 #[inline(always)]
 fn put_first(out: &mut [u8], bytes: &[u8]) -> Printed
-    requires { 2 * length bytes.now ≤ length out.old }
+    requires room { 2 * length bytes.now ≤ length out.old }
+    requires enough { FEW ≤ length bytes.now }
     ensures length { length out.new ≡ length out.old }
     ensures printed { ArePrinted bytes.now result out.new }
 {
@@ -123,8 +147,8 @@ fn put_first(out: &mut [u8], bytes: &[u8]) -> Printed
             let written = put_16(out, 0, v, read);
             return Printed { read, written };
         }
-    } else if bytes.len() >= 8 {
-        let second = bytes.len() - 8;
+    } else {
+        let second = bytes.len() - FEW;
         let v: u8x16 = u8x8::from_slice(bytes).shuffle(
             u8x8::from_slice(&bytes[second..]),
             [0, 1, 2, 3, 4, 5, 6, 7, 8, 9, 10, 11, 12, 13, 14, 15],
@@ -137,10 +161,7 @@ fn put_first(out: &mut [u8], bytes: &[u8]) -> Printed
             };
         }
     }
-    Printed {
-        read: 0,
-        written: 0,
-    }
+    NOTHING
 }
 
 // Goes on by blocks of sixteen, up to one that has a control character.

@@ -1,6 +1,6 @@
 use Rattle.std.proofs.Common.{◌≡◌, ◌++◌, length}
 use Rattle.properties_text.specs.Printing.{spelt_bytes}
-use Rattle.properties_text.proofs.print.bytes.print_bytes.Given as goal
+use Rattle.properties_text.proofs.print.bytes.print_rest.Given as goal
 
 abbrev pub invariant-loop-first : goal.invariant-loop-first
 invariant-loop-first l = l.line ++ spelt_bytes l.rest ≡ l.fn.line ++ spelt_bytes l.bytes
