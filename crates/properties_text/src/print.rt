@@ -9,7 +9,7 @@ ghost use Rattle.properties_format.specs.Printing.{unit_escape, unicode_escape, 
 ghost use Rattle.properties_text.specs.Encoding.{output_of};
 ghost use Rattle.properties_text.specs.declared.encoding.encode.OutputEncoding.TheVariants.{Windows1252};
 ghost use Rattle.properties_text.specs.declared.print.Place.TheVariants.{KeyOrValue};
-ghost use Rattle.properties_text.specs.Printing.{all_of_windows_1252, AppendsOnOk, Stands, character_bytes, text_bytes, key_bytes, spelt_byte};
+ghost use Rattle.properties_text.specs.Printing.{all_of_windows_1252, AppendsOnOk, character_bytes, text_bytes, key_bytes, spelt_byte};
 
 use crate::encoding::{OutputEncoding, byte_of, encode_run};
 use bytes::print_bytes;
@@ -78,27 +78,56 @@ pub fn print_text(
 ) -> Result<(), AllocError>
     ensures { AppendsOnOk line.old (text_bytes repertoire place (chars text.now)) result line.new }
 {
-    match (place, repertoire) {
-        (Place::KeyOrValue, _) if stands(repertoire, text) => print_bytes(line, text.as_bytes()),
-        (
-            Place::KeyOrValue,
-            Repertoire {
-                encoding: OutputEncoding::Windows1252,
-                ascii_only: false,
-            },
-        ) => print_runs(line, text),
+    match place {
+        Place::KeyOrValue => print_key_or_value(line, repertoire, text),
         _ => print_characters(line, repertoire, place, text),
     }
 }
 
-// Whether the bytes of the text are what is printed, but for escapes of ASCII.
-fn stands(repertoire: Repertoire, text: &str) -> bool
-    ensures { result ≡ true → Stands repertoire text.now }
+// Prints a key or a value, by its bytes where they are what is printed but for escapes of ASCII.
+fn print_key_or_value(
+    line: &mut LineBuffer,
+    repertoire: Repertoire,
+    text: &str,
+) -> Result<(), AllocError>
+    ensures { AppendsOnOk line.old (text_bytes repertoire KeyOrValue (chars text.now)) result line.new }
 {
-    match repertoire.encoding {
-        OutputEncoding::Utf8 if !repertoire.ascii_only => true,
-        _ => text.is_ascii(),
+    match repertoire {
+        Repertoire {
+            encoding: OutputEncoding::Utf8,
+            ascii_only: false,
+        } => print_bytes(line, text.as_bytes()),
+        Repertoire {
+            encoding: OutputEncoding::Windows1252,
+            ascii_only: false,
+        } => print_windows_1252(line, text),
+        _ => print_ascii_only(line, repertoire, text),
     }
+}
+
+#[inline(never)]
+fn print_ascii_only(
+    line: &mut LineBuffer,
+    repertoire: Repertoire,
+    text: &str,
+) -> Result<(), AllocError>
+    ensures { AppendsOnOk line.old (text_bytes repertoire KeyOrValue (chars text.now)) result line.new }
+{
+    if text.is_ascii() {
+        return print_bytes(line, text.as_bytes());
+    }
+    print_characters(line, repertoire, Place::KeyOrValue, text)
+}
+
+#[inline(never)]
+fn print_windows_1252(line: &mut LineBuffer, text: &str) -> Result<(), AllocError>
+    ensures { let bytes = text_bytes all_of_windows_1252 KeyOrValue (chars text.now) in
+        AppendsOnOk line.old bytes result line.new }
+{
+    if text.is_ascii() {
+        return print_bytes(line, text.as_bytes());
+    }
+    print_runs(line, text)
 }
 
 // Prints a key or a value in windows-1252: a run of characters that have a byte, one character, and so on.

@@ -186,12 +186,8 @@ utf_8-text (c ∷ cs) =
     ∙ ap₂ (λ x y. x ++ y) (utf_8-spelt c) (utf_8-text cs)
     ∙ sym (spelt_bytes-append (encode_utf8 c) (encode_utf8_all cs))
 
-off : (b : Bool) → not b ≡ true → b ≡ false
-off true h = sym h
-off false h = refl
-
-pub stands-utf_8 : (r : Repertoire) (bs : List ℕ) → r.encoding ≡ Utf8 → not r.ascii_only ≡ true → IsUtf8 bs → Stands r bs
-stands-utf_8 r bs is on u = rw (is, off r.ascii_only on) (utf_8-text (chars bs) ∙ ap spelt_bytes (encodes-chars bs u))
+pub stands-utf_8 : (r : Repertoire) (bs : List ℕ) → r.encoding ≡ Utf8 → r.ascii_only ≡ false → IsUtf8 bs → Stands r bs
+stands-utf_8 r bs is off u = rw (is, off) (utf_8-text (chars bs) ∙ ap spelt_bytes (encodes-chars bs u))
 
 -- ---- windows-1252
 

@@ -50,6 +50,7 @@ const LAST: [u8; 256] = [
 ];
 
 /// Prints bytes as they stand, but for those that are escaped. Bytes past ASCII stand as they are.
+#[inline(never)]
 pub fn print_bytes(line: &mut LineBuffer, bytes: &[u8]) -> Result<(), AllocError>
     ensures { AppendsOnOk line.old (spelt_bytes bytes.now) result line.new }
 {
@@ -116,6 +117,7 @@ fn put_after(out: &mut [u8], filled: usize, bytes: &[u8]) -> Printed
 }
 
 // Prints bytes up to one that takes a longer escape.
+#[inline(always)]
 fn put(out: &mut [u8], bytes: &[u8]) -> Printed
     requires { 2 * length bytes.now ≤ length out.old }
     ensures read { result.read ≤ length bytes.now }
