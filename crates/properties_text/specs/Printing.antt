@@ -1,6 +1,5 @@
 -- What is appended for a text, by where it stands.
 use Rattle.std.specs.Prelude.{◌≡◌, ℕ, ◌*◌, ◌≤◌, nat_lt, ◌==◌, length, take, Bool, false, if◌then◌else◌, List, [], ◌∷◌, ◌++◌, Result, OnOk}
-use Rattle.std.specs.Global.{Vec}
 use Rattle.std.specs.Str.{chars}
 use Rattle.properties_format.specs.Printing as format
 use Rattle.properties_format.specs.Text.{tab, line_feed, form_feed, space, backslash}
@@ -17,8 +16,8 @@ place_of Comment = format.in_comment
 place_of Prefix = format.in_prefix
 
 -- where memory was found, the buffer has the bytes after those that it had
-abbrev pub AppendsOnOk : {E : Type 0} → Vec ℕ → List ℕ → Result Unit E → Vec ℕ → Type 0
-AppendsOnOk old bytes result new = OnOk result (new.items ≡ old.items ++ bytes)
+abbrev pub AppendsOnOk : {A E : Type 0} → List ℕ → List ℕ → Result A E → List ℕ → Type 0
+AppendsOnOk old bytes result new = OnOk result (new ≡ old ++ bytes)
 
 -- all of windows-1252, as while ASCII alone is off
 abbrev pub all_of_windows_1252 : Repertoire

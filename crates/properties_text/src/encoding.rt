@@ -17,7 +17,8 @@ mod windows_1252;
 
 pub use decode_iter::DecodeIter;
 pub use encode::OutputEncoding;
-pub(crate) use encode::{encode_run, push_encoded};
+pub(crate) use encode::encode_run;
+pub(crate) use windows_1252::byte_of;
 
 /// The encodings of properties files, by the names of the WHATWG Encoding Standard.
 #[allow(non_camel_case_types)]

@@ -1,20 +1,24 @@
 //! Texts as they are printed.
 
-ghost use Rattle.std.specs.Prelude.{◌≡◌, true, ◌++◌, ◌∷◌, ◌<◌, ◌||◌, not, nat_lt, [], OnOk};
+ghost use Rattle.std.specs.Prelude.{◌≡◌, true, ◌++◌, ◌∷◌, ◌<◌, ◌||◌, not, nat_lt, [], is_some, unwrap_or, IfOk, OnOk};
 ghost use Rattle.std.specs.Char.{digit_char};
 ghost use Rattle.std.specs.Str.{chars};
 ghost use Rattle.properties_format.specs.Text.{backslash};
+ghost use Rattle.properties_format.specs.Encoding.{encoded};
 ghost use Rattle.properties_format.specs.Printing.{unit_escape, unicode_escape, literal, spelt, spelt_text, encoded_text, is_bom_like, with_first_escaped, spelt_key, in_key_or_value, in_comment};
 ghost use Rattle.properties_text.specs.Encoding.{output_of};
 ghost use Rattle.properties_text.specs.declared.encoding.encode.OutputEncoding.TheVariants.{Windows1252};
 ghost use Rattle.properties_text.specs.declared.print.Place.TheVariants.{KeyOrValue};
-ghost use Rattle.properties_text.specs.Printing.{all_of_windows_1252, AppendsOnOk, Stands, character_bytes, text_bytes, key_bytes, spelt_byte};
+ghost use Rattle.properties_text.specs.Printing.{all_of_windows_1252, AppendsOnOk, character_bytes, text_bytes, key_bytes, spelt_byte};
 
-use crate::encoding::{OutputEncoding, encode_run, push_encoded};
+use crate::encoding::{OutputEncoding, byte_of, encode_run};
 use bytes::print_bytes;
 use std::alloc::AllocError;
 
 mod bytes;
+mod line_buffer;
+
+pub use line_buffer::LineBuffer;
 
 // How many characters are encoded at once.
 const RUN: usize = 64;
@@ -67,38 +71,68 @@ const WINDOWS_1252: Repertoire = Repertoire {
 /// print_text(&mut line, repertoire, Place::KeyOrValue, "a b")?; // appends `a\ b`
 /// ```
 pub fn print_text(
-    line: &mut Vec<u8>,
+    line: &mut LineBuffer,
     repertoire: Repertoire,
     place: Place,
     text: &str,
 ) -> Result<(), AllocError>
     ensures { AppendsOnOk line.old (text_bytes repertoire place (chars text.now)) result line.new }
 {
-    match (place, repertoire) {
-        (Place::KeyOrValue, _) if stands(repertoire, text) => print_bytes(line, text.as_bytes()),
-        (
-            Place::KeyOrValue,
-            Repertoire {
-                encoding: OutputEncoding::Windows1252,
-                ascii_only: false,
-            },
-        ) => print_runs(line, text),
+    match place {
+        Place::KeyOrValue => print_key_or_value(line, repertoire, text),
         _ => print_characters(line, repertoire, place, text),
     }
 }
 
-// Whether the bytes of the text are what is printed, but for escapes of ASCII.
-fn stands(repertoire: Repertoire, text: &str) -> bool
-    ensures { result ≡ true → Stands repertoire text.now }
+// Prints a key or a value, by its bytes where they are what is printed but for escapes of ASCII.
+fn print_key_or_value(
+    line: &mut LineBuffer,
+    repertoire: Repertoire,
+    text: &str,
+) -> Result<(), AllocError>
+    ensures { AppendsOnOk line.old (text_bytes repertoire KeyOrValue (chars text.now)) result line.new }
 {
-    match repertoire.encoding {
-        OutputEncoding::Utf8 if !repertoire.ascii_only => true,
-        _ => text.is_ascii(),
+    match repertoire {
+        Repertoire {
+            encoding: OutputEncoding::Utf8,
+            ascii_only: false,
+        } => print_bytes(line, text.as_bytes()),
+        Repertoire {
+            encoding: OutputEncoding::Windows1252,
+            ascii_only: false,
+        } => print_windows_1252(line, text),
+        _ => print_ascii_only(line, repertoire, text),
     }
 }
 
+#[inline(never)]
+fn print_ascii_only(
+    line: &mut LineBuffer,
+    repertoire: Repertoire,
+    text: &str,
+) -> Result<(), AllocError>
+    ensures { AppendsOnOk line.old (text_bytes repertoire KeyOrValue (chars text.now)) result line.new }
+{
+    if text.is_ascii() {
+        return print_bytes(line, text.as_bytes());
+    }
+    print_characters(line, repertoire, Place::KeyOrValue, text)
+}
+
+#[inline(never)]
+fn print_windows_1252(line: &mut LineBuffer, text: &str) -> Result<(), AllocError>
+    ensures { let bytes = text_bytes all_of_windows_1252 KeyOrValue (chars text.now) in
+        AppendsOnOk line.old bytes result line.new }
+{
+    if text.is_ascii() {
+        return print_bytes(line, text.as_bytes());
+    }
+    print_runs(line, text)
+}
+
 // Prints a key or a value in windows-1252: a run of characters that have a byte, one character, and so on.
-fn print_runs(line: &mut Vec<u8>, text: &str) -> Result<(), AllocError>
+#[inline(never)]
+fn print_runs(line: &mut LineBuffer, text: &str) -> Result<(), AllocError>
     ensures { let bytes = text_bytes all_of_windows_1252 KeyOrValue (chars text.now) in
         AppendsOnOk line.old bytes result line.new }
 {
@@ -119,8 +153,9 @@ fn print_runs(line: &mut Vec<u8>, text: &str) -> Result<(), AllocError>
 }
 
 // Prints a text, character by character.
+#[inline(never)]
 fn print_characters(
-    line: &mut Vec<u8>,
+    line: &mut LineBuffer,
     repertoire: Repertoire,
     place: Place,
     text: &str,
@@ -135,7 +170,7 @@ fn print_characters(
 
 /// Appends the bytes of a key. The `first` of a file isn't to be taken for a byte order mark.
 pub fn print_key(
-    line: &mut Vec<u8>,
+    line: &mut LineBuffer,
     repertoire: Repertoire,
     first: bool,
     key: &str,
@@ -149,16 +184,13 @@ pub fn print_key(
 }
 
 /// Appends a text as it is, in UTF-8.
-pub fn print_raw(line: &mut Vec<u8>, text: &str) -> Result<(), AllocError>
+pub fn print_raw(line: &mut LineBuffer, text: &str) -> Result<(), AllocError>
     ensures { AppendsOnOk line.old text.now result line.new }
 {
     match text.as_bytes() {
         // What stands between keys and values, and what ends lines, is mostly one byte.
-        [byte] => {
-            line.push(*byte)?;
-            Ok(())
-        }
-        bytes => line.extend_from_slice(bytes),
+        [byte] => line.push(*byte),
+        bytes => line.extend(bytes),
     }
 }
 
@@ -180,8 +212,9 @@ fn is_bom_like(repertoire: Repertoire, key: &str) -> bool
 }
 
 // A key with its first character as an escape.
+#[inline(never)]
 fn print_with_first_escaped(
-    line: &mut Vec<u8>,
+    line: &mut LineBuffer,
     repertoire: Repertoire,
     key: &str,
 ) -> Result<(), AllocError>
@@ -198,7 +231,7 @@ fn print_with_first_escaped(
 }
 
 fn print_character(
-    line: &mut Vec<u8>,
+    line: &mut LineBuffer,
     repertoire: Repertoire,
     place: Place,
     character: char,
@@ -214,7 +247,7 @@ fn print_character(
 
 #[tactic(auto, using(crate::proofs::Printing::Characters::encoded_pair, crate::proofs::Printing::Characters::encoded_escape))]
 fn print_in_key_or_value(
-    line: &mut Vec<u8>,
+    line: &mut LineBuffer,
     repertoire: Repertoire,
     character: char,
 ) -> Result<(), AllocError>
@@ -238,7 +271,7 @@ fn print_in_key_or_value(
 }
 
 fn print_in_comment(
-    line: &mut Vec<u8>,
+    line: &mut LineBuffer,
     repertoire: Repertoire,
     character: char,
 ) -> Result<(), AllocError>
@@ -256,7 +289,7 @@ fn print_in_comment(
 // As itself, or as an escape where it may not stand so.
 #[tactic(auto, using(crate::proofs::Printing::Characters::literal_known))]
 fn print_literal(
-    line: &mut Vec<u8>,
+    line: &mut LineBuffer,
     repertoire: Repertoire,
     character: char,
 ) -> Result<(), AllocError>
@@ -264,31 +297,55 @@ fn print_literal(
         let text = literal e repertoire.ascii_only character in
         AppendsOnOk line.old (encoded_text e text) result line.new }
 {
-    if repertoire.lets_stand(character) && push_encoded(line, repertoire.encoding, character)? {
+    if repertoire.lets_stand(character) && print_encoded(line, repertoire.encoding, character)? {
         return Ok(());
     }
     print_escape(line, character)
 }
 
+// As itself, and says whether the encoding has it.
+fn print_encoded(
+    line: &mut LineBuffer,
+    encoding: OutputEncoding,
+    character: char,
+) -> Result<bool, AllocError>
+    ensures said { IfOk result (λ done. done ≡ is_some (encoded (output_of encoding) character)) }
+    ensures appended { let bytes = unwrap_or (encoded (output_of encoding) character) [] in
+        AppendsOnOk line.old bytes result line.new }
+{
+    match encoding {
+        OutputEncoding::Windows1252 => {
+            let Some(byte) = byte_of(character) else {
+                return Ok(false);
+            };
+            line.push(byte)?;
+        }
+        OutputEncoding::Utf8 => {
+            line.extend(character.encode_utf8(&mut [0; 4]).as_bytes())?;
+        }
+    }
+    Ok(true)
+}
+
 // Prints a byte of an output encoding. Past ASCII it stands as it is.
-fn print_byte(line: &mut Vec<u8>, byte: u8) -> Result<(), AllocError>
+fn print_byte(line: &mut LineBuffer, byte: u8) -> Result<(), AllocError>
     ensures { AppendsOnOk line.old (spelt_byte byte) result line.new }
 {
     if byte < 0x80 {
         print_in_key_or_value(line, ASCII, char::from(byte))
     } else {
-        line.extend_from_slice(&[byte])
+        line.push(byte)
     }
 }
 
-fn print_after_backslash(line: &mut Vec<u8>, byte: u8) -> Result<(), AllocError>
+fn print_after_backslash(line: &mut LineBuffer, byte: u8) -> Result<(), AllocError>
     ensures { AppendsOnOk line.old (backslash ∷ byte ∷ []) result line.new }
 {
-    line.extend_from_slice(&[b'\\', byte])
+    line.extend(&[b'\\', byte])
 }
 
 // As `\u` and four digits, or as two such escapes of a high and a low surrogate.
-fn print_escape(line: &mut Vec<u8>, character: char) -> Result<(), AllocError>
+fn print_escape(line: &mut LineBuffer, character: char) -> Result<(), AllocError>
     ensures { AppendsOnOk line.old (unicode_escape character) result line.new }
 {
     let code = u32::from(character);
@@ -300,10 +357,10 @@ fn print_escape(line: &mut Vec<u8>, character: char) -> Result<(), AllocError>
     print_unit(line, 0xdc00 + above % 0x400)
 }
 
-fn print_unit(line: &mut Vec<u8>, unit: u32) -> Result<(), AllocError>
+fn print_unit(line: &mut LineBuffer, unit: u32) -> Result<(), AllocError>
     ensures { AppendsOnOk line.old (unit_escape unit) result line.new }
 {
-    line.extend_from_slice(&[
+    line.extend(&[
         b'\\',
         b'u',
         hexadecimal_digit(unit / 0x1000 % 0x10),

@@ -14,7 +14,7 @@ use super::settings::Settings;
 use crate::error::PropertiesError;
 use counted_io::{CountedWrite, send};
 use properties_text::encoding::OutputEncoding;
-use properties_text::print::{Place, Repertoire, print_key, print_raw, print_text};
+use properties_text::print::{LineBuffer, Place, Repertoire, print_key, print_raw, print_text};
 use std::alloc::{AllocError, Global};
 
 /// What a line is to say.
@@ -30,7 +30,7 @@ pub enum Content<'a> {
 #[derive(Drop)]
 pub struct Engine {
     // The line that is built, which keeps its memory for the next.
-    line: Vec<u8>,
+    line: LineBuffer,
     // How many lines were written.
     lines: usize,
     // Whether a write failed.
@@ -49,7 +49,7 @@ impl Engine {
         ensures failed { result.failed ≡ false }
     {
         Engine {
-            line: Vec::new(alloc),
+            line: LineBuffer::new(alloc),
             lines: 0,
             failed: false,
             encoding,
@@ -122,7 +122,7 @@ impl Engine {
     // The bytes of the line, to be sent.
     fn build(&mut self, content: Content<'_>) -> Result<(), AllocError>
         ensures printed { let bytes = line_bytes self.old (content_of content.entry) in
-            OnOk result (self.new.line.items ≡ bytes) }
+            OnOk result (self.new.line ≡ bytes) }
         ensures same { self.new ≡ record self.old { line = self.new.line } }
     {
         self.line.clear();

@@ -7,7 +7,9 @@ use Rattle.std.specs.List.{All}
 use Rattle.std.proofs.lemmas.List.Elements.{All-head, All-tail}
 use Rattle.std.proofs.lemmas.Str.Ascii.{All-from_ascii}
 use Rattle.std.proofs.lemmas.Str.{encodes-chars, chars-IsAscii, encode_ascii}
-use Rattle.std.proofs.lemmas.List.{take_more, take_all, length-drop, take-append-drop, take-take}
+use Rattle.std.proofs.lemmas.List.{take_more, take_all, length-drop, length-take-le, take-append-le, take-append-drop, take-take}
+use Rattle.std.proofs.Math.Seq.{take-append-add}
+use borrow.Rule.Slice.PartMut.{put_mid, post_of}
 use Rattle.properties_format.specs.Text.{space, backslash}
 use Rattle.properties_format.specs.Windows1252.{windows_1252_byte, windows_1252_table, is_in_table, place_from}
 use Rattle.properties_format.specs.Encoding.{Encoding, windows_1252, utf_8, one_byte, encoded}
@@ -65,19 +67,6 @@ last-table =
     192 ∷ 193 ∷ 194 ∷ 195 ∷ 196 ∷ 197 ∷ 198 ∷ 199 ∷ 200 ∷ 201 ∷ 202 ∷ 203 ∷ 204 ∷ 205 ∷ 206 ∷ 207 ∷ 208 ∷ 209 ∷ 210 ∷ 211 ∷ 212 ∷ 213 ∷ 214 ∷ 215 ∷ 216 ∷ 217 ∷ 218 ∷ 219 ∷ 220 ∷ 221 ∷ 222 ∷ 223 ∷
     224 ∷ 225 ∷ 226 ∷ 227 ∷ 228 ∷ 229 ∷ 230 ∷ 231 ∷ 232 ∷ 233 ∷ 234 ∷ 235 ∷ 236 ∷ 237 ∷ 238 ∷ 239 ∷ 240 ∷ 241 ∷ 242 ∷ 243 ∷ 244 ∷ 245 ∷ 246 ∷ 247 ∷ 248 ∷ 249 ∷ 250 ∷ 251 ∷ 252 ∷ 253 ∷ 254 ∷ 255 ∷ []
 
--- a byte before which no backslash stands
-pub plain-byte : (b : ℕ) → backslashes_before b ≡ 0 → spelt_byte b ≡ b ∷ []
-plain-byte b h = elim (cases_Bool (is_special b)) [
-  | inl s ↦ absurd (let one : backslashes_before b ≡ 1 = rw s refl in omega (arith, one, h))
-  | inr s ↦ elim (cases_Bool (has_letter b)) [
-    | inl l ↦ absurd (let one : backslashes_before b ≡ 1 = rw (s, l) refl in omega (arith, one, h))
-    | inr l ↦ elim (cases_Bool (nat_lt b space)) [
-      | inl k ↦ absurd (let two : backslashes_before b ≡ 2 = rw (s, l, k) refl in omega (arith, two, h))
-      | inr k ↦ rw (s, l, k) refl
-    ]
-  ]
-]
-
 pub before-at : (b : ℕ) → b < 256 → slice_index before-table b ≡ backslashes_before b
 before-at b h = eqb-true _ _ (agree_below_at (λ b. slice_index before-table b == backslashes_before b) (λ k. true) 256 b refl h)
 
@@ -91,17 +80,29 @@ spelt_bytes-more bs i h =
     ∙ spelt_bytes-append (take i bs) (get_or bs i 0 ∷ [])
     ∙ ap (λ v. spelt_bytes (take i bs) ++ v) (append-nil (spelt_byte (get_or bs i 0)))
 
+-- what is printed in the place of others, after what stands
+pub printed-after : (bytes out spelt : List ℕ) (filled room written : ℕ) → filled ≤ length bytes → written ≤ length out → take written out ≡ spelt
+    → take (filled + written) (put_mid filled room bytes out) ≡ take filled bytes ++ spelt
+printed-after bytes out spelt filled room written h k e =
+    ap (λ n. take (n + written) (put_mid filled room bytes out)) (sym (length-take-le filled bytes h))
+    ∙ take-append-add (take filled bytes) (out ++ post_of filled room bytes) written
+    ∙ ap (λ v. take filled bytes ++ v) (take-append-le written out (post_of filled room bytes) k ∙ e)
+
 -- those at the front, and what is after them
-pub printed-front : (line out rest new whole : List ℕ) (size n read written : ℕ) → size ≡ length rest → read ≤ n
-    → take written out ≡ spelt_bytes (take read (take n rest)) → new ≡ line ++ take written out → line ++ spelt_bytes rest ≡ whole
+pub printed-front : (line rest new whole : List ℕ) (size n read : ℕ) → size ≡ length rest → read ≤ n
+    → new ≡ line ++ spelt_bytes (take read (take n rest)) → line ++ spelt_bytes rest ≡ whole
     → new ++ spelt_bytes (take (size - read) (drop read rest)) ≡ whole
-printed-front line out rest new whole size n read written is_size within printed appended held =
+printed-front line rest new whole size n read is_size within printed held =
     ap₂ (λ x y. x ++ spelt_bytes y)
-    (appended ∙ ap (λ v. line ++ v) (printed ∙ ap spelt_bytes (take-take read n rest within)))
+    (printed ∙ ap (λ v. line ++ spelt_bytes v) (take-take read n rest within))
     (take_all (size - read) (drop read rest) (omega (arith, is_size, length-drop read rest)))
     ∙ append_assoc line (spelt_bytes (take read rest)) (spelt_bytes (drop read rest))
     ∙ ap (λ v. line ++ v) (sym (spelt_bytes-append (take read rest) (drop read rest)) ∙ ap spelt_bytes (take-append-drop read rest))
     ∙ held
+
+-- all of them
+pub printed-whole : (line bytes new : List ℕ) (n read : ℕ) → read ≤ n → length bytes ≤ read → new ≡ line ++ spelt_bytes (take read (take n bytes)) → new ≡ line ++ spelt_bytes bytes
+printed-whole line bytes new n read within all printed = printed ∙ ap (λ v. line ++ spelt_bytes v) (take-take read n bytes within ∙ take_all read bytes all)
 
 -- ---- ASCII
 
@@ -185,12 +186,8 @@ utf_8-text (c ∷ cs) =
     ∙ ap₂ (λ x y. x ++ y) (utf_8-spelt c) (utf_8-text cs)
     ∙ sym (spelt_bytes-append (encode_utf8 c) (encode_utf8_all cs))
 
-off : (b : Bool) → not b ≡ true → b ≡ false
-off true h = sym h
-off false h = refl
-
-pub stands-utf_8 : (r : Repertoire) (bs : List ℕ) → r.encoding ≡ Utf8 → not r.ascii_only ≡ true → IsUtf8 bs → Stands r bs
-stands-utf_8 r bs is on u = rw (is, off r.ascii_only on) (utf_8-text (chars bs) ∙ ap spelt_bytes (encodes-chars bs u))
+pub stands-utf_8 : (r : Repertoire) (bs : List ℕ) → r.encoding ≡ Utf8 → r.ascii_only ≡ false → IsUtf8 bs → Stands r bs
+stands-utf_8 r bs is off u = rw (is, off) (utf_8-text (chars bs) ∙ ap spelt_bytes (encodes-chars bs u))
 
 -- ---- windows-1252
 

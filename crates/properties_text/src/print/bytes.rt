@@ -1,8 +1,9 @@
 // Bytes as they are printed in a key or a value, by vectors and by tables.
 
-ghost use Rattle.std.specs.Prelude.{◌≡◌, ◌+◌, ◌*◌, ◌<◌, ◌≤◌, ◌++◌, length, take, OnOk};
+ghost use Rattle.std.specs.Prelude.{◌≡◌, ◌+◌, ◌*◌, ◌<◌, ◌≤◌, ◌++◌, length, take, IfOk, OnOk};
 ghost use Rattle.properties_text.specs.Printing.{AppendsOnOk, ArePrinted, spelt_byte, spelt_bytes, backslashes_before, last_of};
 
+use super::line_buffer::{LineBuffer, make_room};
 use super::print_byte;
 use crate::vectors::has_control;
 use std::alloc::AllocError;
@@ -49,47 +50,45 @@ const LAST: [u8; 256] = [
 ];
 
 /// Prints bytes as they stand, but for those that are escaped. Bytes past ASCII stand as they are.
-pub fn print_bytes(line: &mut Vec<u8>, bytes: &[u8]) -> Result<(), AllocError>
+#[inline(never)]
+pub fn print_bytes(line: &mut LineBuffer, bytes: &[u8]) -> Result<(), AllocError>
     ensures { AppendsOnOk line.old (spelt_bytes bytes.now) result line.new }
 {
-    if bytes.len() < FEW {
-        return print_few(line, bytes);
+    let read = print_short(line, &bytes[..bytes.len().min(STEP)])?;
+    if read == bytes.len() {
+        return Ok(());
     }
-    let mut piece = [0; 2 * STEP];
+    print_rest(line, &bytes[read..])
+}
+
+// Prints what is left of a text, which is long or has bytes that take a longer escape.
+#[inline(never)]
+fn print_rest(line: &mut LineBuffer, bytes: &[u8]) -> Result<(), AllocError>
+    ensures { AppendsOnOk line.old (spelt_bytes bytes.now) result line.new }
+{
     let mut rest = bytes;
     while let Some(first) = rest.first() {
-        let printed = put(&mut piece, &rest[..rest.len().min(STEP)]);
-        if printed.read == 0 {
+        let read = print_short(line, &rest[..rest.len().min(STEP)])?;
+        if read == 0 {
             print_byte(line, *first)?;
             rest = &rest[1..];
         } else {
-            line.extend_from_slice(&piece[..printed.written])?;
-            rest = &rest[printed.read..];
+            rest = &rest[read..];
         }
     }
     Ok(())
 }
 
-// Prints bytes one by one.
-fn print_few(line: &mut Vec<u8>, bytes: &[u8]) -> Result<(), AllocError>
-    ensures { AppendsOnOk line.old (spelt_bytes bytes.now) result line.new }
-{
-    for byte in bytes {
-        print_one(line, *byte)?;
-    }
-    Ok(())
-}
-
-// Prints a byte. Most stand as they are.
+// Prints bytes up to one that takes a longer escape, and returns how many.
 #[inline(always)]
-fn print_one(line: &mut Vec<u8>, byte: u8) -> Result<(), AllocError>
-    ensures { AppendsOnOk line.old (spelt_byte byte) result line.new }
+fn print_short(line: &mut LineBuffer, bytes: &[u8]) -> Result<usize, AllocError>
+    ensures within { IfOk result (λ read. read ≤ length bytes.now) }
+    ensures printed { IfOk result (λ read. line.new ≡ line.old ++ spelt_bytes (take read bytes.now)) }
 {
-    if backslashes_before(byte) > 0 {
-        return print_byte(line, byte);
-    }
-    line.push(byte)?;
-    Ok(())
+    make_room(&mut line.bytes, line.filled, 2 * bytes.len())?;
+    let printed = put_after(&mut line.bytes, line.filled, bytes);
+    line.filled += printed.written;
+    Ok(printed.read)
 }
 
 // How many bytes were printed, and to how many.
@@ -99,7 +98,26 @@ struct Printed {
     written: usize,
 }
 
+const NOTHING: Printed = Printed {
+    read: 0,
+    written: 0,
+};
+
+// Prints bytes after the first `filled`, up to one that takes a longer escape.
+#[inline(always)]
+fn put_after(out: &mut [u8], filled: usize, bytes: &[u8]) -> Printed
+    requires { filled + 2 * length bytes.now ≤ length out.old }
+    ensures length { length out.new ≡ length out.old }
+    ensures read { result.read ≤ length bytes.now }
+    ensures written { filled + result.written ≤ length out.new }
+    ensures printed { let bytes = spelt_bytes (take result.read bytes.now) in
+        take (filled + result.written) out.new ≡ take filled out.old ++ bytes }
+{
+    put(&mut out[filled..], bytes)
+}
+
 // Prints bytes up to one that takes a longer escape.
+#[inline(always)]
 fn put(out: &mut [u8], bytes: &[u8]) -> Printed
     requires { 2 * length bytes.now ≤ length out.old }
     ensures read { result.read ≤ length bytes.now }
@@ -107,16 +125,20 @@ fn put(out: &mut [u8], bytes: &[u8]) -> Printed
     ensures length { length out.new ≡ length out.old }
     ensures printed { take result.written out.new ≡ spelt_bytes (take result.read bytes.now) }
 {
+    if bytes.len() < FEW {
+        return put_singly(out, bytes, NOTHING);
+    }
     let first = put_first(out, bytes);
     let more = put_blocks(out, bytes, first);
     put_singly(out, bytes, more)
 }
 
-// Prints the odd bytes at the front, so that blocks of sixteen are left, and eight to fifteen bytes all at once. Of
-// shorter ones, and where a control character is near, it prints none.
+// Prints the odd bytes at the front, so that blocks of sixteen are left, and eight to fifteen bytes all at once. Where
+// a control character is near, it prints none.
 #[inline(always)]
 fn put_first(out: &mut [u8], bytes: &[u8]) -> Printed
-    requires { 2 * length bytes.now ≤ length out.old }
+    requires room { 2 * length bytes.now ≤ length out.old }
+    requires enough { FEW ≤ length bytes.now }
     ensures length { length out.new ≡ length out.old }
     ensures printed { ArePrinted bytes.now result out.new }
 {
@@ -127,8 +149,8 @@ fn put_first(out: &mut [u8], bytes: &[u8]) -> Printed
             let written = put_16(out, 0, v, read);
             return Printed { read, written };
         }
-    } else if bytes.len() >= 8 {
-        let second = bytes.len() - 8;
+    } else {
+        let second = bytes.len() - FEW;
         let v: u8x16 = u8x8::from_slice(bytes).shuffle(
             u8x8::from_slice(&bytes[second..]),
             [0, 1, 2, 3, 4, 5, 6, 7, 8, 9, 10, 11, 12, 13, 14, 15],
@@ -141,10 +163,7 @@ fn put_first(out: &mut [u8], bytes: &[u8]) -> Printed
             };
         }
     }
-    Printed {
-        read: 0,
-        written: 0,
-    }
+    NOTHING
 }
 
 // Goes on by blocks of sixteen, up to one that has a control character.

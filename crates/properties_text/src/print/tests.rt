@@ -15,8 +15,9 @@ fn printed(
     repertoire: Repertoire,
     place: Place,
     text: &str,
-) -> Result<Vec<u8>, Fail> {
-    let mut line = Vec::from_slice(alloc, b"|")?;
+) -> Result<LineBuffer, Fail> {
+    let mut line = LineBuffer::new(alloc);
+    print_raw(&mut line, "|")?;
     print_text(&mut line, repertoire, place, text)?;
     Ok(line)
 }
@@ -113,7 +114,7 @@ fn prints_keys_that_are_no_byte_order_mark(rt: HostRuntime) -> Result<(), Fail> 
         (UTF_8, false, "\u{feff}x", b"\xef\xbb\xbfx"),
     ];
     for (repertoire, first, key, wanted) in rows {
-        let mut line = Vec::new(rt.alloc());
+        let mut line = LineBuffer::new(rt.alloc());
         print_key(&mut line, repertoire, first, key)?;
         assert_eq!(rt; line.as_slice(), wanted);
     }
@@ -122,7 +123,8 @@ fn prints_keys_that_are_no_byte_order_mark(rt: HostRuntime) -> Result<(), Fail> 
 
 #[test]
 fn prints_raw_texts(rt: HostRuntime) -> Result<(), Fail> {
-    let mut line = Vec::from_slice(rt.alloc(), b"a")?;
+    let mut line = LineBuffer::new(rt.alloc());
+    print_raw(&mut line, "a")?;
     print_raw(&mut line, " = \\")?;
     assert_eq!(rt; line.as_slice(), b"a = \\".as_slice());
     Ok(())

@@ -14,7 +14,7 @@ loop-character-preserved c =
     let place = place_of c.args.place in
     c.in_ok-print_character.ensures
     ∙ ap (λ v. v ++ encoded_text e (spelt e c.args.repertoire.ascii_only place c.in-Some.character)) c.loop-character.invariant
-    ∙ printed_more e c.args.repertoire.ascii_only place c.args.line.now.items c.loop-character.yielded c.in-Some.character
+    ∙ printed_more e c.args.repertoire.ascii_only place c.args.line.now c.loop-character.yielded c.in-Some.character
 
 pub returns : goal.returns
 returns c =
@@ -24,4 +24,4 @@ returns c =
     let yields = YieldsList-from_chars c.args.text.now c.utf8.text cc in
     let last = YieldsList-end yields loop.yielded _ loop.yielded_by _ _ c.in-None.is c.next.ensures.steps in
     let all = sym (map-id loop.yielded) ∙ last.0 in
-    c.loop-character.invariant ∙ ap (λ v. c.args.line.now.items ++ encoded_text e (spelt_text e c.args.repertoire.ascii_only place v)) all
+    c.loop-character.invariant ∙ ap (λ v. c.args.line.now ++ encoded_text e (spelt_text e c.args.repertoire.ascii_only place v)) all

@@ -13,7 +13,7 @@ returns-in-None c =
     let text = chars c.loop-characters.rest.now in
     let E : List ℕ → Type 0 = EncodesFront text bytes in
     let empty = ap chars (sym c.chars-characters.ensures.rest ∙ nil_from_length _ c.in-None.ensures.steps.0.0) ∙ chars-nil in
-    run-last c.loop-characters.line.items _ _ text bytes c.loop-characters.invariant.1 (subst E empty run.ensures.encoded) c.in_ok-print_bytes.ensures
+    run-last c.loop-characters.line _ _ text bytes c.loop-characters.invariant.1 (subst E empty run.ensures.encoded) c.in_ok-print_bytes.ensures
 
 pub loop-characters-preserved : goal.loop-characters-preserved
 loop-characters-preserved c =
@@ -25,6 +25,6 @@ loop-characters-preserved c =
     let E : List ℕ → Type 0 = EncodesFront text bytes in (
       search rules,
       rw c.as_str-rest.ensures
-          (run-more c.loop-characters.line.items c.print_bytes.new.line.items c.print_in_key_or_value.new.line.items _ text bytes (chars after) c.in-Some.character c.loop-characters.invariant.1
+          (run-more c.loop-characters.line c.print_bytes.new.line c.print_in_key_or_value.new.line _ text bytes (chars after) c.in-Some.character c.loop-characters.invariant.1
           (subst E parts run.ensures.encoded) c.in_ok-print_bytes.ensures c.in_ok-print_in_key_or_value-in-Some.ensures),
     )

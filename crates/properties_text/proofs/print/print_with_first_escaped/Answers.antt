@@ -14,5 +14,5 @@ returns c =
     let rest = c.as_str.ensures in
     let escaped = c.in_ok-print_escape.ensures in
     let printed = c.print_text.ensures in
-    let more = first_escaped_more e c.args.repertoire.ascii_only in_key_or_value c.args.line.now.items (chars c.next.new.self.rest.now) c.in-Some.character in
+    let more = first_escaped_more e c.args.repertoire.ascii_only in_key_or_value c.args.line.now (chars c.next.new.self.rest.now) c.in-Some.character in
     rw (parts, ← more, ← escaped, ← rest) printed

@@ -18,5 +18,5 @@ returns-then-not-has_control-2-clause-printed c =
     record {
       read = omega arith;
       written = omega (arith, c.put_ends-written.ensures.within);
-      same = ends-is c.put_ends-written.new.out bytes c.put_ends-written.result c.if-bytes-ge8.true c.if-bytes-ge16.false (c.has_control-then-bytes-ge8.ensures.0 c.if-not-has_control-2.true) c.put_ends-written.ensures.printed;
+      same = ends-is c.put_ends-written.new.out bytes c.put_ends-written.result c.requires.enough c.if-bytes-ge16.false (c.has_control-else-bytes-ge16.ensures.0 c.if-not-has_control-2.true) c.put_ends-written.ensures.printed;
     }
