@@ -8,3 +8,4 @@ pub mod Texts
 pub mod Scanning
 pub mod KeyFronts
 pub mod AsciiFronts
+pub mod Latin1

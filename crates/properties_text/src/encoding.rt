@@ -9,6 +9,7 @@ pub mod decode;
 mod decode_iter;
 mod encode;
 mod first_piece;
+mod latin_1;
 mod read_ahead;
 mod run;
 mod utf_16;

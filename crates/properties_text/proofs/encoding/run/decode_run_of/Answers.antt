@@ -1,8 +1,7 @@
-use Rattle.std.proofs.Common.{refl, ◌++◌, ◌≡◌, ◌∷◌, ◌∙◌, rules, arith, sym, subst, ap, length}
+use Rattle.std.proofs.Common.{refl, ◌≡◌, ◌∷◌, ◌∙◌, rules, arith, sym, subst, ap, length}
 use Rattle.std.proofs.lemmas.List.{length-drop}
 use Rattle.std.specs.Str.{IsUtf8}
-use Rattle.std.proofs.lemmas.Str.{IsUtf8-append, IsUtf8-encode, IsUtf8-from_ascii, IsUtf8-nil, chars-nil}
-use Rattle.properties_text.specs.Decoding.{text_of}
+use Rattle.std.proofs.lemmas.Str.{IsUtf8-append, IsUtf8-encode, IsUtf8-from_ascii}
 use Rattle.properties_text.specs.Encoding.{encoding_of}
 use Rattle.properties_text.proofs.AsciiFronts.{are-ascii, decoded-front}
 use Rattle.properties_text.proofs.TextFronts.{decoded-one, taken-rest}
@@ -11,10 +10,10 @@ use Rattle.properties_text.proofs.encoding.run.decode_run_of.Goals as goal
 pub loop-first-init : goal.loop-first-init
 loop-first-init c = record {
   same_room = refl;
-  within = omega arith;
+  within = c.requires.within;
   left = omega arith;
-  is_text = IsUtf8-nil;
-  text = ap (λ v. v ++ text_of c.args.encoding c.args.bytes.now) chars-nil;
+  is_text = c.requires.is_text;
+  text = refl;
 }
 
 pub loop-first-preserved : goal.loop-first-preserved
