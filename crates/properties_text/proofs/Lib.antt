@@ -9,3 +9,4 @@ pub mod Scanning
 pub mod KeyFronts
 pub mod AsciiFronts
 pub mod Latin1
+pub mod UnitBlocks

@@ -12,6 +12,7 @@ mod first_piece;
 mod latin_1;
 mod read_ahead;
 mod run;
+mod unit_blocks;
 mod utf_16;
 mod utf_8;
 mod windows_1252;
