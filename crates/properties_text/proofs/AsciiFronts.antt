@@ -40,7 +40,7 @@ past : (u n : ℕ) → u < 0x80 → 0x80 ≤ n → nat_le n u ≡ false
 past u n h k = elim (cases_Bool (nat_le n u)) [ inl t ↦ absurd (omega (arith, h, k, leb-true n u t)) | inr f ↦ f ]
 
 -- a unit of ASCII is a character
-unit-step : (order : ByteOrder) (a b : ℕ) (rest : List ℕ) → unit_of order a b < 0x80
+pub unit-step : (order : ByteOrder) (a b : ℕ) (rest : List ℕ) → unit_of order a b < 0x80
     → text_of (utf_16_of order) (a ∷ b ∷ rest) ≡ unit_of order a b ∷ text_of (utf_16_of order) rest
 unit-step LowFirst a b rest h = characters-step utf_16le a (b ∷ rest) ∙ rw (past (unit_of LowFirst a b) 0xd800 h (omega arith), past (unit_of LowFirst a b) 0xdc00 h (omega arith)) refl
 unit-step HighFirst a b rest h = characters-step utf_16be a (b ∷ rest) ∙ rw (past (unit_of HighFirst a b) 0xd800 h (omega arith), past (unit_of HighFirst a b) 0xdc00 h (omega arith)) refl

@@ -8,3 +8,5 @@ pub mod Texts
 pub mod Scanning
 pub mod KeyFronts
 pub mod AsciiFronts
+pub mod Latin1
+pub mod UnitBlocks

@@ -1,5 +1,5 @@
 -- What each part of the decoder gives: the byte order mark, the first piece, and text that stands as it is.
-use Rattle.std.specs.Prelude.{◌≡◌, ℕ, ◌≤◌, ◌<◌, ◌+◌, ◌++◌, Bool, true, false, List, [], ◌∷◌, length, drop}
+use Rattle.std.specs.Prelude.{◌≡◌, ℕ, ◌≤◌, ◌<◌, ◌+◌, ◌*◌, ◌++◌, Bool, true, false, List, [], ◌∷◌, length, take, drop}
 use Rattle.std.specs.List.{AllByRecursion}
 use Rattle.std.specs.Str.{IsAscii}
 use Rattle.std.specs.declared.borrow.CowStr.{CowStr}
@@ -43,6 +43,12 @@ abbrev pub unit_of : ByteOrder → ℕ → ℕ → ℕ
 unit_of LowFirst = low_first
 unit_of HighFirst = high_first
 
+-- the units of some bytes
+abbrev pub units_of : ByteOrder → List ℕ → List ℕ
+units_of order [] = []
+units_of order (a ∷ []) = []
+units_of order (a ∷ b ∷ bytes) = unit_of order a b ∷ units_of order bytes
+
 abbrev pub range_of : ByteRange → Range
 range_of r = from_to r.0 r.1
 
@@ -74,6 +80,13 @@ pub record IsAsciiFront (encoding : Encoding) (bytes : List ℕ) (front : AsciiF
   pub four : length front.text ≡ 4
   pub same : text_of encoding bytes ≡ front.text ++ text_of encoding front.rest.now
   pub shorter : length front.rest.now + 4 ≤ length bytes
+
+-- The text of some bytes begins with n characters of ASCII, of two bytes each, which are written from a place on.
+pub record PutsAscii (encoding : Encoding) (bytes old new : List ℕ) (at n : ℕ) : Type 0 where
+  pub front : List ℕ
+  pub ascii : IsAscii front
+  pub written : take (at + n) new ≡ take at old ++ front
+  pub same : text_of encoding bytes ≡ front ++ text_of encoding (drop (2 * n) bytes)
 
 abbrev pub utf_16_of : ByteOrder → Encoding
 utf_16_of LowFirst = UTF_16LE

@@ -24,7 +24,7 @@ lanes i [] = []
 lanes i (b ∷ bs) = cond b (8 ∷ i ∷ []) (i ∷ []) ++ lanes (suc i) bs
 
 -- whether a list begins so
-abbrev starts : List ℕ → List ℕ → Bool
+abbrev pub starts : List ℕ → List ℕ → Bool
 starts [] ys = true
 starts (x ∷ xs) [] = false
 starts (x ∷ xs) (y ∷ ys) = eqb x y && starts xs ys
@@ -34,11 +34,11 @@ abbrev is_row : List Bool → List ℕ → Bool
 is_row bs row = starts (lanes 0 bs) row && (all_below 16 row && eqb (length row) 16)
 
 -- a test that holds of all lists of n bits
-abbrev all_bits : ℕ → (List Bool → Bool) → Bool
+abbrev pub all_bits : ℕ → (List Bool → Bool) → Bool
 all_bits zero p = p []
 all_bits (suc n) p = all_bits n (λ bs. p (true ∷ bs)) && all_bits n (λ bs. p (false ∷ bs))
 
-all_bits-at : (n : ℕ) (p : List Bool → Bool) (bs : List Bool) → length bs ≡ n → all_bits n p ≡ true → p bs ≡ true
+pub all_bits-at : (n : ℕ) (p : List Bool → Bool) (bs : List Bool) → length bs ≡ n → all_bits n p ≡ true → p bs ≡ true
 all_bits-at zero p [] e h = h
 all_bits-at zero p (b ∷ bs) e h = absurd (omega arith)
 all_bits-at (suc n) p [] e h = absurd (omega arith)
@@ -54,14 +54,14 @@ tested : (bs : List Bool) → length bs ≡ 8 → is_row bs (row (mask_l bs)) �
 tested bs e = all_bits-at 8 (λ bs. is_row bs (row (mask_l bs))) bs e refl
 
 -- what these tests say
-starts-take : (xs ys : List ℕ) → starts xs ys ≡ true → take (length xs) ys ≡ xs
+pub starts-take : (xs ys : List ℕ) → starts xs ys ≡ true → take (length xs) ys ≡ xs
 starts-take [] ys h = refl
 starts-take (x ∷ xs) [] h = absurd (cc)
 starts-take (x ∷ xs) (y ∷ ys) h =
     let both = and_parts (eqb x y) (starts xs ys) h in
     ap₂ (λ z zs. z ∷ zs) (sym (eqb-true x y both.0)) (starts-take xs ys both.1)
 
-each_below : (n : ℕ) (ks : List ℕ) → all_below n ks ≡ true → Each1 (λ k. k < n) ks
+pub each_below : (n : ℕ) (ks : List ℕ) → all_below n ks ≡ true → Each1 (λ k. k < n) ks
 each_below n [] h = tt
 each_below n (k ∷ ks) h =
     let both = and_parts (ltb k n) (all_below n ks) h in
@@ -102,7 +102,7 @@ picked pair i (b ∷ bs) e h =
     one false g = ap (λ y. y ∷ []) g
 
 -- lanes below 16 of a vector of 16
-swizzled : (xs js : List ℕ) → length js ≤ 16 → Each1 (λ j. j < 16) js → swz_l w8 16 xs 0 js ≡ pick_l 0 xs js
+pub swizzled : (xs js : List ℕ) → length js ≤ 16 → Each1 (λ j. j < 16) js → swz_l w8 16 xs 0 js ≡ pick_l 0 xs js
 swizzled xs js le h =
     ext_get_or 0 (swz_l w8 16 xs 0 js) (pick_l 0 xs js) (length-swz_l w8 16 xs 0 js ∙ sym (length-map js (λ k. get_or xs k 0))) (λ m lt.
     let within : m < length js = omega (arith, length-swz_l w8 16 xs 0 js) in
@@ -114,13 +114,13 @@ swizzled xs js le h =
 -- ---- a store
 
 -- n places past a front
-take_past : (xs ys : List ℕ) (n m : ℕ) → m ≡ length xs + n → take m (xs ++ ys) ≡ xs ++ take n ys
+pub take_past : (xs ys : List ℕ) (n m : ℕ) → m ≡ length xs + n → take m (xs ++ ys) ≡ xs ++ take n ys
 take_past [] ys n m e = ap (λ k. take k ys) (omega arith)
 take_past (x ∷ xs) ys n zero e = absurd (omega arith)
 take_past (x ∷ xs) ys n (suc m) e = ap (λ l. x ∷ l) (take_past xs ys n m (omega arith))
 
 -- a store, and n of its places
-stored : (at n m : ℕ) (out ys : List ℕ) → m ≡ at + n → n ≤ length ys → at + length ys ≤ length out → take m (put_chunk at out ys) ≡ take at out ++ take n ys
+pub stored : (at n m : ℕ) (out ys : List ℕ) → m ≡ at + n → n ≤ length ys → at + length ys ≤ length out → take m (put_chunk at out ys) ≡ take at out ++ take n ys
 stored at n m out ys e le room =
     sym (take-take m (at + length ys) (put_chunk at out ys) (omega arith))
     ∙ ap (take m) (take_more_put_chunk at out ys (at + length ys) refl room)
@@ -190,7 +190,7 @@ split p v k le =
       subst (λ n. mask_l (map p (take k v)) < 2 ^ n) size (mask_l-lt (map p (take k v))),
     )
 
-first-bits : (p : ℕ → Bool) (v : List ℕ) (k : ℕ) → k ≤ length v → mask_l (map p v) % 2 ^ k ≡ mask_l (map p (take k v))
+pub first-bits : (p : ℕ → Bool) (v : List ℕ) (k : ℕ) → k ≤ length v → mask_l (map p v) % 2 ^ k ≡ mask_l (map p (take k v))
 first-bits p v k le =
     let parts = split p v k le in
     ap (λ n. n % 2 ^ k) parts.0 ∙ add-mul-mod_self_left (mask_l (map p (take k v))) (2 ^ k) (mask_l (map p (drop k v))) ∙ mod-eq_of_lt parts.1

@@ -85,6 +85,10 @@ pub fn push_text(text: &mut String, more: &str) -> Result<(), AllocError>
     ensures { OnOk result
         (chars (string_bytes text.new) ≡ chars (string_bytes text.old) ++ chars more.now) }
 {
+    // Not even a call for nothing: in most encodings no text stands as it is.
+    if more.is_empty() {
+        return Ok(());
+    }
     text.push_str(more)
 }
 

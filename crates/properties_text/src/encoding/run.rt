@@ -1,14 +1,18 @@
 // Many characters at once: the text of bytes at the front, in a piece of memory.
 
-ghost use Rattle.std.specs.Prelude.{◌≡◌, ◌≤◌, ◌<◌, ◌+◌, ◌%◌, ◌++◌, ◌∷◌, [], length, take, IfSome};
+ghost use Rattle.std.specs.Prelude.{◌≡◌, ◌≤◌, ◌<◌, ◌+◌, ◌*◌, ◌%◌, ◌++◌, ◌∷◌, [], length, take, IfSome};
 ghost use Rattle.std.specs.Char.{encode_utf8, IsScalar};
 ghost use Rattle.std.specs.Str.{chars, IsUtf8};
-ghost use Rattle.properties_text.specs.Decoding.{text_of, utf_16_of, AreFour, IsAsciiFront};
+ghost use Rattle.properties_text.specs.Decoding.{text_of, utf_16_of, AreFour, IsAsciiFront, PutsAscii};
 ghost use Rattle.properties_text.specs.declared.encoding.Encoding.TheVariants.{WINDOWS_1252};
 
 use super::Encoding;
 use super::first_piece::first_piece;
+use super::latin_1::{put_16, table_bits};
+use super::unit_blocks::put_ascii;
 use super::utf_16::ByteOrder;
+use super::windows_1252::character_of;
+use std::simd::prelude::*;
 
 /// What was decoded of some bytes.
 #[derive(Clone, Copy)]
@@ -32,31 +36,91 @@ pub fn decode_run<'a>(run: &mut [u8], encoding: Encoding, bytes: &'a [u8]) -> De
 {
     // A loop for each encoding, so that none asks for it at each character.
     match encoding {
-        Encoding::WINDOWS_1252 => decode_run_of(run, Encoding::WINDOWS_1252, bytes),
-        Encoding::UTF_8 => decode_run_of(run, Encoding::UTF_8, bytes),
-        Encoding::UTF_16LE => decode_run_of(run, Encoding::UTF_16LE, bytes),
-        Encoding::UTF_16BE => decode_run_of(run, Encoding::UTF_16BE, bytes),
+        Encoding::WINDOWS_1252 => decode_windows_1252(run, bytes),
+        Encoding::UTF_8 => decode_run_of(run, Encoding::UTF_8, 0, bytes),
+        Encoding::UTF_16LE => decode_run_of(run, Encoding::UTF_16LE, 0, bytes),
+        Encoding::UTF_16BE => decode_run_of(run, Encoding::UTF_16BE, 0, bytes),
     }
 }
 
+// By blocks of sixteen, and what is left of them as other encodings.
 #[inline(always)]
-fn decode_run_of<'a>(run: &mut [u8], encoding: Encoding, bytes: &'a [u8]) -> Decoded<'a>
+fn decode_windows_1252<'a>(run: &mut [u8], bytes: &'a [u8]) -> Decoded<'a>
     requires room { 4 ≤ length run.old }
     ensures within { result.length ≤ length run.new }
     ensures same_room { length run.new ≡ length run.old }
     ensures is_text { IsUtf8 (take result.length run.new) }
     ensures text { let text = chars (take result.length run.new) in
-        text ++ text_of encoding result.rest.now ≡ text_of encoding bytes.now }
+        text ++ text_of WINDOWS_1252 result.rest.now ≡ text_of WINDOWS_1252 bytes.now }
     ensures left { length result.rest.now ≤ length bytes.now }
     ensures shorter { 0 < length bytes.now → length result.rest.now < length bytes.now }
 {
+    let front = decode_blocks(run, bytes);
+    if front.length > 0 && front.rest.len() >= 16 {
+        return front;
+    }
+    decode_run_of(run, Encoding::WINDOWS_1252, front.length, front.rest)
+}
+
+// Sixteen bytes of windows-1252 at once, while there are as many, and room.
+#[inline(always)]
+fn decode_blocks<'a>(run: &mut [u8], bytes: &'a [u8]) -> Decoded<'a>
+    ensures within { result.length ≤ length run.new }
+    ensures same_room { length run.new ≡ length run.old }
+    ensures is_text { IsUtf8 (take result.length run.new) }
+    ensures text { let text = chars (take result.length run.new) in
+        text ++ text_of WINDOWS_1252 result.rest.now ≡ text_of WINDOWS_1252 bytes.now }
+    ensures left { result.length + 4 * length result.rest.now ≤ 4 * length bytes.now }
+{
     let mut at = 0;
+    let mut rest = bytes;
+    while rest.len() >= 16 && run.len() - at >= 32 {
+        let v = u8x16::from_slice(rest);
+        // The odd bytes go first, so that whole blocks are left.
+        let odd = (rest.len() - 1) % 16 + 1;
+        let kept = odd.min(table_bits(v).trailing_zeros() as usize);
+        if kept == 0 {
+            at = put_character(run, at, character_of(rest[0]));
+            rest = &rest[1..];
+        } else {
+            at = put_16(run, at, v, kept);
+            rest = &rest[kept..];
+        }
+    }
+    Decoded { length: at, rest }
+}
+
+// Goes on after a text that ends at this place.
+#[inline(always)]
+fn decode_run_of<'a>(
+    run: &mut [u8],
+    encoding: Encoding,
+    start: usize,
+    bytes: &'a [u8],
+) -> Decoded<'a>
+    requires within { start ≤ length run.old }
+    requires is_text { IsUtf8 (take start run.old) }
+    ensures within { result.length ≤ length run.new }
+    ensures same_room { length run.new ≡ length run.old }
+    ensures is_text { IsUtf8 (take result.length run.new) }
+    ensures text { let text = chars (take result.length run.new) in
+        text ++ text_of encoding result.rest.now
+        ≡ chars (take start run.old) ++ text_of encoding bytes.now }
+    ensures left { length result.rest.now ≤ length bytes.now }
+    ensures shorter { start + 4 ≤ length run.old → 0 < length bytes.now
+        → length result.rest.now < length bytes.now }
+{
+    let mut at = start;
     let mut rest = bytes;
     while let Some((first, others)) = rest.split_first() {
         if run.len() - at < 4 {
             return Decoded { length: at, rest };
         }
-        if let Some(front) = ascii_front(encoding, rest) {
+        let units = put_units(run, at, encoding, rest);
+        if units > 0 {
+            at += units;
+            rest = &rest[2 * units..];
+        } else if let Some(front) = ascii_front(encoding, rest) {
             at = put_four(run, at, front.text);
             rest = front.rest;
         } else {
@@ -66,6 +130,29 @@ fn decode_run_of<'a>(run: &mut [u8], encoding: Encoding, bytes: &'a [u8]) -> Dec
         }
     }
     Decoded { length: at, rest }
+}
+
+// Writes units of ASCII at the front from this place on, as many as eight, and returns how many those are. There are none
+// in other encodings than UTF-16, and where fewer than eight are left, or room for fewer.
+#[inline(always)]
+fn put_units(run: &mut [u8], at: usize, encoding: Encoding, bytes: &[u8]) -> usize
+    requires { at ≤ length run.old }
+    ensures same_room { length run.new ≡ length run.old }
+    ensures room { at + result ≤ length run.new }
+    ensures within { 2 * result ≤ length bytes.now }
+    ensures text { PutsAscii encoding bytes.now run.old run.new at result }
+{
+    if bytes.len() < 16 || run.len() - at < 8 {
+        return 0;
+    }
+    let v = u8x16::from_slice(bytes);
+    // The odd units go first, so that whole blocks are left.
+    let odd = (bytes.len() / 2 - 1) % 8 + 1;
+    match encoding {
+        Encoding::WINDOWS_1252 | Encoding::UTF_8 => 0,
+        Encoding::UTF_16LE => put_ascii(run, at, ByteOrder::LowFirst, v, odd),
+        Encoding::UTF_16BE => put_ascii(run, at, ByteOrder::HighFirst, v, odd),
+    }
 }
 
 // Four characters of ASCII, and the bytes after them.

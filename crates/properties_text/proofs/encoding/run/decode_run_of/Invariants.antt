@@ -8,9 +8,9 @@ abbrev pub invariant-loop-first : goal.invariant-loop-first
 invariant-loop-first l = record {
   same_room : length l.run ≡ length l.fn.run;
   within : l.at ≤ length l.run;
-  left : l.at + 4 * length l.rest ≤ 4 * length l.bytes;
+  left : l.at + 4 * length l.rest ≤ l.start + 4 * length l.bytes;
   is_text : IsUtf8 (take l.at l.run);
-  text : chars (take l.at l.run) ++ text_of l.encoding l.rest ≡ text_of l.encoding l.bytes;
+  text : chars (take l.at l.run) ++ text_of l.encoding l.rest ≡ chars (take l.start l.fn.run) ++ text_of l.encoding l.bytes;
 }
 
 abbrev pub decreases-loop-first : goal.decreases-loop-first

@@ -1,0 +1,173 @@
+-- Units of two bytes, eight at once.
+use Rattle.std.proofs.Common.{◌≡◌, ℕ, zero, suc, ◌+◌, ◌*◌, ◌/◌, ◌%◌, ◌^◌, ◌<◌, ◌≤◌, not, cond, leb, eqb, List, [], ◌∷◌, ◌++◌, refl, sym, ap, ap₂, subst, ◌∙◌, append-nil, inl, inr, arith, length, take, drop, get_or, map, replicate, w8, w16, Fits, bit_and}
+use Rattle.std.specs.List.{AllByRecursion, prefix_len}
+use Rattle.std.specs.Int.Count.{count_trailing_zeros}
+use Rattle.std.specs.Simd.Lanes.{zip2, Each1, pick_l, put_chunk, mask_l, top, number_l, digits_l}
+use Rattle.std.proofs.lemmas.Bool.{cases_Bool, leb-false}
+use Rattle.std.proofs.lemmas.Nat.{and_mask}
+use Rattle.std.proofs.lemmas.List.{length-map, length-take-le, map-id, take-take, take_at}
+use Rattle.std.proofs.lemmas.Simd.{first_set_mask_l, mask_l-mod, tops_compared, zip2_splat, zip2_splat_left, pick_l_left, pick_l_whole}
+use Rattle.properties_text.specs.Latin1.{is_past_ascii}
+use Rattle.properties_text.specs.Decoding.{text_of, unit_of, units_of, utf_16_of, PutsAscii}
+use Rattle.properties_text.specs.declared.encoding.Encoding.{Encoding}
+use Rattle.properties_text.proofs.AsciiFronts.{are-ascii, unit-step}
+use Rattle.properties_text.specs.declared.encoding.utf_16.ByteOrder.{ByteOrder}
+use Rattle.properties_text.specs.declared.encoding.utf_16.ByteOrder.TheVariants.{LowFirst, HighFirst}
+use Rattle.properties_text.proofs.Printing.Vectors.{stored}
+
+-- ---- the units of sixteen bytes
+
+-- the low byte first
+digits-units : (n : ℕ) (v : List ℕ) → length v ≡ 2 * n → Each1 (Fits w8) v → digits_l (2 ^ 16) n (number_l (2 ^ 8) v) ≡ units_of LowFirst v
+digits-units zero [] e h = refl
+digits-units zero (a ∷ v) e h = absurd (omega arith)
+digits-units (suc n) [] e h = absurd (omega arith)
+digits-units (suc n) (a ∷ []) e h = absurd (omega arith)
+digits-units (suc n) (a ∷ b ∷ v) e h =
+    let low = h.0.fits in
+    let high = h.1.0.fits in
+    let rest = number_l (2 ^ 8) v in
+    let first : (a + 2 ^ 8 * (b + 2 ^ 8 * rest)) % 2 ^ 16 ≡ b * 0x100 + a = omega arith in
+    let others : (a + 2 ^ 8 * (b + 2 ^ 8 * rest)) / 2 ^ 16 ≡ rest = omega arith in
+    ap₂ (λ x y. x ∷ digits_l (2 ^ 16) n y) first others ∙ ap (λ l. (b * 0x100 + a) ∷ l) (digits-units n v (omega arith) h.1.1)
+
+pub low-first : (v : List ℕ) → length v ≡ 16 → Each1 (Fits w8) v → digits_l (2 ^ 16) 8 (number_l (2 ^ 8) v) ≡ units_of LowFirst v
+low-first v long fits = digits-units 8 v (omega arith) fits
+
+length-units : (order : ByteOrder) (n : ℕ) (v : List ℕ) → length v ≡ 2 * n → length (units_of order v) ≡ n
+length-units order zero [] e = refl
+length-units order zero (a ∷ v) e = absurd (omega arith)
+length-units order (suc n) [] e = absurd (omega arith)
+length-units order (suc n) (a ∷ []) e = absurd (omega arith)
+length-units order (suc n) (a ∷ b ∷ v) e = ap suc (length-units order n v (omega arith))
+
+pub eight-units : (order : ByteOrder) (v units : List ℕ) → length v ≡ 16 → units ≡ units_of order v → length units ≡ 8
+eight-units order v units long e = ap length e ∙ length-units order 8 v (omega arith)
+
+-- lanes that are picked fit
+get-fits : (v : List ℕ) → Each1 (Fits w8) v → (k : ℕ) → Fits w8 (get_or v k 0)
+get-fits [] h k = record { fits = omega arith }
+get-fits (b ∷ v) h zero = h.0
+get-fits (b ∷ v) h (suc k) = get-fits v h.1 k
+
+picked-fits : (v ks : List ℕ) → Each1 (Fits w8) v → Each1 (Fits w8) (pick_l 0 v ks)
+picked-fits v [] h = tt
+picked-fits v (k ∷ ks) h = (get-fits v h k, picked-fits v ks h)
+
+-- each two bytes the other way round
+abbrev swapped : List ℕ
+swapped = 1 ∷ 0 ∷ 3 ∷ 2 ∷ 5 ∷ 4 ∷ 7 ∷ 6 ∷ 9 ∷ 8 ∷ 11 ∷ 10 ∷ 13 ∷ 12 ∷ 15 ∷ 14 ∷ []
+
+pub high-first : (v : List ℕ) → length v ≡ 16 → Each1 (Fits w8) v → digits_l (2 ^ 16) 8 (number_l (2 ^ 8) (pick_l 0 (v ++ v) swapped)) ≡ units_of HighFirst v
+high-first v long fits =
+    ap (λ l. digits_l (2 ^ 16) 8 (number_l (2 ^ 8) l)) (pick_l_left 0 v v 16 swapped long tt)
+    ∙ digits-units 8 (pick_l 0 v swapped) refl (picked-fits v swapped fits)
+    ∙ ap (units_of HighFirst) (pick_l_whole 0 v 16 long)
+
+-- ---- those at the front that are ASCII
+
+ascii-prefix : (units : List ℕ) (n : ℕ) → n ≤ prefix_len (λ u. not (is_past_ascii u)) units → AllByRecursion (λ u. u < 0x80) (take n units)
+ascii-prefix units zero h = tt
+ascii-prefix [] (suc n) h = tt
+ascii-prefix (u ∷ units) (suc n) h = elim (cases_Bool (is_past_ascii u)) [
+  | inl t ↦ absurd (let none : prefix_len (λ u. not (is_past_ascii u)) (u ∷ units) ≡ 0 = rw t refl in omega (arith, h, none))
+  | inr f ↦
+      let more : prefix_len (λ u. not (is_past_ascii u)) (u ∷ units) ≡ 1 + prefix_len (λ u. not (is_past_ascii u)) units = rw f refl in
+      (leb-false 0x80 u f, ascii-prefix units n (omega (arith, h, more)))
+]
+
+-- the bits of the others
+abbrev pub past_bits : List ℕ → ℕ
+past_bits units = mask_l (map (top 15) (zip2 (λ a b. cond (leb a b) 65535 0) (replicate 8 0x80) units)) % 2 ^ 64
+
+pub first-ascii : (units all : List ℕ) (n : ℕ) → length units ≡ 8 → units ≡ all → n ≤ count_trailing_zeros 64 (past_bits units) → n ≤ 8
+    → AllByRecursion (λ u. u < 0x80) (take n all)
+first-ascii units all n long e few le =
+    let bits : past_bits units ≡ mask_l (map is_past_ascii units) =
+    ap (λ l. mask_l l % 2 ^ 64) (tops_compared w16 leb (replicate 8 0x80) units ∙ zip2_splat_left leb 0x80 8 units long)
+    ∙ mask_l-mod (map is_past_ascii units) 64 (omega (arith, length-map units is_past_ascii)) in
+    let first = prefix_len (λ u. not (is_past_ascii u)) units in
+    let set : cond (eqb (past_bits units) 0) 8 (count_trailing_zeros 64 (past_bits units)) ≡ first =
+    ap (λ k. cond (eqb k 0) 8 (count_trailing_zeros 64 k)) bits ∙ first_set_mask_l is_past_ascii units 8 long (omega arith) in
+    let within : n ≤ first = elim (cases_Bool (eqb (past_bits units) 0)) [
+      | inl t ↦ let is : 8 ≡ first = sym (rw t refl) ∙ set in omega arith
+      | inr f ↦ let is : count_trailing_zeros 64 (past_bits units) ≡ first = sym (rw f refl) ∙ set in omega arith
+    ] in
+    subst (λ l. AllByRecursion (λ u. u < 0x80) (take n l)) e (ascii-prefix units n within)
+
+-- ---- how they are written
+
+-- the low bytes
+low-bytes : (units : List ℕ) (n : ℕ) → AllByRecursion (λ u. u < 0x80) (take n units) → take n (map (λ u. u % 256) units) ≡ take n units
+low-bytes units zero h = refl
+low-bytes [] (suc n) h = refl
+low-bytes (u ∷ units) (suc n) h =
+    let same : u % 256 ≡ u = omega (arith, h.0) in
+    ap₂ (λ x xs. x ∷ xs) same (low-bytes units n h.1)
+
+masked : (units : List ℕ) → length units ≡ 8 → zip2 bit_and units (replicate 8 255) ≡ map (λ u. u % 256) units
+masked units long = zip2_splat bit_and units 8 255 long ∙ each units
+  where
+    each : (units : List ℕ) → map (λ u. bit_and u 255) units ≡ map (λ u. u % 256) units
+    each [] = refl
+    each (u ∷ units) = ap₂ (λ x xs. x ∷ xs) (and_mask u 8) (each units)
+
+-- each of them fits a byte
+pub bytes-fit : (units : List ℕ) → length units ≡ 8 → Each1 (Fits w8) (zip2 bit_and units (replicate 8 255))
+bytes-fit units long = subst (Each1 (Fits w8)) (sym (masked units long)) (each units)
+  where
+    each : (units : List ℕ) → Each1 (Fits w8) (map (λ u. u % 256) units)
+    each [] = tt
+    each (u ∷ units) = (record { fits = omega arith }, each units)
+
+pub put_ascii-is : (at n : ℕ) (out units all : List ℕ) → length units ≡ 8 → at + 8 ≤ length out → n ≤ 8 → units ≡ all
+    → AllByRecursion (λ u. u < 0x80) (take n all)
+    → take (at + n) (put_chunk at out (map (λ u. u) (zip2 bit_and units (replicate 8 255)))) ≡ take at out ++ take n all
+put_ascii-is at n out units all long room le e ascii =
+    let bytes : map (λ u. u) (zip2 bit_and units (replicate 8 255)) ≡ map (λ u. u % 256) units = map-id (zip2 bit_and units (replicate 8 255)) ∙ masked units long in
+    let known = subst (λ l. AllByRecursion (λ u. u < 0x80) (take n l)) (sym e) ascii in
+    let size = length-map units (λ u. u % 256) in
+    ap (λ l. take (at + n) (put_chunk at out l)) bytes
+    ∙ stored at n (at + n) out (map (λ u. u % 256) units) refl (omega arith) (omega arith)
+    ∙ ap (λ l. take at out ++ l) (low-bytes units n known ∙ ap (take n) e)
+
+-- ---- what they stand for
+
+-- n of the units of the first w bytes
+front-is : (order : ByteOrder) (n w : ℕ) (bytes : List ℕ) → 2 * n ≤ w → w ≤ length bytes → AllByRecursion (λ u. u < 0x80) (take n (units_of order (take w bytes)))
+    → text_of (utf_16_of order) bytes ≡ take n (units_of order (take w bytes)) ++ text_of (utf_16_of order) (drop (2 * n) bytes)
+front-is order zero w bytes le long h = refl
+front-is order (suc n) zero bytes le long h = absurd (omega arith)
+front-is order (suc n) (suc zero) bytes le long h = absurd (omega arith)
+front-is order (suc n) (suc (suc w)) [] le long h = absurd (omega arith)
+front-is order (suc n) (suc (suc w)) (a ∷ []) le long h = absurd (omega arith)
+front-is order (suc n) (suc (suc w)) (a ∷ b ∷ bytes) le long h =
+    let place : suc (suc (2 * n)) ≡ 2 * suc n = omega arith in
+    unit-step order a b bytes h.0
+    ∙ ap (λ l. unit_of order a b ∷ l) (front-is order n w bytes (omega arith) (omega arith) h.1)
+    ∙ ap (λ k. unit_of order a b ∷ (take n (units_of order (take w bytes)) ++ text_of (utf_16_of order) (drop k (a ∷ b ∷ bytes)))) place
+
+pub puts-ascii : (order : ByteOrder) (bytes old new : List ℕ) (at n : ℕ) → 16 ≤ length bytes → n ≤ 8
+    → AllByRecursion (λ u. u < 0x80) (take n (units_of order (take 16 bytes))) → take (at + n) new ≡ take at old ++ take n (units_of order (take 16 bytes))
+    → PutsAscii (utf_16_of order) bytes old new at n
+puts-ascii order bytes old new at n long le ascii text = record {
+  front = take n (units_of order (take 16 bytes));
+  ascii = are-ascii (take n (units_of order (take 16 bytes))) ascii;
+  written = text;
+  same = front-is order n 16 bytes (omega arith) long ascii;
+}
+
+pub puts-nothing : (encoding : Encoding) (bytes run : List ℕ) (at : ℕ) → PutsAscii encoding bytes run run at 0
+puts-nothing encoding bytes run at = record {
+  front = [];
+  ascii = are-ascii [] tt;
+  written = ap (λ k. take k run) (let same : at + 0 ≡ at = omega arith in same) ∙ sym (append-nil (take at run));
+  same = refl;
+}
+
+-- what stands before that place is left as it was
+pub kept-before : (encoding : Encoding) (bytes old new : List ℕ) (at n : ℕ) → at ≤ length old → PutsAscii encoding bytes old new at n → take at new ≡ take at old
+kept-before encoding bytes old new at n le puts =
+    sym (take-take at (at + n) new (omega arith))
+    ∙ ap (take at) puts.written
+    ∙ take_at (take at old) puts.front at (length-take-le at old le)
