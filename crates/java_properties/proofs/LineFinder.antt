@@ -1,5 +1,5 @@
 -- How a line is sought and found, step by step.
-use Rattle.std.proofs.Common.{◌≡◌, ◌^◌, ◌<◌, ◌≤◌, ◌==◌, ◌&&◌, ◌+◌, ℕ, Bool, true, false, List, [], ◌∷◌, ◌++◌, take, drop, length, refl, sym, ap, ap₂, ◌∙◌, append_assoc, length-append, inl, inr, arith, eqb-true, append-nil, subst}
+use Rattle.std.proofs.Common.{◌≡◌, ◌<◌, ◌≤◌, ◌==◌, ◌&&◌, ◌+◌, ℕ, Bool, true, false, List, [], ◌∷◌, ◌++◌, take, drop, length, refl, sym, ap, ap₂, ◌∙◌, append_assoc, length-append, inl, inr, arith, eqb-true, append-nil, subst}
 use Rattle.std.specs.Prelude.{Option, Some, None, Err}
 use Rattle.std.proofs.Math.Seq.{drop-append_seam, take-length}
 use Rattle.std.proofs.lemmas.Grind.{common_steps}
@@ -28,13 +28,12 @@ use Rattle.java_properties.specs.InputBuffer.{HasFilled, Fills}
 use Rattle.java_properties.specs.declared.input.FillError.{FillError}
 use Rattle.java_properties.specs.declared.input.FillError.TheVariants.{Memory, Io}
 use Rattle.java_properties.specs.LineSearch.{unit_size, whole_units, end_character, IsFirstLineEnd, FindsLineEnd}
-use Rattle.memchr.specs.Find.{IsFirst, Passes}
-use Rattle.java_properties.proofs.LineSearch.{searched-more, length-ascii_bytes, found-byte, nothing_searched}
+use Rattle.java_properties.proofs.LineSearch.{searched-more, length-ascii_bytes}
 use Rattle.java_properties.specs.declared.error.PropertiesError.{PropertiesError}
 use Rattle.java_properties.specs.declared.lines.search.LineEnd.{LineEnd}
 use Rattle.java_properties.specs.declared.lines.seeker.HeldLine.{HeldLine}
 use Rattle.java_properties.specs.LineFinder as finder
-use Rattle.java_properties.specs.LineFinder.{IsSettled, HoldsNoEndYet, IsAlike, SkipsFeed, PassesFeed, Settles, SettlesLast, Along, IsAtLast, IsReady, HoldsLineEnd, LooksFor, Looks, HasFound, HasEnded, HasBroken, HasNoRoom, Seeks, PassesFirst, IsHeldLine, end_after, Finder, TakesHeld, FindsNext, FindsError, IsRefused}
+use Rattle.java_properties.specs.LineFinder.{IsLineStart, IsSettled, HoldsNoEndYet, IsAlike, SkipsFeed, PassesFeed, Settles, SettlesLast, Along, IsAtLast, IsReady, HoldsLineEnd, LooksFor, Looks, HasFound, HasEnded, HasBroken, HasNoRoom, Seeks, PassesFirst, IsHeldLine, Finder, TakesHeld, FindsNext, FindsError, IsRefused}
 use Rattle.properties_text.specs.declared.encoding.byte_order_mark.ByteOrderMark.{ByteOrderMark}
 use Rattle.properties_text.specs.declared.encoding.byte_order_mark.ByteOrderMark.TheVariants.{Present, Absent, Undecided}
 
@@ -410,26 +409,23 @@ first-none s r d l h k =
     record { within = omega arith; alike = (skips-none s r d (omega (arith, l, length-ascii_bytes s.encoding line_feed)) h k).alike }
 
 -- a search of the bytes finds such a line
-pub peeks : (s : ReaderState) (line : HeldLine) → s.is_done ≡ false → s.is_decided ≡ true → s.passed + 1 < 2 ^ 64 → unit_size s.encoding ≡ 1 → PassesFirst s line.start
-    → IsFirst (Passes is_line_end (drop line.start s.held)) 0 (length (drop line.start s.held)) (Some line.length) → IsHeldLine s line
-peeks s line g d n u first h =
+pub peeks : (s : ReaderState) (line : HeldLine) → IsLineStart s line.start → IsFirstLineEnd s.encoding (drop line.start s.held) line.end → IsHeldLine s line
+peeks s line b found =
     let t = after_passed s (drop line.start s.held) in
-    let found = found-byte s.encoding t.held 0 line.length u (nothing_searched s.encoding t.held) h.0 h.1 in
     record {
-      numbered = n;
-      bytes = u;
-      first = first;
-      holds = found-line t (end_after t.held line.length) g (record { decided = d; after_end = refl }) found;
+      numbered = b.numbered;
+      first = b.first;
+      holds = found-line t line.end b.going (record { decided = b.decided; after_end = refl }) found;
     }
 
 -- such a line is taken
 pub takes-held : {s : ReaderState} (line : HeldLine) (number : ℕ) (new : Finder) → IsHeldLine s line → number ≡ s.passed + 1
-    → new ≡ found_at (after_passed s (drop line.start s.held)) (end_after (drop line.start s.held) line.length) number → TakesHeld s number new
+    → new ≡ found_at (after_passed s (drop line.start s.held)) line.end number → TakesHeld s number new
 takes-held {s} line number new h n e =
     let t = after_passed s (drop line.start s.held) in
-    let line_end = end_after (drop line.start s.held) line.length in
+    let line_end = line.end in
     let c = end_character line_end.is_cr in
-    let took = lines-then h.first.alike.gives (lines-take t (take line.length t.held) c h.holds.rest h.holds.line) in
+    let took = lines-then h.first.alike.gives (lines-take t (take line_end.at t.held) c h.holds.rest h.holds.line) in
     let P : Finder → Type 0 = λ v. TakesHeld s number v in
     subst P (sym e) (record {
       live = h.holds.line.going;

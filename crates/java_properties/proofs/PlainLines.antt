@@ -10,17 +10,20 @@ use Rattle.std.proofs.lemmas.List.Elements.{All-nil, All-cons, All-head, All-tai
 use Rattle.std.proofs.lemmas.Simd.{first_set_mask_l, tops_compared, mask_l-mod}
 use Rattle.std.proofs.lemmas.Str.{chars-IsAscii, IsUtf8-from_ascii}
 use Rattle.std.proofs.lemmas.Str.Ascii.{IsAscii-from_all, All-from_ascii}
+use Rattle.memchr.specs.Find.{Nowhere, Passes}
 use Rattle.properties_format.specs.Text.{backslash, is_line_end}
 use Rattle.properties_format.specs.Encoding.{Encoding, windows_1252, utf_8, utf_16le, utf_16be}
 use Rattle.properties_format.specs.ItemsToCome.{ReaderState}
 use Rattle.properties_format.proofs.Encodings.WellFormed.{well_formed-from_IsUtf8}
 use Rattle.properties_text.specs.Decoding.{IsText}
 use Rattle.properties_text.specs.Escaping.{holds_backslash}
-use Rattle.java_properties.specs.LineSearch.{unit_size}
+use Rattle.java_properties.specs.LineSearch.{unit_size, IsFirstLineEnd}
+use Rattle.java_properties.specs.declared.lines.search.LineEnd.{LineEnd}
+use Rattle.java_properties.proofs.LineSearch.{found-byte, nothing_searched}
 use Rattle.java_properties.specs.LineFinder.{IsLineStart, IsHeldLine}
 use Rattle.java_properties.specs.LineJoiner.{IsTextLine}
 use Rattle.java_properties.proofs.LineFinder.{peeks}
-use Rattle.java_properties.specs.PlainLines.{ends_plain, IsPlainLine}
+use Rattle.java_properties.specs.PlainLines.{ends_plain, IsPlain, IsPlainLine}
 use Rattle.java_properties.specs.declared.lines.plain.TheConstants.{ENDS}
 
 -- one look-up
@@ -114,13 +117,12 @@ no-backslash (b ∷ text) h =
     let first = or_parts (is_line_end b) (b == backslash) (All-head (λ b. ends_plain b ≡ false) b text h) in
     rw first.1 (no-backslash text (All-tail (λ b. ends_plain b ≡ false) b text h))
 
--- A line end comes after bytes that end no plain text.
-pub plain-line : (bytes : List ℕ) (n : ℕ) → n < length bytes → All (λ b. b < 128) (take n bytes) → All (λ b. ends_plain b ≡ false) (take n bytes)
-    → is_line_end (get_or bytes n 0) ≡ true → IsPlainLine bytes n
-plain-line bytes n within ascii clear ends = record {
-  plain = record { ascii = IsAscii-from_all (take n bytes) ascii; unescaped = no-backslash (take n bytes) clear };
-  first = (record { low = omega arith; high = within; before = λ k low high e. absurd (cc (before k high, e)) }, ends);
-}
+-- before the first byte that ends a plain text
+pub plain-text : (text : List ℕ) → All (λ b. b < 128) text → All (λ b. ends_plain b ≡ false) text → IsPlain text
+plain-text text ascii clear = record { ascii = IsAscii-from_all text ascii; unescaped = no-backslash text clear }
+
+pub no-line-end : (bytes : List ℕ) (n : ℕ) → n < length bytes → All (λ b. ends_plain b ≡ false) (take n bytes) → Nowhere (Passes is_line_end bytes) 0 n
+no-line-end bytes n within clear k low high e = absurd (cc (before k high, e))
   where
     before : (k : ℕ) → k < n → is_line_end (get_or bytes k 0) ≡ false
     before k h =
@@ -128,15 +130,20 @@ plain-line bytes n within ascii clear ends = record {
         (or_parts (is_line_end (get_or bytes k 0)) (get_or bytes k 0 == backslash) (subst (λ b. ends_plain b ≡ false) (get_or-take n bytes k 0 h) one)).0
 
 -- Such a line is held with its end.
-pub held-line : (s : ReaderState) (start n : ℕ) → IsLineStart s start → IsPlainLine (drop start s.held) n → IsHeldLine s (record { start = start; length = n })
-held-line s start n b line = peeks s (record { start = start; length = n }) b.going b.decided b.numbered b.bytes b.first line.first
+pub held-line : (s : ReaderState) (start : ℕ) (end : LineEnd) → IsLineStart s start → unit_size s.encoding ≡ 1 → IsPlainLine (drop start s.held) end
+    → IsHeldLine s (record { start = start; end = end })
+held-line s start end b u line =
+    let bytes = drop start s.held in
+    let found = found-byte s.encoding bytes 0 end.at u (nothing_searched s.encoding bytes) line.first.0 line.first.1 in
+    let P : Bool → Type 0 = λ v. IsFirstLineEnd s.encoding bytes (record { at = end.at; is_cr = v }) in
+    peeks s (record { start = start; end = end }) b (subst P (sym line.is_cr) found)
 
 -- Its bytes are its text.
-pub text-line : (s : ReaderState) (start n : ℕ) → IsLineStart s start → IsPlainLine (drop start s.held) n → IsTextLine s (take n (drop start s.held))
-text-line s start n b line =
-    let text = take n (drop start s.held) in
+pub text-line : (s : ReaderState) (start : ℕ) (end : LineEnd) → unit_size s.encoding ≡ 1 → IsPlainLine (drop start s.held) end → IsTextLine s (take end.at (drop start s.held))
+text-line s start end u line =
+    let text = take end.at (drop start s.held) in
     record {
-      text = ascii-text s.encoding text b.bytes line.plain.ascii;
+      text = ascii-text s.encoding text u line.plain.ascii;
       unescaped = ap holds_backslash (chars-IsAscii text line.plain.ascii) ∙ line.plain.unescaped;
     }
   where

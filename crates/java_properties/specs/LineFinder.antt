@@ -1,8 +1,7 @@
 -- What a contract sees of the line finder and of the seeker in it, and what their calls give and leave.
-use Rattle.std.specs.Prelude.{◌≡◌, ◌⊎◌, ◌+◌, ◌-◌, ◌^◌, ◌<◌, ◌≤◌, ℕ, Bool, true, false, if◌then◌else◌, List, [], ◌∷◌, take, drop, length, get_or, ◌==◌, Option, Some, None, Result, Ok, Err}
+use Rattle.std.specs.Prelude.{◌≡◌, ◌⊎◌, ◌+◌, ◌-◌, ◌^◌, ◌<◌, ◌≤◌, ℕ, Bool, true, false, if◌then◌else◌, List, [], ◌∷◌, take, drop, length, Option, Some, None, Result, Ok, Err}
 use Rattle.std.specs.declared.io.Error.{Error}
 use Rattle.counted_io.specs.Streams.{Reader, HasRead, HasFailed}
-use Rattle.properties_format.specs.Text.{carriage_return}
 use Rattle.properties_format.specs.Cut.{HoldsNoLineEndUnit}
 use Rattle.properties_format.specs.Reading.Waiting.{awaits_bom}
 use Rattle.properties_format.specs.Lines as format
@@ -148,24 +147,18 @@ pub record PassesFirst (s : ReaderState) (count : ℕ) : Type 0 where
   pub within : count ≤ length s.held
   pub alike : IsAlike s (after_passed s (drop count s.held))
 
--- the line end after so many bytes, where units are bytes
-abbrev pub end_after : List ℕ → ℕ → LineEnd
-end_after bytes at = record { at = at; is_cr = get_or bytes at 0 == carriage_return }
-
--- The next line starts after so many bytes, units are bytes, and there is a number for it.
+-- The next line starts after so many bytes, and there is a number for it.
 pub record IsLineStart (s : ReaderState) (start : ℕ) : Type 0 where
   pub going : s.is_done ≡ false
   pub decided : s.is_decided ≡ true
   pub numbered : s.passed + 1 < 2 ^ 64
-  pub bytes : unit_size s.encoding ≡ 1
   pub first : PassesFirst s start
 
--- A line is held with its end, units are bytes, and there is a number for it.
+-- A line is held with its end, and there is a number for it.
 pub record IsHeldLine (s : ReaderState) (line : HeldLine) : Type 0 where
   pub numbered : s.passed + 1 < 2 ^ 64
-  pub bytes : unit_size s.encoding ≡ 1
   pub first : PassesFirst s line.start
-  pub holds : HoldsLineEnd (after_passed s (drop line.start s.held)) (end_after (drop line.start s.held) line.length)
+  pub holds : HoldsLineEnd (after_passed s (drop line.start s.held)) line.end
 
 -- ---- finding lines
 

@@ -106,9 +106,9 @@ impl LineFinder {
     #[inline]
     pub fn peeked(&self, line: HeldLine) -> &[u8]
         requires { IsHeldLine self.now.state line }
-        ensures { result.now ≡ take line.length (drop line.start self.now.state.held) }
+        ensures { result.now ≡ take line.end.at (drop line.start self.now.state.held) }
     {
-        &self.seeker.held()[self.taken + line.start..][..line.length]
+        &self.seeker.held()[self.taken + line.start..][..line.end.at]
     }
 
     /// Finds the line that is held, and returns its number.
@@ -116,17 +116,16 @@ impl LineFinder {
     pub fn take_line(&mut self, line: HeldLine) -> usize
         requires { IsHeldLine self.old.state line }
         ensures takes { TakesHeld self.old.state result self.new }
-        ensures line { self.new.line ≡ take line.length (drop line.start self.old.state.held) }
+        ensures line { self.new.line ≡ take line.end.at (drop line.start self.old.state.held) }
         ensures nearer { lines_left self.new.state < lines_left self.old.state }
     {
         // The line and its end are held, so their sizes fit.
         let _held = self.seeker.held().len();
         let number = self.seeker.passed() + 1;
         self.seeker.take(self.taken + line.start);
-        let is_cr = self.seeker.held()[line.length] == b'\r';
-        self.line = line.length;
-        self.taken = line.length + 1;
-        self.seeker.pass(number, is_cr);
+        self.line = line.end.at;
+        self.taken = line.end.at + unit_size(self.seeker.encoding());
+        self.seeker.pass(number, line.end.is_cr);
         number
     }
 

@@ -15,6 +15,7 @@ use crate::error::PropertiesError;
 use crate::lines::finder::LineFinder;
 use crate::lines::join::{addition, is_comment_line, is_open, without_open_backslash};
 use crate::lines::plain::{Front, plain_front};
+use crate::lines::search::unit_size;
 use crate::lines::seeker::HeldLine;
 use counted_io::CountedRead;
 use properties_text::encoding::Encoding;
@@ -83,9 +84,12 @@ impl LineJoiner {
         ensures joins { JoinsPlain self.old result self.new }
         ensures nearer { OnSome result (lines_left self.new.state < lines_left self.old.state) }
     {
+        if unit_size(self.finder.encoding()) != 1 {
+            return None;
+        }
         let start = self.finder.peek_start()?;
         match plain_front(self.finder.held_from(start)) {
-            Front::Line(length) => Some(self.take_plain(HeldLine { start, length })),
+            Front::Line(end) => Some(self.take_plain(HeldLine { start, end })),
             Front::Backslash => None,
             Front::Unknown => self.next_text(),
         }
@@ -109,7 +113,7 @@ impl LineJoiner {
     #[inline]
     fn take_plain(&mut self, line: HeldLine) -> usize
         requires held { IsHeldLine self.old.state line }
-        requires plain { IsTextLine self.old.state (take line.length (drop line.start self.old.state.held)) }
+        requires plain { IsTextLine self.old.state (take line.end.at (drop line.start self.old.state.held)) }
         ensures takes { TakesPlain self.old.state result self.new }
         ensures nearer { lines_left self.new.state < lines_left self.old.state }
     {

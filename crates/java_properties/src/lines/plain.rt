@@ -1,18 +1,21 @@
 // Plain lines at the front of the bytes that are held, sixteen bytes at once.
 
-ghost use Rattle.std.specs.Prelude.{◌≡◌, ◌↔◌, true, map};
+ghost use Rattle.std.specs.Prelude.{◌≡◌, ◌↔◌, ◌<◌, true, map, take, length};
 ghost use Rattle.std.specs.Str.{IsAscii};
 ghost use Rattle.std.specs.Simd.Lanes.{mask_l};
-ghost use Rattle.java_properties.specs.PlainLines.{ends_plain, IsPlainFront};
+ghost use Rattle.memchr.specs.Find.{Nowhere, Passes};
+ghost use Rattle.properties_format.specs.Text.{is_line_end};
+ghost use Rattle.java_properties.specs.PlainLines.{ends_plain, IsPlain, IsPlainFront};
 
+use crate::lines::search::LineEnd;
 use properties_text::characters::is_line_end;
 use std::simd::prelude::*;
 
 /// What stands first in some bytes.
 #[derive(Clone, Copy)]
 pub enum Front {
-    /// So many characters of ASCII without a backslash, and a CR or an LF after them.
-    Line(usize),
+    /// This line end, after characters of ASCII without a backslash.
+    Line(LineEnd),
     /// A backslash, before a line end and before anything past ASCII.
     Backslash,
     /// What isn't told by blocks of sixteen bytes of ASCII.
@@ -35,15 +38,26 @@ pub fn plain_front(bytes: &[u8]) -> Front
         }
         let first = ends_plain_bits(v).trailing_zeros() as usize;
         if first < 16 {
-            return if is_line_end(char::from(bytes[at + first])) {
-                Front::Line(at + first)
-            } else {
-                Front::Backslash
-            };
+            return line_at(bytes, at + first);
         }
         at += 16;
     }
     Front::Unknown
+}
+
+// The plain line up to this place, if its end stands there.
+#[inline(always)]
+fn line_at(bytes: &[u8], at: usize) -> Front
+    requires within { at < length bytes.now }
+    requires plain { IsPlain (take at bytes.now) }
+    requires first { Nowhere (Passes is_line_end bytes.now) 0 at }
+    ensures { IsPlainFront bytes.now result }
+{
+    if !is_line_end(char::from(bytes[at])) {
+        return Front::Backslash;
+    }
+    let is_cr = bytes[at] == b'\r';
+    Front::Line(LineEnd { at, is_cr })
 }
 
 #[inline(always)]

@@ -13,20 +13,20 @@ ghost use Rattle.java_properties.specs.LineSearch.{unit_size};
 ghost use Rattle.java_properties.specs.LineFinder.{PassesFeed, SkipsFeed, Settles, SettlesLast, IsReady, Looks, Seeks, IsHeldLine, IsLineStart, PassesFirst};
 
 use crate::input::{FillError, InputBuffer};
-use crate::lines::search::{LineEnd, find_end_byte, find_line_end, unit_size, whole_units};
+use crate::lines::search::{LineEnd, find_line_end, unit_size, whole_units};
 use counted_io::CountedRead;
 use properties_text::encoding::Encoding;
 use properties_text::encoding::byte_order_mark::{ByteOrderMark, byte_order_mark};
 use std::alloc::Global;
 use std::marker::Model;
 
-/// Where a line stands among the bytes that are held, with its end, where units are bytes.
+/// Where a line stands among the bytes that are held, with its end.
 #[derive(Clone, Copy)]
 pub struct HeldLine {
     /// Its first byte. An LF may stand before it that is of the line end before.
     pub start: usize,
-    /// How long it is. The CR or LF that ends it comes next.
-    pub length: usize,
+    /// Its end, which stands after so many bytes of the line.
+    pub end: LineEnd,
 }
 
 /// Where a reading stands: what is held of the input, and what is known of it.
@@ -132,29 +132,26 @@ impl LineSeeker {
         self.input.take(count);
     }
 
-    /// The next line, where the bytes that are held after so many have it with its end, and units are bytes. Nothing is
-    /// read, and `None` says nothing of what comes.
+    /// The next line, where the bytes that are held after so many have it with its end. Nothing is read, and `None` says
+    /// nothing of what comes.
     #[inline]
     pub fn peek(&self, taken: usize) -> Option<HeldLine>
         requires { taken ≤ length self.now.held }
         ensures { let s = record self.now { held = drop taken self.now.held } in IfSome result (IsHeldLine s) }
     {
         let start = self.peek_start(taken)?;
-        let length = find_end_byte(&self.held()[taken + start..], 0)?;
-        Some(HeldLine { start, length })
+        let end = find_line_end(self.encoding, &self.held()[taken + start..], 0)?;
+        Some(HeldLine { start, end })
     }
 
-    /// Where the next line starts among the bytes that are held after so many, if it may be held whole and units are
-    /// bytes. `None` says nothing of what comes.
+    /// Where the next line starts among the bytes that are held after so many, if it may be held whole. `None` says
+    /// nothing of what comes.
     #[inline]
     pub fn peek_start(&self, taken: usize) -> Option<usize>
         requires { taken ≤ length self.now.held }
         ensures { let s = record self.now { held = drop taken self.now.held } in IfSome result (IsLineStart s) }
     {
         if self.is_done || !self.is_decided || self.passed == usize::MAX {
-            return None;
-        }
-        if unit_size(self.encoding) != 1 {
             return None;
         }
         self.line_start(&self.held()[taken..])

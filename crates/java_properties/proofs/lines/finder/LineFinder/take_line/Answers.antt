@@ -1,7 +1,7 @@
-use Rattle.std.proofs.Common.{◌+◌, ◌==◌, get_or, ◌∙◌, sym, ap, ap₂, take, drop}
+use Rattle.std.proofs.Common.{◌+◌, ◌≡◌, ◌∙◌, sym, ap, ap₂, take, drop}
 use Rattle.std.proofs.lemmas.List.{drop-drop}
 use Rattle.properties_format.specs.ItemsToCome.{ReaderState}
-use Rattle.properties_format.specs.Text.{carriage_return}
+use Rattle.java_properties.specs.LineSearch.{unit_size}
 use Rattle.java_properties.specs.LineFinder.{Finder}
 use Rattle.java_properties.proofs.LineFinder.{takes-held}
 use Rattle.java_properties.proofs.lines.finder.LineFinder.take_line.Goals as goal
@@ -15,7 +15,7 @@ returns-clause-takes c =
     let start = c.take.ensures
     ∙ ap (λ v. let w : ReaderState = record c.self.inside.seeker { held = v } in w) (sym (drop-drop line.start c.self.inside.taken c.self.inside.seeker.held))
     ∙ ap (λ v. let w : Finder = v in let u : ReaderState = record w.state { held = drop line.start w.state.held } in u) c.self.view_is in
-    let cr = ap (λ v. get_or v line.length 0 == carriage_return) (c.held.ensures ∙ ap (λ v. let w : ReaderState = v in w.held) start) in
-    let passed = c.pass.ensures ∙ ap₂ (λ v b. let w : ReaderState = v in let u : ReaderState = record w { passed = number; after_cr = b } in u) start cr in
-    let is = ap₂ (λ v n. let w : ReaderState = v in let f : Finder = record { state = record w { held = drop (line.length + n) w.held }; line = take line.length w.held } in f) passed (sym c.requires.bytes) in
+    let passed = c.pass.ensures ∙ ap (λ v. let w : ReaderState = v in let u : ReaderState = record w { passed = number; after_cr = line.end.is_cr } in u) start in
+    let size : c.unit_size.result ≡ unit_size s.encoding = c.unit_size.ensures ∙ ap unit_size (c.encoding.ensures ∙ ap (λ v. let w : ReaderState = v in w.encoding) start) in
+    let is = ap₂ (λ v n. let w : ReaderState = v in let f : Finder = record { state = record w { held = drop (line.end.at + n) w.held }; line = take line.end.at w.held } in f) passed size in
     takes-held line number _ c.requires numbered is

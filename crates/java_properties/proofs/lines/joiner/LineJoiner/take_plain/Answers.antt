@@ -13,8 +13,8 @@ pub invariant_of-self : goal.invariant_of-self
 invariant_of-self c = λ same.
     let now = c.args.self.now.state in
     let line = c.args.line in
-    let Text : ReaderState → Type 0 = λ v. IsUtf8 (take line.length (drop line.start v.held)) in
-    let text = text-utf8 now.encoding (take line.length (drop line.start now.held)) c.requires.plain.text in
+    let Text : ReaderState → Type 0 = λ v. IsUtf8 (take line.end.at (drop line.start v.held)) in
+    let text = text-utf8 now.encoding (take line.end.at (drop line.start now.held)) c.requires.plain.text in
     let inside = subst Text (sym (ap (λ v. let w : Joiner = v in w.state) c.self.view_is)) text in
     subst (λ l. IsUtf8 l) (sym c.take_line-number.ensures.line) inside
 
@@ -24,8 +24,8 @@ returns-clause-takes c =
     let state : c.self.inside.finder.state ≡ now = ap (λ v. let w : Joiner = v in w.state) c.self.view_is in
     let found = c.take_line-number.new.self in
     let takes = c.take_line-number.ensures.takes in
-    let bytes = take c.args.line.length (drop c.args.line.start now.held) in
-    let line : found.line ≡ bytes = c.take_line-number.ensures.line ∙ ap (λ v. let w : ReaderState = v in take c.args.line.length (drop c.args.line.start w.held)) state in
+    let bytes = take c.args.line.end.at (drop c.args.line.start now.held) in
+    let line : found.line ≡ bytes = c.take_line-number.ensures.line ∙ ap (λ v. let w : ReaderState = v in take c.args.line.end.at (drop c.args.line.start w.held)) state in
     let encoding : found.state.encoding ≡ now.encoding = takes.encoding ∙ ap (λ v. let w : ReaderState = v in w.encoding) state in
     let decoded = ap₂ (λ e d. characters (pieces_of e d)) encoding line
     ∙ sym (text-decoded now.encoding bytes c.requires.plain.text)
