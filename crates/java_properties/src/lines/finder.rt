@@ -4,7 +4,7 @@ ghost use Rattle.std.specs.Prelude.{◌≡◌, ◌≤◌, ◌<◌, true, [], tak
 ghost use Rattle.counted_io.specs.Streams.{IsSameReader};
 ghost use Rattle.properties_format.specs.ItemsToCome.{start};
 ghost use Rattle.properties_text.specs.Encoding.{encoding_of};
-ghost use Rattle.java_properties.specs.LineFinder.{Finder, Finds, IsHeldLine, IsLineStart, IsRefused, TakesHeld, lines_left, transposed};
+ghost use Rattle.java_properties.specs.LineFinder.{Finder, Finds, FindsHeld, IsHeldLine, IsLineStart, IsRefused, TakesHeld, lines_left, transposed};
 
 use crate::error::PropertiesError;
 use crate::input::FillError;
@@ -76,12 +76,23 @@ impl LineFinder {
         self.seeker.count_from(passed);
     }
 
-    /// The next line, where it is held with its end. Nothing is read, and `None` says nothing of what comes.
+    /// The next line, where it is held with its end and units are bytes. Nothing is read, and `None` says nothing of what
+    /// comes.
     #[inline]
     pub fn peek(&self) -> Option<HeldLine>
         ensures { IfSome result (IsHeldLine self.now.state) }
     {
-        self.seeker.peek(self.taken)
+        self.seeker.peek_in_bytes(self.taken)
+    }
+
+    // Finds the next line where it is held, whatever the units are. It stands apart, so that the search where units are
+    // bytes stays short.
+    #[inline(never)]
+    fn find_held(&mut self) -> Option<usize>
+        ensures { FindsHeld self.old result self.new }
+    {
+        let line = self.seeker.peek(self.taken)?;
+        Some(self.take_line(line))
     }
 
     /// Where the next line starts among the bytes that are held, if it may be held whole. `None` says nothing of what
@@ -143,6 +154,9 @@ impl LineFinder {
     {
         if let Some(line) = self.peek() {
             return Some(Ok(self.take_line(line)));
+        }
+        if let Some(number) = self.find_held() {
+            return Some(Ok(number));
         }
         transpose(self.seek_line(reader))
     }
