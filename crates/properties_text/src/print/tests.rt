@@ -129,3 +129,29 @@ fn prints_raw_texts(rt: HostRuntime) -> Result<(), Fail> {
     assert_eq!(rt; line.as_slice(), b"a = \\".as_slice());
     Ok(())
 }
+
+#[test]
+fn prints_long_texts(rt: HostRuntime) -> Result<(), Fail> {
+    let text =
+        "a tab\tand a bell\x07, both in a text that is longer than what is printed at once, and a last bell\x07";
+    assert_eq!(rt;
+        printed(rt.alloc(), UTF_8, Place::KeyOrValue, text)?.as_slice(),
+        b"|a\\ tab\\tand\\ a\\ bell\\u0007,\\ both\\ in\\ a\\ text\\ that\\ is\\ longer\\ than\\ what\\ is\\ printed\\ at\\ once,\\ and\\ a\\ last\\ bell\\u0007".as_slice()
+    );
+    Ok(())
+}
+
+#[test]
+fn holds_one_line_after_another(rt: HostRuntime) -> Result<(), Fail> {
+    let mut line = LineBuffer::new(rt.alloc());
+    assert_eq!(rt; line.as_slice(), b"".as_slice());
+    for _ in 0..100 {
+        print_raw(&mut line, "some bytes")?;
+    }
+    assert_eq!(rt; line.as_slice().len(), 1000);
+    line.clear();
+    assert_eq!(rt; line.as_slice(), b"".as_slice());
+    print_text(&mut line, UTF_8, Place::KeyOrValue, "a = b")?;
+    assert_eq!(rt; line.as_slice(), b"a\\ \\=\\ b".as_slice());
+    Ok(())
+}
