@@ -36,7 +36,7 @@ decoded-front old new front coming rest all u h e joins k =
 
 -- ---- units
 
-past : (u n : ℕ) → u < 0x80 → 0x80 ≤ n → nat_le n u ≡ false
+pub past : (u n : ℕ) → u < 0x80 → 0x80 ≤ n → nat_le n u ≡ false
 past u n h k = elim (cases_Bool (nat_le n u)) [ inl t ↦ absurd (omega (arith, h, k, leb-true n u t)) | inr f ↦ f ]
 
 -- a unit of ASCII is a character

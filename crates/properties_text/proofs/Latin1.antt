@@ -58,7 +58,7 @@ row_at bs e =
 
 -- ---- one character
 
-two-bytes : (c : ℕ) → 0x80 ≤ c → c < 0x100 → encode_utf8 c ≡ lead_byte c ∷ last_byte c ∷ []
+pub two-bytes : (c : ℕ) → 0x80 ≤ c → c < 0x100 → encode_utf8 c ≡ lead_byte c ∷ last_byte c ∷ []
 two-bytes c l h = elim (cases_Bool (nat_lt c 0xc0)) [
   | inl t ↦
       let low = ltb-true c 0xc0 t in
@@ -253,6 +253,35 @@ pub past_ascii-bits : (v : List ℕ) (n : ℕ) → length v ≡ n → n ≤ 64
 past_ascii-bits v n long le =
     ap (λ l. mask_l l % 2 ^ 64) (tops_compared w8 leb (replicate n 0x80) v ∙ zip2_splat_left leb 0x80 n v long)
     ∙ mask_l-mod (map is_past_ascii v) 64 (omega (arith, length-map v is_past_ascii))
+
+-- the first k are ASCII, if no bit comes before
+ascii-prefix : (v : List ℕ) (k : ℕ) → k ≤ prefix_len (λ b. not (is_past_ascii b)) v → AllByRecursion (λ b. b < 0x80) (take k v)
+ascii-prefix v zero h = tt
+ascii-prefix [] (suc k) h = tt
+ascii-prefix (b ∷ v) (suc k) h = elim (cases_Bool (is_past_ascii b)) [
+  | inl t ↦ absurd (let none : prefix_len (λ b. not (is_past_ascii b)) (b ∷ v) ≡ 0 = rw t refl in omega (arith, h, none))
+  | inr f ↦
+      let more : prefix_len (λ b. not (is_past_ascii b)) (b ∷ v) ≡ 1 + prefix_len (λ b. not (is_past_ascii b)) v = rw f refl in
+      (leb-false 0x80 b f, ascii-prefix v k (omega (arith, h, more)))
+]
+
+pub ascii-first : (v : List ℕ) (bits n k : ℕ) → length v ≡ n → n ≤ 64 → bits ≡ mask_l (map is_past_ascii v) → k ≤ count_trailing_zeros 64 bits → k ≤ n
+    → AllByRecursion (λ b. b < 0x80) (take k v)
+ascii-first v bits n k long most e few le =
+    let first = prefix_len (λ b. not (is_past_ascii b)) v in
+    let set : cond (eqb bits 0) n (count_trailing_zeros 64 bits) ≡ first =
+    ap (λ m. cond (eqb m 0) n (count_trailing_zeros 64 m)) e ∙ first_set_mask_l is_past_ascii v n long most in
+    let within : k ≤ first = elim (cases_Bool (eqb bits 0)) [
+      | inl t ↦ let is : n ≡ first = sym (rw t refl) ∙ set in omega arith
+      | inr f ↦ let is : count_trailing_zeros 64 bits ≡ first = sym (rw f refl) ∙ set in omega arith
+    ] in
+    ascii-prefix v k within
+
+-- of n bytes that are copied
+pub copied-ascii : (v : List ℕ) (n k : ℕ) → length v ≡ n → n ≤ 64
+    → k ≤ count_trailing_zeros 64 (mask_l (map (top 7) (zip2 (λ a b. cond (leb a b) 255 0) (replicate n 0x80) v)) % 2 ^ 64) → k ≤ n
+    → AllByRecursion (λ b. b < 0x80) (take k v)
+copied-ascii v n k long most few le = ascii-first v _ n k long most (past_ascii-bits v n long most) few le
 
 -- where none is set
 below-all : (v : List ℕ) → mask_l (map is_past_ascii v) ≡ 0 → AllByRecursion (λ b. b < 0x80) v

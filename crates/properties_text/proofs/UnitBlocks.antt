@@ -1,18 +1,18 @@
 -- Units of two bytes, eight at once.
-use Rattle.std.proofs.Common.{◌≡◌, ℕ, zero, suc, ◌+◌, ◌*◌, ◌/◌, ◌%◌, ◌^◌, ◌<◌, ◌≤◌, not, cond, leb, eqb, List, [], ◌∷◌, ◌++◌, refl, sym, ap, ap₂, subst, ◌∙◌, append-nil, inl, inr, arith, length, take, drop, get_or, map, replicate, w8, w16, Fits, bit_and}
-use Rattle.std.specs.List.{AllByRecursion, prefix_len}
+use Rattle.std.proofs.Common.{◌≡◌, ℕ, zero, suc, ◌+◌, ◌*◌, ◌/◌, ◌%◌, ◌^◌, ◌<◌, ◌≤◌, cond, leb, List, [], ◌∷◌, ◌++◌, refl, sym, ap, ap₂, subst, ◌∙◌, append-nil, arith, length, take, drop, get_or, map, replicate, w8, w16, Fits, bit_and}
+use Rattle.std.specs.List.{AllByRecursion}
 use Rattle.std.specs.Int.Count.{count_trailing_zeros}
 use Rattle.std.specs.Simd.Lanes.{zip2, Each1, pick_l, put_chunk, mask_l, top, number_l, digits_l}
-use Rattle.std.proofs.lemmas.Bool.{cases_Bool, leb-false}
 use Rattle.std.proofs.lemmas.Nat.{and_mask}
 use Rattle.std.proofs.lemmas.List.{length-map, length-take-le, map-id, take-take, take_at}
-use Rattle.std.proofs.lemmas.Simd.{first_set_mask_l, mask_l-mod, tops_compared, zip2_splat, zip2_splat_left, pick_l_left, pick_l_whole}
+use Rattle.std.proofs.lemmas.Simd.{mask_l-mod, tops_compared, zip2_splat, zip2_splat_left, pick_l_left, pick_l_whole}
 use Rattle.properties_text.specs.Latin1.{is_past_ascii}
 use Rattle.properties_text.specs.Decoding.{text_of, unit_of, units_of, utf_16_of, PutsAscii}
 use Rattle.properties_text.specs.declared.encoding.Encoding.{Encoding}
 use Rattle.properties_text.proofs.AsciiFronts.{are-ascii, unit-step}
 use Rattle.properties_text.specs.declared.encoding.utf_16.ByteOrder.{ByteOrder}
 use Rattle.properties_text.specs.declared.encoding.utf_16.ByteOrder.TheVariants.{LowFirst, HighFirst}
+use Rattle.properties_text.proofs.Latin1.{ascii-first}
 use Rattle.properties_text.proofs.Printing.Vectors.{stored}
 
 -- ---- the units of sixteen bytes
@@ -66,16 +66,6 @@ high-first v long fits =
 
 -- ---- those at the front that are ASCII
 
-ascii-prefix : (units : List ℕ) (n : ℕ) → n ≤ prefix_len (λ u. not (is_past_ascii u)) units → AllByRecursion (λ u. u < 0x80) (take n units)
-ascii-prefix units zero h = tt
-ascii-prefix [] (suc n) h = tt
-ascii-prefix (u ∷ units) (suc n) h = elim (cases_Bool (is_past_ascii u)) [
-  | inl t ↦ absurd (let none : prefix_len (λ u. not (is_past_ascii u)) (u ∷ units) ≡ 0 = rw t refl in omega (arith, h, none))
-  | inr f ↦
-      let more : prefix_len (λ u. not (is_past_ascii u)) (u ∷ units) ≡ 1 + prefix_len (λ u. not (is_past_ascii u)) units = rw f refl in
-      (leb-false 0x80 u f, ascii-prefix units n (omega (arith, h, more)))
-]
-
 -- the bits of the others
 abbrev pub past_bits : List ℕ → ℕ
 past_bits units = mask_l (map (top 15) (zip2 (λ a b. cond (leb a b) 65535 0) (replicate 8 0x80) units)) % 2 ^ 64
@@ -86,14 +76,7 @@ first-ascii units all n long e few le =
     let bits : past_bits units ≡ mask_l (map is_past_ascii units) =
     ap (λ l. mask_l l % 2 ^ 64) (tops_compared w16 leb (replicate 8 0x80) units ∙ zip2_splat_left leb 0x80 8 units long)
     ∙ mask_l-mod (map is_past_ascii units) 64 (omega (arith, length-map units is_past_ascii)) in
-    let first = prefix_len (λ u. not (is_past_ascii u)) units in
-    let set : cond (eqb (past_bits units) 0) 8 (count_trailing_zeros 64 (past_bits units)) ≡ first =
-    ap (λ k. cond (eqb k 0) 8 (count_trailing_zeros 64 k)) bits ∙ first_set_mask_l is_past_ascii units 8 long (omega arith) in
-    let within : n ≤ first = elim (cases_Bool (eqb (past_bits units) 0)) [
-      | inl t ↦ let is : 8 ≡ first = sym (rw t refl) ∙ set in omega arith
-      | inr f ↦ let is : count_trailing_zeros 64 (past_bits units) ≡ first = sym (rw f refl) ∙ set in omega arith
-    ] in
-    subst (λ l. AllByRecursion (λ u. u < 0x80) (take n l)) e (ascii-prefix units n within)
+    subst (λ l. AllByRecursion (λ u. u < 0x80) (take n l)) e (ascii-first units (past_bits units) 8 n long (omega arith) bits few le)
 
 -- ---- how they are written
 
