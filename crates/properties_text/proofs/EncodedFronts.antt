@@ -22,7 +22,7 @@ pub latin-byte : (c : ℕ) → 0xa0 ≤ c → c < 0x100 → windows_1252_byte c 
 latin-byte c l h = own-byte c h (and_right (nat_le 0x80 c) (nat_lt c 0xa0) (le-ltb c 0xa0 l))
 
 ascii-byte : (c : ℕ) → c < 0x80 → windows_1252_byte c ≡ Some c
-ascii-byte c h = own-byte c (omega arith) (and_left (nat_le 0x80 c) (nat_lt c 0xa0) (past c 0x80 h (omega arith)))
+ascii-byte c h = own-byte c (omega arith) (and_left (nat_le 0x80 c) (nat_lt c 0xa0) (past c 0x80 h))
 
 ascii-bytes : (cs : List ℕ) → AllByRecursion (λ c. c < 0x80) cs → map windows_1252_byte cs ≡ map Some cs
 ascii-bytes [] h = refl

@@ -110,6 +110,10 @@ fn latin_1_front(text: &[u8]) -> Option<u8>
         return None;
     }
     let (first, second) = (text[0], text[1]);
+    // Most are ASCII.
+    if first < 0xc2 {
+        return None;
+    }
     if first == 0xc2 && 0xa0 <= second && second <= 0xbf {
         Some(second)
     } else if first == 0xc3 && 0x80 <= second && second <= 0xbf {
