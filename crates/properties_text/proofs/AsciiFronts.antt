@@ -36,20 +36,20 @@ decoded-front old new front coming rest all u h e joins k =
 
 -- ---- units
 
-past : (u n : ℕ) → u < 0x80 → 0x80 ≤ n → nat_le n u ≡ false
-past u n h k = elim (cases_Bool (nat_le n u)) [ inl t ↦ absurd (omega (arith, h, k, leb-true n u t)) | inr f ↦ f ]
+pub past : (u n : ℕ) → u < n → nat_le n u ≡ false
+past u n h = elim (cases_Bool (nat_le n u)) [ inl t ↦ absurd (omega (arith, h, leb-true n u t)) | inr f ↦ f ]
 
--- a unit of ASCII is a character
-pub unit-step : (order : ByteOrder) (a b : ℕ) (rest : List ℕ) → unit_of order a b < 0x80
+-- a unit of Latin-1 is a character
+pub unit-step : (order : ByteOrder) (a b : ℕ) (rest : List ℕ) → unit_of order a b < 0x100
     → text_of (utf_16_of order) (a ∷ b ∷ rest) ≡ unit_of order a b ∷ text_of (utf_16_of order) rest
-unit-step LowFirst a b rest h = characters-step utf_16le a (b ∷ rest) ∙ rw (past (unit_of LowFirst a b) 0xd800 h (omega arith), past (unit_of LowFirst a b) 0xdc00 h (omega arith)) refl
-unit-step HighFirst a b rest h = characters-step utf_16be a (b ∷ rest) ∙ rw (past (unit_of HighFirst a b) 0xd800 h (omega arith), past (unit_of HighFirst a b) 0xdc00 h (omega arith)) refl
+unit-step LowFirst a b rest h = characters-step utf_16le a (b ∷ rest) ∙ rw (past (unit_of LowFirst a b) 0xd800 (omega arith), past (unit_of LowFirst a b) 0xdc00 (omega arith)) refl
+unit-step HighFirst a b rest h = characters-step utf_16be a (b ∷ rest) ∙ rw (past (unit_of HighFirst a b) 0xd800 (omega arith), past (unit_of HighFirst a b) 0xdc00 (omega arith)) refl
 
 unit-at : (order : ByteOrder) (bytes : List ℕ) (i : ℕ) → i + 1 < length bytes → unit_of order (get_or bytes i 0) (get_or bytes (i + 1) 0) < 0x80
     → text_of (utf_16_of order) (drop i bytes) ≡ unit_of order (get_or bytes i 0) (get_or bytes (i + 1) 0) ∷ text_of (utf_16_of order) (drop (i + 1 + 1) bytes)
 unit-at order bytes i h lt =
     ap (text_of (utf_16_of order)) (drop_more bytes i 0 (omega arith) ∙ ap (λ v. get_or bytes i 0 ∷ v) (drop_more bytes (i + 1) 0 h))
-    ∙ unit-step order (get_or bytes i 0) (get_or bytes (i + 1) 0) (drop (i + 1 + 1) bytes) lt
+    ∙ unit-step order (get_or bytes i 0) (get_or bytes (i + 1) 0) (drop (i + 1 + 1) bytes) (omega arith)
 
 -- four units
 pub units-front : (order : ByteOrder) (bytes : List ℕ) (a b c d : ℕ) (front : AsciiFront) → 8 ≤ length bytes

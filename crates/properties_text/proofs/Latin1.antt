@@ -58,7 +58,17 @@ row_at bs e =
 
 -- ---- one character
 
-two-bytes : (c : ℕ) → 0x80 ≤ c → c < 0x100 → encode_utf8 c ≡ lead_byte c ∷ last_byte c ∷ []
+-- where none is set
+below-all : (v : List ℕ) → mask_l (map is_past_ascii v) ≡ 0 → AllByRecursion (λ b. b < 0x80) v
+below-all [] e = tt
+below-all (b ∷ v) e = elim (cases_Bool (is_past_ascii b)) [
+  | inl t ↦ absurd (let odd : cond (is_past_ascii b) 1 0 + 2 * mask_l (map is_past_ascii v) ≡ 1 + 2 * mask_l (map is_past_ascii v) = rw t refl in omega (arith, odd, e))
+  | inr f ↦
+      let even : cond (is_past_ascii b) 1 0 + 2 * mask_l (map is_past_ascii v) ≡ 0 + 2 * mask_l (map is_past_ascii v) = rw f refl in
+      (leb-false 0x80 b f, below-all v (omega (arith, even, e)))
+]
+
+pub two-bytes : (c : ℕ) → 0x80 ≤ c → c < 0x100 → encode_utf8 c ≡ lead_byte c ∷ last_byte c ∷ []
 two-bytes c l h = elim (cases_Bool (nat_lt c 0xc0)) [
   | inl t ↦
       let low = ltb-true c 0xc0 t in
@@ -191,6 +201,14 @@ put_ascii-is at k out v long room le h =
     stored at k (at + k) out v refl (omega arith) (omega arith)
     ∙ ap (λ l. take at out ++ l) (sym (encodes-IsAscii (take k v) (IsAscii-take v k h)))
 
+-- so many of eight, where no bit is set
+pub put_few-is : (at k : ℕ) (out v : List ℕ) (bits : ℕ) → length v ≡ 8 → at + 16 ≤ length out → k ≤ 8 → bits ≡ mask_l (map is_past_ascii v) → bits ≡ 0
+    → take (at + k) (put_chunk at out v) ≡ take at out ++ encode_utf8_all (take k v)
+put_few-is at k out v bits long room le e none =
+    let ascii = are-ascii v (below-all v (sym e ∙ none)) in
+    stored at k (at + k) out v refl (omega arith) (omega arith)
+    ∙ ap (λ l. take at out ++ l) (sym (encodes-IsAscii (take k v) (IsAscii-take v k ascii)))
+
 -- some of the first half
 pub in-half : (v before : List ℕ) (k : ℕ) → length v ≡ 16 → k ≤ 8 → before ++ encode_utf8_all (take k (half 0 v)) ≡ before ++ encode_utf8_all (take k v)
 in-half v before k long le = ap (λ l. before ++ encode_utf8_all l) (ap (take k) (front-half v long) ∙ take-take k 8 v le)
@@ -254,15 +272,34 @@ past_ascii-bits v n long le =
     ap (λ l. mask_l l % 2 ^ 64) (tops_compared w8 leb (replicate n 0x80) v ∙ zip2_splat_left leb 0x80 n v long)
     ∙ mask_l-mod (map is_past_ascii v) 64 (omega (arith, length-map v is_past_ascii))
 
--- where none is set
-below-all : (v : List ℕ) → mask_l (map is_past_ascii v) ≡ 0 → AllByRecursion (λ b. b < 0x80) v
-below-all [] e = tt
-below-all (b ∷ v) e = elim (cases_Bool (is_past_ascii b)) [
-  | inl t ↦ absurd (let odd : cond (is_past_ascii b) 1 0 + 2 * mask_l (map is_past_ascii v) ≡ 1 + 2 * mask_l (map is_past_ascii v) = rw t refl in omega (arith, odd, e))
+-- the first k are below m, if no bit comes before
+prefix-below : (m : ℕ) (v : List ℕ) (k : ℕ) → k ≤ prefix_len (λ b. not (leb m b)) v → AllByRecursion (λ b. b < m) (take k v)
+prefix-below m v zero h = tt
+prefix-below m [] (suc k) h = tt
+prefix-below m (b ∷ v) (suc k) h = elim (cases_Bool (leb m b)) [
+  | inl t ↦ absurd (let none : prefix_len (λ b. not (leb m b)) (b ∷ v) ≡ 0 = rw t refl in omega (arith, h, none))
   | inr f ↦
-      let even : cond (is_past_ascii b) 1 0 + 2 * mask_l (map is_past_ascii v) ≡ 0 + 2 * mask_l (map is_past_ascii v) = rw f refl in
-      (leb-false 0x80 b f, below-all v (omega (arith, even, e)))
+      let more : prefix_len (λ b. not (leb m b)) (b ∷ v) ≡ 1 + prefix_len (λ b. not (leb m b)) v = rw f refl in
+      (leb-false m b f, prefix-below m v k (omega (arith, h, more)))
 ]
+
+pub first-below : (m : ℕ) (v : List ℕ) (bits n k : ℕ) → length v ≡ n → n ≤ 64 → bits ≡ mask_l (map (leb m) v) → k ≤ count_trailing_zeros 64 bits → k ≤ n
+    → AllByRecursion (λ b. b < m) (take k v)
+first-below m v bits n k long most e few le =
+    let first = prefix_len (λ b. not (leb m b)) v in
+    let set : cond (eqb bits 0) n (count_trailing_zeros 64 bits) ≡ first =
+    ap (λ x. cond (eqb x 0) n (count_trailing_zeros 64 x)) e ∙ first_set_mask_l (leb m) v n long most in
+    let within : k ≤ first = elim (cases_Bool (eqb bits 0)) [
+      | inl t ↦ let is : n ≡ first = sym (rw t refl) ∙ set in omega arith
+      | inr f ↦ let is : count_trailing_zeros 64 bits ≡ first = sym (rw f refl) ∙ set in omega arith
+    ] in
+    prefix-below m v k within
+
+-- of n bytes that are copied
+pub copied-ascii : (v : List ℕ) (n k : ℕ) → length v ≡ n → n ≤ 64
+    → k ≤ count_trailing_zeros 64 (mask_l (map (top 7) (zip2 (λ a b. cond (leb a b) 255 0) (replicate n 0x80) v)) % 2 ^ 64) → k ≤ n
+    → AllByRecursion (λ b. b < 0x80) (take k v)
+copied-ascii v n k long most few le = first-below 0x80 v _ n k long most (past_ascii-bits v n long most) few le
 
 pub none-past : (v : List ℕ) → length v ≡ 16
     → eqb (mask_l (map (top 7) (zip2 (λ a b. cond (leb a b) 255 0) (replicate 16 0x80) v)) % 2 ^ 64) 0 ≡ true → IsAscii v

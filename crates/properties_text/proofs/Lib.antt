@@ -10,3 +10,4 @@ pub mod KeyFronts
 pub mod AsciiFronts
 pub mod Latin1
 pub mod UnitBlocks
+pub mod EncodedFronts

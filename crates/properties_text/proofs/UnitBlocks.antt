@@ -1,19 +1,22 @@
 -- Units of two bytes, eight at once.
-use Rattle.std.proofs.Common.{◌≡◌, ℕ, zero, suc, ◌+◌, ◌*◌, ◌/◌, ◌%◌, ◌^◌, ◌<◌, ◌≤◌, not, cond, leb, eqb, List, [], ◌∷◌, ◌++◌, refl, sym, ap, ap₂, subst, ◌∙◌, append-nil, inl, inr, arith, length, take, drop, get_or, map, replicate, w8, w16, Fits, bit_and}
-use Rattle.std.specs.List.{AllByRecursion, prefix_len}
+use Rattle.std.specs.Prelude.{encode_utf8_all}
+use Rattle.std.specs.Str.{chars, IsUtf8}
+use Rattle.std.proofs.Math.Utf8.{scalars}
+use Rattle.std.proofs.lemmas.Str.{IsUtf8-append, chars-append, chars-encodes}
+use Rattle.std.proofs.Common.{true, ◌≡◌, ℕ, zero, suc, ◌+◌, ◌*◌, ◌/◌, ◌%◌, ◌^◌, ◌<◌, ◌≤◌, cond, leb, List, [], ◌∷◌, ◌++◌, refl, sym, ap, ap₂, subst, ◌∙◌, append_assoc, arith, length, take, drop, get_or, map, replicate, w8, w16, Fits, bit_and}
+use Rattle.std.specs.List.{AllByRecursion}
 use Rattle.std.specs.Int.Count.{count_trailing_zeros}
-use Rattle.std.specs.Simd.Lanes.{zip2, Each1, pick_l, put_chunk, mask_l, top, number_l, digits_l}
-use Rattle.std.proofs.lemmas.Bool.{cases_Bool, leb-false}
+use Rattle.std.specs.Simd.Lanes.{zip2, Each1, pick_l, mask_l, top, number_l, digits_l}
 use Rattle.std.proofs.lemmas.Nat.{and_mask}
 use Rattle.std.proofs.lemmas.List.{length-map, length-take-le, map-id, take-take, take_at}
-use Rattle.std.proofs.lemmas.Simd.{first_set_mask_l, mask_l-mod, tops_compared, zip2_splat, zip2_splat_left, pick_l_left, pick_l_whole}
-use Rattle.properties_text.specs.Latin1.{is_past_ascii}
-use Rattle.properties_text.specs.Decoding.{text_of, unit_of, units_of, utf_16_of, PutsAscii}
+use Rattle.std.proofs.lemmas.Simd.{mask_l-mod, tops_compared, zip2_splat, zip2_splat_left, pick_l_left, pick_l_whole}
+use Rattle.properties_text.specs.Decoding.{text_of, unit_of, units_of, utf_16_of, PutsUnits}
 use Rattle.properties_text.specs.declared.encoding.Encoding.{Encoding}
-use Rattle.properties_text.proofs.AsciiFronts.{are-ascii, unit-step}
+use Rattle.properties_text.proofs.AsciiFronts.{unit-step}
+use Rattle.properties_text.specs.declared.encoding.unit_blocks.Written.{Written}
 use Rattle.properties_text.specs.declared.encoding.utf_16.ByteOrder.{ByteOrder}
 use Rattle.properties_text.specs.declared.encoding.utf_16.ByteOrder.TheVariants.{LowFirst, HighFirst}
-use Rattle.properties_text.proofs.Printing.Vectors.{stored}
+use Rattle.properties_text.proofs.Latin1.{first-below}
 
 -- ---- the units of sixteen bytes
 
@@ -64,41 +67,24 @@ high-first v long fits =
     ∙ digits-units 8 (pick_l 0 v swapped) refl (picked-fits v swapped fits)
     ∙ ap (units_of HighFirst) (pick_l_whole 0 v 16 long)
 
--- ---- those at the front that are ASCII
-
-ascii-prefix : (units : List ℕ) (n : ℕ) → n ≤ prefix_len (λ u. not (is_past_ascii u)) units → AllByRecursion (λ u. u < 0x80) (take n units)
-ascii-prefix units zero h = tt
-ascii-prefix [] (suc n) h = tt
-ascii-prefix (u ∷ units) (suc n) h = elim (cases_Bool (is_past_ascii u)) [
-  | inl t ↦ absurd (let none : prefix_len (λ u. not (is_past_ascii u)) (u ∷ units) ≡ 0 = rw t refl in omega (arith, h, none))
-  | inr f ↦
-      let more : prefix_len (λ u. not (is_past_ascii u)) (u ∷ units) ≡ 1 + prefix_len (λ u. not (is_past_ascii u)) units = rw f refl in
-      (leb-false 0x80 u f, ascii-prefix units n (omega (arith, h, more)))
-]
+-- ---- those at the front that are characters of Latin-1
 
 -- the bits of the others
 abbrev pub past_bits : List ℕ → ℕ
-past_bits units = mask_l (map (top 15) (zip2 (λ a b. cond (leb a b) 65535 0) (replicate 8 0x80) units)) % 2 ^ 64
+past_bits units = mask_l (map (top 15) (zip2 (λ a b. cond (leb a b) 65535 0) (replicate 8 0x100) units)) % 2 ^ 64
 
-pub first-ascii : (units all : List ℕ) (n : ℕ) → length units ≡ 8 → units ≡ all → n ≤ count_trailing_zeros 64 (past_bits units) → n ≤ 8
-    → AllByRecursion (λ u. u < 0x80) (take n all)
-first-ascii units all n long e few le =
-    let bits : past_bits units ≡ mask_l (map is_past_ascii units) =
-    ap (λ l. mask_l l % 2 ^ 64) (tops_compared w16 leb (replicate 8 0x80) units ∙ zip2_splat_left leb 0x80 8 units long)
-    ∙ mask_l-mod (map is_past_ascii units) 64 (omega (arith, length-map units is_past_ascii)) in
-    let first = prefix_len (λ u. not (is_past_ascii u)) units in
-    let set : cond (eqb (past_bits units) 0) 8 (count_trailing_zeros 64 (past_bits units)) ≡ first =
-    ap (λ k. cond (eqb k 0) 8 (count_trailing_zeros 64 k)) bits ∙ first_set_mask_l is_past_ascii units 8 long (omega arith) in
-    let within : n ≤ first = elim (cases_Bool (eqb (past_bits units) 0)) [
-      | inl t ↦ let is : 8 ≡ first = sym (rw t refl) ∙ set in omega arith
-      | inr f ↦ let is : count_trailing_zeros 64 (past_bits units) ≡ first = sym (rw f refl) ∙ set in omega arith
-    ] in
-    subst (λ l. AllByRecursion (λ u. u < 0x80) (take n l)) e (ascii-prefix units n within)
+pub first-bytes : (units all : List ℕ) (n : ℕ) → length units ≡ 8 → units ≡ all → n ≤ count_trailing_zeros 64 (past_bits units) → n ≤ 8
+    → AllByRecursion (λ u. u < 0x100) (take n all)
+first-bytes units all n long e few le =
+    let bits : past_bits units ≡ mask_l (map (leb 0x100) units) =
+    ap (λ l. mask_l l % 2 ^ 64) (tops_compared w16 leb (replicate 8 0x100) units ∙ zip2_splat_left leb 0x100 8 units long)
+    ∙ mask_l-mod (map (leb 0x100) units) 64 (omega (arith, length-map units (leb 0x100))) in
+    subst (λ l. AllByRecursion (λ u. u < 0x100) (take n l)) e (first-below 0x100 units (past_bits units) 8 n long (omega arith) bits few le)
 
 -- ---- how they are written
 
 -- the low bytes
-low-bytes : (units : List ℕ) (n : ℕ) → AllByRecursion (λ u. u < 0x80) (take n units) → take n (map (λ u. u % 256) units) ≡ take n units
+low-bytes : (units : List ℕ) (n : ℕ) → AllByRecursion (λ u. u < 0x100) (take n units) → take n (map (λ u. u % 256) units) ≡ take n units
 low-bytes units zero h = refl
 low-bytes [] (suc n) h = refl
 low-bytes (u ∷ units) (suc n) h =
@@ -120,21 +106,17 @@ bytes-fit units long = subst (Each1 (Fits w8)) (sym (masked units long)) (each u
     each [] = tt
     each (u ∷ units) = (record { fits = omega arith }, each units)
 
-pub put_ascii-is : (at n : ℕ) (out units all : List ℕ) → length units ≡ 8 → at + 8 ≤ length out → n ≤ 8 → units ≡ all
-    → AllByRecursion (λ u. u < 0x80) (take n all)
-    → take (at + n) (put_chunk at out (map (λ u. u) (zip2 bit_and units (replicate 8 255)))) ≡ take at out ++ take n all
-put_ascii-is at n out units all long room le e ascii =
-    let bytes : map (λ u. u) (zip2 bit_and units (replicate 8 255)) ≡ map (λ u. u % 256) units = map-id (zip2 bit_and units (replicate 8 255)) ∙ masked units long in
-    let known = subst (λ l. AllByRecursion (λ u. u < 0x80) (take n l)) (sym e) ascii in
-    let size = length-map units (λ u. u % 256) in
-    ap (λ l. take (at + n) (put_chunk at out l)) bytes
-    ∙ stored at n (at + n) out (map (λ u. u % 256) units) refl (omega arith) (omega arith)
-    ∙ ap (λ l. take at out ++ l) (low-bytes units n known ∙ ap (take n) e)
+-- the first of them are those bytes
+pub first-same : (units all : List ℕ) (n : ℕ) → length units ≡ 8 → units ≡ all → AllByRecursion (λ u. u < 0x100) (take n all)
+    → take n (map (λ u. u) (zip2 bit_and units (replicate 8 255))) ≡ take n all
+first-same units all n long e h =
+    let known = subst (λ l. AllByRecursion (λ u. u < 0x100) (take n l)) (sym e) h in
+    ap (take n) (map-id (zip2 bit_and units (replicate 8 255)) ∙ masked units long) ∙ low-bytes units n known ∙ ap (take n) e
 
 -- ---- what they stand for
 
 -- n of the units of the first w bytes
-front-is : (order : ByteOrder) (n w : ℕ) (bytes : List ℕ) → 2 * n ≤ w → w ≤ length bytes → AllByRecursion (λ u. u < 0x80) (take n (units_of order (take w bytes)))
+front-is : (order : ByteOrder) (n w : ℕ) (bytes : List ℕ) → 2 * n ≤ w → w ≤ length bytes → AllByRecursion (λ u. u < 0x100) (take n (units_of order (take w bytes)))
     → text_of (utf_16_of order) bytes ≡ take n (units_of order (take w bytes)) ++ text_of (utf_16_of order) (drop (2 * n) bytes)
 front-is order zero w bytes le long h = refl
 front-is order (suc n) zero bytes le long h = absurd (omega arith)
@@ -147,27 +129,36 @@ front-is order (suc n) (suc (suc w)) (a ∷ b ∷ bytes) le long h =
     ∙ ap (λ l. unit_of order a b ∷ l) (front-is order n w bytes (omega arith) (omega arith) h.1)
     ∙ ap (λ k. unit_of order a b ∷ (take n (units_of order (take w bytes)) ++ text_of (utf_16_of order) (drop k (a ∷ b ∷ bytes)))) place
 
-pub puts-ascii : (order : ByteOrder) (bytes old new : List ℕ) (at n : ℕ) → 16 ≤ length bytes → n ≤ 8
-    → AllByRecursion (λ u. u < 0x80) (take n (units_of order (take 16 bytes))) → take (at + n) new ≡ take at old ++ take n (units_of order (take 16 bytes))
-    → PutsAscii (utf_16_of order) bytes old new at n
-puts-ascii order bytes old new at n long le ascii text = record {
-  front = take n (units_of order (take 16 bytes));
-  ascii = are-ascii (take n (units_of order (take 16 bytes))) ascii;
-  written = text;
-  same = front-is order n 16 bytes (omega arith) long ascii;
-}
-
-pub puts-nothing : (encoding : Encoding) (bytes run : List ℕ) (at : ℕ) → PutsAscii encoding bytes run run at 0
-puts-nothing encoding bytes run at = record {
-  front = [];
-  ascii = are-ascii [] tt;
-  written = ap (λ k. take k run) (let same : at + 0 ≡ at = omega arith in same) ∙ sym (append-nil (take at run));
-  same = refl;
+pub puts-units : (order : ByteOrder) (bytes old new : List ℕ) (at : ℕ) (written : Written) → 16 ≤ length bytes → written.units ≤ 8
+    → AllByRecursion (λ u. u < 0x100) (take written.units (units_of order (take 16 bytes))) → scalars (take written.units (units_of order (take 16 bytes))) ≡ true
+    → take written.end new ≡ take at old ++ encode_utf8_all (take written.units (units_of order (take 16 bytes)))
+    → PutsUnits (utf_16_of order) bytes old new at written
+puts-units order bytes old new at written long le small are text = record {
+  front = take written.units (units_of order (take 16 bytes));
+  scalars = are;
+  text = text;
+  same = front-is order written.units 16 bytes (omega arith) long small;
 }
 
 -- what stands before that place is left as it was
-pub kept-before : (encoding : Encoding) (bytes old new : List ℕ) (at n : ℕ) → at ≤ length old → PutsAscii encoding bytes old new at n → take at new ≡ take at old
-kept-before encoding bytes old new at n le puts =
-    sym (take-take at (at + n) new (omega arith))
-    ∙ ap (take at) puts.written
-    ∙ take_at (take at old) puts.front at (length-take-le at old le)
+pub kept-before : (encoding : Encoding) (bytes old new : List ℕ) (at : ℕ) (written : Written) → at ≤ length old → at ≤ written.end
+    → PutsUnits encoding bytes old new at written → take at new ≡ take at old
+kept-before encoding bytes old new at written le after puts =
+    sym (take-take at written.end new after)
+    ∙ ap (take at) puts.text
+    ∙ take_at (take at old) (encode_utf8_all puts.front) at (length-take-le at old le)
+
+-- so these characters are taken to a text
+pub decoded-units : (encoding : Encoding) (bytes old new all : List ℕ) (at : ℕ) (written : Written) → IsUtf8 (take at old) → PutsUnits encoding bytes old new at written
+    → chars (take at old) ++ text_of encoding bytes ≡ all
+    → IsUtf8 (take written.end new) × (chars (take written.end new) ++ text_of encoding (drop (2 * written.units) bytes) ≡ all)
+decoded-units encoding bytes old new all at written u puts joins =
+    let cs = puts.front in
+    let rest = text_of encoding (drop (2 * written.units) bytes) in (
+      subst IsUtf8 (sym puts.text) (IsUtf8-append (take at old) (encode_utf8_all cs) u (cs, (puts.scalars, refl))),
+      ap (λ l. chars l ++ rest) puts.text
+          ∙ ap (λ l. l ++ rest) (chars-append (take at old) (encode_utf8_all cs) u ∙ ap (λ l. chars (take at old) ++ l) (chars-encodes cs puts.scalars))
+          ∙ append_assoc (chars (take at old)) cs rest
+          ∙ ap (λ l. chars (take at old) ++ l) (sym puts.same)
+          ∙ joins,
+    )

@@ -1,7 +1,7 @@
 -- What each part of the decoder gives: the byte order mark, the first piece, and text that stands as it is.
-use Rattle.std.specs.Prelude.{◌≡◌, ℕ, ◌≤◌, ◌<◌, ◌+◌, ◌*◌, ◌++◌, Bool, true, false, List, [], ◌∷◌, length, take, drop}
+use Rattle.std.specs.Prelude.{◌≡◌, ℕ, ◌≤◌, ◌<◌, ◌+◌, ◌*◌, ◌++◌, Bool, true, false, List, [], ◌∷◌, length, take, drop, encode_utf8_all}
 use Rattle.std.specs.List.{AllByRecursion}
-use Rattle.std.specs.Str.{IsAscii}
+use Rattle.std.specs.Str.{IsAscii, all_scalars}
 use Rattle.std.specs.declared.borrow.CowStr.{CowStr}
 use Rattle.std.specs.declared.borrow.CowStr.TheVariants.{Borrowed, Owned}
 use Rattle.properties_format.specs.Encoding as format
@@ -17,6 +17,7 @@ use Rattle.properties_text.specs.declared.encoding.byte_order_mark.ByteOrderMark
 use Rattle.properties_text.specs.declared.encoding.byte_order_mark.ByteOrderMark.TheVariants.{Present, Absent, Undecided}
 use Rattle.properties_text.specs.declared.encoding.first_piece.FirstPiece.{FirstPiece}
 use Rattle.properties_text.specs.declared.encoding.run.AsciiFront.{AsciiFront}
+use Rattle.properties_text.specs.declared.encoding.unit_blocks.Written.{Written}
 use Rattle.properties_text.specs.declared.encoding.utf_8.ByteRange.{ByteRange}
 use Rattle.properties_text.specs.declared.encoding.utf_16.ByteOrder.{ByteOrder}
 use Rattle.properties_text.specs.declared.encoding.utf_16.ByteOrder.TheVariants.{LowFirst, HighFirst}
@@ -81,12 +82,12 @@ pub record IsAsciiFront (encoding : Encoding) (bytes : List ℕ) (front : AsciiF
   pub same : text_of encoding bytes ≡ front.text ++ text_of encoding front.rest.now
   pub shorter : length front.rest.now + 4 ≤ length bytes
 
--- The text of some bytes begins with n characters of ASCII, of two bytes each, which are written from a place on.
-pub record PutsAscii (encoding : Encoding) (bytes old new : List ℕ) (at n : ℕ) : Type 0 where
+-- The text of some bytes begins with so many characters, of two bytes each, and these are written from a place on.
+pub record PutsUnits (encoding : Encoding) (bytes old new : List ℕ) (at : ℕ) (written : Written) : Type 0 where
   pub front : List ℕ
-  pub ascii : IsAscii front
-  pub written : take (at + n) new ≡ take at old ++ front
-  pub same : text_of encoding bytes ≡ front ++ text_of encoding (drop (2 * n) bytes)
+  pub scalars : all_scalars front ≡ true
+  pub text : take written.end new ≡ take at old ++ encode_utf8_all front
+  pub same : text_of encoding bytes ≡ front ++ text_of encoding (drop (2 * written.units) bytes)
 
 abbrev pub utf_16_of : ByteOrder → Encoding
 utf_16_of LowFirst = UTF_16LE

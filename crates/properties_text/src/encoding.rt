@@ -4,6 +4,7 @@ ghost use Rattle.std.specs.Prelude.{◌≡◌};
 ghost use Rattle.properties_format.specs.Encoding.{output_encoding};
 ghost use Rattle.properties_text.specs.Encoding.{encoding_of};
 
+mod ascii;
 pub mod byte_order_mark;
 pub mod decode;
 mod decode_iter;

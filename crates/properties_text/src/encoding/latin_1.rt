@@ -49,16 +49,22 @@ fn is_ascii(v: u8x16) -> bool
     v.simd_ge(u8x16::splat(0x80)).to_bitmask() == 0
 }
 
-// The same of eight characters.
+/// The same of eight characters.
 #[inline(always)]
-fn put_8(run: &mut [u8], at: usize, v: u8x8, kept: usize) -> usize
+pub fn put_8(run: &mut [u8], at: usize, v: u8x8, kept: usize) -> usize
     requires room { at + 16 ≤ length run.old }
     requires kept { kept ≤ 8 }
     ensures same_room { length run.new ≡ length run.old }
+    ensures after { at ≤ result }
     ensures within { result ≤ at + 2 * kept }
+    ensures scalars { all_scalars (take kept v) ≡ true }
     ensures text { take result run.new ≡ take at run.old ++ encode_utf8_all (take kept v) }
 {
     let bits = past_ascii_bits(v);
+    if bits == 0 {
+        v.copy_to_slice(&mut run[at..]);
+        return at + kept;
+    }
     let lanes = u8x16::from_array(LANES[bits as usize]);
     pairs(v).swizzle_dyn(lanes).copy_to_slice(&mut run[at..]);
     let kept_bits = bits % (1 << kept);

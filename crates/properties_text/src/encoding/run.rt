@@ -3,13 +3,13 @@
 ghost use Rattle.std.specs.Prelude.{◌≡◌, ◌≤◌, ◌<◌, ◌+◌, ◌*◌, ◌%◌, ◌++◌, ◌∷◌, [], length, take, IfSome};
 ghost use Rattle.std.specs.Char.{encode_utf8, IsScalar};
 ghost use Rattle.std.specs.Str.{chars, IsUtf8};
-ghost use Rattle.properties_text.specs.Decoding.{text_of, utf_16_of, AreFour, IsAsciiFront, PutsAscii};
+ghost use Rattle.properties_text.specs.Decoding.{text_of, utf_16_of, AreFour, IsAsciiFront, PutsUnits};
 ghost use Rattle.properties_text.specs.declared.encoding.Encoding.TheVariants.{WINDOWS_1252};
 
 use super::Encoding;
 use super::first_piece::first_piece;
 use super::latin_1::{put_16, table_bits};
-use super::unit_blocks::put_ascii;
+use super::unit_blocks::{Written, put_latin_1};
 use super::utf_16::ByteOrder;
 use super::windows_1252::character_of;
 use std::simd::prelude::*;
@@ -116,10 +116,10 @@ fn decode_run_of<'a>(
         if run.len() - at < 4 {
             return Decoded { length: at, rest };
         }
-        let units = put_units(run, at, encoding, rest);
-        if units > 0 {
-            at += units;
-            rest = &rest[2 * units..];
+        let written = put_units(run, at, encoding, rest);
+        if written.units > 0 {
+            at = written.end;
+            rest = &rest[2 * written.units..];
         } else if let Some(front) = ascii_front(encoding, rest) {
             at = put_four(run, at, front.text);
             rest = front.rest;
@@ -132,26 +132,28 @@ fn decode_run_of<'a>(
     Decoded { length: at, rest }
 }
 
-// Writes units of ASCII at the front from this place on, as many as eight, and returns how many those are. There are none
-// in other encodings than UTF-16, and where fewer than eight are left, or room for fewer.
+// Writes units at the front from this place on, eight at most, as far as they are characters of Latin-1. There are none in
+// other encodings than UTF-16, and where fewer than eight are left, or room for fewer.
 #[inline(always)]
-fn put_units(run: &mut [u8], at: usize, encoding: Encoding, bytes: &[u8]) -> usize
+fn put_units(run: &mut [u8], at: usize, encoding: Encoding, bytes: &[u8]) -> Written
     requires { at ≤ length run.old }
     ensures same_room { length run.new ≡ length run.old }
-    ensures room { at + result ≤ length run.new }
-    ensures within { 2 * result ≤ length bytes.now }
-    ensures text { PutsAscii encoding bytes.now run.old run.new at result }
+    ensures room { result.end ≤ length run.new }
+    ensures within { 2 * result.units ≤ length bytes.now }
+    ensures after { at ≤ result.end }
+    ensures end { result.end ≤ at + 2 * result.units }
+    ensures text { PutsUnits encoding bytes.now run.old run.new at result }
 {
-    if bytes.len() < 16 || run.len() - at < 8 {
-        return 0;
+    if bytes.len() < 16 || run.len() - at < 16 {
+        return Written { units: 0, end: at };
     }
     let v = u8x16::from_slice(bytes);
     // The odd units go first, so that whole blocks are left.
     let odd = (bytes.len() / 2 - 1) % 8 + 1;
     match encoding {
-        Encoding::WINDOWS_1252 | Encoding::UTF_8 => 0,
-        Encoding::UTF_16LE => put_ascii(run, at, ByteOrder::LowFirst, v, odd),
-        Encoding::UTF_16BE => put_ascii(run, at, ByteOrder::HighFirst, v, odd),
+        Encoding::WINDOWS_1252 | Encoding::UTF_8 => Written { units: 0, end: at },
+        Encoding::UTF_16LE => put_latin_1(run, at, ByteOrder::LowFirst, v, odd),
+        Encoding::UTF_16BE => put_latin_1(run, at, ByteOrder::HighFirst, v, odd),
     }
 }
 

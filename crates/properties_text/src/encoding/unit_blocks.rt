@@ -1,27 +1,43 @@
 // Units of two bytes, eight at once.
 
-ghost use Rattle.std.specs.Prelude.{◌≡◌, ◌+◌, ◌<◌, ◌≤◌, ◌++◌, length, take};
+ghost use Rattle.std.specs.Prelude.{◌≡◌, ◌+◌, ◌*◌, ◌<◌, ◌≤◌, ◌++◌, true, length, take, encode_utf8_all};
 ghost use Rattle.std.specs.List.{AllByRecursion};
+ghost use Rattle.std.specs.Str.{all_scalars};
 ghost use Rattle.properties_text.specs.Decoding.{units_of};
 
+use super::latin_1::put_8;
 use super::utf_16::ByteOrder;
 use std::simd::prelude::*;
 
-/// Writes the units from this place on, as far as they are ASCII, and returns how many of the first `most` those are.
+/// Units that were written as text.
+#[derive(Clone, Copy)]
+pub struct Written {
+    /// How many units they are.
+    pub units: usize,
+    /// The place after their text.
+    pub end: usize,
+}
+
+/// Writes the text of the first `most` units from this place on, as far as they are characters of Latin-1.
 #[inline(always)]
-pub fn put_ascii(run: &mut [u8], at: usize, order: ByteOrder, v: u8x16, most: usize) -> usize
-    requires room { at + 8 ≤ length run.old }
+pub fn put_latin_1(run: &mut [u8], at: usize, order: ByteOrder, v: u8x16, most: usize) -> Written
+    requires room { at + 16 ≤ length run.old }
     requires most { most ≤ 8 }
     ensures same_room { length run.new ≡ length run.old }
-    ensures within { result ≤ most }
-    ensures ascii { AllByRecursion (λ u. u < 0x80) (take result (units_of order v)) }
-    ensures text { take (at + result) run.new ≡ take at run.old ++ take result (units_of order v) }
+    ensures within { result.units ≤ most }
+    ensures after { at ≤ result.end }
+    ensures end { result.end ≤ at + 2 * result.units }
+    ensures bytes { AllByRecursion (λ u. u < 0x100) (take result.units (units_of order v)) }
+    ensures scalars { all_scalars (take result.units (units_of order v)) ≡ true }
+    ensures text { let text = encode_utf8_all (take result.units (units_of order v)) in
+        take result.end run.new ≡ take at run.old ++ text }
 {
     let units = units(order, v);
-    let text: u8x8 = (units & u16x8::splat(0xff)).cast();
-    text.copy_to_slice(&mut run[at..]);
-    let past = units.simd_ge(u16x8::splat(0x80)).to_bitmask();
-    (past.trailing_zeros() as usize).min(most)
+    let past = units.simd_ge(u16x8::splat(0x100)).to_bitmask();
+    let count = (past.trailing_zeros() as usize).min(most);
+    let bytes: u8x8 = (units & u16x8::splat(0xff)).cast();
+    let end = put_8(run, at, bytes, count);
+    Written { units: count, end }
 }
 
 #[inline(always)]

@@ -1,21 +1,86 @@
-use Rattle.std.proofs.Common.{arith, sym, ◌∙◌, length-set}
-use Rattle.std.proofs.lemmas.Str.{IsUtf8-past_char, chars_past_char}
+use Rattle.std.proofs.Common.{◌≡◌, ◌<◌, ◌++◌, ◌∙◌, ap, sym, subst, arith, length, take, set, ◌+◌, length-set}
+use Rattle.std.specs.Char.{encode_utf8}
+use Rattle.std.specs.List.{AllByRecursion}
+use Rattle.std.specs.Str.{chars, IsUtf8}
+use Rattle.std.proofs.lemmas.Str.{IsUtf8-past_char, IsUtf8-drop, chars_past_char}
+use Rattle.properties_text.specs.Encoding.{EncodesFront}
+use Rattle.properties_text.specs.Latin1.{IsLatin1Front}
+use Rattle.properties_text.proofs.EncodedFronts.{latin-byte, cut-after-two, cut-after-ascii, encodes-ascii, nothing-copied}
 use Rattle.properties_text.proofs.TextFronts.{past-shorter}
 use Rattle.properties_text.proofs.Windows1252.{encodes-more}
 use Rattle.properties_text.proofs.encoding.encode.encode_run.Goals as goal
 
-pub loop-at-preserved : goal.loop-at-preserved
-loop-at-preserved c =
+pub range_from-rest-requires : goal.range_from-rest-requires
+range_from-rest-requires c =
+    let front = subst (λ l. IsLatin1Front l c.in-Some.byte) c.as_bytes.ensures.value c.in-Some.ensures in
+    λ some. cut-after-two c.loop-at.rest.now c.in-Some.byte c.loop-at.invariant.is_text front
+
+pub range_from-rest-requires-then-ascii-gt0 : goal.range_from-rest-requires-then-ascii-gt0
+range_from-rest-requires-then-ascii-gt0 c =
+    let rest = c.loop-at.rest.now in
+    let k = c.copy_front-ascii.result in
+    let copied = c.copy_front-ascii.ensures in
+    let value = c.as_bytes-in-loop-at.ensures.value in
+    let ascii = subst (λ l. AllByRecursion (λ b. b < 0x80) (take k l)) value copied.ascii in
+    λ some. cut-after-ascii rest k c.loop-at.invariant.is_text some (omega (arith, copied.within, ap length value)) ascii
+
+pub loop-at-preserved-in-Some : goal.loop-at-preserved-in-Some
+loop-at-preserved-in-Some c =
     let held = c.loop-at.invariant in
     let run = c.loop-at.run in
-    let rest = c.loop-at.characters.rest.now in
-    let after = c.next.new.self.rest.now in
-    let next = c.in-Some.ensures.steps.0 in
-    let size = length-set run c.loop-at.at c.in-Some-byte_of.byte in
+    let rest = c.loop-at.rest.now in
+    let after = c.range_from-rest.result.now in
+    let byte = c.in-Some.byte in
+    let front = subst (λ l. IsLatin1Front l byte) c.as_bytes.ensures.value c.in-Some.ensures in
+    let whole : rest ≡ encode_utf8 byte ++ after = front.whole ∙ ap (λ v. encode_utf8 byte ++ v) (sym c.range_from-rest.ensures.value) in
+    let size = length-set run c.loop-at.at byte in
     record {
       same_room = size ∙ held.same_room;
       within = omega (arith, size, c.loop-at-test.true);
-      left = omega (arith, held.left, past-shorter rest after c.in-Some.character next);
-      is_text = IsUtf8-past_char rest after c.in-Some.character held.is_text next;
-      encoded = encodes-more _ run _ _ c.loop-at.at c.in-Some.character c.in-Some-byte_of.byte c.loop-at-test.true held.encoded (chars_past_char rest after c.in-Some.character held.is_text next) (sym c.in-Some-byte_of.ensures);
+      left = omega (arith, held.left, past-shorter rest after byte whole);
+      is_text = IsUtf8-past_char rest after byte held.is_text whole;
+      encoded = encodes-more _ run _ _ c.loop-at.at byte byte c.loop-at-test.true held.encoded (chars_past_char rest after byte held.is_text whole) (latin-byte byte front.least front.most);
+    }
+
+pub loop-at-preserved-then-ascii-gt0 : goal.loop-at-preserved-then-ascii-gt0
+loop-at-preserved-then-ascii-gt0 c =
+    let held = c.loop-at.invariant in
+    let rest = c.loop-at.rest.now in
+    let k = c.copy_front-ascii.result in
+    let copied = c.copy_front-ascii.ensures in
+    let value = c.as_bytes-in-loop-at.ensures.value in
+    let cut = c.range_from-rest-then-ascii-gt0 in
+    let ascii = subst (λ l. AllByRecursion (λ b. b < 0x80) (take k l)) value copied.ascii in
+    let boundary = cut-after-ascii rest k held.is_text c.if-ascii-gt0.true (omega (arith, copied.within, ap length value)) ascii in
+    record {
+      same_room = copied.same_room ∙ held.same_room;
+      within = copied.room;
+      left = omega (arith, held.left, cut.ensures.len);
+      is_text = subst IsUtf8 (sym cut.ensures.value) (IsUtf8-drop rest k held.is_text boundary);
+      encoded = encodes-ascii _ rest _ _ _ c.loop-at.at k held.encoded ascii cut.ensures.value (copied.text ∙ ap (λ l. take c.loop-at.at c.loop-at.run ++ take k l) value);
+    }
+
+pub loop-at-preserved : goal.loop-at-preserved
+loop-at-preserved c =
+    let held = c.loop-at.invariant in
+    let run = c.copy_front-ascii.new.run in
+    let at = c.loop-at.at in
+    let copied = c.copy_front-ascii.ensures in
+    let same = nothing-copied c.loop-at.run run _ at c.copy_front-ascii.result c.if-ascii-gt0.false copied.text in
+    let rest = c.loop-at.rest.now in
+    let after = c.next.new.self.rest.now in
+    let character = c.in-Some-next.character in
+    let byte = c.in-Some-byte_of.byte in
+    let next : rest ≡ encode_utf8 character ++ after = sym c.chars-characters.ensures.rest ∙ c.in-Some-next.ensures.steps.0 in
+    let left = c.as_str-rest.ensures in
+    let size = length-set run at byte in
+    let all = chars c.args.text.now in
+    let front = subst (λ l. EncodesFront all l (chars rest)) (sym same) held.encoded in
+    let more = encodes-more all run (chars rest) (chars after) at character byte (omega (arith, c.loop-at-test.true, copied.same_room)) front (chars_past_char rest after character held.is_text next) (sym c.in-Some-byte_of.ensures) in
+    record {
+      same_room = size ∙ copied.same_room ∙ held.same_room;
+      within = omega (arith, size, c.loop-at-test.true, copied.same_room);
+      left = omega (arith, held.left, past-shorter rest after character next, ap length left);
+      is_text = c.as_str-rest.utf8;
+      encoded = subst (λ l. EncodesFront all (take (at + 1) (set run at byte)) (chars l)) (sym left) more;
     }

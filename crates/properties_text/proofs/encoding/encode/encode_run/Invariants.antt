@@ -1,4 +1,4 @@
-use Rattle.std.proofs.Common.{◌≡◌, ◌≤◌, ◌-◌, length, take}
+use Rattle.std.proofs.Common.{◌≡◌, ◌≤◌, length, take}
 use Rattle.std.specs.Str.{chars, IsUtf8}
 use Rattle.properties_text.specs.Encoding.{EncodesFront}
 use Rattle.properties_text.proofs.encoding.encode.encode_run.Given as goal
@@ -7,10 +7,10 @@ abbrev pub invariant-loop-at : goal.invariant-loop-at
 invariant-loop-at l = record {
   same_room : length l.run ≡ length l.fn.run;
   within : l.at ≤ length l.run;
-  left : length l.characters.rest.now ≤ length l.text;
-  is_text : IsUtf8 l.characters.rest.now;
-  encoded : EncodesFront (chars l.text) (take l.at l.run) (chars l.characters.rest.now);
+  left : length l.rest ≤ length l.text;
+  is_text : IsUtf8 l.rest;
+  encoded : EncodesFront (chars l.text) (take l.at l.run) (chars l.rest);
 }
 
 abbrev pub decreases-loop-at : goal.decreases-loop-at
-decreases-loop-at l = length l.run - l.at
+decreases-loop-at l = length l.rest

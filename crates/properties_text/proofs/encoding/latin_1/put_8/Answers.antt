@@ -1,5 +1,5 @@
 use Rattle.std.proofs.Common.{◌≤◌, arith, refl}
-use Rattle.properties_text.proofs.Latin1.{bits-below, row-below, put_8-is}
+use Rattle.properties_text.proofs.Latin1.{bits-below, row-below, first-scalars, put_8-is, put_few-is}
 use Rattle.properties_text.proofs.Printing.Vectors.{ones-first}
 use Rattle.properties_text.proofs.encoding.latin_1.put_8.Goals as goal
 
@@ -23,3 +23,13 @@ pub returns-clause-text : goal.returns-clause-text
 returns-clause-text c =
     put_8-is c.args.at c.args.run.now c.args.v c.pairs.result c.past_ascii_bits-bits.result c.args.kept _ c.fits-v.0 c.fits-v.1
     c.requires.room c.requires.kept c.past_ascii_bits-bits.ensures c.pairs.ensures refl
+
+pub returns-clause-scalars : goal.returns-clause-scalars
+returns-clause-scalars c = first-scalars c.args.v c.args.kept c.fits-v.1
+
+pub returns-then-bits-eq0-clause-scalars : goal.returns-then-bits-eq0-clause-scalars
+returns-then-bits-eq0-clause-scalars c = first-scalars c.args.v c.args.kept c.fits-v.1
+
+pub returns-then-bits-eq0-clause-text : goal.returns-then-bits-eq0-clause-text
+returns-then-bits-eq0-clause-text c =
+    put_few-is c.args.at c.args.kept c.args.run.now c.args.v c.past_ascii_bits-bits.result c.fits-v.0 c.requires.room c.requires.kept c.past_ascii_bits-bits.ensures c.if-bits-eq0.true

@@ -4,7 +4,7 @@ use Rattle.std.specs.Str.{IsUtf8, chars}
 use Rattle.std.proofs.lemmas.Str.{IsUtf8-append, IsUtf8-encode, IsUtf8-from_ascii}
 use Rattle.properties_text.specs.Encoding.{encoding_of}
 use Rattle.properties_text.proofs.AsciiFronts.{are-ascii, decoded-front}
-use Rattle.properties_text.proofs.UnitBlocks.{kept-before}
+use Rattle.properties_text.proofs.UnitBlocks.{kept-before, decoded-units}
 use Rattle.properties_text.specs.Decoding.{text_of}
 use Rattle.properties_text.proofs.TextFronts.{decoded-one, taken-rest}
 use Rattle.properties_text.proofs.encoding.run.decode_run_of.Goals as goal
@@ -22,8 +22,8 @@ loop-first-init c = record {
 pub loop-first-preserved : goal.loop-first-preserved
 loop-first-preserved c =
     let held = c.loop-first.invariant in
-    let units = c.put_units-units.ensures in
-    let same = kept-before c.args.encoding _ c.loop-first.run c.put_units-units.new.run c.loop-first.at c.put_units-units.result held.within units.text in
+    let units = c.put_units-written.ensures in
+    let same = kept-before c.args.encoding _ c.loop-first.run c.put_units-written.new.run c.loop-first.at c.put_units-written.result held.within units.after units.text in
     let before = subst IsUtf8 (sym same) held.is_text in
     let put = c.put_character-at.ensures in
     let shown = c.first_piece-next.ensures.shown in
@@ -42,8 +42,8 @@ loop-first-preserved c =
 pub loop-first-preserved-in-Some-ascii_front : goal.loop-first-preserved-in-Some-ascii_front
 loop-first-preserved-in-Some-ascii_front c =
     let held = c.loop-first.invariant in
-    let units = c.put_units-units.ensures in
-    let same = kept-before c.args.encoding _ c.loop-first.run c.put_units-units.new.run c.loop-first.at c.put_units-units.result held.within units.text in
+    let units = c.put_units-written.ensures in
+    let same = kept-before c.args.encoding _ c.loop-first.run c.put_units-written.new.run c.loop-first.at c.put_units-written.result held.within units.after units.text in
     let before = subst IsUtf8 (sym same) held.is_text in
     let joins = ap (λ v. chars v ++ text_of c.args.encoding c.loop-first.rest.now) same ∙ held.text in
     let put = c.put_four-at.ensures in
@@ -56,16 +56,17 @@ loop-first-preserved-in-Some-ascii_front c =
       text = decoded-front _ _ _ _ _ _ before (are-ascii _ front.ascii) put.text joins front.same;
     }
 
-pub loop-first-preserved-then-units-gt0 : goal.loop-first-preserved-then-units-gt0
-loop-first-preserved-then-units-gt0 c =
+pub loop-first-preserved-then-written-gt0 : goal.loop-first-preserved-then-written-gt0
+loop-first-preserved-then-written-gt0 c =
     let held = c.loop-first.invariant in
-    let put = c.put_units-units.ensures in
-    let n = c.put_units-units.result in
-    let front = put.text in
+    let put = c.put_units-written.ensures in
+    let rest = c.loop-first.rest.now in
+    let written = c.put_units-written.result in
+    let front = decoded-units c.args.encoding rest c.loop-first.run c.put_units-written.new.run _ c.loop-first.at written held.is_text put.text held.text in
     record {
       same_room = put.same_room ∙ held.same_room;
       within = put.room;
-      left = rw (taken-rest, length-drop (2 * n) c.loop-first.rest.now) (omega (arith, held.left, put.within));
-      is_text = subst IsUtf8 (sym front.written) (IsUtf8-append _ _ held.is_text (IsUtf8-from_ascii _ front.ascii));
-      text = rw taken-rest (decoded-front _ _ _ _ _ _ held.is_text front.ascii front.written held.text front.same);
+      left = rw (taken-rest, length-drop (2 * written.units) rest) (omega (arith, held.left, put.within, put.end));
+      is_text = front.0;
+      text = rw taken-rest front.1;
     }

@@ -1,0 +1,70 @@
+// Bytes of ASCII, which most encodings share.
+
+ghost use Rattle.std.specs.Prelude.{◌≡◌, ◌+◌, ◌<◌, ◌≤◌, ◌++◌, length, take};
+ghost use Rattle.std.specs.List.{AllByRecursion};
+
+use std::simd::prelude::*;
+
+/// Copies bytes at the front from this place on, as far as they are ASCII, sixteen at most, and returns how many those are.
+/// Where fewer are left it copies eight, four or one.
+#[inline(always)]
+pub fn copy_front(run: &mut [u8], at: usize, bytes: &[u8]) -> usize
+    requires room { at < length run.old }
+    requires some { 0 < length bytes.now }
+    ensures same_room { length run.new ≡ length run.old }
+    ensures room { at + result ≤ length run.new }
+    ensures within { result ≤ length bytes.now }
+    ensures ascii { AllByRecursion (λ b. b < 0x80) (take result bytes.now) }
+    ensures text { take (at + result) run.new ≡ take at run.old ++ take result bytes.now }
+{
+    let room = (run.len() - at).min(bytes.len());
+    if room >= 16 {
+        copy_16(run, at, u8x16::from_slice(bytes))
+    } else if room >= 8 {
+        copy_8(run, at, u8x8::from_slice(bytes))
+    } else if room >= 4 {
+        copy_4(run, at, u8x4::from_slice(bytes))
+    } else {
+        run[at] = bytes[0];
+        usize::from(bytes[0] < 0x80)
+    }
+}
+
+#[inline(always)]
+fn copy_16(run: &mut [u8], at: usize, v: u8x16) -> usize
+    requires { at + 16 ≤ length run.old }
+    ensures same_room { length run.new ≡ length run.old }
+    ensures within { result ≤ 16 }
+    ensures ascii { AllByRecursion (λ b. b < 0x80) (take result v) }
+    ensures text { take (at + result) run.new ≡ take at run.old ++ take result v }
+{
+    v.copy_to_slice(&mut run[at..]);
+    let past = v.simd_ge(u8x16::splat(0x80)).to_bitmask();
+    (past.trailing_zeros() as usize).min(16)
+}
+
+#[inline(always)]
+fn copy_8(run: &mut [u8], at: usize, v: u8x8) -> usize
+    requires { at + 8 ≤ length run.old }
+    ensures same_room { length run.new ≡ length run.old }
+    ensures within { result ≤ 8 }
+    ensures ascii { AllByRecursion (λ b. b < 0x80) (take result v) }
+    ensures text { take (at + result) run.new ≡ take at run.old ++ take result v }
+{
+    v.copy_to_slice(&mut run[at..]);
+    let past = v.simd_ge(u8x8::splat(0x80)).to_bitmask();
+    (past.trailing_zeros() as usize).min(8)
+}
+
+#[inline(always)]
+fn copy_4(run: &mut [u8], at: usize, v: u8x4) -> usize
+    requires { at + 4 ≤ length run.old }
+    ensures same_room { length run.new ≡ length run.old }
+    ensures within { result ≤ 4 }
+    ensures ascii { AllByRecursion (λ b. b < 0x80) (take result v) }
+    ensures text { take (at + result) run.new ≡ take at run.old ++ take result v }
+{
+    v.copy_to_slice(&mut run[at..]);
+    let past = v.simd_ge(u8x4::splat(0x80)).to_bitmask();
+    (past.trailing_zeros() as usize).min(4)
+}
