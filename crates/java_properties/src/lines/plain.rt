@@ -76,3 +76,6 @@ fn ends_plain_bits(v: u8x16) -> u64
     let ends = u8x16::from_array(ENDS).swizzle_dyn(low);
     v.simd_eq(ends).to_bitmask()
 }
+
+#[cfg(test)]
+mod tests;

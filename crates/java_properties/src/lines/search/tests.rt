@@ -67,3 +67,14 @@ fn goes_on_where_a_search_ended(rt: HostRuntime) {
     assert_eq!(rt; whole_units(Encoding::UTF_8, 3), 3);
     assert_eq!(rt; unit_size(Encoding::UTF_16BE), 2);
 }
+
+#[test]
+fn finds_a_line_end_wherever_it_stands(rt: HostRuntime) {
+    for at in 0..200 {
+        let mut bytes = [b'a'; 200];
+        bytes[at] = LF;
+        assert_eq!(rt; find_line_end(Encoding::WINDOWS_1252, &bytes, 0), lf_at(at));
+        bytes[at] = CR;
+        assert_eq!(rt; find_line_end(Encoding::UTF_8, &bytes, 0), cr_at(at));
+    }
+}
