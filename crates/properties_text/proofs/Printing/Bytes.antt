@@ -101,8 +101,10 @@ printed-front line rest new whole size n read is_size within printed held =
     ∙ held
 
 -- all of them
-pub printed-whole : (line bytes new : List ℕ) (n read : ℕ) → read ≤ n → length bytes ≤ read → new ≡ line ++ spelt_bytes (take read (take n bytes)) → new ≡ line ++ spelt_bytes bytes
-printed-whole line bytes new n read within all printed = printed ∙ ap (λ v. line ++ spelt_bytes v) (take-take read n bytes within ∙ take_all read bytes all)
+pub printed-whole : (line bytes new : List ℕ) (n read : ℕ) → read ≤ n → length bytes ≤ read
+    → new ≡ line ++ spelt_bytes (take read (take n bytes)) → new ≡ line ++ spelt_bytes bytes
+printed-whole line bytes new n read within all printed =
+    printed ∙ ap (λ v. line ++ spelt_bytes v) (take-take read n bytes within ∙ take_all read bytes all)
 
 -- ---- ASCII
 

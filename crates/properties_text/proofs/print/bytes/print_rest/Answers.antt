@@ -10,4 +10,5 @@ loop-first-preserved c =
     let whole = c.args.line.now ++ spelt_bytes c.args.bytes.now in
     let read = c.in_ok-read.read in
     let within : read ≤ c.min.result = omega (arith, c.in_ok-read.ensures.within, length-take c.min.result rest) in
-    printed-front c.loop-first.line rest c.print_short.new.line whole _ c.min.result read refl within c.in_ok-read.ensures.printed c.loop-first.invariant
+    printed-front c.loop-first.line rest c.print_short.new.line whole _ c.min.result read refl within
+    c.in_ok-read.ensures.printed c.loop-first.invariant

@@ -6,4 +6,5 @@ pub returns-clause-printed : goal.returns-clause-printed
 returns-clause-printed c =
     let out = c.args.out.now in
     let within : c.args.filled ≤ length out = omega arith in
-    printed-after out c.put.new.out _ c.args.filled (length out - c.args.filled) c.put.result.written within c.put.ensures.written c.put.ensures.printed
+    let put = c.put in
+    printed-after out put.new.out _ c.args.filled (length out - c.args.filled) put.result.written within put.ensures.written put.ensures.printed
