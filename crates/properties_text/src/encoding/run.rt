@@ -144,17 +144,30 @@ fn put_units(run: &mut [u8], at: usize, encoding: Encoding, bytes: &[u8]) -> Wri
     ensures end { result.end ≤ at + 2 * result.units }
     ensures text { PutsUnits encoding bytes.now run.old run.new at result }
 {
-    if bytes.len() < 16 || run.len() - at < 16 {
-        return Written { units: 0, end: at };
-    }
-    let v = u8x16::from_slice(bytes);
-    // The odd units go first, so that whole blocks are left.
-    let odd = (bytes.len() / 2 - 1) % 8 + 1;
     match encoding {
         Encoding::WINDOWS_1252 | Encoding::UTF_8 => Written { units: 0, end: at },
-        Encoding::UTF_16LE => put_latin_1(run, at, ByteOrder::LowFirst, v, odd),
-        Encoding::UTF_16BE => put_latin_1(run, at, ByteOrder::HighFirst, v, odd),
+        Encoding::UTF_16LE => put_block(run, at, ByteOrder::LowFirst, bytes),
+        Encoding::UTF_16BE => put_block(run, at, ByteOrder::HighFirst, bytes),
     }
+}
+
+// The same of UTF-16. Where the first unit is no character of Latin-1, the others aren't looked at.
+#[inline(always)]
+fn put_block(run: &mut [u8], at: usize, order: ByteOrder, bytes: &[u8]) -> Written
+    requires { at ≤ length run.old }
+    ensures same_room { length run.new ≡ length run.old }
+    ensures room { result.end ≤ length run.new }
+    ensures within { 2 * result.units ≤ length bytes.now }
+    ensures after { at ≤ result.end }
+    ensures end { result.end ≤ at + 2 * result.units }
+    ensures text { PutsUnits (utf_16_of order) bytes.now run.old run.new at result }
+{
+    if bytes.len() < 16 || run.len() - at < 16 || order.unit(bytes[0], bytes[1]) >= 0x100 {
+        return Written { units: 0, end: at };
+    }
+    // The odd units go first, so that whole blocks are left.
+    let odd = (bytes.len() / 2 - 1) % 8 + 1;
+    put_latin_1(run, at, order, u8x16::from_slice(bytes), odd)
 }
 
 // Four characters of ASCII, and the bytes after them.

@@ -86,6 +86,55 @@ fn decodes_whole_bodies(rt: HostRuntime) -> Result<(), Fail> {
     Ok(())
 }
 
+// A text of several blocks of sixteen bytes, with characters of one to three bytes in UTF-8 in all of them.
+const LONG: &str =
+    "gr\u{fc}\u{df}e aus dem Norden, \u{201e}30\u{a0}\u{20ac}\u{201c} und 3\u{d7}4 \u{b5}m \u{2013} caf\u{e9} ol\u{e9}, abc";
+
+const LONG_BYTES: &[u8] =
+    b"gr\xfc\xdfe aus dem Norden, \x8430\xa0\x80\x93 und 3\xd74 \xb5m \x96 caf\xe9 ol\xe9, abc";
+
+#[test]
+fn decodes_and_encodes_long_texts(rt: HostRuntime) -> Result<(), Fail> {
+    let decoded = decoded_whole(rt.alloc(), Encoding::WINDOWS_1252, LONG_BYTES)?;
+    assert_eq!(rt; decoded.as_str(), LONG);
+
+    let mut run = [0; 64];
+    let encoded = encode_run(&mut run, LONG);
+    assert_eq!(rt; &run[..encoded.length], LONG_BYTES);
+    assert_eq!(rt; encoded.rest, "");
+    Ok(())
+}
+
+#[test]
+fn decodes_long_units(rt: HostRuntime) -> Result<(), Fail> {
+    let mut low_first = Vec::new(rt.alloc());
+    let mut high_first = Vec::new(rt.alloc());
+    for unit in LONG.encode_utf16() {
+        low_first.extend_from_slice(&unit.to_le_bytes())?;
+        high_first.extend_from_slice(&unit.to_be_bytes())?;
+    }
+    let text = decoded_whole(rt.alloc(), Encoding::UTF_16LE, &low_first)?;
+    assert_eq!(rt; text.as_str(), LONG);
+    let text = decoded_whole(rt.alloc(), Encoding::UTF_16BE, &high_first)?;
+    assert_eq!(rt; text.as_str(), LONG);
+    Ok(())
+}
+
+#[test]
+fn encodes_up_to_what_lacks_a_byte(rt: HostRuntime) {
+    let mut run = [0; 20];
+    let encoded = encode_run(&mut run, "sixteen bytes \u{e9}\u{3042}\u{e9}");
+    assert_eq!(rt; &run[..encoded.length], b"sixteen bytes \xe9".as_slice());
+    assert_eq!(rt; encoded.rest, "\u{3042}\u{e9}");
+    // And as far as there is room.
+    let encoded = encode_run(&mut run, "\u{e9} and more than there is room for");
+    assert_eq!(rt;
+        &run[..encoded.length],
+        b"\xe9 and more than ther".as_slice()
+    );
+    assert_eq!(rt; encoded.rest, "e is room for");
+}
+
 #[test]
 fn lends_text_as_it_stands(rt: HostRuntime) -> Result<(), Fail> {
     let lines: [(Encoding, &[u8], bool); 8] = [

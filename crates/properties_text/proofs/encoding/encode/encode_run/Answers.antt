@@ -76,7 +76,9 @@ loop-at-preserved c =
     let size = length-set run at byte in
     let all = chars c.args.text.now in
     let front = subst (λ l. EncodesFront all l (chars rest)) (sym same) held.encoded in
-    let more = encodes-more all run (chars rest) (chars after) at character byte (omega (arith, c.loop-at-test.true, copied.same_room)) front (chars_past_char rest after character held.is_text next) (sym c.in-Some-byte_of.ensures) in
+    let within : at < length run = omega (arith, c.loop-at-test.true, copied.same_room) in
+    let split = chars_past_char rest after character held.is_text next in
+    let more = encodes-more all run (chars rest) (chars after) at character byte within front split (sym c.in-Some-byte_of.ensures) in
     record {
       same_room = size ∙ copied.same_room ∙ held.same_room;
       within = omega (arith, size, c.loop-at-test.true, copied.same_room);

@@ -25,12 +25,14 @@ loop-rest-preserved-then-kept-eq0 c =
     let bytes = c.loop-rest.rest.now in
     let before = chars (take c.loop-rest.at c.loop-rest.run) in
     let whole : bytes ≡ get_or bytes 0 0 ∷ drop 1 bytes = drop_more bytes 0 0 (omega arith) in
+    let joins = ap (λ v. before ++ text_of WINDOWS_1252 v) (sym whole) ∙ held.text in
+    let first = get_or bytes 0 0 in
     record {
       same_room = put.same_room ∙ held.same_room;
       within = omega (arith, put.within, put.same_room, c.if-run-at-ge32.true);
       left = rw (taken-rest, length-drop 1 bytes) (omega (arith, put.within, held.left, c.loop-rest-test.true));
       is_text = subst IsUtf8 (sym put.text) (IsUtf8-append _ _ held.is_text (IsUtf8-encode _ put.scalar));
-      text = rw taken-rest (decoded-one windows_1252 _ _ _ (get_or bytes 0 0) (drop 1 bytes) _ 1 held.is_text put.scalar put.text (ap (λ v. before ++ text_of WINDOWS_1252 v) (sym whole) ∙ held.text) c.character_of.ensures refl);
+      text = rw taken-rest (decoded-one windows_1252 _ _ _ first (drop 1 bytes) _ 1 held.is_text put.scalar put.text joins c.character_of.ensures refl);
     }
 
 pub loop-rest-preserved : goal.loop-rest-preserved
