@@ -1,15 +1,14 @@
 // Characters to bytes.
 
-ghost use Rattle.std.specs.Prelude.{◌≡◌, ◌≤◌, ◌++◌, [], length, take, is_some, unwrap_or, IfSome, IfOk, OnOk};
+ghost use Rattle.std.specs.Prelude.{◌≡◌, ◌≤◌, length, take, IfSome};
 ghost use Rattle.std.specs.Str.{chars, IsUtf8};
-ghost use Rattle.properties_format.specs.Encoding.{encoded, output_encoding};
+ghost use Rattle.properties_format.specs.Encoding.{output_encoding};
 ghost use Rattle.properties_text.specs.Encoding.{encoding_of, output_of, EncodesFront};
 ghost use Rattle.properties_text.specs.Latin1.{IsLatin1Front};
 
 use super::Encoding;
 use super::ascii::copy_front;
 use super::windows_1252::byte_of;
-use std::alloc::AllocError;
 
 /// The encodings that are written.
 #[derive(Clone, Copy, PartialEq, Eq)]
@@ -29,30 +28,6 @@ impl From<Encoding> for OutputEncoding {
             Encoding::UTF_8 | Encoding::UTF_16LE | Encoding::UTF_16BE => OutputEncoding::Utf8,
         }
     }
-}
-
-/// Appends the bytes of a character, and says whether it has any in the encoding.
-pub fn push_encoded(
-    bytes: &mut Vec<u8>,
-    encoding: OutputEncoding,
-    character: char,
-) -> Result<bool, AllocError>
-    ensures said { IfOk result (λ done. done ≡ is_some (encoded (output_of encoding) character)) }
-    ensures appended { let appended = unwrap_or (encoded (output_of encoding) character) [] in
-        OnOk result (bytes.new.items ≡ bytes.old.items ++ appended) }
-{
-    match encoding {
-        OutputEncoding::Windows1252 => {
-            let Some(byte) = byte_of(character) else {
-                return Ok(false);
-            };
-            bytes.push(byte)?;
-        }
-        OutputEncoding::Utf8 => {
-            bytes.extend_from_slice(character.encode_utf8(&mut [0; 4]).as_bytes())?;
-        }
-    }
-    Ok(true)
 }
 
 /// What was encoded of a text.
