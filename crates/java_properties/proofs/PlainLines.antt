@@ -36,13 +36,13 @@ lowest : (t : Bool) (n : ℕ) → cond t 1 0 + 2 * n ≡ 0 → (t ≡ false) × 
 lowest true n e = absurd (omega arith)
 lowest false n e = (refl, omega arith)
 
-high-none : (v : List ℕ) → mask_l (map (λ b. leb 128 b) v) ≡ 0 → All (λ b. b < 128) v
+high-none : (v : List ℕ) → mask_l (map (leb 128) v) ≡ 0 → All (λ b. b < 128) v
 high-none [] e = All-nil (λ b. b < 128)
 high-none (b ∷ v) e =
-    let first = lowest (leb 128 b) (mask_l (map (λ b. leb 128 b) v)) e in
+    let first = lowest (leb 128 b) (mask_l (map (leb 128) v)) e in
     All-cons (λ b. b < 128) b v (leb-false 128 b first.0) (high-none v first.1)
 
-none-high : (v : List ℕ) → All (λ b. b < 128) v → mask_l (map (λ b. leb 128 b) v) ≡ 0
+none-high : (v : List ℕ) → All (λ b. b < 128) v → mask_l (map (leb 128) v) ≡ 0
 none-high [] h = refl
 none-high (b ∷ v) h =
     let first : leb 128 b ≡ false = elim (cases_Bool (leb 128 b)) [
@@ -59,14 +59,17 @@ splat_left t [] (suc n) y e = absurd (omega arith)
 splat_left t (b ∷ v) zero y e = absurd (omega arith)
 splat_left t (b ∷ v) (suc n) y e = ap (λ l. t y b ∷ l) (splat_left t v n y (omega arith))
 
-pub ascii-bits : (v : List ℕ) → length v ≡ 16
-    → (eqb (mask_l (map (top 7) (zip2 (λ a b. cond (leb a b) 255 0) (replicate 16 128) v)) % 2 ^ 64) 0 ≡ true) ↔ IsAscii v
-ascii-bits v long =
-    let bits = ap (λ l. mask_l l % 2 ^ 64) (tops_compared w8 leb (replicate 16 128) v ∙ splat_left leb v 16 128 long)
-    ∙ mask_l-mod (map (λ b. leb 128 b) v) 64 (omega (arith, length-map v (λ b. leb 128 b))) in (
-      λ e. IsAscii-from_all v (high-none v (sym bits ∙ eqb-true _ 0 e)),
-      λ h. eq-eqb _ 0 (bits ∙ none-high v (All-from_ascii v h)),
-    )
+pub past_ascii-bits : (v : List ℕ) → length v ≡ 16
+    → mask_l (map (top 7) (zip2 (λ a b. cond (leb a b) 255 0) (replicate 16 128) v)) % 2 ^ 64 ≡ mask_l (map (leb 128) v)
+past_ascii-bits v long =
+    ap (λ l. mask_l l % 2 ^ 64) (tops_compared w8 leb (replicate 16 128) v ∙ splat_left leb v 16 128 long)
+    ∙ mask_l-mod (map (leb 128) v) 64 (omega (arith, length-map v (leb 128)))
+
+pub ascii-bits : (v : List ℕ) (bits : ℕ) → bits ≡ mask_l (map (leb 128) v) → (eqb bits 0 ≡ true) ↔ IsAscii v
+ascii-bits v bits is = (
+  λ e. IsAscii-from_all v (high-none v (sym is ∙ eqb-true _ 0 e)),
+  λ h. eq-eqb _ 0 (is ∙ none-high v (All-from_ascii v h)),
+)
 
 -- ---- blocks
 

@@ -7,7 +7,7 @@ use Rattle.properties_format.specs.Text.{backslash, carriage_return, is_line_end
 use Rattle.properties_text.specs.Escaping.{holds_backslash}
 use Rattle.java_properties.specs.declared.lines.search.LineEnd.{LineEnd}
 use Rattle.java_properties.specs.declared.lines.plain.Front.{Front}
-use Rattle.java_properties.specs.declared.lines.plain.Front.TheVariants.{Line, Backslash, Unknown}
+use Rattle.java_properties.specs.declared.lines.plain.Front.TheVariants.{Line, Backslash, PastAscii, Unknown}
 
 -- a byte after which a line isn't plain, or is at its end
 abbrev pub ends_plain : ℕ → Bool
@@ -24,8 +24,14 @@ pub record IsPlainLine (bytes : List ℕ) (end : LineEnd) : Type 0 where
   pub first : IsFirst (Passes is_line_end bytes) 0 (length bytes) (Some end.at)
   pub is_cr : end.is_cr ≡ (get_or bytes end.at 0 == carriage_return)
 
+-- what tells of no line
+abbrev pub SaysNothing : Front → Type 0
+SaysNothing (Line end) = ⊥
+SaysNothing Backslash = Unit {0}
+SaysNothing PastAscii = Unit {0}
+SaysNothing Unknown = Unit {0}
+
 -- Of other bytes nothing is said.
 abbrev pub IsPlainFront : List ℕ → Front → Type 0
 IsPlainFront bytes (Line end) = IsPlainLine bytes end
-IsPlainFront bytes Backslash = Unit {0}
-IsPlainFront bytes Unknown = Unit {0}
+IsPlainFront bytes other = SaysNothing other

@@ -79,7 +79,7 @@ impl LineJoiner {
     /// Comes to the next logical line where it is plain: it is held with its end, its bytes are its text, and they hold
     /// no backslash. It returns its number, reads nothing and takes no memory. `None` leaves all as it was, and says
     /// nothing of what comes.
-    #[inline]
+    #[inline(always)]
     pub fn next_plain(&mut self) -> Option<usize>
         ensures joins { JoinsPlain self.old result self.new }
         ensures nearer { OnSome result (lines_left self.new.state < lines_left self.old.state) }
@@ -91,7 +91,9 @@ impl LineJoiner {
         match plain_front(self.finder.held_from(start)) {
             Front::Line(end) => Some(self.take_plain(HeldLine { start, end })),
             Front::Backslash => None,
-            Front::Unknown => self.next_text(),
+            // Where each character is one byte, none past ASCII is its own text.
+            Front::PastAscii if self.finder.encoding() == Encoding::WINDOWS_1252 => None,
+            Front::PastAscii | Front::Unknown => self.next_text(),
         }
     }
 

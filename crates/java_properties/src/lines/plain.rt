@@ -1,11 +1,11 @@
 // Plain lines at the front of the bytes that are held, sixteen bytes at once.
 
-ghost use Rattle.std.specs.Prelude.{◌≡◌, ◌↔◌, ◌<◌, true, map, take, length};
+ghost use Rattle.std.specs.Prelude.{◌≡◌, ◌↔◌, ◌<◌, true, nat_le, map, take, length};
 ghost use Rattle.std.specs.Str.{IsAscii};
 ghost use Rattle.std.specs.Simd.Lanes.{mask_l};
 ghost use Rattle.memchr.specs.Find.{Nowhere, Passes};
 ghost use Rattle.properties_format.specs.Text.{is_line_end};
-ghost use Rattle.java_properties.specs.PlainLines.{ends_plain, IsPlain, IsPlainFront};
+ghost use Rattle.java_properties.specs.PlainLines.{ends_plain, IsPlain, IsPlainFront, SaysNothing};
 
 use crate::lines::search::LineEnd;
 use properties_text::characters::is_line_end;
@@ -18,6 +18,8 @@ pub enum Front {
     Line(LineEnd),
     /// A backslash, before a line end and before anything past ASCII.
     Backslash,
+    /// A byte past ASCII, before a line end and before a backslash.
+    PastAscii,
     /// What isn't told by blocks of sixteen bytes of ASCII.
     Unknown,
 }
@@ -26,7 +28,7 @@ pub enum Front {
 static ENDS: [u8; 16] = [1, 0, 0, 0, 0, 0, 0, 0, 0, 0, b'\n', 0, b'\\', b'\r', 0, 0];
 
 /// The plain line that the bytes begin with, if there is one. Only what is said of a line is promised.
-#[inline]
+#[inline(always)]
 pub fn plain_front(bytes: &[u8]) -> Front
     ensures { IsPlainFront bytes.now result }
 {
@@ -34,7 +36,7 @@ pub fn plain_front(bytes: &[u8]) -> Front
     while bytes.len() - at >= 16 {
         let v = u8x16::from_slice(&bytes[at..]);
         if !is_ascii(v) {
-            break;
+            return past_ascii(v);
         }
         let first = ends_plain_bits(v).trailing_zeros() as usize;
         if first < 16 {
@@ -60,11 +62,33 @@ fn line_at(bytes: &[u8], at: usize) -> Front
     Front::Line(LineEnd { at, is_cr })
 }
 
+// What stands first in a block that isn't ASCII alone. It says nothing of a line.
+#[inline(always)]
+fn past_ascii(v: u8x16) -> Front
+    ensures { SaysNothing result }
+{
+    let end = ends_plain_bits(v).trailing_zeros();
+    let past = past_ascii_bits(v).trailing_zeros();
+    if past < end {
+        Front::PastAscii
+    } else {
+        Front::Unknown
+    }
+}
+
 #[inline(always)]
 fn is_ascii(v: u8x16) -> bool
     ensures { (result ≡ true) ↔ IsAscii v }
 {
-    v.simd_ge(u8x16::splat(0x80)).to_bitmask() == 0
+    past_ascii_bits(v) == 0
+}
+
+// Bit i is set where byte i is past ASCII.
+#[inline(always)]
+fn past_ascii_bits(v: u8x16) -> u64
+    ensures { result ≡ mask_l (map (nat_le 0x80) v) }
+{
+    v.simd_ge(u8x16::splat(0x80)).to_bitmask()
 }
 
 // Bit i is set where byte i is a CR, an LF or a backslash.

@@ -5,7 +5,7 @@ use super::*;
 fn plain_line(bytes: &[u8]) -> Option<LineEnd> {
     match plain_front(bytes) {
         Front::Line(end) => Some(end),
-        Front::Backslash | Front::Unknown => None,
+        Front::Backslash | Front::PastAscii | Front::Unknown => None,
     }
 }
 
