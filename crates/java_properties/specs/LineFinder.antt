@@ -147,7 +147,7 @@ pub record PassesFirst (s : ReaderState) (count : ℕ) : Type 0 where
   pub within : count ≤ length s.held
   pub alike : IsAlike s (after_passed s (drop count s.held))
 
--- The next line starts after so many bytes, and there is a number for it.
+-- The reading goes on in an encoding that is decided, the next line starts after so many bytes, and there is a number for it.
 pub record IsLineStart (s : ReaderState) (start : ℕ) : Type 0 where
   pub going : s.is_done ≡ false
   pub decided : s.is_decided ≡ true

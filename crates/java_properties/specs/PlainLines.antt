@@ -1,4 +1,4 @@
--- Lines whose bytes are their text, without a backslash.
+-- Lines of ASCII without a backslash, at the front of some bytes.
 use Rattle.std.specs.Prelude.{◌≡◌, ℕ, Bool, false, ◌||◌, ◌==◌, List, take, length, get_or}
 use Rattle.std.specs.Prelude.{Some}
 use Rattle.std.specs.Str.{IsAscii}
@@ -9,7 +9,7 @@ use Rattle.java_properties.specs.declared.lines.search.LineEnd.{LineEnd}
 use Rattle.java_properties.specs.declared.lines.plain.Front.{Front}
 use Rattle.java_properties.specs.declared.lines.plain.Front.TheVariants.{Line, Backslash, PastAscii, Unknown}
 
--- a byte after which a line isn't plain, or is at its end
+-- a byte that ends a line, or a backslash
 abbrev pub ends_plain : ℕ → Bool
 ends_plain b = is_line_end b || b == backslash
 

@@ -6,7 +6,7 @@ use Rattle.std.specs.Char.{encode_utf8}
 abbrev pub is_past_ascii : ℕ → Bool
 is_past_ascii c = nat_le 0x80 c
 
--- the first of them
+-- the first of them, where there are two
 abbrev pub lead_byte : ℕ → ℕ
 lead_byte c = if nat_lt c 0xc0 then 0xc2 else 0xc3
 
@@ -14,7 +14,7 @@ lead_byte c = if nat_lt c 0xc0 then 0xc2 else 0xc3
 abbrev pub last_byte : ℕ → ℕ
 last_byte c = if nat_lt c 0xc0 then c else c - 0x40
 
--- A text begins with a character that has two bytes, and is no control character.
+-- A text begins with this character, which is one from U+00A0 to U+00FF.
 pub record IsLatin1Front (text : List ℕ) (c : ℕ) : Type 0 where
   pub long : 2 ≤ length text
   pub least : 0xa0 ≤ c

@@ -1,6 +1,6 @@
 //! Texts as they are printed.
 
-ghost use Rattle.std.specs.Prelude.{◌≡◌, true, ◌++◌, ◌∷◌, ◌<◌, ◌||◌, not, nat_lt, [], is_some, unwrap_or, IfOk, OnOk};
+ghost use Rattle.std.specs.Prelude.{◌≡◌, true, ◌++◌, ◌∷◌, ◌<◌, ◌||◌, not, nat_lt, [], is_some, unwrap_or, IfOk, OnOk, OnErr};
 ghost use Rattle.std.specs.Char.{digit_char};
 ghost use Rattle.std.specs.Str.{chars};
 ghost use Rattle.properties_format.specs.Text.{backslash};
@@ -105,6 +105,7 @@ fn print_key_or_value(
     }
 }
 
+// By its bytes, where all are ASCII. It stands apart, so that the way of UTF-8 stays short.
 #[inline(never)]
 fn print_ascii_only(
     line: &mut LineBuffer,
@@ -119,6 +120,7 @@ fn print_ascii_only(
     print_characters(line, repertoire, Place::KeyOrValue, text)
 }
 
+// The same where windows-1252 is printed.
 #[inline(never)]
 fn print_windows_1252(line: &mut LineBuffer, text: &str) -> Result<(), AllocError>
     ensures { let bytes = text_bytes all_of_windows_1252 KeyOrValue (chars text.now) in
@@ -183,9 +185,10 @@ pub fn print_key(
     print_text(line, repertoire, Place::KeyOrValue, key)
 }
 
-/// Appends a text as it is, in UTF-8.
+/// Appends a text as it is, in UTF-8, or nothing where memory runs out.
 pub fn print_raw(line: &mut LineBuffer, text: &str) -> Result<(), AllocError>
-    ensures { AppendsOnOk line.old text.now result line.new }
+    ensures appended { AppendsOnOk line.old text.now result line.new }
+    ensures unchanged { OnErr result (line.new ≡ line.old) }
 {
     match text.as_bytes() {
         // What stands between keys and values, and what ends lines, is mostly one byte.

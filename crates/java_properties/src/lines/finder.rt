@@ -85,12 +85,15 @@ impl LineFinder {
         self.seeker.peek_in_bytes(self.taken)
     }
 
-    // Finds the next line where it is held, whatever the units are. It stands apart, so that the search where units are
-    // bytes stays short.
+    // Finds the next line where it is held and units aren't bytes: of those `peek` has said the same. It stands apart, so that
+    // the search where units are bytes stays short.
     #[inline(never)]
     fn find_held(&mut self) -> Option<usize>
         ensures { FindsHeld self.old result self.new }
     {
+        if unit_size(self.seeker.encoding()) == 1 {
+            return None;
+        }
         let line = self.seeker.peek(self.taken)?;
         Some(self.take_line(line))
     }

@@ -111,7 +111,7 @@ impl LineJoiner {
         Some(self.take_plain(line))
     }
 
-    // Takes a line that is held, whose bytes are its text.
+    // Takes a line that is held, whose bytes are its text and hold no backslash.
     #[inline]
     fn take_plain(&mut self, line: HeldLine) -> usize
         requires held { IsHeldLine self.old.state line }

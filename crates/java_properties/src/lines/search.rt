@@ -13,7 +13,7 @@ use memchr::memchr2;
 use properties_text::encoding::Encoding;
 use std::simd::prelude::*;
 
-// How far a line end is near. Past that, a search by larger steps pays.
+// Up to how many bytes away a line end is sought here. Past that, a search by larger steps pays.
 const NEAR: usize = 128;
 
 // The line end with these low four bits, or else a byte with other low bits.
@@ -89,7 +89,8 @@ fn find_in_units(encoding: Encoding, bytes: &[u8], from: usize) -> Option<LineEn
     None
 }
 
-/// The place of the first byte like a CR or an LF, from this place on. Where it is near, it is found without a call.
+/// The place of the first byte like a CR or an LF, from this place on. Where it is near, and not among the last bytes, it is
+/// found without a call.
 #[inline]
 pub fn find_end_byte(bytes: &[u8], from: usize) -> Option<usize>
     requires { from ≤ length bytes.now }

@@ -25,7 +25,7 @@ use std::marker::Model;
 pub struct HeldLine {
     /// Its first byte. An LF may stand before it that is of the line end before.
     pub start: usize,
-    /// Its end, which stands after so many bytes of the line.
+    /// Its end. Its place is counted from the line's first byte.
     pub end: LineEnd,
 }
 

@@ -1,4 +1,4 @@
-// Bytes of ASCII, which most encodings share.
+// Bytes of ASCII, copied by vectors.
 
 ghost use Rattle.std.specs.Prelude.{◌≡◌, ◌+◌, ◌<◌, ◌≤◌, ◌++◌, length, take};
 ghost use Rattle.std.specs.List.{AllByRecursion};
@@ -6,7 +6,7 @@ ghost use Rattle.std.specs.List.{AllByRecursion};
 use std::simd::prelude::*;
 
 /// Copies bytes at the front from this place on, as far as they are ASCII, sixteen at most, and returns how many those are.
-/// Where fewer are left it copies eight, four or one.
+/// Where fewer are left, or room for fewer, it copies eight, four or one.
 #[inline(always)]
 pub fn copy_front(run: &mut [u8], at: usize, bytes: &[u8]) -> usize
     requires room { at < length run.old }

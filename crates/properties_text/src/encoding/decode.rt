@@ -1,6 +1,6 @@
 //! Bytes to characters.
 
-ghost use Rattle.std.specs.Prelude.{◌≡◌, OnOk, ◌≤◌, ◌++◌, ◌↔◌, length, IfOk, IfSome, IsSome};
+ghost use Rattle.std.specs.Prelude.{◌≡◌, OnOk, OnErr, ◌≤◌, ◌++◌, ◌↔◌, length, IfOk, IfSome, IsSome};
 ghost use Rattle.std.specs.Str.{chars};
 ghost use Rattle.std.specs.String.{string_bytes};
 ghost use Rattle.std.specs.Cow.{cow_str_bytes};
@@ -80,10 +80,11 @@ pub fn push_decoded(text: &mut String, encoding: Encoding, bytes: &[u8]) -> Resu
     }
 }
 
-/// Appends a text.
+/// Appends a text, or nothing where memory runs out.
 pub fn push_text(text: &mut String, more: &str) -> Result<(), AllocError>
-    ensures { OnOk result
+    ensures appended { OnOk result
         (chars (string_bytes text.new) ≡ chars (string_bytes text.old) ++ chars more.now) }
+    ensures unchanged { OnErr result (string_bytes text.new ≡ string_bytes text.old) }
 {
     // Not even a call for nothing: in most encodings no text stands as it is.
     if more.is_empty() {

@@ -21,7 +21,8 @@ pub fn table_bits(v: u8x16) -> u64
         .to_bitmask()
 }
 
-/// Writes the first `kept` characters in UTF-8 from this place on, and returns the place after them.
+/// Writes the first `kept` characters in UTF-8 from this place on, and returns the place after them. Up to 32 bytes may be
+/// written over.
 #[inline(always)]
 pub fn put_16(run: &mut [u8], at: usize, v: u8x16, kept: usize) -> usize
     requires room { at + 32 ≤ length run.old }
@@ -49,7 +50,7 @@ fn is_ascii(v: u8x16) -> bool
     v.simd_ge(u8x16::splat(0x80)).to_bitmask() == 0
 }
 
-/// The same of eight characters.
+/// The same of eight characters, and up to 16 bytes.
 #[inline(always)]
 pub fn put_8(run: &mut [u8], at: usize, v: u8x8, kept: usize) -> usize
     requires room { at + 16 ≤ length run.old }

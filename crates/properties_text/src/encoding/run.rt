@@ -43,7 +43,7 @@ pub fn decode_run<'a>(run: &mut [u8], encoding: Encoding, bytes: &'a [u8]) -> De
     }
 }
 
-// By blocks of sixteen, and what is left of them as other encodings.
+// By blocks of sixteen, and what is fewer in the same way as other encodings.
 #[inline(always)]
 fn decode_windows_1252<'a>(run: &mut [u8], bytes: &'a [u8]) -> Decoded<'a>
     requires room { 4 ≤ length run.old }
@@ -56,6 +56,7 @@ fn decode_windows_1252<'a>(run: &mut [u8], bytes: &'a [u8]) -> Decoded<'a>
     ensures shorter { 0 < length bytes.now → length result.rest.now < length bytes.now }
 {
     let front = decode_blocks(run, bytes);
+    // Where more blocks come, the next run goes on with them.
     if front.length > 0 && front.rest.len() >= 16 {
         return front;
     }

@@ -105,6 +105,6 @@ fn grow(bytes: &mut Vec<u8>, filled: usize, count: usize) -> Result<(), AllocErr
     let Some(wanted) = filled.checked_add(count) else {
         return Err(AllocError);
     };
-    // The vector's capacity doubles all the same. Only what is printed next is cleared.
+    // No more than this is cleared, though the capacity doubles.
     bytes.resize(wanted.saturating_add(ROOM), 0)
 }

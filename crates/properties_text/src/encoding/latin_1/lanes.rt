@@ -1,7 +1,7 @@
 // Where the bytes of characters of Latin-1 come from.
 
-// For each choice among eight characters, those of two bytes, their lanes, with lane 8 to 15 before each that is chosen.
-// Lane 15 fills up.
+// Row n is for eight characters, of which those at the bits of n have two bytes. For each byte of their text it has the
+// lane that the byte comes from: lane i has the last byte of character i, and lane 8 + i the first. 15 fills up.
 pub(super) static LANES: [[u8; 16]; 256] = [
     [0, 1, 2, 3, 4, 5, 6, 7, 15, 15, 15, 15, 15, 15, 15, 15],
     [8, 0, 1, 2, 3, 4, 5, 6, 7, 15, 15, 15, 15, 15, 15, 15],

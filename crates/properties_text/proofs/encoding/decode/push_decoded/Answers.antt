@@ -11,12 +11,12 @@ loop-run-init c = ap (λ v. chars v ++ characters (pieces_of (encoding_of c.args
 
 pub returns-then-is_empty : goal.returns-then-is_empty
 returns-then-is_empty c =
-    c.in_ok-push_text.ensures ∙ decoded-all _ _ _ _ _ _ c.loop-run.invariant c.text_front.ensures.text (eqb-true _ _ (sym c.is_empty.ensures ∙ c.if-is_empty.true))
+    c.in_ok-push_text.ensures.appended ∙ decoded-all _ _ _ _ _ _ c.loop-run.invariant c.text_front.ensures.text (eqb-true _ _ (sym c.is_empty.ensures ∙ c.if-is_empty.true))
 
 pub loop-run-preserved : goal.loop-run-preserved
 loop-run-preserved c =
     let run = c.decode_run-decoded in
-    let first = c.in_ok-push_text.ensures in
+    let first = c.in_ok-push_text.ensures.appended in
     let more = ap chars c.from_utf8_unchecked-more.ensures in
-    let pushed = c.in_ok-push_text-2.ensures ∙ ap₂ (λ x y. x ++ y) first more in
+    let pushed = c.in_ok-push_text-2.ensures.appended ∙ ap₂ (λ x y. x ++ y) first more in
     rw pushed (decoded-run _ _ _ _ _ _ c.loop-run.invariant c.text_front.ensures.text _ run.result.rest.now run.ensures.text)

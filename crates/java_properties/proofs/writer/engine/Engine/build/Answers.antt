@@ -15,4 +15,4 @@ returns-clause-printed c =
     let ending = line_ending-bytes (output_of engine.encoding) c.as_str.result.now engine.settings.line_ending c.as_str.utf8 text in
     on_ok_weaker c.print_raw.result
     (line-built engine (content_of c.args.content) _ _ _ _ c.clear.ensures c.in_ok-print_content.ensures.printed ending)
-    c.print_raw.ensures
+    c.print_raw.ensures.appended

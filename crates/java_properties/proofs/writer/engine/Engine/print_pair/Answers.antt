@@ -11,5 +11,5 @@ returns-clause-printed c =
     let keyed = rw c.repertoire-repertoire.ensures at c.in_ok-print_key.ensures in
     let valued = rw c.repertoire-repertoire.ensures at c.print_text.ensures in
     on_ok_weaker c.print_text.result
-    (pair-printed c.args.self.now (chars c.args.key.now) (chars c.args.value.now) _ _ _ _ _ keyed c.in_ok-print_raw.ensures raw)
+    (pair-printed c.args.self.now (chars c.args.key.now) (chars c.args.value.now) _ _ _ _ _ keyed c.in_ok-print_raw.ensures.appended raw)
     valued
