@@ -39,17 +39,17 @@ joins-after {R} reader from to old new s text answer h e k =
     by-answer (Ok done) h = h
     by-answer (Err error) h = inr h
 
--- a line that was held, and is its own text
-pub takes-plain : (s : ReaderState) (number : ℕ) (f : Finder) → TakesHeld s number f → characters (pieces_of f.state.encoding f.line) ≡ chars f.line
-    → holds_backslash (chars f.line) ≡ false → TakesPlain s number (record { state = f.state; line = f.line })
-takes-plain s number f h same plain =
+-- a line that was held, and the text that it is
+pub takes-plain : (s : ReaderState) (number : ℕ) (f : Finder) (line : List ℕ) → TakesHeld s number f → line_text f ≡ chars line
+    → holds_backslash (chars line) ≡ false → TakesPlain s number (record { state = f.state; line = line })
+takes-plain s number f line h same plain =
     let P : List ℕ → Type 0 = λ v. ReadsLines s [] (record { number = number; text = v } ∷ []) f.state in
     record { live = h.live; numbered = h.numbered; reads = subst P same h.reads; going = h.going; counted = h.counted; plain = plain }
 
 -- none came
-pub not-plain : {old new : Joiner} {answer : Option ℕ} → JoinsPlain old answer new → ((number : ℕ) → answer ≡ Some number → ⊥) → new ≡ old
-not-plain {answer = Some number} h k = absurd (k number refl)
-not-plain {answer = None} h k = h
+pub not-plain : (old new : Joiner) {answer : Option ℕ} → JoinsPlain old answer new → ((number : ℕ) → answer ≡ Some number → ⊥) → new.state ≡ old.state
+not-plain old new {answer = Some number} h k = absurd (k number refl)
+not-plain old new {answer = None} h k = h
 
 -- ---- where no line comes
 

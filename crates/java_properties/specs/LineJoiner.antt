@@ -51,7 +51,7 @@ pub record IsTextLine (s : ReaderState) (bytes : List ℕ) : Type 0 where
   pub text : IsText s.encoding bytes
   pub unescaped : holds_backslash (chars bytes) ≡ false
 
--- A natural line that was held came as it stands, and holds no backslash.
+-- A natural line that was held came, and holds no backslash.
 pub record TakesPlain (old : ReaderState) (number : ℕ) (new : Joiner) : Type 0 where
   pub live : old.is_done ≡ false
   pub numbered : number ≡ old.passed + 1
@@ -60,9 +60,9 @@ pub record TakesPlain (old : ReaderState) (number : ℕ) (new : Joiner) : Type 0
   pub counted : new.state.passed ≡ number
   pub plain : holds_backslash (chars new.line) ≡ false
 
--- What coming to a plain line does.
+-- What coming to a plain line does. Where none comes, the line that came last may be lost.
 abbrev pub JoinsPlain : Joiner → Option ℕ → Joiner → Type 0
-JoinsPlain old None new = new ≡ old
+JoinsPlain old None new = new.state ≡ old.state
 JoinsPlain old (Some number) new = TakesPlain old.state number new
 
 -- the text of the line that was found, decoded

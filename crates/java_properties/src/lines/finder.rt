@@ -76,26 +76,12 @@ impl LineFinder {
         self.seeker.count_from(passed);
     }
 
-    /// The next line, where it is held with its end and units are bytes. Nothing is read, and `None` says nothing of what
-    /// comes.
+    /// The next line, where it is held with its end. Nothing is read, and `None` says nothing of what comes.
     #[inline]
     pub fn peek(&self) -> Option<HeldLine>
         ensures { IfSome result (IsHeldLine self.now.state) }
     {
-        self.seeker.peek_in_bytes(self.taken)
-    }
-
-    // Finds the next line where it is held and units aren't bytes: of those `peek` has said the same. It stands apart, so that
-    // the search where units are bytes stays short.
-    #[inline(never)]
-    fn find_held(&mut self) -> Option<usize>
-        ensures { FindsHeld self.old result self.new }
-    {
-        if unit_size(self.seeker.encoding()) == 1 {
-            return None;
-        }
-        let line = self.seeker.peek(self.taken)?;
-        Some(self.take_line(line))
+        self.seeker.peek(self.taken)
     }
 
     /// Where the next line starts among the bytes that are held, if it may be held whole. `None` says nothing of what
@@ -157,9 +143,6 @@ impl LineFinder {
     {
         if let Some(line) = self.peek() {
             return Some(Ok(self.take_line(line)));
-        }
-        if let Some(number) = self.find_held() {
-            return Some(Ok(number));
         }
         transpose(self.seek_line(reader))
     }

@@ -18,6 +18,7 @@ use crate::lines::plain::{Front, plain_front};
 use crate::lines::search::unit_size;
 use crate::lines::seeker::HeldLine;
 use counted_io::CountedRead;
+use memchr::memchr;
 use properties_text::encoding::Encoding;
 use properties_text::encoding::decode::{as_text, decode_line, push_decoded, push_text};
 use properties_text::escape::has_backslash;
@@ -76,23 +77,20 @@ impl LineJoiner {
         self.finder.end();
     }
 
-    /// Comes to the next logical line where it is plain: it is held with its end, its bytes are its text, and they hold
-    /// no backslash. It returns its number, reads nothing and takes no memory. `None` leaves all as it was, and says
-    /// nothing of what comes.
+    /// Comes to the next logical line where it is plain: it is held with its end, and holds no backslash. It returns its
+    /// number, and reads nothing. `None` says nothing of what comes, but the line that came last may be lost.
     #[inline(always)]
     pub fn next_plain(&mut self) -> Option<usize>
         ensures joins { JoinsPlain self.old result self.new }
         ensures nearer { OnSome result (lines_left self.new.state < lines_left self.old.state) }
     {
         if unit_size(self.finder.encoding()) != 1 {
-            return None;
+            return self.next_text();
         }
         let start = self.finder.peek_start()?;
         match plain_front(self.finder.held_from(start)) {
             Front::Line(end) => Some(self.take_plain(HeldLine { start, end })),
             Front::Backslash => None,
-            // Where each character is one byte, none past ASCII is its own text.
-            Front::PastAscii if self.finder.encoding() == Encoding::WINDOWS_1252 => None,
             Front::PastAscii | Front::Unknown => self.next_text(),
         }
     }
@@ -104,11 +102,36 @@ impl LineJoiner {
         ensures nearer { OnSome result (lines_left self.new.state < lines_left self.old.state) }
     {
         let line = self.finder.peek()?;
-        let text = as_text(self.finder.encoding(), self.finder.peeked(line))?;
+        let Some(text) = as_text(self.finder.encoding(), self.finder.peeked(line)) else {
+            return self.next_decoded(line);
+        };
         if has_backslash(text) {
             return None;
         }
         Some(self.take_plain(line))
+    }
+
+    // Takes a line that is held, and keeps its text, unless that holds a backslash.
+    fn next_decoded(&mut self, line: HeldLine) -> Option<usize>
+        requires held { IsHeldLine self.old.state line }
+        ensures joins { JoinsPlain self.old result self.new }
+        ensures nearer { OnSome result (lines_left self.new.state < lines_left self.old.state) }
+    {
+        let encoding = self.finder.encoding();
+        let bytes = self.finder.peeked(line);
+        // Not even decoded, where there may be one.
+        if memchr(b'\\', bytes).is_some() {
+            return None;
+        }
+        self.text.clear();
+        let Ok(()) = push_decoded(&mut self.text, encoding, bytes) else {
+            return None;
+        };
+        if has_backslash(self.text.as_str()) {
+            return None;
+        }
+        self.is_kept = true;
+        Some(self.finder.take_line(line))
     }
 
     // Takes a line that is held, whose bytes are its text and hold no backslash.

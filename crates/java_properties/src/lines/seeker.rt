@@ -13,7 +13,7 @@ ghost use Rattle.java_properties.specs.LineSearch.{unit_size};
 ghost use Rattle.java_properties.specs.LineFinder.{PassesFeed, SkipsFeed, Settles, SettlesLast, IsReady, Looks, Seeks, IsHeldLine, IsLineStart, PassesFirst};
 
 use crate::input::{FillError, InputBuffer};
-use crate::lines::search::{LineEnd, find_end_byte, find_line_end, unit_size, whole_units};
+use crate::lines::search::{LineEnd, find_line_end, unit_size, whole_units};
 use counted_io::CountedRead;
 use properties_text::encoding::Encoding;
 use properties_text::encoding::byte_order_mark::{ByteOrderMark, byte_order_mark};
@@ -141,25 +141,6 @@ impl LineSeeker {
         let start = self.peek_start(taken)?;
         let end = find_line_end(self.encoding, &self.held()[taken + start..], 0)?;
         Some(HeldLine { start, end })
-    }
-
-    /// The same where units are bytes, and else `None`.
-    #[inline]
-    pub fn peek_in_bytes(&self, taken: usize) -> Option<HeldLine>
-        requires { taken ≤ length self.now.held }
-        ensures { let s = record self.now { held = drop taken self.now.held } in IfSome result (IsHeldLine s) }
-    {
-        if unit_size(self.encoding) != 1 {
-            return None;
-        }
-        let start = self.peek_start(taken)?;
-        let bytes = &self.held()[taken + start..];
-        let at = find_end_byte(bytes, 0)?;
-        let is_cr = bytes[at] == b'\r';
-        Some(HeldLine {
-            start,
-            end: LineEnd { at, is_cr },
-        })
     }
 
     /// Where the next line starts among the bytes that are held after so many, if it may be held whole. `None` says

@@ -41,7 +41,7 @@ loop-number-preserved g c =
 
 pub returns-clause-finds : goal.returns-clause-finds
 returns-clause-finds g c =
-    let same = not-plain c.next_plain.ensures.joins c.in_default.not-Some in
+    let same = not-plain c.loop-number.self-inside.lines _ c.next_plain.ensures.joins c.in_default.not-Some in
     let P : ReaderState → Type 0 = λ v. Passed (reader g.R.Read g.R.CountedRead) c.args.self.now.state c.args.reader.now c.loop-number.invariant.passed.0 v c.args.reader.now in
-    let passed = subst P (sym (ap (λ v. let w : Joiner = v in w.state) same)) c.loop-number.invariant.passed.1 in
+    let passed = subst P (sym same) c.loop-number.invariant.passed.1 in
     rw c.transpose.ensures (passed-finds (transposed c.read_item.result) c.read_item.new.self c.read_item.new.reader passed c.read_item.ensures.finds)

@@ -78,11 +78,11 @@ plain-preserved g c =
 
 pub lines-preserved : goal.lines-preserved
 lines-preserved g c =
-    let same = not-plain c.next_plain.ensures.joins c.in_default-next_plain.not-Some in
+    let same = not-plain c.plain.self-inside.lines _ c.next_plain.ensures.joins c.in_default-next_plain.not-Some in
     let P : ReaderState → Type 0 = λ v. Passed (reader g.R.Read g.R.CountedRead) c.args.self.now.state c.args.reader.now c.plain.invariant.passed.0 v c.next_line.new.reader in
-    let kept = ap (λ v. let w : Joiner = v in lines_left w.state) same in
+    let kept = ap lines_left same in
     record {
-      passed = (c.plain.invariant.passed.0, subst P (sym (ap (λ v. let w : Joiner = v in w.state) same)) c.plain.invariant.passed.1);
+      passed = (c.plain.invariant.passed.0, subst P (sym same) c.plain.invariant.passed.1);
       left = omega (arith, c.lines.invariant.left, c.plain.invariant.left, kept, c.in-Some.ensures.nearer);
       same_reader = c.next_line.ensures.same_reader ∙ c.lines.invariant.same_reader;
     }

@@ -32,4 +32,4 @@ returns-clause-takes c =
     ∙ ap chars (sym line) in
     let plain = ap (λ v. holds_backslash (chars v)) line ∙ c.requires.plain.unescaped in
     let P : ReaderState → Type 0 = λ v. TakesPlain v c.take_line-number.result (record { state = found.state; line = found.line }) in
-    subst P state (takes-plain c.self.inside.finder.state c.take_line-number.result found takes decoded plain)
+    subst P state (takes-plain c.self.inside.finder.state c.take_line-number.result found found.line takes decoded plain)
