@@ -1,8 +1,9 @@
 -- How items come of logical lines.
-use Rattle.std.proofs.Common.{◌≡◌, ℕ, true, false, List, [], ◌++◌, refl, sym, ap, ap₂, ◌∙◌, inl, inr, append_assoc}
+use Rattle.std.proofs.Common.{◌≡◌, ◌==◌, ℕ, true, false, List, [], ◌∷◌, ◌++◌, length, refl, sym, ap, ap₂, ◌∙◌, inl, inr, append_assoc, arith}
 use Rattle.std.specs.Prelude.{◌⊎◌, Option, Some, None, Result, Ok, Err}
 use Rattle.std.specs.Str.{chars}
-use Rattle.std.proofs.lemmas.Bool.{cases_Bool}
+use Rattle.std.proofs.lemmas.Bool.{cases_Bool, eqb-true}
+use Rattle.std.proofs.lemmas.Str.{chars-nil}
 use Rattle.properties_format.specs.Split as split
 use Rattle.properties_format.specs.Split.{IsSplit}
 use Rattle.properties_format.specs.Escapes.{Means}
@@ -38,6 +39,10 @@ use Rattle.java_properties.specs.declared.error.PropertiesError.{PropertiesError
 
 pub blank-item : (x : List ℕ) → IsSplit x split.blank → outcome_of x ≡ ignored
 blank-item x h = sym (outcome_of-only x ignored h)
+
+pub empty-item : (line : List ℕ) → (length line == 0) ≡ true → outcome_of (chars line) ≡ ignored
+empty-item [] h = ap outcome_of chars-nil ∙ blank-item [] tt
+empty-item (b ∷ line) h = absurd (let e = eqb-true (length (b ∷ line)) 0 h in omega (arith, e))
 
 pub comment-item : (x raw text : List ℕ) → IsSplit x (split.comment raw) → Means raw text → outcome_of x ≡ given (comment text)
 comment-item x raw text h m = sym (outcome_of-only x (given (comment text)) (record { raw = raw; split = h; means = m }))

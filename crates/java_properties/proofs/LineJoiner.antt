@@ -14,8 +14,6 @@ use Rattle.properties_format.specs.Reading.Items.{outcome_of, followed}
 use Rattle.properties_format.specs.Reading.ItemsToCome.{items_to_come, natural_to_come, last_to_come, entries_pending, entries_of_logical, logical_pending}
 use Rattle.properties_format.proofs.ItemsToCome.Entries.{joining-open, joining-closed, joining-done, pending-comment_line, pending-closed, pending-open, pending-done, items_to_come-pending}
 use Rattle.properties_format.proofs.ItemsToCome.Steps.{lines-start, lines-on, on-start, on-open, logical-comment_line, logical-closed}
-use Rattle.properties_format.specs.Pieces.{characters}
-use Rattle.properties_format.specs.Reading.Encoding.{pieces_of}
 use Rattle.properties_format.specs.Reading.ReaderSteps.{ReadsLines}
 use Rattle.java_properties.specs.Errors.{IsBareError}
 use Rattle.properties_text.specs.Escaping.{holds_backslash}

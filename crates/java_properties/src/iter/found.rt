@@ -69,6 +69,9 @@ pub(crate) fn find_plain(line_number: usize, line: &str) -> Option<Found>
     requires { holds_backslash (chars line.now) ≡ false }
     ensures { FindsPlain line.now line_number result }
 {
+    if line.is_empty() {
+        return None;
+    }
     let Some(spans) = parse_spans(line) else {
         return None;
     };

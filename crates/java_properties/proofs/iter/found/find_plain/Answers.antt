@@ -2,10 +2,13 @@ use Rattle.std.proofs.Common.{refl, subst, sym, ap, ◌∙◌}
 use Rattle.java_properties.specs.LentItems.{IsFoundIn}
 use Rattle.java_properties.specs.declared.iter.found.FoundContent.{FoundContent}
 use Rattle.java_properties.specs.declared.iter.found.FoundContent.TheVariants as found
-use Rattle.java_properties.proofs.Items.{blank-item}
+use Rattle.java_properties.proofs.Items.{blank-item, empty-item}
 use Rattle.java_properties.proofs.LentItems.{plain-comment, plain-pair}
 use Rattle.java_properties.proofs.iter.found.find_plain.Goals as goal
 use Rattle.java_properties.proofs.iter.found.find_plain.Goals.{in-Comment, in-KVPair}
+
+pub returns-then-is_empty : goal.returns-then-is_empty
+returns-then-is_empty c = empty-item c.args.line.now (sym c.is_empty.ensures ∙ c.if-is_empty.true)
 
 pub returns-in_default : goal.returns-in_default
 returns-in_default c = blank-item _ c.in_default.ensures.meets

@@ -14,8 +14,8 @@ loop-at-init c = record { within = omega arith; ascii = All-nil (λ b. b < 128);
 pub overflow_sub-bytes : goal.overflow_sub-bytes
 overflow_sub-bytes c = c.loop-at.invariant.within
 
-pub line_at-requires-clause-plain : goal.line_at-requires-clause-plain
-line_at-requires-clause-plain c =
+pub line_at-requires-then-first-lt16-clause-plain : goal.line_at-requires-then-first-lt16-clause-plain
+line_at-requires-then-first-lt16-clause-plain c =
     let bytes = c.args.bytes.now in
     let at = c.loop-at.at in
     let v = take 16 (drop at bytes) in
@@ -27,8 +27,8 @@ line_at-requires-clause-plain c =
     (more-of (λ b. b < 128) bytes v at first c.loop-at.invariant.ascii refl (omega arith) (All-take (λ b. b < 128) first v told))
     (more-of (λ b. ends_plain b ≡ false) bytes v at first c.loop-at.invariant.clear refl (omega arith) clear)
 
-pub line_at-requires-clause-first : goal.line_at-requires-clause-first
-line_at-requires-clause-first c =
+pub line_at-requires-then-first-lt16-clause-first : goal.line_at-requires-then-first-lt16-clause-first
+line_at-requires-then-first-lt16-clause-first c =
     let bytes = c.args.bytes.now in
     let at = c.loop-at.at in
     let v = take 16 (drop at bytes) in
