@@ -5,6 +5,7 @@ ghost use Rattle.properties_format.specs.Groups.{without_open_backslash};
 ghost use Rattle.std.specs.Str.{IsUtf8, chars};
 ghost use Rattle.std.specs.String.{string_bytes};
 ghost use Rattle.counted_io.specs.Streams.{IsSameReader};
+ghost use Rattle.properties_format.specs.Encoding.{windows_1252};
 ghost use Rattle.properties_format.specs.ItemsToCome.{start};
 ghost use Rattle.properties_text.specs.Encoding.{encoding_of};
 ghost use Rattle.java_properties.specs.LineFinder.{lines_left, IsHeldLine};
@@ -14,7 +15,7 @@ ghost use Rattle.java_properties.specs.LineJoiner.{Joiner, Finds, OnOkKeeps, Joi
 use crate::error::PropertiesError;
 use crate::lines::finder::LineFinder;
 use crate::lines::join::{addition, is_comment_line, is_open, without_open_backslash};
-use crate::lines::plain::{Front, plain_front};
+use crate::lines::plain::plain_front;
 use crate::lines::search::unit_size;
 use crate::lines::seeker::HeldLine;
 use counted_io::CountedRead;
@@ -85,46 +86,78 @@ impl LineJoiner {
         ensures nearer { OnSome result (lines_left self.new.state < lines_left self.old.state) }
     {
         if unit_size(self.finder.encoding()) != 1 {
-            return self.next_text();
+            return self.next_of_units();
         }
         let start = self.finder.peek_start()?;
-        match plain_front(self.finder.held_from(start)) {
-            Front::Line(end) => Some(self.take_plain(HeldLine { start, end })),
-            Front::Backslash => None,
-            Front::PastAscii | Front::Unknown => self.next_text(),
+        let plain = plain_front(self.finder.held_from(start))?;
+        let line = HeldLine {
+            start,
+            end: plain.end,
+        };
+        if plain.is_ascii {
+            Some(self.take_plain(line))
+        } else {
+            self.take_past_ascii(line)
         }
     }
 
-    // The same, by a search for its end, for what is no text, and for backslashes.
+    // The same of a line past ASCII.
     #[inline(never)]
-    fn next_text(&mut self) -> Option<usize>
+    fn take_past_ascii(&mut self, line: HeldLine) -> Option<usize>
+        requires held { IsHeldLine self.old.state line }
+        requires unescaped { holds_backslash (take line.end.at (drop line.start self.old.state.held)) ≡ false }
         ensures joins { JoinsPlain self.old result self.new }
         ensures nearer { OnSome result (lines_left self.new.state < lines_left self.old.state) }
     {
-        let line = self.finder.peek()?;
-        let Some(text) = as_text(self.finder.encoding(), self.finder.peeked(line)) else {
-            return self.next_decoded(line);
-        };
-        if has_backslash(text) {
-            return None;
+        match self.finder.encoding() {
+            Encoding::WINDOWS_1252 => self.take_windows_1252(line),
+            Encoding::UTF_8 => self.take_utf_8(line),
+            // Their units aren't bytes.
+            Encoding::UTF_16LE | Encoding::UTF_16BE => None,
         }
-        Some(self.take_plain(line))
     }
 
-    // Takes a line that is held, and keeps its text, unless that holds a backslash.
-    fn next_decoded(&mut self, line: HeldLine) -> Option<usize>
+    fn take_utf_8(&mut self, line: HeldLine) -> Option<usize>
         requires held { IsHeldLine self.old.state line }
+        requires unescaped { holds_backslash (take line.end.at (drop line.start self.old.state.held)) ≡ false }
         ensures joins { JoinsPlain self.old result self.new }
         ensures nearer { OnSome result (lines_left self.new.state < lines_left self.old.state) }
     {
         let encoding = self.finder.encoding();
+        let _text = as_text(encoding, self.finder.peeked(line))?;
+        Some(self.take_plain(line))
+    }
+
+    fn take_windows_1252(&mut self, line: HeldLine) -> Option<usize>
+        requires encoding { self.old.state.encoding ≡ windows_1252 }
+        requires held { IsHeldLine self.old.state line }
+        requires unescaped { holds_backslash (take line.end.at (drop line.start self.old.state.held)) ≡ false }
+        ensures joins { JoinsPlain self.old result self.new }
+        ensures nearer { OnSome result (lines_left self.new.state < lines_left self.old.state) }
+    {
+        self.text.clear();
         let bytes = self.finder.peeked(line);
-        // Not even decoded, where there may be one.
+        let Ok(()) = push_decoded(&mut self.text, Encoding::WINDOWS_1252, bytes) else {
+            return None;
+        };
+        self.is_kept = true;
+        Some(self.finder.take_line(line))
+    }
+
+    // The same where units aren't bytes, so that the line is decoded.
+    #[inline(never)]
+    fn next_of_units(&mut self) -> Option<usize>
+        ensures joins { JoinsPlain self.old result self.new }
+        ensures nearer { OnSome result (lines_left self.new.state < lines_left self.old.state) }
+    {
+        let line = self.finder.peek()?;
+        let bytes = self.finder.peeked(line);
+        // Not even decoded, where it may hold a backslash.
         if memchr(b'\\', bytes).is_some() {
             return None;
         }
         self.text.clear();
-        let Ok(()) = push_decoded(&mut self.text, encoding, bytes) else {
+        let Ok(()) = push_decoded(&mut self.text, self.finder.encoding(), bytes) else {
             return None;
         };
         if has_backslash(self.text.as_str()) {

@@ -1,90 +1,69 @@
-// Plain lines at the front of the bytes that are held, sixteen bytes at once.
+// Lines without a backslash at the front of the bytes that are held, sixteen bytes at once.
 
-ghost use Rattle.std.specs.Prelude.{◌≡◌, ◌↔◌, ◌<◌, true, nat_le, map, take, length};
+ghost use Rattle.std.specs.Prelude.{◌≡◌, ◌<◌, true, false, nat_le, map, take, length, IfSome};
 ghost use Rattle.std.specs.Str.{IsAscii};
 ghost use Rattle.std.specs.Simd.Lanes.{mask_l};
 ghost use Rattle.memchr.specs.Find.{Nowhere, Passes};
 ghost use Rattle.properties_format.specs.Text.{is_line_end};
-ghost use Rattle.java_properties.specs.PlainLines.{ends_plain, IsPlain, IsPlainFront, SaysNothing};
+ghost use Rattle.properties_text.specs.Escaping.{holds_backslash};
+ghost use Rattle.java_properties.specs.PlainLines.{ends_plain, IsPlainLine};
 
 use crate::lines::search::LineEnd;
 use properties_text::characters::is_line_end;
 use std::simd::prelude::*;
 
-/// What stands first in some bytes.
-#[derive(Clone, Copy)]
-pub enum Front {
-    /// This line end, after characters of ASCII without a backslash.
-    Line(LineEnd),
-    /// A backslash, before a line end and before anything past ASCII.
-    Backslash,
-    /// A byte past ASCII, before a line end and before a backslash.
-    PastAscii,
-    /// What isn't told by blocks of sixteen bytes of ASCII.
-    Unknown,
+/// A line without a backslash, with which some bytes begin.
+#[derive(Clone, Copy, Debug, PartialEq, Eq)]
+pub struct PlainLine {
+    /// Its end.
+    pub end: LineEnd,
+    /// Whether all of its bytes are ASCII.
+    pub is_ascii: bool,
 }
 
 // The byte with these low four bits that ends a plain text, or else one with other low bits.
 static ENDS: [u8; 16] = [1, 0, 0, 0, 0, 0, 0, 0, 0, 0, b'\n', 0, b'\\', b'\r', 0, 0];
 
-/// The plain line that the bytes begin with, if there is one. Only what is said of a line is promised.
+/// The line that the bytes begin with, if it holds no backslash. `None` says nothing, since the last bytes aren't searched.
 #[inline(always)]
-pub fn plain_front(bytes: &[u8]) -> Front
-    ensures { IsPlainFront bytes.now result }
+pub fn plain_front(bytes: &[u8]) -> Option<PlainLine>
+    ensures { IfSome result (IsPlainLine bytes.now) }
 {
     // The processor foresees this branch, so it needn't wait for a blank line's end to go on with the next line.
     if !bytes.is_empty() && is_line_end(char::from(bytes[0])) {
-        return line_at(bytes, 0);
+        return line_at(bytes, 0, true);
     }
     let mut at = 0;
+    let mut is_ascii = true;
     while bytes.len() - at >= 16 {
         let v = u8x16::from_slice(&bytes[at..]);
-        if !is_ascii(v) {
-            return past_ascii(v);
-        }
-        let first = ends_plain_bits(v).trailing_zeros() as usize;
+        let first = ends_plain_bits(v).trailing_zeros();
+        is_ascii = is_ascii && first <= past_ascii_bits(v).trailing_zeros();
         if first < 16 {
-            return line_at(bytes, at + first);
+            return line_at(bytes, at + first as usize, is_ascii);
         }
         at += 16;
     }
-    Front::Unknown
+    None
 }
 
-// The plain line up to this place, if its end stands there.
+// The line up to this place, if its end stands there.
 #[inline(always)]
-fn line_at(bytes: &[u8], at: usize) -> Front
+fn line_at(bytes: &[u8], at: usize, is_ascii: bool) -> Option<PlainLine>
     requires within { at < length bytes.now }
-    requires plain { IsPlain (take at bytes.now) }
+    requires unescaped { holds_backslash (take at bytes.now) ≡ false }
     requires first { Nowhere (Passes is_line_end bytes.now) 0 at }
-    ensures { IsPlainFront bytes.now result }
+    requires ascii { is_ascii ≡ true → IsAscii (take at bytes.now) }
+    ensures { IfSome result (IsPlainLine bytes.now) }
 {
     if !is_line_end(char::from(bytes[at])) {
-        return Front::Backslash;
+        return None;
     }
     let is_cr = bytes[at] == b'\r';
-    Front::Line(LineEnd { at, is_cr })
-}
-
-// What stands first in a block that isn't ASCII alone. It says nothing of a line.
-#[inline(always)]
-fn past_ascii(v: u8x16) -> Front
-    ensures { SaysNothing result }
-{
-    let end = ends_plain_bits(v).trailing_zeros();
-    let past = past_ascii_bits(v).trailing_zeros();
-    if past < end {
-        Front::PastAscii
-    } else {
-        Front::Unknown
-    }
-}
-
-#[inline(always)]
-fn is_ascii(v: u8x16) -> bool
-    ensures { (result ≡ true) ↔ IsAscii v }
-{
-    past_ascii_bits(v) == 0
+    Some(PlainLine {
+        end: LineEnd { at, is_cr },
+        is_ascii,
+    })
 }
 
 // Bit i is set where byte i is past ASCII.

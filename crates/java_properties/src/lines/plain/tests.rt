@@ -1,13 +1,6 @@
-// Plain lines at the front of bytes that are held.
+// Lines without a backslash at the front of bytes that are held.
 
 use super::*;
-
-fn plain_line(bytes: &[u8]) -> Option<LineEnd> {
-    match plain_front(bytes) {
-        Front::Line(end) => Some(end),
-        Front::Backslash | Front::PastAscii | Front::Unknown => None,
-    }
-}
 
 #[test]
 fn finds_the_end_of_a_plain_line_wherever_it_stands(rt: HostRuntime) {
@@ -15,20 +8,30 @@ fn finds_the_end_of_a_plain_line_wherever_it_stands(rt: HostRuntime) {
         let mut bytes = [b'a'; 64];
         bytes[at] = b'\n';
         bytes[at + 1] = b'\r';
-        assert_eq!(rt; plain_line(&bytes), Some(LineEnd { at, is_cr: false }));
+        let end = LineEnd { at, is_cr: false };
+        let is_ascii = true;
+        assert_eq!(rt; plain_front(&bytes), Some(PlainLine { end, is_ascii }));
         bytes[at] = b'\r';
-        assert_eq!(rt; plain_line(&bytes), Some(LineEnd { at, is_cr: true }));
+        let end = LineEnd { at, is_cr: true };
+        assert_eq!(rt; plain_front(&bytes), Some(PlainLine { end, is_ascii }));
     }
 }
 
 #[test]
-fn finds_no_plain_line_with_a_backslash_or_past_ascii(rt: HostRuntime) {
-    for at in 0..20 {
+fn tells_lines_past_ascii_and_finds_none_with_a_backslash(rt: HostRuntime) {
+    for at in 0..40 {
         let mut bytes = [b'a'; 64];
         bytes[20] = b'\n';
-        bytes[at] = b'\\';
-        assert_eq!(rt; plain_line(&bytes), None);
         bytes[at] = 0x80;
-        assert_eq!(rt; plain_line(&bytes), None);
+        let end = LineEnd {
+            at: 20,
+            is_cr: false,
+        };
+        let is_ascii = at > 20;
+        if at != 20 {
+            assert_eq!(rt; plain_front(&bytes), Some(PlainLine { end, is_ascii }));
+        }
+        bytes[at] = b'\\';
+        assert_eq!(rt; plain_front(&bytes).is_none(), at <= 20);
     }
 }

@@ -1,4 +1,4 @@
-use Rattle.std.proofs.Common.{◌≡◌, ◌<◌, ◌≤◌, ◌-◌, false, length, take}
+use Rattle.std.proofs.Common.{◌≡◌, ◌<◌, ◌≤◌, ◌-◌, true, false, length, take}
 use Rattle.std.specs.List.{All}
 use Rattle.java_properties.specs.PlainLines.{ends_plain}
 use Rattle.java_properties.proofs.lines.plain.plain_front.Given as goal
@@ -6,7 +6,7 @@ use Rattle.java_properties.proofs.lines.plain.plain_front.Given as goal
 abbrev pub invariant-loop-at : goal.invariant-loop-at
 invariant-loop-at l = record {
   within : l.at ≤ length l.bytes;
-  ascii : All (λ b. b < 128) (take l.at l.bytes);
+  ascii : l.is_ascii ≡ true → All (λ b. b < 128) (take l.at l.bytes);
   clear : All (λ b. ends_plain b ≡ false) (take l.at l.bytes);
 }
 

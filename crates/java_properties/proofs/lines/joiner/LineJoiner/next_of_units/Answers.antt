@@ -8,7 +8,7 @@ use Rattle.properties_text.specs.Encoding.{encoding_of}
 use Rattle.properties_text.specs.Escaping.{holds_backslash}
 use Rattle.java_properties.specs.LineJoiner.{Joiner, TakesPlain, line_text}
 use Rattle.java_properties.proofs.LineJoiner.{takes-plain}
-use Rattle.java_properties.proofs.lines.joiner.LineJoiner.next_decoded.Goals as goal
+use Rattle.java_properties.proofs.lines.joiner.LineJoiner.next_of_units.Goals as goal
 
 pub returns-clause-joins : goal.returns-clause-joins
 returns-clause-joins c =
@@ -17,11 +17,11 @@ returns-clause-joins c =
     let found = c.take_line.new.self in
     let takes = c.take_line.ensures.takes in
     let line = string_bytes c.push_decoded.new.text in
-    let encoding = c.encoding-encoding.ensures ∙ sym takes.encoding in
+    let encoding = c.encoding.ensures ∙ sym takes.encoding in
     let bytes = c.peeked-bytes.ensures ∙ sym c.take_line.ensures.line in
     let decoded : chars line ≡ line_text found =
     c.in-Ok.ensures
-    ∙ ap (λ v. v ++ decoded_line (encoding_of c.encoding-encoding.result) c.peeked-bytes.result.now) (ap chars c.clear.ensures.bytes ∙ chars-nil)
+    ∙ ap (λ v. v ++ decoded_line (encoding_of c.encoding.result) c.peeked-bytes.result.now) (ap chars c.clear.ensures.bytes ∙ chars-nil)
     ∙ ap₂ decoded_line encoding bytes in
     let plain = ap (λ v. holds_backslash (chars v)) (sym c.as_str.ensures.value) ∙ sym c.has_backslash.ensures ∙ c.if-has_backslash.false in
     let P : ReaderState → Type 0 = λ v. TakesPlain v c.take_line.result (record { state = found.state; line = line }) in
