@@ -16,7 +16,7 @@ use crate::error::PropertiesError;
 use crate::lines::finder::LineFinder;
 use crate::lines::join::{addition, is_comment_line, is_open, without_open_backslash};
 use crate::lines::plain::plain_front;
-use crate::lines::search::unit_size;
+use crate::lines::search::{LineEnd, unit_size};
 use crate::lines::seeker::HeldLine;
 use counted_io::CountedRead;
 use memchr::memchr;
@@ -90,25 +90,24 @@ impl LineJoiner {
         }
         let start = self.finder.peek_start()?;
         let plain = plain_front(self.finder.held_from(start))?;
-        let line = HeldLine {
-            start,
-            end: plain.end,
-        };
+        let end = plain.end;
         if plain.is_ascii {
-            Some(self.take_plain(line))
+            Some(self.take_plain(HeldLine { start, end }))
         } else {
-            self.take_past_ascii(line)
+            self.take_past_ascii(start, end.at, end.is_cr)
         }
     }
 
-    // The same of a line past ASCII.
+    // The same of a line past ASCII, which stands there. It is passed in parts, so that the caller needn't put it into memory.
     #[inline(never)]
-    fn take_past_ascii(&mut self, line: HeldLine) -> Option<usize>
-        requires held { IsHeldLine self.old.state line }
-        requires unescaped { holds_backslash (take line.end.at (drop line.start self.old.state.held)) ≡ false }
+    fn take_past_ascii(&mut self, start: usize, at: usize, is_cr: bool) -> Option<usize>
+        requires held { IsHeldLine self.old.state (record { start = start; end = record { at = at; is_cr = is_cr } }) }
+        requires unescaped { holds_backslash (take at (drop start self.old.state.held)) ≡ false }
         ensures joins { JoinsPlain self.old result self.new }
         ensures nearer { OnSome result (lines_left self.new.state < lines_left self.old.state) }
     {
+        let end = LineEnd { at, is_cr };
+        let line = HeldLine { start, end };
         match self.finder.encoding() {
             Encoding::WINDOWS_1252 => self.take_windows_1252(line),
             Encoding::UTF_8 => self.take_utf_8(line),
