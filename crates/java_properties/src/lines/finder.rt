@@ -77,7 +77,7 @@ impl LineFinder {
     }
 
     /// The next line, where it is held with its end. Nothing is read, and `None` says nothing of what comes.
-    #[inline]
+    #[inline(always)]
     pub fn peek(&self) -> Option<HeldLine>
         ensures { IfSome result (IsHeldLine self.now.state) }
     {

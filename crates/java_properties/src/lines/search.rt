@@ -48,6 +48,7 @@ pub fn whole_units(encoding: Encoding, length: usize) -> usize
 }
 
 /// The first CR or LF among the units of the bytes. Those before `from` are whole units that hold none.
+#[inline(always)]
 pub fn find_line_end(encoding: Encoding, bytes: &[u8], from: usize) -> Option<LineEnd>
     requires { IsSearched (encoding_of encoding) bytes.now from }
     ensures { FindsLineEnd (encoding_of encoding) bytes.now result }
@@ -59,6 +60,7 @@ pub fn find_line_end(encoding: Encoding, bytes: &[u8], from: usize) -> Option<Li
 }
 
 // The first CR or LF where a unit is one byte.
+#[inline(always)]
 fn find_in_bytes(bytes: &[u8], from: usize) -> Option<LineEnd>
     requires within { from ≤ length bytes.now }
     requires none_before { HoldsNoLineEnd (take from bytes.now) }
@@ -70,6 +72,7 @@ fn find_in_bytes(bytes: &[u8], from: usize) -> Option<LineEnd>
 }
 
 // The first CR or LF where a unit is two bytes: a byte like one counts only in a unit whose other byte is zero.
+#[inline(never)]
 fn find_in_units(encoding: Encoding, bytes: &[u8], from: usize) -> Option<LineEnd>
     requires size { unit_size (encoding_of encoding) ≡ 2 }
     requires searched { IsSearched (encoding_of encoding) bytes.now from }

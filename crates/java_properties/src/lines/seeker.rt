@@ -134,6 +134,7 @@ impl LineSeeker {
 
     /// The next line, where the bytes that are held after so many have it with its end. Nothing is read, and `None` says
     /// nothing of what comes.
+    #[inline(always)]
     pub fn peek(&self, taken: usize) -> Option<HeldLine>
         requires { taken ≤ length self.now.held }
         ensures { let s = record self.now { held = drop taken self.now.held } in IfSome result (IsHeldLine s) }
