@@ -38,10 +38,12 @@ pub fn plain_front(bytes: &[u8]) -> Option<PlainLine>
     while bytes.len() - at >= 16 {
         let v = u8x16::from_slice(&bytes[at..]);
         let first = ends_plain_bits(v).trailing_zeros();
-        is_ascii = is_ascii && first <= past_ascii_bits(v).trailing_zeros();
+        let past = past_ascii_bits(v);
         if first < 16 {
+            is_ascii = is_ascii && first <= past.trailing_zeros();
             return line_at(bytes, at + first as usize, is_ascii);
         }
+        is_ascii = is_ascii && past == 0;
         at += 16;
     }
     None
