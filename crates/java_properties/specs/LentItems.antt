@@ -19,7 +19,7 @@ use Rattle.java_properties.specs.Errors.{IsBareError, SaysUnresolved}
 use Rattle.properties_text.specs.Escaping.{holds_backslash, IsRefused}
 use Rattle.properties_text.specs.declared.escape.UnescapeError.{UnescapeError}
 use Rattle.properties_format.specs.ItemsToCome.{ReaderState}
-use Rattle.java_properties.specs.LineJoiner.{Joiner, JoinsError}
+use Rattle.java_properties.specs.LineJoiner.{Joiner, JoinsError, JoinsNext}
 use Rattle.java_properties.specs.Line.{number_of, content_of}
 use Rattle.properties_text.specs.Parsing.{bytes_in, spanned, in_characters, IsSpan}
 use Rattle.java_properties.specs.PropertiesIter.{Reading, entry_of, IsNoItem, GivesEntry, GivesNone, GivesMalformed}
@@ -29,6 +29,8 @@ use Rattle.java_properties.specs.declared.iter.found.Found.{Found}
 use Rattle.java_properties.specs.declared.iter.found.FoundContent.{FoundContent}
 use Rattle.java_properties.specs.declared.iter.found.FoundContent.TheVariants as found
 use Rattle.java_properties.specs.declared.iter.found.FoundText.{FoundText}
+use Rattle.java_properties.specs.declared.iter.items.Came.{Came}
+use Rattle.java_properties.specs.declared.iter.items.Came.TheVariants as came
 use Rattle.java_properties.specs.declared.iter.lent.ContentRef.{ContentRef}
 use Rattle.java_properties.specs.declared.iter.lent.ContentRef.TheVariants as lent
 use Rattle.java_properties.specs.declared.iter.lent.LineRef.{LineRef}
@@ -124,11 +126,11 @@ abbrev pub FindsContent : List ℕ → ParsedSpans → Result FoundContent Unesc
 FindsContent line spans (Ok content) = (spans_of content ≡ spans) × AreTextsIn line content
 FindsContent line spans (Err e) = (number : ℕ) (error : PropertiesError) → SaysUnresolved e number error → IsNoItem number (chars line) error
 
--- What was found in a logical line, where it isn't blank.
-abbrev pub FindsIn : List ℕ → ℕ → Result (Option Found) PropertiesError → Type 0
+-- What was found in a logical line, where it isn't blank; or why its texts aren't resolved, whatever its number.
+abbrev pub FindsIn : List ℕ → ℕ → Result (Option Found) UnescapeError → Type 0
 FindsIn line number (Ok None) = outcome_of (chars line) ≡ ignored
 FindsIn line number (Ok (Some found)) = (found.line_number ≡ number) × IsFoundIn line found
-FindsIn line number (Err e) = IsNoItem number (chars line) e
+FindsIn line number (Err e) = (number : ℕ) (error : PropertiesError) → SaysUnresolved e number error → IsNoItem number (chars line) error
 
 -- the same of a line without a backslash
 abbrev pub FindsPlain : List ℕ → ℕ → Option Found → Type 0
@@ -148,6 +150,15 @@ abbrev pub FindsItem : {R : Type 0} → Reader R → ReaderState → R → Optio
 FindsItem reader old from None new to = GivesNone reader old from new.state to
 FindsItem reader old from (Some (Ok found)) new to = GivesEntry reader old from (found_entry new.line found) new.state to × IsFoundIn new.line found
 FindsItem reader old from (Some (Err e)) new to =
+    (old.is_done ≡ false) × (new.state.is_done ≡ true) × (GivesMalformed reader old from e to ⊎ JoinsError reader old from e new.state to)
+
+-- What the next logical line is, and what coming to it leaves.
+abbrev pub ComesTo : {R : Type 0} → Reader R → ReaderState → R → Option (Result Came PropertiesError) → Joiner → R → Type 0
+ComesTo reader old from None new to = (old.is_done ≡ true) × (new.state ≡ old) × (to ≡ from)
+ComesTo reader old from (Some (Ok (came.Plain number))) new to = JoinsNext reader old from number new to × (holds_backslash (chars new.line) ≡ false)
+ComesTo reader old from (Some (Ok (came.Item found))) new to = JoinsNext reader old from found.line_number new to × IsFoundIn new.line found
+ComesTo reader old from (Some (Ok came.Blank)) new to = (number : ℕ) × JoinsNext reader old from number new to × (outcome_of (chars new.line) ≡ ignored)
+ComesTo reader old from (Some (Err e)) new to =
     (old.is_done ≡ false) × (new.state.is_done ≡ true) × (GivesMalformed reader old from e to ⊎ JoinsError reader old from e new.state to)
 
 -- the same of an iterator, which keeps the reader that it was made of

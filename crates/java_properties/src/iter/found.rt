@@ -40,27 +40,22 @@ struct FoundText {
     resolved: Option<String>,
 }
 
-/// What a logical line is that begins in the line of this number, where it isn't blank.
-pub(crate) fn find_in(
+/// What a logical line is that begins in the line of this number, where it isn't blank; or why its escapes aren't resolved.
+pub(crate) fn find_escaped(
     alloc: Global,
     line_number: usize,
     line: &str,
-) -> Result<Option<Found>, PropertiesError>
+) -> Result<Option<Found>, UnescapeError>
     ensures { FindsIn line.now line_number result }
 {
-    if !has_backslash(line) {
-        return Ok(find_plain(line_number, line));
-    }
     let Some(spans) = parse_spans(line) else {
         return Ok(None);
     };
-    match find_content(alloc, line, spans) {
-        Ok(content) => Ok(Some(Found {
-            line_number,
-            content,
-        })),
-        Err(error) => Err(PropertiesError::unresolved(line_number, error)),
-    }
+    let content = find_content(alloc, line, spans)?;
+    Ok(Some(Found {
+        line_number,
+        content,
+    }))
 }
 
 /// The same of a line without a backslash, which takes no memory.

@@ -5,21 +5,32 @@ ghost use Rattle.std.specs.Str.{chars};
 ghost use Rattle.counted_io.specs.Streams.{IsSameReader};
 ghost use Rattle.properties_format.specs.ItemsToCome.{start};
 ghost use Rattle.properties_text.specs.Encoding.{encoding_of};
-ghost use Rattle.java_properties.specs.LineFinder.{lines_left, transposed};
+ghost use Rattle.java_properties.specs.LineFinder.{lines_left};
 ghost use Rattle.java_properties.specs.LineJoiner.{Joiner};
-ghost use Rattle.java_properties.specs.LentItems.{lent_entry, found_entry, BorrowsPlain, IsFoundIn, FindsItem, Owns};
+ghost use Rattle.java_properties.specs.LentItems.{lent_entry, found_entry, BorrowsPlain, IsFoundIn, FindsItem, ComesTo, Owns};
 ghost use Rattle.java_properties.specs.PropertiesIter.{GivesItem};
 
 use crate::error::PropertiesError;
-use crate::iter::found::{Found, find_in, find_plain};
+use crate::iter::found::{Found, find_escaped, find_plain};
 use crate::iter::lent::LineRef;
 use crate::line::Line;
 use crate::lines::joiner::LineJoiner;
-use crate::lines::transpose;
 use counted_io::CountedRead;
 use properties_text::encoding::Encoding;
+use properties_text::escape::has_backslash;
 use std::alloc::Global;
 use std::marker::Model;
+
+// The line that came.
+#[derive(Drop)]
+enum Came {
+    // One of this number, without a backslash.
+    Plain(usize),
+    // One that gives this item.
+    Item(Found),
+    // A blank one.
+    Blank,
+}
 
 /// What is held between two items.
 #[derive(Drop)]
@@ -54,46 +65,53 @@ impl ItemReader {
         ensures same_reader { IsSameReader R.CountedRead reader.old reader.new }
         ensures nearer { OnSome result (lines_left self.new.state < lines_left self.old.state) }
     {
-        while let Some(number) = self.lines.next_plain() {
-            if let Some(item) = find_plain(number, self.lines.line()) {
-                return Some(Ok(item));
-            }
-        }
-        transpose(self.read_item(reader))
-    }
-
-    // The same where the next line isn't plain. It stands apart, since room for its large answers is cleared at each call,
-    // and returns another type, so that no plain item is copied through that room.
-    #[inline(never)]
-    fn read_item<R: CountedRead>(
-        &mut self,
-        reader: &mut R,
-    ) -> Result<Option<Found>, PropertiesError>
-        ensures finds { let answer = transposed result in
-            FindsItem R.CountedRead self.old.state reader.old answer self.new reader.new }
-        ensures same_reader { IsSameReader R.CountedRead reader.old reader.new }
-        ensures nearer { OnSome (transposed result) (lines_left self.new.state < lines_left self.old.state) }
-    {
         'lines: loop {
-            let Some(next) = self.lines.next_line(reader) else {
-                return Ok(None);
-            };
-            let number = match next {
-                Ok(number) => number,
-                Err(error) => return Err(error),
-            };
-            match find_in(self.alloc, number, self.lines.line()) {
-                Ok(Some(item)) => return Ok(Some(item)),
-                Ok(None) => {}
-                Err(error) => {
-                    self.lines.end();
-                    return Err(error);
-                }
-            }
             'plain: while let Some(number) = self.lines.next_plain() {
                 if let Some(item) = find_plain(number, self.lines.line()) {
-                    return Ok(Some(item));
+                    return Some(Ok(item));
                 }
+            }
+            let line = match self.read_line(reader)? {
+                Ok(line) => line,
+                Err(error) => return Some(Err(error)),
+            };
+            match line {
+                Came::Plain(number) => {
+                    if let Some(item) = find_plain(number, self.lines.line()) {
+                        return Some(Ok(item));
+                    }
+                }
+                Came::Item(item) => return Some(Ok(item)),
+                Came::Blank => {}
+            }
+        }
+    }
+
+    // Comes to the next line, which may have to be read, and finds its item where it holds a backslash. It stands apart,
+    // since room for its large answers is cleared at each call.
+    #[inline(never)]
+    fn read_line<R: CountedRead>(
+        &mut self,
+        reader: &mut R,
+    ) -> Option<Result<Came, PropertiesError>>
+        ensures comes { ComesTo R.CountedRead self.old.state reader.old result self.new reader.new }
+        ensures same_reader { IsSameReader R.CountedRead reader.old reader.new }
+        ensures nearer { OnSome result (lines_left self.new.state < lines_left self.old.state) }
+    {
+        let number = match self.lines.next_line(reader)? {
+            Ok(number) => number,
+            Err(error) => return Some(Err(error)),
+        };
+        let line = self.lines.line();
+        if !has_backslash(line) {
+            return Some(Ok(Came::Plain(number)));
+        }
+        match find_escaped(self.alloc, number, line) {
+            Ok(Some(item)) => Some(Ok(Came::Item(item))),
+            Ok(None) => Some(Ok(Came::Blank)),
+            Err(error) => {
+                self.lines.end();
+                Some(Err(PropertiesError::unresolved(number, error)))
             }
         }
     }
