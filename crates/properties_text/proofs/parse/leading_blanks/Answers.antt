@@ -1,17 +1,17 @@
-use Rattle.std.proofs.Common.{sym, ap, ◌∙◌}
-use Rattle.properties_format.specs.Text.{is_blank}
-use Rattle.properties_text.proofs.Scanning.{leading-more, leading-stop, leading-all}
+use Rattle.std.proofs.Common.{sym, ◌∙◌, arith}
+use Rattle.properties_text.proofs.BlankFronts.{blank-inside, past-blank, no-blank}
 use Rattle.properties_text.proofs.parse.leading_blanks.Goals as goal
-
-pub returns-then-not-is_blank-clause-rest : goal.returns-then-not-is_blank-clause-rest
-returns-then-not-is_blank-clause-rest c =
-    let full = ap is_blank (sym c.from.ensures) ∙ sym c.is_blank.ensures ∙ c.if-not-is_blank.true in
-    sym (leading-stop c.args.text.now c.loop-at.at c.loop-at-test.true full) ∙ c.loop-at.invariant
 
 pub loop-at-preserved : goal.loop-at-preserved
 loop-at-preserved c =
-    let blank = ap is_blank (sym c.from.ensures) ∙ sym c.is_blank.ensures ∙ c.if-not-is_blank.false in
-    leading-more c.args.text.now c.loop-at.at c.loop-at-test.true blank ∙ c.loop-at.invariant
+    let text = c.args.text.now in
+    let at = c.loop-at.at in
+    let blank = sym c.is_blank_at.ensures ∙ c.loop-at-test.true in
+    record { within = omega (arith, blank-inside text at blank); rest = past-blank text at blank ∙ c.loop-at.invariant.rest }
+
+pub loop-at-smaller : goal.loop-at-smaller
+loop-at-smaller c = omega (arith, blank-inside c.args.text.now c.loop-at.at (sym c.is_blank_at.ensures ∙ c.loop-at-test.true))
 
 pub returns-clause-rest : goal.returns-clause-rest
-returns-clause-rest c = leading-all c.args.text.now c.loop-at.at c.loop-at-test.false c.loop-at.invariant
+returns-clause-rest c =
+    sym (no-blank c.args.text.now c.loop-at.at (sym c.is_blank_at.ensures ∙ c.loop-at-test.false)) ∙ c.loop-at.invariant.rest

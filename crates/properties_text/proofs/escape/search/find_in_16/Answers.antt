@@ -1,7 +1,7 @@
 use Rattle.std.proofs.Common.{arith}
 use Rattle.memchr.specs.Find.{is_byte}
 use Rattle.properties_format.specs.Text.{backslash}
-use Rattle.properties_text.proofs.BackslashSearch.{backslash_bits, no_lane, first_lane}
+use Rattle.properties_text.proofs.ByteSearch.{backslash_bits, no_lane, first_lane}
 use Rattle.properties_text.proofs.escape.search.find_in_16.Goals as goal
 
 pub returns-then-bits-eq0 : goal.returns-then-bits-eq0

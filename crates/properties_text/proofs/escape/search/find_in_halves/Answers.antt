@@ -1,7 +1,7 @@
 use Rattle.std.proofs.Common.{◌-◌, length, arith}
 use Rattle.memchr.specs.Find.{is_byte}
 use Rattle.properties_format.specs.Text.{backslash}
-use Rattle.properties_text.proofs.BackslashSearch.{none-in_block, first-in_block}
+use Rattle.properties_text.proofs.ByteSearch.{none-in_block, first-in_block}
 use Rattle.properties_text.proofs.escape.search.find_in_halves.Goals as goal
 
 pub returns-in_err-first : goal.returns-in_err-first

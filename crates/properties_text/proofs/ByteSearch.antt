@@ -48,6 +48,25 @@ first_lane test v bits few is some =
       not-false _ (prefix_len_stops (λ b. not (test b)) v 0 within),
     )
 
+-- of no bits all are zeros
+many : (bits : ℕ) → bits ≤ 0 → count_trailing_zeros 64 bits ≡ 64
+unfolding count_trailing_zeros
+many bits none = ap (count_trailing_zeros 64) (let zero : bits ≡ 0 = omega (arith, none) in zero)
+
+-- the same where the count of the bits before it tells
+pub first_below : (test : ℕ → Bool) (v : List ℕ) (n bits : ℕ) → length v ≡ n → n ≤ 16 → bits ≡ mask_l (map test v) → count_trailing_zeros 64 bits < n
+    → IsFirstByte test v (Some (count_trailing_zeros 64 bits))
+first_below test v n bits long few is low = elim (cases_lt 0 bits) [
+  | inl some ↦ first_lane test v bits (omega (arith, long, few)) is some
+  | inr none ↦ absurd (omega (arith, low, few, many bits none))
+]
+
+pub none_below : (test : ℕ → Bool) (v : List ℕ) (n bits : ℕ) → length v ≡ n → n ≤ 16 → bits ≡ mask_l (map test v) → n ≤ count_trailing_zeros 64 bits → IsFirstByte test v None
+none_below test v n bits long few is high = elim (cases_lt 0 bits) [
+  | inl some ↦ absurd (let first = first_lane test v bits (omega (arith, long, few)) is some in omega (arith, first.0.high, long, high))
+  | inr none ↦ no_lane test v bits is (omega (arith, none))
+]
+
 -- a byte of a block
 in-block : (text : List ℕ) (at n k : ℕ) → at ≤ k → k < at + n → get_or (take n (drop at text)) (k - at) 0 ≡ get_or text k 0
 in-block text at n k low high =
