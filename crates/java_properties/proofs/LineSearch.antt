@@ -380,17 +380,18 @@ searched-block e bytes at size s within lane =
     (omega arith) within (subst (λ n. (at + 16) % n ≡ 0) (sym size) two)
 
 -- a unit of a block in which such a byte stands, up to which there is none
-pub record IsUnitThere (e : Encoding) (bytes : List ℕ) (at : ℕ) : Type 0 where
+pub record IsUnitThere (e : Encoding) (bytes : List ℕ) (end at : ℕ) : Type 0 where
   pub searched : IsSearched e bytes at
-  pub within : at + 2 ≤ length bytes
+  pub within : at + 2 ≤ end
 
-pub unit-there : (e : Encoding) (bytes : List ℕ) (at bits : ℕ) → unit_size e ≡ 2 → IsSearched e bytes at → at + 16 ≤ length bytes
+pub unit-there : (e : Encoding) (bytes : List ℕ) (at end bits : ℕ) → unit_size e ≡ 2 → IsSearched e bytes at → at + 16 ≤ end → end ≤ length bytes
     → bits ≡ mask_l (map is_line_end (take 16 (drop at bytes))) → ¬ (bits ≡ 0)
-    → IsUnitThere e bytes (at + count_trailing_zeros 64 bits - (at + count_trailing_zeros 64 bits) % 2)
-unit-there e bytes at bits size s within is some =
+    → IsUnitThere e bytes end (at + count_trailing_zeros 64 bits - (at + count_trailing_zeros 64 bits) % 2)
+unit-there e bytes at end bits size s room held is some =
     let first = count_trailing_zeros 64 bits in
+    let within : at + 16 ≤ length bytes = omega (arith, room, held) in
     let long = length-take-le 16 (drop at bytes) (omega (arith, within, length-drop at bytes)) in
     let hit = hit-lane (take 16 (drop at bytes)) bits long is (omega (arith, some)) in
     let even : at % 2 ≡ 0 = subst (λ n. at % n ≡ 0) size (searched-size e bytes at s) in
     let found = first-in-block bytes at at first (omega arith) within hit.0 (λ k low high p. absurd (omega (arith, low, high))) hit.1 in
-    record { searched = searched-hit e bytes at (at + first) size s found.0; within = omega (arith, even, within, hit.0) }
+    record { searched = searched-hit e bytes at (at + first) size s found.0; within = omega (arith, even, room, hit.0) }

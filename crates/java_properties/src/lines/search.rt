@@ -75,8 +75,9 @@ fn find_in_units(encoding: Encoding, bytes: &[u8], from: usize) -> Option<LineEn
     requires searched { IsSearched (encoding_of encoding) bytes.now from }
     ensures { FindsLineEnd (encoding_of encoding) bytes.now result }
 {
+    let near = from + (bytes.len() - from).min(NEAR);
     let mut searched = from;
-    while searched - from < NEAR && bytes.len() - searched >= 16 {
+    while near - searched >= 16 {
         let bits = line_end_bits(u8x16::from_slice(&bytes[searched..]));
         if bits == 0 {
             searched += 16;

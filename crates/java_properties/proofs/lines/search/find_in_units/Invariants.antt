@@ -4,7 +4,11 @@ use Rattle.java_properties.specs.LineSearch.{IsSearched}
 use Rattle.java_properties.proofs.lines.search.find_in_units.Given as goal
 
 abbrev pub invariant-loop-searched : goal.invariant-loop-searched
-invariant-loop-searched l = record { low : l.from ≤ l.searched; searched : IsSearched (encoding_of l.encoding) l.bytes l.searched }
+invariant-loop-searched l = record {
+  near : l.searched ≤ l.near;
+  within : l.near ≤ length l.bytes;
+  searched : IsSearched (encoding_of l.encoding) l.bytes l.searched;
+}
 
 abbrev pub decreases-loop-searched : goal.decreases-loop-searched
-decreases-loop-searched l = length l.bytes - l.searched
+decreases-loop-searched l = l.near - l.searched
