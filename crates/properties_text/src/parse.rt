@@ -69,7 +69,7 @@ pub fn parse_spans(line: &str) -> Option<ParsedSpans>
         return Some(ParsedSpans::Comment(trimmed_span(bytes, start + 1)));
     }
     let key_end = start + key_length(&bytes[start..]);
-    let value_start = key_end + separator_length(&bytes[key_end..]);
+    let value_start = value_start(bytes, key_end);
     let key = Span {
         start,
         end: key_end,
@@ -89,7 +89,7 @@ fn trimmed_span(line: &[u8], from: usize) -> Span
     ensures start { drop result.start line.now ≡ without_leading_blanks (drop from line.now) }
     ensures text { bytes_in line.now result ≡ trimmed (drop from line.now) }
 {
-    let start = from + leading_blanks(&line[from..]);
+    let start = past_blanks(line, from);
     let end = start + length_without_trailing_blanks(&line[start..]);
     Span { start, end }
 }
@@ -122,7 +122,18 @@ pub fn leading_blanks(text: &[u8]) -> usize
     ensures within { result ≤ length text.now }
     ensures rest { drop result text.now ≡ without_leading_blanks text.now }
 {
-    let mut at = 0;
+    past_blanks(text, 0)
+}
+
+// The place of the first byte from here on that is no blank.
+#[inline(always)]
+fn past_blanks(text: &[u8], from: usize) -> usize
+    requires { from ≤ length text.now }
+    ensures after { from ≤ result }
+    ensures within { result ≤ length text.now }
+    ensures rest { drop result text.now ≡ without_leading_blanks (drop from text.now) }
+{
+    let mut at = from;
     while is_blank_at(text, at) {
         at += 1;
     }
@@ -205,17 +216,18 @@ fn plain_front(text: &[u8]) -> usize
     at
 }
 
-// How much stands before the value, in a text that begins where the key ends.
-fn separator_length(text: &[u8]) -> usize
-    ensures within { result ≤ length text.now }
-    ensures rest { drop result text.now ≡ past_separator (without_leading_blanks text.now) }
+// Where the value starts, in a line whose key ends here.
+#[inline(always)]
+fn value_start(line: &[u8], key_end: usize) -> usize
+    requires { key_end ≤ length line.now }
+    ensures after { key_end ≤ result }
+    ensures within { result ≤ length line.now }
+    ensures rest { drop result line.now ≡ past_separator (without_leading_blanks (drop key_end line.now)) }
 {
-    let blanks = leading_blanks(text);
-    match text.get(blanks) {
-        Some(byte) if is_separator(char::from(*byte)) => {
-            blanks + 1 + leading_blanks(&text[blanks + 1..])
-        }
-        _ => blanks,
+    let start = past_blanks(line, key_end);
+    match line.get(start) {
+        Some(byte) if is_separator(char::from(*byte)) => past_blanks(line, start + 1),
+        _ => start,
     }
 }
 

@@ -1,11 +1,12 @@
 use Rattle.std.proofs.Common.{◌≡◌, ◌≤◌, ◌-◌, length, drop}
 use Rattle.properties_format.specs.Text.{without_leading_blanks}
-use Rattle.properties_text.proofs.parse.leading_blanks.Given as goal
+use Rattle.properties_text.proofs.parse.past_blanks.Given as goal
 
 abbrev pub invariant-loop-at : goal.invariant-loop-at
 invariant-loop-at l = record {
   within : l.at ≤ length l.text;
-  rest : without_leading_blanks (drop l.at l.text) ≡ without_leading_blanks l.text;
+  rest : without_leading_blanks (drop l.at l.text) ≡ without_leading_blanks (drop l.from l.text);
+  after : l.from ≤ l.at;
 }
 
 abbrev pub decreases-loop-at : goal.decreases-loop-at
