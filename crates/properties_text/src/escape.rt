@@ -1,6 +1,6 @@
 //! What the escapes of a key, a value or a comment's text stand for.
 
-ghost use Rattle.std.specs.Prelude.{◌≡◌, ◌≤◌, ◌<◌, ◌∷◌, ◌&&◌, ℕ, List, not, length, IfOk, IfSome, Some, None, if◌then◌else◌};
+ghost use Rattle.std.specs.Prelude.{◌≡◌, ◌≤◌, ◌<◌, ◌∷◌, ◌&&◌, ℕ, List, not, length, ◌++◌, IfOk, OnOk, IfSome, Some, None, if◌then◌else◌};
 ghost use Rattle.std.specs.Char.{IsScalar};
 ghost use Rattle.std.specs.Str.{chars};
 ghost use Rattle.std.specs.String.{string_bytes};
@@ -79,7 +79,7 @@ fn push_resolved(text: &mut String, s: &str) -> Result<(), UnescapeError>
 {
     let mut rest = s;
     while let Some(at) = find_next(rest.as_bytes()) {
-        text.push_str(&rest[..at])?;
+        push_part(text, &rest[..at])?;
         let escape = match read_escape(&rest[at + 1..]) {
             Ok(escape) => escape,
             Err(malformed) => return Err(UnescapeError::Malformed(malformed)),
@@ -89,6 +89,17 @@ fn push_resolved(text: &mut String, s: &str) -> Result<(), UnescapeError>
     }
     text.push_str(rest)?;
     Ok(())
+}
+
+// Appends a part of a text. Between escapes that stand side by side there is none.
+#[inline(always)]
+fn push_part(text: &mut String, part: &str) -> Result<(), AllocError>
+    ensures { OnOk result (string_bytes text.new ≡ string_bytes text.old ++ part.now) }
+{
+    if part.is_empty() {
+        return Ok(());
+    }
+    text.push_str(part)
 }
 
 // The place of the first backslash. Where escapes stand side by side, none is searched for.
