@@ -1,17 +1,15 @@
 -- The steps of a search for a line end among undecoded bytes.
-use Rattle.std.proofs.Common.{cond, not, eqb, map, inl, inr, ◌≡◌, ◌<◌, ◌≤◌, ◌+◌, ◌-◌, ◌%◌, ◌==◌, ℕ, suc, zero, true, false, Bool, List, [], ◌∷◌, ◌++◌, take, drop, length, get_or}
+use Rattle.std.proofs.Common.{eqb, map, inl, inr, ◌≡◌, ◌<◌, ◌≤◌, ◌+◌, ◌-◌, ◌%◌, ◌==◌, ℕ, suc, zero, true, false, Bool, List, [], ◌∷◌, ◌++◌, take, drop, length, get_or}
 use Rattle.std.proofs.Common.{drop-cons, length-append, length-drop, refl, sym, ap, subst, ◌∙◌, arith}
 use Rattle.std.specs.Prelude.{Option, Some, None, option_map}
 use Rattle.std.proofs.Math.Seq.{take-add}
-use Rattle.std.specs.List.{prefix_len}
 use Rattle.std.specs.Int.Count.{count_trailing_zeros}
 use Rattle.std.specs.Simd.Lanes.{mask_l}
-use Rattle.std.proofs.lemmas.Bool.{false_from_ne_true, cases_Bool, cases_lt, eqb-true, agree_below_at}
-use Rattle.std.proofs.lemmas.List.Sums.{prefix_len_passes, prefix_len_stops}
-use Rattle.std.proofs.lemmas.Simd.{first_set_mask_l}
+use Rattle.std.proofs.lemmas.Bool.{false_from_ne_true, cases_lt, agree_below_at}
 use Rattle.std.proofs.lemmas.List.{take-append-drop, take_rest, length-take-le, take-append-le, get_or-drop, get_or-take}
 use Rattle.std.proofs.lemmas.Bool.Decides.{nat_tests}
 use Rattle.std.proofs.lemmas.Grind.{common_steps}
+use Rattle.properties_text.proofs.ByteSearch.{no_lane, first_lane}
 use Rattle.memchr.specs.Find.{Nowhere, NoneBefore, Passes, IsFirst, IsFirstByte}
 use Rattle.properties_format.specs.Text.{carriage_return, is_line_end}
 use Rattle.properties_format.specs.Lines.{HoldsNoLineEnd}
@@ -136,38 +134,31 @@ nowhere-from d from count to h le k low high is = h (k - from) (omega arith) (om
 pub line_end_at : (b : ℕ) → b < 256 → eqb b (get_or LINE_ENDS (b % 16) 0) ≡ is_line_end b
 line_end_at b h = agree_below_at (λ b. eqb b (get_or LINE_ENDS (b % 16) 0)) is_line_end 256 b refl h
 
--- The first bit that is set is that of the first lane that passes.
+-- The lanes before this one fail a test, and it passes, where it is one.
 pub record IsFirstLane (test : ℕ → Bool) (v : List ℕ) (first : ℕ) : Type 0 where
   pub before : (k : ℕ) → k < first → k < 16 → test (get_or v k 0) ≡ false
   pub there : first < 16 → test (get_or v first 0) ≡ true
 
-pub first-lane : (test : ℕ → Bool) (v : List ℕ) (bits first : ℕ) → length v ≡ 16 → bits ≡ mask_l (map test v) → first ≡ count_trailing_zeros 64 bits → IsFirstLane test v first
-unfolding count_trailing_zeros
-first-lane test v bits first long is at =
-    let n = prefix_len (λ b. not (test b)) v in
-    let set = first_set_mask_l test v 16 long (omega arith) in
-    let clear : (k : ℕ) → k < n → test (get_or v k 0) ≡ false = λ k h. not_true (test (get_or v k 0)) (prefix_len_passes (λ b. not (test b)) v k 0 h) in
-    elim (cases_Bool (eqb bits 0)) [
-      | inl none ↦
-          let zero_bits : bits ≡ 0 = eqb-true bits 0 none in
-          let whole : 16 ≡ n = sym (ap (λ b. cond (eqb b 0) 16 (count_trailing_zeros 64 b)) (sym is ∙ zero_bits)) ∙ set in
-          let many : first ≡ 64 = at ∙ ap (count_trailing_zeros 64) zero_bits in
-          record { before = λ k h small. clear k (omega (arith, whole, small)); there = λ h. absurd (omega (arith, many, h)) }
-      | inr some ↦
-          let same : first ≡ n = at ∙ sym (rw some refl) ∙ ap (λ b. cond (eqb b 0) 16 (count_trailing_zeros 64 b)) is ∙ set in
-          record {
-            before = λ k h small. clear k (omega (arith, same, h));
-            there = λ h. subst (λ k. test (get_or v k 0) ≡ true) (sym same) (not_false (test (get_or v n 0)) (prefix_len_stops (λ b. not (test b)) v 0 (omega (arith, same, h, long))));
-          }
-    ]
-  where
-    not_true : (b : Bool) → not b ≡ true → b ≡ false
-    not_true true h = absurd (cc)
-    not_true false h = refl
+-- Where no bit is set, no lane is a line end.
+pub clear-lanes : (v : List ℕ) (bits : ℕ) → length v ≡ 16 → bits ≡ mask_l (map is_line_end v) → bits ≡ 0 → IsFirstLane is_line_end v 16
+clear-lanes v bits long is no_bit =
+    let none = no_lane is_line_end v bits is no_bit in
+    record {
+      before = λ k h small. false_from_ne_true (is_line_end (get_or v k 0)) (none k (omega arith) (omega (arith, long, small)));
+      there = λ h. absurd (omega (arith, h));
+    }
 
-    not_false : (b : Bool) → not b ≡ false → b ≡ true
-    not_false true h = refl
-    not_false false h = absurd (cc)
+-- Else the first that is set is that of a lane, which is the first line end.
+pub hit-lane : (v : List ℕ) (bits : ℕ) → length v ≡ 16 → bits ≡ mask_l (map is_line_end v) → 0 < bits
+    → (count_trailing_zeros 64 bits < 16) × IsFirstLane is_line_end v (count_trailing_zeros 64 bits)
+hit-lane v bits long is some =
+    let first = first_lane is_line_end v bits (omega (arith, long)) is some in (
+      omega (arith, first.0.high, long),
+      record {
+        before = λ k h small. false_from_ne_true (is_line_end (get_or v k 0)) (first.0.before k (omega arith) h);
+        there = λ h. first.1;
+      },
+    )
 
 -- No line end stands in the lanes before it.
 pub nowhere-more : (bytes : List ℕ) (from at n first : ℕ) → at + 16 ≤ length bytes → n ≤ first → n ≤ 16 → Nowhere (Passes is_line_end bytes) from at → IsFirstLane is_line_end (take 16 (drop at bytes)) first
@@ -377,3 +368,30 @@ searched-hit e bytes from hit size s h =
     let two : at % 2 ≡ 0 = omega arith in
     let whole : at % unit_size e ≡ 0 = subst (λ n. at % n ≡ 0) (sym size) two in
     searched-up_to e bytes from at s (λ k l r. h.before k l (omega arith)) (omega arith) (omega arith) whole
+
+-- a search goes on after a block without such a byte
+pub searched-block : (e : Encoding) (bytes : List ℕ) (at : ℕ) → unit_size e ≡ 2 → IsSearched e bytes at → at + 16 ≤ length bytes
+    → IsFirstLane is_line_end (take 16 (drop at bytes)) 16 → IsSearched e bytes (at + 16)
+searched-block e bytes at size s within lane =
+    let even : at % 2 ≡ 0 = subst (λ n. at % n ≡ 0) size (searched-size e bytes at s) in
+    let two : (at + 16) % 2 ≡ 0 = omega arith in
+    searched-up_to e bytes at (at + 16) s
+    (nowhere-more bytes at at 16 16 within (omega arith) (omega arith) (λ k low high p. absurd (omega (arith, low, high))) lane)
+    (omega arith) within (subst (λ n. (at + 16) % n ≡ 0) (sym size) two)
+
+-- a unit of a block in which such a byte stands, up to which there is none
+pub record IsUnitThere (e : Encoding) (bytes : List ℕ) (end at : ℕ) : Type 0 where
+  pub searched : IsSearched e bytes at
+  pub within : at + 2 ≤ end
+
+pub unit-there : (e : Encoding) (bytes : List ℕ) (at end bits : ℕ) → unit_size e ≡ 2 → IsSearched e bytes at → at + 16 ≤ end → end ≤ length bytes
+    → bits ≡ mask_l (map is_line_end (take 16 (drop at bytes))) → ¬ (bits ≡ 0)
+    → IsUnitThere e bytes end (at + count_trailing_zeros 64 bits - (at + count_trailing_zeros 64 bits) % 2)
+unit-there e bytes at end bits size s room held is some =
+    let first = count_trailing_zeros 64 bits in
+    let within : at + 16 ≤ length bytes = omega (arith, room, held) in
+    let long = length-take-le 16 (drop at bytes) (omega (arith, within, length-drop at bytes)) in
+    let hit = hit-lane (take 16 (drop at bytes)) bits long is (omega (arith, some)) in
+    let even : at % 2 ≡ 0 = subst (λ n. at % n ≡ 0) size (searched-size e bytes at s) in
+    let found = first-in-block bytes at at first (omega arith) within hit.0 (λ k low high p. absurd (omega (arith, low, high))) hit.1 in
+    record { searched = searched-hit e bytes at (at + first) size s found.0; within = omega (arith, even, room, hit.0) }

@@ -7,6 +7,8 @@ pub mod Printing
 pub mod Texts
 pub mod Scanning
 pub mod KeyFronts
+pub mod ByteSearch
+pub mod BlankFronts
 pub mod AsciiFronts
 pub mod Latin1
 pub mod UnitBlocks

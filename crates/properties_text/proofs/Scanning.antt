@@ -1,7 +1,7 @@
 -- Scans of a text, as far as they have come.
-use Rattle.std.proofs.Common.{◌≡◌, ℕ, ◌<◌, ◌≤◌, ◌+◌, ◌-◌, ◌==◌, Bool, true, false, List, [], ◌∷◌, ◌++◌, length, take, drop, get_or, refl, ap, sym, ◌∙◌, append_assoc, append-nil, arith}
-use Rattle.std.proofs.lemmas.Bool.{cond-true, cond-false}
-use Rattle.std.proofs.lemmas.List.{at_drop_more, at_drop_all, take_more, drop_more, drop_all}
+use Rattle.std.proofs.Common.{◌≡◌, ℕ, ◌<◌, ◌≤◌, ◌+◌, ◌-◌, ◌==◌, Bool, true, false, List, [], ◌∷◌, ◌++◌, length, take, drop, get_or, refl, ap, sym, ◌∙◌, append_assoc, append-nil, subst, inl, inr, arith}
+use Rattle.std.proofs.lemmas.Bool.{cond-true, cond-false, cases_lt}
+use Rattle.std.proofs.lemmas.List.{at_drop_more, at_drop_all, take_more, take_all, drop_more, drop_all}
 use Rattle.properties_format.specs.Text.{backslash, is_blank, is_separator, without_leading_blanks}
 use Rattle.properties_format.specs.Split.{ends}
 use Rattle.properties_format.specs.Reading.Split.{without_trailing_blanks, unless_last_blank, Cut, with_front, ends_key, cut_key, past_separator}
@@ -19,7 +19,7 @@ pub leading-stop : (xs : List ℕ) (i : ℕ) → i < length xs → is_blank (get
 leading-stop xs i h b = at_drop_more without_leading_blanks xs i 0 h ∙ cond-false (is_blank (get_or xs i 0)) _ _ b ∙ sym (drop_more xs i 0 h)
 
 -- and so does the end
-leading-end : (xs : List ℕ) (i : ℕ) → length xs ≤ i → without_leading_blanks (drop i xs) ≡ drop i xs
+pub leading-end : (xs : List ℕ) (i : ℕ) → length xs ≤ i → without_leading_blanks (drop i xs) ≡ drop i xs
 leading-end xs i h = at_drop_all without_leading_blanks xs i h ∙ sym (drop_all i xs h)
 
 -- a text that is blanks to its end
@@ -75,6 +75,20 @@ cut-escaped xs i h = cut-more xs i true false h (λ cs. refl)
 pub cut-backslash : (xs : List ℕ) (i : ℕ) → i < length xs → get_or xs i 0 ≡ backslash → IsCutSoFar xs i false → IsCutSoFar xs (i + 1) true
 cut-backslash xs i h e = cut-more xs i false true h (λ cs. rw e refl)
 
+-- a backslash takes the character after it, where one is there
+pub cut-pair : (xs : List ℕ) (i : ℕ) → i < length xs → get_or xs i 0 ≡ backslash → IsCutSoFar xs i false → IsCutSoFar xs (i + 2) false
+cut-pair xs i h e k =
+    let opened = cut-backslash xs i h e k in
+    elim (cases_lt (i + 1) (length xs)) [
+      | inl l ↦ subst (λ n. IsCutSoFar xs n false) (let two : i + 1 + 1 ≡ i + 2 = omega arith in two) (cut-escaped xs (i + 1) l opened)
+      | inr l ↦
+          let past : length xs ≤ i + 2 = omega (arith, l) in
+          opened
+          ∙ ap (λ v. with_text (take (i + 1) xs) (cut_key v true)) (drop_all (i + 1) xs l)
+          ∙ ap (λ v. with_text v (cut_key [] false)) (take_all (i + 1) xs l ∙ sym (take_all (i + 2) xs past))
+          ∙ ap (λ v. with_text (take (i + 2) xs) (cut_key v false)) (sym (drop_all (i + 2) xs past))
+    ]
+
 pub cut-plain : (xs : List ℕ) (i : ℕ) → i < length xs → (get_or xs i 0 == backslash) ≡ false → ends_key (get_or xs i 0) ≡ false
     → IsCutSoFar xs i false → IsCutSoFar xs (i + 1) false
 cut-plain xs i h b k = cut-more xs i false false h (λ cs. cond-false (get_or xs i 0 == backslash) _ _ b ∙ cond-false (ends_key (get_or xs i 0)) _ _ k)
@@ -96,6 +110,12 @@ pub cut-end : (xs : List ℕ) (i : ℕ) (is_escaped : Bool) → length xs ≤ i 
 cut-end xs i is_escaped h k =
     let m = k ∙ ap (λ v. with_text (take i xs) (cut_key v is_escaped)) (drop_all i xs h) in
     record { key = ap (λ v. v.key) m ∙ append-nil (take i xs); rest = ap (λ v. v.rest) m ∙ sym (drop_all i xs h) }
+
+pub cut-whole : (xs : List ℕ) (i : ℕ) → length xs ≤ i → IsCutSoFar xs i false → IsCutAt xs (length xs)
+cut-whole xs i h k =
+    let p = cut-end xs i false h k in
+    let same : length xs ≤ length xs = omega arith in
+    record { key = p.key ∙ take_all i xs h ∙ sym (take_all (length xs) xs same); rest = p.rest ∙ drop_all i xs h ∙ sym (drop_all (length xs) xs same) }
 
 -- ---- separators
 

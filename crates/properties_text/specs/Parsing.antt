@@ -1,7 +1,7 @@
 -- What a contract sees of the parts of a line.
 use Rattle.std.specs.Prelude.{◌≤◌, ◌-◌, ◌||◌, ◌==◌, not, ℕ, Bool, List, length, take, drop, Option, Some, None}
 use Rattle.std.specs.Str.{chars, IsCharBoundary}
-use Rattle.properties_format.specs.Text.{backslash}
+use Rattle.properties_format.specs.Text.{backslash, is_blank}
 use Rattle.properties_format.specs.Reading.Split.{ends_key}
 use Rattle.properties_format.specs.Split.{Logical, blank, comment, pair}
 use Rattle.properties_text.specs.declared.parse.ParsedLine.{ParsedLine}
@@ -13,6 +13,10 @@ use Rattle.properties_text.specs.declared.parse.Span.{Span}
 -- a character of a key that neither ends it nor takes the next one
 abbrev pub is_plain : ℕ → Bool
 is_plain c = not (c == backslash || ends_key c)
+
+-- a character that isn't passed over where blanks are
+abbrev pub is_no_blank : ℕ → Bool
+is_no_blank c = not (is_blank c)
 
 -- what a line is, in bytes
 abbrev pub parsed : Option ParsedLine → Logical

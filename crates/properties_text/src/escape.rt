@@ -1,6 +1,6 @@
 //! What the escapes of a key, a value or a comment's text stand for.
 
-ghost use Rattle.std.specs.Prelude.{◌≡◌, ◌≤◌, ◌<◌, ◌∷◌, ◌&&◌, ℕ, List, not, length, IfOk, IfSome, Some, None, if◌then◌else◌};
+ghost use Rattle.std.specs.Prelude.{◌≡◌, ◌≤◌, ◌<◌, ◌∷◌, ◌&&◌, ℕ, List, not, length, ◌++◌, IfOk, OnOk, IfSome, Some, None, if◌then◌else◌};
 ghost use Rattle.std.specs.Char.{IsScalar};
 ghost use Rattle.std.specs.Str.{chars};
 ghost use Rattle.std.specs.String.{string_bytes};
@@ -11,9 +11,11 @@ ghost use Rattle.properties_format.specs.Groups.{ending_backslashes};
 ghost use Rattle.properties_text.specs.declared.escape.UnescapeError.TheVariants.{Memory};
 ghost use Rattle.properties_text.specs.Escaping.{holds_backslash, is_lent, Unescapes, Appends, Resolves, IsUnit, ReadsUnit, four_of, StartsWithFour};
 
-use memchr::memchr;
+use search::find_backslash;
 use std::alloc::{AllocError, Global};
 use std::borrow::CowStr;
+
+mod search;
 
 /// How escapes are malformed.
 #[derive(Clone, Copy, Debug, PartialEq, Eq)]
@@ -54,7 +56,7 @@ pub fn unescape(alloc: Global, s: &str) -> Result<CowStr<'_>, UnescapeError>
     ensures meaning { Unescapes (chars s.now) result }
     ensures lent { is_lent result ≡ not (holds_backslash (chars s.now)) }
 {
-    let Some(first) = memchr(b'\\', s.as_bytes()) else {
+    let Some(first) = find_backslash(s.as_bytes()) else {
         return Ok(CowStr::Borrowed(s));
     };
     // What an escape stands for is never longer than the escape.
@@ -68,7 +70,7 @@ pub fn unescape(alloc: Global, s: &str) -> Result<CowStr<'_>, UnescapeError>
 pub fn has_backslash(s: &str) -> bool
     ensures { result ≡ holds_backslash (chars s.now) }
 {
-    memchr(b'\\', s.as_bytes()).is_some()
+    find_backslash(s.as_bytes()).is_some()
 }
 
 // Appends the text with its escapes resolved.
@@ -76,8 +78,8 @@ fn push_resolved(text: &mut String, s: &str) -> Result<(), UnescapeError>
     ensures { Appends (chars s.now) (chars (string_bytes text.old)) result (chars (string_bytes text.new)) }
 {
     let mut rest = s;
-    while let Some(at) = find_backslash(rest.as_bytes()) {
-        text.push_str(&rest[..at])?;
+    while let Some(at) = find_next(rest.as_bytes()) {
+        push_part(text, &rest[..at])?;
         let escape = match read_escape(&rest[at + 1..]) {
             Ok(escape) => escape,
             Err(malformed) => return Err(UnescapeError::Malformed(malformed)),
@@ -89,14 +91,25 @@ fn push_resolved(text: &mut String, s: &str) -> Result<(), UnescapeError>
     Ok(())
 }
 
+// Appends a part of a text. Between escapes that stand side by side there is none.
+#[inline(always)]
+fn push_part(text: &mut String, part: &str) -> Result<(), AllocError>
+    ensures { OnOk result (string_bytes text.new ≡ string_bytes text.old ++ part.now) }
+{
+    if part.is_empty() {
+        return Ok(());
+    }
+    text.push_str(part)
+}
+
 // The place of the first backslash. Where escapes stand side by side, none is searched for.
 #[inline]
-fn find_backslash(text: &[u8]) -> Option<usize>
+fn find_next(text: &[u8]) -> Option<usize>
     ensures { IsFirstByte (is_byte backslash) text.now result }
 {
     match text {
         [b'\\', ..] => Some(0),
-        _ => memchr(b'\\', text),
+        _ => find_backslash(text),
     }
 }
 

@@ -1,15 +1,15 @@
 //! A logical line, cut into its parts.
 
-ghost use Rattle.std.specs.Prelude.{◌≡◌, ◌≤◌, Some, true, false, length, take, drop};
+ghost use Rattle.std.specs.Prelude.{◌≡◌, ◌≤◌, Some, true, false, length, take, drop, slice_index};
 ghost use Rattle.std.specs.List.{All};
 ghost use Rattle.std.specs.Str.{chars};
-ghost use Rattle.properties_format.specs.Text.{without_leading_blanks};
+ghost use Rattle.properties_format.specs.Text.{is_blank, without_leading_blanks};
 ghost use Rattle.properties_format.specs.Split.{IsSplit};
 ghost use Rattle.properties_format.specs.Reading.Split.{without_trailing_blanks, trimmed, ends_key, cut_key, past_separator};
 ghost use Rattle.properties_text.specs.Parsing.{is_plain, parsed, bytes_in, spanned, in_characters, IsSpan, AreSpans};
 
 use crate::characters::{is_blank, is_comment_sign, is_separator};
-use crate::vectors::{has_control, special_bits};
+use crate::vectors::{has_control, past_blank_bits, special_bits};
 use std::simd::prelude::*;
 
 /// The parts of a line, before their escapes are resolved.
@@ -69,7 +69,7 @@ pub fn parse_spans(line: &str) -> Option<ParsedSpans>
         return Some(ParsedSpans::Comment(trimmed_span(bytes, start + 1)));
     }
     let key_end = start + key_length(&bytes[start..]);
-    let value_start = key_end + separator_length(&bytes[key_end..]);
+    let value_start = value_start(bytes, key_end);
     let key = Span {
         start,
         end: key_end,
@@ -89,7 +89,7 @@ fn trimmed_span(line: &[u8], from: usize) -> Span
     ensures start { drop result.start line.now ≡ without_leading_blanks (drop from line.now) }
     ensures text { bytes_in line.now result ≡ trimmed (drop from line.now) }
 {
-    let start = from + leading_blanks(&line[from..]);
+    let start = past_blanks(line, from);
     let end = start + length_without_trailing_blanks(&line[start..]);
     Span { start, end }
 }
@@ -122,12 +122,47 @@ pub fn leading_blanks(text: &[u8]) -> usize
     ensures within { result ≤ length text.now }
     ensures rest { drop result text.now ≡ without_leading_blanks text.now }
 {
-    for (at, byte) in text.iter().enumerate() {
-        if !is_blank(char::from(*byte)) {
-            return at;
-        }
+    past_blanks(text, 0)
+}
+
+// The place of the first byte from here on that is no blank.
+#[inline(always)]
+fn past_blanks(text: &[u8], from: usize) -> usize
+    requires { from ≤ length text.now }
+    ensures after { from ≤ result }
+    ensures within { result ≤ length text.now }
+    ensures rest { drop result text.now ≡ without_leading_blanks (drop from text.now) }
+{
+    let mut at = from;
+    while is_blank_at(text, at) {
+        at += 1;
     }
-    text.len()
+    at
+}
+
+/// The same where they may be many. They are counted by blocks of sixteen.
+pub fn indentation(text: &[u8]) -> usize
+    ensures within { result ≤ length text.now }
+    ensures rest { drop result text.now ≡ without_leading_blanks text.now }
+{
+    let mut at = 0;
+    while text.len() - at >= 16 {
+        let v = u8x16::from_slice(&text[at..]);
+        let first = past_blank_bits(v).trailing_zeros() as usize;
+        if first < 16 {
+            return at + first;
+        }
+        at += 16;
+    }
+    at + leading_blanks(&text[at..])
+}
+
+// Whether a blank stands there.
+#[inline(always)]
+fn is_blank_at(text: &[u8], at: usize) -> bool
+    ensures { result ≡ is_blank (slice_index text.now at) }
+{
+    at < text.len() && is_blank(char::from(text[at]))
 }
 
 // How long the text is without the blanks that end it.
@@ -150,19 +185,14 @@ fn key_length(text: &[u8]) -> usize
     ensures rest { (cut_key text.now false).rest ≡ drop result text.now }
 {
     let mut at = plain_front(text);
-    let mut is_escaped = false;
     while at < text.len() {
         let byte = text[at];
-        if is_escaped {
-            is_escaped = false;
-        } else if byte == b'\\' {
-            is_escaped = true;
-        } else if ends_key(byte) {
+        if ends_key(byte) {
             return at;
         }
-        at += 1;
+        at += if byte == b'\\' { 2 } else { 1 };
     }
-    at
+    text.len()
 }
 
 // At least so many bytes at the front neither end a key nor are backslashes: those in blocks of sixteen before a special
@@ -186,17 +216,18 @@ fn plain_front(text: &[u8]) -> usize
     at
 }
 
-// How much stands before the value, in a text that begins where the key ends.
-fn separator_length(text: &[u8]) -> usize
-    ensures within { result ≤ length text.now }
-    ensures rest { drop result text.now ≡ past_separator (without_leading_blanks text.now) }
+// Where the value starts, in a line whose key ends here.
+#[inline(always)]
+fn value_start(line: &[u8], key_end: usize) -> usize
+    requires { key_end ≤ length line.now }
+    ensures after { key_end ≤ result }
+    ensures within { result ≤ length line.now }
+    ensures rest { drop result line.now ≡ past_separator (without_leading_blanks (drop key_end line.now)) }
 {
-    let blanks = leading_blanks(text);
-    match text.get(blanks) {
-        Some(byte) if is_separator(char::from(*byte)) => {
-            blanks + 1 + leading_blanks(&text[blanks + 1..])
-        }
-        _ => blanks,
+    let start = past_blanks(line, key_end);
+    match line.get(start) {
+        Some(byte) if is_separator(char::from(*byte)) => past_blanks(line, start + 1),
+        _ => start,
     }
 }
 

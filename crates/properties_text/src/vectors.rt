@@ -3,8 +3,9 @@
 ghost use Rattle.std.specs.Prelude.{◌≡◌, ◌↔◌, ◌≤◌, false, map};
 ghost use Rattle.std.specs.List.{All};
 ghost use Rattle.std.specs.Simd.Lanes.{mask_l};
-ghost use Rattle.properties_format.specs.Text.{space};
+ghost use Rattle.properties_format.specs.Text.{space, is_blank};
 ghost use Rattle.properties_format.specs.Printing.{is_special};
+ghost use Rattle.properties_text.specs.Parsing.{is_no_blank};
 
 use std::simd::prelude::*;
 
@@ -12,6 +13,9 @@ use std::simd::prelude::*;
 static SPECIAL: [u8; 16] = [
     b' ', b'!', 0, b'#', 0, 0, 0, 0, 0, 0, b':', 0, b'\\', b'=', 0, 0,
 ];
+
+// The blank with these low four bits, or else a byte with other low bits.
+static BLANKS: [u8; 16] = [b' ', 0, 0, 0, 0, 0, 0, 0, 0, b'\t', 0, 0, b'\x0c', 0, 0, 0];
 
 /// Whether a byte below the space is among them.
 #[inline(always)]
@@ -29,4 +33,22 @@ pub fn special_bits(v: u8x16) -> u64
     let low = v & u8x16::splat(15);
     let special = u8x16::from_array(SPECIAL).swizzle_dyn(low);
     v.simd_eq(special).to_bitmask()
+}
+
+/// Bit i is set where byte i is no blank.
+#[inline(always)]
+pub fn past_blank_bits(v: u8x16) -> u64
+    ensures { result ≡ mask_l (map is_no_blank v) }
+{
+    0xffff - blank_bits(v)
+}
+
+// Bit i is set where byte i is a blank.
+#[inline(always)]
+fn blank_bits(v: u8x16) -> u64
+    ensures { result ≡ mask_l (map is_blank v) }
+{
+    let low = v & u8x16::splat(15);
+    let blanks = u8x16::from_array(BLANKS).swizzle_dyn(low);
+    v.simd_eq(blanks).to_bitmask()
 }

@@ -78,6 +78,31 @@ fn find_in_units(encoding: Encoding, bytes: &[u8], from: usize) -> Option<LineEn
     requires searched { IsSearched (encoding_of encoding) bytes.now from }
     ensures { FindsLineEnd (encoding_of encoding) bytes.now result }
 {
+    let near = from + (bytes.len() - from).min(NEAR);
+    let mut searched = from;
+    while near - searched >= 16 {
+        let bits = line_end_bits(u8x16::from_slice(&bytes[searched..]));
+        if bits == 0 {
+            searched += 16;
+            continue;
+        }
+        let hit = searched + bits.trailing_zeros() as usize;
+        let unit = hit - hit % 2;
+        if let Some(is_cr) = line_end_unit(encoding, bytes[unit], bytes[unit + 1]) {
+            return Some(LineEnd { at: unit, is_cr });
+        }
+        searched = unit + 2;
+    }
+    search_units(encoding, bytes, searched)
+}
+
+// The same where none is near.
+#[inline(never)]
+fn search_units(encoding: Encoding, bytes: &[u8], from: usize) -> Option<LineEnd>
+    requires size { unit_size (encoding_of encoding) ≡ 2 }
+    requires searched { IsSearched (encoding_of encoding) bytes.now from }
+    ensures { FindsLineEnd (encoding_of encoding) bytes.now result }
+{
     let mut searched = from;
     'hits: while let Some(hit) = find_end_byte(bytes, searched) {
         let at = hit - hit % 2;
@@ -101,10 +126,9 @@ pub fn find_end_byte(bytes: &[u8], from: usize) -> Option<usize>
 {
     let mut at = from;
     while at - from < NEAR && bytes.len() - at >= 16 {
-        let v = u8x16::from_slice(&bytes[at..]);
-        let first = line_end_bits(v).trailing_zeros() as usize;
-        if first < 16 {
-            return Some(at + first);
+        let bits = line_end_bits(u8x16::from_slice(&bytes[at..]));
+        if bits != 0 {
+            return Some(at + bits.trailing_zeros() as usize);
         }
         at += 16;
     }

@@ -66,25 +66,24 @@ found-comment line start span u l e m o w s t =
     (subst IsUtf8 (sym s) (without_leading_blanks-part (drop (start + 1) line) after).utf8)
     (subst IsUtf8 (sym t) (trimmed-part (drop (start + 1) line) after).utf8))
 
--- a pair, by the text from its key on and the text from the end of the key on
-pub found-pair : (line text after : List ℕ) (start n m : ℕ) → IsUtf8 line → text ≡ drop start line → after ≡ drop (start + n) line
+-- a pair, by the text from its key on and the place of its value
+pub found-pair : (line text : List ℕ) (start n v : ℕ) → IsUtf8 line → text ≡ drop start line
     → start < length line → drop start line ≡ without_leading_blanks line → is_comment_sign (get_or line start 0) ≡ false
-    → n ≤ length text → key_of text ≡ take n text → rest_of text ≡ drop n text → m ≤ length after → drop m after ≡ value_of after
-    → AreFound line (Some (KVPair (record { start = start; end = start + n }) (record { start = start + n + m; end = length line })))
+    → n ≤ length text → key_of text ≡ take n text → rest_of text ≡ drop n text → v ≤ length line → drop v line ≡ value_of (drop (start + n) line)
+    → AreFound line (Some (KVPair (record { start = start; end = start + n }) (record { start = v; end = length line })))
 unfolding split_of
-found-pair line text after start n m u whole behind l e s nl k r ml v =
+found-pair line text start n v u whole l e s nl k r fits_value there =
     let key : Span = record { start = start; end = start + n } in
-    let value : Span = record { start = start + n + m; end = length line } in
+    let value : Span = record { start = v; end = length line } in
+    let after = drop (start + n) line in
     let text_utf8 : IsUtf8 text = subst IsUtf8 (sym (whole ∙ e)) (without_leading_blanks-part line u).utf8 in
-    let rest : rest_of text ≡ after = r ∙ ap (drop n) whole ∙ drop-drop n start line ∙ sym behind in
+    let rest : rest_of text ≡ after = r ∙ ap (drop n) whole ∙ drop-drop n start line in
     let after_utf8 : IsUtf8 after = subst IsUtf8 rest (rest_of-part text text_utf8).utf8 in
-    let there : drop (start + n + m) line ≡ value_of after = sym (drop-drop m (start + n) line) ∙ ap (drop m) (sym behind) ∙ v in
-    let value_utf8 : IsUtf8 (drop (start + n + m) line) = subst IsUtf8 (sym there) (value_of-part after after_utf8).utf8 in
+    let value_utf8 : IsUtf8 (drop v line) = subst IsUtf8 (sym there) (value_of-part after after_utf8).utf8 in
     let key_bytes : bytes_in line key ≡ key_of text =
     ap (λ j. take j (drop start line)) (let j : start + n - start ≡ n = omega arith in j) ∙ ap (take n) (sym whole) ∙ sym k in
-    let value_bytes : bytes_in line value ≡ value_of (rest_of text) = take_rest line (start + n + m) ∙ there ∙ ap value_of (sym rest) in
+    let value_bytes : bytes_in line value ≡ value_of (rest_of text) = take_rest line v ∙ there ∙ ap value_of (sym rest) in
     let fits : start + n ≤ length line = omega (arith, length-drop start line, ap length whole) in
-    let fits_value : start + n + m ≤ length line = omega (arith, length-drop (start + n) line, ap length behind) in
     let split : split_of line ≡ pair (key_of text) (value_of (rest_of text)) =
     ap split_full (sym (whole ∙ e)) ∙ full-pair text (get_or line start 0) (drop (start + 1) line) (whole ∙ drop_more line start 0 l) s in
     found line (Some (KVPair key value)) u (
@@ -92,7 +91,7 @@ found-pair line text after start n m u whole behind l e s nl k r ml v =
     ∙ ap (λ w. pair w (value_of (rest_of text))) (sym key_bytes)
     ∙ ap (pair (bytes_in line key)) (sym value_bytes)) (
       whole_span line key u (omega arith) fits (subst IsUtf8 whole text_utf8) (subst IsUtf8 (sym key_bytes) (key_of-part text text_utf8).utf8),
-      whole_span line value u fits_value (omega arith) value_utf8 (subst IsUtf8 (sym (take_rest line (start + n + m))) value_utf8),
+      whole_span line value u fits_value (omega arith) value_utf8 (subst IsUtf8 (sym (take_rest line v)) value_utf8),
     )
 
 -- the same line, as its bytes

@@ -59,6 +59,11 @@ fn finds_a_backslash(rt: HostRuntime) {
         ("a/b = \u{1f41e}", false),
         (r"\", true),
         (r"a\b", true),
+        ("eight/by", false),
+        (r"eight by\tes", true),
+        ("sixteen bytes and more", false),
+        (r"sixteen bytes an\d more", true),
+        (r"sixteen bytes, and sixteen more,\\", true),
     ] {
         assert_eq!(rt; has_backslash(text), wanted);
     }

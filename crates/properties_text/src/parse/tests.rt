@@ -72,14 +72,18 @@ fn cuts_lines_into_slices(rt: HostRuntime) -> Result<(), Fail> {
 
 #[test]
 fn counts_leading_blanks(rt: HostRuntime) {
-    let rows: [(&[u8], usize); 5] = [
+    let rows: [(&[u8], usize); 8] = [
         (b"", 0),
         (b"a ", 0),
         (b" a", 1),
         (b" \t\x0c\x0b", 3),
         (b"\xa0", 0),
+        (b"        eight blanks", 8),
+        (b"  \t\t\x0c\x0c          sixteen", 16),
+        (b"                   ", 19),
     ];
     for (text, wanted) in rows {
         assert_eq!(rt; leading_blanks(text), wanted);
+        assert_eq!(rt; indentation(text), wanted);
     }
 }

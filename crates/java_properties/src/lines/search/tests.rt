@@ -78,3 +78,19 @@ fn finds_a_line_end_wherever_it_stands(rt: HostRuntime) {
         assert_eq!(rt; find_line_end(Encoding::UTF_8, &bytes, 0), cr_at(at));
     }
 }
+
+#[test]
+fn finds_a_line_end_wherever_its_unit_stands(rt: HostRuntime) {
+    for unit in 0..100 {
+        let at = 2 * unit;
+        // U+0A0A stands before it, which is none.
+        let mut bytes = [LF; 200];
+        bytes[at] = CR;
+        bytes[at + 1] = 0;
+        assert_eq!(rt; find_line_end(Encoding::UTF_16LE, &bytes, 0), cr_at(at));
+        let mut bytes = [b'a'; 200];
+        bytes[at] = 0;
+        bytes[at + 1] = LF;
+        assert_eq!(rt; find_line_end(Encoding::UTF_16BE, &bytes, 0), lf_at(at));
+    }
+}

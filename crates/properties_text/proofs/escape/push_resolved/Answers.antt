@@ -28,7 +28,7 @@ loop-at-preserved c =
     let at = c.in-Some.at in
     let s = split_at c.as_bytes.result.now rest at c.loop-at.invariant.utf8 c.as_bytes.ensures.value c.in-Some.ensures in
     let text = string_bytes c.loop-at.text in
-    let grown = c.in_ok-push_str.ensures.bytes ∙ ap (λ v. text ++ v) (c.range.ensures.value ∙ slice-front rest at) in
+    let grown = c.in_ok-push_part.ensures ∙ ap (λ v. text ++ v) (c.range.ensures.value ∙ slice-front rest at) in
     record {
       utf8 = c.rest-rest.utf8;
       resolved = resolved_more (chars c.args.s.now) _ _ (chars rest) (chars (take at rest)) (chars (drop at rest)) (chars c.rest-rest.result.now) _ c.in-Ok.escape.character
@@ -43,4 +43,4 @@ returns c =
     let rest = c.loop-at.rest.now in
     let p = plain c.as_bytes.result.now rest c.loop-at.invariant.utf8 c.as_bytes.ensures.value c.in_default.ensures in
     resolved_end (chars c.args.s.now) _ _ (chars rest) _ c.loop-at.invariant.resolved p.meaning
-    (ap chars c.in_ok-push_str-2.ensures.bytes ∙ chars-append (string_bytes c.loop-at.text) rest (IsUtf8-string_bytes c.loop-at.text))
+    (ap chars c.in_ok-push_str.ensures.bytes ∙ chars-append (string_bytes c.loop-at.text) rest (IsUtf8-string_bytes c.loop-at.text))

@@ -1,4 +1,4 @@
-use Rattle.std.proofs.Common.{◌≡◌, ◌<◌, ◌≤◌, true, false, length, get_or, ◌+◌, sym, ap, ◌∙◌}
+use Rattle.std.proofs.Common.{◌≡◌, ◌<◌, ◌≤◌, true, false, length, get_or, sym, ap, ◌∙◌}
 use Rattle.std.specs.Prelude.{None}
 use Rattle.std.proofs.lemmas.List.{get_or_read, take_rest, drop_all}
 use borrow.Author.Tests.{ltb-true, ltb-false}
@@ -38,7 +38,7 @@ returns c =
     let sign : is_comment_sign (get_or bytes start 0) ≡ false =
     ap is_comment_sign (sym (c.from.ensures ∙ first)) ∙ sym c.is_comment_sign.ensures ∙ c.if-is_comment_sign.false in
     let p = found_at bytes c.args.line.now _ c.as_bytes-bytes.ensures.value
-    (found-pair bytes _ _ start n c.separator_length.result c.as_bytes-bytes.ensures.utf8 (take_rest bytes start) (take_rest bytes (start + n))
+    (found-pair bytes _ start n c.value_start-value_start.result c.as_bytes-bytes.ensures.utf8 (take_rest bytes start)
     inside c.leading_blanks-start.ensures.rest sign c.key_length.ensures.within c.key_length.ensures.key c.key_length.ensures.rest
-    c.separator_length.ensures.within c.separator_length.ensures.rest) in
+    c.value_start-value_start.ensures.within c.value_start-value_start.ensures.rest) in
     record { slices = p.slices; meets = p.meets; spans = p.spans }

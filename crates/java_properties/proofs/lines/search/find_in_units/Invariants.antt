@@ -1,10 +1,14 @@
-use Rattle.std.proofs.Common.{◌-◌, length}
+use Rattle.std.proofs.Common.{◌≤◌, ◌-◌, length}
 use Rattle.properties_text.specs.Encoding.{encoding_of}
 use Rattle.java_properties.specs.LineSearch.{IsSearched}
 use Rattle.java_properties.proofs.lines.search.find_in_units.Given as goal
 
-abbrev pub invariant-hits : goal.invariant-hits
-invariant-hits l = IsSearched (encoding_of l.encoding) l.bytes l.searched
+abbrev pub invariant-loop-searched : goal.invariant-loop-searched
+invariant-loop-searched l = record {
+  near : l.searched ≤ l.near;
+  within : l.near ≤ length l.bytes;
+  searched : IsSearched (encoding_of l.encoding) l.bytes l.searched;
+}
 
-abbrev pub decreases-hits : goal.decreases-hits
-decreases-hits l = length l.bytes - l.searched
+abbrev pub decreases-loop-searched : goal.decreases-loop-searched
+decreases-loop-searched l = l.near - l.searched
