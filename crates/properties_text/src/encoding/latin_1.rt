@@ -28,6 +28,7 @@ pub fn put_16(run: &mut [u8], at: usize, v: u8x16, kept: usize) -> usize
     requires room { at + 32 ≤ length run.old }
     requires kept { kept ≤ 16 }
     ensures same_room { length run.new ≡ length run.old }
+    ensures after { at ≤ result }
     ensures within { result ≤ at + 2 * kept }
     ensures scalars { all_scalars (take kept v) ≡ true }
     ensures text { take result run.new ≡ take at run.old ++ encode_utf8_all (take kept v) }

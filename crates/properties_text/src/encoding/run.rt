@@ -9,7 +9,7 @@ ghost use Rattle.properties_text.specs.declared.encoding.Encoding.TheVariants.{W
 use super::Encoding;
 use super::first_piece::first_piece;
 use super::latin_1::{put_16, table_bits};
-use super::unit_blocks::{Written, put_latin_1};
+use super::unit_blocks::{Written, put_latin_1, put_sixteen};
 use super::utf_16::ByteOrder;
 use super::windows_1252::character_of;
 use std::simd::prelude::*;
@@ -147,8 +147,8 @@ fn decode_run_of<'a>(
     Decoded { end: at, rest }
 }
 
-// Writes units at the front from this place on, eight at most, as far as they are characters of Latin-1. There are none in
-// other encodings than UTF-16, and where fewer than eight are left, or room for fewer.
+// Writes units at the front from this place on, sixteen at most, as far as they are characters of Latin-1. There are none
+// in other encodings than UTF-16, and where fewer than eight are left, or room for fewer.
 #[inline(always)]
 fn put_units(run: &mut [u8], at: usize, encoding: Encoding, bytes: &[u8]) -> Written
     requires { at ≤ length run.old }
@@ -177,12 +177,18 @@ fn put_block(run: &mut [u8], at: usize, order: ByteOrder, bytes: &[u8]) -> Writt
     ensures end { result.end ≤ at + 2 * result.units }
     ensures text { PutsUnits (utf_16_of order) bytes.now run.old run.new at result }
 {
-    if bytes.len() < 16 || run.len() - at < 16 || order.unit(bytes[0], bytes[1]) >= 0x100 {
+    let room = run.len() - at;
+    if bytes.len() < 16 || room < 16 || order.unit(bytes[0], bytes[1]) >= 0x100 {
         return Written { units: 0, end: at };
     }
     // The odd units go first, so that whole blocks are left.
-    let odd = (bytes.len() / 2 - 1) % 8 + 1;
-    put_latin_1(run, at, order, u8x16::from_slice(bytes), odd)
+    let last = bytes.len() / 2 - 1;
+    let v = u8x16::from_slice(bytes);
+    if bytes.len() >= 32 && room >= 32 {
+        let next = u8x16::from_slice(&bytes[16..]);
+        return put_sixteen(run, at, order, v, next, last % 16 + 1);
+    }
+    put_latin_1(run, at, order, v, last % 8 + 1)
 }
 
 // Four characters of ASCII, and the bytes after them.
