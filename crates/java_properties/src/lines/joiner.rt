@@ -185,6 +185,7 @@ impl LineJoiner {
 
 // Puts the text of the line that was found in the place of another, unless its bytes are its text, and says whether it
 // did.
+#[inline(always)]
 fn keep_decoded(text: &mut TextBuffer, finder: &LineFinder) -> Result<bool, AllocError>
     ensures { OnOkKeeps finder.now result text.new }
 {
