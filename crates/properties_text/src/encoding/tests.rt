@@ -155,6 +155,19 @@ fn lends_text_as_it_stands(rt: HostRuntime) -> Result<(), Fail> {
 }
 
 #[test]
+fn tells_ascii(rt: HostRuntime) {
+    let mut bytes = [b'a'; 40];
+    for length in 0..40 {
+        assert!(rt; as_text(Encoding::WINDOWS_1252, &bytes[..length]).is_some());
+        for at in 0..length {
+            bytes[at] = 0xe9;
+            assert!(rt; as_text(Encoding::WINDOWS_1252, &bytes[..length]).is_none());
+            bytes[at] = b'a';
+        }
+    }
+}
+
+#[test]
 fn appends_texts(rt: HostRuntime) -> Result<(), Fail> {
     let mut text = String::from_str(rt.alloc(), "a")?;
     push_text(&mut text, " \u{e9}")?;

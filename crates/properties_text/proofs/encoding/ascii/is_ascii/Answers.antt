@@ -1,4 +1,4 @@
-use Rattle.std.proofs.Common.{◌≡◌, ◌-◌, ◌∙◌, arith, length, sym}
+use Rattle.std.proofs.Common.{◌-◌, ◌∙◌, arith, length, sym}
 use Rattle.properties_text.proofs.AsciiFronts.{ascii-chunk, ascii-more, ascii-whole}
 use Rattle.properties_text.proofs.encoding.ascii.is_ascii.Goals as goal
 

@@ -1,4 +1,4 @@
-use Rattle.std.proofs.Common.{◌≤◌, ◌+◌, ◌-◌, length, take}
+use Rattle.std.proofs.Common.{◌≤◌, ◌-◌, length, take}
 use Rattle.std.specs.Str.{IsAscii}
 use Rattle.properties_text.proofs.encoding.ascii.is_ascii.Given as goal
 
