@@ -178,17 +178,53 @@ fn put_block(run: &mut [u8], at: usize, order: ByteOrder, bytes: &[u8]) -> Writt
     ensures text { PutsUnits (utf_16_of order) bytes.now run.old run.new at result }
 {
     let room = run.len() - at;
-    if bytes.len() < 16 || room < 16 || order.unit(bytes[0], bytes[1]) >= 0x100 {
+    if bytes.len() >= 32 && room >= 32 {
+        put_long_block(run, at, order, bytes)
+    } else if bytes.len() >= 16 && room >= 16 {
+        put_short_block(run, at, order, bytes)
+    } else {
+        Written { units: 0, end: at }
+    }
+}
+
+// Sixteen units at most. The odd ones go first, so that whole blocks are left.
+#[inline(always)]
+fn put_long_block(run: &mut [u8], at: usize, order: ByteOrder, bytes: &[u8]) -> Written
+    requires room { at + 32 ≤ length run.old }
+    requires bytes { 32 ≤ length bytes.now }
+    ensures same_room { length run.new ≡ length run.old }
+    ensures within { 2 * result.units ≤ length bytes.now }
+    ensures after { at ≤ result.end }
+    ensures end { result.end ≤ at + 2 * result.units }
+    ensures room { result.end ≤ length run.new }
+    ensures text { PutsUnits (utf_16_of order) bytes.now run.old run.new at result }
+{
+    if order.unit(bytes[0], bytes[1]) >= 0x100 {
         return Written { units: 0, end: at };
     }
-    // The odd units go first, so that whole blocks are left.
-    let last = bytes.len() / 2 - 1;
-    let v = u8x16::from_slice(bytes);
-    if bytes.len() >= 32 && room >= 32 {
-        let next = u8x16::from_slice(&bytes[16..]);
-        return put_sixteen(run, at, order, v, next, last % 16 + 1);
+    let odd = (bytes.len() / 2 - 1) % 16 + 1;
+    let first = u8x16::from_slice(bytes);
+    let second = u8x16::from_slice(&bytes[16..]);
+    put_sixteen(run, at, order, first, second, odd)
+}
+
+// Eight at most.
+#[inline(always)]
+fn put_short_block(run: &mut [u8], at: usize, order: ByteOrder, bytes: &[u8]) -> Written
+    requires room { at + 16 ≤ length run.old }
+    requires bytes { 16 ≤ length bytes.now }
+    ensures same_room { length run.new ≡ length run.old }
+    ensures within { 2 * result.units ≤ length bytes.now }
+    ensures after { at ≤ result.end }
+    ensures end { result.end ≤ at + 2 * result.units }
+    ensures room { result.end ≤ length run.new }
+    ensures text { PutsUnits (utf_16_of order) bytes.now run.old run.new at result }
+{
+    if order.unit(bytes[0], bytes[1]) >= 0x100 {
+        return Written { units: 0, end: at };
     }
-    put_latin_1(run, at, order, v, last % 8 + 1)
+    let odd = (bytes.len() / 2 - 1) % 8 + 1;
+    put_latin_1(run, at, order, u8x16::from_slice(bytes), odd)
 }
 
 // Four characters of ASCII, and the bytes after them.
