@@ -1,4 +1,4 @@
--- Units of two bytes, eight at once.
+-- Units of two bytes, eight and sixteen at once.
 use Rattle.std.specs.Prelude.{encode_utf8_all}
 use Rattle.std.specs.Str.{chars, IsUtf8}
 use Rattle.std.proofs.Math.Utf8.{scalars}
@@ -8,9 +8,9 @@ use Rattle.std.specs.List.{AllByRecursion}
 use Rattle.std.specs.Int.Count.{count_trailing_zeros}
 use Rattle.std.specs.Simd.Lanes.{zip2, Each1, pick_l, mask_l, top, number_l, digits_l}
 use Rattle.std.proofs.lemmas.Nat.{and_mask}
-use Rattle.std.proofs.lemmas.List.{length-map, length-take-le, map-id, take-take, take_at}
+use Rattle.std.proofs.lemmas.List.{length-append, length-map, length-take-le, map-id, take-take, take_at}
 use Rattle.std.proofs.lemmas.Simd.{mask_l-mod, tops_compared, zip2_splat, zip2_splat_left, pick_l_left, pick_l_whole}
-use Rattle.properties_text.specs.Decoding.{text_of, unit_of, units_of, utf_16_of, PutsUnits}
+use Rattle.properties_text.specs.Decoding.{text_of, unit_of, units_of, evens, odds, lows_of, highs_of, utf_16_of, PutsUnits}
 use Rattle.properties_text.specs.declared.encoding.Encoding.{Encoding}
 use Rattle.properties_text.proofs.AsciiFronts.{unit-step}
 use Rattle.properties_text.specs.declared.encoding.unit_blocks.Written.{Written}
@@ -113,6 +113,88 @@ first-same units all n long e h =
     let known = subst (λ l. AllByRecursion (λ u. u < 0x100) (take n l)) (sym e) h in
     ap (take n) (map-id (zip2 bit_and units (replicate 8 255)) ∙ masked units long) ∙ low-bytes units n known ∙ ap (take n) e
 
+-- ---- sixteen of them, by their halves
+
+abbrev even_places : List ℕ
+even_places = 0 ∷ 2 ∷ 4 ∷ 6 ∷ 8 ∷ 10 ∷ 12 ∷ 14 ∷ 16 ∷ 18 ∷ 20 ∷ 22 ∷ 24 ∷ 26 ∷ 28 ∷ 30 ∷ []
+
+abbrev odd_places : List ℕ
+odd_places = 1 ∷ 3 ∷ 5 ∷ 7 ∷ 9 ∷ 11 ∷ 13 ∷ 15 ∷ 17 ∷ 19 ∷ 21 ∷ 23 ∷ 25 ∷ 27 ∷ 29 ∷ 31 ∷ []
+
+pub evens-picked : (v : List ℕ) → length v ≡ 32 → pick_l 0 v even_places ≡ evens v
+evens-picked v long = ap evens (pick_l_whole 0 v 32 long)
+
+pub odds-picked : (v : List ℕ) → length v ≡ 32 → pick_l 0 v odd_places ≡ odds v
+odds-picked v long = ap odds (pick_l_whole 0 v 32 long)
+
+-- where the high bytes are zero, the low ones are the units
+pub low-units : (order : ByteOrder) (v : List ℕ) (n : ℕ) → AllByRecursion (λ h. h < 1) (take n (highs_of order v)) → take n (units_of order v) ≡ take n (lows_of order v)
+low-units order v zero h = refl
+low-units LowFirst [] (suc n) h = refl
+low-units LowFirst (a ∷ []) (suc n) h = refl
+low-units LowFirst (a ∷ b ∷ v) (suc n) h =
+    let same : unit_of LowFirst a b ≡ a = omega (arith, h.0) in
+    ap₂ (λ x xs. x ∷ xs) same (low-units LowFirst v n h.1)
+low-units HighFirst [] (suc n) h = refl
+low-units HighFirst (a ∷ []) (suc n) h = refl
+low-units HighFirst (a ∷ b ∷ v) (suc n) h =
+    let same : unit_of HighFirst a b ≡ b = omega (arith, h.0) in
+    ap₂ (λ x xs. x ∷ xs) same (low-units HighFirst v n h.1)
+
+-- the bits of the high bytes that aren't
+abbrev pub high_bits : List ℕ → ℕ
+high_bits highs = mask_l (map (top 7) (zip2 (λ a b. cond (leb a b) 255 0) (replicate 16 1) highs)) % 2 ^ 64
+
+pub first-zeros : (highs : List ℕ) (n : ℕ) → length highs ≡ 16 → n ≤ count_trailing_zeros 64 (high_bits highs) → n ≤ 16 → AllByRecursion (λ h. h < 1) (take n highs)
+first-zeros highs n long few le =
+    let bits : high_bits highs ≡ mask_l (map (leb 1) highs) =
+    ap (λ l. mask_l l % 2 ^ 64) (tops_compared w8 leb (replicate 16 1) highs ∙ zip2_splat_left leb 1 16 highs long)
+    ∙ mask_l-mod (map (leb 1) highs) 64 (omega (arith, length-map highs (leb 1))) in
+    first-below 1 highs (high_bits highs) 16 n long (omega arith) bits few le
+
+length-evens : (v : List ℕ) → length v ≡ 32 → length (evens v) ≡ 16
+length-evens v long = ap length (sym (evens-picked v long))
+
+length-odds : (v : List ℕ) → length v ≡ 32 → length (odds v) ≡ 16
+length-odds v long = ap length (sym (odds-picked v long))
+
+length-highs : (order : ByteOrder) (v : List ℕ) → length v ≡ 32 → length (highs_of order v) ≡ 16
+length-highs LowFirst = length-odds
+length-highs HighFirst = length-evens
+
+-- the low bytes are below 100
+below-evens : (v : List ℕ) (n : ℕ) → Each1 (Fits w8) v → AllByRecursion (λ u. u < 0x100) (take n (evens v))
+below-evens v zero h = tt
+below-evens [] (suc n) h = tt
+below-evens (a ∷ []) (suc n) h = tt
+below-evens (a ∷ b ∷ v) (suc n) h = (h.0.fits, below-evens v n h.1.1)
+
+below-odds : (v : List ℕ) (n : ℕ) → Each1 (Fits w8) v → AllByRecursion (λ u. u < 0x100) (take n (odds v))
+below-odds v zero h = tt
+below-odds [] (suc n) h = tt
+below-odds (a ∷ []) (suc n) h = tt
+below-odds (a ∷ b ∷ v) (suc n) h = (h.1.0.fits, below-odds v n h.1.1)
+
+below-lows : (order : ByteOrder) (v : List ℕ) (n : ℕ) → Each1 (Fits w8) v → AllByRecursion (λ u. u < 0x100) (take n (lows_of order v))
+below-lows LowFirst = below-evens
+below-lows HighFirst = below-odds
+
+fits-append : (a b : List ℕ) → Each1 (Fits w8) a → Each1 (Fits w8) b → Each1 (Fits w8) (a ++ b)
+fits-append [] b h k = k
+fits-append (x ∷ a) b h k = (h.0, fits-append a b h.1 k)
+
+module _ (order : ByteOrder) (a b highs : List ℕ) (n : ℕ) (long_a : length a ≡ 16) (long_b : length b ≡ 16) (is : highs ≡ highs_of order (a ++ b))
+    (few : n ≤ count_trailing_zeros 64 (high_bits highs)) (le : n ≤ 16) where
+  -- the first of them are their low bytes
+  pub sixteen-same : take n (lows_of order (a ++ b)) ≡ take n (units_of order (a ++ b))
+  sixteen-same =
+      let long : length (a ++ b) ≡ 32 = omega (arith, length-append a b) in
+      let zeros = first-zeros highs n (ap length is ∙ length-highs order (a ++ b) long) few le in
+      sym (low-units order (a ++ b) n (subst (λ l. AllByRecursion (λ h. h < 1) (take n l)) is zeros))
+
+  pub sixteen-bytes : Each1 (Fits w8) a → Each1 (Fits w8) b → AllByRecursion (λ u. u < 0x100) (take n (units_of order (a ++ b)))
+  sixteen-bytes fits_a fits_b = subst (AllByRecursion (λ u. u < 0x100)) sixteen-same (below-lows order (a ++ b) n (fits-append a b fits_a fits_b))
+
 -- ---- what they stand for
 
 -- n of the units of the first w bytes
@@ -129,15 +211,16 @@ front-is order (suc n) (suc (suc w)) (a ∷ b ∷ bytes) le long h =
     ∙ ap (λ l. unit_of order a b ∷ l) (front-is order n w bytes (omega arith) (omega arith) h.1)
     ∙ ap (λ k. unit_of order a b ∷ (take n (units_of order (take w bytes)) ++ text_of (utf_16_of order) (drop k (a ∷ b ∷ bytes)))) place
 
-pub puts-units : (order : ByteOrder) (bytes old new : List ℕ) (at : ℕ) (written : Written) → 16 ≤ length bytes → written.units ≤ 8
-    → AllByRecursion (λ u. u < 0x100) (take written.units (units_of order (take 16 bytes))) → scalars (take written.units (units_of order (take 16 bytes))) ≡ true
-    → take written.end new ≡ take at old ++ encode_utf8_all (take written.units (units_of order (take 16 bytes)))
+-- some of the units of the first w bytes are written
+pub puts-units : (order : ByteOrder) (w : ℕ) (bytes old new : List ℕ) (at : ℕ) (written : Written) → w ≤ length bytes → 2 * written.units ≤ w
+    → AllByRecursion (λ u. u < 0x100) (take written.units (units_of order (take w bytes))) → scalars (take written.units (units_of order (take w bytes))) ≡ true
+    → take written.end new ≡ take at old ++ encode_utf8_all (take written.units (units_of order (take w bytes)))
     → PutsUnits (utf_16_of order) bytes old new at written
-puts-units order bytes old new at written long le small are text = record {
-  front = take written.units (units_of order (take 16 bytes));
+puts-units order w bytes old new at written long le small are text = record {
+  front = take written.units (units_of order (take w bytes));
   scalars = are;
   text = text;
-  same = front-is order written.units 16 bytes (omega arith) long small;
+  same = front-is order written.units w bytes le long small;
 }
 
 -- what stands before that place is left as it was

@@ -50,6 +50,26 @@ units_of order [] = []
 units_of order (a ∷ []) = []
 units_of order (a ∷ b ∷ bytes) = unit_of order a b ∷ units_of order bytes
 
+-- the bytes at the even places, and those at the odd ones
+abbrev pub evens : List ℕ → List ℕ
+evens [] = []
+evens (a ∷ []) = []
+evens (a ∷ b ∷ bytes) = a ∷ evens bytes
+
+abbrev pub odds : List ℕ → List ℕ
+odds [] = []
+odds (a ∷ []) = []
+odds (a ∷ b ∷ bytes) = b ∷ odds bytes
+
+-- the low bytes of the units of some bytes, and the high ones
+abbrev pub lows_of : ByteOrder → List ℕ → List ℕ
+lows_of LowFirst = evens
+lows_of HighFirst = odds
+
+abbrev pub highs_of : ByteOrder → List ℕ → List ℕ
+highs_of LowFirst = odds
+highs_of HighFirst = evens
+
 abbrev pub range_of : ByteRange → Range
 range_of r = from_to r.0 r.1
 

@@ -13,6 +13,7 @@ mod first_piece;
 mod latin_1;
 mod read_ahead;
 mod run;
+mod text_buffer;
 mod unit_blocks;
 mod utf_16;
 mod utf_8;
@@ -21,6 +22,7 @@ mod windows_1252;
 pub use decode_iter::DecodeIter;
 pub use encode::OutputEncoding;
 pub(crate) use encode::encode_run;
+pub use text_buffer::TextBuffer;
 pub(crate) use windows_1252::byte_of;
 
 /// The encodings of properties files, by the names of the WHATWG Encoding Standard.

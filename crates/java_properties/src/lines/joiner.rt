@@ -3,7 +3,6 @@
 ghost use Rattle.std.specs.Prelude.{◌≡◌, ◌≤◌, ◌<◌, false, true, [], take, drop, if◌then◌else◌, OnOk, OnSome};
 ghost use Rattle.properties_format.specs.Groups.{without_open_backslash};
 ghost use Rattle.std.specs.Str.{IsUtf8, chars};
-ghost use Rattle.std.specs.String.{string_bytes};
 ghost use Rattle.counted_io.specs.Streams.{IsSameReader};
 ghost use Rattle.properties_format.specs.Encoding.{windows_1252};
 ghost use Rattle.properties_format.specs.ItemsToCome.{start};
@@ -20,8 +19,8 @@ use crate::lines::search::{LineEnd, unit_size};
 use crate::lines::seeker::HeldLine;
 use counted_io::CountedRead;
 use memchr::memchr;
-use properties_text::encoding::Encoding;
-use properties_text::encoding::decode::{as_text, decode_line, push_decoded, push_text};
+use properties_text::encoding::decode::as_text;
+use properties_text::encoding::{Encoding, TextBuffer};
 use properties_text::escape::has_backslash;
 use std::alloc::{AllocError, Global};
 use std::marker::Model;
@@ -33,15 +32,16 @@ use std::marker::Model;
 pub struct LineJoiner {
     finder: LineFinder,
     // The logical line that came last, where it isn't the finder's line as it stands.
-    text: String,
+    text: TextBuffer,
     is_kept: bool,
-    alloc: Global,
+    // Where the lines after an open one are decoded.
+    decoded: TextBuffer,
 }
 
 impl Model for LineJoiner {
     ghost Value = { Joiner };
 
-    ghost view = { λ s. record { state = s.finder.state; line = if s.is_kept then string_bytes s.text else s.finder.line } };
+    ghost view = { λ s. record { state = s.finder.state; line = if s.is_kept then s.text else s.finder.line } };
 
     ghost invariant = { λ s. s.is_kept ≡ false → IsUtf8 s.finder.line };
 }
@@ -53,9 +53,9 @@ impl LineJoiner {
     {
         LineJoiner {
             finder: LineFinder::new(alloc, encoding),
-            text: String::new(alloc),
+            text: TextBuffer::new(alloc),
             is_kept: true,
-            alloc,
+            decoded: TextBuffer::new(alloc),
         }
     }
 
@@ -63,12 +63,7 @@ impl LineJoiner {
     pub fn line(&self) -> &str
         ensures { result.now ≡ self.now.line }
     {
-        if self.is_kept {
-            self.text.as_str()
-        } else {
-            // SAFETY: the line was decoded, and its bytes were its text.
-            unsafe { str::from_utf8_unchecked(self.finder.line()) }
-        }
+        decoded_line(&self.text, self.is_kept, &self.finder)
     }
 
     /// Ends the reading for good.
@@ -136,7 +131,7 @@ impl LineJoiner {
     {
         self.text.clear();
         let bytes = self.finder.peeked(line);
-        let Ok(()) = push_decoded(&mut self.text, Encoding::WINDOWS_1252, bytes) else {
+        let Ok(()) = self.text.push_decoded(Encoding::WINDOWS_1252, bytes) else {
             return None;
         };
         self.is_kept = true;
@@ -156,7 +151,7 @@ impl LineJoiner {
             return None;
         }
         self.text.clear();
-        let Ok(()) = push_decoded(&mut self.text, self.finder.encoding(), bytes) else {
+        let Ok(()) = self.text.push_decoded(self.finder.encoding(), bytes) else {
             return None;
         };
         if has_backslash(self.text.as_str()) {
@@ -213,7 +208,7 @@ impl LineJoiner {
         ensures left { lines_left self.new.state ≤ lines_left self.old.state }
     {
         keep_opened(&mut self.text, self.is_kept, &self.finder)?;
-        let joined = join_lines(self.alloc, &mut self.finder, reader, &mut self.text);
+        let joined = join_lines(&mut self.finder, reader, &mut self.text, &mut self.decoded);
         self.is_kept = true;
         joined
     }
@@ -245,8 +240,9 @@ impl LineJoiner {
 
 // Puts the text of the line that was found in the place of another, unless its bytes are its text, and says whether it
 // did.
-fn keep_decoded(text: &mut String, finder: &LineFinder) -> Result<bool, AllocError>
-    ensures { OnOkKeeps finder.now result (string_bytes text.new) }
+#[inline(always)]
+fn keep_decoded(text: &mut TextBuffer, finder: &LineFinder) -> Result<bool, AllocError>
+    ensures { OnOkKeeps finder.now result text.new }
 {
     let encoding = finder.encoding();
     let bytes = finder.line();
@@ -254,18 +250,31 @@ fn keep_decoded(text: &mut String, finder: &LineFinder) -> Result<bool, AllocErr
         Some(_) => Ok(false),
         None => {
             text.clear();
-            push_decoded(text, encoding, bytes)?;
+            text.push_decoded(encoding, bytes)?;
             Ok(true)
         }
     }
 }
 
+// The text that is kept, or else the line that was found.
+fn decoded_line<'a>(text: &'a TextBuffer, is_kept: bool, finder: &'a LineFinder) -> &'a str
+    requires { is_kept ≡ false → IsUtf8 finder.now.line }
+    ensures { result.now ≡ (if is_kept then text.now else finder.now.line) }
+{
+    if is_kept {
+        text.as_str()
+    } else {
+        // SAFETY: the line was decoded, and its bytes were its text.
+        unsafe { str::from_utf8_unchecked(finder.line()) }
+    }
+}
+
 // Keeps the line that came last, without the backslash that opens it: the text that is kept, or else the line that was
 // found.
-fn keep_opened(text: &mut String, is_kept: bool, finder: &LineFinder) -> Result<(), AllocError>
+fn keep_opened(text: &mut TextBuffer, is_kept: bool, finder: &LineFinder) -> Result<(), AllocError>
     requires { is_kept ≡ false → IsUtf8 finder.now.line }
-    ensures { let line = if is_kept then string_bytes text.old else finder.now.line in
-        OnOk result (chars (string_bytes text.new) ≡ without_open_backslash (chars line)) }
+    ensures { let line = if is_kept then text.old else finder.now.line in
+        OnOk result (chars text.new ≡ without_open_backslash (chars line)) }
 {
     if is_kept {
         close(text);
@@ -274,33 +283,35 @@ fn keep_opened(text: &mut String, is_kept: bool, finder: &LineFinder) -> Result<
     // SAFETY: the line was decoded, and its bytes were its text.
     let line = unsafe { str::from_utf8_unchecked(finder.line()) };
     text.clear();
-    push_text(text, without_open_backslash(line))
+    text.push_text(without_open_backslash(line))
 }
 
 // Takes off the backslash that opens a line.
-fn close(text: &mut String)
-    ensures { chars (string_bytes text.new) ≡ without_open_backslash (chars (string_bytes text.old)) }
+fn close(text: &mut TextBuffer)
+    ensures { chars text.new ≡ without_open_backslash (chars text.old) }
 {
-    if is_open(text.as_str()) {
-        text.pop();
+    let line = text.as_str();
+    if is_open(line) {
+        let last = line.len() - 1;
+        text.truncate(last);
     }
 }
 
 // Appends the lines after an open one to its text, up to one that isn't open, or to the end of the input.
 fn join_lines<R: CountedRead>(
-    alloc: Global,
     finder: &mut LineFinder,
     reader: &mut R,
-    text: &mut String,
+    text: &mut TextBuffer,
+    decoded: &mut TextBuffer,
 ) -> Result<(), PropertiesError>
-    ensures joins { JoinsOn R.CountedRead finder.old.state reader.old (chars (string_bytes text.old)) result finder.new.state reader.new (chars (string_bytes text.new)) }
+    ensures joins { JoinsOn R.CountedRead finder.old.state reader.old (chars text.old) result finder.new.state reader.new (chars text.new) }
     ensures same_reader { IsSameReader R.CountedRead reader.old reader.new }
     ensures left { lines_left finder.new.state ≤ lines_left finder.old.state }
 {
     while let Some(found) = finder.find_line(reader) {
         match found {
             Ok(_) => {
-                if !append(alloc, finder, text)? {
+                if !append(finder, text, decoded)? {
                     return Ok(());
                 }
             }
@@ -311,10 +322,15 @@ fn join_lines<R: CountedRead>(
 }
 
 // Appends what the line that was found adds to a join, and says whether it is open.
-fn append(alloc: Global, finder: &LineFinder, text: &mut String) -> Result<bool, AllocError>
-    ensures { Adds finder.now (chars (string_bytes text.old)) result (chars (string_bytes text.new)) }
+fn append(
+    finder: &LineFinder,
+    text: &mut TextBuffer,
+    decoded: &mut TextBuffer,
+) -> Result<bool, AllocError>
+    ensures { Adds finder.now (chars text.old) result (chars text.new) }
 {
-    let line = decode_line(alloc, finder.encoding(), finder.line())?;
-    push_text(text, addition(&line))?;
-    Ok(is_open(&line))
+    let is_kept = keep_decoded(decoded, finder)?;
+    let line = decoded_line(decoded, is_kept, finder);
+    text.push_text(addition(line))?;
+    Ok(is_open(line))
 }

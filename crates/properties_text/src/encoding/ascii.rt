@@ -1,9 +1,30 @@
-// Bytes of ASCII, copied by vectors.
+// Bytes of ASCII, known and copied by vectors.
 
-ghost use Rattle.std.specs.Prelude.{◌≡◌, ◌+◌, ◌<◌, ◌≤◌, ◌++◌, length, take};
+ghost use Rattle.std.specs.Prelude.{◌≡◌, ◌+◌, ◌<◌, ◌≤◌, ◌++◌, ◌↔◌, true, length, take};
 ghost use Rattle.std.specs.List.{AllByRecursion};
+ghost use Rattle.std.specs.Str.{IsAscii};
 
+use super::latin_1;
 use std::simd::prelude::*;
+
+/// Whether all of these bytes are ASCII.
+#[inline(always)]
+pub fn is_ascii(bytes: &[u8]) -> bool
+    ensures { (result ≡ true) ↔ IsAscii bytes.now }
+{
+    if bytes.len() < 16 {
+        return bytes.is_ascii();
+    }
+    let mut at = 0;
+    while bytes.len() - at > 16 {
+        if !latin_1::is_ascii(u8x16::from_slice(&bytes[at..])) {
+            return false;
+        }
+        at += 16;
+    }
+    // The last sixteen, of which some may have been looked at.
+    latin_1::is_ascii(u8x16::from_slice(&bytes[bytes.len() - 16..]))
+}
 
 /// Copies bytes at the front from this place on, as far as they are ASCII, sixteen at most, and returns how many those are.
 /// Where fewer are left, or room for fewer, it copies eight, four or one.

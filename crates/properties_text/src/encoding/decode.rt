@@ -72,9 +72,9 @@ pub fn push_decoded(text: &mut String, encoding: Encoding, bytes: &[u8]) -> Resu
         if after.is_empty() {
             return Ok(());
         }
-        let decoded = decode_run(&mut run, encoding, after);
+        let decoded = decode_run(&mut run, 0, encoding, after);
         // SAFETY: a run is text.
-        let more = unsafe { str::from_utf8_unchecked(&run[..decoded.length]) };
+        let more = unsafe { str::from_utf8_unchecked(&run[..decoded.end]) };
         push_text(text, more)?;
         rest = decoded.rest;
     }

@@ -1,6 +1,6 @@
 // Characters of Latin-1, whose numbers are bytes, sixteen at once.
 
-ghost use Rattle.std.specs.Prelude.{◌≡◌, ◌+◌, ◌*◌, ◌≤◌, ◌++◌, true, length, take, map, encode_utf8_all};
+ghost use Rattle.std.specs.Prelude.{◌≡◌, ◌+◌, ◌*◌, ◌≤◌, ◌++◌, ◌↔◌, true, length, take, map, encode_utf8_all};
 ghost use Rattle.std.specs.Str.{IsAscii, all_scalars};
 ghost use Rattle.std.specs.Simd.Lanes.{mask_l};
 ghost use Rattle.properties_format.specs.Windows1252.{is_in_table};
@@ -28,6 +28,7 @@ pub fn put_16(run: &mut [u8], at: usize, v: u8x16, kept: usize) -> usize
     requires room { at + 32 ≤ length run.old }
     requires kept { kept ≤ 16 }
     ensures same_room { length run.new ≡ length run.old }
+    ensures after { at ≤ result }
     ensures within { result ≤ at + 2 * kept }
     ensures scalars { all_scalars (take kept v) ≡ true }
     ensures text { take result run.new ≡ take at run.old ++ encode_utf8_all (take kept v) }
@@ -44,8 +45,8 @@ pub fn put_16(run: &mut [u8], at: usize, v: u8x16, kept: usize) -> usize
 }
 
 #[inline(always)]
-fn is_ascii(v: u8x16) -> bool
-    ensures { result ≡ true → IsAscii v }
+pub fn is_ascii(v: u8x16) -> bool
+    ensures { (result ≡ true) ↔ IsAscii v }
 {
     v.simd_ge(u8x16::splat(0x80)).to_bitmask() == 0
 }

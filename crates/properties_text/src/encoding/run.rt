@@ -1,4 +1,4 @@
-// Many characters at once: the text of bytes at the front, in a piece of memory.
+// Many characters at once: the text of bytes at the front, after another text in a piece of memory.
 
 ghost use Rattle.std.specs.Prelude.{◌≡◌, ◌≤◌, ◌<◌, ◌+◌, ◌*◌, ◌%◌, ◌++◌, ◌∷◌, [], length, take, IfSome};
 ghost use Rattle.std.specs.Char.{encode_utf8, IsScalar};
@@ -9,7 +9,7 @@ ghost use Rattle.properties_text.specs.declared.encoding.Encoding.TheVariants.{W
 use super::Encoding;
 use super::first_piece::first_piece;
 use super::latin_1::{put_16, table_bits};
-use super::unit_blocks::{Written, put_latin_1};
+use super::unit_blocks::{Written, put_latin_1, put_sixteen};
 use super::utf_16::ByteOrder;
 use super::windows_1252::character_of;
 use std::simd::prelude::*;
@@ -17,63 +17,77 @@ use std::simd::prelude::*;
 /// What was decoded of some bytes.
 #[derive(Clone, Copy)]
 pub struct Decoded<'a> {
-    /// How many bytes of text it is.
-    pub length: usize,
+    /// The place where the text ends.
+    pub end: usize,
     /// The bytes that are left.
     pub rest: &'a [u8],
 }
 
-/// Decodes bytes at the front, as far as there is room for the text.
-pub fn decode_run<'a>(run: &mut [u8], encoding: Encoding, bytes: &'a [u8]) -> Decoded<'a>
-    requires room { 4 ≤ length run.old }
-    ensures within { result.length ≤ length run.new }
+/// Decodes bytes at the front, as far as there is room for the text, which goes on after one that ends at this place.
+#[inline(always)]
+pub fn decode_run<'a>(
+    run: &mut [u8],
+    start: usize,
+    encoding: Encoding,
+    bytes: &'a [u8],
+) -> Decoded<'a>
+    requires room { start + 4 ≤ length run.old }
+    requires is_text { IsUtf8 (take start run.old) }
+    ensures within { result.end ≤ length run.new }
     ensures same_room { length run.new ≡ length run.old }
-    ensures is_text { IsUtf8 (take result.length run.new) }
-    ensures text { let text = chars (take result.length run.new) in
-        text ++ text_of encoding result.rest.now ≡ text_of encoding bytes.now }
+    ensures is_text { IsUtf8 (take result.end run.new) }
+    ensures text { let text = chars (take result.end run.new) in
+        text ++ text_of encoding result.rest.now
+        ≡ chars (take start run.old) ++ text_of encoding bytes.now }
     ensures left { length result.rest.now ≤ length bytes.now }
     ensures shorter { 0 < length bytes.now → length result.rest.now < length bytes.now }
 {
     // A loop for each encoding, so that none asks for it at each character.
     match encoding {
-        Encoding::WINDOWS_1252 => decode_windows_1252(run, bytes),
-        Encoding::UTF_8 => decode_run_of(run, Encoding::UTF_8, 0, bytes),
-        Encoding::UTF_16LE => decode_run_of(run, Encoding::UTF_16LE, 0, bytes),
-        Encoding::UTF_16BE => decode_run_of(run, Encoding::UTF_16BE, 0, bytes),
+        Encoding::WINDOWS_1252 => decode_windows_1252(run, start, bytes),
+        Encoding::UTF_8 => decode_run_of(run, start, Encoding::UTF_8, bytes),
+        Encoding::UTF_16LE => decode_run_of(run, start, Encoding::UTF_16LE, bytes),
+        Encoding::UTF_16BE => decode_run_of(run, start, Encoding::UTF_16BE, bytes),
     }
 }
 
 // By blocks of sixteen, and what is fewer in the same way as other encodings.
 #[inline(always)]
-fn decode_windows_1252<'a>(run: &mut [u8], bytes: &'a [u8]) -> Decoded<'a>
-    requires room { 4 ≤ length run.old }
-    ensures within { result.length ≤ length run.new }
+fn decode_windows_1252<'a>(run: &mut [u8], start: usize, bytes: &'a [u8]) -> Decoded<'a>
+    requires room { start + 4 ≤ length run.old }
+    requires is_text { IsUtf8 (take start run.old) }
+    ensures within { result.end ≤ length run.new }
     ensures same_room { length run.new ≡ length run.old }
-    ensures is_text { IsUtf8 (take result.length run.new) }
-    ensures text { let text = chars (take result.length run.new) in
-        text ++ text_of WINDOWS_1252 result.rest.now ≡ text_of WINDOWS_1252 bytes.now }
+    ensures is_text { IsUtf8 (take result.end run.new) }
+    ensures text { let text = chars (take result.end run.new) in
+        text ++ text_of WINDOWS_1252 result.rest.now
+        ≡ chars (take start run.old) ++ text_of WINDOWS_1252 bytes.now }
     ensures left { length result.rest.now ≤ length bytes.now }
     ensures shorter { 0 < length bytes.now → length result.rest.now < length bytes.now }
 {
-    let front = decode_blocks(run, bytes);
+    let front = decode_blocks(run, start, bytes);
     // Where more blocks come, the next run goes on with them.
-    if front.length > 0 && front.rest.len() >= 16 {
+    if front.end > start && front.rest.len() >= 16 {
         return front;
     }
-    decode_run_of(run, Encoding::WINDOWS_1252, front.length, front.rest)
+    decode_run_of(run, front.end, Encoding::WINDOWS_1252, front.rest)
 }
 
 // Sixteen bytes of windows-1252 at once, while there are as many, and room.
 #[inline(always)]
-fn decode_blocks<'a>(run: &mut [u8], bytes: &'a [u8]) -> Decoded<'a>
-    ensures within { result.length ≤ length run.new }
+fn decode_blocks<'a>(run: &mut [u8], start: usize, bytes: &'a [u8]) -> Decoded<'a>
+    requires within { start ≤ length run.old }
+    requires is_text { IsUtf8 (take start run.old) }
+    ensures within { result.end ≤ length run.new }
     ensures same_room { length run.new ≡ length run.old }
-    ensures is_text { IsUtf8 (take result.length run.new) }
-    ensures text { let text = chars (take result.length run.new) in
-        text ++ text_of WINDOWS_1252 result.rest.now ≡ text_of WINDOWS_1252 bytes.now }
-    ensures left { result.length + 4 * length result.rest.now ≤ 4 * length bytes.now }
+    ensures is_text { IsUtf8 (take result.end run.new) }
+    ensures text { let text = chars (take result.end run.new) in
+        text ++ text_of WINDOWS_1252 result.rest.now
+        ≡ chars (take start run.old) ++ text_of WINDOWS_1252 bytes.now }
+    ensures left { length result.rest.now ≤ length bytes.now }
+    ensures shorter { result.end + 4 * length result.rest.now ≤ start + 4 * length bytes.now }
 {
-    let mut at = 0;
+    let mut at = start;
     let mut rest = bytes;
     while rest.len() >= 16 && run.len() - at >= 32 {
         let v = u8x16::from_slice(rest);
@@ -88,23 +102,23 @@ fn decode_blocks<'a>(run: &mut [u8], bytes: &'a [u8]) -> Decoded<'a>
             rest = &rest[kept..];
         }
     }
-    Decoded { length: at, rest }
+    Decoded { end: at, rest }
 }
 
-// Goes on after a text that ends at this place.
+// A character after another, in any encoding.
 #[inline(always)]
 fn decode_run_of<'a>(
     run: &mut [u8],
-    encoding: Encoding,
     start: usize,
+    encoding: Encoding,
     bytes: &'a [u8],
 ) -> Decoded<'a>
     requires within { start ≤ length run.old }
     requires is_text { IsUtf8 (take start run.old) }
-    ensures within { result.length ≤ length run.new }
+    ensures within { result.end ≤ length run.new }
     ensures same_room { length run.new ≡ length run.old }
-    ensures is_text { IsUtf8 (take result.length run.new) }
-    ensures text { let text = chars (take result.length run.new) in
+    ensures is_text { IsUtf8 (take result.end run.new) }
+    ensures text { let text = chars (take result.end run.new) in
         text ++ text_of encoding result.rest.now
         ≡ chars (take start run.old) ++ text_of encoding bytes.now }
     ensures left { length result.rest.now ≤ length bytes.now }
@@ -115,7 +129,7 @@ fn decode_run_of<'a>(
     let mut rest = bytes;
     while let Some((first, others)) = rest.split_first() {
         if run.len() - at < 4 {
-            return Decoded { length: at, rest };
+            return Decoded { end: at, rest };
         }
         let written = put_units(run, at, encoding, rest);
         if written.units > 0 {
@@ -130,11 +144,11 @@ fn decode_run_of<'a>(
             rest = &rest[next.length..];
         }
     }
-    Decoded { length: at, rest }
+    Decoded { end: at, rest }
 }
 
-// Writes units at the front from this place on, eight at most, as far as they are characters of Latin-1. There are none in
-// other encodings than UTF-16, and where fewer than eight are left, or room for fewer.
+// Writes units at the front from this place on, sixteen at most, as far as they are characters of Latin-1. There are none
+// in other encodings than UTF-16, and where fewer than eight are left, or room for fewer.
 #[inline(always)]
 fn put_units(run: &mut [u8], at: usize, encoding: Encoding, bytes: &[u8]) -> Written
     requires { at ≤ length run.old }
@@ -163,10 +177,52 @@ fn put_block(run: &mut [u8], at: usize, order: ByteOrder, bytes: &[u8]) -> Writt
     ensures end { result.end ≤ at + 2 * result.units }
     ensures text { PutsUnits (utf_16_of order) bytes.now run.old run.new at result }
 {
-    if bytes.len() < 16 || run.len() - at < 16 || order.unit(bytes[0], bytes[1]) >= 0x100 {
+    let room = run.len() - at;
+    if bytes.len() >= 32 && room >= 32 {
+        put_long_block(run, at, order, bytes)
+    } else if bytes.len() >= 16 && room >= 16 {
+        put_short_block(run, at, order, bytes)
+    } else {
+        Written { units: 0, end: at }
+    }
+}
+
+// Sixteen units at most. The odd ones go first, so that whole blocks are left.
+#[inline(always)]
+fn put_long_block(run: &mut [u8], at: usize, order: ByteOrder, bytes: &[u8]) -> Written
+    requires room { at + 32 ≤ length run.old }
+    requires bytes { 32 ≤ length bytes.now }
+    ensures same_room { length run.new ≡ length run.old }
+    ensures within { 2 * result.units ≤ length bytes.now }
+    ensures after { at ≤ result.end }
+    ensures end { result.end ≤ at + 2 * result.units }
+    ensures room { result.end ≤ length run.new }
+    ensures text { PutsUnits (utf_16_of order) bytes.now run.old run.new at result }
+{
+    if order.unit(bytes[0], bytes[1]) >= 0x100 {
         return Written { units: 0, end: at };
     }
-    // The odd units go first, so that whole blocks are left.
+    let odd = (bytes.len() / 2 - 1) % 16 + 1;
+    let first = u8x16::from_slice(bytes);
+    let second = u8x16::from_slice(&bytes[16..]);
+    put_sixteen(run, at, order, first, second, odd)
+}
+
+// Eight at most.
+#[inline(always)]
+fn put_short_block(run: &mut [u8], at: usize, order: ByteOrder, bytes: &[u8]) -> Written
+    requires room { at + 16 ≤ length run.old }
+    requires bytes { 16 ≤ length bytes.now }
+    ensures same_room { length run.new ≡ length run.old }
+    ensures within { 2 * result.units ≤ length bytes.now }
+    ensures after { at ≤ result.end }
+    ensures end { result.end ≤ at + 2 * result.units }
+    ensures room { result.end ≤ length run.new }
+    ensures text { PutsUnits (utf_16_of order) bytes.now run.old run.new at result }
+{
+    if order.unit(bytes[0], bytes[1]) >= 0x100 {
+        return Written { units: 0, end: at };
+    }
     let odd = (bytes.len() / 2 - 1) % 8 + 1;
     put_latin_1(run, at, order, u8x16::from_slice(bytes), odd)
 }

@@ -155,6 +155,19 @@ fn lends_text_as_it_stands(rt: HostRuntime) -> Result<(), Fail> {
 }
 
 #[test]
+fn tells_ascii(rt: HostRuntime) {
+    let mut bytes = [b'a'; 40];
+    for length in 0..40 {
+        assert!(rt; as_text(Encoding::WINDOWS_1252, &bytes[..length]).is_some());
+        for at in 0..length {
+            bytes[at] = 0xe9;
+            assert!(rt; as_text(Encoding::WINDOWS_1252, &bytes[..length]).is_none());
+            bytes[at] = b'a';
+        }
+    }
+}
+
+#[test]
 fn appends_texts(rt: HostRuntime) -> Result<(), Fail> {
     let mut text = String::from_str(rt.alloc(), "a")?;
     push_text(&mut text, " \u{e9}")?;
@@ -163,6 +176,40 @@ fn appends_texts(rt: HostRuntime) -> Result<(), Fail> {
     assert_eq!(rt; text.as_str(), "a \u{e9}b\u{fffd}c\u{20ac}");
     assert_eq!(rt; as_text(Encoding::UTF_8, b"\xc3\xa9"), Some("\u{e9}"));
     assert_eq!(rt; as_text(Encoding::UTF_8, b"\xc3"), None);
+    Ok(())
+}
+
+#[test]
+fn keeps_texts(rt: HostRuntime) -> Result<(), Fail> {
+    let mut text = TextBuffer::new(rt.alloc());
+    for _ in 0..2 {
+        text.clear();
+        assert_eq!(rt; text.as_str(), "");
+        text.push_text("a \u{e9}")?;
+        text.push_decoded(Encoding::UTF_16BE, b"\x00b\xd8")?;
+        text.push_decoded(Encoding::WINDOWS_1252, b"c\x80")?;
+        text.push_decoded(Encoding::UTF_8, b"d\xff\xc3\xa9e")?;
+        assert_eq!(rt; text.as_str(), "a \u{e9}b\u{fffd}c\u{20ac}d\u{fffd}\u{e9}e");
+        if text.as_str().is_char_boundary(4) {
+            text.truncate(4);
+        }
+        assert_eq!(rt; text.as_str(), "a \u{e9}");
+    }
+    Ok(())
+}
+
+// A text of several runs.
+#[test]
+fn keeps_long_texts(rt: HostRuntime) -> Result<(), Fail> {
+    let mut wanted = String::new(rt.alloc());
+    let mut bytes = Vec::new(rt.alloc());
+    for _ in 0..20 {
+        wanted.push_str(LONG)?;
+        bytes.extend_from_slice(LONG_BYTES)?;
+    }
+    let mut text = TextBuffer::new(rt.alloc());
+    text.push_decoded(Encoding::WINDOWS_1252, &bytes)?;
+    assert_eq!(rt; text.as_str(), wanted.as_str());
     Ok(())
 }
 

@@ -1,11 +1,11 @@
-// Units of two bytes, eight at once.
+// Units of two bytes, eight and sixteen at once.
 
 ghost use Rattle.std.specs.Prelude.{◌≡◌, ◌+◌, ◌*◌, ◌<◌, ◌≤◌, ◌++◌, true, length, take, encode_utf8_all};
 ghost use Rattle.std.specs.List.{AllByRecursion};
 ghost use Rattle.std.specs.Str.{all_scalars};
-ghost use Rattle.properties_text.specs.Decoding.{units_of};
+ghost use Rattle.properties_text.specs.Decoding.{units_of, lows_of, highs_of};
 
-use super::latin_1::put_8;
+use super::latin_1::{put_8, put_16};
 use super::utf_16::ByteOrder;
 use std::simd::prelude::*;
 
@@ -49,5 +49,65 @@ fn units(order: ByteOrder, v: u8x16) -> u16x8
         ByteOrder::HighFirst => u16x8::from_le_bytes(v.swizzle([
             1, 0, 3, 2, 5, 4, 7, 6, 9, 8, 11, 10, 13, 12, 15, 14,
         ])),
+    }
+}
+
+/// The same of sixteen units, and up to 32 bytes.
+#[inline(always)]
+pub fn put_sixteen(
+    run: &mut [u8],
+    at: usize,
+    order: ByteOrder,
+    a: u8x16,
+    b: u8x16,
+    most: usize,
+) -> Written
+    requires room { at + 32 ≤ length run.old }
+    requires most { most ≤ 16 }
+    ensures same_room { length run.new ≡ length run.old }
+    ensures within { result.units ≤ most }
+    ensures after { at ≤ result.end }
+    ensures end { result.end ≤ at + 2 * result.units }
+    ensures bytes { AllByRecursion (λ u. u < 0x100) (take result.units (units_of order (a ++ b))) }
+    ensures scalars { all_scalars (take result.units (units_of order (a ++ b))) ≡ true }
+    ensures text { let text = encode_utf8_all (take result.units (units_of order (a ++ b))) in
+        take result.end run.new ≡ take at run.old ++ text }
+{
+    let halves = split_units(order, a, b);
+    let past = halves.highs.simd_ge(u8x16::splat(1)).to_bitmask();
+    let count = (past.trailing_zeros() as usize).min(most);
+    let end = put_16(run, at, halves.lows, count);
+    Written { units: count, end }
+}
+
+// The bytes of units, the low ones and the high ones by themselves.
+#[derive(Clone, Copy)]
+struct Halves {
+    lows: u8x16,
+    highs: u8x16,
+}
+
+#[inline(always)]
+fn split_units(order: ByteOrder, a: u8x16, b: u8x16) -> Halves
+    ensures lows { result.lows ≡ lows_of order (a ++ b) }
+    ensures highs { result.highs ≡ highs_of order (a ++ b) }
+{
+    let evens = a.shuffle(
+        b,
+        [0, 2, 4, 6, 8, 10, 12, 14, 16, 18, 20, 22, 24, 26, 28, 30],
+    );
+    let odds = a.shuffle(
+        b,
+        [1, 3, 5, 7, 9, 11, 13, 15, 17, 19, 21, 23, 25, 27, 29, 31],
+    );
+    match order {
+        ByteOrder::LowFirst => Halves {
+            lows: evens,
+            highs: odds,
+        },
+        ByteOrder::HighFirst => Halves {
+            lows: odds,
+            highs: evens,
+        },
     }
 }

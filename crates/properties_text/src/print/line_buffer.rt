@@ -2,11 +2,9 @@
 
 ghost use Rattle.std.specs.Prelude.{◌≡◌, ◌+◌, ◌≤◌, ◌++◌, ◌∷◌, List, ℕ, [], length, take, OnOk, OnErr};
 
+use crate::room::{append, make_room};
 use std::alloc::{AllocError, Global};
 use std::marker::Model;
-
-// How many bytes are made room for beyond those that are asked for, so that few are asked for anew.
-const ROOM: usize = 256;
 
 /// The bytes that were printed. Its memory is kept for the next line.
 ///
@@ -72,39 +70,7 @@ impl LineBuffer {
         ensures appended { OnOk result (self.new ≡ self.old ++ bytes.now) }
         ensures unchanged { OnErr result (self.new ≡ self.old) }
     {
-        make_room(&mut self.bytes, self.filled, bytes.len())?;
-        let end = self.filled + bytes.len();
-        self.bytes[self.filled..end].copy_from_slice(bytes);
-        self.filled = end;
+        self.filled = append(&mut self.bytes, self.filled, bytes)?;
         Ok(())
     }
-}
-
-/// Makes room for so many bytes after the first `filled`, which stay.
-#[inline(always)]
-pub fn make_room(bytes: &mut Vec<u8>, filled: usize, count: usize) -> Result<(), AllocError>
-    requires { filled ≤ length bytes.old.items }
-    ensures room { OnOk result (filled + count ≤ length bytes.new.items) }
-    ensures same { take filled bytes.new.items ≡ take filled bytes.old.items }
-    ensures longer { length bytes.old.items ≤ length bytes.new.items }
-{
-    if bytes.len() - filled >= count {
-        return Ok(());
-    }
-    grow(bytes, filled, count)
-}
-
-#[inline(never)]
-fn grow(bytes: &mut Vec<u8>, filled: usize, count: usize) -> Result<(), AllocError>
-    requires filled { filled ≤ length bytes.old.items }
-    requires no_room { length bytes.old.items ≤ filled + count }
-    ensures room { OnOk result (filled + count ≤ length bytes.new.items) }
-    ensures same { take filled bytes.new.items ≡ take filled bytes.old.items }
-    ensures longer { length bytes.old.items ≤ length bytes.new.items }
-{
-    let Some(wanted) = filled.checked_add(count) else {
-        return Err(AllocError);
-    };
-    // No more than this is cleared, though the capacity doubles.
-    bytes.resize(wanted.saturating_add(ROOM), 0)
 }

@@ -1,6 +1,5 @@
 use Rattle.std.proofs.Common.{ℕ, List, ◌≤◌}
 use Rattle.std.specs.Str.{chars}
-use Rattle.std.specs.String.{string_bytes}
 use Rattle.counted_io.specs.Streams.{reader, IsSameReader}
 use Rattle.java_properties.specs.LineFinder.{lines_left}
 use Rattle.java_properties.specs.LineJoiner.{GoesOn}
@@ -8,7 +7,7 @@ use Rattle.java_properties.proofs.lines.joiner.join_lines.Given as goal
 
 abbrev pub invariant-loop-found : goal.invariant-loop-found
 invariant-loop-found g l = record {
-  along : (bytes : List ℕ) × GoesOn (reader g.R.Read g.R.CountedRead) l.fn.finder.state l.fn.reader (chars (string_bytes l.fn.text)) bytes (chars (string_bytes l.text)) l.finder.state l.reader;
+  along : (bytes : List ℕ) × GoesOn (reader g.R.Read g.R.CountedRead) l.fn.finder.state l.fn.reader (chars l.fn.text) bytes (chars l.text) l.finder.state l.reader;
   left : lines_left l.finder.state ≤ lines_left l.fn.finder.state;
   same_reader : IsSameReader (reader g.R.Read g.R.CountedRead) l.fn.reader l.reader;
 }

@@ -19,5 +19,5 @@ returns-in-Some c =
 pub returns-in_ok-push_decoded-in-None : goal.returns-in_ok-push_decoded-in-None
 returns-in_ok-push_decoded-in-None c =
     c.in_ok-push_decoded-in-None.ensures
-    ∙ ap (λ v. v ++ decoded_line (encoding_of c.encoding-encoding.result) c.line-bytes.result.now) (ap chars c.clear.ensures.bytes ∙ chars-nil)
+    ∙ ap (λ v. v ++ decoded_line (encoding_of c.encoding-encoding.result) c.line-bytes.result.now) (ap chars c.clear.ensures ∙ chars-nil)
     ∙ ap₂ decoded_line c.encoding-encoding.ensures c.line-bytes.ensures

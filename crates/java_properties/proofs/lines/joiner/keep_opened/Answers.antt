@@ -7,6 +7,6 @@ use Rattle.java_properties.proofs.lines.joiner.keep_opened.Goals as goal
 
 pub returns : goal.returns
 returns c =
-    let front = ap (λ v. v ++ chars c.without_open_backslash.result.now) (ap chars c.clear.ensures.bytes ∙ chars-nil) in
+    let front = ap (λ v. v ++ chars c.without_open_backslash.result.now) (ap chars c.clear.ensures ∙ chars-nil) in
     let line = ap (λ v. without_open_backslash (chars v)) (c.from_utf8_unchecked-line.ensures ∙ c.line.ensures) in
     rw c.if-is_kept.false (on_ok_weaker c.push_text.result (λ h. h ∙ front ∙ c.without_open_backslash.ensures ∙ line) c.push_text.ensures.appended)

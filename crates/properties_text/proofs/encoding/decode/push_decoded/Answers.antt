@@ -1,5 +1,7 @@
 use Rattle.std.proofs.Common.{◌++◌, ap, ◌∙◌, eqb-true, sym, ap₂}
 use Rattle.std.specs.Str.{chars}
+use Rattle.std.proofs.lemmas.Str.{chars-nil}
+use Rattle.properties_text.specs.Decoding.{text_of}
 use Rattle.properties_format.specs.Pieces.{characters}
 use Rattle.properties_format.specs.Reading.Encoding.{pieces_of}
 use Rattle.properties_text.specs.Encoding.{encoding_of}
@@ -19,4 +21,4 @@ loop-run-preserved c =
     let first = c.in_ok-push_text.ensures.appended in
     let more = ap chars c.from_utf8_unchecked-more.ensures in
     let pushed = c.in_ok-push_text-2.ensures.appended ∙ ap₂ (λ x y. x ++ y) first more in
-    rw pushed (decoded-run _ _ _ _ _ _ c.loop-run.invariant c.text_front.ensures.text _ run.result.rest.now run.ensures.text)
+    rw pushed (decoded-run _ _ _ _ _ _ c.loop-run.invariant c.text_front.ensures.text _ run.result.rest.now (run.ensures.text ∙ ap (λ v. v ++ text_of c.args.encoding c.text_front.result.1.now) chars-nil))

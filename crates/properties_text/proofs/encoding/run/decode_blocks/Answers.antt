@@ -1,7 +1,7 @@
 use Rattle.std.proofs.Common.{◌≡◌, ◌∷◌, ◌∙◌, ◌≤◌, refl, ◌++◌, ap, sym, subst, arith, take, drop, get_or}
 use Rattle.std.specs.Str.{IsUtf8, chars}
 use Rattle.std.proofs.lemmas.List.{drop_more, length-drop}
-use Rattle.std.proofs.lemmas.Str.{IsUtf8-append, IsUtf8-encode, IsUtf8-nil, chars-nil}
+use Rattle.std.proofs.lemmas.Str.{IsUtf8-append, IsUtf8-encode}
 use Rattle.properties_format.specs.Encoding.{windows_1252}
 use Rattle.properties_text.specs.Decoding.{text_of}
 use Rattle.properties_text.specs.declared.encoding.Encoding.TheVariants.{WINDOWS_1252}
@@ -12,10 +12,11 @@ use Rattle.properties_text.proofs.encoding.run.decode_blocks.Goals as goal
 pub loop-rest-init : goal.loop-rest-init
 loop-rest-init c = record {
   same_room = refl;
-  within = omega arith;
+  within = c.requires.within;
   left = omega arith;
-  is_text = IsUtf8-nil;
-  text = ap (λ v. v ++ text_of WINDOWS_1252 c.args.bytes.now) chars-nil;
+  shorter = omega arith;
+  is_text = c.requires.is_text;
+  text = refl;
 }
 
 pub loop-rest-preserved-then-kept-eq0 : goal.loop-rest-preserved-then-kept-eq0
@@ -30,7 +31,8 @@ loop-rest-preserved-then-kept-eq0 c =
     record {
       same_room = put.same_room ∙ held.same_room;
       within = omega (arith, put.within, put.same_room, c.if-run-at-ge32.true);
-      left = rw (taken-rest, length-drop 1 bytes) (omega (arith, put.within, held.left, c.loop-rest-test.true));
+      left = rw (taken-rest, length-drop 1 bytes) (omega (arith, held.left));
+      shorter = rw (taken-rest, length-drop 1 bytes) (omega (arith, put.within, held.shorter, c.loop-rest-test.true));
       is_text = subst IsUtf8 (sym put.text) (IsUtf8-append _ _ held.is_text (IsUtf8-encode _ put.scalar));
       text = rw taken-rest (decoded-one windows_1252 _ _ _ first (drop 1 bytes) _ 1 held.is_text put.scalar put.text joins c.character_of.ensures refl);
     }
@@ -47,7 +49,8 @@ loop-rest-preserved c =
     record {
       same_room = put.same_room ∙ held.same_room;
       within = omega (arith, put.within, put.same_room, c.if-run-at-ge32.true);
-      left = rw (taken-rest, length-drop kept bytes) (omega (arith, put.within, held.left, c.loop-rest-test.true));
+      left = rw (taken-rest, length-drop kept bytes) (omega (arith, held.left));
+      shorter = rw (taken-rest, length-drop kept bytes) (omega (arith, put.within, held.shorter, c.loop-rest-test.true));
       is_text = front.0;
       text = rw taken-rest front.1;
     }

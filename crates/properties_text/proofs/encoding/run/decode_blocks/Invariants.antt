@@ -9,9 +9,10 @@ abbrev pub invariant-loop-rest : goal.invariant-loop-rest
 invariant-loop-rest l = record {
   same_room : length l.run ≡ length l.fn.run;
   within : l.at ≤ length l.run;
-  left : l.at + 4 * length l.rest ≤ 4 * length l.bytes;
+  left : length l.rest ≤ length l.bytes;
+  shorter : l.at + 4 * length l.rest ≤ l.start + 4 * length l.bytes;
   is_text : IsUtf8 (take l.at l.run);
-  text : chars (take l.at l.run) ++ text_of WINDOWS_1252 l.rest ≡ text_of WINDOWS_1252 l.bytes;
+  text : chars (take l.at l.run) ++ text_of WINDOWS_1252 l.rest ≡ chars (take l.start l.fn.run) ++ text_of WINDOWS_1252 l.bytes;
 }
 
 abbrev pub decreases-loop-rest : goal.decreases-loop-rest

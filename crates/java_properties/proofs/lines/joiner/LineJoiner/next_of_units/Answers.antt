@@ -1,6 +1,5 @@
 use Rattle.std.proofs.Common.{◌≡◌, ◌∙◌, ◌++◌, sym, ap, ap₂, subst}
 use Rattle.std.specs.Str.{chars}
-use Rattle.std.specs.String.{string_bytes}
 use Rattle.std.proofs.lemmas.Str.{chars-nil}
 use Rattle.properties_format.specs.ItemsToCome.{ReaderState}
 use Rattle.properties_format.specs.Reading.Cut.{decoded_line}
@@ -16,13 +15,13 @@ returns-clause-joins c =
     let state : c.self.inside.finder.state ≡ now = ap (λ v. let w : Joiner = v in w.state) c.self.view_is in
     let found = c.take_line.new.self in
     let takes = c.take_line.ensures.takes in
-    let line = string_bytes c.push_decoded.new.text in
+    let line = c.push_decoded.new.self in
     let encoding = c.encoding.ensures ∙ sym takes.encoding in
     let bytes = c.peeked-bytes.ensures ∙ sym c.take_line.ensures.line in
     let decoded : chars line ≡ line_text found =
     c.in-Ok.ensures
-    ∙ ap (λ v. v ++ decoded_line (encoding_of c.encoding.result) c.peeked-bytes.result.now) (ap chars c.clear.ensures.bytes ∙ chars-nil)
+    ∙ ap (λ v. v ++ decoded_line (encoding_of c.encoding.result) c.peeked-bytes.result.now) (ap chars c.clear.ensures ∙ chars-nil)
     ∙ ap₂ decoded_line encoding bytes in
-    let plain = ap (λ v. holds_backslash (chars v)) (sym c.as_str.ensures.value) ∙ sym c.has_backslash.ensures ∙ c.if-has_backslash.false in
+    let plain = ap (λ v. holds_backslash (chars v)) (sym c.as_str.ensures) ∙ sym c.has_backslash.ensures ∙ c.if-has_backslash.false in
     let P : ReaderState → Type 0 = λ v. TakesPlain v c.take_line.result (record { state = found.state; line = line }) in
     subst P state (takes-plain c.self.inside.finder.state c.take_line.result found line takes (sym decoded) plain)

@@ -1,6 +1,5 @@
 use Rattle.std.proofs.Common.{◌≡◌, ◌∙◌, ◌++◌, sym, ap, ap₂, subst, take, drop}
 use Rattle.std.specs.Str.{chars}
-use Rattle.std.specs.String.{string_bytes}
 use Rattle.std.proofs.lemmas.Str.{chars-nil}
 use Rattle.properties_format.specs.Encoding.{windows_1252}
 use Rattle.properties_format.specs.ItemsToCome.{ReaderState}
@@ -17,10 +16,10 @@ returns-clause-joins c =
     let state : c.self.inside.finder.state ≡ now = ap (λ v. let w : Joiner = v in w.state) c.self.view_is in
     let found = c.take_line.new.self in
     let takes = c.take_line.ensures.takes in
-    let line = string_bytes c.push_decoded.new.text in
+    let line = c.push_decoded.new.self in
     let bytes = c.peeked-bytes.result.now in
     let text : chars line ≡ decoded_line windows_1252 bytes =
-    c.in-Ok.ensures ∙ ap (λ v. v ++ decoded_line windows_1252 bytes) (ap chars c.clear.ensures.bytes ∙ chars-nil) in
+    c.in-Ok.ensures ∙ ap (λ v. v ++ decoded_line windows_1252 bytes) (ap chars c.clear.ensures ∙ chars-nil) in
     let encoding = takes.encoding ∙ ap (λ v. let w : ReaderState = v in w.encoding) state ∙ c.requires.encoding in
     let same : bytes ≡ found.line = c.peeked-bytes.ensures ∙ sym c.take_line.ensures.line in
     let decoded : chars line ≡ line_text found = text ∙ ap₂ decoded_line (sym encoding) same in

@@ -1,0 +1,15 @@
+use Rattle.std.proofs.Common.{◌++◌, ◌∙◌, ap, take}
+use Rattle.std.specs.Str.{chars}
+use Rattle.std.proofs.lemmas.List.{with_items_is}
+use Rattle.properties_text.specs.Decoding.{text_of}
+use Rattle.properties_text.proofs.encoding.text_buffer.TextBuffer.push_run.Goals as goal
+
+pub returns-clause-text : goal.returns-clause-text
+returns-clause-text c =
+    let run = c.decode_run-decoded in
+    let room = c.deref_mut.ensures in
+    let bytes = with_items_is c.make_room.new.bytes run.new.run (run.ensures.same_room ∙ room.len) in
+    let before = ap (take c.self.inside.filled) room.value ∙ c.in_ok-make_room.ensures.same ∙ c.self.view_is in
+    ap (λ v. chars (take run.result.end v) ++ text_of c.args.encoding run.result.rest.now) bytes
+    ∙ run.ensures.text
+    ∙ ap (λ v. chars v ++ text_of c.args.encoding c.args.bytes.now) before

@@ -1,0 +1,15 @@
+use Rattle.std.proofs.Common.{◌++◌, ◌∙◌, ap, ap₂, subst, sym}
+use Rattle.std.specs.Str.{chars, IsUtf8}
+use Rattle.std.proofs.lemmas.Str.{IsUtf8-append, chars-append}
+use Rattle.properties_text.proofs.encoding.text_buffer.TextBuffer.push_text.Goals as goal
+
+pub invariant_of-self-2 : goal.invariant_of-self-2
+invariant_of-self-2 c =
+    let end = c.in_ok-self-inside.ensures in
+    (end.within, subst IsUtf8 (sym end.appended) (IsUtf8-append _ _ c.self.invariant.1 c.as_bytes.ensures.utf8))
+
+pub returns-clause-appended : goal.returns-clause-appended
+returns-clause-appended c =
+    ap chars c.in_ok-self-inside.ensures.appended
+    ∙ chars-append _ _ c.self.invariant.1
+    ∙ ap₂ (λ x y. chars x ++ chars y) c.self.view_is c.as_bytes.ensures.value

@@ -1,0 +1,130 @@
+// The buffer that lines are decoded to.
+
+ghost use Rattle.std.specs.Prelude.{◌≡◌, ◌≤◌, ◌<◌, ◌++◌, List, ℕ, [], length, take, IfOk, OnOk, OnErr};
+ghost use Rattle.std.specs.Str.{chars, IsUtf8, IsCharBoundary};
+ghost use Rattle.properties_text.specs.Decoding.{text_of};
+
+use super::run::decode_run;
+use super::{Encoding, utf_8};
+use crate::room::{append, make_room};
+use std::alloc::{AllocError, Global};
+use std::marker::Model;
+
+// How many bytes of text are decoded at once, at least.
+const RUN: usize = 256;
+
+/// A text that was decoded. Its memory is kept for the next one.
+///
+/// ```text
+/// let mut text = TextBuffer::new(alloc);
+/// text.push_decoded(Encoding::WINDOWS_1252, b"caf\xe9")?;
+/// text.push_text(" = x")?;
+/// text.as_str() // `café = x`
+/// ```
+#[derive(Drop)]
+pub struct TextBuffer {
+    // The bytes up to `filled` are the text, and the others are room, so that bytes are decoded in their place.
+    bytes: Vec<u8>,
+    filled: usize,
+}
+
+impl Model for TextBuffer {
+    ghost Value = { List ℕ };
+
+    ghost view = { λ s. take s.filled s.bytes.items };
+
+    ghost invariant = { λ s. (s.filled ≤ length s.bytes.items) × IsUtf8 (take s.filled s.bytes.items) };
+}
+
+impl TextBuffer {
+    /// No text. It takes no memory yet.
+    pub fn new(alloc: Global) -> TextBuffer
+        ensures { result ≡ [] }
+    {
+        TextBuffer {
+            bytes: Vec::new(alloc),
+            filled: 0,
+        }
+    }
+
+    /// Forgets the text.
+    pub fn clear(&mut self)
+        ensures { self.new ≡ [] }
+    {
+        self.filled = 0;
+    }
+
+    /// The text.
+    pub fn as_str(&self) -> &str
+        ensures { result.now ≡ self.now }
+    {
+        // SAFETY: the bytes that are filled are text.
+        unsafe { str::from_utf8_unchecked(&self.bytes[..self.filled]) }
+    }
+
+    /// Keeps so many bytes of the text, which end at a character's end.
+    pub fn truncate(&mut self, length: usize)
+        requires { IsCharBoundary self.old length }
+        ensures { self.new ≡ take length self.old }
+    {
+        self.filled = length;
+    }
+
+    /// Appends a text, or nothing where memory runs out.
+    #[inline]
+    pub fn push_text(&mut self, more: &str) -> Result<(), AllocError>
+        ensures appended { OnOk result (chars self.new ≡ chars self.old ++ chars more.now) }
+        ensures unchanged { OnErr result (self.new ≡ self.old) }
+    {
+        self.filled = append(&mut self.bytes, self.filled, more.as_bytes())?;
+        Ok(())
+    }
+
+    /// Appends the text of some bytes. Where memory runs out, a part of it may have been appended.
+    #[inline(never)]
+    pub fn push_decoded(&mut self, encoding: Encoding, bytes: &[u8]) -> Result<(), AllocError>
+        ensures { OnOk result (chars self.new ≡ chars self.old ++ text_of encoding bytes.now) }
+    {
+        let mut rest = bytes;
+        while !rest.is_empty() {
+            let after = self.push_front(encoding, rest)?;
+            rest = self.push_run(encoding, after)?;
+        }
+        Ok(())
+    }
+
+    // Appends what stands as text at the front of UTF-8, and returns what is after it. In other encodings nothing does.
+    #[inline(always)]
+    fn push_front<'a>(
+        &mut self,
+        encoding: Encoding,
+        bytes: &'a [u8],
+    ) -> Result<&'a [u8], AllocError>
+        ensures text { IfOk result (λ rest.
+            chars self.new ++ text_of encoding rest.now ≡ chars self.old ++ text_of encoding bytes.now) }
+        ensures left { IfOk result (λ rest. length rest.now ≤ length bytes.now) }
+    {
+        match encoding {
+            Encoding::UTF_8 => {
+                let (front, rest) = utf_8::text_front(bytes);
+                self.push_text(front)?;
+                Ok(rest)
+            }
+            Encoding::WINDOWS_1252 | Encoding::UTF_16LE | Encoding::UTF_16BE => Ok(bytes),
+        }
+    }
+
+    // Appends the text of a run of bytes, and returns those after it.
+    #[inline(always)]
+    fn push_run<'a>(&mut self, encoding: Encoding, bytes: &'a [u8]) -> Result<&'a [u8], AllocError>
+        ensures text { IfOk result (λ rest.
+            chars self.new ++ text_of encoding rest.now ≡ chars self.old ++ text_of encoding bytes.now) }
+        ensures left { IfOk result (λ rest. length rest.now ≤ length bytes.now) }
+        ensures shorter { IfOk result (λ rest. 0 < length bytes.now → length rest.now < length bytes.now) }
+    {
+        make_room(&mut self.bytes, self.filled, RUN)?;
+        let decoded = decode_run(&mut self.bytes, self.filled, encoding, bytes);
+        self.filled = decoded.end;
+        Ok(decoded.rest)
+    }
+}
