@@ -7,6 +7,7 @@ pub mod Printing
 pub mod Texts
 pub mod Scanning
 pub mod KeyFronts
+pub mod AsciiBlocks
 pub mod AsciiFronts
 pub mod Latin1
 pub mod UnitBlocks

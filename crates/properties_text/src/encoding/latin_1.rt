@@ -43,8 +43,9 @@ pub fn put_16(run: &mut [u8], at: usize, v: u8x16, kept: usize) -> usize
     }
 }
 
+/// Whether all sixteen are ASCII.
 #[inline(always)]
-fn is_ascii(v: u8x16) -> bool
+pub fn is_ascii(v: u8x16) -> bool
     ensures { result ≡ true → IsAscii v }
 {
     v.simd_ge(u8x16::splat(0x80)).to_bitmask() == 0
