@@ -12,3 +12,5 @@ pub mod AsciiFronts
 pub mod Latin1
 pub mod UnitBlocks
 pub mod EncodedFronts
+pub mod Narrow
+pub mod NarrowFronts

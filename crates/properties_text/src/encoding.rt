@@ -11,6 +11,7 @@ mod decode_iter;
 mod encode;
 mod first_piece;
 mod latin_1;
+mod narrow;
 mod read_ahead;
 mod run;
 mod unit_blocks;

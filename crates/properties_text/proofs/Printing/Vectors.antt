@@ -179,7 +179,7 @@ mask_l-append (x ∷ xs) ys = omega (arith, mask_l-append xs ys, double (length 
     double k m = ap (λ n. n * m) (pow-succ' 2 k) ∙ mul_assoc 2 (2 ^ k) m
 
 -- the bits of the first k bytes, and of the others
-split : (p : ℕ → Bool) (v : List ℕ) (k : ℕ) → k ≤ length v
+pub split : (p : ℕ → Bool) (v : List ℕ) (k : ℕ) → k ≤ length v
     → (mask_l (map p v) ≡ mask_l (map p (take k v)) + 2 ^ k * mask_l (map p (drop k v))) × (mask_l (map p (take k v)) < 2 ^ k)
 split p v k le =
     let size : length (map p (take k v)) ≡ k = length-map (take k v) p ∙ length-take-le k v le in (
@@ -259,7 +259,7 @@ special_bits-is = nibble_bits-is SPECIAL is_special special_at
 -- ---- where no control character is
 
 -- the lowest bit
-lowest : (t : Bool) (n : ℕ) → cond t 1 0 + 2 * n ≡ 0 → (t ≡ false) × (n ≡ 0)
+pub lowest : (t : Bool) (n : ℕ) → cond t 1 0 + 2 * n ≡ 0 → (t ≡ false) × (n ≡ 0)
 lowest true n e = absurd (omega arith)
 lowest false n e = (refl, omega arith)
 
