@@ -5,7 +5,7 @@ ghost use Rattle.properties_text.specs.Printing.{AppendsOnOk, ArePrinted, spelt_
 
 use super::line_buffer::{LineBuffer, make_room};
 use super::print_byte;
-use crate::vectors::has_control;
+use crate::vectors::{has_control, plain_front};
 use std::alloc::AllocError;
 use std::simd::prelude::*;
 use vectors::{put_16, put_ends};
@@ -166,7 +166,7 @@ fn put_first(out: &mut [u8], bytes: &[u8]) -> Printed
     NOTHING
 }
 
-// Goes on by blocks of sixteen, up to one that has a control character.
+// Goes on by blocks of sixteen, as far as no byte takes a longer escape.
 #[inline(always)]
 fn put_blocks(out: &mut [u8], bytes: &[u8], so_far: Printed) -> Printed
     requires room { 2 * length bytes.now ≤ length out.old }
@@ -179,12 +179,41 @@ fn put_blocks(out: &mut [u8], bytes: &[u8], so_far: Printed) -> Printed
     while bytes.len() - read >= 16 {
         let v = u8x16::from_slice(&bytes[read..]);
         if has_control(v) {
-            break;
+            let past = put_control(out, bytes, Printed { read, written: at });
+            at = past.written;
+            if past.read == read {
+                break;
+            }
+            read = past.read;
+        } else {
+            at = put_16(out, at, v, 16);
+            read += 16;
         }
-        at = put_16(out, at, v, 16);
-        read += 16;
     }
     Printed { read, written: at }
+}
+
+// Goes on in a block that has a control character, up to that and past it, but for one that takes a longer escape.
+#[inline(never)]
+fn put_control(out: &mut [u8], bytes: &[u8], so_far: Printed) -> Printed
+    requires room { 2 * length bytes.now ≤ length out.old }
+    requires so_far { ArePrinted bytes.now so_far out.old }
+    requires block { so_far.read + 16 ≤ length bytes.now }
+    ensures length { length out.new ≡ length out.old }
+    ensures onwards { so_far.read ≤ result.read }
+    ensures printed { ArePrinted bytes.now result out.new }
+{
+    let v = u8x16::from_slice(&bytes[so_far.read..]);
+    let plain = plain_front(v);
+    let at = put_16(out, so_far.written, v, plain);
+    let read = so_far.read + plain;
+    if read == bytes.len() || backslashes_before(bytes[read]) > 1 {
+        return Printed { read, written: at };
+    }
+    Printed {
+        read: read + 1,
+        written: put_byte(out, at, bytes[read]),
+    }
 }
 
 // Goes on byte by byte, up to one that takes a longer escape.
