@@ -54,6 +54,37 @@ const LAST: [u8; 256] = [
 pub fn print_bytes(line: &mut LineBuffer, bytes: &[u8]) -> Result<(), AllocError>
     ensures { AppendsOnOk line.old (spelt_bytes bytes.now) result line.new }
 {
+    if bytes.len() >= FEW {
+        return print_more(line, bytes);
+    }
+    let read = print_few(line, bytes);
+    if read == bytes.len() {
+        return Ok(());
+    }
+    print_more(line, &bytes[read..])
+}
+
+// Prints fewer than eight bytes, where there is room, up to one that takes a longer escape, and returns how many. It
+// calls nothing, so that short texts cost little.
+#[inline(always)]
+fn print_few(line: &mut LineBuffer, bytes: &[u8]) -> usize
+    requires { length bytes.now < 8 }
+    ensures within { result ≤ length bytes.now }
+    ensures printed { line.new ≡ line.old ++ spelt_bytes (take result bytes.now) }
+{
+    if line.bytes.len() - line.filled < 2 * bytes.len() {
+        return 0;
+    }
+    let printed = put_after(&mut line.bytes, line.filled, bytes);
+    line.filled += printed.written;
+    printed.read
+}
+
+// Prints bytes, where they are many, or there is no room, or one takes a longer escape.
+#[inline(never)]
+fn print_more(line: &mut LineBuffer, bytes: &[u8]) -> Result<(), AllocError>
+    ensures { AppendsOnOk line.old (spelt_bytes bytes.now) result line.new }
+{
     let read = print_short(line, &bytes[..bytes.len().min(STEP)])?;
     if read == bytes.len() {
         return Ok(());
@@ -194,7 +225,7 @@ fn put_blocks(out: &mut [u8], bytes: &[u8], so_far: Printed) -> Printed
 }
 
 // Goes on in a block that has a control character, up to that and past it, but for one that takes a longer escape.
-#[inline(never)]
+#[inline(always)]
 fn put_control(out: &mut [u8], bytes: &[u8], so_far: Printed) -> Printed
     requires room { 2 * length bytes.now ≤ length out.old }
     requires so_far { ArePrinted bytes.now so_far out.old }
