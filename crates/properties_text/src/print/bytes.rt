@@ -55,20 +55,32 @@ pub fn print_bytes(line: &mut LineBuffer, bytes: &[u8]) -> Result<(), AllocError
     ensures { AppendsOnOk line.old (spelt_bytes bytes.now) result line.new }
 {
     if bytes.len() >= FEW {
-        return print_more(line, bytes);
+        return print_many(line, bytes);
     }
-    let read = print_few(line, bytes);
+    let read = print_in_room(line, bytes);
     if read == bytes.len() {
         return Ok(());
     }
-    print_more(line, &bytes[read..])
+    print_rest(line, &bytes[read..])
 }
 
-// Prints fewer than eight bytes, where there is room, up to one that takes a longer escape, and returns how many. It
-// calls nothing, so that short texts cost little.
+// The same of more bytes. It stands apart, so that the way of few stays short.
+#[inline(never)]
+fn print_many(line: &mut LineBuffer, bytes: &[u8]) -> Result<(), AllocError>
+    ensures { AppendsOnOk line.old (spelt_bytes bytes.now) result line.new }
+{
+    let read = print_in_room(line, &bytes[..bytes.len().min(STEP)]);
+    if read == bytes.len() {
+        return Ok(());
+    }
+    print_rest(line, &bytes[read..])
+}
+
+// Prints bytes up to one that takes a longer escape, or none where there is too little room, and returns how many. It
+// calls nothing, so that most texts cost little.
 #[inline(always)]
-fn print_few(line: &mut LineBuffer, bytes: &[u8]) -> usize
-    requires { length bytes.now < 8 }
+fn print_in_room(line: &mut LineBuffer, bytes: &[u8]) -> usize
+    requires { length bytes.now ≤ 64 }
     ensures within { result ≤ length bytes.now }
     ensures printed { line.new ≡ line.old ++ spelt_bytes (take result bytes.now) }
 {
@@ -80,19 +92,7 @@ fn print_few(line: &mut LineBuffer, bytes: &[u8]) -> usize
     printed.read
 }
 
-// Prints bytes, where they are many, or there is no room, or one takes a longer escape.
-#[inline(never)]
-fn print_more(line: &mut LineBuffer, bytes: &[u8]) -> Result<(), AllocError>
-    ensures { AppendsOnOk line.old (spelt_bytes bytes.now) result line.new }
-{
-    let read = print_short(line, &bytes[..bytes.len().min(STEP)])?;
-    if read == bytes.len() {
-        return Ok(());
-    }
-    print_rest(line, &bytes[read..])
-}
-
-// Prints what is left of a text, which is long or has bytes that take a longer escape.
+// Prints what is left of a text, which is long, or has bytes that take a longer escape, or found too little room.
 #[inline(never)]
 fn print_rest(line: &mut LineBuffer, bytes: &[u8]) -> Result<(), AllocError>
     ensures { AppendsOnOk line.old (spelt_bytes bytes.now) result line.new }
