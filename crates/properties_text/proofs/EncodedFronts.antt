@@ -1,17 +1,14 @@
 -- Texts that are encoded in windows-1252, by characters at the front.
-use Rattle.std.proofs.Common.{◌≡◌, ℕ, ◌+◌, ◌-◌, ◌<◌, ◌≤◌, ◌&&◌, false, not, nat_lt, nat_le, List, [], ◌∷◌, ◌++◌, refl, sym, ap, ap₂, subst, ◌∙◌, append_assoc, append-nil, arith, length, take, drop, get_or, map, Some, lt-ltb, le-ltb}
+use Rattle.std.proofs.Common.{◌≡◌, ℕ, ◌+◌, ◌-◌, ◌<◌, ◌≤◌, ◌&&◌, false, not, nat_lt, nat_le, List, [], ◌∷◌, ◌++◌, refl, sym, ap, ap₂, subst, ◌∙◌, append_assoc, append-nil, arith, length, take, drop, get_or, map, Some, lt-ltb}
 use Rattle.std.specs.Prelude.{IsCharBoundary}
-use Rattle.std.specs.Char.{len_utf8}
 use Rattle.std.specs.List.{AllByRecursion}
 use Rattle.std.specs.Str.{chars, IsUtf8}
-use Rattle.std.proofs.lemmas.Bool.{cond-true, cond-false, and_from, and_left, and_right}
-use Rattle.std.proofs.lemmas.List.{drop_more, get_or-take, map-append, take-take, take-append-drop}
-use Rattle.std.proofs.lemmas.Str.{IsCharBoundary-past_char, IsCharBoundary-after_ascii, IsUtf8-from_ascii, chars-append, chars-IsAscii, length-encode}
+use Rattle.std.proofs.lemmas.Bool.{cond-true, and_from, and_left}
+use Rattle.std.proofs.lemmas.List.{get_or-take, map-append, take-take, take-append-drop}
+use Rattle.std.proofs.lemmas.Str.{IsCharBoundary-after_ascii, IsUtf8-from_ascii, chars-append, chars-IsAscii}
 use Rattle.properties_format.specs.Windows1252.{is_in_table, windows_1252_byte}
 use Rattle.properties_text.specs.Encoding.{EncodesFront}
-use Rattle.properties_text.specs.Latin1.{lead_byte, last_byte, IsLatin1Front}
 use Rattle.properties_text.proofs.AsciiFronts.{are-ascii, past}
-use Rattle.properties_text.proofs.Latin1.{two-bytes}
 
 -- ---- characters whose numbers are their bytes
 

@@ -1,5 +1,5 @@
 -- Characters of Latin-1 as they are written in UTF-8, eight and sixteen at once.
-use Rattle.std.proofs.Common.{◌≡◌, ℕ, zero, suc, ◌+◌, ◌-◌, ◌*◌, ◌/◌, ◌%◌, ◌^◌, ◌<◌, ◌≤◌, Bool, true, false, not, ◌&&◌, cond, ltb, eqb, leb, nat_lt, List, [], ◌∷◌, ◌++◌, refl, sym, ap, ap₂, subst, zero-add, ◌∙◌, inl, inr, append_assoc, arith, length, take, drop, get_or, map, replicate, w8, Fits, bit_and, bit_xor}
+use Rattle.std.proofs.Common.{◌≡◌, ◌↔◌, ℕ, zero, suc, ◌+◌, ◌-◌, ◌*◌, ◌/◌, ◌%◌, ◌^◌, ◌<◌, ◌≤◌, Bool, true, false, not, ◌&&◌, cond, ltb, eqb, leb, nat_lt, List, [], ◌∷◌, ◌++◌, refl, sym, ap, ap₂, subst, zero-add, ◌∙◌, inl, inr, append_assoc, arith, length, take, drop, get_or, map, replicate, w8, Fits, bit_and, bit_xor}
 use Rattle.std.specs.Prelude.{encode_utf8_all}
 use Rattle.std.specs.Char.{encode_utf8}
 use Rattle.std.specs.Int.RustNames.{count_ones}
@@ -8,7 +8,7 @@ use Rattle.std.specs.List.{AllByRecursion, range_with_len, prefix_len}
 use Rattle.std.specs.Str.{IsAscii, IsUtf8, chars}
 use Rattle.std.specs.Int.Count.{count_trailing_zeros}
 use Rattle.std.proofs.Math.Utf8.{scalar, scalars}
-use Rattle.std.proofs.lemmas.Bool.{cases_Bool, cond-false, and_from, and_parts, agree_below_at, eqb-true, ltb-true, ltb-false, leb-true, leb-false, lt-ltb}
+use Rattle.std.proofs.lemmas.Bool.{cases_Bool, eq-eqb, cond-false, and_from, and_parts, agree_below_at, eqb-true, ltb-true, ltb-false, leb-true, leb-false, lt-ltb}
 use Rattle.std.proofs.lemmas.List.{length-append, length-map, length-take, length-take-le, length-drop, take_at, take_all, drop-take, take-take, take-map, take-append-drop, map-append, map-id, get_or-map, get_or_append_left, get_or-append-add}
 use Rattle.std.proofs.lemmas.Nat.{one_shl, ones_le_self}
 use Rattle.std.proofs.lemmas.Simd.{first_set_mask_l, run_in_chunk_fails, swz_l, SwzOk, SwzOk-from_below, Each1-chunk, mask_l-lt, mask_l-mod, ones-mask_l_cons, tops_compared, zip2_splat, zip2_splat_left, zip2_of_maps, splat_is_map, pick_l_left, pick_l-range_with_len, pick_l_whole}
@@ -301,9 +301,20 @@ pub copied-ascii : (v : List ℕ) (n k : ℕ) → length v ≡ n → n ≤ 64
     → AllByRecursion (λ b. b < 0x80) (take k v)
 copied-ascii v n k long most few le = first-below 0x80 v _ n k long most (past_ascii-bits v n long most) few le
 
-pub none-past : (v : List ℕ) → length v ≡ 16
+none-past : (v : List ℕ) → length v ≡ 16
     → eqb (mask_l (map (top 7) (zip2 (λ a b. cond (leb a b) 255 0) (replicate 16 0x80) v)) % 2 ^ 64) 0 ≡ true → IsAscii v
 none-past v long e = are-ascii v (below-all v (sym (past_ascii-bits v 16 long (omega arith)) ∙ eqb-true _ 0 e))
+
+none-set : (v : List ℕ) → IsAscii v → mask_l (map is_past_ascii v) ≡ 0
+none-set [] h = refl
+none-set (b ∷ v) h =
+    let first : is_past_ascii b ≡ false = elim (cases_Bool (is_past_ascii b)) [ inl t ↦ absurd (omega (arith, leb-true 0x80 b t, h 0)) | inr f ↦ f ] in
+    let more = none-set v (λ i. h (suc i)) in
+    rw first (omega arith)
+
+pub ascii-block : (v : List ℕ) → length v ≡ 16
+    → (eqb (mask_l (map (top 7) (zip2 (λ a b. cond (leb a b) 255 0) (replicate 16 0x80) v)) % 2 ^ 64) 0 ≡ true) ↔ IsAscii v
+ascii-block v long = (none-past v long, λ h. eq-eqb _ 0 (past_ascii-bits v 16 long (omega arith) ∙ none-set v h))
 
 -- the bits of the bytes from 80 to 9F
 table-at : (b : ℕ) → b < 256 → ltb (bit_xor b 0x80) 0x20 ≡ is_in_table b

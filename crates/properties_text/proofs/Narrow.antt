@@ -5,7 +5,7 @@ use Rattle.std.specs.Int.Bits.{or_zero_r}
 use Rattle.std.specs.Simd.Lanes.{zip2, Each1, pick_l, sel_l, put_chunk, mask_l, top, all_below}
 use Rattle.std.specs.Str.{IsAscii}
 use Rattle.std.proofs.lemmas.Bool.{and_parts, and_left, agree_below_at, eqb-true, eq-eqb, ne_eqb, leb-false}
-use Rattle.std.proofs.lemmas.List.{length-append, length-map, length-take, length-take-le, length-drop, take-take, take-map, take-append-le, take-append-drop, take_at, map-append, get_or-take}
+use Rattle.std.proofs.lemmas.List.{length-append, length-map, length-take, length-take-le, length-drop, take-take, take-map, take_at, map-append, get_or-take}
 use Rattle.std.proofs.lemmas.Nat.{one_shl, ones_le_self}
 use Rattle.std.proofs.lemmas.Str.{IsAscii-take}
 use Rattle.std.proofs.lemmas.Simd.{swz_l, SwzOk, SwzOk-from_below, length-swz_l, mask_l-lt, mask_l-mod, ones-mask_l_cons, tops_compared, zip2_splat, zip2_splat_left, splat_is_map}

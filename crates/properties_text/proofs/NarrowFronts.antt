@@ -1,10 +1,9 @@
 -- Characters of Latin-1 at the front of a text, as bytes.
-use Rattle.std.proofs.Common.{◌≡◌, ℕ, zero, suc, ◌+◌, ◌-◌, ◌/◌, ◌%◌, ◌<◌, ◌≤◌, ◌||◌, Bool, true, false, cond, eqb, nat_lt, List, [], ◌∷◌, ◌++◌, refl, sym, ap, ap₂, subst, ◌∙◌, inl, inr, arith, length, take, drop, get_or, map, Some, le-leb, le-ltb, bit_or}
+use Rattle.std.proofs.Common.{◌≡◌, ℕ, zero, suc, ◌+◌, ◌-◌, ◌/◌, ◌%◌, ◌<◌, ◌≤◌, ◌||◌, true, false, cond, eqb, nat_lt, List, [], ◌∷◌, ◌++◌, refl, sym, ap, ap₂, subst, ◌∙◌, inl, inr, arith, length, take, drop, get_or, map, Some, le-leb, le-ltb}
 use Rattle.std.specs.Prelude.{IsCharBoundary, encode_utf8_all}
-use Rattle.std.specs.Char.{encode_utf8}
 use Rattle.std.specs.Str.{IsUtf8, chars}
 use Rattle.std.proofs.Math.Utf8.{scalar, scalars}
-use Rattle.std.proofs.lemmas.Bool.{and_parts, agree_below_at, cases_Bool, cases_lt, eqb-true, cond-false}
+use Rattle.std.proofs.lemmas.Bool.{and_parts, agree_below_at, cases_Bool, cases_lt, eqb-true}
 use Rattle.std.proofs.lemmas.List.{drop_at, length-take-le, take-take}
 use Rattle.std.proofs.lemmas.Str.{chars-encodes, encodes-chars, scalars-chars, encode_ascii, IsCharBoundary-from_drop}
 use Rattle.properties_format.specs.Windows1252.{is_in_table, windows_1252_byte}

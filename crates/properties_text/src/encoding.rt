@@ -19,7 +19,7 @@ mod utf_16;
 mod utf_8;
 mod windows_1252;
 
-pub(crate) use ascii::are_ascii;
+pub(crate) use ascii::is_ascii;
 pub use decode_iter::DecodeIter;
 pub use encode::OutputEncoding;
 pub(crate) use encode::encode_run;

@@ -1,16 +1,16 @@
-// Bytes of ASCII, copied by vectors.
+// Bytes of ASCII, known and copied by vectors.
 
-ghost use Rattle.std.specs.Prelude.{◌≡◌, ◌+◌, ◌<◌, ◌≤◌, ◌++◌, true, length, take};
+ghost use Rattle.std.specs.Prelude.{◌≡◌, ◌+◌, ◌<◌, ◌≤◌, ◌++◌, ◌↔◌, true, length, take};
 ghost use Rattle.std.specs.List.{AllByRecursion};
 ghost use Rattle.std.specs.Str.{IsAscii};
 
-use super::latin_1::is_ascii;
+use super::latin_1;
 use std::simd::prelude::*;
 
 /// Whether these bytes are ASCII, by vectors: of the texts that aren't, most are told by their first sixteen bytes.
 #[inline(always)]
-pub fn are_ascii(bytes: &[u8]) -> bool
-    ensures { result ≡ true → IsAscii bytes.now }
+pub fn is_ascii(bytes: &[u8]) -> bool
+    ensures { (result ≡ true) ↔ IsAscii bytes.now }
 {
     if bytes.len() >= 16 {
         are_blocks_ascii(bytes)
@@ -25,16 +25,16 @@ pub fn are_ascii(bytes: &[u8]) -> bool
 #[inline(always)]
 fn are_blocks_ascii(bytes: &[u8]) -> bool
     requires { 16 ≤ length bytes.now }
-    ensures { result ≡ true → IsAscii bytes.now }
+    ensures { (result ≡ true) ↔ IsAscii bytes.now }
 {
     let mut at = 0;
     while bytes.len() - at > 16 {
-        if !is_ascii(u8x16::from_slice(&bytes[at..])) {
+        if !latin_1::is_ascii(u8x16::from_slice(&bytes[at..])) {
             return false;
         }
         at += 16;
     }
-    is_ascii(u8x16::from_slice(&bytes[bytes.len() - 16..]))
+    latin_1::is_ascii(u8x16::from_slice(&bytes[bytes.len() - 16..]))
 }
 
 // The first eight and the last eight.
@@ -42,19 +42,19 @@ fn are_blocks_ascii(bytes: &[u8]) -> bool
 fn are_ends_ascii(bytes: &[u8]) -> bool
     requires least { 8 ≤ length bytes.now }
     requires most { length bytes.now ≤ 16 }
-    ensures { result ≡ true → IsAscii bytes.now }
+    ensures { (result ≡ true) ↔ IsAscii bytes.now }
 {
     let ends: u8x16 = u8x8::from_slice(bytes).shuffle(
         u8x8::from_slice(&bytes[bytes.len() - 8..]),
         [0, 1, 2, 3, 4, 5, 6, 7, 8, 9, 10, 11, 12, 13, 14, 15],
     );
-    is_ascii(ends)
+    latin_1::is_ascii(ends)
 }
 
 // One by one, since no vector holds so few.
 #[inline(always)]
 fn are_few_ascii(bytes: &[u8]) -> bool
-    ensures { result ≡ true → IsAscii bytes.now }
+    ensures { (result ≡ true) ↔ IsAscii bytes.now }
 {
     let mut at = 0;
     while at < bytes.len() {

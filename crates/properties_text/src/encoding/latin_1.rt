@@ -1,6 +1,6 @@
 // Characters of Latin-1, whose numbers are bytes, sixteen at once.
 
-ghost use Rattle.std.specs.Prelude.{◌≡◌, ◌+◌, ◌*◌, ◌≤◌, ◌++◌, true, length, take, map, encode_utf8_all};
+ghost use Rattle.std.specs.Prelude.{◌≡◌, ◌+◌, ◌*◌, ◌≤◌, ◌++◌, ◌↔◌, true, length, take, map, encode_utf8_all};
 ghost use Rattle.std.specs.Str.{IsAscii, all_scalars};
 ghost use Rattle.std.specs.Simd.Lanes.{mask_l};
 ghost use Rattle.properties_format.specs.Windows1252.{is_in_table};
@@ -46,7 +46,7 @@ pub fn put_16(run: &mut [u8], at: usize, v: u8x16, kept: usize) -> usize
 /// Whether all sixteen are ASCII.
 #[inline(always)]
 pub fn is_ascii(v: u8x16) -> bool
-    ensures { result ≡ true → IsAscii v }
+    ensures { (result ≡ true) ↔ IsAscii v }
 {
     v.simd_ge(u8x16::splat(0x80)).to_bitmask() == 0
 }

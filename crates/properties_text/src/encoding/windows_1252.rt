@@ -4,6 +4,8 @@ ghost use Rattle.std.specs.Prelude.{◌≡◌, ◌<◌, ◌==◌, ◌↔◌, len
 ghost use Rattle.std.specs.Str.{IsAscii};
 ghost use Rattle.properties_format.specs.Windows1252.{windows_1252_character, windows_1252_byte};
 
+use super::ascii::is_ascii;
+
 // The characters of the bytes 80 to 9F.
 const HIGH: [char; 32] = [
     '\u{20ac}', '\u{81}', '\u{201a}', '\u{192}', '\u{201e}', '\u{2026}', '\u{2020}', '\u{2021}',
@@ -29,7 +31,7 @@ pub fn as_text(bytes: &[u8]) -> Option<&str>
     ensures exactly { IsSome result ↔ IsAscii bytes.now }
     ensures same { IfSome result (λ text. text.now ≡ bytes.now) }
 {
-    if bytes.is_ascii() {
+    if is_ascii(bytes) {
         Some(unsafe { str::from_utf8_unchecked(bytes) })
     } else {
         None

@@ -2,7 +2,7 @@ use Rattle.std.proofs.Common.{◌≡◌, ◌<◌, ◌++◌, ◌∙◌, ap, sym, 
 use Rattle.std.specs.Char.{encode_utf8}
 use Rattle.std.specs.List.{AllByRecursion}
 use Rattle.std.specs.Str.{chars, IsUtf8}
-use Rattle.std.proofs.lemmas.Str.{IsUtf8-past_char, IsUtf8-drop, chars_past_char}
+use Rattle.std.proofs.lemmas.Str.{IsUtf8-drop, chars_past_char}
 use Rattle.properties_text.specs.Encoding.{EncodesFront}
 use Rattle.properties_text.proofs.EncodedFronts.{cut-after-ascii, encodes-ascii, encodes-block, nothing-copied}
 use Rattle.properties_text.proofs.TextFronts.{past-shorter}

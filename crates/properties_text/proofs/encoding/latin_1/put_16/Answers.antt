@@ -14,7 +14,7 @@ returns-else-kept-le8-clause-scalars c = first-scalars c.args.v c.args.kept c.fi
 
 pub returns-then-is_ascii-clause-text : goal.returns-then-is_ascii-clause-text
 returns-then-is_ascii-clause-text c =
-    put_ascii-is c.args.at c.args.kept c.args.run.now c.args.v c.fits-v.0 c.requires.room c.requires.kept (c.is_ascii.ensures c.if-is_ascii.true)
+    put_ascii-is c.args.at c.args.kept c.args.run.now c.args.v c.fits-v.0 c.requires.room c.requires.kept (c.is_ascii.ensures.0 c.if-is_ascii.true)
 
 pub returns-then-kept-le8-clause-text : goal.returns-then-kept-le8-clause-text
 returns-then-kept-le8-clause-text c =

@@ -1,19 +1,19 @@
-use Rattle.std.proofs.Common.{◌+◌, arith}
+use Rattle.std.proofs.Common.{arith}
 use Rattle.properties_text.proofs.Narrow.{leads-below, latin-first, put_narrow-is, put_ascii-is}
 use Rattle.properties_text.proofs.Printing.Vectors.{ones-first}
 use Rattle.properties_text.proofs.encoding.narrow.put_narrow.Goals as goal
 
 pub returns-then-is_ascii-clause-before : goal.returns-then-is_ascii-clause-before
 returns-then-is_ascii-clause-before c =
-    (put_ascii-is c.args.at c.args.count c.args.run.now c.args.v c.fits-v.0 c.requires.count c.requires.room (c.is_ascii.ensures c.if-is_ascii.true)).1.before
+    (put_ascii-is c.args.at c.args.count c.args.run.now c.args.v c.fits-v.0 c.requires.count c.requires.room (c.is_ascii.ensures.0 c.if-is_ascii.true)).1.before
 
 pub returns-then-is_ascii-clause-latin_1 : goal.returns-then-is_ascii-clause-latin_1
 returns-then-is_ascii-clause-latin_1 c =
-    (put_ascii-is c.args.at c.args.count c.args.run.now c.args.v c.fits-v.0 c.requires.count c.requires.room (c.is_ascii.ensures c.if-is_ascii.true)).0
+    (put_ascii-is c.args.at c.args.count c.args.run.now c.args.v c.fits-v.0 c.requires.count c.requires.room (c.is_ascii.ensures.0 c.if-is_ascii.true)).0
 
 pub returns-then-is_ascii-clause-encoded : goal.returns-then-is_ascii-clause-encoded
 returns-then-is_ascii-clause-encoded c =
-    (put_ascii-is c.args.at c.args.count c.args.run.now c.args.v c.fits-v.0 c.requires.count c.requires.room (c.is_ascii.ensures c.if-is_ascii.true)).1.encoded
+    (put_ascii-is c.args.at c.args.count c.args.run.now c.args.v c.fits-v.0 c.requires.count c.requires.room (c.is_ascii.ensures.0 c.if-is_ascii.true)).1.encoded
 
 pub put_8-requires-clause-bits : goal.put_8-requires-clause-bits
 put_8-requires-clause-bits c = leads-below c.args.v c.lead_bits-leads.result c.fits-v.0 c.lead_bits-leads.ensures

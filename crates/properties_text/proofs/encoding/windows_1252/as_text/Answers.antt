@@ -1,5 +1,6 @@
+use Rattle.std.proofs.Common.{refl}
 use Rattle.std.proofs.lemmas.Str.{IsUtf8-from_ascii}
 use Rattle.properties_text.proofs.encoding.windows_1252.as_text.Goals as goal
 
 pub from_utf8_unchecked-requires : goal.from_utf8_unchecked-requires
-from_utf8_unchecked-requires c = let h = c.if-is_ascii.ensures.cases in IsUtf8-from_ascii c.args.bytes.now h
+from_utf8_unchecked-requires c = IsUtf8-from_ascii c.args.bytes.now (c.if-is_ascii.ensures.0 refl)
