@@ -185,7 +185,7 @@ put_8-is at out cs pairs bits k m long fits room le e is place =
 abbrev pub half : ℕ → List ℕ → List ℕ
 half i v = pick_l 0 (v ++ v) (range_with_len i 8)
 
-front-half : (v : List ℕ) → length v ≡ 16 → half 0 v ≡ take 8 v
+pub front-half : (v : List ℕ) → length v ≡ 16 → half 0 v ≡ take 8 v
 front-half v long = pick_l_left 0 v v 16 (range_with_len 0 8) long tt ∙ pick_l-range_with_len 0 v 0 8 (omega arith)
 
 back-half : (v : List ℕ) → length v ≡ 16 → half 8 v ≡ drop 8 v
@@ -231,7 +231,7 @@ map-agree f g [] e h = refl
 map-agree f g (b ∷ v) e h = ap₂ (λ x xs. x ∷ xs) (e b h.0.fits) (map-agree f g v e h.1)
 
 -- a choice for each lane
-sel_l-map : (p : ℕ → Bool) (f g : ℕ → ℕ) (v : List ℕ) → sel_l (map p v) (map f v) (map g v) ≡ map (λ b. cond (p b) (f b) (g b)) v
+pub sel_l-map : (p : ℕ → Bool) (f g : ℕ → ℕ) (v : List ℕ) → sel_l (map p v) (map f v) (map g v) ≡ map (λ b. cond (p b) (f b) (g b)) v
 sel_l-map p f g [] = refl
 sel_l-map p f g (b ∷ v) = ap (λ l. cond (p b) (f b) (g b) ∷ l) (sel_l-map p f g v)
 

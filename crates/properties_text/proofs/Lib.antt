@@ -9,7 +9,10 @@ pub mod Scanning
 pub mod KeyFronts
 pub mod ByteSearch
 pub mod BlankFronts
+pub mod AsciiBlocks
 pub mod AsciiFronts
 pub mod Latin1
 pub mod UnitBlocks
 pub mod EncodedFronts
+pub mod Narrow
+pub mod NarrowFronts

@@ -1,6 +1,7 @@
 -- Characters of Latin-1, of one or two bytes in UTF-8.
-use Rattle.std.specs.Prelude.{◌≡◌, ℕ, ◌-◌, ◌<◌, ◌≤◌, ◌++◌, Bool, nat_lt, nat_le, if◌then◌else◌, List, length, drop}
+use Rattle.std.specs.Prelude.{◌≡◌, ℕ, ◌-◌, ◌/◌, ◌%◌, ◌<◌, ◌≤◌, ◌++◌, ◌==◌, Bool, false, nat_lt, nat_le, if◌then◌else◌, List, [], ◌∷◌, length, drop, bit_or}
 use Rattle.std.specs.Char.{encode_utf8}
+use Rattle.properties_format.specs.Windows1252.{is_in_table}
 
 -- whether a character has two bytes
 abbrev pub is_past_ascii : ℕ → Bool
@@ -20,3 +21,36 @@ pub record IsLatin1Front (text : List ℕ) (c : ℕ) : Type 0 where
   pub least : 0xa0 ≤ c
   pub most : c < 0x100
   pub whole : text ≡ encode_utf8 c ++ drop 2 text
+
+-- ---- bytes of UTF-8
+
+-- whether a byte is the first of a character past ASCII, and of one past Latin-1
+abbrev pub is_lead : ℕ → Bool
+is_lead b = nat_le 0xc0 b
+
+abbrev pub is_beyond : ℕ → Bool
+is_beyond b = nat_le 0xc4 b
+
+-- a byte after another, with 40 added after C3: of the last byte of a character of Latin-1 the character's number
+abbrev pub raised : ℕ → ℕ → ℕ
+raised before b = bit_or b (if before == 0xc3 then 0x40 else 0)
+
+-- each of several
+abbrev pub all_raised : ℕ → List ℕ → List ℕ
+all_raised before [] = []
+all_raised before (b ∷ bs) = raised before b ∷ all_raised b bs
+
+-- and those alone that are the last of a character
+abbrev pub narrowed : ℕ → List ℕ → List ℕ
+narrowed before [] = []
+narrowed before (b ∷ bs) = (if is_lead b then [] else raised before b ∷ []) ++ narrowed b bs
+
+-- elements without those whose bits are set
+abbrev pub dropped : ℕ → List ℕ → List ℕ
+dropped bits [] = []
+dropped bits (x ∷ xs) = (if bits % 2 == 1 then [] else x ∷ []) ++ dropped (bits / 2) xs
+
+-- Of the bytes of a text, after another byte, none is of a character past Latin-1, or of one from U+0080 to U+009F.
+abbrev pub AreOfLatin1 : ℕ → List ℕ → Type 0
+AreOfLatin1 before [] = Unit {0}
+AreOfLatin1 before (b ∷ bs) = (b < 0xc4) × (is_in_table (raised before b) ≡ false) × AreOfLatin1 b bs

@@ -11,6 +11,7 @@ mod decode_iter;
 mod encode;
 mod first_piece;
 mod latin_1;
+mod narrow;
 mod read_ahead;
 mod run;
 mod text_buffer;
@@ -19,6 +20,7 @@ mod utf_16;
 mod utf_8;
 mod windows_1252;
 
+pub(crate) use ascii::is_ascii;
 pub use decode_iter::DecodeIter;
 pub use encode::OutputEncoding;
 pub(crate) use encode::encode_run;

@@ -11,7 +11,7 @@ ghost use Rattle.properties_text.specs.declared.encoding.encode.OutputEncoding.T
 ghost use Rattle.properties_text.specs.declared.print.Place.TheVariants.{KeyOrValue};
 ghost use Rattle.properties_text.specs.Printing.{all_of_windows_1252, AppendsOnOk, character_bytes, text_bytes, key_bytes, spelt_byte};
 
-use crate::encoding::{OutputEncoding, byte_of, encode_run};
+use crate::encoding::{OutputEncoding, byte_of, encode_run, is_ascii};
 use bytes::print_bytes;
 use std::alloc::AllocError;
 
@@ -114,7 +114,7 @@ fn print_ascii_only(
 ) -> Result<(), AllocError>
     ensures { AppendsOnOk line.old (text_bytes repertoire KeyOrValue (chars text.now)) result line.new }
 {
-    if text.is_ascii() {
+    if is_ascii(text.as_bytes()) {
         return print_bytes(line, text.as_bytes());
     }
     print_characters(line, repertoire, Place::KeyOrValue, text)
@@ -126,7 +126,7 @@ fn print_windows_1252(line: &mut LineBuffer, text: &str) -> Result<(), AllocErro
     ensures { let bytes = text_bytes all_of_windows_1252 KeyOrValue (chars text.now) in
         AppendsOnOk line.old bytes result line.new }
 {
-    if text.is_ascii() {
+    if is_ascii(text.as_bytes()) {
         return print_bytes(line, text.as_bytes());
     }
     print_runs(line, text)

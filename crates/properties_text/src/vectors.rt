@@ -1,6 +1,6 @@
 // Sixteen bytes at once.
 
-ghost use Rattle.std.specs.Prelude.{◌≡◌, ◌↔◌, ◌≤◌, false, map};
+ghost use Rattle.std.specs.Prelude.{◌≡◌, ◌↔◌, ◌≤◌, false, map, take};
 ghost use Rattle.std.specs.List.{All};
 ghost use Rattle.std.specs.Simd.Lanes.{mask_l};
 ghost use Rattle.properties_format.specs.Text.{space, is_blank};
@@ -23,6 +23,16 @@ pub fn has_control(v: u8x16) -> bool
     ensures { (result ≡ false) ↔ All (λ b. space ≤ b) v }
 {
     v.simd_lt(u8x16::splat(b' ')).to_bitmask() != 0
+}
+
+/// How many bytes stand before the first that is below the space.
+#[inline(always)]
+pub fn plain_front(v: u8x16) -> usize
+    ensures within { result ≤ 16 }
+    ensures plain { All (λ b. space ≤ b) (take result v) }
+{
+    let bits = v.simd_lt(u8x16::splat(b' ')).to_bitmask();
+    (bits.trailing_zeros() as usize).min(16)
 }
 
 /// Bit i is set where byte i is special.

@@ -1,14 +1,15 @@
 -- Bytes that are printed sixteen at once.
-use Rattle.std.proofs.Common.{◌≡◌, ◌↔◌, ℕ, zero, suc, ◌+◌, ◌-◌, ◌*◌, ◌/◌, ◌%◌, ◌^◌, ◌<◌, ◌≤◌, Bool, true, false, not, ◌&&◌, cond, ltb, eqb, List, [], ◌∷◌, ◌++◌, refl, sym, ap, ap₂, subst, zero-add, ◌∙◌, append_assoc, arith, length, take, drop, get_or, map, replicate, w8, Fits, bit_and}
+use Rattle.std.proofs.Common.{◌≡◌, ◌↔◌, ℕ, zero, suc, ◌+◌, ◌-◌, ◌*◌, ◌/◌, ◌%◌, ◌^◌, ◌<◌, ◌≤◌, Bool, true, false, not, ◌&&◌, cond, ltb, eqb, List, [], ◌∷◌, ◌++◌, refl, sym, ap, ap₂, subst, zero-add, ◌∙◌, inl, inr, append_assoc, arith, length, take, drop, get_or, map, replicate, w8, Fits, bit_and}
 use Rattle.std.specs.Int.RustNames.{count_ones}
-use Rattle.std.specs.List.{All, range_with_len}
+use Rattle.std.specs.List.{All, range_with_len, prefix_len}
+use Rattle.std.specs.Int.Count.{count_trailing_zeros}
 use Rattle.std.specs.Simd.Lanes.{zip2, Each1, pick_l, chunk, put_chunk, mask_l, top, all_below}
-use Rattle.std.proofs.lemmas.Bool.{and_parts, agree_below_at, eqb-true, eq-eqb, ltb-true, ltb-false, le-ltb, ne_eqb, not-false, not_from_true}
+use Rattle.std.proofs.lemmas.Bool.{cases_Bool, and_parts, agree_below_at, eqb-true, eq-eqb, ltb-true, ltb-false, le-ltb, ne_eqb, not-false, not_from_true}
 use Rattle.std.proofs.lemmas.List.{length-append, length-map, length-take, length-take-le, length-drop, take_all, take_at, drop_at, take-take, take-append-le, take-map, take-append-drop, map-append, map-id, ext_get_or, get_or-map, get_or_append_left, get_or-append_right}
 use Rattle.std.proofs.lemmas.List.Elements.{All-nil, All-cons, All-head, All-tail, All-append, All-take, All-drop}
 use Rattle.std.proofs.lemmas.Nat.{and_mask, and_le_r, pow_pos, one_shl, ones-le, ones_le_self}
 use native.Mathlib.Nat.{pow-succ', mul_assoc, mod-lt, mod-eq_of_lt, add-mul-mod_self_left}
-use Rattle.std.proofs.lemmas.Simd.{map-map, swz_l, SwzOk, SwzOk-from_below, Each1-get_or, Each1-all, Each1-zip2, Each2-splat, length-swz_l, get_or-swz_l_below, zip2_splat, zip2_of_maps, length-zip2, tops_compared, bitmask_splat, mask_l-lt, mask_l-mod, ones-mask_l_cons, take_more_put_chunk, pick_l_whole}
+use Rattle.std.proofs.lemmas.Simd.{first_set_mask_l, map-map, swz_l, SwzOk, SwzOk-from_below, Each1-get_or, Each1-all, Each1-zip2, Each2-splat, length-swz_l, get_or-swz_l_below, zip2_splat, zip2_of_maps, length-zip2, tops_compared, bitmask_splat, mask_l-lt, mask_l-mod, ones-mask_l_cons, take_more_put_chunk, pick_l_whole}
 use Rattle.properties_format.specs.Text.{space, backslash}
 use Rattle.properties_format.specs.Printing.{is_special, has_letter}
 use Rattle.properties_text.specs.Printing.{spelt_byte, spelt_bytes, with_backslashes}
@@ -179,7 +180,7 @@ mask_l-append (x ∷ xs) ys = omega (arith, mask_l-append xs ys, double (length 
     double k m = ap (λ n. n * m) (pow-succ' 2 k) ∙ mul_assoc 2 (2 ^ k) m
 
 -- the bits of the first k bytes, and of the others
-split : (p : ℕ → Bool) (v : List ℕ) (k : ℕ) → k ≤ length v
+pub split : (p : ℕ → Bool) (v : List ℕ) (k : ℕ) → k ≤ length v
     → (mask_l (map p v) ≡ mask_l (map p (take k v)) + 2 ^ k * mask_l (map p (drop k v))) × (mask_l (map p (take k v)) < 2 ^ k)
 split p v k le =
     let size : length (map p (take k v)) ≡ k = length-map (take k v) p ∙ length-take-le k v le in (
@@ -259,7 +260,7 @@ special_bits-is = nibble_bits-is SPECIAL is_special special_at
 -- ---- where no control character is
 
 -- the lowest bit
-lowest : (t : Bool) (n : ℕ) → cond t 1 0 + 2 * n ≡ 0 → (t ≡ false) × (n ≡ 0)
+pub lowest : (t : Bool) (n : ℕ) → cond t 1 0 + 2 * n ≡ 0 → (t ≡ false) × (n ≡ 0)
 lowest true n e = absurd (omega arith)
 lowest false n e = (refl, omega arith)
 
@@ -283,6 +284,31 @@ has_control-is v long =
       λ e. controls-none v (sym bits ∙ eqb-true _ 0 (not-false _ e)),
       λ h. not_from_true _ (eq-eqb _ 0 (bits ∙ none-controls v h)),
     )
+
+-- those before the first
+plain-prefix : (v : List ℕ) (k : ℕ) → k ≤ prefix_len (λ b. not (ltb b space)) v → All (λ b. space ≤ b) (take k v)
+plain-prefix v zero h = All-nil (λ b. space ≤ b)
+plain-prefix [] (suc k) h = All-nil (λ b. space ≤ b)
+plain-prefix (b ∷ v) (suc k) h = elim (cases_Bool (ltb b space)) [
+  | inl t ↦ absurd (let none : prefix_len (λ b. not (ltb b space)) (b ∷ v) ≡ 0 = rw t refl in omega (arith, h, none))
+  | inr f ↦
+      let more : prefix_len (λ b. not (ltb b space)) (b ∷ v) ≡ 1 + prefix_len (λ b. not (ltb b space)) v = rw f refl in
+      All-cons (λ b. space ≤ b) b (take k v) (ltb-false b space f) (plain-prefix v k (omega (arith, h, more)))
+]
+
+pub plain-is : (v : List ℕ) (k : ℕ) → length v ≡ 16 → k ≤ 16
+    → k ≤ count_trailing_zeros 64 (mask_l (map (top 7) (zip2 (λ a b. cond (ltb a b) 255 0) v (replicate 16 32))) % 2 ^ 64) → All (λ b. space ≤ b) (take k v)
+plain-is v k long le few =
+    let bits = mask_l (map (top 7) (zip2 (λ a b. cond (ltb a b) 255 0) v (replicate 16 32))) % 2 ^ 64 in
+    let is : bits ≡ mask_l (map (λ b. ltb b space) v) = bitmask_splat w8 ltb v 16 32 long (omega arith) in
+    let first = prefix_len (λ b. not (ltb b space)) v in
+    let set : cond (eqb bits 0) 16 (count_trailing_zeros 64 bits) ≡ first =
+    ap (λ x. cond (eqb x 0) 16 (count_trailing_zeros 64 x)) is ∙ first_set_mask_l (λ b. ltb b space) v 16 long (omega arith) in
+    let within : k ≤ first = elim (cases_Bool (eqb bits 0)) [
+      | inl t ↦ let whole : 16 ≡ first = sym (rw t refl) ∙ set in omega arith
+      | inr f ↦ let some : count_trailing_zeros 64 bits ≡ first = sym (rw f refl) ∙ set in omega arith
+    ] in
+    plain-prefix v k within
 
 -- ---- what is printed
 
@@ -359,15 +385,21 @@ front_more (suc i) n zero xs e = absurd (omega arith)
 front_more (suc i) n (suc m) [] e = sym (take_all n [] (omega arith))
 front_more (suc i) n (suc m) (x ∷ xs) e = ap (λ l. x ∷ l) (front_more i n m xs (omega arith))
 
--- some of sixteen bytes more
+-- some of sixteen bytes more, of which those are no control characters
+pub more-plain : (out new bytes : List ℕ) (at next read k n : ℕ) → All (λ b. space ≤ b) (take k (chunk read 16 bytes)) → k ≤ 16 → n ≡ read + k
+    → take next new ≡ take at out ++ with_backslashes (take k (chunk read 16 bytes)) → take at out ≡ spelt_bytes (take read bytes)
+    → take next new ≡ spelt_bytes (take n bytes)
+more-plain out new bytes at next read k n plain le e put held =
+    put
+    ∙ ap₂ (λ x y. x ++ y) held (spelt (take k (chunk read 16 bytes)) plain)
+    ∙ ap (λ l. spelt_bytes (take read bytes) ++ spelt_bytes l) (take-take k 16 (drop read bytes) le)
+    ∙ sym (ap spelt_bytes (front_more read k n bytes e) ∙ spelt_bytes-append (take read bytes) (chunk read k bytes))
+
+-- and where none is
 pub more-is : (out new bytes : List ℕ) (at next read k n : ℕ) → All (λ b. space ≤ b) (chunk read 16 bytes) → k ≤ 16 → n ≡ read + k
     → take next new ≡ take at out ++ with_backslashes (take k (chunk read 16 bytes)) → take at out ≡ spelt_bytes (take read bytes)
     → take next new ≡ spelt_bytes (take n bytes)
-more-is out new bytes at next read k n plain le e put held =
-    put
-    ∙ ap₂ (λ x y. x ++ y) held (spelt (take k (chunk read 16 bytes)) (All-take (λ b. space ≤ b) k (chunk read 16 bytes) plain))
-    ∙ ap (λ l. spelt_bytes (take read bytes) ++ spelt_bytes l) (take-take k 16 (drop read bytes) le)
-    ∙ sym (ap spelt_bytes (front_more read k n bytes e) ∙ spelt_bytes-append (take read bytes) (chunk read k bytes))
+more-is out new bytes at next read k n plain = more-plain out new bytes at next read k n (All-take (λ b. space ≤ b) k (chunk read 16 bytes) plain)
 
 -- the first eight bytes, and the last
 abbrev pub ends : List ℕ → List ℕ

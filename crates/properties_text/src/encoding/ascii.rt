@@ -7,14 +7,26 @@ ghost use Rattle.std.specs.Str.{IsAscii};
 use super::latin_1;
 use std::simd::prelude::*;
 
-/// Whether all of these bytes are ASCII.
+/// Whether these bytes are ASCII, by vectors: of the texts that aren't, most are told by their first sixteen bytes.
 #[inline(always)]
 pub fn is_ascii(bytes: &[u8]) -> bool
     ensures { (result ≡ true) ↔ IsAscii bytes.now }
 {
-    if bytes.len() < 16 {
-        return bytes.is_ascii();
+    if bytes.len() >= 16 {
+        are_blocks_ascii(bytes)
+    } else if bytes.len() >= 8 {
+        are_ends_ascii(bytes)
+    } else {
+        are_few_ascii(bytes)
     }
+}
+
+// By blocks, of which the last ends where the bytes do.
+#[inline(always)]
+fn are_blocks_ascii(bytes: &[u8]) -> bool
+    requires { 16 ≤ length bytes.now }
+    ensures { (result ≡ true) ↔ IsAscii bytes.now }
+{
     let mut at = 0;
     while bytes.len() - at > 16 {
         if !latin_1::is_ascii(u8x16::from_slice(&bytes[at..])) {
@@ -22,8 +34,36 @@ pub fn is_ascii(bytes: &[u8]) -> bool
         }
         at += 16;
     }
-    // The last sixteen, of which some may have been looked at.
     latin_1::is_ascii(u8x16::from_slice(&bytes[bytes.len() - 16..]))
+}
+
+// The first eight and the last eight.
+#[inline(always)]
+fn are_ends_ascii(bytes: &[u8]) -> bool
+    requires least { 8 ≤ length bytes.now }
+    requires most { length bytes.now ≤ 16 }
+    ensures { (result ≡ true) ↔ IsAscii bytes.now }
+{
+    let ends: u8x16 = u8x8::from_slice(bytes).shuffle(
+        u8x8::from_slice(&bytes[bytes.len() - 8..]),
+        [0, 1, 2, 3, 4, 5, 6, 7, 8, 9, 10, 11, 12, 13, 14, 15],
+    );
+    latin_1::is_ascii(ends)
+}
+
+// One by one, since no vector holds so few.
+#[inline(always)]
+fn are_few_ascii(bytes: &[u8]) -> bool
+    ensures { (result ≡ true) ↔ IsAscii bytes.now }
+{
+    let mut at = 0;
+    while at < bytes.len() {
+        if bytes[at] >= 0x80 {
+            return false;
+        }
+        at += 1;
+    }
+    true
 }
 
 /// Copies bytes at the front from this place on, as far as they are ASCII, sixteen at most, and returns how many those are.

@@ -1,14 +1,16 @@
 // Characters to bytes.
 
-ghost use Rattle.std.specs.Prelude.{◌≡◌, ◌≤◌, length, take, IfSome};
+ghost use Rattle.std.specs.Prelude.{◌≡◌, ◌+◌, ◌-◌, ◌<◌, ◌≤◌, if◌then◌else◌, length, take, drop, slice_index, IsCharBoundary};
 ghost use Rattle.std.specs.Str.{chars, IsUtf8};
 ghost use Rattle.properties_format.specs.Encoding.{output_encoding};
 ghost use Rattle.properties_text.specs.Encoding.{encoding_of, output_of, EncodesFront};
-ghost use Rattle.properties_text.specs.Latin1.{IsLatin1Front};
+ghost use Rattle.properties_text.specs.Latin1.{is_lead};
 
 use super::Encoding;
 use super::ascii::copy_front;
+use super::narrow::put_narrow;
 use super::windows_1252::byte_of;
+use std::simd::prelude::*;
 
 /// The encodings that are written.
 #[derive(Clone, Copy, PartialEq, Eq)]
@@ -50,10 +52,10 @@ pub fn encode_run<'a>(run: &mut [u8], text: &'a str) -> Encoded<'a>
     let mut at = 0;
     let mut rest = text;
     while at < run.len() && !rest.is_empty() {
-        if let Some(byte) = latin_1_front(rest.as_bytes()) {
-            run[at] = byte;
-            at += 1;
-            rest = &rest[2..];
+        let block = encode_block(run, at, rest);
+        if block.read > 0 {
+            at += block.written;
+            rest = &rest[block.read..];
             continue;
         }
         let ascii = copy_front(run, at, rest.as_bytes());
@@ -76,24 +78,66 @@ pub fn encode_run<'a>(run: &mut [u8], text: &'a str) -> Encoded<'a>
     Encoded { length: at, rest }
 }
 
-// The byte of a first character from U+00A0 to U+00FF, which has two bytes in UTF-8.
+// How many bytes of a text were encoded, and to how many.
+#[derive(Clone, Copy)]
+struct Block {
+    read: usize,
+    written: usize,
+}
+
+const NOTHING: Block = Block {
+    read: 0,
+    written: 0,
+};
+
+// Encodes the characters of the first sixteen bytes, where all are of Latin-1 and there is room for sixteen.
 #[inline(always)]
-fn latin_1_front(text: &[u8]) -> Option<u8>
-    ensures { IfSome result (IsLatin1Front text.now) }
+fn encode_block(run: &mut [u8], at: usize, text: &str) -> Block
+    requires room { at ≤ length run.old }
+    requires some { 0 < length text.now }
+    ensures same_room { length run.new ≡ length run.old }
+    ensures within { at + result.written ≤ length run.new }
+    ensures before { take at run.new ≡ take at run.old }
+    ensures boundary { IsCharBoundary text.now result.read }
+    ensures encoded { EncodesFront (chars text.now) (drop at (take (at + result.written) run.new)) (chars (drop result.read text.now)) }
 {
-    if text.len() < 2 {
-        return None;
+    if run.len() - at < 16 {
+        return NOTHING;
     }
-    let (first, second) = (text[0], text[1]);
-    // Most are ASCII.
-    if first < 0xc2 {
-        return None;
+    let bytes = text.as_bytes();
+    let count = bytes.len().min(16);
+    match put_narrow(run, at, first_16(bytes), count) {
+        None => NOTHING,
+        Some(written) => Block {
+            read: whole_characters(bytes, count),
+            written,
+        },
     }
-    if first == 0xc2 && 0xa0 <= second && second <= 0xbf {
-        Some(second)
-    } else if first == 0xc3 && 0x80 <= second && second <= 0xbf {
-        Some(second + 0x40)
+}
+
+// How many of so many bytes are left without the first of a character that goes on after them.
+#[inline(always)]
+fn whole_characters(bytes: &[u8], count: usize) -> usize
+    requires some { 0 < count }
+    requires within { count ≤ length bytes.now }
+    ensures { result ≡ count - (if is_lead (slice_index bytes.now (count - 1)) then 1 else 0) }
+{
+    if bytes[count - 1] >= 0xc0 {
+        count - 1
     } else {
-        None
+        count
     }
+}
+
+// The first sixteen bytes, or fewer and zeros after them.
+#[inline(always)]
+fn first_16(bytes: &[u8]) -> u8x16
+    ensures { take (length bytes.now) (take 16 result) ≡ take 16 bytes.now }
+{
+    if bytes.len() >= 16 {
+        return u8x16::from_slice(bytes);
+    }
+    let mut padded = [0; 16];
+    padded[..bytes.len()].copy_from_slice(bytes);
+    u8x16::from_array(padded)
 }

@@ -44,6 +44,7 @@ pub fn put_16(run: &mut [u8], at: usize, v: u8x16, kept: usize) -> usize
     }
 }
 
+/// Whether all sixteen are ASCII.
 #[inline(always)]
 pub fn is_ascii(v: u8x16) -> bool
     ensures { (result ≡ true) ↔ IsAscii v }

@@ -133,6 +133,17 @@ fn encodes_up_to_what_lacks_a_byte(rt: HostRuntime) {
         b"\xe9 and more than ther".as_slice()
     );
     assert_eq!(rt; encoded.rest, "e is room for");
+    // Characters that go on after a sixteenth byte, and one of the table.
+    let mut run = [0; 64];
+    let encoded = encode_run(
+        &mut run,
+        "fifteen letters\u{e9}, sixteen of them\u{fe}\u{20ac}\u{a0}",
+    );
+    assert_eq!(rt;
+        &run[..encoded.length],
+        b"fifteen letters\xe9, sixteen of them\xfe\x80\xa0".as_slice()
+    );
+    assert_eq!(rt; encoded.rest, "");
 }
 
 #[test]

@@ -6,7 +6,7 @@ ghost use Rattle.properties_text.specs.Printing.{AppendsOnOk, ArePrinted, spelt_
 use super::line_buffer::LineBuffer;
 use super::print_byte;
 use crate::room::make_room;
-use crate::vectors::has_control;
+use crate::vectors::{has_control, plain_front};
 use std::alloc::AllocError;
 use std::simd::prelude::*;
 use vectors::{put_16, put_ends};
@@ -55,14 +55,45 @@ const LAST: [u8; 256] = [
 pub fn print_bytes(line: &mut LineBuffer, bytes: &[u8]) -> Result<(), AllocError>
     ensures { AppendsOnOk line.old (spelt_bytes bytes.now) result line.new }
 {
-    let read = print_short(line, &bytes[..bytes.len().min(STEP)])?;
+    if bytes.len() >= FEW {
+        return print_many(line, bytes);
+    }
+    let read = print_in_room(line, bytes);
     if read == bytes.len() {
         return Ok(());
     }
     print_rest(line, &bytes[read..])
 }
 
-// Prints what is left of a text, which is long or has bytes that take a longer escape.
+// The same of more bytes. It stands apart, so that the way of few stays short.
+#[inline(never)]
+fn print_many(line: &mut LineBuffer, bytes: &[u8]) -> Result<(), AllocError>
+    ensures { AppendsOnOk line.old (spelt_bytes bytes.now) result line.new }
+{
+    let read = print_in_room(line, &bytes[..bytes.len().min(STEP)]);
+    if read == bytes.len() {
+        return Ok(());
+    }
+    print_rest(line, &bytes[read..])
+}
+
+// Prints bytes up to one that takes a longer escape, or none where there is too little room, and returns how many. It
+// calls nothing, so that most texts cost little.
+#[inline(always)]
+fn print_in_room(line: &mut LineBuffer, bytes: &[u8]) -> usize
+    requires { length bytes.now ≤ 64 }
+    ensures within { result ≤ length bytes.now }
+    ensures printed { line.new ≡ line.old ++ spelt_bytes (take result bytes.now) }
+{
+    if line.bytes.len() - line.filled < 2 * bytes.len() {
+        return 0;
+    }
+    let printed = put_after(&mut line.bytes, line.filled, bytes);
+    line.filled += printed.written;
+    printed.read
+}
+
+// Prints what is left of a text, which is long, or has bytes that take a longer escape, or found too little room.
 #[inline(never)]
 fn print_rest(line: &mut LineBuffer, bytes: &[u8]) -> Result<(), AllocError>
     ensures { AppendsOnOk line.old (spelt_bytes bytes.now) result line.new }
@@ -167,7 +198,7 @@ fn put_first(out: &mut [u8], bytes: &[u8]) -> Printed
     NOTHING
 }
 
-// Goes on by blocks of sixteen, up to one that has a control character.
+// Goes on by blocks of sixteen, as far as no byte takes a longer escape.
 #[inline(always)]
 fn put_blocks(out: &mut [u8], bytes: &[u8], so_far: Printed) -> Printed
     requires room { 2 * length bytes.now ≤ length out.old }
@@ -180,12 +211,41 @@ fn put_blocks(out: &mut [u8], bytes: &[u8], so_far: Printed) -> Printed
     while bytes.len() - read >= 16 {
         let v = u8x16::from_slice(&bytes[read..]);
         if has_control(v) {
-            break;
+            let past = put_control(out, bytes, Printed { read, written: at });
+            at = past.written;
+            if past.read == read {
+                break;
+            }
+            read = past.read;
+        } else {
+            at = put_16(out, at, v, 16);
+            read += 16;
         }
-        at = put_16(out, at, v, 16);
-        read += 16;
     }
     Printed { read, written: at }
+}
+
+// Goes on in a block that has a control character, up to that and past it, but for one that takes a longer escape.
+#[inline(always)]
+fn put_control(out: &mut [u8], bytes: &[u8], so_far: Printed) -> Printed
+    requires room { 2 * length bytes.now ≤ length out.old }
+    requires so_far { ArePrinted bytes.now so_far out.old }
+    requires block { so_far.read + 16 ≤ length bytes.now }
+    ensures length { length out.new ≡ length out.old }
+    ensures onwards { so_far.read ≤ result.read }
+    ensures printed { ArePrinted bytes.now result out.new }
+{
+    let v = u8x16::from_slice(&bytes[so_far.read..]);
+    let plain = plain_front(v);
+    let at = put_16(out, so_far.written, v, plain);
+    let read = so_far.read + plain;
+    if read == bytes.len() || backslashes_before(bytes[read]) > 1 {
+        return Printed { read, written: at };
+    }
+    Printed {
+        read: read + 1,
+        written: put_byte(out, at, bytes[read]),
+    }
 }
 
 // Goes on byte by byte, up to one that takes a longer escape.

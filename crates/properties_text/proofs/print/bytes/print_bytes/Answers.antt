@@ -1,25 +1,19 @@
-use Rattle.std.proofs.Common.{◌≡◌, ◌≤◌, ◌-◌, ◌++◌, length, take, drop, refl, ◌∙◌, arith}
+use Rattle.std.proofs.Common.{◌≡◌, ◌-◌, ◌++◌, length, take, drop, refl, sym, ap, ◌∙◌, arith}
 use Rattle.std.proofs.lemmas.Result.{on_ok_weaker}
-use Rattle.std.proofs.lemmas.List.{length-take}
+use Rattle.std.proofs.lemmas.List.{take_all}
 use Rattle.properties_text.specs.Printing.{spelt_bytes}
-use Rattle.properties_text.proofs.Printing.Bytes.{printed-front, printed-whole}
+use Rattle.properties_text.proofs.Printing.Bytes.{printed-front}
 use Rattle.properties_text.proofs.print.bytes.print_bytes.Goals as goal
-
-pub returns-then-read-bytes : goal.returns-then-read-bytes
-returns-then-read-bytes c =
-    let bytes = c.args.bytes.now in
-    let read = c.in_ok-read.read in
-    let within : read ≤ c.min.result = omega (arith, c.in_ok-read.ensures.within, length-take c.min.result bytes) in
-    let all : length bytes ≤ read = omega arith in
-    printed-whole c.args.line.now bytes c.print_short.new.line c.min.result read within all c.in_ok-read.ensures.printed
 
 pub returns : goal.returns
 returns c =
+    let old = c.args.line.now in
     let bytes = c.args.bytes.now in
-    let whole = c.args.line.now ++ spelt_bytes bytes in
-    let read = c.in_ok-read.read in
-    let line = c.print_short.new.line in
-    let within : read ≤ c.min.result = omega (arith, c.in_ok-read.ensures.within, length-take c.min.result bytes) in
-    let parts = printed-front c.args.line.now bytes line whole (length bytes) c.min.result read refl within c.in_ok-read.ensures.printed refl in
+    let whole = old ++ spelt_bytes bytes in
+    let room = c.print_in_room-read in
+    let read = room.result in
+    let line = room.new.line in
+    let printed = room.ensures.printed ∙ ap (λ l. old ++ spelt_bytes (take read l)) (sym (take_all (length bytes) bytes (omega arith))) in
+    let parts = printed-front old bytes line whole (length bytes) (length bytes) read refl room.ensures.within printed refl in
     let rest = line ++ spelt_bytes (take (length bytes - read) (drop read bytes)) in
     on_ok_weaker c.print_rest.result (λ (e : c.print_rest.new.line ≡ rest). e ∙ parts) c.print_rest.ensures

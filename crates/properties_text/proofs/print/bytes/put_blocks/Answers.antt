@@ -1,4 +1,5 @@
-use Rattle.std.proofs.Common.{◌+◌, refl, ◌∙◌, arith}
+use Rattle.std.proofs.Common.{◌+◌, subst, refl, ◌∙◌, arith}
+use Rattle.properties_text.specs.Printing.{ArePrinted}
 use Rattle.properties_text.proofs.Printing.Vectors.{more-is}
 use Rattle.properties_text.proofs.print.bytes.put_blocks.Goals as goal
 
@@ -15,3 +16,8 @@ loop-read-preserved c =
         same = more-is c.loop-read.out c.put_16-at.new.out bytes c.loop-read.at c.put_16-at.result c.loop-read.read 16 (c.loop-read.read + 16) (c.has_control.ensures.0 c.if-has_control.false) (omega arith) refl put.printed held.printed.same;
       };
     }
+
+pub returns-then-past-read-clause-printed : goal.returns-then-past-read-clause-printed
+returns-then-past-read-clause-printed c =
+    let past = c.put_control-past in
+    subst (λ n. ArePrinted c.args.bytes.now (record { read = n; written = past.result.written }) past.new.out) c.if-past-read.true past.ensures.printed

@@ -1,6 +1,6 @@
 use Rattle.std.proofs.Common.{◌≤◌, ◌-◌, length, take}
 use Rattle.std.specs.Str.{IsAscii}
-use Rattle.properties_text.proofs.encoding.ascii.is_ascii.Given as goal
+use Rattle.properties_text.proofs.encoding.ascii.are_blocks_ascii.Given as goal
 
 abbrev pub invariant-loop-at : goal.invariant-loop-at
 invariant-loop-at l = record { within : l.at ≤ length l.bytes; ascii : IsAscii (take l.at l.bytes) }
