@@ -90,10 +90,7 @@ impl ItemReader {
     // Comes to the next line, which may have to be read, and finds its item where it holds a backslash. It stands apart,
     // since room for its large answers is cleared at each call.
     #[inline(never)]
-    fn read_line<R: CountedRead>(
-        &mut self,
-        reader: &mut R,
-    ) -> Option<Result<Came, PropertiesError>>
+    fn read_line<R: CountedRead>(&mut self, reader: &mut R) -> Option<Result<Came, PropertiesError>>
         ensures comes { ComesTo R.CountedRead self.old.state reader.old result self.new reader.new }
         ensures same_reader { IsSameReader R.CountedRead reader.old reader.new }
         ensures nearer { OnSome result (lines_left self.new.state < lines_left self.old.state) }
