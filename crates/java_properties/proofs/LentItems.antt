@@ -1,6 +1,6 @@
 -- What is found in a logical line.
 use Rattle.std.proofs.Common.{◌≡◌, ℕ, true, refl, false, not, List, [], ◌∷◌, ◌++◌, append_assoc, append-nil, sym, ap, ◌∙◌, subst}
-use Rattle.std.specs.Prelude.{Option, Some, None, Ok, Bool}
+use Rattle.std.specs.Prelude.{None, Bool}
 use Rattle.std.specs.Str.{chars}
 use Rattle.properties_format.specs.Escapes.{Means}
 use Rattle.properties_format.specs.Split as split
@@ -8,8 +8,7 @@ use Rattle.properties_format.specs.Split.{IsSplit}
 use Rattle.properties_format.proofs.Escapes.Laws.{meaning_of-plain}
 use Rattle.properties_text.specs.Escaping.{holds_backslash}
 use Rattle.java_properties.specs.Errors.{IsUnresolved}
-use Rattle.java_properties.specs.LentItems.{found_bytes, IsTextIn, IsFoundIn, FindsIn, FindsPlain}
-use Rattle.java_properties.specs.declared.iter.found.Found.{Found}
+use Rattle.java_properties.specs.LentItems.{found_bytes, IsTextIn, IsFoundIn}
 use Rattle.properties_text.specs.Parsing.{bytes_in, IsSpan}
 use Rattle.java_properties.specs.PropertiesIter.{IsNoItem}
 use Rattle.java_properties.specs.declared.error.PropertiesError.{PropertiesError}
@@ -71,8 +70,3 @@ pub value-breaks : (line : List ℕ) (key value : Span) (found : FoundText) (num
 value-breaks line key value found number e h same f r =
     let P : Span → Type 0 = λ v. Means (chars (bytes_in line v)) (chars (found_bytes line found)) in
     value-no_item (chars line) _ _ _ number e h (subst P same f.means) r
-
--- What was found by the short way is found.
-pub finds-plain : (line : List ℕ) (number : ℕ) (answer : Option Found) → FindsPlain line number answer → FindsIn line number (Ok answer)
-finds-plain line number None h = h
-finds-plain line number (Some found) h = h

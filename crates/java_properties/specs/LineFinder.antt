@@ -201,11 +201,6 @@ pub record TakesHeld (old : ReaderState) (number : ℕ) (new : Finder) : Type 0 
   pub counted : new.state.passed ≡ number
   pub encoding : new.state.encoding ≡ old.encoding
 
--- The next line was held and is found; or nothing changed.
-abbrev pub FindsHeld : Finder → Option ℕ → Finder → Type 0
-FindsHeld old None new = new ≡ old
-FindsHeld old (Some number) new = TakesHeld old.state number new × (lines_left new.state < lines_left old.state)
-
 -- A line was found.
 pub record FindsNext {R : Type 0} (reader : Reader R) (old : ReaderState) (from : R) (number : ℕ) (new : Finder) (to : R) : Type 0 where
   pub bytes : List ℕ

@@ -4,7 +4,7 @@ ghost use Rattle.std.specs.Prelude.{◌≡◌, ◌≤◌, ◌<◌, true, [], tak
 ghost use Rattle.counted_io.specs.Streams.{IsSameReader};
 ghost use Rattle.properties_format.specs.ItemsToCome.{start};
 ghost use Rattle.properties_text.specs.Encoding.{encoding_of};
-ghost use Rattle.java_properties.specs.LineFinder.{Finder, Finds, FindsHeld, IsHeldLine, IsLineStart, IsRefused, TakesHeld, lines_left, transposed};
+ghost use Rattle.java_properties.specs.LineFinder.{Finder, Finds, IsHeldLine, IsLineStart, IsRefused, TakesHeld, lines_left, transposed};
 
 use crate::error::PropertiesError;
 use crate::input::FillError;
