@@ -1,5 +1,5 @@
 -- What a contract sees of items that are lent, and of what is found of them before that.
-use Rattle.std.specs.Prelude.{◌≡◌, ◌⊎◌, ℕ, Bool, true, false, not, List, Option, Some, None, Result, Ok, Err}
+use Rattle.std.specs.Prelude.{◌≡◌, ◌⊎◌, ℕ, Bool, true, false, not, List, Option, Some, None, OnSome, Result, Ok, Err}
 use Rattle.std.specs.Option.{is_some}
 use Rattle.std.specs.Str.{chars}
 use Rattle.std.specs.String.{string_bytes}
@@ -152,14 +152,17 @@ FindsItem reader old from (Some (Ok found)) new to = GivesEntry reader old from 
 FindsItem reader old from (Some (Err e)) new to =
     (old.is_done ≡ false) × (new.state.is_done ≡ true) × (GivesMalformed reader old from e to ⊎ JoinsError reader old from e new.state to)
 
--- What the next logical line is, and what coming to it leaves.
-abbrev pub ComesTo : {R : Type 0} → Reader R → ReaderState → R → Option (Result Came PropertiesError) → Joiner → R → Type 0
-ComesTo reader old from None new to = (old.is_done ≡ true) × (new.state ≡ old) × (to ≡ from)
-ComesTo reader old from (Some (Ok (came.Plain number))) new to = JoinsNext reader old from number new to × (holds_backslash (chars new.line) ≡ false)
-ComesTo reader old from (Some (Ok (came.Item found))) new to = JoinsNext reader old from found.line_number new to × IsFoundIn new.line found
-ComesTo reader old from (Some (Ok came.Blank)) new to = (number : ℕ) × JoinsNext reader old from number new to × (outcome_of (chars new.line) ≡ ignored)
-ComesTo reader old from (Some (Err e)) new to =
-    (old.is_done ≡ false) × (new.state.is_done ≡ true) × (GivesMalformed reader old from e to ⊎ JoinsError reader old from e new.state to)
+-- What the next logical line is, or the next item, and what coming to it leaves.
+abbrev pub ComesTo : {R : Type 0} → Reader R → ReaderState → R → Came → Joiner → R → Type 0
+ComesTo reader old from (came.Plain number) new to = JoinsNext reader old from number new to × (holds_backslash (chars new.line) ≡ false)
+ComesTo reader old from came.Blank new to = (number : ℕ) × JoinsNext reader old from number new to × (outcome_of (chars new.line) ≡ ignored)
+ComesTo reader old from (came.Answer answer) new to = FindsItem reader old from answer new to
+
+-- This holds, unless it is answered that no more come.
+abbrev pub OnLine : Came → Type 0 → Type 0
+OnLine (came.Plain number) holds = holds
+OnLine came.Blank holds = holds
+OnLine (came.Answer answer) holds = OnSome answer holds
 
 -- the same of an iterator, which keeps the reader that it was made of
 abbrev pub AdvanceGives : {R : Type 0} → Reader R → Reading R → Option (Result Found PropertiesError) → Reading R → Type 0

@@ -7,7 +7,7 @@ ghost use Rattle.properties_format.specs.ItemsToCome.{start};
 ghost use Rattle.properties_text.specs.Encoding.{encoding_of};
 ghost use Rattle.java_properties.specs.LineFinder.{lines_left};
 ghost use Rattle.java_properties.specs.LineJoiner.{Joiner};
-ghost use Rattle.java_properties.specs.LentItems.{lent_entry, found_entry, BorrowsPlain, IsFoundIn, FindsItem, ComesTo, Owns};
+ghost use Rattle.java_properties.specs.LentItems.{lent_entry, found_entry, BorrowsPlain, IsFoundIn, FindsItem, ComesTo, OnLine, Owns};
 ghost use Rattle.java_properties.specs.PropertiesIter.{GivesItem};
 
 use crate::error::PropertiesError;
@@ -21,15 +21,16 @@ use properties_text::escape::has_backslash;
 use std::alloc::Global;
 use std::marker::Model;
 
-// The line that came.
+// The line that came, or what is answered at once.
 #[derive(Drop)]
 enum Came {
-    // One of this number, without a backslash.
+    // A line of this number, without a backslash.
     Plain(usize),
-    // One that gives this item.
-    Item(Found),
-    // A blank one.
+    // A blank line.
     Blank,
+    // The item of a line, an error, or `None` where no more come. An item is answered in the form in which it is passed on:
+    // to put it together anew would move all that an error has room for.
+    Answer(Option<Result<Found, PropertiesError>>),
 }
 
 /// What is held between two items.
@@ -71,18 +72,14 @@ impl ItemReader {
                     return Some(Ok(item));
                 }
             }
-            let line = match self.read_line(reader)? {
-                Ok(line) => line,
-                Err(error) => return Some(Err(error)),
-            };
-            match line {
+            match self.read_line(reader) {
                 Came::Plain(number) => {
                     if let Some(item) = find_plain(number, self.lines.line()) {
                         return Some(Ok(item));
                     }
                 }
-                Came::Item(item) => return Some(Ok(item)),
                 Came::Blank => {}
+                Came::Answer(answer) => return answer,
             }
         }
     }
@@ -90,25 +87,26 @@ impl ItemReader {
     // Comes to the next line, which may have to be read, and finds its item where it holds a backslash. It stands apart,
     // since room for its large answers is cleared at each call.
     #[inline(never)]
-    fn read_line<R: CountedRead>(&mut self, reader: &mut R) -> Option<Result<Came, PropertiesError>>
+    fn read_line<R: CountedRead>(&mut self, reader: &mut R) -> Came
         ensures comes { ComesTo R.CountedRead self.old.state reader.old result self.new reader.new }
         ensures same_reader { IsSameReader R.CountedRead reader.old reader.new }
-        ensures nearer { OnSome result (lines_left self.new.state < lines_left self.old.state) }
+        ensures nearer { OnLine result (lines_left self.new.state < lines_left self.old.state) }
     {
-        let number = match self.lines.next_line(reader)? {
-            Ok(number) => number,
-            Err(error) => return Some(Err(error)),
+        let number = match self.lines.next_line(reader) {
+            Some(Ok(number)) => number,
+            Some(Err(error)) => return Came::Answer(Some(Err(error))),
+            None => return Came::Answer(None),
         };
         let line = self.lines.line();
         if !has_backslash(line) {
-            return Some(Ok(Came::Plain(number)));
+            return Came::Plain(number);
         }
         match find_escaped(self.alloc, number, line) {
-            Ok(Some(item)) => Some(Ok(Came::Item(item))),
-            Ok(None) => Some(Ok(Came::Blank)),
+            Ok(Some(item)) => Came::Answer(Some(Ok(item))),
+            Ok(None) => Came::Blank,
             Err(error) => {
                 self.lines.end();
-                Some(Err(PropertiesError::unresolved(number, error)))
+                Came::Answer(Some(Err(PropertiesError::unresolved(number, error))))
             }
         }
     }

@@ -1,5 +1,4 @@
 use Rattle.std.proofs.Common.{◌≡◌, ◌++◌, ◌∙◌, arith, sym, ap, subst, List, ℕ, [], refl}
-use Rattle.std.specs.Prelude.{Some, Err}
 use Rattle.std.specs.Str.{chars}
 use Rattle.properties_format.specs.Reading.Items.{outcome_of}
 use Rattle.properties_format.specs.ItemsToCome.{ReaderState}
@@ -35,20 +34,19 @@ plain-preserved g c =
       left = omega (arith, c.plain.invariant.left, c.in-Some.ensures.nearer);
     }
 
-pub returns-in-Err-clause-finds : goal.returns-in-Err-clause-finds
-returns-in-Err-clause-finds g c =
+pub returns-in-Answer-clause-finds : goal.returns-in-Answer-clause-finds
+returns-in-Answer-clause-finds g c =
     let same = not-plain c.plain.self-inside.lines _ c.next_plain.ensures.joins c.in_default.not-Some in
     let P : ReaderState → Type 0 = λ v. Passed (reader g.R.Read g.R.CountedRead) c.args.self.now.state c.args.reader.now c.plain.invariant.passed.0 v c.lines.reader in
     let passed = subst P (sym same) c.plain.invariant.passed.1 in
-    let refused = rw c.in-Err.is at c.in_ok-line.ensures.comes in
-    passed-finds (Some (Err c.in-Err.error)) c.read_line.new.self c.read_line.new.reader passed refused
+    passed-finds c.in-Answer.answer c.read_line.new.self c.read_line.new.reader passed c.in-Answer.ensures.comes
 
 pub returns-in-Some-find_plain-2-clause-finds : goal.returns-in-Some-find_plain-2-clause-finds
 returns-in-Some-find_plain-2-clause-finds g c =
     let same = not-plain c.plain.self-inside.lines _ c.next_plain.ensures.joins c.in_default.not-Some in
     let P : ReaderState → Type 0 = λ v. Passed (reader g.R.Read g.R.CountedRead) c.args.self.now.state c.args.reader.now c.plain.invariant.passed.0 v c.lines.reader in
     let passed = subst P (sym same) c.plain.invariant.passed.1 in
-    let next = rw c.in-Plain.is at (rw c.in-Ok.is at c.in_ok-line.ensures.comes) in
+    let next = c.in-Plain.ensures.comes in
     let number = c.in-Plain.number in
     let new = c.read_line.new.self in
     let item = c.in-Some-find_plain-2.item in
@@ -64,7 +62,7 @@ lines-preserved-in_default-find_plain-2 g c =
     let passed = subst P (sym same) c.plain.invariant.passed.1 in
     let kept = ap lines_left same in
     let opened = ap (λ v. let w : Joiner = v in lines_left w.state) c.self.view_is in
-    let next = rw c.in-Plain.is at (rw c.in-Ok.is at c.in_ok-line.ensures.comes) in
+    let next = c.in-Plain.ensures.comes in
     let number = c.in-Plain.number in
     let line = c.line-in-Plain.ensures ∙ ap (λ v. let w : Joiner = v in w.line) c.self-in-lines.view_is in
     let none = plain-blank c.line-in-Plain.result.now number c.find_plain-in-Plain.result c.find_plain-in-Plain.ensures c.in_default-find_plain-2.not-Some in
@@ -73,19 +71,9 @@ lines-preserved-in_default-find_plain-2 g c =
         c.plain.invariant.passed.0 ++ next.0.bytes,
         passed-blank number c.read_line.new.self passed next.0 (ap (λ v. outcome_of (chars v)) (sym line) ∙ none),
       );
-      left = omega (arith, c.lines.invariant.left, c.plain.invariant.left, opened, kept, c.in_ok-line.ensures.nearer);
+      left = omega (arith, c.lines.invariant.left, c.plain.invariant.left, opened, kept, c.in-Plain.ensures.nearer);
       same_reader = c.read_line.ensures.same_reader ∙ c.lines.invariant.same_reader;
     }
-
-pub returns-in-Item-clause-finds : goal.returns-in-Item-clause-finds
-returns-in-Item-clause-finds g c =
-    let same = not-plain c.plain.self-inside.lines _ c.next_plain.ensures.joins c.in_default.not-Some in
-    let P : ReaderState → Type 0 = λ v. Passed (reader g.R.Read g.R.CountedRead) c.args.self.now.state c.args.reader.now c.plain.invariant.passed.0 v c.lines.reader in
-    let passed = subst P (sym same) c.plain.invariant.passed.1 in
-    let next = rw c.in-Item.is at (rw c.in-Ok.is at c.in_ok-line.ensures.comes) in
-    let new = c.read_line.new.self in
-    let item = c.in-Item.item in
-    (gives-item item.line_number new (found_content new.line item.content) passed next.0 (found-item new.line item next.1), next.1)
 
 pub lines-preserved : goal.lines-preserved
 lines-preserved g c =
@@ -94,9 +82,9 @@ lines-preserved g c =
     let passed = subst P (sym same) c.plain.invariant.passed.1 in
     let kept = ap lines_left same in
     let opened = ap (λ v. let w : Joiner = v in lines_left w.state) c.self.view_is in
-    let next = rw c.in-Blank.is at (rw c.in-Ok.is at c.in_ok-line.ensures.comes) in
+    let next = c.in-Blank.ensures.comes in
     record {
       passed = (c.plain.invariant.passed.0 ++ next.1.bytes, passed-blank next.0 c.read_line.new.self passed next.1 next.2);
-      left = omega (arith, c.lines.invariant.left, c.plain.invariant.left, opened, kept, c.in_ok-line.ensures.nearer);
+      left = omega (arith, c.lines.invariant.left, c.plain.invariant.left, opened, kept, c.in-Blank.ensures.nearer);
       same_reader = c.read_line.ensures.same_reader ∙ c.lines.invariant.same_reader;
     }
