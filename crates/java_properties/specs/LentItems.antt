@@ -152,18 +152,6 @@ FindsItem reader old from (Some (Ok found)) new to = GivesEntry reader old from 
 FindsItem reader old from (Some (Err e)) new to =
     (old.is_done ≡ false) × (new.state.is_done ≡ true) × (GivesMalformed reader old from e to ⊎ JoinsError reader old from e new.state to)
 
--- What the next logical line is, or the next item, and what coming to it leaves.
-abbrev pub ComesTo : {R : Type 0} → Reader R → ReaderState → R → Came → Joiner → R → Type 0
-ComesTo reader old from (came.Plain number) new to = JoinsNext reader old from number new to × (holds_backslash (chars new.line) ≡ false)
-ComesTo reader old from came.Blank new to = (number : ℕ) × JoinsNext reader old from number new to × (outcome_of (chars new.line) ≡ ignored)
-ComesTo reader old from (came.Answer answer) new to = FindsItem reader old from answer new to
-
--- This holds, unless it is answered that no more come.
-abbrev pub OnLine : Came → Type 0 → Type 0
-OnLine (came.Plain number) holds = holds
-OnLine came.Blank holds = holds
-OnLine (came.Answer answer) holds = OnSome answer holds
-
 -- the same of an iterator, which keeps the reader that it was made of
 abbrev pub AdvanceGives : {R : Type 0} → Reader R → Reading R → Option (Result Found PropertiesError) → Reading R → Type 0
 AdvanceGives reader old answer new =
@@ -181,3 +169,17 @@ LendsItem reader old (Some (Err e)) new =
 -- It is the next item, by what some reading of the iterator's reader gave.
 abbrev pub NextRefGives : {R : Type 0} → Reader R → Reading R → Option (Result LineRef PropertiesError) → Type 0
 NextRefGives {R} reader old answer = (new : Reading R) × LendsItem reader old answer new × IsSameReader reader old.reader new.reader
+
+-- ---- in between
+
+-- What the next logical line is, or the next item, and what coming to it leaves.
+abbrev pub ComesTo : {R : Type 0} → Reader R → ReaderState → R → Came → Joiner → R → Type 0
+ComesTo reader old from (came.Plain number) new to = JoinsNext reader old from number new to × (holds_backslash (chars new.line) ≡ false)
+ComesTo reader old from came.Blank new to = (number : ℕ) × JoinsNext reader old from number new to × (outcome_of (chars new.line) ≡ ignored)
+ComesTo reader old from (came.Answer answer) new to = FindsItem reader old from answer new to
+
+-- This holds, unless it is answered that no more come.
+abbrev pub OnLine : Came → Type 0 → Type 0
+OnLine (came.Plain number) holds = holds
+OnLine came.Blank holds = holds
+OnLine (came.Answer answer) holds = OnSome answer holds

@@ -60,7 +60,7 @@ pub record TakesPlain (old : ReaderState) (number : ℕ) (new : Joiner) : Type 0
   pub counted : new.state.passed ≡ number
   pub plain : holds_backslash (chars new.line) ≡ false
 
--- What coming to a plain line does. Where none comes, the line that came last may be lost.
+-- What coming to a plain line does. At `None` the line that came last may be lost.
 abbrev pub JoinsPlain : Joiner → Option ℕ → Joiner → Type 0
 JoinsPlain old None new = new.state ≡ old.state
 JoinsPlain old (Some number) new = TakesPlain old.state number new

@@ -14,7 +14,7 @@ use Rattle.properties_text.specs.declared.parse.Span.{Span}
 abbrev pub is_plain : ℕ → Bool
 is_plain c = not (c == backslash || ends_key c)
 
--- a character that isn't passed over where blanks are
+-- whether a character is no blank
 abbrev pub is_no_blank : ℕ → Bool
 is_no_blank c = not (is_blank c)
 

@@ -140,7 +140,7 @@ fn past_blanks(text: &[u8], from: usize) -> usize
     at
 }
 
-/// The same where they may be many. They are counted by blocks of sixteen.
+/// How many blanks the text begins with, where they may be many. They are counted by blocks of sixteen.
 pub fn indentation(text: &[u8]) -> usize
     ensures within { result ≤ length text.now }
     ensures rest { drop result text.now ≡ without_leading_blanks text.now }

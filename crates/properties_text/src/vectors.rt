@@ -25,7 +25,7 @@ pub fn has_control(v: u8x16) -> bool
     v.simd_lt(u8x16::splat(b' ')).to_bitmask() != 0
 }
 
-/// How many bytes stand before the first that is below the space.
+/// At least so many bytes stand before the first that is below the space.
 #[inline(always)]
 pub fn plain_front(v: u8x16) -> usize
     ensures within { result ≤ 16 }

@@ -9,9 +9,8 @@ ghost use Rattle.properties_format.specs.Split.{IsSplit};
 ghost use Rattle.properties_text.specs.Escaping.{holds_backslash};
 ghost use Rattle.java_properties.specs.LentItems.{lent_entry, said_by, is_borrowed, BorrowsPlain, found_bytes, found_content, found_entry, AreTextsIn, spans_of, IsFoundIn, IsTextIn, FindsText, FindsContent, FindsIn, FindsPlain};
 
-use crate::error::PropertiesError;
 use crate::iter::lent::{ContentRef, LineRef};
-use properties_text::escape::{UnescapeError, has_backslash, unescape};
+use properties_text::escape::{UnescapeError, unescape};
 use properties_text::parse::{ParsedSpans, Span, parse_spans};
 use std::alloc::Global;
 use std::borrow::CowStr;

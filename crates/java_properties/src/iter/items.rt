@@ -29,7 +29,7 @@ enum Came {
     // A blank line.
     Blank,
     // The item of a line, an error, or `None` where no more come. An item is answered in the form in which it is passed on:
-    // to put it together anew would move all that an error has room for.
+    // to put it together anew would copy all the bytes that an error has room for.
     Answer(Option<Result<Found, PropertiesError>>),
 }
 

@@ -93,7 +93,8 @@ impl LineJoiner {
         }
     }
 
-    // The same of a line past ASCII, which stands there. It is passed in parts, so that the caller needn't put it into memory.
+    // The same of a line past ASCII that is held at this place. It is passed in parts, so that the caller needn't put it into
+    // memory.
     #[inline(never)]
     fn take_past_ascii(&mut self, start: usize, at: usize, is_cr: bool) -> Option<usize>
         requires held { IsHeldLine self.old.state (record { start = start; end = record { at = at; is_cr = is_cr } }) }
@@ -111,6 +112,7 @@ impl LineJoiner {
         }
     }
 
+    // Where its bytes are text.
     fn take_utf_8(&mut self, line: HeldLine) -> Option<usize>
         requires held { IsHeldLine self.old.state line }
         requires unescaped { holds_backslash (take line.end.at (drop line.start self.old.state.held)) ≡ false }
@@ -122,6 +124,7 @@ impl LineJoiner {
         Some(self.take_plain(line))
     }
 
+    // Its text is decoded. Where memory runs out, the long way finds that out anew.
     fn take_windows_1252(&mut self, line: HeldLine) -> Option<usize>
         requires encoding { self.old.state.encoding ≡ windows_1252 }
         requires held { IsHeldLine self.old.state line }
@@ -138,7 +141,7 @@ impl LineJoiner {
         Some(self.finder.take_line(line))
     }
 
-    // The same where units aren't bytes, so that the line is decoded.
+    // `next_plain` where units aren't bytes: the line is decoded.
     #[inline(never)]
     fn next_of_units(&mut self) -> Option<usize>
         ensures joins { JoinsPlain self.old result self.new }
@@ -154,6 +157,7 @@ impl LineJoiner {
         let Ok(()) = self.text.push_decoded(self.finder.encoding(), bytes) else {
             return None;
         };
+        // Never so, since a backslash has a byte like one. That isn't proved.
         if has_backslash(self.text.as_str()) {
             return None;
         }

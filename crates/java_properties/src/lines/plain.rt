@@ -17,7 +17,7 @@ use std::simd::prelude::*;
 pub struct PlainLine {
     /// Its end.
     pub end: LineEnd,
-    /// Whether all of its bytes are ASCII.
+    /// Whether all of its bytes are known to be ASCII.
     pub is_ascii: bool,
 }
 

@@ -96,7 +96,7 @@ fn find_in_units(encoding: Encoding, bytes: &[u8], from: usize) -> Option<LineEn
     search_units(encoding, bytes, searched)
 }
 
-// The same where none is near.
+// The same, past the blocks that are near.
 #[inline(never)]
 fn search_units(encoding: Encoding, bytes: &[u8], from: usize) -> Option<LineEnd>
     requires size { unit_size (encoding_of encoding) ≡ 2 }
@@ -117,10 +117,10 @@ fn search_units(encoding: Encoding, bytes: &[u8], from: usize) -> Option<LineEnd
     None
 }
 
-/// The place of the first byte like a CR or an LF, from this place on. Where it is near, and not among the last bytes, it is
-/// found without a call.
+// The place of the first byte like a CR or an LF, from this place on. Where it is near, and not among the last bytes, it is
+// found without a call.
 #[inline]
-pub fn find_end_byte(bytes: &[u8], from: usize) -> Option<usize>
+fn find_end_byte(bytes: &[u8], from: usize) -> Option<usize>
     requires { from ≤ length bytes.now }
     ensures { IsFirst (Passes is_line_end bytes.now) from (length bytes.now) result }
 {

@@ -1,4 +1,4 @@
-// Bytes of ASCII, known and copied by vectors.
+// Bytes of ASCII, told and copied by vectors.
 
 ghost use Rattle.std.specs.Prelude.{◌≡◌, ◌+◌, ◌<◌, ◌≤◌, ◌++◌, ◌↔◌, true, length, take};
 ghost use Rattle.std.specs.List.{AllByRecursion};
@@ -7,7 +7,7 @@ ghost use Rattle.std.specs.Str.{IsAscii};
 use super::latin_1;
 use std::simd::prelude::*;
 
-/// Whether these bytes are ASCII, by vectors: of the texts that aren't, most are told by their first sixteen bytes.
+/// Whether all of these bytes are ASCII. Of the texts that aren't, most show it in their first sixteen bytes.
 #[inline(always)]
 pub fn is_ascii(bytes: &[u8]) -> bool
     ensures { (result ≡ true) ↔ IsAscii bytes.now }
@@ -51,7 +51,7 @@ fn are_ends_ascii(bytes: &[u8]) -> bool
     latin_1::is_ascii(ends)
 }
 
-// One by one, since no vector holds so few.
+// One by one: they are seven at most.
 #[inline(always)]
 fn are_few_ascii(bytes: &[u8]) -> bool
     ensures { (result ≡ true) ↔ IsAscii bytes.now }

@@ -115,7 +115,7 @@ fn encode_block(run: &mut [u8], at: usize, text: &str) -> Block
     }
 }
 
-// How many of so many bytes are left without the first of a character that goes on after them.
+// So many bytes, or one fewer where the last begins a character.
 #[inline(always)]
 fn whole_characters(bytes: &[u8], count: usize) -> usize
     requires some { 0 < count }

@@ -1,6 +1,6 @@
 // Sixteen bytes of UTF-8 at once, whose characters are of Latin-1.
 
-ghost use Rattle.std.specs.Prelude.{◌≡◌, ◌+◌, ◌-◌, ◌<◌, ◌≤◌, ◌++◌, ◌∷◌, true, false, length, take, drop, map, count_ones, IfSome};
+ghost use Rattle.std.specs.Prelude.{◌≡◌, ◌+◌, ◌-◌, ◌<◌, ◌≤◌, ◌++◌, ◌∷◌, length, take, drop, map, count_ones, IfSome};
 ghost use Rattle.std.specs.Simd.Lanes.{mask_l};
 ghost use Rattle.properties_text.specs.Latin1.{is_lead, is_beyond, all_raised, dropped, narrowed, AreOfLatin1};
 
@@ -11,7 +11,7 @@ use std::simd::prelude::*;
 mod lanes;
 
 /// Writes the characters of the first `count` bytes from this place on, one byte each, and returns how many those are,
-/// or nothing where a byte is of another character. Up to sixteen bytes may be written over.
+/// or nothing where a character is past Latin-1, or one from U+0080 to U+009F. Up to sixteen bytes may be written over.
 #[inline(always)]
 pub fn put_narrow(run: &mut [u8], at: usize, v: u8x16, count: usize) -> Option<usize>
     requires room { at + 16 ≤ length run.old }
@@ -37,7 +37,7 @@ pub fn put_narrow(run: &mut [u8], at: usize, v: u8x16, count: usize) -> Option<u
     Some(count - counted.count_ones() as usize)
 }
 
-// Each byte, with 40 added where it comes after C3, so that the last byte of a character is that of its number.
+// Each byte, with 0x40 added where it comes after C3, so that a character's last byte is its number.
 #[inline(always)]
 fn raised(v: u8x16) -> u8x16
     ensures { result ≡ all_raised 0 v }
@@ -75,7 +75,7 @@ fn beyond_bits(v: u8x16) -> u64
     v.simd_ge(u8x16::splat(0xc4)).to_bitmask()
 }
 
-// The last eight.
+// The last eight, at the front.
 #[inline(always)]
 fn back(v: u8x16) -> u8x16
     ensures { take 8 result ≡ drop 8 v }

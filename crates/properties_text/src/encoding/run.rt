@@ -23,7 +23,7 @@ pub struct Decoded<'a> {
     pub rest: &'a [u8],
 }
 
-/// Decodes bytes at the front, as far as there is room for the text, which goes on after one that ends at this place.
+/// Decodes bytes at the front, as far as there is room, and puts their text after the one that ends at `start`.
 #[inline(always)]
 pub fn decode_run<'a>(
     run: &mut [u8],
@@ -105,7 +105,7 @@ fn decode_blocks<'a>(run: &mut [u8], start: usize, bytes: &'a [u8]) -> Decoded<'
     Decoded { end: at, rest }
 }
 
-// A character after another, in any encoding.
+// From front to back, in any encoding.
 #[inline(always)]
 fn decode_run_of<'a>(
     run: &mut [u8],

@@ -10,7 +10,7 @@ use crate::room::{append, make_room};
 use std::alloc::{AllocError, Global};
 use std::marker::Model;
 
-// How many bytes of text are decoded at once, at least.
+// How much room a run of decoded text has, at least.
 const RUN: usize = 256;
 
 /// A text that was decoded. Its memory is kept for the next one.

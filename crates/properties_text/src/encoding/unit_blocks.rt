@@ -52,7 +52,7 @@ fn units(order: ByteOrder, v: u8x16) -> u16x8
     }
 }
 
-/// The same of sixteen units, and up to 32 bytes.
+/// Writes sixteen units as [`put_latin_1`] does eight, and up to 32 bytes.
 #[inline(always)]
 pub fn put_sixteen(
     run: &mut [u8],

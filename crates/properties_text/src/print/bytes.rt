@@ -225,7 +225,7 @@ fn put_blocks(out: &mut [u8], bytes: &[u8], so_far: Printed) -> Printed
     Printed { read, written: at }
 }
 
-// Goes on in a block that has a control character, up to that and past it, but for one that takes a longer escape.
+// Goes on in a block that has a control character: up to it, and past it unless it takes a longer escape.
 #[inline(always)]
 fn put_control(out: &mut [u8], bytes: &[u8], so_far: Printed) -> Printed
     requires room { 2 * length bytes.now ≤ length out.old }
