@@ -17,3 +17,4 @@ pub mod Body
 pub mod Edited
 pub mod Changed
 pub mod Laws
+pub mod EditLaws
