@@ -15,3 +15,4 @@ pub mod Settings
 pub mod Maps
 pub mod Body
 pub mod Edited
+pub mod Slots
