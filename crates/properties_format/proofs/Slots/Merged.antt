@@ -12,12 +12,12 @@ use Rattle.properties_format.specs.Writing.{is_empty}
 use Rattle.properties_format.specs.Body.{HeldLine, AreHeld, as_lines, as_groups, held_in, AreGroupsOf, HasKey, NoneHasKey, ending_bytes, group_bytes, groups_bytes, last_ending}
 use Rattle.properties_format.specs.Edited.{is_editable, final_group}
 use Rattle.properties_format.specs.Reading.Cut.{cut_of, decoded_line}
-use Rattle.properties_format.specs.Reading.Body.{held_of, held_lines_of, held_groups_of}
+use Rattle.properties_format.specs.Reading.Body.{held_of, held_lines_of}
 use Rattle.properties_format.specs.Reading.Slots.{unended_bytes, slot_of, is_by_lf, is_by_cr, are_one_ending}
 use Rattle.properties_format.proofs.Lines.Plain.{plain-no_lf, no_lf_first}
 use Rattle.properties_format.proofs.Cut.Meets.{cut_of-meets}
 use Rattle.properties_format.proofs.Body.Decoded.{decoded-nil}
-use Rattle.properties_format.proofs.Body.Groups.{as_lines-append, held_groups_of-only, held_of-meets, IsLastFit, AreFit, held_ended, ended-bytes, held-bytes, IsHeldFront, IsHeldLast, AreHeldGroups, held-groups}
+use Rattle.properties_format.proofs.Body.Groups.{as_lines-append, held_of-meets, IsLastFit, AreFit, held_ended, ended-bytes, held-bytes, IsHeldFront, IsHeldLast, AreHeldGroups, held-groups}
 use Rattle.properties_format.proofs.Slots.Lines.{AreLinesBy, first-none, lines-front, lines-last, bytes-unended, ending-of, with_ending, texts-with, bytes-with, lines-with}
 
 -- ---- groups in turn
@@ -116,7 +116,7 @@ one-ending g h k =
     record { by_cr = by_cr-is (last_ending g) m.0; by_lf = by_lf-is (last_ending h) n.0; empty = empty-is (unended_bytes h) n.1 }
 
 -- their bytes are those of the first with a CR LF
-one-bytes : (g h : List HeldLine) → IsOneEnding g h → group_bytes (with_ending (Some crlf) g) ≡ group_bytes g ++ group_bytes h
+pub one-bytes : (g h : List HeldLine) → IsOneEnding g h → group_bytes (with_ending (Some crlf) g) ≡ group_bytes g ++ group_bytes h
 one-bytes [] h k = let s = k.by_cr in absurd (cc)
 one-bytes (i ∷ is) h k =
     let x = unended_bytes (i ∷ is) in
@@ -183,7 +183,7 @@ after-cr e g h gs a s k = of-turn gs a
 -- ---- the groups of the bytes
 
 -- after an LF alone there are more
-after-lf : (e : Encoding) (h : List HeldLine) (gs : List (List HeldLine)) → AreInTurn e (h ∷ gs) → last_ending h ≡ Some lf → AreInTurn e gs
+pub after-lf : (e : Encoding) (h : List HeldLine) (gs : List (List HeldLine)) → AreInTurn e (h ∷ gs) → last_ending h ≡ Some lf → AreInTurn e gs
 after-lf e h [] a s = let t = ending-of e None h a.0 in absurd (cc)
 after-lf e h (i ∷ gs) a s = a.1
 
@@ -223,7 +223,7 @@ fit-groups [] f = record { whole = []; unfinished = []; are_lines = refl; are_wh
 fit-groups (g ∷ []) (inl w) = record {
   whole = as_lines g ∷ [];
   unfinished = [];
-  are_lines = ap as_lines (append-nil g) ∙ sym (append-nil (as_lines g) ) ∙ sym (append-nil (as_lines g ++ []));
+  are_lines = ap as_lines (append-nil g) ∙ sym (append-nil (as_lines g)) ∙ sym (append-nil (as_lines g ++ []));
   are_whole = (w, tt);
   is_unfinished = tt;
   are_groups = refl;
@@ -277,7 +277,7 @@ merged-none key (g ∷ h ∷ gs) n = elim (cases_Bool (are_one_ending (slot_of g
 ]
 
 -- the last group
-final-next : (g : List HeldLine) (gs : List (List HeldLine)) → gs ≢ [] → final_group (g ∷ gs) ≡ final_group gs
+pub final-next : (g : List HeldLine) (gs : List (List HeldLine)) → gs ≢ [] → final_group (g ∷ gs) ≡ final_group gs
 final-next g [] n = absurd (n refl)
 final-next g (h ∷ gs) n = refl
 
@@ -289,7 +289,7 @@ merged-some (g ∷ h ∷ gs) n = elim (cases_Bool (are_one_ending (slot_of g) (s
   | inr k ↦ let s = merged-two g h gs k in λ q. cc
 ]
 
-turn-some : (e : Encoding) (gs : List (List HeldLine)) → AreInTurn e gs → gs ≢ []
+pub turn-some : (e : Encoding) (gs : List (List HeldLine)) → AreInTurn e gs → gs ≢ []
 turn-some e [] a q = a
 turn-some e (g ∷ gs) a q = cc
 
