@@ -1,3 +1,4 @@
 pub mod Lines
 pub mod Merged
 pub mod Removed
+pub mod Put

@@ -52,7 +52,7 @@ turn-before e g (h ∷ gs) a r = (a, r)
 -- ---- the groups that are left
 
 -- an LF alone is no pair
-lf-no_key : (e : Encoding) (key : List ℕ) (o : Option LineEnding) (h : List HeldLine) → AreLinesBy e o h → unended_bytes h ≡ [] → has_key key h ≡ false
+pub lf-no_key : (e : Encoding) (key : List ℕ) (o : Option LineEnding) (h : List HeldLine) → AreLinesBy e o h → unended_bytes h ≡ [] → has_key key h ≡ false
 lf-no_key e key o [] a k = absurd a
 lf-no_key e key o (h ∷ []) a k =
     ap (λ v. is_pair_with key (outcome_of (joined (record { number = 0; text = v } ∷ [])))) (a.1 ∙ ap (decoded_line e) k ∙ decoded-nil e)
