@@ -2,3 +2,4 @@ pub mod Lines
 pub mod Merged
 pub mod Removed
 pub mod Put
+pub mod Edits
