@@ -13,7 +13,8 @@ ghost use Rattle.properties_format.specs.Settings.{Settings};
 ghost use Rattle.properties_format.specs.Writing.{Call};
 ghost use Rattle.properties_format.specs.Pairs.{Pair};
 ghost use Rattle.properties_format.specs.Edited.{Edit};
-ghost use Rattle.properties_format.specs.EditLaws.{RemovingNoPairChangesNothing, SettingGivesTheValue, RemovingTakesTheValue};
+ghost use Rattle.properties_format.specs.EditLaws.{RemovingNoPairChangesNothing, SettingTwiceIsSettingOnce};
+ghost use Rattle.properties_format.specs.EditLaws.{SettingGivesTheValue, RemovingTakesTheValue};
 ghost use Rattle.properties_format.specs.EditLaws.{NoEditsChangeNothing, OneEditIsItsCall, ListsOfEditsFollow};
 ghost use Rattle.properties_format.specs.Laws.{HasOne, HasOneReading, ReadingInvertsWriting, EqualBytesOfEqualPairs, WritingAnewChangesNothing, MapIsReadBack, SplittingCommutes, LineEndsPartPieces};
 
@@ -67,8 +68,9 @@ pub fn splitting_commutes_with_decoding()
     ensures parts { (e : Encoding) (before : List ℕ) (c : ℕ) (after : List ℕ) → LineEndsPartPieces e before c after }
 {}
 
-/// What edits come to, whatever the source: removing a key that no pair has changes no byte; after a key is set the
-/// map has its value, after it is removed none, and every other key has what it had.
+/// What edits come to, whatever the source: removing a key that no pair has changes no byte; setting a key twice is
+/// setting it once, to the later value; after a key is set the map has its value, after it is removed none, and every
+/// other key has what it had.
 ///
 /// No edits give the source back. A list of one edit is the call for that edit, and one list of edits after another is
 /// the second list on what the first gave.
@@ -79,6 +81,7 @@ pub fn splitting_commutes_with_decoding()
 /// ```
 pub fn editing()
     ensures absent { (e : Encoding) (source key : List ℕ) → RemovingNoPairChangesNothing e source key }
+    ensures twice { (e : Encoding) (source key first second : List ℕ) → SettingTwiceIsSettingOnce e source key first second }
     ensures set { (e : Encoding) (source key value : List ℕ) → SettingGivesTheValue e source key value }
     ensures removed { (e : Encoding) (source key : List ℕ) → RemovingTakesTheValue e source key }
     ensures none { (e : Encoding) (source : List ℕ) → NoEditsChangeNothing e source }

@@ -14,15 +14,18 @@ use Rattle.properties_format.specs.Body.{HeldLine, as_lines, NoneHasKey, group_b
 use Rattle.properties_format.specs.Edited.{bom_of, guarding_lf, is_editable, HoldsNoMalformed, Edit, put, remove, edited, IsSetKeyResult, IsRemoveKeyResult, IsEditAllResult}
 use Rattle.properties_format.specs.Changed.{map_edited}
 use Rattle.properties_format.specs.Reading.Body.{held_groups_of, is_pair_with, has_key, entries_in}
-use Rattle.properties_format.specs.Reading.Edited.{without, edit_made, edits_made, result_of, edit_all_result}
-use Rattle.properties_format.specs.EditLaws.{RemovingNoPairChangesNothing, HasMap, DiffersAt, SettingGivesTheValue, RemovingTakesTheValue, NoEditsChangeNothing, OneEditIsItsCall, ListsOfEditsFollow}
+use Rattle.properties_format.specs.Reading.Edited.{without, key_set, edit_made, edits_made, result_of, edit_all_result}
+use Rattle.properties_format.specs.EditLaws.{RemovingNoPairChangesNothing, SettingTwiceIsSettingOnce, HasMap, DiffersAt, SettingGivesTheValue, RemovingTakesTheValue, NoEditsChangeNothing, OneEditIsItsCall, ListsOfEditsFollow}
 use Rattle.properties_format.proofs.Items.Unique.{items_of-only}
 use Rattle.properties_format.proofs.Maps.{map-only}
 use Rattle.properties_format.proofs.Body.Groups.{held_groups_of-meets, held-body}
 use Rattle.properties_format.proofs.Body.Numbers.{items_of-groups}
-use Rattle.properties_format.proofs.Edited.Made.{has_key-true, has_key-false, key_removed-only}
+use Rattle.properties_format.proofs.Edited.Made.{has_key-true, has_key-false, key_set-only, key_removed-only}
 use Rattle.properties_format.proofs.Edited.Results.{edits_made-only, set_key_result-meets, set_key_result-only, remove_key_result-meets, remove_key_result-only, edit_all_result-meets, edit_all_result-only, result_by-edited, result-editable}
 use Rattle.properties_format.proofs.Edited.ByteOrderMarks.{has_bom, source-whole}
+use Rattle.properties_format.specs.Reading.Slots.{slots_bytes, slots_of}
+use Rattle.properties_format.proofs.Slots.Places.{put-twice}
+use Rattle.properties_format.proofs.Slots.Edits.{edits_made-slots}
 use Rattle.properties_format.proofs.Changed.Laws.{IsReadable, edits-say}
 use Rattle.properties_format.proofs.Changed.Read.{readable, set_key-reads, remove_key-reads}
 
@@ -77,6 +80,18 @@ removing-no_pair e source key entries is none result h =
     ∙ ap (λ v. bom_of source ++ (guarding_lf source v ++ v)) left
     ∙ ap (λ v. bom_of source ++ (v ++ f.body)) (body-unguarded e source h.0)
     ∙ sym (source-whole e source)
+
+-- ---- a key that is set twice
+
+pub setting-twice : (e : Encoding) (source key first second : List ℕ) → SettingTwiceIsSettingOnce e source key first second
+setting-twice e source key first second k v w between twice once h i j =
+    let f = byte_order_mark e source in
+    let slots = slots_of (held_groups_of f.encoding f.body) in
+    key_set-only e between key second twice i.2
+    ∙ ap (λ x. key_set e x key second) (key_set-only e source key first between h.2)
+    ∙ edits_made-slots e source (put key first ∷ put key second ∷ []) h.0 ((k, v), ((k, w), tt))
+    ∙ ap (λ x. bom_of source ++ slots_bytes x) (put-twice f.encoding key first second slots)
+    ∙ sym (key_set-only e source key second once j.2 ∙ edits_made-slots e source (put key second ∷ []) h.0 ((k, w), tt))
 
 -- ---- the map
 

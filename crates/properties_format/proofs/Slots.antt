@@ -3,3 +3,4 @@ pub mod Merged
 pub mod Removed
 pub mod Put
 pub mod Edits
+pub mod Places

@@ -10,7 +10,7 @@ use Rattle.properties_format.specs.Reading.Items.{outcome_of}
 use Rattle.properties_format.specs.Body.{HeldLine, as_lines, HasKey, NoneHasKey, ending_bytes, group_bytes, groups_bytes, last_ending}
 use Rattle.properties_format.specs.Edited.{pair_bytes, IsReplaced, IsAppended, final_group, is_empty_line, is_left_open, added_ending, parting, is_editable}
 use Rattle.properties_format.specs.Reading.Edited.{KeyPlace, last_place}
-use Rattle.properties_format.specs.Reading.Slots.{Slot, ended_by, unended_bytes, key_told, slot_of, slot_list, safe_ending, closing_of, slots_of, slot_has, is_first, slot_after, last_slot, pair_slot, empty_slot, closed_slots, slots_put_at, is_by_lf, is_by_cr, are_one_ending}
+use Rattle.properties_format.specs.Reading.Slots.{Slot, ended_by, unended_bytes, key_told, slot_of, slot_list, safe_ending, closing_of, slots_of, is_first, last_slot, pair_slot, empty_slot, closed_slots, slots_put_at, is_by_lf, is_by_cr, are_one_ending}
 use Rattle.properties_format.proofs.Lines.Plain.{ends_in_cr-append, plain-no_cr}
 use Rattle.properties_format.proofs.Body.Groups.{as_lines-append, groups_bytes-append, group_bytes-append, EndsOpen, IsLastFit}
 use Rattle.properties_format.proofs.Edited.Pair.{pair_text, pair-whole, pair-plain, pair-decoded, pair-outcome}
@@ -20,6 +20,7 @@ use Rattle.properties_format.proofs.Edited.Steps.{last_ending-push}
 use Rattle.properties_format.proofs.Edited.Made.{HasKey-test, no_key-test, IsPlace, last_place-meets}
 use Rattle.properties_format.proofs.Slots.Lines.{AreLinesBy, lines-some, ending-of, bytes-of, bytes-unended, unended-some, with_ending, texts-with, ending-with, unended-with, bytes-with, lines-with, lines-append}
 use Rattle.properties_format.proofs.Slots.Merged.{IsEndedGroup, IsLastGroup, AreInTurn, merged, merged-one, merged-two, empty-is, one-ending, merged-bytes, key-with, merged-none, merged-final}
+use Rattle.properties_format.proofs.Slots.Places.{NoSlotHas, last_slot-none, last_slot-some}
 use Rattle.properties_format.proofs.Slots.Removed.{slot-has, empty_group, empty-lines, empty-whole, empty-slot, turn-before, lf-no_key}
 
 -- ---- the printed pair
@@ -97,20 +98,6 @@ final-after (f ∷ []) g hs = refl
 final-after (f ∷ i ∷ gs) g hs = final-after (i ∷ gs) g hs
 
 -- ---- the last slot with a key
-
--- none of the slots is a pair with the key
-abbrev pub NoSlotHas : List ℕ → List Slot → Type 0
-NoSlotHas key [] = Unit {0}
-NoSlotHas key (s ∷ ss) = (slot_has key s ≡ false) × NoSlotHas key ss
-
-pub last_slot-none : (key : List ℕ) (ss : List Slot) → NoSlotHas key ss → last_slot key ss ≡ None
-last_slot-none key [] n = refl
-last_slot-none key (s ∷ ss) n = let k = n.0 in ap (slot_after key s ss) (last_slot-none key ss n.1) ∙ rw k refl
-
-pub last_slot-some : (key : List ℕ) (before : List Slot) (s : Slot) (after : List Slot) → slot_has key s ≡ true → NoSlotHas key after
-    → last_slot key (before ++ s ∷ after) ≡ Some (record { before = before; slot = s; after = after })
-last_slot-some key [] s after k n = ap (slot_after key s after) (last_slot-none key after n) ∙ rw k refl
-last_slot-some key (b ∷ before) s after k n = ap (slot_after key b (before ++ s ∷ after)) (last_slot-some key before s after k n)
 
 none-slots : (key : List ℕ) (gs : List (List HeldLine)) → NoneHasKey key gs → NoSlotHas key (slot_list gs)
 none-slots key [] n = tt

@@ -1,8 +1,11 @@
-use Rattle.properties_format.proofs.EditLaws.{removing-no_pair, setting-gives, removing-takes, no_edits-nothing, one_edit-call, lists-follow}
+use Rattle.properties_format.proofs.EditLaws.{removing-no_pair, setting-twice, setting-gives, removing-takes, no_edits-nothing, one_edit-call, lists-follow}
 use Rattle.java_properties.proofs.laws.editing.Goals as goal
 
 pub returns-clause-absent : goal.returns-clause-absent
 returns-clause-absent c = removing-no_pair
+
+pub returns-clause-twice : goal.returns-clause-twice
+returns-clause-twice c = setting-twice
 
 pub returns-clause-set : goal.returns-clause-set
 returns-clause-set c = setting-gives
