@@ -81,7 +81,7 @@ pub fn splitting_commutes_with_decoding()
 /// ```
 pub fn editing()
     ensures absent { (e : Encoding) (source key : List ℕ) → RemovingNoPairChangesNothing e source key }
-    ensures twice { (e : Encoding) (source key first second : List ℕ) → SettingTwiceIsSettingOnce e source key first second }
+    ensures twice { (e : Encoding) (source key v w : List ℕ) → SettingTwiceIsSettingOnce e source key v w }
     ensures set { (e : Encoding) (source key value : List ℕ) → SettingGivesTheValue e source key value }
     ensures removed { (e : Encoding) (source key : List ℕ) → RemovingTakesTheValue e source key }
     ensures none { (e : Encoding) (source : List ℕ) → NoEditsChangeNothing e source }
