@@ -4,3 +4,4 @@ pub mod Removed
 pub mod Put
 pub mod Edits
 pub mod Places
+pub mod Sound

@@ -1,12 +1,13 @@
 -- Edits in turn, each made to the bytes that the one before gave, are the same edits made to the slots of the source.
-use Rattle.std.proofs.Common.{◌≡◌, ℕ, true, false, List, [], ◌∷◌, ◌++◌, length, refl, ap, ap₂, sym, ◌∙◌, inl, inr, subst, arith}
+use Rattle.std.proofs.Common.{◌≡◌, ℕ, Bool, true, false, List, [], ◌∷◌, ◌++◌, length, refl, ap, ap₂, sym, ◌∙◌, inl, inr, subst, arith}
+use Rattle.std.proofs.lemmas.Bool.{cases_Bool}
 use Rattle.properties_format.specs.Encoding.{Encoding, InForce, byte_order_mark, begins_like_bom, utf_8_bom}
 use Rattle.properties_format.specs.Reading.Lines.{ends_in_cr}
 use Rattle.properties_format.specs.Body.{HeldLine, AreGroupsOf, groups_bytes}
 use Rattle.properties_format.specs.Edited.{IsKeySet, bom_of, IsKeyRemoved, is_editable, Edit, put, remove, IsScalarEdit, AreScalarEdits}
 use Rattle.properties_format.specs.Reading.Body.{held_groups_of}
-use Rattle.properties_format.specs.Reading.Edited.{without, edit_made, edits_made}
-use Rattle.properties_format.specs.Reading.Slots.{slots_bytes, slot_list, Slots, slots_of, slots_edited, slots_after_edits}
+use Rattle.properties_format.specs.Reading.Edited.{without, edit_made, edits_made, result_of, edit_all_result}
+use Rattle.properties_format.specs.Reading.Slots.{slots_bytes, slot_list, Slots, slots_of, slots_edited, slots_after_edits, slots_made}
 use Rattle.properties_format.proofs.Body.Groups.{held_groups_of-meets, held-body}
 use Rattle.properties_format.proofs.Edited.Made.{key_set-only, without-meets, key_removed-only}
 use Rattle.properties_format.proofs.Edited.ByteOrderMarks.{has_bom, source-whole, key_set-in_force, key_removed-in_force}
@@ -121,11 +122,18 @@ step e source (remove key) gs ok k a =
 
 -- ---- edits in turn
 
-steps : (e : Encoding) (source : List ℕ) (edits : List Edit) (gs : List (List HeldLine)) → is_editable (byte_order_mark e source).encoding ≡ true
-    → AreScalarEdits edits → AreOf e source gs
-    → edits_made e source edits ≡ bom_of source ++ slots_bytes (slots_after_edits (byte_order_mark e source).encoding (begins_like_bom source) edits (slots_of gs)).list
-steps e source [] gs ok k a = source-whole e source ∙ ap (λ v. bom_of source ++ v) (sym a.bytes ∙ sym (slots-bytes gs))
-steps e source (edit ∷ edits) gs ok k a =
+-- Edits of the source: groups that have the edited body's bytes, and the slots of which are the edited slots.
+pub record AreReached (e : Encoding) (source : List ℕ) (edits : List Edit) (gs : List (List HeldLine)) : Type 0 where
+  pub groups : List (List HeldLine)
+  pub in_turn : AreInTurn (byte_order_mark e source).encoding groups
+  pub whole : edits_made e source edits ≡ bom_of source ++ groups_bytes groups
+  pub slots : slots_of groups ≡ slots_after_edits (byte_order_mark e source).encoding (begins_like_bom source) edits (slots_of gs)
+
+reach : (e : Encoding) (source : List ℕ) (edits : List Edit) (gs : List (List HeldLine)) → is_editable (byte_order_mark e source).encoding ≡ true
+    → AreScalarEdits edits → AreOf e source gs → AreReached e source edits gs
+reach e source [] gs ok k a =
+    record { groups = gs; in_turn = a.in_turn; whole = source-whole e source ∙ ap (λ v. bom_of source ++ v) (sym a.bytes); slots = refl }
+reach e source (edit ∷ edits) gs ok k a =
     let f = (byte_order_mark e source).encoding in
     let marked = begins_like_bom source in
     let m = step e source edit gs ok k.0 a in
@@ -133,21 +141,39 @@ steps e source (edit ∷ edits) gs ok k a =
     let same : (byte_order_mark e next).encoding ≡ f = ap (λ v. let w : InForce = v in w.encoding) m.in_force in
     let body : (byte_order_mark e next).body ≡ groups_bytes m.groups = ap (λ v. let w : InForce = v in w.body) m.in_force in
     let bom = bom-kept e source (groups_bytes m.groups) ok m.in_force in
-    ap (λ v. edits_made e v edits) (sym m.whole)
-    ∙ steps e next edits m.groups (ap is_editable same ∙ ok) k.1 (record { bytes = sym body; in_turn = subst (λ v. AreInTurn v m.groups) (sym same) m.in_turn })
-    ∙ ap₂ (λ u v. u ++ slots_bytes v) bom.0
-    (ap (λ v. let w : Slots = v in w.list)
-    (ap₂ (λ u v. slots_after_edits u v edits (slots_of m.groups)) same bom.1 ∙ ap (slots_after_edits f marked edits) m.slots))
+    let n = reach e next edits m.groups (ap is_editable same ∙ ok) k.1 (record { bytes = sym body; in_turn = subst (λ v. AreInTurn v m.groups) (sym same) m.in_turn }) in
+    record {
+      groups = n.groups;
+      in_turn = subst (λ v. AreInTurn v n.groups) same n.in_turn;
+      whole = ap (λ v. edits_made e v edits) (sym m.whole) ∙ n.whole ∙ ap (λ v. v ++ groups_bytes n.groups) bom.0;
+      slots = n.slots ∙ ap₂ (λ u v. slots_after_edits u v edits (slots_of m.groups)) same bom.1 ∙ ap (slots_after_edits f marked edits) m.slots;
+    }
 
--- Edits in turn are edits of the slots: the source is read once, and the bytes are made once, after the last edit.
-pub edits_made-slots : (e : Encoding) (source : List ℕ) (edits : List Edit) → is_editable (byte_order_mark e source).encoding ≡ true → AreScalarEdits edits
-    → edits_made e source edits
-    ≡ bom_of source
-    ++ slots_bytes
-    (slots_after_edits (byte_order_mark e source).encoding (begins_like_bom source) edits
-    (slots_of (held_groups_of (byte_order_mark e source).encoding (byte_order_mark e source).body))).list
-edits_made-slots e source edits ok k =
+pub reached : (e : Encoding) (source : List ℕ) (edits : List Edit) → is_editable (byte_order_mark e source).encoding ≡ true → AreScalarEdits edits
+    → AreReached e source edits (held_groups_of (byte_order_mark e source).encoding (byte_order_mark e source).body)
+reached e source edits ok k =
     let f = byte_order_mark e source in
     let gs = held_groups_of f.encoding f.body in
     let h = held_groups_of-meets f.encoding f.body in
-    steps e source edits gs ok k (record { bytes = held-body f.encoding f.body gs ok h; in_turn = in-turn f.encoding f.body gs ok h })
+    reach e source edits gs ok k (record { bytes = held-body f.encoding f.body gs ok h; in_turn = in-turn f.encoding f.body gs ok h })
+
+-- Edits in turn are edits of the slots: the source is read once, and the bytes are made once, after the last edit.
+pub edits_made-slots : (e : Encoding) (source : List ℕ) (edits : List Edit) → is_editable (byte_order_mark e source).encoding ≡ true → AreScalarEdits edits
+    → edits_made e source edits ≡ slots_made e source edits
+edits_made-slots e source edits ok k =
+    let m = reached e source edits ok k in
+    m.whole ∙ ap (λ v. bom_of source ++ v) (sym (slots-bytes m.groups) ∙ ap (λ v. let w : Slots = v in slots_bytes w.list) m.slots)
+
+-- And so is the result of edits in turn.
+pub edit_all_result-slots : (e : Encoding) (source : List ℕ) (edits : List Edit) → AreScalarEdits edits
+    → edit_all_result e source edits ≡ result_of e source (slots_made e source edits)
+edit_all_result-slots e source edits k = elim (cases_Bool (is_editable (byte_order_mark e source).encoding)) [
+  | inl ok ↦ ap (result_of e source) (edits_made-slots e source edits ok k)
+  | inr n ↦ rw n refl
+]
+
+-- one more edit, after others
+pub slots_after-push : (e : Encoding) (marked : Bool) (edits : List Edit) (edit : Edit) (s : Slots)
+    → slots_after_edits e marked (edits ++ edit ∷ []) s ≡ slots_edited e marked edit (slots_after_edits e marked edits s)
+slots_after-push e marked [] edit s = refl
+slots_after-push e marked (other ∷ edits) edit s = slots_after-push e marked edits edit (slots_edited e marked other s)

@@ -1,7 +1,7 @@
 -- Edits in turn, made to a list of slots: one for each group of the body, made once from the source. The bytes are made once, after the last edit.
 use Rattle.std.specs.Prelude.{ℕ, ◌&&◌, not, Bool, true, false, if◌then◌else◌, List, [], ◌∷◌, ◌++◌, Option, Some, None, bytes_eq}
 use Rattle.properties_format.specs.Text.{LineEnding, lf, cr, crlf, line_ending_text}
-use Rattle.properties_format.specs.Encoding.{Encoding, begins_like_bom}
+use Rattle.properties_format.specs.Encoding.{Encoding, byte_order_mark, begins_like_bom}
 use Rattle.properties_format.specs.Reading.Lines.{ends_in_cr}
 use Rattle.properties_format.specs.Groups.{joined}
 use Rattle.properties_format.specs.Writing.{is_empty}
@@ -9,7 +9,8 @@ use Rattle.properties_format.specs.Entries.{comment, pair}
 use Rattle.properties_format.specs.Items.{Outcome, ignored, given, broken}
 use Rattle.properties_format.specs.Reading.Items.{outcome_of}
 use Rattle.properties_format.specs.Body.{HeldLine, as_lines, ending_bytes, group_bytes, last_ending}
-use Rattle.properties_format.specs.Edited.{pair_bytes, final_group, is_empty_line, is_left_open, Edit, put, remove}
+use Rattle.properties_format.specs.Edited.{pair_bytes, final_group, is_empty_line, is_left_open, bom_of, Edit, put, remove}
+use Rattle.properties_format.specs.Reading.Body.{held_groups_of}
 
 -- ---- slots
 
@@ -170,3 +171,13 @@ slots_edited e marked (remove key) s =
 abbrev pub slots_after_edits : Encoding → Bool → List Edit → Slots → Slots
 slots_after_edits e marked [] s = s
 slots_after_edits e marked (edit ∷ edits) s = slots_after_edits e marked edits (slots_edited e marked edit s)
+
+-- the slots of a source, and the source with its edits made to them
+abbrev pub source_slots : Encoding → List ℕ → Slots
+source_slots e source = slots_of (held_groups_of (byte_order_mark e source).encoding (byte_order_mark e source).body)
+
+abbrev pub slots_after : Encoding → List ℕ → List Edit → Slots
+slots_after e source edits = slots_after_edits (byte_order_mark e source).encoding (begins_like_bom source) edits (source_slots e source)
+
+abbrev pub slots_made : Encoding → List ℕ → List Edit → List ℕ
+slots_made e source edits = bom_of source ++ slots_bytes (slots_after e source edits).list
