@@ -5,3 +5,4 @@ pub mod Put
 pub mod Edits
 pub mod Places
 pub mod Sound
+pub mod Cells

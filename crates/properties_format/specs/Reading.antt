@@ -16,3 +16,4 @@ pub mod Maps
 pub mod Body
 pub mod Edited
 pub mod Slots
+pub mod Cells

@@ -138,9 +138,13 @@ is_by_cr (Some lf) = false
 is_by_cr (Some cr) = true
 is_by_cr (Some crlf) = false
 
--- the second slot is an LF alone, and the first ends in a CR: the two are one line ending
+-- the slot is an LF and nothing else
+abbrev pub is_lf_alone : Slot → Bool
+is_lf_alone s = is_by_lf s.ending && is_empty s.bytes
+
+-- the first slot ends in a CR, and the second is an LF alone: the two are one line ending
 abbrev pub are_one_ending : Slot → Slot → Bool
-are_one_ending s t = is_by_cr s.ending && (is_by_lf t.ending && is_empty t.bytes)
+are_one_ending s t = is_by_cr s.ending && is_lf_alone t
 
 -- the slots that are no pair with the key. With a pair that ends in a CR goes the LF of the same line ending, and where the last slot goes an empty one takes its place
 abbrev pub slots_without : List ℕ → List Slot → List Slot
