@@ -6,3 +6,4 @@ pub mod Edits
 pub mod Places
 pub mod Sound
 pub mod Cells
+pub mod PutCell

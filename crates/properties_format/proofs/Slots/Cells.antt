@@ -1,14 +1,9 @@
 -- Slots in one array: where the last pair with a key is, and what a key that is put changes.
-use Rattle.std.proofs.Common.{◌≡◌, ◌≢◌, ◌<◌, ℕ, ◌+◌, ◌==◌, suc, zero, ◌&&◌, Bool, true, false, List, [], ◌∷◌, ◌++◌, length, get_or, set, take, drop, Option, Some, None, refl, ap, ap₂, sym, ◌∙◌, inl, inr, arith, if◌then◌else◌, subst, append_assoc}
-use Rattle.std.specs.Prelude.{bytes_eq}
+use Rattle.std.proofs.Common.{◌≡◌, ◌<◌, ℕ, ◌+◌, suc, zero, ◌&&◌, true, false, List, [], ◌∷◌, ◌++◌, length, get_or, refl, ap, sym, ◌∙◌, inl, inr, arith, subst}
 use Rattle.std.proofs.lemmas.Bool.{cases_Bool, and_parts}
-use Rattle.std.proofs.lemmas.List.{set_at}
-use Rattle.std.proofs.lemmas.Slice.Eq.{bytes_eq-Decides}
-use Rattle.properties_format.specs.Text.{lf}
-use Rattle.properties_format.specs.Encoding.{Encoding}
-use Rattle.properties_format.specs.Reading.Slots.{Slot, Slots, Closing, left_out, ended_by, closed_by, slot_has, is_first, last_slot, pair_slot, empty_slot, closed_slots, slots_put_at}
-use Rattle.properties_format.specs.Reading.Cells.{Cell, live, dead, cell_has, places_from, places, EndsAlive, AreDead, closed_cell}
-use Rattle.properties_format.proofs.Slots.Places.{NoSlotHas, put-replaces, put-appends, pair_slot-has}
+use Rattle.properties_format.specs.Reading.Slots.{slot_has}
+use Rattle.properties_format.specs.Reading.Cells.{Cell, live, cell_has, places_from, AreDead}
+use Rattle.properties_format.proofs.Slots.Places.{NoSlotHas}
 
 -- ---- cells that are left
 
