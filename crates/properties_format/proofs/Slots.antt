@@ -7,3 +7,4 @@ pub mod Places
 pub mod Sound
 pub mod Cells
 pub mod PutCell
+pub mod EndCells
