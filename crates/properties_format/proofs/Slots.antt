@@ -8,3 +8,4 @@ pub mod Sound
 pub mod Cells
 pub mod PutCell
 pub mod EndCells
+pub mod Kept
