@@ -9,3 +9,4 @@ pub mod Cells
 pub mod PutCell
 pub mod EndCells
 pub mod Kept
+pub mod RemoveCells

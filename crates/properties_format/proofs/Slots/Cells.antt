@@ -59,7 +59,7 @@ places-append key n (x ∷ xs) ys =
     ]
 
 -- a cell that is left and has the key, and one that is not
-none-live : (key : List ℕ) (c : Cell) (cs : List Cell) → cell_has key c ≡ false → NoSlotHas key (live cs) → NoSlotHas key (live (c ∷ cs))
+pub none-live : (key : List ℕ) (c : Cell) (cs : List Cell) → cell_has key c ≡ false → NoSlotHas key (live cs) → NoSlotHas key (live (c ∷ cs))
 none-live key c cs k n = elim (cases_Bool c.alive) [
   | inl a ↦
       let s : slot_has key c.slot ≡ false = ap (λ b. b && slot_has key c.slot) (sym a) ∙ k in

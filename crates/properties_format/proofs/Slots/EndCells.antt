@@ -35,7 +35,7 @@ last-at cells i d a h =
         absurd (omega arith)
 
 -- Such cells are the slots before the last one, and that one.
-live-last : (cells : List Cell) (i : ℕ) (d : Cell) → (m : IsLastAt cells i d) → live cells ≡ live m.before ++ (get_or cells i d).slot ∷ []
+pub live-last : (cells : List Cell) (i : ℕ) (d : Cell) → (m : IsLastAt cells i d) → live cells ≡ live m.before ++ (get_or cells i d).slot ∷ []
 live-last cells i d m =
     ap live m.division ∙ live-append m.before (get_or cells i d ∷ []) ∙ ap (λ v. live m.before ++ v) (live-alive (get_or cells i d) [] m.alive)
 

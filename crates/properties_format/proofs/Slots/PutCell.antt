@@ -43,7 +43,7 @@ ends-set cells i n h k a =
     subst EndsAlive (sym (ap (λ v. set v i n) m.division ∙ set_at m.before (get_or cells i n) m.after n i m.number))
     (ends-after m.before (n ∷ m.after) (ends-replaced (get_or cells i n) n m.after k (ends-back m.before (get_or cells i n) m.after (subst EndsAlive m.division a))))
 
-drop-next : (before : List Cell) (c : Cell) (after : List Cell) (i : ℕ) → length before ≡ i → drop (i + 1) (before ++ c ∷ after) ≡ after
+pub drop-next : (before : List Cell) (c : Cell) (after : List Cell) (i : ℕ) → length before ≡ i → drop (i + 1) (before ++ c ∷ after) ≡ after
 drop-next before c after i s =
     let size = length-append before (c ∷ []) in
     let t : length (before ++ c ∷ []) ≡ i + 1 = omega arith in
