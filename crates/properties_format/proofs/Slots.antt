@@ -10,3 +10,4 @@ pub mod PutCell
 pub mod EndCells
 pub mod Kept
 pub mod RemoveCells
+pub mod GuardCells

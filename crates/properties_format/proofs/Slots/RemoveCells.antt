@@ -107,14 +107,14 @@ kill-no_key k cells i d h n =
 -- ---- what comes next
 
 -- cells of which the first ones are not left, up to this one
-record IsNext (xs : List Cell) (m : ℕ) (d : Cell) : Type 0 where
-  deads : List Cell
-  rest : List Cell
-  division : xs ≡ deads ++ get_or xs m d ∷ rest
-  are_dead : AreDead deads
-  number : length deads ≡ m
+pub record IsNext (xs : List Cell) (m : ℕ) (d : Cell) : Type 0 where
+  pub deads : List Cell
+  pub rest : List Cell
+  pub division : xs ≡ deads ++ get_or xs m d ∷ rest
+  pub are_dead : AreDead deads
+  pub number : length deads ≡ m
 
-next : (xs : List Cell) (m : ℕ) (d : Cell) → m < length xs → ((k : ℕ) → k < m → (get_or xs k d).alive ≡ false) → IsNext xs m d
+pub next : (xs : List Cell) (m : ℕ) (d : Cell) → m < length xs → ((k : ℕ) → k < m → (get_or xs k d).alive ≡ false) → IsNext xs m d
 next [] m d h a = absurd (omega arith)
 next (x ∷ xs) zero d h a = record { deads = []; rest = xs; division = refl; are_dead = tt; number = refl }
 next (x ∷ xs) (suc m) d h a =
@@ -132,12 +132,12 @@ next (x ∷ xs) (suc m) d h a =
 abbrev pub AreDeadBetween : List Cell → ℕ → ℕ → Cell → Type 0
 AreDeadBetween cells i j d = (k : ℕ) → i < k → k < j → (get_or cells k d).alive ≡ false
 
-next-cell : (cells : List Cell) (i j : ℕ) (d : Cell) → i < j → j < length cells → AreDeadBetween cells i j d → IsNext (drop (i + 1) cells) (j - (i + 1)) d
+pub next-cell : (cells : List Cell) (i j : ℕ) (d : Cell) → i < j → j < length cells → AreDeadBetween cells i j d → IsNext (drop (i + 1) cells) (j - (i + 1)) d
 next-cell cells i j d h l a =
     let size = length-drop (i + 1) cells in
     next (drop (i + 1) cells) (j - (i + 1)) d (omega arith) (λ k n. ap (λ v. let w : Cell = v in w.alive) (get_or-drop (i + 1) cells k d) ∙ a (i + 1 + k) (omega arith) (omega arith))
 
-same-cell : (cells : List Cell) (i j : ℕ) (d : Cell) → i < j → get_or (drop (i + 1) cells) (j - (i + 1)) d ≡ get_or cells j d
+pub same-cell : (cells : List Cell) (i j : ℕ) (d : Cell) → i < j → get_or (drop (i + 1) cells) (j - (i + 1)) d ≡ get_or cells j d
 same-cell cells i j d h = let s : i + 1 + (j - (i + 1)) ≡ j = omega arith in get_or-drop (i + 1) cells (j - (i + 1)) d ∙ ap (λ n. get_or cells n d) s
 
 -- The next cell that is left tells whether an LF alone comes next,
