@@ -11,3 +11,5 @@ pub mod EndCells
 pub mod Kept
 pub mod RemoveCells
 pub mod GuardCells
+pub mod PushCells
+pub mod Links

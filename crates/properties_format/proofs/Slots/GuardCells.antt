@@ -6,14 +6,14 @@ use Rattle.properties_format.specs.Text.{lf}
 use Rattle.properties_format.specs.Encoding.{begins_like_bom}
 use Rattle.properties_format.specs.Writing.{is_empty}
 use Rattle.properties_format.specs.Reading.Slots.{Slot, slot_has, empty_slot, is_by_lf, is_lf_alone, are_one_ending, slots_without, last_has, slots_guarded}
-use Rattle.properties_format.specs.Reading.Cells.{Cell, live, dead, places, EndsAlive, slots_kept}
+use Rattle.properties_format.specs.Reading.Cells.{AreDeadBetween, Cell, live, dead, places, EndsAlive, slots_kept}
 use Rattle.properties_format.proofs.Slots.Merged.{by_lf-is}
 use Rattle.properties_format.proofs.Slots.Sound.{AreSound}
 use Rattle.properties_format.proofs.Slots.Cells.{live-alive, live-dead, live-append, live-none, cell-at, places-none}
 use Rattle.properties_format.proofs.Slots.PutCell.{drop-next}
 use Rattle.properties_format.proofs.Slots.EndCells.{last-at, live-last}
 use Rattle.properties_format.proofs.Slots.Kept.{kept-none, kept-both, without-kept}
-use Rattle.properties_format.proofs.Slots.RemoveCells.{first-cell, AreDeadBetween, next, next-cell, same-cell}
+use Rattle.properties_format.proofs.Slots.RemoveCells.{first-cell, next, next-cell, same-cell}
 
 -- ---- a pair is left out with its LF
 

@@ -5,7 +5,7 @@ use Rattle.std.proofs.lemmas.Bool.{cases_Bool, and_parts}
 use Rattle.std.proofs.lemmas.List.{set_at, get_or_at, length-append, get_or-drop, length-drop}
 use Rattle.std.proofs.lemmas.Slice.Eq.{bytes_eq-Decides}
 use Rattle.properties_format.specs.Reading.Slots.{Slot, slot_has, is_by_cr, is_lf_alone}
-use Rattle.properties_format.specs.Reading.Cells.{Cell, live, dead, cell_has, places_from, places, AreDead, slots_kept}
+use Rattle.properties_format.specs.Reading.Cells.{Cell, live, dead, cell_has, places_from, places, AreDead, AreDeadBetween, slots_kept}
 use Rattle.properties_format.proofs.Slots.Places.{NoSlotHas}
 use Rattle.properties_format.proofs.Slots.Cells.{live-alive, live-append, live-none, places-has, places-other, none-live}
 use Rattle.properties_format.proofs.Slots.PutCell.{drop-next, places-set}
@@ -127,10 +127,6 @@ next (x ∷ xs) (suc m) d h a =
       are_dead = (a 0 (omega arith), n.are_dead);
       number = omega arith;
     }
-
--- no cell strictly between these two is left
-abbrev pub AreDeadBetween : List Cell → ℕ → ℕ → Cell → Type 0
-AreDeadBetween cells i j d = (k : ℕ) → i < k → k < j → (get_or cells k d).alive ≡ false
 
 pub next-cell : (cells : List Cell) (i j : ℕ) (d : Cell) → i < j → j < length cells → AreDeadBetween cells i j d → IsNext (drop (i + 1) cells) (j - (i + 1)) d
 next-cell cells i j d h l a =

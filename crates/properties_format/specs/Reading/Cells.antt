@@ -1,5 +1,6 @@
 -- Slots in one array, in the order of the body, where a slot that is left out is marked and the others keep their places.
-use Rattle.std.specs.Prelude.{◌≡◌, ℕ, ◌+◌, ◌&&◌, Bool, true, false, if◌then◌else◌, List, [], ◌∷◌, ◌++◌, Some}
+use Rattle.std.specs.Prelude.{◌<◌, ◌≤◌, get_or, length, ◌≡◌, ℕ, ◌+◌, ◌&&◌, Bool, true, false, if◌then◌else◌, List, [], ◌∷◌, ◌++◌, Some}
+use Rattle.properties_format.specs.Body.{ending_bytes}
 use Rattle.properties_format.specs.Text.{line_ending_text}
 use Rattle.properties_format.specs.Reading.Slots.{Slot, Closing, left_out, ended_by, closed_by, slot_has, are_one_ending}
 
@@ -53,3 +54,16 @@ slots_kept key [] = []
 slots_kept key (s ∷ []) = if slot_has key s then [] else s ∷ []
 slots_kept key (s ∷ t ∷ ss) =
     if slot_has key s then (if are_one_ending s t then slots_kept key ss else slots_kept key (t ∷ ss)) else s ∷ slots_kept key (t ∷ ss)
+
+-- the bytes of a cell, where it is left
+abbrev pub cell_bytes : Cell → List ℕ
+cell_bytes c = if c.alive then c.slot.bytes ++ ending_bytes c.slot.ending else []
+
+-- no cell strictly between these two is left
+abbrev pub AreDeadBetween : List Cell → ℕ → ℕ → Cell → Type 0
+AreDeadBetween cells i j d = (k : ℕ) → i < k → k < j → (get_or cells k d).alive ≡ false
+
+-- each link leads on from its cell, over cells alone that are not left
+abbrev pub AreLinks : List Cell → List ℕ → Cell → Type 0
+AreLinks cells links d =
+    (i : ℕ) → i < length cells → (i < get_or links i 0) × (get_or links i 0 ≤ length cells) × AreDeadBetween cells i (get_or links i 0) d
