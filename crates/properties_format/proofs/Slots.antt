@@ -4,7 +4,7 @@ pub mod Removed
 pub mod Put
 pub mod Edits
 pub mod Places
-pub mod Sound
+pub mod WellEnded
 pub mod Cells
 pub mod PutCell
 pub mod EndCells

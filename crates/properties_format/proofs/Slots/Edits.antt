@@ -1,20 +1,22 @@
 -- Edits in turn, each made to the bytes that the one before gave, are the same edits made to the slots of the source.
-use Rattle.std.proofs.Common.{◌≡◌, ℕ, Bool, true, false, List, [], ◌∷◌, ◌++◌, length, refl, ap, ap₂, sym, ◌∙◌, inl, inr, subst, arith}
+use Rattle.std.proofs.Common.{◌≡◌, ℕ, Bool, true, false, List, [], ◌∷◌, ◌++◌, length, take, drop, refl, ap, ap₂, sym, ◌∙◌, inl, inr, subst, arith, if◌then◌else◌, append_assoc}
+use Rattle.std.proofs.lemmas.List.{drop_at, take_at}
 use Rattle.std.proofs.lemmas.Bool.{cases_Bool}
+use Rattle.properties_format.specs.Text.{LineEnding}
 use Rattle.properties_format.specs.Encoding.{Encoding, InForce, byte_order_mark, begins_like_bom, utf_8_bom}
 use Rattle.properties_format.specs.Reading.Lines.{ends_in_cr}
-use Rattle.properties_format.specs.Body.{HeldLine, AreGroupsOf, groups_bytes}
-use Rattle.properties_format.specs.Edited.{IsKeySet, bom_of, IsKeyRemoved, is_editable, Edit, put, remove, IsScalarEdit, AreScalarEdits}
+use Rattle.properties_format.specs.Body.{HeldLine, AreGroupsOf, ending_bytes, group_bytes, groups_bytes, last_ending}
+use Rattle.properties_format.specs.Edited.{IsKeySet, bom_of, IsKeyRemoved, is_empty_line, is_left_open, final_group, is_editable, Edit, put, remove, IsScalarEdit, AreScalarEdits}
 use Rattle.properties_format.specs.Reading.Body.{held_groups_of}
 use Rattle.properties_format.specs.Reading.Edited.{without, edit_made, edits_made, result_of, edit_all_result}
-use Rattle.properties_format.specs.Reading.Slots.{slots_bytes, slot_list, Slots, slots_of, slots_edited, slots_after_edits, slots_made}
+use Rattle.properties_format.specs.Reading.Slots.{slots_bytes, slot_list, Slots, Closing, left_out, ended_by, closed_by, unended_bytes, safe_ending, closing_of, slots_of, slots_edited, slots_after_edits, source_slots, slots_made}
 use Rattle.properties_format.proofs.Body.Groups.{held_groups_of-meets, held-body}
 use Rattle.properties_format.proofs.Edited.Made.{key_set-only, without-meets, key_removed-only}
 use Rattle.properties_format.proofs.Edited.ByteOrderMarks.{has_bom, source-whole, key_set-in_force, key_removed-in_force}
 use Rattle.properties_format.proofs.Slots.Lines.{bytes-unended}
 use Rattle.properties_format.proofs.Slots.Merged.{AreInTurn, in-turn, merged, merged-groups}
 use Rattle.properties_format.proofs.Slots.Removed.{removed}
-use Rattle.properties_format.proofs.Slots.Put.{put-in}
+use Rattle.properties_format.proofs.Slots.Put.{put-in, ends-last}
 
 -- ---- the byte order mark
 
@@ -177,3 +179,36 @@ pub slots_after-push : (e : Encoding) (marked : Bool) (edits : List Edit) (edit 
     → slots_after_edits e marked (edits ++ edit ∷ []) s ≡ slots_edited e marked edit (slots_after_edits e marked edits s)
 slots_after-push e marked [] edit s = refl
 slots_after-push e marked (other ∷ edits) edit s = slots_after-push e marked edits edit (slots_edited e marked other s)
+
+-- ---- the slots of a source
+
+-- what becomes of a last group after which a pair comes, with this ending
+abbrev pub closing_by : LineEnding → List HeldLine → Closing
+closing_by by g = if is_empty_line g then left_out else (if is_left_open g then closed_by by else ended_by by)
+
+-- The ending that closes the last slot of a source is a CR where the source ends in one.
+pub source-closing : (e : Encoding) (source : List ℕ) → is_editable (byte_order_mark e source).encoding ≡ true
+    → let f : InForce = byte_order_mark e source in
+    (source_slots e source).closing ≡ closing_by (safe_ending source) (final_group (held_groups_of f.encoding f.body))
+source-closing e source ok =
+    let f = byte_order_mark e source in
+    let gs = held_groups_of f.encoding f.body in
+    let h = held_groups_of-meets f.encoding f.body in
+    of-group (final_group gs)
+    (λ x. sym ((ends-last f.encoding gs (in-turn f.encoding f.body gs ok h) x).1) ∙ ap ends_in_cr (held-body f.encoding f.body gs ok h) ∙ sym (ends-body e source ok))
+  where
+    of-group : (g : List HeldLine) → (is_empty_line g ≡ false → ends_in_cr (group_bytes g) ≡ ends_in_cr source) → closing_of g ≡ closing_by (safe_ending source) g
+    of-group g s = elim (cases_Bool (is_empty_line g)) [
+      | inl x ↦ rw x refl
+      | inr x ↦ let t = s x in rw (x, t) refl
+    ]
+
+-- The bytes of a slot of a source stand in the body where its group stands.
+pub span-unended : (body front : List ℕ) (g : List HeldLine) (back : List ℕ) → body ≡ front ++ (group_bytes g ++ back)
+    → take (length (unended_bytes g)) (drop (length front) body) ≡ unended_bytes g
+span-unended body front g back s =
+    ap (λ v. take (length (unended_bytes g)) (drop (length front) v)) s
+    ∙ ap (take (length (unended_bytes g))) (drop_at front (group_bytes g ++ back) (length front) refl)
+    ∙ ap (λ v. take (length (unended_bytes g)) (v ++ back)) (bytes-unended g)
+    ∙ ap (take (length (unended_bytes g))) (append_assoc (unended_bytes g) (ending_bytes (last_ending g)) back)
+    ∙ take_at (unended_bytes g) (ending_bytes (last_ending g) ++ back) (length (unended_bytes g)) refl

@@ -8,7 +8,7 @@ use Rattle.properties_format.specs.Writing.{is_empty}
 use Rattle.properties_format.specs.Reading.Slots.{Slot, slot_has, empty_slot, is_by_lf, is_lf_alone, are_one_ending, slots_without, last_has, slots_guarded}
 use Rattle.properties_format.specs.Reading.Cells.{AreDeadBetween, Cell, live, dead, places, EndsAlive, slots_kept}
 use Rattle.properties_format.proofs.Slots.Merged.{by_lf-is}
-use Rattle.properties_format.proofs.Slots.Sound.{AreSound}
+use Rattle.properties_format.proofs.Slots.WellEnded.{AreWellEnded}
 use Rattle.properties_format.proofs.Slots.Cells.{live-alive, live-dead, live-append, live-none, cell-at, places-none}
 use Rattle.properties_format.proofs.Slots.PutCell.{drop-next}
 use Rattle.properties_format.proofs.Slots.EndCells.{last-at, live-last}
@@ -71,12 +71,12 @@ last_has-cell key cells i d a h =
     push (x ∷ y ∷ xs) s = push (y ∷ xs) s
 
 -- What is left is the slots without the key, where the last slot has another,
-pub without-cells : (key : List ℕ) (before after : List Cell) → AreSound (live before) → slots_kept key (live after) ≡ slots_kept key (live before)
+pub without-cells : (key : List ℕ) (before after : List Cell) → AreWellEnded (live before) → slots_kept key (live after) ≡ slots_kept key (live before)
     → places key after ≡ [] → last_has key (live before) ≡ false → slots_without key (live before) ≡ live after
 without-cells key before after a k s n = without-kept key (live before) a ∙ rw n (sym k ∙ kept-end key after s)
 
 -- and where it has the key an empty slot comes last.
-pub without-last : (key : List ℕ) (before after : List Cell) → AreSound (live before) → slots_kept key (live after) ≡ slots_kept key (live before)
+pub without-last : (key : List ℕ) (before after : List Cell) → AreWellEnded (live before) → slots_kept key (live after) ≡ slots_kept key (live before)
     → places key after ≡ [] → last_has key (live before) ≡ true
     → slots_without key (live before) ≡ live (after ++ record { slot = empty_slot None; alive = true } ∷ [])
 without-last key before after a k s n =
@@ -91,10 +91,10 @@ abbrev pub AreLonesKeyless : List Slot → Type 0
 AreLonesKeyless [] = Unit {0}
 AreLonesKeyless (s ∷ ss) = (is_lf_alone s ≡ true → s.key ≡ None) × AreLonesKeyless ss
 
-pub sound-lones : (ss : List Slot) → AreSound ss → AreLonesKeyless ss
-sound-lones [] a = absurd a
-sound-lones (s ∷ []) a = ((λ k. let m = by_lf-is s.ending (and_parts (is_by_lf s.ending) (is_empty s.bytes) k).0 in absurd (cc)), tt)
-sound-lones (s ∷ t ∷ ss) a = (a.0, sound-lones (t ∷ ss) a.1)
+pub well_ended-lones : (ss : List Slot) → AreWellEnded ss → AreLonesKeyless ss
+well_ended-lones [] a = absurd a
+well_ended-lones (s ∷ []) a = ((λ k. let m = by_lf-is s.ending (and_parts (is_by_lf s.ending) (is_empty s.bytes) k).0 in absurd (cc)), tt)
+well_ended-lones (s ∷ t ∷ ss) a = (a.0, well_ended-lones (t ∷ ss) a.1)
 
 lones-parts : (xs ys : List Slot) → AreLonesKeyless (xs ++ ys) → AreLonesKeyless xs × AreLonesKeyless ys
 lones-parts [] ys a = (tt, a)

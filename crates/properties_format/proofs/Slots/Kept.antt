@@ -6,7 +6,7 @@ use Rattle.properties_format.specs.Reading.Cells.{slots_kept}
 use Rattle.properties_format.specs.Writing.{is_empty}
 use Rattle.properties_format.proofs.Slots.Merged.{by_lf-is}
 use Rattle.properties_format.proofs.Slots.Places.{NoSlotHas}
-use Rattle.properties_format.proofs.Slots.Sound.{AreSound}
+use Rattle.properties_format.proofs.Slots.WellEnded.{AreWellEnded}
 
 -- a slot with another key stays
 kept-other : (key : List ℕ) (s : Slot) (ss : List Slot) → slot_has key s ≡ false → slots_kept key (s ∷ ss) ≡ s ∷ slots_kept key ss
@@ -50,7 +50,7 @@ abbrev ended_kept : List ℕ → Bool → List Slot → List Slot
 ended_kept key b ss = if b then slots_kept key ss ++ empty_slot None ∷ [] else slots_kept key ss
 
 -- an LF alone is not the last
-not-last : (s t : Slot) → AreSound (t ∷ []) → are_one_ending s t ≡ true → ⊥
+not-last : (s t : Slot) → AreWellEnded (t ∷ []) → are_one_ending s t ≡ true → ⊥
 not-last s t a j =
     let m = and_parts (is_by_cr s.ending) (is_lf_alone t) j in
     let n = and_parts (is_by_lf t.ending) (is_empty t.bytes) m.1 in
@@ -66,7 +66,7 @@ ended-same key true xs ys k = ap (λ v. v ++ empty_slot None ∷ []) k
 ended-same key false xs ys k = k
 
 -- The slots without the key are those that are left, and an empty one where the last one had the key.
-pub without-kept : (key : List ℕ) (ss : List Slot) → AreSound ss
+pub without-kept : (key : List ℕ) (ss : List Slot) → AreWellEnded ss
     → slots_without key ss ≡ (if last_has key ss then slots_kept key ss ++ empty_slot None ∷ [] else slots_kept key ss)
 without-kept key [] a = absurd a
 without-kept key (s ∷ []) a = elim (cases_Bool (slot_has key s)) [ inl k ↦ rw k refl | inr k ↦ rw k refl ]

@@ -260,7 +260,7 @@ last-of e (g ∷ []) a = a
 last-of e (g ∷ h ∷ gs) a = last-of e (h ∷ gs) a.1
 
 -- the bytes end as the last group does, where that is no empty line
-ends-last : (e : Encoding) (gs : List (List HeldLine)) → AreInTurn e gs → is_empty_line (final_group gs) ≡ false
+pub ends-last : (e : Encoding) (gs : List (List HeldLine)) → AreInTurn e gs → is_empty_line (final_group gs) ≡ false
     → (groups_bytes gs ≢ []) × (ends_in_cr (groups_bytes gs) ≡ ends_in_cr (group_bytes (final_group gs)))
 ends-last e [] a n = absurd a
 ends-last e (g ∷ []) (a, f) n = (

@@ -17,10 +17,10 @@ use Rattle.properties_format.proofs.Slots.Merged.{AreInTurn, empty-is}
 use Rattle.properties_format.proofs.Slots.Edits.{reached}
 
 -- No slot that is an LF alone is a pair, and the last slot has no ending.
-abbrev pub AreSound : List Slot → Type 0
-AreSound [] = ⊥
-AreSound (s ∷ []) = s.ending ≡ None
-AreSound (s ∷ t ∷ ss) = (is_lf_alone s ≡ true → s.key ≡ None) × AreSound (t ∷ ss)
+abbrev pub AreWellEnded : List Slot → Type 0
+AreWellEnded [] = ⊥
+AreWellEnded (s ∷ []) = s.ending ≡ None
+AreWellEnded (s ∷ t ∷ ss) = (is_lf_alone s ≡ true → s.key ≡ None) × AreWellEnded (t ∷ ss)
 
 -- the last of the slots
 abbrev pub final_slot : List Slot → Slot
@@ -29,8 +29,8 @@ final_slot (s ∷ []) = s
 final_slot (s ∷ t ∷ ss) = final_slot (t ∷ ss)
 
 -- Such slots; and where the last one is left out before a new pair, it is no pair itself.
-pub record IsSound (s : Slots) : Type 0 where
-  pub slots : AreSound s.list
+pub record IsWellEnded (s : Slots) : Type 0 where
+  pub slots : AreWellEnded s.list
   pub left_out : s.closing ≡ left_out → (final_slot s.list).key ≡ None
 
 -- an empty line is no pair
@@ -40,12 +40,12 @@ empty-key e o (h ∷ []) a k =
     ap (λ v. key_told (outcome_of (joined (record { number = 0; text = v } ∷ [])))) (a.1 ∙ ap (decoded_line e) k ∙ decoded-nil e) ∙ ap key_told outcome-empty
 empty-key e o (h ∷ i ∷ hs) a k = let m = unended-some e o (h ∷ i ∷ hs) a k in absurd (cc)
 
-turn-sound : (e : Encoding) (gs : List (List HeldLine)) → AreInTurn e gs → AreSound (slot_list gs)
-turn-sound e [] a = absurd a
-turn-sound e (g ∷ []) a = ending-of e None g a.0
-turn-sound e (g ∷ h ∷ gs) ((by, a, w), r) = (
+turn-well_ended : (e : Encoding) (gs : List (List HeldLine)) → AreInTurn e gs → AreWellEnded (slot_list gs)
+turn-well_ended e [] a = absurd a
+turn-well_ended e (g ∷ []) a = ending-of e None g a.0
+turn-well_ended e (g ∷ h ∷ gs) ((by, a, w), r) = (
   (λ k. empty-key e (Some by) g a (empty-is (unended_bytes g) (and_parts (is_by_lf (last_ending g)) (is_empty (unended_bytes g)) k).1)),
-  turn-sound e (h ∷ gs) r,
+  turn-well_ended e (h ∷ gs) r,
 )
 
 turn-left_out : (e : Encoding) (gs : List (List HeldLine)) → AreInTurn e gs → closing_of (final_group gs) ≡ left_out → (final_slot (slot_list gs)).key ≡ None
@@ -65,9 +65,9 @@ turn-left_out e (g ∷ []) a k = elim (cases_Bool (is_empty_line g)) [
 turn-left_out e (g ∷ h ∷ gs) a k = turn-left_out e (h ∷ gs) a.1 k
 
 -- The slots of a source are such, after any edits.
-pub slots_after-sound : (e : Encoding) (source : List ℕ) (edits : List Edit) → is_editable (byte_order_mark e source).encoding ≡ true → AreScalarEdits edits
-    → IsSound (slots_after e source edits)
-slots_after-sound e source edits ok k =
+pub slots_after-well_ended : (e : Encoding) (source : List ℕ) (edits : List Edit) → is_editable (byte_order_mark e source).encoding ≡ true → AreScalarEdits edits
+    → IsWellEnded (slots_after e source edits)
+slots_after-well_ended e source edits ok k =
     let f = (byte_order_mark e source).encoding in
     let m = reached e source edits ok k in
-    subst IsSound m.slots (record { slots = turn-sound f m.groups m.in_turn; left_out = turn-left_out f m.groups m.in_turn })
+    subst IsWellEnded m.slots (record { slots = turn-well_ended f m.groups m.in_turn; left_out = turn-left_out f m.groups m.in_turn })
