@@ -13,3 +13,4 @@ pub mod RemoveCells
 pub mod GuardCells
 pub mod PushCells
 pub mod Links
+pub mod Removing

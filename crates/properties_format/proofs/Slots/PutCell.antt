@@ -36,6 +36,13 @@ ends-replaced : (c n : Cell) (after : List Cell) → n.alive ≡ true → EndsAl
 ends-replaced c n [] k a = k
 ends-replaced c n (d ∷ after) k a = a
 
+pub ends-at : (cells : List Cell) (i : ℕ) (d : Cell) → i + 1 ≡ length cells → (get_or cells i d).alive ≡ true → EndsAlive cells
+ends-at [] i d h k = absurd (omega arith)
+ends-at (c ∷ []) zero d h k = k
+ends-at (c ∷ []) (suc i) d h k = absurd (omega arith)
+ends-at (c ∷ e ∷ cs) zero d h k = absurd (omega arith)
+ends-at (c ∷ e ∷ cs) (suc i) d h k = ends-at (e ∷ cs) i d (omega arith) k
+
 -- The last cell stays left, where another one takes its place.
 pub ends-set : (cells : List Cell) (i : ℕ) (n : Cell) → i < length cells → n.alive ≡ true → EndsAlive cells → EndsAlive (set cells i n)
 ends-set cells i n h k a =

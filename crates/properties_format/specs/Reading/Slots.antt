@@ -75,6 +75,7 @@ slots_of gs = record { list = slot_list gs; closing = closing_of (final_group gs
 abbrev pub slot_has : List ℕ → Slot → Bool
 slot_has key s = elim s.key as (λ _. Bool) [ None ↦ false | Some k ↦ bytes_eq k key ]
 
+-- whether none of the slots comes before what follows them
 abbrev pub is_first : List Slot → Bool
 is_first [] = true
 is_first (s ∷ ss) = false
@@ -125,7 +126,7 @@ slots_put_at e key value s None =
 
 -- ---- a key is removed
 
--- whether it is this ending
+-- whether it is an LF, and whether it is a CR
 abbrev pub is_by_lf : Option LineEnding → Bool
 is_by_lf None = false
 is_by_lf (Some lf) = true
