@@ -14,7 +14,7 @@ use Rattle.properties_format.specs.Body.{HeldLine, as_lines, NoneHasKey, group_b
 use Rattle.properties_format.specs.Edited.{bom_of, guarding_lf, is_editable, HoldsNoMalformed, Edit, put, remove, edited, IsSetKeyResult, IsRemoveKeyResult, IsEditAllResult}
 use Rattle.properties_format.specs.Changed.{map_edited}
 use Rattle.properties_format.specs.Reading.Body.{held_groups_of, is_pair_with, has_key, entries_in}
-use Rattle.properties_format.specs.Reading.Edited.{without, key_set, edit_made, edits_made, result_of, edit_all_result}
+use Rattle.properties_format.specs.Reading.Edited.{without, key_set, edit_made, edits_made, result_of, set_key_result, edit_all_result}
 use Rattle.properties_format.specs.EditLaws.{RemovingNoPairChangesNothing, SettingTwiceIsSettingOnce, HasMap, DiffersAt, SettingGivesTheValue, RemovingTakesTheValue, NoEditsChangeNothing, OneEditIsItsCall, ListsOfEditsFollow}
 use Rattle.properties_format.proofs.Items.Unique.{items_of-only}
 use Rattle.properties_format.proofs.Maps.{map-only}
@@ -26,7 +26,7 @@ use Rattle.properties_format.proofs.Edited.ByteOrderMarks.{has_bom, source-whole
 use Rattle.properties_format.specs.Reading.Slots.{slots_bytes, slots_of}
 use Rattle.properties_format.proofs.Slots.Places.{put-twice}
 use Rattle.properties_format.proofs.Slots.Edits.{edits_made-slots}
-use Rattle.properties_format.proofs.Changed.Laws.{IsReadable, edits-say}
+use Rattle.properties_format.proofs.Changed.Laws.{IsReadable, key_set-says, edits-say}
 use Rattle.properties_format.proofs.Changed.Read.{readable, set_key-reads, remove_key-reads}
 
 -- ---- a key that no pair has
@@ -83,15 +83,26 @@ removing-no_pair e source key entries is none result h =
 
 -- ---- a key that is set twice
 
+-- the result of a source that can be edited
+result-made : (e : Encoding) (source made : List ℕ) → IsReadable e source → result_of e source made ≡ edited made
+result-made e source made r = result-editable e source made r.editable ∙ result_by-edited (items_of e source end) made r.no_fault
+
 pub setting-twice : (e : Encoding) (source key first second : List ℕ) → SettingTwiceIsSettingOnce e source key first second
-setting-twice e source key first second k v w between twice once h i j =
+setting-twice e source key first second k v w between h result =
     let f = byte_order_mark e source in
     let slots = slots_of (held_groups_of f.encoding f.body) in
-    key_set-only e between key second twice i.2
-    ∙ ap (λ x. key_set e x key second) (key_set-only e source key first between h.2)
+    let r = readable e source h.0 h.1 in
+    let next = (key_set-says e source key first between r k v h.2).readable in
+    let bytes : key_set e between key second ≡ key_set e source key second =
+    ap (λ x. key_set e x key second) (key_set-only e source key first between h.2)
     ∙ edits_made-slots e source (put key first ∷ put key second ∷ []) h.0 ((k, v), ((k, w), tt))
     ∙ ap (λ x. bom_of source ++ slots_bytes x) (put-twice f.encoding key first second slots)
-    ∙ sym (key_set-only e source key second once j.2 ∙ edits_made-slots e source (put key second ∷ []) h.0 ((k, w), tt))
+    ∙ sym (edits_made-slots e source (put key second ∷ []) h.0 ((k, w), tt)) in
+    let same : set_key_result e between key second ≡ set_key_result e source key second =
+    result-made e between (key_set e between key second) next ∙ ap edited bytes ∙ sym (result-made e source (key_set e source key second) r) in (
+      (λ i. subst (IsSetKeyResult e source key second) (sym (set_key_result-only e between key second result i ∙ same)) (set_key_result-meets e source key second)),
+      (λ i. subst (IsSetKeyResult e between key second) (sym (set_key_result-only e source key second result i ∙ sym same)) (set_key_result-meets e between key second)),
+    )
 
 -- ---- the map
 
@@ -155,10 +166,6 @@ edits_made-append : (e : Encoding) (source : List ℕ) (first second : List Edit
     → edits_made e source (first ++ second) ≡ edits_made e (edits_made e source first) second
 edits_made-append e source [] second = refl
 edits_made-append e source (edit ∷ first) second = edits_made-append e (edit_made e source edit) first second
-
--- the result of a source that can be edited
-result-made : (e : Encoding) (source made : List ℕ) → IsReadable e source → result_of e source made ≡ edited made
-result-made e source made r = result-editable e source made r.editable ∙ result_by-edited (items_of e source end) made r.no_fault
 
 pub lists-follow : (e : Encoding) (source : List ℕ) (first second : List Edit) → ListsOfEditsFollow e source first second
 lists-follow e source first second scalars between h result =

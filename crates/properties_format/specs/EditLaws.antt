@@ -17,12 +17,11 @@ RemovingNoPairChangesNothing e source key =
     (entries : List Entry) → IsItems e source end entries → HasNoPair key entries
     → (result : List ℕ) → IsRemoveKeyResult e source key (edited result) → result ≡ source
 
--- Setting a key twice is setting it once, to the later value: the bytes are the same.
+-- Setting a key twice is setting it once, to the later value: the second call has the results that it has on the source.
 abbrev pub SettingTwiceIsSettingOnce : Encoding → List ℕ → List ℕ → List ℕ → List ℕ → Type 0
 SettingTwiceIsSettingOnce e source key first second =
-    All scalar key → All scalar first → All scalar second
-    → (between twice once : List ℕ) → IsSetKeyResult e source key first (edited between) → IsSetKeyResult e between key second (edited twice)
-    → IsSetKeyResult e source key second (edited once) → twice ≡ once
+    All scalar key → All scalar first → All scalar second → (between : List ℕ) → IsSetKeyResult e source key first (edited between)
+    → (result : EditResult) → IsSetKeyResult e between key second result ↔ IsSetKeyResult e source key second result
 
 -- read in this encoding, the bytes have this map
 abbrev pub HasMap : Encoding → List ℕ → (List ℕ → Option (List ℕ)) → Type 0
