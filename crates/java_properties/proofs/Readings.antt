@@ -20,7 +20,7 @@ use Rattle.java_properties.specs.LineFinder.{PassesSome}
 use Rattle.java_properties.proofs.LineJoiner.{some-start, some-on, all-on}
 use Rattle.java_properties.specs.LineJoiner.{JoinsError}
 use Rattle.java_properties.specs.PropertiesIter.{Gives, BreaksOff, GivesEntry, GivesNone, GivesMalformed}
-use Rattle.java_properties.specs.ReadLines.{IsReading, BeginsItems, ReadsWhole, StopsMalformed, StopsFailed, StopsEarly}
+use Rattle.java_properties.specs.ReadLines.{IsReading, BeginsReading, ReadsWhole, StopsMalformed, StopsFailed, StopsEarly}
 use Rattle.java_properties.specs.declared.error.ErrorKind.TheVariants as kind
 use Rattle.java_properties.specs.declared.error.PropertiesError.{PropertiesError}
 
@@ -99,16 +99,16 @@ module _ {R : Type 0} {reader : Reader R} where
   collected-lost {e} {to = to} {next = next} {r = r} {entries} {s} {t} {entry} h n is =
       record { bytes = r ++ n.bytes; read = read-more h.read n.read; is = inr is; begins = by-comes h.comes n.gives }
     where
-      by-comes : Comes e r entries (reader.at_end to) s → Gives s n.bytes entry t → BeginsItems e (r ++ n.bytes) entries (reader.at_end next)
+      by-comes : Comes e r entries (reader.at_end to) s → Gives s n.bytes entry t → BeginsReading e (r ++ n.bytes) entries (reader.at_end next)
       by-comes (Comes.at_last d k m) g = let l = n.live in absurd (cc)
       by-comes (Comes.going_on g m) (Gives.going_on k reads) = inl (λ d ending. (
         entry ∷ items_to_come t d ending,
-        items-are e ((r ++ n.bytes) ++ d) ending _ (
+        reading-of e ((r ++ n.bytes) ++ d) ending _ (
             ap (λ v. items_of e v ending) (append_assoc r n.bytes d) ∙ m (n.bytes ++ d) ending ∙ ap (λ v. entries ++ v) (reads.items d ending)
             ),
       ))
       by-comes (Comes.going_on g m) (Gives.at_last k items) =
-          inr (n.ended k, (entry ∷ [], items-are e (r ++ n.bytes) end _ (m n.bytes end ∙ ap (λ v. entries ++ v) items)))
+          inr (n.ended k, (entry ∷ [], reading-of e (r ++ n.bytes) end _ (m n.bytes end ∙ ap (λ v. entries ++ v) items)))
 
   -- malformed escapes came
   pub collected-malformed : {e : Encoding} {from to next : R} {r : List ℕ} {entries : List Entry} {s : ReaderState} {error : PropertiesError} → Collected reader e from r entries s to
@@ -133,10 +133,10 @@ module _ {R : Type 0} {reader : Reader R} where
       by-breaks (BreaksOff.at_last k m) = inr (k, reading-of e (r ++ n.bytes) end _ (live-on h.comes g n.bytes end ∙ ap (λ v. entries ++ v) m))
 
   early : {e : Encoding} {from to : R} {r : List ℕ} {entries : List Entry} {s : ReaderState} → Collected reader e from r entries s to → s.is_done ≡ false
-      → (q : List ℕ) {at_end : Bool} → BeginsItems e (r ++ q) entries at_end
+      → (q : List ℕ) {at_end : Bool} → BeginsReading e (r ++ q) entries at_end
   early {e} {r = r} {entries} {s} h g q = inl (λ d ending. (
     items_to_come s (q ++ d) ending,
-    items-are e ((r ++ q) ++ d) ending _ (ap (λ v. items_of e v ending) (append_assoc r q d) ∙ live-on h.comes g (q ++ d) ending),
+    reading-of e ((r ++ q) ++ d) ending _ (ap (λ v. items_of e v ending) (append_assoc r q d) ∙ live-on h.comes g (q ++ d) ending),
   ))
 
   -- a line could not be read
