@@ -18,8 +18,9 @@ use Rattle.properties_format.proofs.ItemsToCome.Unique.{items_to_come-start}
 use Rattle.java_properties.specs.Errors.{IsBareError}
 use Rattle.java_properties.specs.LineFinder.{PassesSome}
 use Rattle.java_properties.proofs.LineJoiner.{some-start, some-on, all-on}
+use Rattle.java_properties.proofs.Told.{tell-all}
 use Rattle.java_properties.specs.LineJoiner.{JoinsError}
-use Rattle.java_properties.specs.PropertiesIter.{Gives, BreaksOff, GivesEntry, GivesNone, GivesMalformed}
+use Rattle.java_properties.specs.GivenItems.{Gives, BreaksOff, GivesEntry, GivesNone, GivesMalformed}
 use Rattle.java_properties.specs.ReadLines.{IsReading, BeginsReading, ReadsWhole, StopsMalformed, StopsFailed, StopsEarly}
 use Rattle.java_properties.specs.declared.error.ErrorKind.TheVariants as kind
 use Rattle.java_properties.specs.declared.error.PropertiesError.{PropertiesError}
@@ -150,5 +151,5 @@ module _ {R : Type 0} {reader : Reader R} where
     is = f.is;
     reading = reading-of e (r ++ f.bytes) fault _ (live-on h.comes g f.bytes fault ∙ ap (λ v. entries ++ v) f.items);
   })
-  collected-error {r = r} h g (inr (inl f)) = inr (record { bytes = r ++ f.bytes; read = read-more h.read f.read; is = inl (f.is, all-on (h.passes g) f.passes); begins = early h g f.bytes })
+  collected-error {r = r} h g (inr (inl f)) = inr (record { bytes = r ++ f.bytes; read = read-more h.read f.read; is = inl (f.is, tell-all (all-on (h.passes g) f.passes)); begins = early h g f.bytes })
   collected-error {r = r} h g (inr (inr f)) = inr (record { bytes = r ++ f.bytes; read = read-more h.read f.read; is = inr f.is; begins = early h g f.bytes })

@@ -12,8 +12,7 @@ use Rattle.properties_format.specs.Items.{IsItems}
 use Rattle.properties_format.specs.Laws.{HasOneReading}
 use Rattle.java_properties.specs.Errors.{IsBareError, IsMalformed, IsStreamError}
 use Rattle.properties_format.specs.ItemsToCome.{start}
-use Rattle.java_properties.specs.LineFinder.{PassesAll}
-use Rattle.java_properties.specs.PropertiesIter.{entry_of}
+use Rattle.java_properties.specs.PropertiesIter.{entry_of, PassesAll}
 use Rattle.java_properties.specs.declared.error.ErrorKind.TheVariants as kind
 use Rattle.java_properties.specs.declared.error.PropertiesError.{PropertiesError}
 use Rattle.java_properties.specs.declared.iter.whole.Stopped.{Stopped}
