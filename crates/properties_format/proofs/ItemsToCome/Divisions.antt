@@ -48,16 +48,19 @@ natural-going s d ending h = (rw h refl, rw h refl)
 pub natural_to_come-meets : (s : ReaderState) (d : List ℕ) (ending : InputEnd) → AreLinesToCome s d ending (natural_to_come s d ending) (last_to_come s d ending)
 natural_to_come-meets s d ending = elim (cases_Bool s.is_done) [
   | inl h ↦ inl (h, (natural-done s d ending h).0, (natural-done s d ending h).1)
-  | inr h ↦ inr (h, record {
-    pieces = pieces_of (in_force s d).encoding (in_force s d).body;
-    text = text_to_come s d;
-    all = lines_of (text_to_come s d);
-    are_pieces = pieces_of-meets (in_force s d).encoding (in_force s d).body;
-    after_end = rest_of_end-meets s.after_cr (characters (pieces_of (in_force s d).encoding (in_force s d).body));
-    divided = lines_of-meets (text_to_come s d);
-    are_lines = (natural-going s d ending h).0;
-    are_last = (natural-going s d ending h).1;
-  })
+  | inr h ↦ inr (
+    h,
+    record {
+      pieces = pieces_of (in_force s d).encoding (in_force s d).body;
+      text = text_to_come s d;
+      all = lines_of (text_to_come s d);
+      are_pieces = pieces_of-meets (in_force s d).encoding (in_force s d).body;
+      after_end = rest_of_end-meets s.after_cr (characters (pieces_of (in_force s d).encoding (in_force s d).body));
+      divided = lines_of-meets (text_to_come s d);
+      are_lines = (natural-going s d ending h).0;
+      are_last = (natural-going s d ending h).1;
+    },
+  )
 ]
 
 -- the lines to come are what is computed
@@ -72,8 +75,7 @@ natural_to_come-only s d ending lines last (inr h) =
     let all : k.all ≡ lines_of (text_to_come s d) =
     lines_of-only k.text k.all k.divided
     ∙ ap lines_of (rest_of_end-only s.after_cr (characters k.pieces) k.text k.after_end)
-    ∙ ap (λ v. lines_of (text v)) (pieces_of-only f.encoding f.body k.pieces k.are_pieces) in
-    (
+    ∙ ap (λ v. lines_of (text v)) (pieces_of-only f.encoding f.body k.pieces k.are_pieces) in (
       k.are_lines ∙ ap (λ (v : Lines). numbered s.passed v.ended v.last ending) all ∙ sym going.0,
       k.are_last ∙ ap (λ (v : Lines). last_entries (s.passed + line_ends v) ending) all ∙ sym going.1,
     )
