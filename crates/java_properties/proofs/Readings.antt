@@ -6,7 +6,6 @@ use Rattle.counted_io.proofs.Streams.{read-none, read-more, failed-more}
 use Rattle.properties_format.specs.Encoding.{Encoding}
 use Rattle.properties_format.specs.Lines.{InputEnd, end, fault}
 use Rattle.properties_format.specs.Entries.{Entry, malformed}
-use Rattle.properties_format.specs.Items.{IsItems}
 use Rattle.properties_format.specs.Reading.Items.{items_of}
 use Rattle.properties_format.specs.ItemsToCome.{ReaderState, start}
 use Rattle.properties_format.specs.Reading.ItemsToCome.{items_to_come}
@@ -36,9 +35,6 @@ reading-of e bytes ending entries h =
       one = one-reading e bytes ending;
       splitting = λ text lines d. (λ k. byline-is_lines e bytes text lines k d, λ k. lines-is_byline e bytes text lines k d);
     })
-
-pub items-are : (e : Encoding) (bytes : List ℕ) (ending : InputEnd) (entries : List Entry) → items_of e bytes ending ≡ entries → IsItems e bytes ending entries
-items-are e bytes ending entries h = subst (IsItems e bytes ending) h (items_of-meets e bytes ending)
 
 -- After the bytes that were read these items came; and others still come, or the input ended.
 pub data Comes (e : Encoding) (bytes : List ℕ) (entries : List Entry) (at_end : Bool) (new : ReaderState) : Type 0 where

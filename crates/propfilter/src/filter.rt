@@ -145,12 +145,23 @@ fn write_if_pair<W: CountedWrite>(
     ensures scalars { HasScalars (said_by content.now) }
     ensures same_sink { IsSameSink W.CountedWrite lines.old.sink lines.new.sink }
 {
+    has_scalars(content);
     match content {
         ContentRef::KVPair(key, value) => {
             lines.write(key.as_str(), value.as_str())?;
             Ok(())
         }
         ContentRef::Comment(_) => Ok(()),
+    }
+}
+
+// The texts of a pair are of scalar values, as all texts are, which this tells a proof. It does nothing.
+fn has_scalars(content: &ContentRef<'_>)
+    ensures { HasScalars (said_by content.now) }
+{
+    if let ContentRef::KVPair(key, value) = content {
+        let _ = key.as_str();
+        let _ = value.as_str();
     }
 }
 

@@ -1,14 +1,14 @@
 -- What comes, said by divisions and computed: the two are one.
-use Rattle.std.proofs.Common.{◌≡◌, ℕ, ◌+◌, Bool, true, false, List, [], ◌∷◌, ◌++◌, refl, ap, sym, ◌∙◌, inl, inr}
+use Rattle.std.proofs.Common.{◌≡◌, ℕ, ◌+◌, true, false, List, [], ◌∷◌, ◌++◌, refl, ap, sym, ◌∙◌, inl, inr}
 use Rattle.std.proofs.lemmas.Bool.{cases_Bool}
 use Rattle.properties_format.specs.Pieces.{Piece, characters}
 use Rattle.properties_format.specs.Reading.Encoding.{pieces_of}
 use Rattle.properties_format.specs.Lines.{InputEnd, Line, Lines, line_ends, numbered}
 use Rattle.properties_format.specs.Reading.Lines.{rest_of_end, lines_of}
 use Rattle.properties_format.specs.Items.{Entry, last_entries}
-use Rattle.properties_format.specs.ItemsToCome.{ReaderState, in_force, IsItemsToCome, AreFurtherLines, AreLinesToCome, ComesFirst, LinesComeFirst}
+use Rattle.properties_format.specs.ItemsToCome.{ReaderState, in_force, IsItemsToCome, AreLinesToCome, ComesFirst, LinesComeFirst}
 use Rattle.properties_format.specs.Reading.ItemsToCome.{text_to_come, items_to_come, natural_to_come, last_to_come}
-use Rattle.properties_format.specs.Reading.ReaderSteps.{Gives, ReadsLines, ReadsEntry}
+use Rattle.properties_format.specs.Reading.ReaderSteps.{ReadsLines, ReadsEntry}
 use Rattle.properties_format.proofs.Encodings.Pieces.{pieces_of-meets, pieces_of-only}
 use Rattle.properties_format.proofs.Lines.Meets.{lines_of-meets}
 use Rattle.properties_format.proofs.Lines.Only.{lines_of-only}
