@@ -14,7 +14,7 @@ Reader R = record {
   remaining : R → Option (List ℕ);
   faults : R → ℕ;
   at_end : R → Bool;
-  identity : R → ℕ;
+  identity : R → List ℕ;
   read_gives : R → Result ℕ Error → R → Type 0;
 }
 
@@ -24,7 +24,7 @@ Sink W = record {
   contents : W → Option (List ℕ);
   faults : W → ℕ;
   is_flushed : W → Bool;
-  identity : W → ℕ;
+  identity : W → List ℕ;
   write_gives : W → List ℕ → Result ℕ Error → W → Type 0;
   flush_gives : W → Result Unit Error → W → Type 0;
 }
@@ -56,7 +56,7 @@ pub record HasFailed {R : Type 0} (reader : Reader R) (old : R) (bytes : List �
   pub risen : HasRisen (reader.faults old) (reader.faults new)
   pub given : (before : R) × reader.read_gives before (Err error) new
 
--- It is the reference that it was, where it is one.
+-- It is the reference that it was, where it is one, and so is each that it lends on.
 abbrev pub IsSameReader : {R : Type 0} → Reader R → R → R → Type 0
 IsSameReader reader old new = reader.identity new ≡ reader.identity old
 
@@ -85,7 +85,7 @@ pub record HasFailedFlush {W : Type 0} (sink : Sink W) (old : W) (error : Error)
   pub same : sink.is_flushed new ≡ sink.is_flushed old
   pub given : (before : W) × sink.flush_gives before (Err error) new
 
--- It is the reference that it was, where it is one.
+-- It is the reference that it was, where it is one, and so is each that it lends on.
 abbrev pub IsSameSink : {W : Type 0} → Sink W → W → W → Type 0
 IsSameSink sink old new = sink.identity new ≡ sink.identity old
 

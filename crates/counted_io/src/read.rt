@@ -1,6 +1,6 @@
 // Readers that count their faults.
 
-ghost use Rattle.std.specs.Prelude.{◌≡◌, ℕ, ◌==◌, Bool, Result, length};
+ghost use Rattle.std.specs.Prelude.{◌≡◌, ℕ, ◌==◌, Bool, List, [], ◌∷◌, Result, length};
 ghost use Rattle.std.specs.declared.io.Error.{Error};
 ghost use Rattle.std.specs.Io.{ReadsAtMost};
 ghost use Rattle.std.specs.Io.KnownBytes.{ReadConsumes};
@@ -18,9 +18,9 @@ pub trait CountedRead: Read + Drop {
     /// Whether the reader is at its end.
     ghost at_end: { Self → Bool };
 
-    /// Which reference the reader is, where it is one: a call leaves the reference itself in its place, so that its
-    /// owner finds what the calls left.
-    ghost identity: { Self → ℕ } = { λ _. 0 };
+    /// Which reference the reader is, where it is one, and then which one that lends on, and so forth: a call leaves
+    /// the references themselves in their places, so that their owners find what the calls left.
+    ghost identity: { Self → List ℕ } = { λ _. [] };
 
     /// What a call of `read_counted` may return: from a reader to a result and the reader after it. A caller that passes
     /// an error on can show by it that the reader returned that error.
@@ -52,7 +52,7 @@ impl<R: CountedRead> CountedRead for &mut R {
 
     ghost at_end = { λ r. R.at_end r.now };
 
-    ghost identity = { λ r. r.ghost_name };
+    ghost identity = { λ r. r.ghost_name ∷ R.identity r.now };
 
     ghost read_gives = { λ r result s. R.read_gives r.now result s.now };
 

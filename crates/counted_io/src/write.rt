@@ -1,6 +1,6 @@
 // Sinks that count their faults.
 
-ghost use Rattle.std.specs.Prelude.{◌≡◌, ℕ, Bool, List, Result};
+ghost use Rattle.std.specs.Prelude.{◌≡◌, ℕ, Bool, List, [], ◌∷◌, Result};
 ghost use Rattle.std.specs.declared.io.Error.{Error};
 ghost use Rattle.std.specs.Io.{WritesAtMost};
 ghost use Rattle.std.specs.Io.KnownBytes.{WriteAppends, Keeps};
@@ -19,9 +19,9 @@ pub trait CountedWrite: Write + Drop {
     /// Whether no byte was taken since the last flush. A sink that was never flushed is not.
     ghost is_flushed: { Self → Bool };
 
-    /// Which reference the sink is, where it is one: a call leaves the reference itself in its place, so that its
-    /// owner finds what the calls left.
-    ghost identity: { Self → ℕ } = { λ _. 0 };
+    /// Which reference the sink is, where it is one, and then which one that lends on, and so forth: a call leaves
+    /// the references themselves in their places, so that their owners find what the calls left.
+    ghost identity: { Self → List ℕ } = { λ _. [] };
 
     /// What a call of `write_counted` may return: from a sink and bytes to a result and the sink after the call. A
     /// caller that passes an error on can show by it that the sink returned that error.
@@ -53,7 +53,7 @@ impl<W: CountedWrite> CountedWrite for &mut W {
 
     ghost is_flushed = { λ w. W.is_flushed w.now };
 
-    ghost identity = { λ w. w.ghost_name };
+    ghost identity = { λ w. w.ghost_name ∷ W.identity w.now };
 
     ghost write_gives = { λ w bytes answer v. W.write_gives w.now bytes answer v.now };
 

@@ -26,6 +26,7 @@ use Rattle.java_properties.specs.declared.writer.calls.Call.{Call}
 use Rattle.java_properties.specs.declared.writer.calls.Call.TheVariants as call
 use Rattle.java_properties.specs.contracts.writer.settings.LineEndingOrd.TheImpl as ending_cmp
 use Rattle.java_properties.specs.contracts.writer.settings.LineEndingPartialEq.TheImpl as ending_eq
+use Rattle.java_properties.specs.contracts.writer.settings.LineEndingHash.TheImpl as ending_hash
 use Rattle.java_properties.specs.contracts.writer.calls.CallPartialEq.TheImpl as call_eq
 use Rattle.java_properties.specs.contracts.writer.calls.CallClone.TheImpl as call_clone
 use Rattle.java_properties.specs.Calls.{IsSameCall}
@@ -102,6 +103,9 @@ content-hash x y h = content_hash_laws.respects_eq-law x y ((content-eq x y).1 h
 
 pub line-hash : (x y : Line) → IsSameLine x y → (line_hash.ghosts).hash_input x ≡ (line_hash.ghosts).hash_input y
 line-hash x y h = line_hash_laws.respects_eq-law x y ((line-eq x y).1 h)
+
+pub ending-hash : (x y : LineEnding) → x ≡ y → (ending_hash.ghosts).hash_input x ≡ (ending_hash.ghosts).hash_input y
+ending-hash x y h = ap (ending_hash.ghosts).hash_input h
 
 -- ---- clones
 

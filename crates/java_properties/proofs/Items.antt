@@ -28,7 +28,7 @@ use Rattle.java_properties.specs.LineFinder.{PassesSome}
 use Rattle.java_properties.proofs.LineJoiner.{some-start, some-on, all-on}
 use Rattle.java_properties.specs.LineJoiner.{IsLazyItems, JoinsError, JoinsNext, Comes, Joiner, numbered_line}
 use Rattle.properties_text.specs.Parsing.{spanned, in_characters}
-use Rattle.java_properties.specs.PropertiesIter.{IsNoItem, Gives, BreaksOff, GivesEntry, GivesNone, GivesMalformed}
+use Rattle.java_properties.specs.GivenItems.{IsNoItem, Gives, BreaksOff, GivesEntry, GivesNone, GivesMalformed}
 use Rattle.java_properties.specs.declared.error.ErrorKind.TheVariants.{Memory}
 use Rattle.java_properties.specs.declared.iter.found.Found.{Found}
 use Rattle.java_properties.specs.declared.iter.found.FoundContent.{FoundContent}

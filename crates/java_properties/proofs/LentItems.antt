@@ -10,7 +10,7 @@ use Rattle.properties_text.specs.Escaping.{holds_backslash}
 use Rattle.java_properties.specs.Errors.{IsUnresolved}
 use Rattle.java_properties.specs.LentItems.{found_bytes, IsTextIn, IsFoundIn}
 use Rattle.properties_text.specs.Parsing.{bytes_in, IsSpan}
-use Rattle.java_properties.specs.PropertiesIter.{IsNoItem}
+use Rattle.java_properties.specs.GivenItems.{IsNoItem}
 use Rattle.java_properties.specs.declared.error.PropertiesError.{PropertiesError}
 use Rattle.java_properties.specs.declared.iter.found.FoundText.{FoundText}
 use Rattle.java_properties.specs.declared.iter.found.FoundContent.TheVariants as found

@@ -11,6 +11,7 @@ pub mod LineJoiner
 pub mod Comparisons
 pub mod Items
 pub mod LentItems
+pub mod Told
 pub mod Readings
 pub mod Joining
 pub mod JoinedRuns

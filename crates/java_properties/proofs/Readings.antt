@@ -6,7 +6,6 @@ use Rattle.counted_io.proofs.Streams.{read-none, read-more, failed-more}
 use Rattle.properties_format.specs.Encoding.{Encoding}
 use Rattle.properties_format.specs.Lines.{InputEnd, end, fault}
 use Rattle.properties_format.specs.Entries.{Entry, malformed}
-use Rattle.properties_format.specs.Items.{IsItems}
 use Rattle.properties_format.specs.Reading.Items.{items_of}
 use Rattle.properties_format.specs.ItemsToCome.{ReaderState, start}
 use Rattle.properties_format.specs.Reading.ItemsToCome.{items_to_come}
@@ -18,9 +17,10 @@ use Rattle.properties_format.proofs.ItemsToCome.Unique.{items_to_come-start}
 use Rattle.java_properties.specs.Errors.{IsBareError}
 use Rattle.java_properties.specs.LineFinder.{PassesSome}
 use Rattle.java_properties.proofs.LineJoiner.{some-start, some-on, all-on}
+use Rattle.java_properties.proofs.Told.{tell-all}
 use Rattle.java_properties.specs.LineJoiner.{JoinsError}
-use Rattle.java_properties.specs.PropertiesIter.{Gives, BreaksOff, GivesEntry, GivesNone, GivesMalformed}
-use Rattle.java_properties.specs.ReadLines.{IsReading, BeginsItems, ReadsWhole, StopsMalformed, StopsFailed, StopsEarly}
+use Rattle.java_properties.specs.GivenItems.{Gives, BreaksOff, GivesEntry, GivesNone, GivesMalformed}
+use Rattle.java_properties.specs.ReadLines.{IsReading, BeginsReading, ReadsWhole, StopsMalformed, StopsFailed, StopsEarly}
 use Rattle.java_properties.specs.declared.error.ErrorKind.TheVariants as kind
 use Rattle.java_properties.specs.declared.error.PropertiesError.{PropertiesError}
 
@@ -35,9 +35,6 @@ reading-of e bytes ending entries h =
       one = one-reading e bytes ending;
       splitting = λ text lines d. (λ k. byline-is_lines e bytes text lines k d, λ k. lines-is_byline e bytes text lines k d);
     })
-
-pub items-are : (e : Encoding) (bytes : List ℕ) (ending : InputEnd) (entries : List Entry) → items_of e bytes ending ≡ entries → IsItems e bytes ending entries
-items-are e bytes ending entries h = subst (IsItems e bytes ending) h (items_of-meets e bytes ending)
 
 -- After the bytes that were read these items came; and others still come, or the input ended.
 pub data Comes (e : Encoding) (bytes : List ℕ) (entries : List Entry) (at_end : Bool) (new : ReaderState) : Type 0 where
@@ -99,16 +96,16 @@ module _ {R : Type 0} {reader : Reader R} where
   collected-lost {e} {to = to} {next = next} {r = r} {entries} {s} {t} {entry} h n is =
       record { bytes = r ++ n.bytes; read = read-more h.read n.read; is = inr is; begins = by-comes h.comes n.gives }
     where
-      by-comes : Comes e r entries (reader.at_end to) s → Gives s n.bytes entry t → BeginsItems e (r ++ n.bytes) entries (reader.at_end next)
+      by-comes : Comes e r entries (reader.at_end to) s → Gives s n.bytes entry t → BeginsReading e (r ++ n.bytes) entries (reader.at_end next)
       by-comes (Comes.at_last d k m) g = let l = n.live in absurd (cc)
       by-comes (Comes.going_on g m) (Gives.going_on k reads) = inl (λ d ending. (
         entry ∷ items_to_come t d ending,
-        items-are e ((r ++ n.bytes) ++ d) ending _ (
+        reading-of e ((r ++ n.bytes) ++ d) ending _ (
             ap (λ v. items_of e v ending) (append_assoc r n.bytes d) ∙ m (n.bytes ++ d) ending ∙ ap (λ v. entries ++ v) (reads.items d ending)
             ),
       ))
       by-comes (Comes.going_on g m) (Gives.at_last k items) =
-          inr (n.ended k, (entry ∷ [], items-are e (r ++ n.bytes) end _ (m n.bytes end ∙ ap (λ v. entries ++ v) items)))
+          inr (n.ended k, (entry ∷ [], reading-of e (r ++ n.bytes) end _ (m n.bytes end ∙ ap (λ v. entries ++ v) items)))
 
   -- malformed escapes came
   pub collected-malformed : {e : Encoding} {from to next : R} {r : List ℕ} {entries : List Entry} {s : ReaderState} {error : PropertiesError} → Collected reader e from r entries s to
@@ -133,10 +130,10 @@ module _ {R : Type 0} {reader : Reader R} where
       by-breaks (BreaksOff.at_last k m) = inr (k, reading-of e (r ++ n.bytes) end _ (live-on h.comes g n.bytes end ∙ ap (λ v. entries ++ v) m))
 
   early : {e : Encoding} {from to : R} {r : List ℕ} {entries : List Entry} {s : ReaderState} → Collected reader e from r entries s to → s.is_done ≡ false
-      → (q : List ℕ) {at_end : Bool} → BeginsItems e (r ++ q) entries at_end
+      → (q : List ℕ) {at_end : Bool} → BeginsReading e (r ++ q) entries at_end
   early {e} {r = r} {entries} {s} h g q = inl (λ d ending. (
     items_to_come s (q ++ d) ending,
-    items-are e ((r ++ q) ++ d) ending _ (ap (λ v. items_of e v ending) (append_assoc r q d) ∙ live-on h.comes g (q ++ d) ending),
+    reading-of e ((r ++ q) ++ d) ending _ (ap (λ v. items_of e v ending) (append_assoc r q d) ∙ live-on h.comes g (q ++ d) ending),
   ))
 
   -- a line could not be read
@@ -150,5 +147,5 @@ module _ {R : Type 0} {reader : Reader R} where
     is = f.is;
     reading = reading-of e (r ++ f.bytes) fault _ (live-on h.comes g f.bytes fault ∙ ap (λ v. entries ++ v) f.items);
   })
-  collected-error {r = r} h g (inr (inl f)) = inr (record { bytes = r ++ f.bytes; read = read-more h.read f.read; is = inl (f.is, all-on (h.passes g) f.passes); begins = early h g f.bytes })
+  collected-error {r = r} h g (inr (inl f)) = inr (record { bytes = r ++ f.bytes; read = read-more h.read f.read; is = inl (f.is, tell-all (all-on (h.passes g) f.passes)); begins = early h g f.bytes })
   collected-error {r = r} h g (inr (inr f)) = inr (record { bytes = r ++ f.bytes; read = read-more h.read f.read; is = inr f.is; begins = early h g f.bytes })

@@ -22,7 +22,9 @@ use Rattle.properties_format.specs.ItemsToCome.{ReaderState}
 use Rattle.java_properties.specs.LineJoiner.{Joiner, JoinsError, JoinsNext}
 use Rattle.java_properties.specs.Line.{number_of, content_of}
 use Rattle.properties_text.specs.Parsing.{bytes_in, spanned, in_characters, IsSpan}
-use Rattle.java_properties.specs.PropertiesIter.{Reading, entry_of, IsNoItem, GivesEntry, GivesNone, GivesMalformed}
+use Rattle.java_properties.specs.GivenItems as given
+use Rattle.java_properties.specs.GivenItems.{IsNoItem}
+use Rattle.java_properties.specs.PropertiesIter.{Reading, entry_of, GivesEntry, GivesNone, GivesMalformed, GivesError}
 use Rattle.java_properties.specs.declared.error.ErrorKind.TheVariants as kind
 use Rattle.java_properties.specs.declared.error.PropertiesError.{PropertiesError}
 use Rattle.java_properties.specs.declared.iter.found.Found.{Found}
@@ -147,15 +149,24 @@ Owns old found (Err e) new = IsBareError kind.Memory e × (new ≡ record old { 
 -- What the next item is, as it is found, and what looking for it leaves. After `None` and after an error the iterator is
 -- at its end.
 abbrev pub FindsItem : {R : Type 0} → Reader R → ReaderState → R → Option (Result Found PropertiesError) → Joiner → R → Type 0
-FindsItem reader old from None new to = GivesNone reader old from new.state to
-FindsItem reader old from (Some (Ok found)) new to = GivesEntry reader old from (found_entry new.line found) new.state to × IsFoundIn new.line found
+FindsItem reader old from None new to = given.GivesNone reader old from new.state to
+FindsItem reader old from (Some (Ok found)) new to = given.GivesEntry reader old from (found_entry new.line found) new.state to × IsFoundIn new.line found
 FindsItem reader old from (Some (Err e)) new to =
-    (old.is_done ≡ false) × (new.state.is_done ≡ true) × (GivesMalformed reader old from e to ⊎ JoinsError reader old from e new.state to)
+    (old.is_done ≡ false) × (new.state.is_done ≡ true) × (given.GivesMalformed reader old from e to ⊎ JoinsError reader old from e new.state to)
 
--- the same of an iterator, which keeps the reader that it was made of
+-- the same of an iterator, said by divisions
+abbrev pub AdvancesTo : {R : Type 0} → Reader R → Reading R → Option (Result Found PropertiesError) → Reading R → Type 0
+AdvancesTo reader old None new = GivesNone reader old.state old.reader new.state new.reader
+AdvancesTo reader old (Some (Ok found)) new =
+    GivesEntry reader old.state old.reader (found_entry new.line found) new.state new.reader × IsFoundIn new.line found
+AdvancesTo reader old (Some (Err e)) new =
+    (old.state.is_done ≡ false) × (new.state.is_done ≡ true)
+    × (GivesMalformed reader old.state old.reader e new.reader ⊎ GivesError reader old.state old.reader e new.reader)
+
+-- It keeps the reader that it was made of.
 abbrev pub AdvanceGives : {R : Type 0} → Reader R → Reading R → Option (Result Found PropertiesError) → Reading R → Type 0
 AdvanceGives reader old answer new =
-    FindsItem reader old.state old.reader answer (record { state = new.state; line = new.line }) new.reader × IsSameReader reader old.reader new.reader
+    AdvancesTo reader old answer new × IsSameReader reader old.reader new.reader
 
 -- What the next item is, as it is lent, and what lending it leaves.
 abbrev pub LendsItem : {R : Type 0} → Reader R → Reading R → Option (Result LineRef PropertiesError) → Reading R → Type 0
@@ -164,7 +175,7 @@ LendsItem reader old (Some (Ok line)) new =
     GivesEntry reader old.state old.reader (lent_entry line) new.state new.reader × BorrowsPlain (chars new.line) line.content
 LendsItem reader old (Some (Err e)) new =
     (old.state.is_done ≡ false) × (new.state.is_done ≡ true)
-    × (GivesMalformed reader old.state old.reader e new.reader ⊎ JoinsError reader old.state old.reader e new.state new.reader)
+    × (GivesMalformed reader old.state old.reader e new.reader ⊎ GivesError reader old.state old.reader e new.reader)
 
 -- It is the next item, by what some reading of the iterator's reader gave.
 abbrev pub NextRefGives : {R : Type 0} → Reader R → Reading R → Option (Result LineRef PropertiesError) → Type 0

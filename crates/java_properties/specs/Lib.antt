@@ -14,6 +14,7 @@ pub mod PlainLines
 pub mod LineFinder
 pub mod LineJoiner
 pub mod PropertiesIter
+pub mod GivenItems
 pub mod LentItems
 pub mod NaturalLines
 pub mod ReadLines

@@ -1,20 +1,16 @@
--- What a contract sees of the iterator over items, and what its calls give and leave.
-use Rattle.std.specs.Prelude.{◌≡◌, ◌⊎◌, ℕ, Bool, true, false, List, [], ◌∷◌, ◌++◌, Option, Some, None, Result, Ok, Err, string_bytes}
+-- What a contract sees of the iterator over items, and what its calls give and leave. proofs/Told has the same of the items to come as they are computed.
+use Rattle.std.specs.Prelude.{◌≡◌, ◌⊎◌, ℕ, ◌+◌, ◌^◌, Bool, true, false, List, [], ◌∷◌, ◌++◌, Option, Some, None, Result, Ok, Err, string_bytes}
 use Rattle.std.specs.Str.{chars}
-use Rattle.counted_io.specs.Streams.{Reader, HasRead, IsSameReader}
-use Rattle.properties_format.specs.Lines.{InputEnd, end}
+use Rattle.std.specs.declared.io.Error.{Error}
+use Rattle.counted_io.specs.Streams.{Reader, HasRead, HasFailed, IsSameReader}
+use Rattle.properties_format.specs.Lines as format
+use Rattle.properties_format.specs.Lines.{InputEnd, end, fault, more}
 use Rattle.properties_format.specs.Entries as entry
-use Rattle.properties_format.specs.Entries.{Content, Entry, item, malformed}
+use Rattle.properties_format.specs.Entries.{Content, Entry, item, malformed, read_fault}
 use Rattle.properties_format.specs.Escapes.{Malformed}
-use Rattle.properties_format.specs.Items.{broken}
-use Rattle.properties_format.specs.Reading.Items.{outcome_of}
-use Rattle.properties_format.specs.ItemsToCome.{ReaderState}
-use Rattle.properties_format.specs.Reading.ItemsToCome.{items_to_come}
-use Rattle.properties_format.specs.Reading.ReaderSteps.{ReadsEntry}
-use Rattle.java_properties.specs.Errors.{IsBareError, IsMalformed}
+use Rattle.properties_format.specs.ItemsToCome.{ReaderState, IsItemsToCome, ComesFirst, LinesComeFirst}
+use Rattle.java_properties.specs.Errors.{IsBareError, IsMalformed, IsStreamError}
 use Rattle.java_properties.specs.Line.{number_of, content_of}
-use Rattle.java_properties.specs.LineFinder.{PassesSome}
-use Rattle.java_properties.specs.LineJoiner.{IsLazyItems, JoinsError}
 use Rattle.java_properties.specs.declared.error.ErrorKind.TheVariants as kind
 use Rattle.java_properties.specs.declared.error.PropertiesError.{PropertiesError}
 use Rattle.java_properties.specs.declared.line.Line.{Line}
@@ -35,21 +31,31 @@ said (KVPair key value) = entry.pair (chars (string_bytes key)) (chars (string_b
 abbrev pub entry_of : Line → Entry
 entry_of line = item (number_of line) (said (content_of line))
 
--- Why a logical line gave no item: its escapes are malformed, or there was no memory.
-abbrev pub IsNoItem : ℕ → List ℕ → PropertiesError → Type 0
-IsNoItem number text e =
-    ((kind : Malformed) × (outcome_of text ≡ broken kind) × IsMalformed kind number e) ⊎ IsBareError kind.Memory e
+-- These bytes hold some lines at their front, and whatever comes after them, the old state goes on after those lines as the new one does.
+pub record PassesSome (old : ReaderState) (bytes : List ℕ) (new : ReaderState) : Type 0 where
+  pub lines : List format.Line
+  pub first : LinesComeFirst old bytes lines new
+
+-- The bytes hold so many lines that no number is left for another: as many are passed as there are numbers.
+pub record PassesAll (old : ReaderState) (bytes : List ℕ) : Type 0 where
+  pub last : ReaderState
+  pub passes : PassesSome old bytes last
+  pub passed : last.passed + 1 ≡ 2 ^ 64
+
+-- Nothing was read; or what was held gave no item, so that reading had to go on.
+abbrev pub IsLazyItems : {R : Type 0} → ReaderState → R → List ℕ → R → Type 0
+IsLazyItems old from bytes to = ((to ≡ from) × (bytes ≡ [])) ⊎ IsItemsToCome old [] more []
 
 -- After the bytes that were read this entry comes, whatever comes after them, and then what the new state gives; or it is
 -- the last, and the input ended.
 pub data Gives (old : ReaderState) (bytes : List ℕ) (entry : Entry) (new : ReaderState) : Type 0 where
-  going_on : new.is_done ≡ false → ReadsEntry old bytes entry new → Gives old bytes entry new
-  at_last : new.is_done ≡ true → items_to_come old bytes end ≡ entry ∷ [] → Gives old bytes entry new
+  going_on : new.is_done ≡ false → ComesFirst old bytes entry new → Gives old bytes entry new
+  at_last : new.is_done ≡ true → IsItemsToCome old bytes end (entry ∷ []) → Gives old bytes entry new
 
 -- The same of malformed escapes, after which nothing comes.
 pub data BreaksOff (old : ReaderState) (bytes : List ℕ) (entry : Entry) (at_end : Bool) : Type 0 where
-  before_all : ((d : List ℕ) (ending : InputEnd) → items_to_come old (bytes ++ d) ending ≡ entry ∷ []) → BreaksOff old bytes entry at_end
-  at_last : at_end ≡ true → items_to_come old bytes end ≡ entry ∷ [] → BreaksOff old bytes entry at_end
+  before_all : ((d : List ℕ) (ending : InputEnd) → IsItemsToCome old (bytes ++ d) ending (entry ∷ [])) → BreaksOff old bytes entry at_end
+  at_last : at_end ≡ true → IsItemsToCome old bytes end (entry ∷ []) → BreaksOff old bytes entry at_end
 
 -- An item came. Where what was held gave it already, nothing was read.
 pub record GivesEntry {R : Type 0} (reader : Reader R) (old : ReaderState) (from : R) (entry : Entry) (new : ReaderState) (to : R) : Type 0 where
@@ -68,7 +74,7 @@ GivesNext reader old from line new to = GivesEntry reader old from (entry_of lin
 pub record GivesNone {R : Type 0} (reader : Reader R) (old : ReaderState) (from : R) (new : ReaderState) (to : R) : Type 0 where
   pub bytes : List ℕ
   pub read : HasRead reader from bytes to
-  pub items : items_to_come old bytes end ≡ []
+  pub items : IsItemsToCome old bytes end []
   pub done : new.is_done ≡ true
   pub idle : old.is_done ≡ true → (new ≡ old) × (to ≡ from) × (bytes ≡ [])
   pub ended : old.is_done ≡ false → reader.at_end to ≡ true
@@ -83,12 +89,41 @@ pub record GivesMalformed {R : Type 0} (reader : Reader R) (old : ReaderState) (
   pub breaks : BreaksOff old bytes (malformed kind number) (reader.at_end to)
   pub lazy : IsLazyItems old from bytes to
 
+-- A read failed, and nothing but that fault is left to come. It is named by the line that it cut, also in a join.
+pub record GivesFault {R : Type 0} (reader : Reader R) (old : ReaderState) (from : R) (e : PropertiesError) (to : R) : Type 0 where
+  pub bytes : List ℕ
+  pub error : Error
+  pub number : ℕ
+  pub failed : HasFailed reader from bytes error to
+  pub is : IsStreamError (Some number) error e
+  pub items : IsItemsToCome old bytes fault (read_fault number ∷ [])
+  pub lazy : IsItemsToCome old [] more []
+
+-- There was no number for another line.
+pub record GivesTooMany {R : Type 0} (reader : Reader R) (old : ReaderState) (from : R) (e : PropertiesError) (to : R) : Type 0 where
+  pub bytes : List ℕ
+  pub read : HasRead reader from bytes to
+  pub passes : PassesAll old bytes
+  pub is : IsBareError kind.TooManyLines e
+  pub lazy : IsLazyItems old from bytes to
+
+-- There was no memory.
+pub record GivesNoRoom {R : Type 0} (reader : Reader R) (old : ReaderState) (from : R) (e : PropertiesError) (to : R) : Type 0 where
+  pub bytes : List ℕ
+  pub read : HasRead reader from bytes to
+  pub is : IsBareError kind.Memory e
+  pub lazy : IsLazyItems old from bytes to
+
+-- Why no line could be read.
+abbrev pub GivesError : {R : Type 0} → Reader R → ReaderState → R → PropertiesError → R → Type 0
+GivesError reader old from e to = GivesFault reader old from e to ⊎ (GivesTooMany reader old from e to ⊎ GivesNoRoom reader old from e to)
+
 -- What the next item is, and what asking for it leaves. After `None` and after an error the iterator is at its end.
 abbrev pub GivesItem : {R : Type 0} → Reader R → ReaderState → R → Option (Result Line PropertiesError) → ReaderState → R → Type 0
 GivesItem reader old from None new to = GivesNone reader old from new to
 GivesItem reader old from (Some (Ok line)) new to = GivesNext reader old from line new to
 GivesItem reader old from (Some (Err e)) new to =
-    (old.is_done ≡ false) × (new.is_done ≡ true) × (GivesMalformed reader old from e to ⊎ JoinsError reader old from e new to)
+    (old.is_done ≡ false) × (new.is_done ≡ true) × (GivesMalformed reader old from e to ⊎ GivesError reader old from e to)
 
 -- the same of an iterator, which keeps the reader that it was made of
 abbrev pub NextGives : {R : Type 0} → Reader R → Reading R → Option (Result Line PropertiesError) → Reading R → Type 0

@@ -1,5 +1,5 @@
 -- Laws of whole runs: what calls of a writer wrote is read back.
-use Rattle.std.specs.Prelude.{◌≡◌, ℕ, Bool, List, Result, Ok, Err}
+use Rattle.std.specs.Prelude.{◌≡◌, ◌⊎◌, ℕ, Bool, List, ◌∷◌, ◌++◌, Result, Ok, Err}
 use Rattle.std.specs.Global.{Vec}
 use Rattle.counted_io.specs.Streams.{Sink, HasWritten}
 use Rattle.properties_format.specs.Encoding.{output_encoding}
@@ -7,7 +7,10 @@ use Rattle.properties_format.specs.Entries.{Entry}
 use Rattle.properties_format.specs.Lines.{end}
 use Rattle.properties_format.specs.Items.{IsItems}
 use Rattle.properties_format.specs.Writing as format
+use Rattle.java_properties.specs.Calls.{FailsInCall}
+use Rattle.java_properties.specs.Errors.{Refuses}
 use Rattle.java_properties.specs.PropertiesWriter.{Writing}
+use Rattle.java_properties.specs.declared.error.ErrorKind.TheVariants as kind
 use Rattle.java_properties.specs.declared.error.PropertiesError.{PropertiesError}
 
 -- What is true of every writer: its encoding is one that is written, and its settings are good.
@@ -29,7 +32,17 @@ pub record IsReadBack {W : Type 0} (sink : Sink W) (old : Writing W) (calls : Li
   pub items : IsItems old.encoding bytes end (format.items_read_back old.settings 0 calls)
   pub only : (others : List Entry) → IsItems old.encoding bytes end others → others ≡ format.items_read_back old.settings 0 calls
 
--- Reading inverts writing: where all calls were made, and wrote cleanly, what they wrote is read back.
+-- A call failed, and what the calls before it wrote is read back. What the sink took after that is what the call says that failed.
+pub record IsReadBackBefore {W : Type 0} (sink : Sink W) (old : Writing W) (calls : List format.Call) (error : PropertiesError) (new : Writing W) : Type 0 where
+  pub before : List format.Call
+  pub call : format.Call
+  pub others : List format.Call
+  pub division : calls ≡ before ++ (call ∷ others)
+  pub middle : Writing W
+  pub read_back : IsReadBack sink old before middle
+  pub fails : FailsInCall sink middle call error new
+
+-- Reading inverts writing: where calls wrote cleanly, what those wrote that were made is read back. Where memory for the answers runs out, none is made.
 abbrev pub ReadsBack : {W : Type 0} → Sink W → Writing W → List format.Call → Result (Vec Bool) PropertiesError → Writing W → Type 0
 ReadsBack sink old calls (Ok answers) new = IsCleanWriting old calls → IsReadBack sink old calls new
-ReadsBack sink old calls (Err error) new = Unit {0}
+ReadsBack sink old calls (Err error) new = IsCleanWriting old calls → Refuses kind.Memory old error new ⊎ IsReadBackBefore sink old calls error new

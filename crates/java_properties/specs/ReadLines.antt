@@ -12,8 +12,7 @@ use Rattle.properties_format.specs.Items.{IsItems}
 use Rattle.properties_format.specs.Laws.{HasOneReading}
 use Rattle.java_properties.specs.Errors.{IsBareError, IsMalformed, IsStreamError}
 use Rattle.properties_format.specs.ItemsToCome.{start}
-use Rattle.java_properties.specs.LineFinder.{PassesAll}
-use Rattle.java_properties.specs.PropertiesIter.{entry_of}
+use Rattle.java_properties.specs.PropertiesIter.{entry_of, PassesAll}
 use Rattle.java_properties.specs.declared.error.ErrorKind.TheVariants as kind
 use Rattle.java_properties.specs.declared.error.PropertiesError.{PropertiesError}
 use Rattle.java_properties.specs.declared.iter.whole.Stopped.{Stopped}
@@ -36,6 +35,12 @@ abbrev pub BeginsItems : Encoding → List ℕ → List Entry → Bool → Type 
 BeginsItems e bytes entries at_end =
     ((d : List ℕ) (ending : InputEnd) → (others : List Entry) × IsItems e (bytes ++ d) ending (entries ++ others))
     ⊎ (at_end ≡ true) × ((others : List Entry) × IsItems e bytes end (entries ++ others))
+
+-- The same of a reading: whatever comes after the bytes, or where the reader is at its end, the items begin with these, are the only ones, and are read in one way.
+abbrev pub BeginsReading : Encoding → List ℕ → List Entry → Bool → Type 0
+BeginsReading e bytes entries at_end =
+    ((d : List ℕ) (ending : InputEnd) → (others : List Entry) × IsReading e (bytes ++ d) ending (entries ++ others))
+    ⊎ (at_end ≡ true) × ((others : List Entry) × IsReading e bytes end (entries ++ others))
 
 -- The reader was read to its end, and these are its items.
 pub record ReadsWhole {R : Type 0} (reader : Reader R) (e : Encoding) (from : R) (entries : List Entry) (to : R) : Type 0 where
@@ -69,7 +74,7 @@ pub record StopsEarly {R : Type 0} (reader : Reader R) (e : Encoding) (from : R)
   pub bytes : List ℕ
   pub read : HasRead reader from bytes to
   pub is : IsBareError kind.TooManyLines error × PassesAll (start e) bytes ⊎ IsBareError kind.Memory error
-  pub begins : BeginsItems e bytes entries (reader.at_end to)
+  pub begins : BeginsReading e bytes entries (reader.at_end to)
 
 -- What reading a whole input returns. Ok comes at the reader's own end alone.
 abbrev pub ReadsLines : {R Z : Type 0} → Reader R → Encoding → R → Result (Vec Line Z) Stopped → R → Type 0

@@ -175,8 +175,18 @@ impl<W: CountedWrite> PropertiesWriter<W> {
         self.flush()
     }
 
-    // Every writer is good, which this tells a proof. It does nothing.
-    fn is_good(&self)
+    /// Tells a proof that the writer is good, as every writer is: its encoding is one that is written, and its settings
+    /// are good ones. It does nothing.
+    ///
+    /// [`laws::reading_inverts_writing`](crate::laws::reading_inverts_writing) speaks of good settings, so after this
+    /// call it can be applied to a writer that is at hand.
+    ///
+    /// ```text
+    /// writer.is_good();
+    /// laws::reading_inverts_writing();
+    /// // A proof that comes after may take lists of pairs to be equal that this writer writes as equal bytes.
+    /// ```
+    pub fn is_good(&self)
         ensures { IsGoodWriter self.now }
     {
         self.engine.settings.are_good();

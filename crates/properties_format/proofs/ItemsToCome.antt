@@ -3,4 +3,5 @@ pub mod Lines
 pub mod Numbers
 pub mod Steps
 pub mod Unique
+pub mod Divisions
 pub mod Waiting

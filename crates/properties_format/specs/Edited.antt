@@ -3,9 +3,8 @@
 use Rattle.std.specs.Prelude.{◌≡◌, ◌⊎◌, All, ℕ, ◌&&◌, not, Bool, true, false, if◌then◌else◌, List, [], ◌∷◌, ◌++◌}
 use Rattle.properties_format.specs.Text.{scalar, line_feed, equals_sign, lf, cr, line_ending_text}
 use Rattle.properties_format.specs.Encoding.{Encoding, windows_1252, utf_8, utf_16le, utf_16be, byte_order_mark, begins_with, begins_like_bom, utf_8_bom, utf_16be_bom, utf_16le_bom}
-use Rattle.properties_format.specs.Lines.{end}
+use Rattle.properties_format.specs.Lines.{end, ends_in_cr}
 use Rattle.properties_format.specs.Groups.{is_open, is_comment_line}
-use Rattle.properties_format.specs.Reading.Lines.{ends_in_cr}
 use Rattle.properties_format.specs.Escapes.{Malformed}
 use Rattle.properties_format.specs.Entries.{Entry, item, malformed, read_fault}
 use Rattle.properties_format.specs.Items.{IsItems}

@@ -6,7 +6,7 @@ use Rattle.properties_format.specs.Pieces.{Piece, characters}
 use Rattle.properties_format.specs.Encoding.{Encoding, InForce, byte_order_mark, IsPieces}
 use Rattle.properties_format.specs.Lines.{InputEnd, Line, Lines, IsLines, line_ends, numbered}
 use Rattle.properties_format.specs.Groups.{IsGroups}
-use Rattle.properties_format.specs.Items.{Entry, AreEntries}
+use Rattle.properties_format.specs.Items.{Entry, AreEntries, last_entries}
 
 -- Where a reader stands: the encoding in force, or the one asked for while it is not decided whether a byte order mark is at the front;
 -- the bytes that were read and not taken; how many line ends were passed, and whether the last of them was a CR, whose LF may still come;
@@ -48,3 +48,30 @@ pub record AreFurtherEntries (s : ReaderState) (d : List ℕ) (ending : InputEnd
 -- The items to come, where these bytes come and then this ending: none at the end for good.
 abbrev pub IsItemsToCome : ReaderState → List ℕ → InputEnd → List Entry → Type 0
 IsItemsToCome s d ending entries = (s.is_done ≡ true) × (entries ≡ []) ⊎ (s.is_done ≡ false) × AreFurtherEntries s d ending entries
+
+-- The natural lines of the bytes that are not taken and of those to come, numbered on from those that were passed; and what comes after all of them.
+pub record AreFurtherLines (s : ReaderState) (d : List ℕ) (ending : InputEnd) (lines : List Line) (last : List Entry) : Type 0 where
+  pub pieces : List Piece
+  pub text : List ℕ
+  pub all : Lines
+  pub are_pieces : IsPieces (in_force s d).encoding (in_force s d).body pieces
+  pub after_end : IsAfterEnd s.after_cr (characters pieces) text
+  pub divided : IsLines text all
+  pub are_lines : lines ≡ numbered s.passed all.ended all.last ending
+  pub are_last : last ≡ last_entries (s.passed + line_ends all) ending
+
+-- The natural lines to come, and what comes after them: nothing at the end for good.
+abbrev pub AreLinesToCome : ReaderState → List ℕ → InputEnd → List Line → List Entry → Type 0
+AreLinesToCome s d ending lines last =
+    (s.is_done ≡ true) × (lines ≡ []) × (last ≡ []) ⊎ (s.is_done ≡ false) × AreFurtherLines s d ending lines last
+
+-- ---- What comes of bytes that are read.
+
+-- Of these bytes this entry comes first, and then what comes from the new state on, whatever that is.
+pub record ComesFirst (old : ReaderState) (bytes : List ℕ) (entry : Entry) (new : ReaderState) : Type 0 where
+  pub others : (d : List ℕ) (ending : InputEnd) (entries : List Entry) → IsItemsToCome new d ending entries → IsItemsToCome old (bytes ++ d) ending (entry ∷ entries)
+
+-- Of these bytes these lines come first, and then those that come from the new state on, whatever they are.
+pub record LinesComeFirst (old : ReaderState) (bytes : List ℕ) (lines : List Line) (new : ReaderState) : Type 0 where
+  pub others : (d : List ℕ) (ending : InputEnd) (further : List Line) (last : List Entry)
+      → AreLinesToCome new d ending further last → AreLinesToCome old (bytes ++ d) ending (lines ++ further) last

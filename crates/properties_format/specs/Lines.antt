@@ -1,7 +1,7 @@
 -- The natural lines of a text.
 -- Source: java.util.Properties of Java SE 7, load: a natural line is terminated by \n, by \r, by \r\n, or by the end of the stream.
-use Rattle.std.specs.Prelude.{◌≡◌, ℕ, ◌+◌, false, List, [], ◌∷◌, ◌++◌, length}
-use Rattle.properties_format.specs.Text.{is_line_end, LineEnding, lf, cr, line_ending_text}
+use Rattle.std.specs.Prelude.{◌≡◌, ℕ, ◌+◌, ◌==◌, Bool, false, List, [], ◌∷◌, ◌++◌, length}
+use Rattle.properties_format.specs.Text.{carriage_return, is_line_end, LineEnding, lf, cr, line_ending_text}
 
 -- a line with what ends it
 pub record Ended : Type 0 where
@@ -41,6 +41,16 @@ pub record IsLines (x : List ℕ) (lines : Lines) : Type 0 where
 -- how many line ends there are
 abbrev pub line_ends : Lines → ℕ
 line_ends lines = length lines.ended
+
+-- The text ends in a CR.
+abbrev pub EndsInCr : List ℕ → Type 0
+EndsInCr x = (front : List ℕ) × (x ≡ front ++ carriage_return ∷ [])
+
+-- whether it does
+abbrev pub ends_in_cr : List ℕ → Bool
+ends_in_cr [] = false
+ends_in_cr (c ∷ []) = c == carriage_return
+ends_in_cr (c ∷ d ∷ ds) = ends_in_cr (d ∷ ds)
 
 -- How the input goes on: it ends, a read fails, or more of it may come.
 pub data InputEnd : Type 0 where

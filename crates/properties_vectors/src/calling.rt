@@ -1,8 +1,10 @@
 //! What callers write. docs/CALLING.md shows these texts and explains them.
 
 pub mod catalogue;
+pub mod compare;
 pub mod convert;
 pub mod count;
 pub mod find;
 pub mod lint;
 pub mod load;
+pub mod lookup;

@@ -11,7 +11,8 @@ use Rattle.properties_format.specs.Pairs.{pairs_in, ArePairsOfScalars}
 use Rattle.properties_format.specs.Reading.ItemsToCome.{items_to_come}
 use Rattle.properties_format.proofs.Items.Unique.{items_of-meets}
 use Rattle.java_properties.specs.LineJoiner.{JoinsError}
-use Rattle.java_properties.specs.PropertiesIter.{Reading, GivesEntry, GivesNone, GivesMalformed}
+use Rattle.java_properties.specs.PropertiesIter.{Reading}
+use Rattle.java_properties.specs.GivenItems.{GivesEntry, GivesNone, GivesMalformed}
 use Rattle.java_properties.specs.PropertiesWriter.{Writing, Flushes, HasFlushedSink, RefusesFlush, FailsInFlush}
 use Rattle.java_properties.specs.ReadLines.{BeginsItems}
 use Rattle.java_properties.specs.declared.error.PropertiesError.{PropertiesError}

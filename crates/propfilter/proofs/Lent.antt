@@ -1,5 +1,5 @@
 -- What was done to streams that were lent was done to the streams themselves.
-use Rattle.std.proofs.Common.{◌≡◌, ℕ, List, inl, inr}
+use Rattle.std.proofs.Common.{◌≡◌, ℕ, List, ◌∷◌, inl, inr}
 use Rattle.std.specs.Borrow.{MutBor}
 use Rattle.std.specs.Prelude.{Bool, Option, Some, None, Result, Ok, Err}
 use Rattle.std.specs.declared.io.Error.{Error}
@@ -16,7 +16,7 @@ lent_reader reader = record {
   remaining = λ r. reader.remaining r.now;
   faults = λ r. reader.faults r.now;
   at_end = λ r. reader.at_end r.now;
-  identity = λ r. r.ghost_name;
+  identity = λ r. r.ghost_name ∷ reader.identity r.now;
   read_gives = λ old result new. reader.read_gives old.now result new.now;
 }
 
@@ -25,7 +25,7 @@ lent_sink sink = record {
   contents = λ w. sink.contents w.now;
   faults = λ w. sink.faults w.now;
   is_flushed = λ w. sink.is_flushed w.now;
-  identity = λ w. w.ghost_name;
+  identity = λ w. w.ghost_name ∷ sink.identity w.now;
   write_gives = λ old bytes result new. sink.write_gives old.now bytes result new.now;
   flush_gives = λ old result new. sink.flush_gives old.now result new.now;
 }

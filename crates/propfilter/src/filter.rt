@@ -37,6 +37,8 @@ pub fn filter<R: CountedRead, W: CountedWrite>(
         Filters R.CountedRead W.CountedWrite e false input.old writer.old result input.new writer.new }
     ensures settles { let e = encoding_of encoding in
         Settles R.CountedRead W.CountedWrite e input.old writer.old result input.new writer.new }
+    ensures same_reader { IsSameReader R.CountedRead input.old input.new }
+    ensures same_sink { IsSameSink W.CountedWrite writer.old writer.new }
 {
     filter_with(alloc, input, writer, encoding, false)
 }
@@ -61,6 +63,8 @@ pub fn filter_ascii<R: CountedRead, W: CountedWrite>(
         Filters R.CountedRead W.CountedWrite e true input.old writer.old result input.new writer.new }
     ensures ascii { let e = encoding_of encoding in
         FiltersToAscii R.CountedRead W.CountedWrite e input.old writer.old result input.new writer.new }
+    ensures same_reader { IsSameReader R.CountedRead input.old input.new }
+    ensures same_sink { IsSameSink W.CountedWrite writer.old writer.new }
 {
     filter_with(alloc, input, writer, encoding, true)
 }
@@ -72,9 +76,11 @@ fn filter_with<R: CountedRead, W: CountedWrite>(
     encoding: Encoding,
     ascii_only: bool,
 ) -> Result<(), PropertiesError>
-    ensures { let e = encoding_of encoding in
+    ensures filters { let e = encoding_of encoding in
         Filters R.CountedRead W.CountedWrite e ascii_only
         input.old writer.old result input.new writer.new }
+    ensures same_reader { IsSameReader R.CountedRead input.old input.new }
+    ensures same_sink { IsSameSink W.CountedWrite writer.old writer.new }
 {
     let mut items = PropertiesIter::new_with_encoding(alloc, input, encoding)?;
     let mut lines = PropertiesWriter::new_with_encoding(alloc, writer, encoding)?;
@@ -139,12 +145,23 @@ fn write_if_pair<W: CountedWrite>(
     ensures scalars { HasScalars (said_by content.now) }
     ensures same_sink { IsSameSink W.CountedWrite lines.old.sink lines.new.sink }
 {
+    has_scalars(content);
     match content {
         ContentRef::KVPair(key, value) => {
             lines.write(key.as_str(), value.as_str())?;
             Ok(())
         }
         ContentRef::Comment(_) => Ok(()),
+    }
+}
+
+// The texts of a pair are of scalar values, as all texts are, which this tells a proof. It does nothing.
+fn has_scalars(content: &ContentRef<'_>)
+    ensures { HasScalars (said_by content.now) }
+{
+    if let ContentRef::KVPair(key, value) = content {
+        let _ = key.as_str();
+        let _ = value.as_str();
     }
 }
 

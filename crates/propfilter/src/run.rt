@@ -2,6 +2,7 @@
 
 ghost use Rattle.std.specs.Prelude.{◌∷◌, [], IfSome, map, string_bytes};
 ghost use Rattle.std.specs.Option.{option_map};
+ghost use Rattle.counted_io.specs.Streams.{IsSameReader, IsSameSink};
 ghost use Rattle.properties_text.specs.Encoding.{encoding_of};
 ghost use Rattle.java_properties.specs.DisplayTexts.{error_display};
 ghost use Rattle.propfilter.specs.Filter.{Filters};
@@ -40,9 +41,12 @@ pub fn run<R: CountedRead, W: CountedWrite, E: CountedWrite>(
     output: &mut W,
     errors: &mut E,
 ) -> u8
-    ensures { let names = map string_bytes arguments.now in
+    ensures runs { let names = map string_bytes arguments.now in
         Runs R.CountedRead W.CountedWrite E.CountedWrite names
         input.old output.old errors.old result input.new output.new errors.new }
+    ensures same_reader { IsSameReader R.CountedRead input.old input.new }
+    ensures same_sink { IsSameSink W.CountedWrite output.old output.new }
+    ensures same_error_sink { IsSameSink E.CountedWrite errors.old errors.new }
 {
     let Some(asked) = asked_for(arguments) else {
         say(errors, USAGE);
@@ -63,9 +67,11 @@ fn filter_asked<R: CountedRead, W: CountedWrite>(
     output: &mut W,
     asked: Asked,
 ) -> Result<(), PropertiesError>
-    ensures { let e = encoding_of asked.encoding in
+    ensures filters { let e = encoding_of asked.encoding in
         Filters R.CountedRead W.CountedWrite e asked.ascii_only
         input.old output.old result input.new output.new }
+    ensures same_reader { IsSameReader R.CountedRead input.old input.new }
+    ensures same_sink { IsSameSink W.CountedWrite output.old output.new }
 {
     if asked.ascii_only {
         return filter_ascii(alloc, input, output, asked.encoding);
@@ -122,7 +128,8 @@ fn encoding_named(name: &str) -> Option<Encoding>
 
 // Says a line. What fails is dropped: there is nowhere left to tell it.
 fn say<E: CountedWrite>(errors: &mut E, line: &str)
-    ensures { HasSaid E.CountedWrite errors.old line.now errors.new }
+    ensures says { HasSaid E.CountedWrite errors.old line.now errors.new }
+    ensures same_sink { IsSameSink E.CountedWrite errors.old errors.new }
 {
     let _ = send(errors, line.as_bytes());
     let _ = errors.flush_counted();
@@ -130,7 +137,8 @@ fn say<E: CountedWrite>(errors: &mut E, line: &str)
 
 // Says an error as a line, if there is memory for its text.
 fn say_error<E: CountedWrite>(alloc: Global, errors: &mut E, error: PropertiesError)
-    ensures { IfSome (error_display error) (λ text. SaysIfRoom E.CountedWrite errors.old text errors.new) }
+    ensures says { IfSome (error_display error) (λ text. SaysIfRoom E.CountedWrite errors.old text errors.new) }
+    ensures same_sink { IsSameSink E.CountedWrite errors.old errors.new }
 {
     if let Ok(line) = format!(in alloc; "{error}\n") {
         say(errors, line.as_str());

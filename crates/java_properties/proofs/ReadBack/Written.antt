@@ -1,14 +1,20 @@
 -- What was written is read back.
-use Rattle.std.proofs.Common.{◌≡◌, List, refl, ◌∙◌}
+use Rattle.std.proofs.Common.{◌≡◌, List, [], ◌∷◌, ◌++◌, refl, ◌∙◌, inl, inr}
+use Rattle.std.specs.Prelude.{◌⊎◌, Bool, Result, Ok, Err}
+use Rattle.std.specs.Global.{Vec}
 use Rattle.counted_io.specs.Streams.{Sink}
 use Rattle.properties_format.specs.Encoding.{output_encoding}
-use Rattle.properties_format.specs.Writing.{Call, wrote, AreOfScalars}
+use Rattle.properties_format.specs.Settings.{Settings}
+use Rattle.properties_format.specs.Writing.{Call, comment_call, pair_call, prefix_call, separator_call, ending_call, flush_call, ascii_only_call, settings_after_call, wrote, ArePrefixesClean, AreOfScalars}
 use Rattle.properties_format.proofs.Items.Unique.{items_of-only}
 use Rattle.properties_format.proofs.ReadBack.Law.{items_of-wrote, IsItems-wrote}
 use Rattle.properties_text.specs.Encoding.{output_of}
 use Rattle.java_properties.specs.PropertiesWriter.{Writing}
-use Rattle.java_properties.specs.Calls.{HasMade}
-use Rattle.java_properties.specs.ReadBack.{IsGoodWriter, IsCleanWriting, IsReadBack}
+use Rattle.java_properties.specs.Calls.{HasMade, StopsAtCall, RunsCalls}
+use Rattle.java_properties.specs.Errors.{Refuses}
+use Rattle.java_properties.specs.ReadBack.{IsGoodWriter, IsCleanWriting, IsReadBack, IsReadBackBefore, ReadsBack}
+use Rattle.java_properties.specs.declared.error.ErrorKind.TheVariants as kind
+use Rattle.java_properties.specs.declared.error.PropertiesError.{PropertiesError}
 use Rattle.properties_text.specs.declared.encoding.encode.OutputEncoding.{OutputEncoding}
 use Rattle.properties_text.specs.declared.encoding.encode.OutputEncoding.TheVariants.{Windows1252, Utf8}
 
@@ -16,6 +22,21 @@ use Rattle.properties_text.specs.declared.encoding.encode.OutputEncoding.TheVari
 pub output_of-own : (e : OutputEncoding) → output_encoding (output_of e) ≡ output_of e
 output_of-own Windows1252 = refl
 output_of-own Utf8 = refl
+
+-- what holds of all calls holds of the first of them
+scalars-before : (xs ys : List Call) → AreOfScalars (xs ++ ys) → AreOfScalars xs
+scalars-before [] ys h = tt
+scalars-before (x ∷ xs) ys h = (h.0, scalars-before xs ys h.1)
+
+clean-before : (s : Settings) (xs ys : List Call) → ArePrefixesClean s (xs ++ ys) → ArePrefixesClean s xs
+clean-before s [] ys h = tt
+clean-before s (comment_call text ∷ xs) ys h = (h.0, clean-before s xs ys h.1)
+clean-before s (pair_call key value ∷ xs) ys h = clean-before s xs ys h
+clean-before s (prefix_call prefix ∷ xs) ys h = clean-before (settings_after_call s (prefix_call prefix)) xs ys h
+clean-before s (separator_call separator ∷ xs) ys h = clean-before (settings_after_call s (separator_call separator)) xs ys h
+clean-before s (ending_call line_ending ∷ xs) ys h = clean-before (settings_after_call s (ending_call line_ending)) xs ys h
+clean-before s (flush_call ∷ xs) ys h = clean-before s xs ys h
+clean-before s (ascii_only_call on ∷ xs) ys h = clean-before (settings_after_call s (ascii_only_call on)) xs ys h
 
 module _ {W : Type 0} {sink : Sink W} where
   -- calls that were made, and wrote cleanly, are read back
@@ -30,3 +51,26 @@ module _ {W : Type 0} {sink : Sink W} where
             items_of-only old.encoding _ _ others h
             ∙ items_of-wrote old.encoding old.settings calls good.encoding good.settings clean.prefixes scalars;
       }
+
+  -- and so are those before one that failed
+  stops-read_back : {old new : Writing W} {calls : List Call} {error : PropertiesError} → IsGoodWriter old → AreOfScalars calls
+      → Refuses kind.Memory old error new ⊎ StopsAtCall sink old calls error new → IsCleanWriting old calls
+      → Refuses kind.Memory old error new ⊎ IsReadBackBefore sink old calls error new
+  stops-read_back good scalars (inl h) clean = inl h
+  stops-read_back {old = old} good scalars (inr h) clean = inr (record {
+    before = h.before;
+    call = h.call;
+    others = h.others;
+    division = h.division;
+    middle = h.middle;
+    read_back = made-read_back good (scalars-before h.before (h.call ∷ h.others) (rw h.division at scalars)) h.made (record {
+      first = clean.first;
+      prefixes = clean-before old.settings h.before (h.call ∷ h.others) (rw h.division at clean.prefixes);
+    });
+    fails = h.fails;
+  })
+
+pub runs-read_back : {W : Type 0} (sink : Sink W) (old new : Writing W) (calls : List Call) (result : Result (Vec Bool) PropertiesError) → IsGoodWriter old → AreOfScalars calls
+    → RunsCalls sink old calls result new → ReadsBack sink old calls result new
+runs-read_back sink old new calls (Ok answers) good scalars h = λ clean. made-read_back good scalars h.made clean
+runs-read_back sink old new calls (Err error) good scalars h = stops-read_back good scalars h

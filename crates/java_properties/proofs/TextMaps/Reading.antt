@@ -13,7 +13,8 @@ use Rattle.properties_format.proofs.Maps.{map-none, map-comment, map-pair}
 use Rattle.java_properties.specs.Errors.{IsBareError}
 use Rattle.java_properties.specs.Line.{number_of, content_of}
 use Rattle.java_properties.specs.LineJoiner.{JoinsError}
-use Rattle.java_properties.specs.PropertiesIter.{said, entry_of, GivesEntry, GivesNone, GivesMalformed}
+use Rattle.java_properties.specs.PropertiesIter.{said, entry_of}
+use Rattle.java_properties.specs.GivenItems.{GivesEntry, GivesNone, GivesMalformed}
 use Rattle.java_properties.specs.ReadLines.{entries_in}
 use Rattle.java_properties.specs.Maps.{value_at, InsertsIfPair, HasReadMap, StopsReadingMap}
 use Rattle.java_properties.specs.declared.error.ErrorKind.TheVariants as kind

@@ -2,7 +2,7 @@
 use Rattle.std.proofs.Common.{◌≡◌, ℕ, Bool, true, false, List, [], ◌∷◌, refl, ap, sym, ◌∙◌, inl, inr}
 use Rattle.std.specs.Prelude.{Option, Some, None, bytes_eq, string_bytes, cond}
 use Rattle.std.specs.Option.{option_map}
-use Rattle.std.specs.Str.{chars, all_scalars, encode_utf8_all}
+use Rattle.std.specs.Str.{chars, all_scalars, encode_utf8_all, IsUtf8}
 use Rattle.std.specs.String.{string_eq}
 use Rattle.std.specs.HashMap.{HashMap, UpdatesBy, get_by_text}
 use Rattle.std.specs.Map.{lookup, update}
@@ -52,18 +52,23 @@ chosen : {Z : Type 0} (b : Bool) (value : String Z) (o : Option (String Z))
 chosen true value o = refl
 chosen false value o = refl
 
-module _ {Y Z S : Type 0} (m n : HashMap (String Y) (String Z) S) (key : String Y) (value : String Z) (h : UpdatesBy string_eq (string_eq key) m n (Some value)) (k : List ℕ) where
-  by-bytes : all_scalars k ≡ true → (f : HashMap (String Y) (String Z) S) → value_at f k ≡ option_map characters (get_by_text f (encode_utf8_all k))
-  by-bytes s f = ap (option_map characters) (lookup-same (λ x. bytes_eq k (characters x)) (λ x. bytes_eq (encode_utf8_all k) (string_bytes x)) (sought k s) f.entries)
+-- what a map has at characters is what it has at their bytes
+by-bytes : {Y Z S : Type 0} (k : List ℕ) → all_scalars k ≡ true → (f : HashMap (String Y) (String Z) S) → value_at f k ≡ option_map characters (get_by_text f (encode_utf8_all k))
+by-bytes k s f = ap (option_map characters) (lookup-same (λ x. bytes_eq k (characters x)) (λ x. bytes_eq (encode_utf8_all k) (string_bytes x)) (sought k s) f.entries)
 
+-- What a map has at the characters of a text is what `get` finds by that text.
+pub value_at_text : {Y Z S : Type 0} (f : HashMap (String Y) (String Z) S) (key : List ℕ) → IsUtf8 key → value_at f (chars key) ≡ option_map characters (get_by_text f key)
+value_at_text f key is = by-bytes (chars key) (scalars-chars key is) f ∙ ap (λ bytes. option_map characters (get_by_text f bytes)) (encodes-chars key is)
+
+module _ {Y Z S : Type 0} (m n : HashMap (String Y) (String Z) S) (key : String Y) (value : String Z) (h : UpdatesBy string_eq (string_eq key) m n (Some value)) (k : List ℕ) where
   of-text : all_scalars k ≡ true → value_at n k ≡ update bytes_eq (value_at m) (characters key) (Some (characters value)) k
   of-text s =
-      by-bytes s n
+      by-bytes k s n
       ∙ ap (option_map characters) (hash_map_updates_text (string_bytes key) m n (Some value) h (encode_utf8_all k))
       ∙ chosen (bytes_eq (string_bytes key) (encode_utf8_all k)) value (get_by_text m (encode_utf8_all k))
       ∙ ap (λ b. cond b (Some (characters value)) (option_map characters (get_by_text m (encode_utf8_all k))))
       (flipped (string_bytes key) (encode_utf8_all k) ∙ sym (sought k s key) ∙ flipped k (characters key))
-      ∙ ap (λ o. cond (bytes_eq (characters key) k) (Some (characters value)) o) (sym (by-bytes s m))
+      ∙ ap (λ o. cond (bytes_eq (characters key) k) (Some (characters value)) o) (sym (by-bytes k s m))
 
   of-none : all_scalars k ≡ false → value_at n k ≡ update bytes_eq (value_at m) (characters key) (Some (characters value)) k
   of-none s =

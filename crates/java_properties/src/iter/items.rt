@@ -8,7 +8,7 @@ ghost use Rattle.properties_text.specs.Encoding.{encoding_of};
 ghost use Rattle.java_properties.specs.LineFinder.{lines_left};
 ghost use Rattle.java_properties.specs.LineJoiner.{Joiner};
 ghost use Rattle.java_properties.specs.LentItems.{lent_entry, found_entry, BorrowsPlain, IsFoundIn, FindsItem, ComesTo, OnLine, Owns};
-ghost use Rattle.java_properties.specs.PropertiesIter.{GivesItem};
+ghost use Rattle.java_properties.specs.GivenItems.{GivesItem};
 
 use crate::error::PropertiesError;
 use crate::iter::found::{Found, find_escaped, find_plain};

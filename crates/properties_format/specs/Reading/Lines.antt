@@ -2,6 +2,7 @@
 use Rattle.std.specs.Prelude.{ℕ, ◌==◌, Bool, true, false, if◌then◌else◌, List, [], ◌∷◌, ◌++◌}
 use Rattle.properties_format.specs.Text.{line_feed, carriage_return, LineEnding, lf, cr, crlf}
 use Rattle.properties_format.specs.Lines.{Ended, Lines, InputEnd, Line, numbered}
+pub use Rattle.properties_format.specs.Lines.{ends_in_cr}
 
 -- an LF at the front, as what belongs to a CR before it, is left out
 abbrev pub without_leading_lf : List ℕ → List ℕ
@@ -12,12 +13,6 @@ without_leading_lf (c ∷ cs) = if c == line_feed then cs else c ∷ cs
 abbrev pub begins_with_lf : List ℕ → Bool
 begins_with_lf [] = false
 begins_with_lf (c ∷ cs) = c == line_feed
-
--- the text ends in a CR
-abbrev pub ends_in_cr : List ℕ → Bool
-ends_in_cr [] = false
-ends_in_cr (c ∷ []) = c == carriage_return
-ends_in_cr (c ∷ d ∷ ds) = ends_in_cr (d ∷ ds)
 
 -- an empty line that an LF alone ends
 abbrev pub is_lone_lf : List ℕ → LineEnding → Bool

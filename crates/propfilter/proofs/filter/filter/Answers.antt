@@ -3,4 +3,4 @@ use Rattle.propfilter.proofs.Settled.{filters-settles}
 use Rattle.propfilter.proofs.filter.filter.Goals as goal
 
 pub returns-clause-settles : goal.returns-clause-settles
-returns-clause-settles g c = filters-settles (reader g.R.Read g.R.CountedRead) (sink g.W.Write g.W.CountedWrite) _ _ _ _ _ _ c.filter_with.ensures
+returns-clause-settles g c = filters-settles (reader g.R.Read g.R.CountedRead) (sink g.W.Write g.W.CountedWrite) _ _ _ _ _ _ c.filter_with.ensures.filters

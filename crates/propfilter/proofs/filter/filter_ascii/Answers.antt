@@ -3,4 +3,4 @@ use Rattle.propfilter.proofs.AsciiOnly.{filters-ascii}
 use Rattle.propfilter.proofs.filter.filter_ascii.Goals as goal
 
 pub returns-clause-ascii : goal.returns-clause-ascii
-returns-clause-ascii g c = filters-ascii (reader g.R.Read g.R.CountedRead) (sink g.W.Write g.W.CountedWrite) _ _ _ _ _ _ c.filter_with.ensures
+returns-clause-ascii g c = filters-ascii (reader g.R.Read g.R.CountedRead) (sink g.W.Write g.W.CountedWrite) _ _ _ _ _ _ c.filter_with.ensures.filters

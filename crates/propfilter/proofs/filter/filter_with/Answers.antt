@@ -3,8 +3,8 @@ use Rattle.counted_io.specs.Streams.{reader, sink}
 use Rattle.propfilter.proofs.Lent.{filters-lent, filters-same}
 use Rattle.propfilter.proofs.filter.filter_with.Goals as goal
 
-pub returns : goal.returns
-returns g c =
+pub returns-clause-filters : goal.returns-clause-filters
+returns-clause-filters g c =
     let r = reader g.R.Read g.R.CountedRead in
     let s = sink g.W.Write g.W.CountedWrite in
     let items = c.in_ok-items.items in

@@ -2,6 +2,7 @@ use Rattle.std.proofs.Common.{refl, ◌∙◌, inl, inr}
 use Rattle.std.proofs.lemmas.Result.{err_from_is_err_and}
 use Rattle.counted_io.specs.Streams.{reader, sink}
 use Rattle.java_properties.specs.LentItems.{found_content}
+use Rattle.java_properties.proofs.Told.{compute-entry, compute-none, compute-error}
 use Rattle.propfilter.proofs.Filtering.{passed-none, passed-more, stops-reading, stops-writing, returns}
 use Rattle.propfilter.proofs.filter.write_pairs.Goals as goal
 
@@ -19,12 +20,12 @@ loop-found-init g c =
 pub returns-in-Err-clause-filters : goal.returns-in-Err-clause-filters
 returns-in-Err-clause-filters g c =
     let stopped = (rw c.in-Err.is at c.in-Some.ensures.gives).0 in
-    inl (stops-reading c.flush.new.self c.flush.result c.loop-found.invariant.passed stopped.0 stopped.2 c.flush.ensures.flushes)
+    inl (stops-reading c.flush.new.self c.flush.result c.loop-found.invariant.passed stopped.0 (compute-error {new = c.advance.new.self.state} stopped.2) c.flush.ensures.flushes)
 
 pub returns-clause-filters : goal.returns-clause-filters
 returns-clause-filters g c =
     let none = (rw c.in_default.is at c.advance.ensures.gives).0 in
-    returns c.finish.new.self c.finish.result c.loop-found.invariant.passed none c.finish.ensures.flushes
+    returns c.finish.new.self c.finish.result c.loop-found.invariant.passed (compute-none none) c.finish.ensures.flushes
 
 pub loop-found-preserved : goal.loop-found-preserved
 loop-found-preserved g c =
@@ -33,7 +34,7 @@ loop-found-preserved g c =
     let content = found_content c.advance.new.self.line item.content in
     let written = rw c.in_ok-write_found-in-Ok.was at c.write_found.ensures.writes in
     record {
-      passed = passed-more c.write_found.new.lines item.line_number content c.loop-found.invariant.passed came.0.0 written c.write_found.ensures.scalars;
+      passed = passed-more c.write_found.new.lines item.line_number content c.loop-found.invariant.passed (compute-entry came.0.0) written c.write_found.ensures.scalars;
       same_reader = c.in-Some.ensures.gives.1 ∙ c.loop-found.invariant.same_reader;
       same_sink = c.write_found.ensures.same_sink ∙ c.loop-found.invariant.same_sink;
     }
@@ -45,4 +46,4 @@ returns-in_err-write_found-in-Ok-clause-filters g c =
     let item = c.in-Ok.found in
     let content = found_content c.advance.new.self.line item.content in
     let refused = rw c.in_err-write_found-in-Ok.was at c.write_found.ensures.writes in
-    rw (error.1, error.2) (inr (inl (stops-writing c.write_found.new.lines item.line_number content c.loop-found.invariant.passed came.0.0 refused)))
+    rw (error.1, error.2) (inr (inl (stops-writing c.write_found.new.lines item.line_number content c.loop-found.invariant.passed (compute-entry came.0.0) refused)))

@@ -5,9 +5,9 @@ use Rattle.counted_io.specs.Streams.{reader, sink}
 use Rattle.propfilter.proofs.Errors.{filter-shown}
 use Rattle.propfilter.proofs.run.run.Goals as goal
 
-pub returns-in-Err : goal.returns-in-Err
-returns-in-Err g c =
-    let filters = c.in-Err.ensures in
+pub returns-in-Err-clause-runs : goal.returns-in-Err-clause-runs
+returns-in-Err-clause-runs g c =
+    let filters = c.in-Err.ensures.filters in
     let shown = filter-shown (reader g.R.Read g.R.CountedRead) (sink g.W.Write g.W.CountedWrite) _ _ _ _ _ _ c.in-Err.error filters in
     inl (record {
       encoding = encoding_of c.in-Some.asked.encoding;
@@ -16,5 +16,5 @@ returns-in-Err g c =
       result = Err c.in-Err.error;
       filters = filters;
       answer = refl;
-      says = (shown.0, shown.1, rw shown.1 at c.say_error.ensures);
+      says = (shown.0, shown.1, rw shown.1 at c.say_error.ensures.says);
     })

@@ -6,7 +6,7 @@ use Rattle.java_properties.specs.PropertiesWriter.{Writing}
 use Rattle.java_properties.proofs.Calls.Made.{made-more}
 use Rattle.java_properties.proofs.Calls.Lists.{answers-more, stops, calls-cut, calls-take, calls-all}
 use Rattle.java_properties.proofs.ReadBack.Scalars.{calls-scalars}
-use Rattle.java_properties.proofs.ReadBack.Written.{made-read_back}
+use Rattle.java_properties.proofs.ReadBack.Written.{made-read_back, runs-read_back}
 use Rattle.java_properties.proofs.AsciiOnly.{made-ascii, runs-ascii}
 use Rattle.java_properties.proofs.writer.calls.run_calls.Goals as goal
 
@@ -23,6 +23,10 @@ pub returns-clause-reads_back : goal.returns-clause-reads_back
 returns-clause-reads_back g c = λ clean.
     let all = calls-all call_in c.args.calls.now c.loop-call.call-index c.loop-call-test.false in
     made-read_back {new = c.loop-call.writer} c.is_good.ensures (calls-scalars c.args.calls.now) (rw all at c.loop-call.invariant.made) clean
+
+pub returns-in_err-accepted-clause-reads_back : goal.returns-in_err-accepted-clause-reads_back
+returns-in_err-accepted-clause-reads_back g c =
+    runs-read_back (sink g.W.Write g.W.CountedWrite) c.args.writer.now _ (calls_in c.args.calls.now) _ c.is_good.ensures (calls-scalars c.args.calls.now) (returns-in_err-accepted-clause-runs g c)
 
 pub returns-in_err-accepted-clause-ascii : goal.returns-in_err-accepted-clause-ascii
 returns-in_err-accepted-clause-ascii g c =

@@ -4,7 +4,7 @@ use Rattle.properties_format.specs.ItemsToCome.{ReaderState}
 use Rattle.counted_io.specs.Streams.{reader}
 use Rattle.java_properties.specs.LineJoiner.{Joiner}
 use Rattle.java_properties.specs.LentItems.{found_content, IsFoundIn}
-use Rattle.java_properties.specs.PropertiesIter.{IsNoItem}
+use Rattle.java_properties.specs.GivenItems.{IsNoItem}
 use Rattle.java_properties.proofs.Items.{Passed, passed-start, passed-none, passed-no_item, gives-item, found-item}
 use Rattle.java_properties.proofs.iter.items.ItemReader.read_line.Goals as goal
 

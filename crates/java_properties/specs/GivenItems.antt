@@ -1,0 +1,73 @@
+-- What the item reader gives, by the items to come as they are computed. Page PropertiesIter says it by divisions.
+use Rattle.std.specs.Prelude.{◌≡◌, ◌⊎◌, ℕ, Bool, true, false, List, [], ◌∷◌, ◌++◌, Option, Some, None, Result, Ok, Err}
+use Rattle.counted_io.specs.Streams.{Reader, HasRead}
+use Rattle.properties_format.specs.Lines.{InputEnd, end}
+use Rattle.properties_format.specs.Entries.{Entry, malformed}
+use Rattle.properties_format.specs.Escapes.{Malformed}
+use Rattle.properties_format.specs.Items.{broken}
+use Rattle.properties_format.specs.Reading.Items.{outcome_of}
+use Rattle.properties_format.specs.ItemsToCome.{ReaderState}
+use Rattle.properties_format.specs.Reading.ItemsToCome.{items_to_come}
+use Rattle.properties_format.specs.Reading.ReaderSteps.{ReadsEntry}
+use Rattle.java_properties.specs.Errors.{IsBareError, IsMalformed}
+use Rattle.java_properties.specs.LineFinder.{PassesSome}
+use Rattle.java_properties.specs.LineJoiner.{IsLazyItems, JoinsError}
+use Rattle.java_properties.specs.PropertiesIter.{entry_of}
+use Rattle.java_properties.specs.declared.error.ErrorKind.TheVariants as kind
+use Rattle.java_properties.specs.declared.error.PropertiesError.{PropertiesError}
+use Rattle.java_properties.specs.declared.line.Line.{Line}
+
+-- Why a logical line gave no item: its escapes are malformed, or there was no memory.
+abbrev pub IsNoItem : ℕ → List ℕ → PropertiesError → Type 0
+IsNoItem number text e =
+    ((kind : Malformed) × (outcome_of text ≡ broken kind) × IsMalformed kind number e) ⊎ IsBareError kind.Memory e
+
+-- After the bytes that were read this entry comes, whatever comes after them, and then what the new state gives; or it is
+-- the last, and the input ended.
+pub data Gives (old : ReaderState) (bytes : List ℕ) (entry : Entry) (new : ReaderState) : Type 0 where
+  going_on : new.is_done ≡ false → ReadsEntry old bytes entry new → Gives old bytes entry new
+  at_last : new.is_done ≡ true → items_to_come old bytes end ≡ entry ∷ [] → Gives old bytes entry new
+
+-- The same of malformed escapes, after which nothing comes.
+pub data BreaksOff (old : ReaderState) (bytes : List ℕ) (entry : Entry) (at_end : Bool) : Type 0 where
+  before_all : ((d : List ℕ) (ending : InputEnd) → items_to_come old (bytes ++ d) ending ≡ entry ∷ []) → BreaksOff old bytes entry at_end
+  at_last : at_end ≡ true → items_to_come old bytes end ≡ entry ∷ [] → BreaksOff old bytes entry at_end
+
+-- An item came. Where what was held gave it already, nothing was read.
+pub record GivesEntry {R : Type 0} (reader : Reader R) (old : ReaderState) (from : R) (entry : Entry) (new : ReaderState) (to : R) : Type 0 where
+  pub bytes : List ℕ
+  pub read : HasRead reader from bytes to
+  pub live : old.is_done ≡ false
+  pub gives : Gives old bytes entry new
+  pub passes : new.is_done ≡ false → PassesSome old bytes new
+  pub ended : new.is_done ≡ true → reader.at_end to ≡ true
+  pub lazy : IsLazyItems old from bytes to
+
+abbrev pub GivesNext : {R : Type 0} → Reader R → ReaderState → R → Line → ReaderState → R → Type 0
+GivesNext reader old from line new to = GivesEntry reader old from (entry_of line) new to
+
+-- No item comes any more: the input ended, or the iterator was at its end and reads nothing.
+pub record GivesNone {R : Type 0} (reader : Reader R) (old : ReaderState) (from : R) (new : ReaderState) (to : R) : Type 0 where
+  pub bytes : List ℕ
+  pub read : HasRead reader from bytes to
+  pub items : items_to_come old bytes end ≡ []
+  pub done : new.is_done ≡ true
+  pub idle : old.is_done ≡ true → (new ≡ old) × (to ≡ from) × (bytes ≡ [])
+  pub ended : old.is_done ≡ false → reader.at_end to ≡ true
+
+-- Malformed escapes came, in the logical line that begins at this number.
+pub record GivesMalformed {R : Type 0} (reader : Reader R) (old : ReaderState) (from : R) (e : PropertiesError) (to : R) : Type 0 where
+  pub bytes : List ℕ
+  pub number : ℕ
+  pub kind : Malformed
+  pub read : HasRead reader from bytes to
+  pub is : IsMalformed kind number e
+  pub breaks : BreaksOff old bytes (malformed kind number) (reader.at_end to)
+  pub lazy : IsLazyItems old from bytes to
+
+-- What the next item is, and what asking for it leaves. After `None` and after an error the iterator is at its end.
+abbrev pub GivesItem : {R : Type 0} → Reader R → ReaderState → R → Option (Result Line PropertiesError) → ReaderState → R → Type 0
+GivesItem reader old from None new to = GivesNone reader old from new to
+GivesItem reader old from (Some (Ok line)) new to = GivesNext reader old from line new to
+GivesItem reader old from (Some (Err e)) new to =
+    (old.is_done ≡ false) × (new.is_done ≡ true) × (GivesMalformed reader old from e to ⊎ JoinsError reader old from e new to)

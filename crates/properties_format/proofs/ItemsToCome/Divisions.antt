@@ -1,0 +1,97 @@
+-- What comes, said by divisions and computed: the two are one.
+use Rattle.std.proofs.Common.{◌≡◌, ℕ, ◌+◌, true, false, List, [], ◌∷◌, ◌++◌, refl, ap, sym, ◌∙◌, inl, inr}
+use Rattle.std.proofs.lemmas.Bool.{cases_Bool}
+use Rattle.properties_format.specs.Pieces.{Piece, characters}
+use Rattle.properties_format.specs.Reading.Encoding.{pieces_of}
+use Rattle.properties_format.specs.Lines.{InputEnd, Line, Lines, line_ends, numbered}
+use Rattle.properties_format.specs.Reading.Lines.{rest_of_end, lines_of}
+use Rattle.properties_format.specs.Items.{Entry, last_entries}
+use Rattle.properties_format.specs.ItemsToCome.{ReaderState, in_force, IsItemsToCome, AreLinesToCome, ComesFirst, LinesComeFirst}
+use Rattle.properties_format.specs.Reading.ItemsToCome.{text_to_come, items_to_come, natural_to_come, last_to_come}
+use Rattle.properties_format.specs.Reading.ReaderSteps.{ReadsLines, ReadsEntry}
+use Rattle.properties_format.proofs.Encodings.Pieces.{pieces_of-meets, pieces_of-only}
+use Rattle.properties_format.proofs.Lines.Meets.{lines_of-meets}
+use Rattle.properties_format.proofs.Lines.Only.{lines_of-only}
+use Rattle.properties_format.proofs.ItemsToCome.Unique.{rest_of_end-meets, rest_of_end-only, items_to_come-meets, items_to_come-only}
+
+-- ---- items
+
+-- what is equal to what is computed are the items to come
+pub are_to_come : {s : ReaderState} {d : List ℕ} {ending : InputEnd} {entries : List Entry} → items_to_come s d ending ≡ entries → IsItemsToCome s d ending entries
+are_to_come {s} {d} {ending} h = rw (← h) (items_to_come-meets s d ending)
+
+-- and the items to come are computed
+pub to_come_are : {s : ReaderState} {d : List ℕ} {ending : InputEnd} {entries : List Entry} → IsItemsToCome s d ending entries → items_to_come s d ending ≡ entries
+to_come_are {s} {d} {ending} {entries} h = sym (items_to_come-only s d ending entries h)
+
+pub comes_first : {old new : ReaderState} {bytes : List ℕ} {entry : Entry} → ReadsEntry old bytes entry new → ComesFirst old bytes entry new
+comes_first {entry = entry} h = record {
+  others = λ d ending entries k. are_to_come (h.items d ending ∙ ap (λ v. entry ∷ v) (to_come_are k));
+}
+
+pub first_comes : {old new : ReaderState} {bytes : List ℕ} {entry : Entry} → ComesFirst old bytes entry new → ReadsEntry old bytes entry new
+first_comes {new = new} h = record { items = λ d ending. to_come_are (h.others d ending (items_to_come new d ending) (items_to_come-meets new d ending)) }
+
+-- ---- natural lines
+
+natural-done : (s : ReaderState) (d : List ℕ) (ending : InputEnd) → s.is_done ≡ true → (natural_to_come s d ending ≡ []) × (last_to_come s d ending ≡ [])
+unfolding natural_to_come last_to_come
+natural-done s d ending h = (rw h refl, rw h refl)
+
+natural-going : (s : ReaderState) (d : List ℕ) (ending : InputEnd) → s.is_done ≡ false
+    → (natural_to_come s d ending ≡ numbered s.passed (lines_of (text_to_come s d)).ended (lines_of (text_to_come s d)).last ending)
+    × (last_to_come s d ending ≡ last_entries (s.passed + line_ends (lines_of (text_to_come s d))) ending)
+unfolding natural_to_come last_to_come
+natural-going s d ending h = (rw h refl, rw h refl)
+
+-- what is computed are the lines to come
+pub natural_to_come-meets : (s : ReaderState) (d : List ℕ) (ending : InputEnd) → AreLinesToCome s d ending (natural_to_come s d ending) (last_to_come s d ending)
+natural_to_come-meets s d ending = elim (cases_Bool s.is_done) [
+  | inl h ↦ inl (h, (natural-done s d ending h).0, (natural-done s d ending h).1)
+  | inr h ↦ inr (
+    h,
+    record {
+      pieces = pieces_of (in_force s d).encoding (in_force s d).body;
+      text = text_to_come s d;
+      all = lines_of (text_to_come s d);
+      are_pieces = pieces_of-meets (in_force s d).encoding (in_force s d).body;
+      after_end = rest_of_end-meets s.after_cr (characters (pieces_of (in_force s d).encoding (in_force s d).body));
+      divided = lines_of-meets (text_to_come s d);
+      are_lines = (natural-going s d ending h).0;
+      are_last = (natural-going s d ending h).1;
+    },
+  )
+]
+
+-- the lines to come are what is computed
+pub natural_to_come-only : (s : ReaderState) (d : List ℕ) (ending : InputEnd) (lines : List Line) (last : List Entry) → AreLinesToCome s d ending lines last
+    → (lines ≡ natural_to_come s d ending) × (last ≡ last_to_come s d ending)
+natural_to_come-only s d ending lines last (inl h) = let done = natural-done s d ending h.0 in (h.1 ∙ sym done.0, h.2 ∙ sym done.1)
+natural_to_come-only s d ending lines last (inr h) =
+    let f = in_force s d in
+    let k = h.1 in
+    let going = natural-going s d ending h.0 in
+    let text : List Piece → List ℕ = λ v. rest_of_end s.after_cr (characters v) in
+    let all : k.all ≡ lines_of (text_to_come s d) =
+    lines_of-only k.text k.all k.divided
+    ∙ ap lines_of (rest_of_end-only s.after_cr (characters k.pieces) k.text k.after_end)
+    ∙ ap (λ v. lines_of (text v)) (pieces_of-only f.encoding f.body k.pieces k.are_pieces) in (
+      k.are_lines ∙ ap (λ (v : Lines). numbered s.passed v.ended v.last ending) all ∙ sym going.0,
+      k.are_last ∙ ap (λ (v : Lines). last_entries (s.passed + line_ends v) ending) all ∙ sym going.1,
+    )
+
+pub lines_come_first : {old new : ReaderState} {bytes : List ℕ} {lines : List Line} → ReadsLines old bytes lines new → LinesComeFirst old bytes lines new
+lines_come_first {old} {new} {bytes} {lines} h = record {
+  others = λ d ending further last k.
+      let same = natural_to_come-only new d ending further last k in
+      let gives = h.gives d ending in
+      rw (same.0, same.1, ← gives.natural, ← gives.last) (natural_to_come-meets old (bytes ++ d) ending);
+}
+
+pub first_lines_come : {old new : ReaderState} {bytes : List ℕ} {lines : List Line} → LinesComeFirst old bytes lines new → ReadsLines old bytes lines new
+first_lines_come {old} {new} {bytes} {lines} h = record {
+  gives = λ d ending.
+      let told = h.others d ending (natural_to_come new d ending) (last_to_come new d ending) (natural_to_come-meets new d ending) in
+      let same = natural_to_come-only old (bytes ++ d) ending (lines ++ natural_to_come new d ending) (last_to_come new d ending) told in
+      record { natural = sym same.0; last = sym same.1 };
+}
