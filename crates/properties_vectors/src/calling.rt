@@ -4,5 +4,8 @@ pub mod catalogue;
 pub mod convert;
 pub mod count;
 pub mod find;
+pub mod greetings;
 pub mod lint;
 pub mod load;
+pub mod ordered;
+pub mod settings;
