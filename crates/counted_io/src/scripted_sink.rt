@@ -23,8 +23,8 @@ pub enum SinkFault {
 ///
 /// ```text
 /// let mut output = ScriptedSink::new(alloc, 1, Some(3), SinkFault::Nothing);
-/// assert_eq!(output.write_counted(b"a=b\n")?, 1);
-/// assert_eq!(output.bytes(), b"a");
+/// assert_eq!(rt; output.write_counted(b"a=b\n")?, 1);
+/// assert_eq!(rt; output.bytes(), b"a".as_slice());
 /// ```
 #[derive(Drop)]
 pub struct ScriptedSink {

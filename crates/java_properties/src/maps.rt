@@ -24,10 +24,14 @@ use std::collections::HashMap;
 /// Of two pairs with the same key the later one counts. A byte order mark at the front overrules the encoding. An
 /// error of the input is returned, and no map.
 ///
+/// Bytes of UTF-8 without a mark are read as other characters, and no error comes. And std's `HashMap` has a fixed
+/// seed: whoever writes a file can pick keys that all collide, and then this takes time that grows with the square of
+/// their number. For other encodings, and for files of strangers, there is [`read_sorted`].
+///
 /// ```text
 /// let mut input: &[u8] = b"# greetings\nhello = world";
 /// let map = read(alloc, &mut input)?;
-/// assert_eq!(rt; map.get("hello").map(String::as_str), Some("world"));
+/// assert_eq!(rt; map.get("hello").map(|value| value.as_str()), Some("world"));
 /// ```
 pub fn read<R: CountedRead>(
     alloc: Global,
@@ -63,7 +67,8 @@ fn insert_if_pair(
 
 /// Writes each entry of a map as one line, in windows-1252 and by the settings of a new writer, and flushes the sink.
 ///
-/// The keys ascend by their UTF-8 bytes. What was written is read back as the same map.
+/// The keys ascend by their UTF-8 bytes. What was written is read back as the same map. [`write_sorted`] writes other
+/// encodings.
 ///
 /// ```text
 /// let mut output = Counted::new(Vec::new(alloc));
