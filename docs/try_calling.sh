@@ -1,8 +1,9 @@
 #!/usr/bin/env bash
-# Does what docs/CALLING.md says under "In a repository of your own", command by command, in a new temporary folder, and runs
-# the programs of CALLING and of README there. It compares the examples of CALLING with their sources too.
+# Does what docs/CALLING.md says under "In a repository of your own", command by command, in a new temporary folder. There it
+# runs the programs of CALLING and of README, and the examples of the libraries' doc comments. It compares the examples of
+# CALLING with their sources, and docs/API.md with the sources too.
 #
-#     docs/try_calling.sh            half a minute: compiles and runs, and proves nothing
+#     docs/try_calling.sh            a minute or two: compiles and runs, and proves nothing
 #     docs/try_calling.sh --check    proves the two programs too, which takes some ten minutes
 set -eu
 top=$(cd "$(dirname "${BASH_SOURCE[0]}")/.." && pwd)
@@ -19,6 +20,8 @@ if wrong or missing:
     sys.exit(f"try_calling.sh: not as their sources: {wrong}; not shown: {sorted(missing)}")
 print(f"{len(examples)} examples are as their sources")
 PY
+
+"$top/docs/api.py" --check
 
 work=$(mktemp -d)
 trap 'rm -rf "$work"' EXIT
@@ -64,6 +67,11 @@ try() {
 }
 try my_program "$PWD/crates/my_program/stdin" "$work/wanted"
 try readme /dev/null "$work/wanted_of_readme"
+mkdir -p crates/examples/src
+"$top/docs/examples.py" >crates/examples/src/lib.rt
+echo 'examples: counted_io properties_text java_properties' >>crates.txt
+(cd crates/examples && rt try --test >"$work/said" 2>&1) || { cat "$work/said"; exit 1; }
+grep 'test result' "$work/said"
 if [ "${1:-}" = --check ]; then
     for name in my_program readme; do
         (cd "crates/$name" && rt check 2>&1 | tail -1)
