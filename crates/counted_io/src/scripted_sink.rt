@@ -10,7 +10,7 @@ use crate::write::CountedWrite;
 use std::alloc::Global;
 use std::io::{self, Write};
 
-/// How the write of a [`ScriptedSink`] fails that is told to.
+/// How the chosen write of a [`ScriptedSink`] fails.
 #[derive(Clone, Copy, Debug, PartialEq, Eq)]
 pub enum SinkFault {
     /// By an error of this kind.
@@ -19,7 +19,7 @@ pub enum SinkFault {
     Nothing,
 }
 
-/// A sink that keeps the bytes that it takes, takes them in small pieces, and fails where it is told to.
+/// A sink that keeps the bytes that it takes, takes them in small pieces, and fails at the call that was chosen.
 ///
 /// ```text
 /// let mut output = ScriptedSink::new(alloc, 1, Some(3), SinkFault::Nothing);

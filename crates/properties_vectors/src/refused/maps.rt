@@ -56,7 +56,7 @@ fn is_malformed(answer: &Result<HashMap<String, String>, PropertiesError>) -> bo
     }
 }
 
-// A malformed escape is told as that, or Memory is, and never another error.
+// The error of a malformed escape, or Memory, and never another.
 #[test]
 fn a_malformed_escape_of_a_map_is_told_or_memory_is(rt: HostRuntime) {
     let bytes = b"a=1\nk=\xe9\\u12".as_slice();
