@@ -10,6 +10,9 @@ import pathlib
 import re
 import sys
 
+sys.dont_write_bytecode = True
+from wrap import wrapped
+
 TOP = pathlib.Path(__file__).resolve().parent.parent
 CRATES = ["java_properties", "counted_io", "properties_text"]
 ITEM = re.compile(r"^(    )?pub (const fn|fn|struct|enum|trait|const|mod|use)\b")
@@ -158,7 +161,7 @@ def page():
                 out.append("// " + name + ": " + ", ".join(kinds))
             out.append("")
         out[-1] = "```"
-    return "\n".join(out) + "\n"
+    return wrapped("\n".join(out) + "\n")
 
 
 if __name__ == "__main__":
