@@ -19,7 +19,12 @@ def filled(lines):
     marker = MARKER.match(lines[0])
     front = marker[0] if marker else ""
     text = " ".join(" ".join(lines).split())[len(front.strip()) :].strip()
-    return textwrap.wrap(text, WIDTH, initial_indent=front, subsequent_indent=" " * len(front), break_long_words=False, break_on_hyphens=False)
+    # Code isn't broken.
+    text = re.sub("`[^`]*`", lambda code: code[0].replace(" ", "\0"), text)
+    rows = textwrap.wrap(
+        text, WIDTH, initial_indent=front, subsequent_indent=" " * len(front), break_long_words=False, break_on_hyphens=False
+    )
+    return [row.replace("\0", " ") for row in rows]
 
 
 def wrapped(text):
