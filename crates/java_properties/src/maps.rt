@@ -80,8 +80,10 @@ pub fn write<W: CountedWrite>(
     writer: &mut W,
     map: &HashMap<String, String>,
 ) -> Result<(), PropertiesError>
-    ensures writes { WritesMap W.CountedWrite windows_1252 map.now.entries writer.old result writer.new }
-    ensures reads_back { MapReadsBack W.CountedWrite windows_1252 map.now.entries writer.old result writer.new }
+    ensures writes { let entries = map.now.entries in
+        WritesMap W.CountedWrite windows_1252 entries writer.old result writer.new }
+    ensures reads_back { let entries = map.now.entries in
+        MapReadsBack W.CountedWrite windows_1252 entries writer.old result writer.new }
     ensures same_sink { IsSameSink W.CountedWrite writer.old writer.new }
 {
     let pairs = pairs_in_order(alloc, map)?;
@@ -100,7 +102,8 @@ fn write_pairs<W: CountedWrite>(
     pairs: &[(&String, &String)],
     encoding: OutputEncoding,
 ) -> Result<(), PropertiesError>
-    ensures writes { WritesPairs W.CountedWrite (output_of encoding) (texts_of pairs.now) writer.old result writer.new }
+    ensures writes { let texts = texts_of pairs.now in
+        WritesPairs W.CountedWrite (output_of encoding) texts writer.old result writer.new }
     ensures same_sink { IsSameSink W.CountedWrite writer.old writer.new }
 {
     let mut engine = Engine::new(alloc, encoding);
