@@ -17,7 +17,7 @@ use std::io::{self, Read, Write};
 /// ```text
 /// let mut output = Counted::new(Vec::new(alloc));
 /// output.write_counted(b"a=b\n")?;
-/// assert_eq!(output.faults(), 0);
+/// assert_eq!(rt; output.faults(), 0);
 /// ```
 #[derive(Drop)]
 pub struct Counted<T> {

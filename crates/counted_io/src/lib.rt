@@ -4,7 +4,7 @@
 //! keeps a number that rises at each failure, so that a caller's contract can: an error of a call is told from an
 //! invented one by the count, which rose.
 //!
-//! For tests and proofs, a scripted reader and a scripted sink cut, take and fail as they are told.
+//! For tests and proofs, a scripted reader and a scripted sink cut, take and fail as a script says.
 //!
 //! ```text
 //! let mut input = Counted::new(file);

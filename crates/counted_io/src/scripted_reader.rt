@@ -24,7 +24,7 @@ pub enum Tail {
 /// ```text
 /// let mut input = ScriptedReader::new(pieces, Tail::Fault(ErrorKind::Other));
 /// let items = read_lines(alloc, &mut input, Encoding::UTF_8);
-/// assert_eq!(input.faults(), 1);
+/// assert_eq!(rt; input.faults(), 1);
 /// ```
 #[derive(Drop)]
 pub struct ScriptedReader {

@@ -10,7 +10,7 @@ use crate::write::CountedWrite;
 use std::alloc::Global;
 use std::io::{self, Write};
 
-/// How the write of a [`ScriptedSink`] fails that is told to.
+/// How the chosen write of a [`ScriptedSink`] fails.
 #[derive(Clone, Copy, Debug, PartialEq, Eq)]
 pub enum SinkFault {
     /// By an error of this kind.
@@ -19,12 +19,12 @@ pub enum SinkFault {
     Nothing,
 }
 
-/// A sink that keeps the bytes that it takes, takes them in small pieces, and fails where it is told to.
+/// A sink that keeps the bytes that it takes, takes them in small pieces, and fails at the call that was chosen.
 ///
 /// ```text
 /// let mut output = ScriptedSink::new(alloc, 1, Some(3), SinkFault::Nothing);
-/// assert_eq!(output.write_counted(b"a=b\n")?, 1);
-/// assert_eq!(output.bytes(), b"a");
+/// assert_eq!(rt; output.write_counted(b"a=b\n")?, 1);
+/// assert_eq!(rt; output.bytes(), b"a".as_slice());
 /// ```
 #[derive(Drop)]
 pub struct ScriptedSink {

@@ -9,6 +9,8 @@ use Rattle.java_properties.specs.declared.writer.settings.LineEnding.{LineEnding
 use Rattle.java_properties.specs.declared.writer.settings.LineEnding.TheVariants.{CR, LF, CRLF}
 use Rattle.java_properties.specs.declared.error.ErrorKind.{ErrorKind}
 use Rattle.java_properties.specs.declared.error.ErrorKind.TheVariants as kind
+use Rattle.java_properties.specs.declared.error.Cause.{Cause}
+use Rattle.java_properties.specs.declared.error.Cause.TheVariants as cause
 use Rattle.java_properties.specs.declared.error.PropertiesError.{PropertiesError}
 
 -- ---- errors
@@ -41,6 +43,12 @@ abbrev pub error_display : PropertiesError → Option (List ℕ)
 error_display e =
     Some (description e.kind) ++? refused_display (option_map string_bytes e.refused)
     ++? Some (codes " (line_number = ") ++? Some (place_display e.line_number) ++? Some (codes ")")
+
+-- of a stream's own error nothing is said
+abbrev pub cause_display : Cause → Option (List ℕ)
+cause_display cause.None = Some (codes "no other error")
+cause_display (cause.Io error) = None
+cause_display cause.NotHex = Some (codes "not a hexadecimal digit")
 
 -- ---- lines and line endings
 

@@ -1,16 +1,17 @@
--- Maps of texts: what reading one and writing one does.
+-- Maps of texts: what reading one and writing one does. A map is seen as its entries, whatever its type.
 use Rattle.std.specs.Prelude.{◌≡◌, ◌⊎◌, ℕ, true, List, [], ◌∷◌, ◌++◌, map, Option, Result, Ok, Err, bytes_eq, string_bytes}
 use Rattle.std.specs.Option.{option_map}
 use Rattle.std.specs.Str.{chars}
 use Rattle.std.specs.Borrow.{Bor}
-use Rattle.std.specs.HashMap.{HashMap, get_by}
-use Rattle.std.specs.Map.{keys_of, update}
+use Rattle.std.specs.HashMap.{HashMap}
+use Rattle.std.specs.BTreeMap.{BTreeMap}
+use Rattle.std.specs.Map.{keys_of, lookup, update}
 use Rattle.std.specs.List.Sorted.{IsPermutation, IsStrictlySortedBy}
 use Rattle.std.specs.Ordering.{nat_cmp}
 use Rattle.std.specs.Cmp.Lexicographic.{slice_cmp}
 use Rattle.std.specs.declared.string.String.{String}
 use Rattle.counted_io.specs.Streams.{Reader, Sink, HasWritten}
-use Rattle.properties_format.specs.Encoding.{windows_1252}
+use Rattle.properties_format.specs.Encoding.{Encoding, windows_1252}
 use Rattle.properties_format.specs.Entries.{Content, comment, pair, Entry}
 use Rattle.properties_format.specs.Lines.{end}
 use Rattle.properties_format.specs.Items.{IsItems}
@@ -31,12 +32,16 @@ use Rattle.java_properties.specs.declared.line.Line.{Line}
 abbrev pub characters : {Z : Type 0} → String Z → List ℕ
 characters text = chars (string_bytes text)
 
+-- the entries of a map, in the order in which it keeps them
+abbrev pub Entries : Type 0 → Type 0 → Type 0
+Entries Y Z = List (String Y × String Z)
+
 -- the value of a key in a map, both as characters
-abbrev pub value_at : {Y Z S : Type 0} → HashMap (String Y) (String Z) S → List ℕ → Option (List ℕ)
-value_at m key = option_map characters (get_by (λ k. bytes_eq key (characters k)) m)
+abbrev pub value_at : {Y Z : Type 0} → Entries Y Z → List ℕ → Option (List ℕ)
+value_at entries key = option_map characters (lookup (λ k. bytes_eq key (characters k)) entries)
 
 -- A pair puts its value under its key, where there is memory, and a comment changes nothing.
-abbrev pub InsertsIfPair : {Y Z S : Type 0} → HashMap (String Y) (String Z) S → Content → Result Unit PropertiesError → HashMap (String Y) (String Z) S → Type 0
+abbrev pub InsertsIfPair : {Y Z : Type 0} → Entries Y Z → Content → Result Unit PropertiesError → Entries Y Z → Type 0
 InsertsIfPair old content (Err error) new = IsBareError kind.Memory error
 InsertsIfPair old (comment text) (Ok done) new = new ≡ old
 InsertsIfPair old (pair key value) (Ok done) new = (k : List ℕ) → value_at new k ≡ update bytes_eq (value_at old) key (Option.Some value) k
@@ -44,21 +49,26 @@ InsertsIfPair old (pair key value) (Ok done) new = (k : List ℕ) → value_at n
 -- ---- reading
 
 -- The input was read to its end, no escape is malformed, and the map has each key that a pair has, with the value of its last pair.
-pub record HasReadMap {R Y Z S : Type 0} (reader : Reader R) (from : R) (m : HashMap (String Y) (String Z) S) (to : R) : Type 0 where
+pub record HasReadMap {R Y Z : Type 0} (reader : Reader R) (e : Encoding) (from : R) (entries : Entries Y Z) (to : R) : Type 0 where
   pub lines : List Line
-  pub reads : ReadsWhole reader windows_1252 from (entries_in lines) to
-  pub is_map : IsMap (entries_in lines) (value_at m)
+  pub reads : ReadsWhole reader e from (entries_in lines) to
+  pub is_map : IsMap (entries_in lines) (value_at entries)
 
 -- Reading stopped after these items: at malformed escapes, at a fault, or since memory ran out or the numbers for lines.
-pub record StopsReadingMap {R : Type 0} (reader : Reader R) (from : R) (error : PropertiesError) (to : R) : Type 0 where
+pub record StopsReadingMap {R : Type 0} (reader : Reader R) (e : Encoding) (from : R) (error : PropertiesError) (to : R) : Type 0 where
   pub lines : List Line
-  pub stops : StopsMalformed reader windows_1252 from (entries_in lines) error to
-      ⊎ (StopsFailed reader windows_1252 from (entries_in lines) error to ⊎ StopsEarly reader windows_1252 from (entries_in lines) error to)
+  pub stops : StopsMalformed reader e from (entries_in lines) error to
+      ⊎ (StopsFailed reader e from (entries_in lines) error to ⊎ StopsEarly reader e from (entries_in lines) error to)
 
 -- What reading a map returns, and what it leaves of the reader. Ok comes at the reader's own end alone.
 abbrev pub ReadsMap : {R Y Z S : Type 0} → Reader R → R → Result (HashMap (String Y) (String Z) S) PropertiesError → R → Type 0
-ReadsMap reader from (Ok m) to = HasReadMap reader from m to
-ReadsMap reader from (Err error) to = StopsReadingMap reader from error to
+ReadsMap reader from (Ok m) to = HasReadMap reader windows_1252 from m.entries to
+ReadsMap reader from (Err error) to = StopsReadingMap reader windows_1252 from error to
+
+-- The same of a sorted map, in any encoding.
+abbrev pub ReadsSorted : {R Y Z : Type 0} → Reader R → Encoding → R → Result (BTreeMap (String Y) (String Z)) PropertiesError → R → Type 0
+ReadsSorted reader e from (Ok m) to = HasReadMap reader e from m.entries to
+ReadsSorted reader e from (Err error) to = StopsReadingMap reader e from error to
 
 -- ---- writing
 
@@ -76,8 +86,8 @@ abbrev pub texts_of : {Y Z : Type 0} → List (Bor (String Y) × Bor (String Z))
 texts_of entries = map lent_texts entries
 
 -- The pairs are the entries of the map, and their keys ascend strictly, byte by byte.
-pub record AreInOrder {Y Z S : Type 0} (m : HashMap (String Y) (String Z) S) (pairs : List Texts) : Type 0 where
-  pub entries : IsPermutation (map entry_texts m.entries) pairs
+pub record AreInOrder {Y Z : Type 0} (kept : Entries Y Z) (pairs : List Texts) : Type 0 where
+  pub entries : IsPermutation (map entry_texts kept) pairs
   pub ascend : IsStrictlySortedBy (slice_cmp nat_cmp) (keys_of pairs)
 
 -- the calls that write these pairs
@@ -87,25 +97,37 @@ call_for texts = pair_call (chars texts.0) (chars texts.1)
 abbrev pub calls_for : List Texts → List Call
 calls_for pairs = map call_for pairs
 
--- The lines of the map's pairs were written, in order, by the settings of a new writer, and the sink is flushed.
-pub record HasWrittenMap {W Y Z S : Type 0} (sink : Sink W) (m : HashMap (String Y) (String Z) S) (old new : W) : Type 0 where
-  pub pairs : List Texts
-  pub in_order : AreInOrder m pairs
-  pub written : HasWritten sink old (wrote windows_1252 default_settings 0 (calls_for pairs)) new
+-- The lines of these pairs were written, in order, by the settings of a new writer, and the sink is flushed.
+pub record HasWrittenPairs {W : Type 0} (sink : Sink W) (a : Encoding) (pairs : List Texts) (old new : W) : Type 0 where
+  pub written : HasWritten sink old (wrote a default_settings 0 (calls_for pairs)) new
   pub flushed : sink.is_flushed new ≡ true
 
--- Writing stopped, as a new writer stops that is asked for the pairs in order and then for a flush.
-pub record StopsInCalls {W Y Z S : Type 0} (sink : Sink W) (m : HashMap (String Y) (String Z) S) (old : W) (error : PropertiesError) (new : W) : Type 0 where
-  pub pairs : List Texts
-  pub in_order : AreInOrder m pairs
+-- Writing stopped, as a new writer stops that is asked for these pairs in order and then for a flush.
+pub record StopsInPairs {W : Type 0} (sink : Sink W) (a : Encoding) (pairs : List Texts) (old : W) (error : PropertiesError) (new : W) : Type 0 where
   pub writer : Writing W
-  pub stops : StopsAtCall sink (new_writer windows_1252 old) (calls_for pairs ++ (flush_call ∷ [])) error writer
+  pub stops : StopsAtCall sink (new_writer a old) (calls_for pairs ++ (flush_call ∷ [])) error writer
   pub sink_after : new ≡ writer.sink
 
+abbrev pub WritesPairs : {W : Type 0} → Sink W → Encoding → List Texts → W → Result Unit PropertiesError → W → Type 0
+WritesPairs sink a pairs old (Ok done) new = HasWrittenPairs sink a pairs old new
+WritesPairs sink a pairs old (Err error) new = StopsInPairs sink a pairs old error new
+
+-- The lines of the map's pairs were written, in the order of their keys.
+pub record HasWrittenMap {W Y Z : Type 0} (sink : Sink W) (a : Encoding) (entries : Entries Y Z) (old new : W) : Type 0 where
+  pub pairs : List Texts
+  pub in_order : AreInOrder entries pairs
+  pub writes : HasWrittenPairs sink a pairs old new
+
+-- Writing the map's pairs stopped.
+pub record StopsInMap {W Y Z : Type 0} (sink : Sink W) (a : Encoding) (entries : Entries Y Z) (old : W) (error : PropertiesError) (new : W) : Type 0 where
+  pub pairs : List Texts
+  pub in_order : AreInOrder entries pairs
+  pub stops : StopsInPairs sink a pairs old error new
+
 -- What writing a map does. Where memory runs out for the order of the pairs, the sink isn't touched.
-abbrev pub WritesMap : {W Y Z S : Type 0} → Sink W → HashMap (String Y) (String Z) S → W → Result Unit PropertiesError → W → Type 0
-WritesMap sink m old (Ok done) new = HasWrittenMap sink m old new
-WritesMap sink m old (Err error) new = Refuses kind.Memory old error new ⊎ StopsInCalls sink m old error new
+abbrev pub WritesMap : {W Y Z : Type 0} → Sink W → Encoding → Entries Y Z → W → Result Unit PropertiesError → W → Type 0
+WritesMap sink a entries old (Ok done) new = HasWrittenMap sink a entries old new
+WritesMap sink a entries old (Err error) new = Refuses kind.Memory old error new ⊎ StopsInMap sink a entries old error new
 
 -- ---- reading what was written
 
@@ -117,19 +139,19 @@ pair_of texts = (chars texts.0, chars texts.1)
 abbrev pub items_for : List Texts → List Entry
 items_for pairs = items_after 0 (map pair_of pairs)
 
--- The sink took bytes that are read back, by themselves and in windows-1252, as the map's pairs in order, one a line. They
--- have no other items, so none is malformed. The map of these items is the one that was written: each key has its value,
--- and no other key has one.
-pub record IsMapReadBack {W Y Z S : Type 0} (sink : Sink W) (m : HashMap (String Y) (String Z) S) (old new : W) : Type 0 where
+-- The sink took bytes that are read back, by themselves and in the encoding that was written, as the map's pairs in order,
+-- one a line. They have no other items, so none is malformed. The map of these items is the one that was written: each key
+-- has its value, and no other key has one.
+pub record IsMapReadBack {W Y Z : Type 0} (sink : Sink W) (a : Encoding) (entries : Entries Y Z) (old new : W) : Type 0 where
   pub bytes : List ℕ
   pub written : HasWritten sink old bytes new
   pub pairs : List Texts
-  pub in_order : AreInOrder m pairs
-  pub items : IsItems windows_1252 bytes end (items_for pairs)
-  pub only : (others : List Entry) → IsItems windows_1252 bytes end others → others ≡ items_for pairs
-  pub is_map : IsMap (items_for pairs) (value_at m)
+  pub in_order : AreInOrder entries pairs
+  pub items : IsItems a bytes end (items_for pairs)
+  pub only : (others : List Entry) → IsItems a bytes end others → others ≡ items_for pairs
+  pub is_map : IsMap (items_for pairs) (value_at entries)
 
 -- What writing a map says of reading it: where it was written, it is read back.
-abbrev pub MapReadsBack : {W Y Z S : Type 0} → Sink W → HashMap (String Y) (String Z) S → W → Result Unit PropertiesError → W → Type 0
-MapReadsBack sink m old (Ok done) new = IsMapReadBack sink m old new
-MapReadsBack sink m old (Err error) new = Unit {0}
+abbrev pub MapReadsBack : {W Y Z : Type 0} → Sink W → Encoding → Entries Y Z → W → Result Unit PropertiesError → W → Type 0
+MapReadsBack sink a entries old (Ok done) new = IsMapReadBack sink a entries old new
+MapReadsBack sink a entries old (Err error) new = Unit {0}

@@ -5,7 +5,7 @@ ghost use Rattle.std.specs.Str.{chars};
 ghost use Rattle.std.specs.String.{string_bytes};
 ghost use Rattle.properties_text.specs.Escaping.{malformed_in};
 ghost use Rattle.java_properties.specs.Errors.{kind_of, line_of, cause_of, cause_of_write, IsError, IsBareError, IsMalformed, SaysUnresolved, IsStreamError, RefusesText};
-ghost use Rattle.java_properties.specs.DisplayTexts.{description, error_display};
+ghost use Rattle.java_properties.specs.DisplayTexts.{description, cause_display, error_display};
 ghost use Rattle.java_properties.specs.declared.error.ErrorKind.TheVariants.{Io, BadCommentPrefix, BadKvSeparator, EmptyKey, TooManyLines, Failed, Memory};
 
 use properties_text::escape::{Malformed, UnescapeError};
@@ -14,6 +14,12 @@ use std::error::Error;
 use std::{fmt, io};
 
 /// What kind of error it is.
+///
+/// It prints its kind in words and no line, for messages that name the line themselves.
+///
+/// ```text
+/// println!(rt; "{name}:{number}: {}", error.kind())?;
+/// ```
 #[derive(Clone, Copy, Debug, PartialEq, Eq)]
 pub enum ErrorKind {
     /// A read, a write or a flush failed.
@@ -41,9 +47,15 @@ pub enum ErrorKind {
 }
 
 /// What an error came from.
+///
+/// It prints the stream's own error, as `entity not found`, where a stream failed.
+///
+/// ```text
+/// println!(rt; "{path}: {}", error.cause())?;
+/// ```
 #[derive(Debug, Drop)]
 pub enum Cause {
-    /// Nothing else.
+    /// The kind says all.
     None,
     /// A stream that failed.
     Io(io::Error),
@@ -251,6 +263,26 @@ impl fmt::Display for PropertiesError {
 }
 
 impl Error for PropertiesError {}
+
+impl fmt::Display for ErrorKind {
+    ghost output = { λ kind. Some (description kind) };
+
+    fn fmt<W: fmt::Write>(&self, f: &mut fmt::Formatter<W>) -> fmt::Result {
+        write!(f, "{}", self.description())
+    }
+}
+
+impl fmt::Display for Cause {
+    ghost output = { cause_display };
+
+    fn fmt<W: fmt::Write>(&self, f: &mut fmt::Formatter<W>) -> fmt::Result {
+        match self {
+            Cause::None => write!(f, "no other error"),
+            Cause::Io(error) => write!(f, "{error}"),
+            Cause::NotHex => write!(f, "not a hexadecimal digit"),
+        }
+    }
+}
 
 impl ErrorKind {
     fn description(self) -> &'static str

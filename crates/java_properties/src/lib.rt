@@ -27,6 +27,6 @@ mod writer;
 pub use error::{Cause, ErrorKind, PropertiesError};
 pub use iter::{ContentRef, Found, LineRef, PropertiesIter, Stopped, read_lines};
 pub use line::{Line, LineContent};
-pub use maps::{read, write};
+pub use maps::{read, read_sorted, write, write_sorted};
 pub use properties_text::encoding::Encoding;
 pub use writer::{Call, LineEnding, PropertiesWriter, run_calls};

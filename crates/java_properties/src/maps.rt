@@ -3,7 +3,11 @@
 ghost use Rattle.std.specs.Prelude.{IfOk};
 ghost use Rattle.counted_io.specs.Streams.{IsSameReader, IsSameSink};
 ghost use Rattle.java_properties.specs.PropertiesIter.{said};
-ghost use Rattle.java_properties.specs.Maps.{texts_of, InsertsIfPair, ReadsMap, AreInOrder, WritesMap, MapReadsBack};
+ghost use Rattle.properties_format.specs.Encoding.{windows_1252};
+ghost use Rattle.properties_text.specs.Encoding.{output_of};
+ghost use Rattle.java_properties.specs.Maps.{texts_of, InsertsIfPair, ReadsMap, AreInOrder, WritesPairs, WritesMap, MapReadsBack};
+
+mod sorted;
 
 use crate::error::PropertiesError;
 use crate::iter::items::ItemReader;
@@ -11,6 +15,7 @@ use crate::line::LineContent;
 use crate::writer::engine::{Content, Engine};
 use counted_io::{CountedRead, CountedWrite};
 use properties_text::encoding::{Encoding, OutputEncoding};
+pub use sorted::{read_sorted, write_sorted};
 use std::alloc::{AllocError, Global};
 use std::collections::HashMap;
 
@@ -19,10 +24,14 @@ use std::collections::HashMap;
 /// Of two pairs with the same key the later one counts. A byte order mark at the front overrules the encoding. An
 /// error of the input is returned, and no map.
 ///
+/// Bytes of UTF-8 without a mark are read as other characters, and no error comes. And std's `HashMap` has a fixed
+/// seed: whoever writes a file can pick keys that all collide, and then this takes time that grows with the square of
+/// their number. For other encodings, and for files of strangers, there is [`read_sorted`].
+///
 /// ```text
 /// let mut input: &[u8] = b"# greetings\nhello = world";
 /// let map = read(alloc, &mut input)?;
-/// assert_eq!(map.get("hello").map(String::as_str), Some("world"));
+/// assert_eq!(rt; map.get("hello").map(|value| value.as_str()), Some("world"));
 /// ```
 pub fn read<R: CountedRead>(
     alloc: Global,
@@ -45,7 +54,7 @@ fn insert_if_pair(
     map: &mut HashMap<String, String>,
     content: LineContent,
 ) -> Result<(), PropertiesError>
-    ensures { InsertsIfPair map.old (said content) result map.new }
+    ensures { InsertsIfPair map.old.entries (said content) result map.new.entries }
 {
     match content {
         LineContent::Comment(_text) => Ok(()),
@@ -58,7 +67,8 @@ fn insert_if_pair(
 
 /// Writes each entry of a map as one line, in windows-1252 and by the settings of a new writer, and flushes the sink.
 ///
-/// The keys ascend by their UTF-8 bytes. What was written is read back as the same map.
+/// The keys ascend by their UTF-8 bytes. What was written is read back as the same map. [`write_sorted`] writes other
+/// encodings.
 ///
 /// ```text
 /// let mut output = Counted::new(Vec::new(alloc));
@@ -70,13 +80,34 @@ pub fn write<W: CountedWrite>(
     writer: &mut W,
     map: &HashMap<String, String>,
 ) -> Result<(), PropertiesError>
-    ensures writes { WritesMap W.CountedWrite map.now writer.old result writer.new }
-    ensures reads_back { MapReadsBack W.CountedWrite map.now writer.old result writer.new }
+    ensures writes { let entries = map.now.entries in
+        WritesMap W.CountedWrite windows_1252 entries writer.old result writer.new }
+    ensures reads_back { let entries = map.now.entries in
+        MapReadsBack W.CountedWrite windows_1252 entries writer.old result writer.new }
     ensures same_sink { IsSameSink W.CountedWrite writer.old writer.new }
 {
     let pairs = pairs_in_order(alloc, map)?;
-    let mut engine = Engine::new(alloc, OutputEncoding::from(Encoding::WINDOWS_1252));
-    for (key, value) in &pairs {
+    write_pairs(
+        alloc,
+        writer,
+        &pairs,
+        OutputEncoding::from(Encoding::WINDOWS_1252),
+    )
+}
+
+// Writes these pairs in turn, by the settings of a new writer, and flushes the sink.
+fn write_pairs<W: CountedWrite>(
+    alloc: Global,
+    writer: &mut W,
+    pairs: &[(&String, &String)],
+    encoding: OutputEncoding,
+) -> Result<(), PropertiesError>
+    ensures writes { let texts = texts_of pairs.now in
+        WritesPairs W.CountedWrite (output_of encoding) texts writer.old result writer.new }
+    ensures same_sink { IsSameSink W.CountedWrite writer.old writer.new }
+{
+    let mut engine = Engine::new(alloc, encoding);
+    for (key, value) in pairs {
         engine.write_line(writer, Content::KVPair(key.as_str(), value.as_str()))?;
     }
     engine.flush(writer)
@@ -87,7 +118,7 @@ fn pairs_in_order<'a>(
     alloc: Global,
     map: &'a HashMap<String, String>,
 ) -> Result<Vec<(&'a String, &'a String)>, AllocError>
-    ensures { IfOk result (λ pairs. AreInOrder map.now (texts_of pairs.items)) }
+    ensures { IfOk result (λ pairs. AreInOrder map.now.entries (texts_of pairs.items)) }
 {
     let mut pairs = Vec::with_capacity(alloc, map.len())?;
     for (key, value) in map {

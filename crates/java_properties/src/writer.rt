@@ -23,7 +23,7 @@ mod settings;
 pub use calls::{Call, run_calls};
 pub use settings::LineEnding;
 
-/// Writes comments and pairs to a sink, one a line.
+/// Writes comments and pairs to a sink, one per line.
 ///
 /// A line is built whole before its first byte goes out. After a fault of the sink in a line, the sink holds a part
 /// of that line, and the writer has failed: nothing more is sent, and lines and flushes are refused by the kind

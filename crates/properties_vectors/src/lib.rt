@@ -16,4 +16,6 @@ mod reading;
 #[cfg(test)]
 mod refused;
 #[cfg(test)]
+mod sorted_maps;
+#[cfg(test)]
 mod writing;

@@ -76,7 +76,7 @@ fn read_pairs(
     Ok((pairs, answer))
 }
 
-// The pairs, one a line.
+// The pairs, one per line.
 fn text_of(alloc: Global, pairs: &[(String, String)]) -> Result<String, AllocError> {
     let mut text = String::new(alloc);
     for (key, value) in pairs {

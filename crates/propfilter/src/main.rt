@@ -1,4 +1,4 @@
-//! Reads the pairs of a properties file from standard input, and prints them on standard output, one a line.
+//! Reads the pairs of a properties file from standard input, and prints them on standard output, one per line.
 #![tactic(auto)]
 
 mod filter;

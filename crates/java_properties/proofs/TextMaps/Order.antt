@@ -14,11 +14,11 @@ use Rattle.std.specs.declared.cmp.Ordering.TheVariants.{Less, Equal, Greater}
 use Rattle.std.specs.declared.string.String.{String}
 use Rattle.std.proofs.lemmas.List.{get_or-map, length-map}
 use Rattle.std.proofs.lemmas.Simd.{map-map}
-use Rattle.std.proofs.lemmas.List.Sorted.{IsPermutation-map}
+use Rattle.std.proofs.lemmas.List.Sorted.{IsPermutation-map, IsPermutation-refl}
 use Rattle.std.proofs.lemmas.Map.Keys.{IsDistinct-head, IsDistinct-tail, IsDistinct-cons, IsDistinct-from_apart, IsDistinct-IsPermutation, apart_from_distinct, sorted_from_all_adjacent}
 use Rattle.std.proofs.lemmas.Map.Lookups.{exact_bytes}
 use Rattle.std.proofs.lemmas.Slice.Eq.{bytes_eq-Decides}
-use Rattle.java_properties.specs.Maps.{entry_texts, lent_texts, texts_of, AreInOrder}
+use Rattle.java_properties.specs.Maps.{Entries, entry_texts, lent_texts, texts_of, AreInOrder}
 use Rattle.java_properties.proofs.TextMaps.Values.{flipped}
 
 -- of two keys that differ, the one that isn't greater is less
@@ -80,7 +80,7 @@ module _ {Y Z : Type 0} where
 
 -- the entries of a map, after they were sorted
 pub in-order : {Y Z S : Type 0} (m : HashMap (String Y) (String Z) S) (xs ys : List (Bor (String Y) × Bor (String Z))) → texts_of xs ≡ map entry_texts m.entries
-    → IsUnique string_eq m → IsPermutation xs ys → IsSorted (pair_cmp {Y = Y} {Z = Z}) ys → AreInOrder m (texts_of ys)
+    → IsUnique string_eq m → IsPermutation xs ys → IsSorted (pair_cmp {Y = Y} {Z = Z}) ys → AreInOrder m.entries (texts_of ys)
 in-order {Y} {Z} m xs ys all unique moved sorted =
     let P : List (List ℕ × List ℕ) → Type 0 = λ v. IsPermutation v (texts_of ys) in
     let entries = subst P all (IsPermutation-map lent_texts xs ys moved) in
@@ -89,3 +89,22 @@ in-order {Y} {Z} m xs ys all unique moved sorted =
     let Q : List (List ℕ) → Type 0 = IsDistinct bytes_eq in
     let A : List (List ℕ) → Type 0 = IsStrictlySortedBy (slice_cmp nat_cmp) in
     record { entries = entries; ascend = subst A (sym (keys-are ys)) (strict ys sorted (subst Q (keys-are ys) distinct)) }
+
+-- ---- the entries of a sorted map
+
+all-less : {Y Z : Type 0} (key : String Y) (entries : Entries Y Z) → AllByRecursion (λ k. string_cmp key k ≡ Less) (keys_of entries)
+    → AllByRecursion (λ k. slice_cmp nat_cmp (string_bytes key) k ≡ Less) (keys_of (map entry_texts entries))
+all-less key [] h = tt
+all-less key (e ∷ entries) h = (h.0, all-less key entries h.1)
+
+ascend-bytes : {Y Z : Type 0} (entries : Entries Y Z) → IsStrictlySortedBy string_cmp (keys_of entries) → IsStrictlySortedBy (slice_cmp nat_cmp) (keys_of (map entry_texts entries))
+unfolding IsStrictlySortedBy
+ascend-bytes [] up = tt
+ascend-bytes (e ∷ entries) up = (all-less e.0 entries up.0, ascend-bytes entries up.1)
+
+-- they are in order as they stand
+pub sorted-in-order : {Y Z : Type 0} (entries : Entries Y Z) (xs : List (Bor (String Y) × Bor (String Z))) → texts_of xs ≡ map entry_texts entries
+    → IsStrictlySortedBy string_cmp (keys_of entries) → AreInOrder entries (texts_of xs)
+sorted-in-order entries xs all up =
+    let P : List (List ℕ × List ℕ) → Type 0 = AreInOrder entries in
+    subst P (sym all) (record { entries = IsPermutation-refl (map entry_texts entries); ascend = ascend-bytes entries up })

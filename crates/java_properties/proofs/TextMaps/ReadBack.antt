@@ -1,9 +1,8 @@
 -- A map that was written is read back as it was.
-use Rattle.std.proofs.Common.{◌≡◌, ◌≢◌, ℕ, Bool, true, false, List, [], ◌∷◌, ◌++◌, refl, ap, sym, ◌∙◌, subst, append_assoc}
+use Rattle.std.proofs.Common.{◌≡◌, ◌≢◌, ℕ, Bool, true, false, List, [], ◌∷◌, ◌++◌, refl, ap, sym, ◌∙◌, inr, subst, append_assoc}
 use Rattle.std.specs.Prelude.{All, map, Option, Some, None, Result, Ok, Err, bytes_eq}
 use Rattle.std.specs.Option.{option_map}
 use Rattle.std.specs.Str.{chars, IsUtf8}
-use Rattle.std.specs.HashMap.{HashMap}
 use Rattle.std.specs.List.{AllByRecursion}
 use Rattle.std.specs.List.Sorted.{IsPermutation}
 use Rattle.std.specs.Map.{lookup}
@@ -14,7 +13,7 @@ use Rattle.std.proofs.lemmas.Slice.Eq.{bytes_eq-Decides}
 use Rattle.std.proofs.lemmas.Str.{IsUtf8-string_bytes}
 use Rattle.counted_io.specs.Streams.{Sink, HasWritten}
 use Rattle.properties_format.specs.Text.{scalar}
-use Rattle.properties_format.specs.Encoding.{windows_1252}
+use Rattle.properties_format.specs.Encoding.{Encoding, windows_1252, utf_8, utf_16le, utf_16be, output_encoding}
 use Rattle.properties_format.specs.Lines.{end}
 use Rattle.properties_format.specs.Items.{IsItems}
 use Rattle.properties_format.specs.Maps.{IsValue}
@@ -28,7 +27,7 @@ use Rattle.properties_format.proofs.Maps.{value_in-meets, value_in-only}
 use Rattle.properties_format.proofs.Laws.{no-pair, value-among}
 use Rattle.properties_format.proofs.ReadBack.Law.{default_settings-good}
 use Rattle.properties_format.proofs.ReadBack.Lists.{items_of-pairs}
-use Rattle.java_properties.specs.Maps.{Texts, characters, value_at, entry_texts, calls_for, pair_of, items_for, WritesMap, MapReadsBack}
+use Rattle.java_properties.specs.Maps.{Entries, Texts, characters, value_at, entry_texts, calls_for, pair_of, items_for, AreInOrder, WritesPairs, WritesMap, MapReadsBack}
 use Rattle.java_properties.specs.declared.error.PropertiesError.{PropertiesError}
 use Rattle.java_properties.proofs.ReadBack.Scalars.{string-scalars}
 use Rattle.java_properties.proofs.TextMaps.Distinct.{AreKeysUtf8, ascending-distinct}
@@ -136,26 +135,39 @@ texts-scalars : (pairs : List Texts) → AllByRecursion AreTexts pairs → ArePa
 texts-scalars [] h = tt
 texts-scalars (texts ∷ pairs) h = ((h.0.1, h.0.2), texts-scalars pairs h.1)
 
+-- The pairs of a map that were written in order are the map that was written.
+pub writes-map : {W Y Z : Type 0} (sink : Sink W) (a : Encoding) (entries : Entries Y Z) (pairs : List Texts) (old new : W) (result : Result Unit PropertiesError)
+    → AreInOrder entries pairs → WritesPairs sink a pairs old result new → WritesMap sink a entries old result new
+writes-map sink a entries pairs old new (Ok done) in_order h = record { pairs = pairs; in_order = in_order; writes = h }
+writes-map sink a entries pairs old new (Err error) in_order h = inr (record { pairs = pairs; in_order = in_order; stops = h })
+
 -- What writing a map says of reading it.
-pub writes-read_back : {W Y Z S : Type 0} (sink : Sink W) (m : HashMap (String Y) (String Z) S) (old new : W) (result : Result Unit PropertiesError)
-    → WritesMap sink m old result new → MapReadsBack sink m old result new
-writes-read_back sink m old new (Err error) h = tt
-writes-read_back sink m old new (Ok done) h =
-    let xs = map entry_texts m.entries in
+pub writes-read_back : {W Y Z : Type 0} (sink : Sink W) (a : Encoding) (entries : Entries Y Z) (old new : W) (result : Result Unit PropertiesError)
+    → output_encoding a ≡ a → WritesMap sink a entries old result new → MapReadsBack sink a entries old result new
+writes-read_back sink a entries old new (Err error) own h = tt
+writes-read_back sink a entries old new (Ok done) own h =
+    let xs = map entry_texts entries in
     let ps = map pair_of h.pairs in
-    let bytes = wrote windows_1252 default_settings 0 (calls_of ps) in
-    let texts = recursion_from_All AreTexts h.pairs (All-permutation AreTexts xs h.pairs h.in_order.entries (All-from_recursion AreTexts xs (entries-texts m.entries))) in
+    let bytes = wrote a default_settings 0 (calls_of ps) in
+    let texts = recursion_from_All AreTexts h.pairs (All-permutation AreTexts xs h.pairs h.in_order.entries (All-from_recursion AreTexts xs (entries-texts entries))) in
     let distinct = ascending-distinct h.pairs (texts-utf8 h.pairs texts) h.in_order.ascend in
     let moved = IsPermutation-map pair_of xs h.pairs h.in_order.entries in
-    let told = items_of-pairs windows_1252 default_settings refl default_settings-good ps (pairs-accepted ps) (texts-scalars h.pairs texts) in
+    let told = items_of-pairs a default_settings own default_settings-good ps (pairs-accepted ps) (texts-scalars h.pairs texts) in
     record {
       bytes = bytes;
-      written = subst (λ v. HasWritten sink old (wrote windows_1252 default_settings 0 v) new) (calls-are h.pairs) h.written;
+      written = subst (λ v. HasWritten sink old (wrote a default_settings 0 v) new) (calls-are h.pairs) h.writes.written;
       pairs = h.pairs;
       in_order = h.in_order;
-      items = subst (IsItems windows_1252 bytes end) told (items_of-meets windows_1252 bytes end);
-      only = λ others is. items_of-only windows_1252 bytes end others is ∙ told;
+      items = subst (IsItems a bytes end) told (items_of-meets a bytes end);
+      only = λ others is. items_of-only a bytes end others is ∙ told;
       is_map = λ key.
-          let same = among-value_in ps key (value_at m key) distinct (moved-among (map pair_of xs) ps key (value_at m key) moved (entries-say key m.entries)) in
+          let same = among-value_in ps key (value_at entries key) distinct (moved-among (map pair_of xs) ps key (value_at entries key) moved (entries-say key entries)) in
           subst (IsValue (items_for h.pairs) key) (sym same) (value_in-meets (items_for h.pairs) key);
     }
+
+-- what is written is an encoding that is written
+pub output-own : (e : Encoding) → output_encoding (output_encoding e) ≡ output_encoding e
+output-own windows_1252 = refl
+output-own utf_8 = refl
+output-own utf_16le = refl
+output-own utf_16be = refl

@@ -2,10 +2,8 @@
 use Rattle.std.proofs.Common.{◌≡◌, ℕ, false, List, [], ◌∷◌, ◌++◌, refl, sym, inl, inr, subst}
 use Rattle.std.specs.Prelude.{◌⊎◌, Ok}
 use Rattle.std.proofs.lemmas.List.{map-append}
-use Rattle.std.specs.HashMap.{HashMap}
-use Rattle.std.specs.declared.string.String.{String}
 use Rattle.counted_io.specs.Streams.{Reader}
-use Rattle.properties_format.specs.Encoding.{windows_1252}
+use Rattle.properties_format.specs.Encoding.{Encoding}
 use Rattle.properties_format.specs.ItemsToCome.{ReaderState, start}
 use Rattle.properties_format.specs.Entries.{Content, comment, pair, Entry, item}
 use Rattle.properties_format.specs.Maps.{IsMap}
@@ -16,63 +14,63 @@ use Rattle.java_properties.specs.LineJoiner.{JoinsError}
 use Rattle.java_properties.specs.PropertiesIter.{said, entry_of}
 use Rattle.java_properties.specs.GivenItems.{GivesEntry, GivesNone, GivesMalformed}
 use Rattle.java_properties.specs.ReadLines.{entries_in}
-use Rattle.java_properties.specs.Maps.{value_at, InsertsIfPair, HasReadMap, StopsReadingMap}
+use Rattle.java_properties.specs.Maps.{Entries, value_at, InsertsIfPair, HasReadMap, StopsReadingMap}
 use Rattle.java_properties.specs.declared.error.ErrorKind.TheVariants as kind
 use Rattle.java_properties.specs.declared.error.PropertiesError.{PropertiesError}
 use Rattle.java_properties.specs.declared.line.Line.{Line}
 use Rattle.java_properties.proofs.Readings.{Collected, collected-start, collected-next, collected-none, collected-lost, collected-malformed, collected-error}
 
 -- These lines came so far, and the map is theirs.
-pub record HasPassed {R Y Z S : Type 0} (reader : Reader R) (from : R) (m : HashMap (String Y) (String Z) S) (state : ReaderState) (to : R) : Type 0 where
+pub record HasPassed {R Y Z : Type 0} (reader : Reader R) (e : Encoding) (from : R) (m : Entries Y Z) (state : ReaderState) (to : R) : Type 0 where
   pub lines : List Line
   pub bytes : List ℕ
-  pub collected : Collected reader windows_1252 from bytes (entries_in lines) state to
+  pub collected : Collected reader e from bytes (entries_in lines) state to
   pub is_map : IsMap (entries_in lines) (value_at m)
 
 entries-more : (lines : List Line) (line : Line) → entries_in lines ++ (entry_of line ∷ []) ≡ entries_in (lines ++ (line ∷ []))
 entries-more lines line = sym (map-append entry_of lines (line ∷ []))
 
-module _ {R Y Z S : Type 0} {reader : Reader R} where
+module _ {R Y Z : Type 0} {reader : Reader R} {e : Encoding} where
   -- before the first item
-  pub passed-none : (from : R) (m : HashMap (String Y) (String Z) S) → m.entries ≡ [] → HasPassed reader from m (start windows_1252) from
+  pub passed-none : (from : R) (m : Entries Y Z) → m ≡ [] → HasPassed reader e from m (start e) from
   passed-none from m empty = record {
     lines = [];
     bytes = [];
-    collected = collected-start windows_1252 from;
+    collected = collected-start e from;
     is_map = map-none (value_at m) (λ key. rw empty refl);
   }
 
   -- an item came, and went into the map if it is a pair
-  pub passed-more : {from to next : R} {m n : HashMap (String Y) (String Z) S} {s t : ReaderState} (line : Line) → HasPassed reader from m s to
-      → GivesEntry reader s to (entry_of line) t next → InsertsIfPair m (said (content_of line)) (Ok tt) n → HasPassed reader from n t next
+  pub passed-more : {from to next : R} {m n : Entries Y Z} {s t : ReaderState} (line : Line) → HasPassed reader e from m s to
+      → GivesEntry reader s to (entry_of line) t next → InsertsIfPair m (said (content_of line)) (Ok tt) n → HasPassed reader e from n t next
   passed-more {from = from} {next = next} {m = m} {n = n} {t = t} line h g k = record {
     lines = h.lines ++ (line ∷ []);
     bytes = h.bytes ++ g.bytes;
-    collected = let P : List Entry → Type 0 = λ v. Collected reader windows_1252 from (h.bytes ++ g.bytes) v t next in
+    collected = let P : List Entry → Type 0 = λ v. Collected reader e from (h.bytes ++ g.bytes) v t next in
         subst P (entries-more h.lines line) (collected-next h.collected g);
     is_map = let P : List Entry → Type 0 = λ v. IsMap v (value_at n) in subst P (entries-more h.lines line) (by-content (said (content_of line)) k);
   }
     where
       by-content : (c : Content) → InsertsIfPair m c (Ok tt) n → IsMap (entries_in h.lines ++ (item (number_of line) c ∷ [])) (value_at n)
       by-content (comment text) k =
-          let P : HashMap (String Y) (String Z) S → Type 0 = λ v. IsMap (entries_in h.lines ++ (item (number_of line) (comment text) ∷ [])) (value_at v) in
+          let P : Entries Y Z → Type 0 = λ v. IsMap (entries_in h.lines ++ (item (number_of line) (comment text) ∷ [])) (value_at v) in
           subst P (sym k) (map-comment (entries_in h.lines) (number_of line) text (value_at m) h.is_map)
       by-content (pair key value) k = map-pair (entries_in h.lines) (number_of line) key value (value_at m) (value_at n) h.is_map k
 
   -- an item came for which there was no memory
-  pub passed-lost : {from to next : R} {m : HashMap (String Y) (String Z) S} {s t : ReaderState} {error : PropertiesError} (line : Line) → HasPassed reader from m s to
-      → GivesEntry reader s to (entry_of line) t next → IsBareError kind.Memory error → StopsReadingMap reader from error next
+  pub passed-lost : {from to next : R} {m : Entries Y Z} {s t : ReaderState} {error : PropertiesError} (line : Line) → HasPassed reader e from m s to
+      → GivesEntry reader s to (entry_of line) t next → IsBareError kind.Memory error → StopsReadingMap reader e from error next
   passed-lost line h g is = record { lines = h.lines; stops = inr (inr (collected-lost h.collected g is)) }
 
   -- an error came
-  pub passed-error : {from to next : R} {m : HashMap (String Y) (String Z) S} {s t : ReaderState} {error : PropertiesError} → HasPassed reader from m s to
-      → s.is_done ≡ false → GivesMalformed reader s to error next ⊎ JoinsError reader s to error t next → StopsReadingMap reader from error next
+  pub passed-error : {from to next : R} {m : Entries Y Z} {s t : ReaderState} {error : PropertiesError} → HasPassed reader e from m s to
+      → s.is_done ≡ false → GivesMalformed reader s to error next ⊎ JoinsError reader s to error t next → StopsReadingMap reader e from error next
   passed-error h live k = record {
     lines = h.lines;
     stops = elim k [ inl m ↦ inl (collected-malformed h.collected live m) | inr j ↦ inr (collected-error h.collected live j) ];
   }
 
   -- no item comes any more
-  pub passed-all : {from to next : R} {m : HashMap (String Y) (String Z) S} {s t : ReaderState} → HasPassed reader from m s to
-      → GivesNone reader s to t next → HasReadMap reader from m next
+  pub passed-all : {from to next : R} {m : Entries Y Z} {s t : ReaderState} → HasPassed reader e from m s to
+      → GivesNone reader s to t next → HasReadMap reader e from m next
   passed-all h n = record { lines = h.lines; reads = collected-none h.collected n; is_map = h.is_map }

@@ -3,15 +3,20 @@ use Rattle.std.proofs.Common.{◌≡◌, ℕ, Bool, true, false, List, [], ◌�
 use Rattle.std.specs.Prelude.{Option, Some, None, bytes_eq, string_bytes, cond}
 use Rattle.std.specs.Option.{option_map}
 use Rattle.std.specs.Str.{chars, all_scalars, encode_utf8_all, IsUtf8}
-use Rattle.std.specs.String.{string_eq}
-use Rattle.std.specs.HashMap.{HashMap, UpdatesBy, get_by_text}
+use Rattle.std.specs.String.{string_eq, string_cmp}
+use Rattle.std.specs.HashMap.{HashMap}
+use Rattle.std.specs.HashMap as hashed
+use Rattle.std.specs.BTreeMap.{BTreeMap}
+use Rattle.std.specs.BTreeMap as sorted
+use Rattle.std.specs.Ordering.{nat_cmp, is_eq}
+use Rattle.std.specs.Cmp.Lexicographic.{slice_cmp}
 use Rattle.std.specs.Map.{lookup, update}
 use Rattle.std.specs.declared.string.String.{String}
 use Rattle.std.proofs.lemmas.Bool.{cases_Bool, cond-false, false_from_ne_true}
-use Rattle.std.proofs.lemmas.Map.Text.{hash_map_updates_text}
+use Rattle.std.proofs.lemmas.Map.Text.{hash_map_updates_text, btree_map_updates_text, is_eq-slice_cmp}
 use Rattle.std.proofs.lemmas.Slice.Eq.{bytes_eq-Decides}
 use Rattle.std.proofs.lemmas.Str.{IsUtf8-string_bytes, chars-encodes, encodes-chars, scalars-chars}
-use Rattle.java_properties.specs.Maps.{characters, value_at}
+use Rattle.java_properties.specs.Maps.{Entries, characters, value_at}
 
 -- two tests that pass together
 together : (a b : Bool) → (a ≡ true → b ≡ true) → (b ≡ true → a ≡ true) → a ≡ b
@@ -52,30 +57,60 @@ chosen : {Z : Type 0} (b : Bool) (value : String Z) (o : Option (String Z))
 chosen true value o = refl
 chosen false value o = refl
 
--- what a map has at characters is what it has at their bytes
-by-bytes : {Y Z S : Type 0} (k : List ℕ) → all_scalars k ≡ true → (f : HashMap (String Y) (String Z) S) → value_at f k ≡ option_map characters (get_by_text f (encode_utf8_all k))
-by-bytes k s f = ap (option_map characters) (lookup-same (λ x. bytes_eq k (characters x)) (λ x. bytes_eq (encode_utf8_all k) (string_bytes x)) (sought k s) f.entries)
+-- the value of the key that has these bytes
+abbrev at_bytes : {Y Z : Type 0} → Entries Y Z → List ℕ → Option (String Z)
+at_bytes entries bytes = lookup (λ x. bytes_eq bytes (string_bytes x)) entries
+
+-- a value was put under a key, by the bytes of the keys
+abbrev IsPut : {Y Z : Type 0} → Entries Y Z → String Y → String Z → Entries Y Z → Type 0
+IsPut old key value new = (bytes : List ℕ) → at_bytes new bytes ≡ update bytes_eq (at_bytes old) (string_bytes key) (Some value) bytes
+
+-- what entries have at characters is what they have at their bytes
+by-bytes : {Y Z : Type 0} (k : List ℕ) → all_scalars k ≡ true → (f : Entries Y Z) → value_at f k ≡ option_map characters (at_bytes f (encode_utf8_all k))
+by-bytes k s f = ap (option_map characters) (lookup-same (λ x. bytes_eq k (characters x)) (λ x. bytes_eq (encode_utf8_all k) (string_bytes x)) (sought k s) f)
 
 -- What a map has at the characters of a text is what `get` finds by that text.
-pub value_at_text : {Y Z S : Type 0} (f : HashMap (String Y) (String Z) S) (key : List ℕ) → IsUtf8 key → value_at f (chars key) ≡ option_map characters (get_by_text f key)
-value_at_text f key is = by-bytes (chars key) (scalars-chars key is) f ∙ ap (λ bytes. option_map characters (get_by_text f bytes)) (encodes-chars key is)
+pub value_at_text : {Y Z S : Type 0} (f : HashMap (String Y) (String Z) S) (key : List ℕ) → IsUtf8 key → value_at f.entries (chars key) ≡ option_map characters (hashed.get_by_text f key)
+value_at_text f key is =
+    by-bytes (chars key) (scalars-chars key is) f.entries
+    ∙ ap (λ bytes. option_map characters (at_bytes f.entries bytes)) (encodes-chars key is)
 
-module _ {Y Z S : Type 0} (m n : HashMap (String Y) (String Z) S) (key : String Y) (value : String Z) (h : UpdatesBy string_eq (string_eq key) m n (Some value)) (k : List ℕ) where
-  of-text : all_scalars k ≡ true → value_at n k ≡ update bytes_eq (value_at m) (characters key) (Some (characters value)) k
+module _ {Y Z : Type 0} (old new : Entries Y Z) (key : String Y) (value : String Z) (h : IsPut old key value new) (k : List ℕ) where
+  of-text : all_scalars k ≡ true → value_at new k ≡ update bytes_eq (value_at old) (characters key) (Some (characters value)) k
   of-text s =
-      by-bytes k s n
-      ∙ ap (option_map characters) (hash_map_updates_text (string_bytes key) m n (Some value) h (encode_utf8_all k))
-      ∙ chosen (bytes_eq (string_bytes key) (encode_utf8_all k)) value (get_by_text m (encode_utf8_all k))
-      ∙ ap (λ b. cond b (Some (characters value)) (option_map characters (get_by_text m (encode_utf8_all k))))
+      by-bytes k s new
+      ∙ ap (option_map characters) (h (encode_utf8_all k))
+      ∙ chosen (bytes_eq (string_bytes key) (encode_utf8_all k)) value (at_bytes old (encode_utf8_all k))
+      ∙ ap (λ b. cond b (Some (characters value)) (option_map characters (at_bytes old (encode_utf8_all k))))
       (flipped (string_bytes key) (encode_utf8_all k) ∙ sym (sought k s key) ∙ flipped k (characters key))
-      ∙ ap (λ o. cond (bytes_eq (characters key) k) (Some (characters value)) o) (sym (by-bytes k s m))
+      ∙ ap (λ o. cond (bytes_eq (characters key) k) (Some (characters value)) o) (sym (by-bytes k s old))
 
-  of-none : all_scalars k ≡ false → value_at n k ≡ update bytes_eq (value_at m) (characters key) (Some (characters value)) k
+  of-none : all_scalars k ≡ false → value_at new k ≡ update bytes_eq (value_at old) (characters key) (Some (characters value)) k
   of-none s =
-      ap (option_map characters) (lookup-never (λ x. bytes_eq k (characters x)) (no-key k s) n.entries)
-      ∙ sym (ap (option_map characters) (lookup-never (λ x. bytes_eq k (characters x)) (no-key k s) m.entries))
-      ∙ sym (cond-false (bytes_eq (characters key) k) (Some (characters value)) (value_at m k) (flipped (characters key) k ∙ no-key k s key))
+      ap (option_map characters) (lookup-never (λ x. bytes_eq k (characters x)) (no-key k s) new)
+      ∙ sym (ap (option_map characters) (lookup-never (λ x. bytes_eq k (characters x)) (no-key k s) old))
+      ∙ sym (cond-false (bytes_eq (characters key) k) (Some (characters value)) (value_at old k) (flipped (characters key) k ∙ no-key k s key))
 
   -- after an insertion
-  pub value-inserted : value_at n k ≡ update bytes_eq (value_at m) (characters key) (Some (characters value)) k
-  value-inserted = elim (cases_Bool (all_scalars k)) [ inl s ↦ of-text s | inr s ↦ of-none s ]
+  value-put : value_at new k ≡ update bytes_eq (value_at old) (characters key) (Some (characters value)) k
+  value-put = elim (cases_Bool (all_scalars k)) [ inl s ↦ of-text s | inr s ↦ of-none s ]
+
+-- after an insertion into a hash map
+pub value-inserted : {Y Z S : Type 0} (m n : HashMap (String Y) (String Z) S) (key : String Y) (value : String Z) → hashed.UpdatesBy string_eq (string_eq key) m n (Some value)
+    → (k : List ℕ) → value_at n.entries k ≡ update bytes_eq (value_at m.entries) (characters key) (Some (characters value)) k
+value-inserted m n key value h = value-put m.entries n.entries key value (hash_map_updates_text (string_bytes key) m n (Some value) h)
+
+-- after an insertion into a sorted map
+pub value-inserted-sorted : {Y Z : Type 0} (m n : BTreeMap (String Y) (String Z)) (key : String Y) (value : String Z) → sorted.UpdatesBy string_cmp (string_cmp key) m n (Some value)
+    → (k : List ℕ) → value_at n.entries k ≡ update bytes_eq (value_at m.entries) (characters key) (Some (characters value)) k
+value-inserted-sorted {Y} {Z} m n key value h = value-put m.entries n.entries key value put
+  where
+    by-order : (f : BTreeMap (String Y) (String Z)) (bytes : List ℕ) → at_bytes f.entries bytes ≡ sorted.get_by_text f bytes
+    by-order f bytes = lookup-same (λ x. bytes_eq bytes (string_bytes x)) (λ x. is_eq (slice_cmp nat_cmp bytes (string_bytes x)))
+        (λ x. sym (is_eq-slice_cmp bytes (string_bytes x))) f.entries
+
+    put : IsPut m.entries key value n.entries
+    put bytes =
+        by-order n bytes
+        ∙ btree_map_updates_text (string_bytes key) m n (Some value) h bytes
+        ∙ ap (λ o. cond (bytes_eq (string_bytes key) bytes) (Some value) o) (sym (by-order m bytes))

@@ -3,13 +3,12 @@ use Rattle.std.proofs.Common.{◌≡◌, ℕ, ◌+◌, ◌<◌, ◌≤◌, true,
 use Rattle.std.specs.Prelude.{map, Result, Ok, Err, string_bytes}
 use Rattle.std.specs.Borrow.{Bor}
 use Rattle.std.specs.Str.{chars}
-use Rattle.std.specs.HashMap.{HashMap}
 use Rattle.std.specs.declared.string.String.{String}
 use Rattle.std.proofs.lemmas.List.{length-map, take_all}
 use Rattle.std.proofs.lemmas.Simd.{map-map}
 use Rattle.counted_io.specs.Streams.{Sink}
 use Rattle.counted_io.proofs.Streams.{written-flushed}
-use Rattle.properties_format.specs.Encoding.{windows_1252}
+use Rattle.properties_format.specs.Encoding.{Encoding}
 use Rattle.properties_format.specs.Entries.{pair}
 use Rattle.properties_format.specs.Settings.{default_settings}
 use Rattle.properties_format.specs.Writing.{Call, pair_call, flush_call, is_accepted, settings_after}
@@ -18,7 +17,7 @@ use Rattle.java_properties.specs.Engine.{writing}
 use Rattle.java_properties.specs.Errors.{kind_of}
 use Rattle.java_properties.specs.PropertiesWriter.{Writing, new_writer, WritesLine, Flushes, HasWrittenLine, IsRefusedBy}
 use Rattle.java_properties.specs.Calls.{HasMade, is_not_accepted}
-use Rattle.java_properties.specs.Maps.{Texts, lent_texts, texts_of, call_for, calls_for, AreInOrder, StopsInCalls, WritesMap}
+use Rattle.java_properties.specs.Maps.{Texts, lent_texts, texts_of, call_for, calls_for, StopsInPairs, WritesPairs}
 use Rattle.java_properties.specs.declared.error.ErrorKind.{ErrorKind}
 use Rattle.java_properties.specs.declared.error.ErrorKind.TheVariants as kind
 use Rattle.java_properties.specs.declared.error.PropertiesError.{PropertiesError}
@@ -27,9 +26,9 @@ use Rattle.java_properties.proofs.Calls.Made.{made-none, made-more, pair-made}
 use Rattle.java_properties.proofs.Calls.Lists.{calls-cut, calls-take}
 
 -- a new engine is a new writer
-pub new-writing : {W : Type 0} (engine : Engine) (to : W) → output_of engine.encoding ≡ windows_1252 → engine.settings ≡ default_settings
-    → engine.lines ≡ 0 → engine.failed ≡ false → new_writer windows_1252 to ≡ writing engine to
-new-writing engine to a b c d = rw (a, b, c, d) refl
+pub new-writing : {W : Type 0} {a : Encoding} (engine : Engine) (to : W) → output_of engine.encoding ≡ a → engine.settings ≡ default_settings
+    → engine.lines ≡ 0 → engine.failed ≡ false → new_writer a to ≡ writing engine to
+new-writing engine to h b c d = rw (h, b, c, d) refl
 
 -- a new writer takes every pair
 pub accepted : (key value : List ℕ) → is_accepted default_settings (pair_call key value) ≡ true
@@ -79,53 +78,51 @@ module _ {Y Z : Type 0} (entries : List (Bor (String Y) × Bor (String Z))) (i :
 -- ---- pairs that are written
 
 -- a new writer wrote the first pairs
-abbrev pub HasMadeFirst : {W Y Z : Type 0} → Sink W → W → List (Bor (String Y) × Bor (String Z)) → ℕ → Writing W → Type 0
-HasMadeFirst sink old entries i w = HasMade sink (new_writer windows_1252 old) (first_calls i entries) w
+abbrev pub HasMadeFirst : {W Y Z : Type 0} → Sink W → Encoding → W → List (Bor (String Y) × Bor (String Z)) → ℕ → Writing W → Type 0
+HasMadeFirst sink a old entries i w = HasMade sink (new_writer a old) (first_calls i entries) w
 
-module _ {W Y Z : Type 0} (sink : Sink W) (old : W) (entries : List (Bor (String Y) × Bor (String Z))) where
+module _ {W Y Z : Type 0} (sink : Sink W) (a : Encoding) (old : W) (entries : List (Bor (String Y) × Bor (String Z))) where
   -- before the first pair
-  pub first-none : HasMadeFirst sink old entries 0 (new_writer windows_1252 old)
-  first-none = made-none (new_writer windows_1252 old)
+  pub first-none : HasMadeFirst sink a old entries 0 (new_writer a old)
+  first-none = made-none (new_writer a old)
 
   -- after the last one
-  pub first-all : (i : ℕ) (w : Writing W) → length entries ≤ i → HasMadeFirst sink old entries i w
-      → HasMade sink (new_writer windows_1252 old) (calls_for (texts_of entries)) w
+  pub first-all : (i : ℕ) (w : Writing W) → length entries ≤ i → HasMadeFirst sink a old entries i w
+      → HasMade sink (new_writer a old) (calls_for (texts_of entries)) w
   first-all i w above h =
-      let P : List Call → Type 0 = λ v. HasMade sink (new_writer windows_1252 old) v w in
+      let P : List Call → Type 0 = λ v. HasMade sink (new_writer a old) v w in
       let one = length-map (texts_of entries) call_for in
       let two = length-map entries lent_texts in
       let all : length (calls_for (texts_of entries)) ≤ i = omega (arith, above, one, two) in
       subst P (take_all i (calls_for (texts_of entries)) all) h
 
-  settings-first : (i : ℕ) (w : Writing W) → HasMadeFirst sink old entries i w → w.settings ≡ default_settings
+  settings-first : (i : ℕ) (w : Writing W) → HasMadeFirst sink a old entries i w → w.settings ≡ default_settings
   settings-first i w h = ap (λ (v : Writing W). v.settings) h.after ∙ settings-kept i (texts_of entries)
 
-  pair-final : (i : ℕ) (key value : List ℕ) (w new : Writing W) (error : PropertiesError) → HasMadeFirst sink old entries i w
+  pair-final : (i : ℕ) (key value : List ℕ) (w new : Writing W) (error : PropertiesError) → HasMadeFirst sink a old entries i w
       → WritesLine sink w (pair key value) (Err error) new → is_not_accepted (kind_of error) ≡ false
   pair-final i key value w new error h (inl k) = refused-final w key value (kind_of error) (settings-first i w h) k.reason
   pair-final i key value w new error h (inr k) = ap is_not_accepted k.is.its_kind
 
   module _ (i : ℕ) (entry : Bor (String Y) × Bor (String Z)) (key value : List ℕ) (w new : Writing W) (below : i < length entries) (is : entry ≡ get_or entries i entry)
-      (key_is : key ≡ string_bytes entry.0.now) (value_is : value ≡ string_bytes entry.1.now) (h : HasMadeFirst sink old entries i w) where
+      (key_is : key ≡ string_bytes entry.0.now) (value_is : value ≡ string_bytes entry.1.now) (h : HasMadeFirst sink a old entries i w) where
     -- one pair more
-    pub first-more : HasWrittenLine sink w (pair (chars key) (chars value)) new → HasMadeFirst sink old entries (i + 1) new
+    pub first-more : HasWrittenLine sink w (pair (chars key) (chars value)) new → HasMadeFirst sink a old entries (i + 1) new
     first-more line =
-        let P : List Call → Type 0 = λ v. HasMade sink (new_writer windows_1252 old) v new in
+        let P : List Call → Type 0 = λ v. HasMade sink (new_writer a old) v new in
         let Q : List ℕ → Type 0 = λ v. HasWrittenLine sink w (pair (chars v) (chars value)) new in
         let R : List ℕ → Type 0 = λ v. HasWrittenLine sink w (pair (chars (string_bytes entry.0.now)) (chars v)) new in
         let made = pair-made (chars (string_bytes entry.0.now)) (chars (string_bytes entry.1.now)) (subst R value_is (subst Q key_is line)) in
         subst P (sym (take-at entries i entry below is)) (made-more h made)
 
     -- a pair was not written
-    pub stops-in-pair : {S : Type 0} (m : HashMap (String Y) (String Z) S) → AreInOrder m (texts_of entries) → (error : PropertiesError)
-        → WritesLine sink w (pair (chars key) (chars value)) (Err error) new → StopsInCalls sink m old error new.sink
-    stops-in-pair m in_order error fails =
+    pub stops-in-pair : (error : PropertiesError) → WritesLine sink w (pair (chars key) (chars value)) (Err error) new
+        → StopsInPairs sink a (texts_of entries) old error new.sink
+    stops-in-pair error fails =
         let Q : List ℕ → Type 0 = λ v. WritesLine sink w (pair (chars v) (chars value)) (Err error) new in
         let R : List ℕ → Type 0 = λ v. WritesLine sink w (pair (chars (string_bytes entry.0.now)) (chars v)) (Err error) new in
         let others = drop (i + 1) (calls_for (texts_of entries)) in
         record {
-          pairs = texts_of entries;
-          in_order = in_order;
           writer = new;
           stops = record {
             before = first_calls i entries;
@@ -146,13 +143,10 @@ module _ {W Y Z : Type 0} (sink : Sink W) (old : W) (entries : List (Bor (String
   flush-final w new error (inr k) = ap is_not_accepted k.is.its_kind
 
   -- all pairs were written, and then the sink was flushed
-  pub writes : {S : Type 0} (m : HashMap (String Y) (String Z) S) → AreInOrder m (texts_of entries) → (w new : Writing W) (result : Result Unit PropertiesError)
-      → HasMade sink (new_writer windows_1252 old) (calls_for (texts_of entries)) w → Flushes sink w result new → WritesMap sink m old result new.sink
-  writes m in_order w new (Ok done) h k =
-      record { pairs = texts_of entries; in_order = in_order; written = written-flushed h.written k.flushed; flushed = k.flushed.flushed }
-  writes m in_order w new (Err error) h k = inr (record {
-    pairs = texts_of entries;
-    in_order = in_order;
+  pub writes : (w new : Writing W) (result : Result Unit PropertiesError)
+      → HasMade sink (new_writer a old) (calls_for (texts_of entries)) w → Flushes sink w result new → WritesPairs sink a (texts_of entries) old result new.sink
+  writes w new (Ok done) h k = record { written = written-flushed h.written k.flushed; flushed = k.flushed.flushed }
+  writes w new (Err error) h k = record {
     writer = new;
     stops = record {
       before = calls_for (texts_of entries);
@@ -164,4 +158,4 @@ module _ {W Y Z : Type 0} (sink : Sink W) (old : W) (entries : List (Bor (String
       fails = record { fails = k; final = flush-final w new error k };
     };
     sink_after = refl;
-  })
+  }

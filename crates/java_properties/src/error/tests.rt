@@ -22,3 +22,28 @@ fn prints_plain_errors(rt: HostRuntime) -> Result<(), Fail> {
     }
     Ok(())
 }
+
+#[test]
+fn prints_kinds_without_a_line(rt: HostRuntime) -> Result<(), Fail> {
+    let alloc = rt.alloc();
+    let error = PropertiesError::in_line(4, ErrorKind::NotHex, Cause::NotHex);
+    let wanted = "Malformed \\uxxxx encoding: not hex.";
+    assert_eq!(rt; error.kind().to_string(alloc)?.as_str(), wanted);
+    Ok(())
+}
+
+#[test]
+fn prints_causes(rt: HostRuntime) -> Result<(), Fail> {
+    let alloc = rt.alloc();
+    let error = PropertiesError::from(io::Error::from(io::ErrorKind::NotFound));
+    assert_eq!(rt;
+        error.cause().to_string(alloc)?.as_str(),
+        "entity not found"
+    );
+    assert_eq!(rt;
+        Cause::NotHex.to_string(alloc)?.as_str(),
+        "not a hexadecimal digit"
+    );
+    assert_eq!(rt; Cause::None.to_string(alloc)?.as_str(), "no other error");
+    Ok(())
+}

@@ -13,7 +13,7 @@ use memchr::memchr2;
 use properties_text::encoding::Encoding;
 use std::simd::prelude::*;
 
-// Up to how many bytes away a line end is sought here. Past that, a search by larger steps pays.
+// Up to how many bytes away this search looks for a line end. Past that, a search by larger steps pays.
 const NEAR: usize = 128;
 
 // The line end with these low four bits, or else a byte with other low bits.

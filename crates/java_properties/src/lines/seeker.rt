@@ -1,4 +1,4 @@
-// Line ends, sought among the undecoded bytes that are held, and read on where none is.
+// Finds line ends among the undecoded bytes that are held, and reads on where there is none.
 
 ghost use Rattle.std.specs.Prelude.{◌≡◌, ◌<◌, ◌≤◌, ◌^◌, false, true, drop, length, IfSome};
 ghost use Rattle.counted_io.specs.Streams.{IsSameReader};

@@ -234,7 +234,7 @@ struct AsciiFront<'a> {
     rest: &'a [u8],
 }
 
-// Four characters of ASCII at the front, if there are four. In UTF-8 none are sought, since a run begins where text that
+// Four characters of ASCII at the front, if there are four. In UTF-8 it looks for none, since a run begins where text that
 // stands as it is ends.
 #[inline(always)]
 fn ascii_front(encoding: Encoding, bytes: &[u8]) -> Option<AsciiFront<'_>>

@@ -19,7 +19,7 @@ const RUN: usize = 256;
 /// let mut text = TextBuffer::new(alloc);
 /// text.push_decoded(Encoding::WINDOWS_1252, b"caf\xe9")?;
 /// text.push_text(" = x")?;
-/// text.as_str() // `café = x`
+/// assert_eq!(rt; text.as_str(), "caf\u{e9} = x");
 /// ```
 #[derive(Drop)]
 pub struct TextBuffer {

@@ -3,19 +3,19 @@
 use counted_io::CountedRead;
 use java_properties::{Encoding, LineContent, PropertiesError, PropertiesIter};
 use std::alloc::Global;
-use std::collections::HashMap;
+use std::collections::BTreeMap;
 
 /// Messages by their keys.
 #[derive(Drop)]
 pub struct Catalogue {
-    messages: HashMap<String, String>,
+    messages: BTreeMap<String, String>,
 }
 
 impl Catalogue {
     /// No messages yet.
     pub fn new(alloc: Global) -> Catalogue {
         Catalogue {
-            messages: HashMap::new(alloc),
+            messages: BTreeMap::new(alloc),
         }
     }
 

@@ -1,21 +1,20 @@
 // A linter that prints `file:line: message`.
 
 use counted_io::{Counted, CountedRead};
-use java_properties::{Encoding, LineContent, PropertiesError, PropertiesIter};
-use std::alloc::Global;
-use std::collections::HashMap;
+use java_properties::{Cause, Encoding, LineContent, PropertiesError, PropertiesIter};
+use std::alloc::{AllocError, Global};
+use std::collections::BTreeMap;
 use std::fs::File;
-use std::io::BufReader;
 use std::rt::Files;
 
-/// What is wrong with a file of this name: escapes that are malformed, and keys that stand twice.
+/// What is wrong with a file of this name: keys that stand twice, and why it can't be read to its end.
 pub fn lint<R: CountedRead>(
     alloc: Global,
     name: &str,
     input: &mut R,
 ) -> Result<Vec<String>, PropertiesError> {
     let mut messages = Vec::new(alloc);
-    let mut seen: HashMap<String, usize> = HashMap::new(alloc);
+    let mut seen: BTreeMap<String, usize> = BTreeMap::new(alloc);
     for item in PropertiesIter::new_with_encoding(alloc, input, Encoding::UTF_8)? {
         let message = match item {
             Ok(line) => {
@@ -30,14 +29,22 @@ pub fn lint<R: CountedRead>(
                     None => continue,
                 }
             }
-            Err(error) => match error.line_number() {
-                Some(number) => format!(in alloc; "{name}:{number}: {error}")?,
-                None => format!(in alloc; "{name}: {error}")?,
-            },
+            Err(error) => reason(alloc, name, &error)?,
         };
         messages.push(message)?;
     }
     Ok(messages)
+}
+
+// Why it can't be read, with its line where it has one: a stream's own error, or the kind.
+fn reason(alloc: Global, name: &str, error: &PropertiesError) -> Result<String, AllocError> {
+    let kind = error.kind();
+    match (error.line_number(), error.cause()) {
+        (Some(number), Cause::Io(cause)) => format!(in alloc; "{name}:{number}: {cause}"),
+        (Some(number), _) => format!(in alloc; "{name}:{number}: {kind}"),
+        (None, Cause::Io(cause)) => format!(in alloc; "{name}: {cause}"),
+        (None, _) => format!(in alloc; "{name}: {kind}"),
+    }
 }
 
 /// Prints what is wrong with a file.
@@ -46,10 +53,13 @@ pub fn lint_file(
     alloc: Global,
     path: &str,
 ) -> Result<(), PropertiesError> {
-    let file = File::open(rt, path)?;
-    let mut input = Counted::new(BufReader::new(alloc, file)?);
-    for message in lint(alloc, path, &mut input)? {
-        println!(rt; "{message}")?;
+    match File::open(rt, path) {
+        Ok(file) => {
+            for message in lint(alloc, path, &mut Counted::new(file))? {
+                println!(rt; "{message}")?;
+            }
+        }
+        Err(error) => println!(rt; "{path}: {error}")?,
     }
     Ok(())
 }
@@ -57,6 +67,8 @@ pub fn lint_file(
 #[cfg(test)]
 mod tests {
     use super::*;
+    use counted_io::{ScriptedReader, Tail};
+    use std::io::ErrorKind;
     use std::test::Fail;
 
     #[test]
@@ -65,7 +77,7 @@ mod tests {
         let messages = lint(rt.alloc(), "my.properties", &mut input)?;
         let wanted = [
             "my.properties:3: this key stands in line 1 too",
-            "my.properties:4: Malformed \\uxxxx encoding: not hex. (line_number = 4)",
+            "my.properties:4: Malformed \\uxxxx encoding: not hex.",
         ];
         assert_eq!(rt; messages.len(), wanted.len());
         for (message, text) in messages.iter().zip(wanted) {
@@ -75,7 +87,15 @@ mod tests {
     }
 
     #[test]
-    fn prints_nothing_of_a_file_that_is_not_there(rt: HostRuntime) {
-        assert!(rt; lint_file(&rt, rt.alloc(), "no/such.properties").is_err());
+    fn names_the_reason(rt: HostRuntime) -> Result<(), Fail> {
+        let mut broken = ScriptedReader::new(
+            Vec::new(rt.alloc()),
+            Tail::Fault(ErrorKind::NotFound),
+        );
+        let messages = lint(rt.alloc(), "my.properties", &mut broken)?;
+        assert_eq!(rt; messages.len(), 1);
+        assert_eq!(rt; messages[0].as_str(), "my.properties:1: entity not found");
+        assert!(rt; lint_file(&rt, rt.alloc(), "no/such.properties").is_ok());
+        Ok(())
     }
 }

@@ -1,8 +1,10 @@
-// A loader that says in which line a setting is wrong.
+// Typed settings with defaults, where a bad value names its file and its line.
 
-use counted_io::CountedRead;
+use counted_io::{Counted, CountedRead};
 use java_properties::{Encoding, LineContent, PropertiesError, PropertiesIter};
 use std::alloc::{AllocError, Global};
+use std::fs::File;
+use std::rt::Files;
 
 /// The settings of a server.
 #[derive(Debug, Drop)]
@@ -25,6 +27,23 @@ impl From<PropertiesError> for LoadError {
     }
 }
 
+impl LoadError {
+    /// The error as a message about the file of this name.
+    pub fn message(&self, alloc: Global, name: &str) -> Result<String, AllocError> {
+        match self {
+            LoadError::UnknownKey(number) => format!(in alloc; "{name}:{number}: unknown key"),
+            LoadError::BadPort(number) => format!(in alloc; "{name}:{number}: port is no number"),
+            LoadError::Unreadable(error) => {
+                let (kind, cause) = (error.kind(), error.cause());
+                match error.line_number() {
+                    Some(number) => format!(in alloc; "{name}:{number}: {kind} ({cause})"),
+                    None => format!(in alloc; "{name}: {kind} ({cause})"),
+                }
+            }
+        }
+    }
+}
+
 /// Reads UTF-8. A key that is not there keeps its default, and the last of two that are the same stands.
 pub fn load<R: CountedRead>(alloc: Global, input: &mut R) -> Result<Server, LoadError> {
     let mut server = default_server(alloc).map_err(PropertiesError::from)?;
@@ -43,6 +62,12 @@ pub fn load<R: CountedRead>(alloc: Global, input: &mut R) -> Result<Server, Load
         }
     }
     Ok(server)
+}
+
+/// Reads the settings of a file.
+pub fn load_file(rt: &impl Files, alloc: Global, path: &str) -> Result<Server, LoadError> {
+    let file = File::open(rt, path).map_err(PropertiesError::from)?;
+    load(alloc, &mut Counted::new(file))
 }
 
 fn default_server(alloc: Global) -> Result<Server, AllocError> {
@@ -68,12 +93,28 @@ mod tests {
             }
             Err(error) => panic!(rt; "{error:?}"),
         }
-        let mut input: &[u8] = b"host = a\n\nport = many\n";
-        assert!(rt; matches!(load(alloc, &mut input), Err(LoadError::BadPort(3))));
-        let mut input: &[u8] = b"hots = a\n";
-        assert!(rt; matches!(load(alloc, &mut input), Err(LoadError::UnknownKey(1))));
-        let mut input: &[u8] = b"host = \\u00\n";
-        assert!(rt; matches!(load(alloc, &mut input), Err(LoadError::Unreadable(_))));
+        Ok(())
+    }
+
+    #[test]
+    fn names_file_and_line(rt: HostRuntime) -> Result<(), Fail> {
+        let alloc = rt.alloc();
+        let rows: [(&[u8], &str); 3] = [
+            (b"host = a\n\nport = many\n", "s:3: port is no number"),
+            (b"hots = a\n", "s:1: unknown key"),
+            (
+                b"\nhost = \\u00\n",
+                "s:2: Malformed \\uxxxx encoding: not enough digits. (no other error)",
+            ),
+        ];
+        for (bytes, wanted) in rows {
+            let mut input = bytes;
+            match load(alloc, &mut input) {
+                Ok(_) => panic!(rt; "settings were loaded"),
+                Err(error) => assert_eq!(rt; error.message(alloc, "s")?.as_str(), wanted),
+            }
+        }
+        assert!(rt; load_file(&rt, alloc, "no/such.properties").is_err());
         Ok(())
     }
 }

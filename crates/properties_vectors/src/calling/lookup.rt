@@ -31,7 +31,7 @@ pub fn lookup<R: CountedRead>(
 // What a map has at a key: the lemma says that `get`, which looks for bytes, finds what the map has at their characters.
 #[tactic(auto, using(java_properties::proofs::TextMaps::Values::value_at_text))]
 fn value_of<'a>(map: &'a HashMap<String, String>, key: &str) -> Option<&'a String>
-    ensures { option_map lent_characters result ≡ value_at map.now (chars key.now) }
+    ensures { option_map lent_characters result ≡ value_at map.now.entries (chars key.now) }
 {
     map.get(key)
 }

@@ -2,7 +2,10 @@
 
 use super::{is_memory, roomy_sink, takes_at_once};
 use crate::maps::{Pairs, map_of};
-use java_properties::{ErrorKind, PropertiesError, read, write};
+use crate::sorted_maps::sorted_map_of;
+use java_properties::{
+    Encoding, ErrorKind, PropertiesError, read, read_sorted, write, write_sorted,
+};
 use std::alloc::Global;
 use std::collections::HashMap;
 use std::process::Abort;
@@ -53,7 +56,7 @@ fn is_malformed(answer: &Result<HashMap<String, String>, PropertiesError>) -> bo
     }
 }
 
-// A malformed escape is told as that, or Memory is, and never another error.
+// The error of a malformed escape, or Memory, and never another.
 #[test]
 fn a_malformed_escape_of_a_map_is_told_or_memory_is(rt: HostRuntime) {
     let bytes = b"a=1\nk=\xe9\\u12".as_slice();
@@ -93,5 +96,47 @@ fn a_refused_map_is_written_the_next_time(rt: HostRuntime) -> Result<(), Fail> {
         .ok_or("not the whole map")?;
     assert!(rt; front.is_empty() || !at_once && matches!(front, b"=x\n" | b"=x\na=1\n"));
     assert!(rt; has_entries(&map, &entries));
+    Ok(())
+}
+
+// The whole sorted map or Memory. Says whether it was the map.
+fn reads_the_sorted_map(rt: &impl Abort, alloc: Global) -> bool {
+    let mut input = INPUT;
+    match read_sorted(alloc, &mut input, Encoding::WINDOWS_1252) {
+        Ok(map) => {
+            assert!(rt; map.len() == ENTRIES.len());
+            for (key, value) in ENTRIES {
+                assert!(rt; map.get(*key).map(|found| found.as_str()) == Some(*value));
+            }
+            true
+        }
+        Err(error) => {
+            assert!(rt; is_memory(&error));
+            false
+        }
+    }
+}
+
+#[test]
+fn a_sorted_map_is_read_or_refused(rt: HostRuntime) {
+    if !reads_the_sorted_map(&rt, rt.alloc()) {
+        assert!(rt; reads_the_sorted_map(&rt, rt.alloc()));
+    }
+}
+
+#[test]
+fn a_refused_sorted_map_is_written_the_next_time(rt: HostRuntime) -> Result<(), Fail> {
+    let entries = [("b", "some more"), ("", "x"), ("a", "1")];
+    let (Ok(mut sink), Ok(map)) = (roomy_sink(rt.alloc()), sorted_map_of(rt.alloc(), &entries))
+    else {
+        return Ok(());
+    };
+    let answer = write_sorted(rt.alloc(), &mut sink, &map, Encoding::UTF_8);
+    if !takes_at_once(&rt, answer) {
+        write_sorted(rt.alloc(), &mut sink, &map, Encoding::UTF_8)?;
+    }
+    assert_eq!(rt; sink.faults(), 0);
+    let bytes = sink.into_inner();
+    assert!(rt; bytes.as_slice().ends_with(b"=x\na=1\nb=some\\ more\n"));
     Ok(())
 }

@@ -202,7 +202,7 @@ fn lines_end_where_memory_is_refused(rt: HostRuntime) -> Result<(), Fail> {
     Ok(())
 }
 
-// A malformed escape is told as that, or Memory is, and never another error.
+// The error of a malformed escape, or Memory, and never another.
 #[test]
 fn a_malformed_escape_is_told_or_memory_is(rt: HostRuntime) -> Result<(), Fail> {
     let mut input = b"a=1\nk=\xe9\\ud83d".as_slice();

@@ -131,7 +131,7 @@ fn the_last_flush_may_fail(rt: HostRuntime) -> Result<(), Fail> {
     Ok(())
 }
 
-// The reader's error is the one that is told.
+// The reader's error is the one that is returned.
 #[test]
 fn a_flush_after_a_read_fault_may_fail(rt: HostRuntime) -> Result<(), Fail> {
     let pieces = vec![in rt.alloc(); Vec::from_slice(rt.alloc(), b"a=1\n")?]?;

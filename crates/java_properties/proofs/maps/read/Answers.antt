@@ -1,5 +1,6 @@
 use Rattle.std.proofs.Common.{refl, sym, ap, ◌∙◌, subst}
 use Rattle.std.proofs.lemmas.Result.{err_from_is_err_and}
+use Rattle.properties_format.specs.Encoding.{windows_1252}
 use Rattle.properties_format.specs.ItemsToCome.{ReaderState}
 use Rattle.counted_io.specs.Streams.{reader}
 use Rattle.java_properties.specs.LineJoiner.{Joiner}
@@ -9,9 +10,9 @@ use Rattle.java_properties.proofs.maps.read.Goals as goal
 pub loop-item-init : goal.loop-item-init
 loop-item-init g c =
     let r = reader g.R.Read g.R.CountedRead in
-    let P : ReaderState → Type 0 = λ v. HasPassed r c.args.input.now c.new-map.result v c.args.input.now in
+    let P : ReaderState → Type 0 = λ v. HasPassed r windows_1252 c.args.input.now c.new-map.result.entries v c.args.input.now in
     record {
-      passed = subst P (sym (ap (λ v. let w : Joiner = v in w.state) c.new-items.ensures)) (passed-none {reader = r} c.args.input.now c.new-map.result c.new-map.ensures.empty);
+      passed = subst P (sym (ap (λ v. let w : Joiner = v in w.state) c.new-items.ensures)) (passed-none {reader = r} c.args.input.now c.new-map.result.entries c.new-map.ensures.empty);
       same_reader = refl;
     }
 

@@ -1,62 +1,15 @@
-use Rattle.std.proofs.Common.{◌<◌, ◌≤◌, length, refl, ◌∙◌, inr, subst, arith}
-use Rattle.std.proofs.lemmas.Result.{err_from_is_err_and}
+use Rattle.std.proofs.Common.{refl}
 use Rattle.counted_io.specs.Streams.{sink}
-use Rattle.java_properties.specs.Engine.{writing}
-use Rattle.java_properties.specs.PropertiesWriter.{Writing}
-use Rattle.java_properties.proofs.TextMaps.Writing.{HasMadeFirst, new-writing, first-none, first-more, first-all, stops-in-pair, writes}
-use Rattle.java_properties.proofs.TextMaps.ReadBack.{writes-read_back}
+use Rattle.properties_format.specs.Encoding.{windows_1252}
+use Rattle.java_properties.specs.Maps.{texts_of}
+use Rattle.java_properties.proofs.TextMaps.ReadBack.{writes-map, writes-read_back}
 use Rattle.java_properties.proofs.maps.write.Goals as goal
 
-pub loop-key-init : goal.loop-key-init
-loop-key-init g c =
-    let s = sink g.W.Write g.W.CountedWrite in
-    let from = c.args.writer.now in
-    let items = c.deref-key-items.result.now in
-    let e = c.new-engine in
-    let P : Writing _ → Type 0 = λ v. HasMadeFirst s from items 0 v in
-    let fresh = new-writing e.result from (rw e.ensures.encoding c.from.ensures) e.ensures.settings e.ensures.lines e.ensures.failed in
-    record {
-      made = subst P fresh (first-none s from items);
-      in_order = rw c.deref-key-items.ensures.value c.in_ok-pairs.ensures;
-      same_sink = refl;
-    }
-
-pub returns-in_err-write_line-clause-writes : goal.returns-in_err-write_line-clause-writes
-returns-in_err-write_line-clause-writes g c =
-    let s = sink g.W.Write g.W.CountedWrite in
-    let items = c.deref-key-items.result.now in
-    let residual = c.from_residual-in_err-write_line in
-    let error = err_from_is_err_and residual.result residual.ensures.1 in
-    let held = c.loop-key.invariant in
-    let below : c.loop-key.key-index < length items = omega arith in
-    let fails = rw c.in_err-write_line.was at c.write_line.ensures.writes in
-    rw (error.1, error.2) (inr (stops-in-pair s c.args.writer.now items c.loop-key.key-index c.loop-key-item.result _ _ (writing c.loop-key.engine c.loop-key.writer)
-    (writing c.write_line.new.self c.write_line.new.sink) below c.loop-key-item.is c.as_str.ensures.value c.as_str-in-loop-key.ensures.value held.made c.args.map.now held.in_order _ fails))
-
-pub loop-key-preserved : goal.loop-key-preserved
-loop-key-preserved g c =
-    let s = sink g.W.Write g.W.CountedWrite in
-    let items = c.deref-key-items.result.now in
-    let held = c.loop-key.invariant in
-    let below : c.loop-key.key-index < length items = omega arith in
-    let line = rw c.in_ok-write_line.was at c.write_line.ensures.writes in
-    record {
-      made = first-more s c.args.writer.now items c.loop-key.key-index c.loop-key-item.result _ _ (writing c.loop-key.engine c.loop-key.writer)
-          (writing c.write_line.new.self c.write_line.new.sink) below c.loop-key-item.is c.as_str.ensures.value c.as_str-in-loop-key.ensures.value held.made line;
-      in_order = held.in_order;
-      same_sink = c.write_line.ensures.same_sink ∙ held.same_sink;
-    }
-
-pub returns-clause-writes : goal.returns-clause-writes
-returns-clause-writes g c =
-    let s = sink g.W.Write g.W.CountedWrite in
-    let items = c.deref-key-items.result.now in
-    let from = c.args.writer.now in
-    let held = c.loop-key.invariant in
-    let last = writing c.loop-key.engine c.loop-key.writer in
-    let above : length items ≤ c.loop-key.key-index = omega arith in
-    let made = first-all s from items c.loop-key.key-index last above held.made in
-    writes s from items c.args.map.now held.in_order last (writing c.flush.new.self c.flush.new.sink) c.flush.result made c.flush.ensures.flushes
-
 pub returns-clause-reads_back : goal.returns-clause-reads_back
-returns-clause-reads_back g c = writes-read_back (sink g.W.Write g.W.CountedWrite) c.args.map.now c.args.writer.now _ c.flush.result (returns-clause-writes g c)
+returns-clause-reads_back g c =
+    let s = sink g.W.Write g.W.CountedWrite in
+    let pairs = texts_of c.in_ok-pairs.pairs.items in
+    let entries = c.args.map.now.entries in
+    let writes = rw (c.deref.ensures.value, c.from.ensures) at c.write_pairs.ensures.writes in
+    let whole = writes-map s windows_1252 entries pairs c.args.writer.now _ c.write_pairs.result c.in_ok-pairs.ensures writes in
+    writes-read_back s windows_1252 entries c.args.writer.now _ c.write_pairs.result refl whole

@@ -1,0 +1,175 @@
+#!/usr/bin/env python3
+"""Writes docs/API.md, the public names of each crate with their signatures, from the sources.
+
+    docs/api.py            writes the page
+    docs/api.py --check    compares it, and ends with 1 where it is not what the sources say
+
+A name is public where `lib.rt` of its crate, or a public module of it, has or re-exports it.
+"""
+import pathlib
+import re
+import sys
+
+sys.dont_write_bytecode = True
+from wrap import wrapped
+
+TOP = pathlib.Path(__file__).resolve().parent.parent
+CRATES = ["java_properties", "counted_io", "properties_text"]
+ITEM = re.compile(r"^(    )?pub (const fn|fn|struct|enum|trait|const|mod|use)\b")
+
+
+def files(crate):
+    """The source files that are compiled outside tests, lib.rt first."""
+    source = TOP / "crates" / crate / "src"
+    found = [path for path in sorted(source.rglob("*.rt")) if "tests" not in path.with_suffix("").parts]
+    return sorted(found, key=lambda path: path.name != "lib.rt")
+
+
+def exported(crate):
+    """The names that the root of the crate and its public modules hand on, and the files of these modules."""
+    source = TOP / "crates" / crate / "src"
+    names, pages, left = set(), set(), [source / "lib.rt"]
+    while left:
+        path = left.pop()
+        pages.add(path)
+        text = path.read_text()
+        for group in re.findall(r"^pub use ([^;]+);", text, re.M):
+            names.update(re.findall(r"(\w+)\s*(?:,|\}|$)", group))
+        folder = source if path.stem == "lib" else path.with_suffix("")
+        left += [folder / (module + ".rt") for module in re.findall(r"^pub mod (\w+);", text, re.M)]
+    return names, pages
+
+
+def without_comments(text):
+    code = text.split("#[cfg(test)]\nmod tests {")[0]
+    return [line for line in code.splitlines() if not line.lstrip().startswith("//")]
+
+
+def signature(lines, at):
+    """A function's signature in one line, without its clauses."""
+    words = []
+    for line in lines[at:]:
+        stripped = line.strip()
+        if words and re.match(r"(ensures|requires|ghost)\b", stripped):
+            break
+        end = re.search(r"\s*[{;]$", stripped)
+        words.append(stripped[: end.start()] if end else stripped)
+        if end:
+            break
+    text = " ".join(word for word in words if word)
+    text = re.sub(r",? \)", ")", re.sub(r"\( ", "(", text))
+    return re.sub(r"^pub ", "", text)
+
+
+def body(lines, at, indent):
+    """The lines of a block, up to its closing brace."""
+    taken = [lines[at]]
+    if lines[at].rstrip().endswith((";", "}")):
+        return taken
+    for line in lines[at + 1 :]:
+        taken.append(line)
+        if line.rstrip() == indent + "}":
+            break
+    return taken
+
+
+def fields(lines, at):
+    """A struct, an enum or a trait as it stands, with its public fields or its functions alone."""
+    block = body(lines, at, "")
+    head = block[0].strip()
+    if len(block) == 1:
+        return [re.sub(r"^pub ", "", head)]
+    kind = head.split()[1]
+    shown = [re.sub(r"^pub ", "", head)]
+    hidden = False
+    position = 1
+    while position < len(block) - 1:
+        line = block[position]
+        if kind == "enum":
+            if line.strip() and not line.strip().startswith("#"):
+                shown.append(line)
+        elif kind == "struct":
+            if line.strip().startswith("pub "):
+                shown.append(line)
+            else:
+                hidden = True
+        elif line.startswith("    fn "):
+            shown.append("    " + signature(block, position) + ";")
+        position += 1
+    if hidden:
+        shown.append("    // private fields")
+    shown.append("}")
+    return shown
+
+
+def entries(crate):
+    """(name, lines) of each public item; functions of a type stand under it."""
+    names, pages = exported(crate)
+    items, methods, implements = {}, {}, {}
+    for path in files(crate):
+        lines = without_comments(path.read_text())
+        inside = None
+        for at, line in enumerate(lines):
+            start = re.match(r"impl(?:<.*?>)? (?:(?P<of>[\w:]+(?:<.*>)?) for )?(?P<type>&?\w+)", line)
+            if line.startswith("impl") and start:
+                inside = start["type"]
+                if start["of"]:
+                    kind = re.sub(r"^\w+::", "", start["of"])
+                    if kind != "Model":
+                        implements.setdefault(inside, []).append(kind)
+                    inside = None
+            elif line.startswith("}"):
+                inside = None
+            derive = re.match(r"#\[derive\((.*)\)\]", line)
+            if derive:
+                name = re.search(r"(?:struct|enum) (\w+)", "\n".join(lines[at:]))[1]
+                implements.setdefault(name, []).extend(derive[1].split(", "))
+            public = ITEM.match(line)
+            if not public or public[2] in ("mod", "use"):
+                continue
+            name = re.search(r"(?:fn|struct|enum|trait|const) (\w+)", line)[1]
+            if public[1]:
+                if inside:
+                    methods.setdefault(inside, []).append("    " + signature(lines, at) + ";")
+            elif name in names or path in pages:
+                text = [signature(lines, at)] if public[2].endswith("fn") else fields(lines, at)
+                items[name] = text
+    return items, methods, implements
+
+
+def page():
+    out = [
+        "# Public names",
+        "",
+        "`docs/api.py` makes this page from the sources, and `docs/api.py --check` compares it with them. What a type implements stands",
+        "in a comment after it. Contracts are left out: they stand at the functions, and docs/PROMISES.md explains them.",
+    ]
+    for crate in CRATES:
+        items, methods, implements = entries(crate)
+        out += ["", f"## `{crate}`", ""]
+        if crate == "java_properties":
+            out += ["`Encoding` of `properties_text` is handed on. The three laws stand in the module `laws`; they do nothing when they run.", ""]
+        if crate == "properties_text":
+            out += ["What is done with a single line, in the modules `encoding`, `escape`, `parse` and others. Most callers need `Encoding` alone.", ""]
+        out.append("```rust")
+        for name in sorted(items, key=str.lower):
+            out += items[name]
+            if name in methods:
+                out += ["impl " + name + " {"] + methods[name] + ["}"]
+            kinds = [kind for kind in dict.fromkeys(implements.get(name, [])) if kind]
+            if kinds:
+                out.append("// " + name + ": " + ", ".join(kinds))
+            out.append("")
+        out[-1] = "```"
+    return wrapped("\n".join(out) + "\n")
+
+
+if __name__ == "__main__":
+    target = TOP / "docs/API.md"
+    text = page()
+    if "--check" in sys.argv[1:]:
+        if not target.exists() or target.read_text() != text:
+            sys.exit("docs/API.md is not what the sources say: run docs/api.py")
+        print("docs/API.md is what the sources say")
+    else:
+        target.write_text(text)

@@ -1,0 +1,102 @@
+#!/usr/bin/env python3
+"""Prints a crate's root with each example of the libraries' doc comments as a test: docs/examples.py > src/lib.rt.
+
+An example uses names that its reader knows: `alloc`, `rt`, an `input`, a `map`. They are given before it, where it doesn't make
+them itself. docs/try_calling.sh runs these tests.
+"""
+import pathlib
+import re
+
+TOP = pathlib.Path(__file__).resolve().parent.parent
+CRATES = ["counted_io", "java_properties", "properties_text"]
+
+HEAD = """// Examples of doc comments, each as a test.
+#![tactic(auto)]
+#![allow(unused)]
+
+use counted_io::{Counted, CountedRead, CountedWrite, ScriptedReader, ScriptedSink, SinkFault, Tail, send};
+use java_properties::{
+    Call, ContentRef, Encoding, LineContent, LineEnding, PropertiesError, PropertiesIter, PropertiesWriter, laws, read,
+    read_lines, read_sorted, run_calls, write, write_sorted,
+};
+use properties_text::encoding::decode::decode_line;
+use properties_text::encoding::{OutputEncoding, TextBuffer};
+use properties_text::escape::unescape;
+use properties_text::parse::{ParsedLine, parse_line};
+use properties_text::print::{LineBuffer, Place, Repertoire, print_text};
+use std::collections::{BTreeMap, HashMap};
+use std::io::{self, ErrorKind, Write};
+use std::test::Fail;
+"""
+
+SINK = "Counted::new(Vec::new(alloc))"
+GIVEN = {
+    "file": 'let file: &[u8] = b"a=b";',
+    "pieces": "let pieces: Vec<Vec<u8>> = Vec::new(alloc);",
+    "input": 'let mut input: &[u8] = b"a=b";',
+    "output": f"let mut output = {SINK};",
+    "sink": f"let mut sink = {SINK};",
+    "map": "let map: HashMap<String, String> = HashMap::new(alloc);",
+    "name": 'let name = "my.properties";',
+    "path": 'let path = "my.properties";',
+    "number": "let number = 1usize;",
+    "error": "let error = PropertiesError::from(io::Error::from(ErrorKind::NotFound));",
+    "items": 'let mut items = PropertiesIter::new(alloc, b"a=b".as_slice())?;',
+    "writer": f"let mut writer = PropertiesWriter::new(alloc, {SINK})?;",
+    "repertoire": "let repertoire = Repertoire { encoding: OutputEncoding::Utf8, ascii_only: false };",
+    "line": "let mut line = LineBuffer::new(alloc);",
+    "key": 'let key = String::from_str(alloc, "k")?;',
+    "value": 'let value = String::from_str(alloc, "v")?;',
+}
+
+
+def examples(path):
+    """(line number, lines) of each fenced example among the comments of a file."""
+    taken = None
+    for number, line in enumerate(path.read_text().splitlines(), 1):
+        comment = re.match(r"\s*//[/!] ?(.*)", line)
+        if not comment:
+            continue
+        if comment[1].startswith("```"):
+            if taken is not None:
+                yield number, taken
+            taken = [] if taken is None else None
+        elif taken is not None:
+            taken.append(comment[1])
+
+
+def code_alone(text):
+    """Without comments, and of its strings only what stands in braces."""
+    strings = re.sub(r'r?b?"((?:[^"\\]|\\.)*)"', lambda found: " ".join(re.findall(r"\{(\w+)\}", found[1])), text)
+    return re.sub(r"//.*", "", strings)
+
+
+def is_free(name, text):
+    """Whether a name is used that the example doesn't bind."""
+    ways = ["let (mut )?{}\\b", "\\|[^|]*\\b{}\\b[^|]*\\|", "\\(.*\\b{}\\b.*\\) =", "\\b{}\\) =>", "KVPair\\({},", "for {} in"]
+    is_bound = any(re.search(way.format(name), text) for way in ways) or re.search(rf"Some\((Ok\()?{name}\b", text)
+    # A variant of `Call` is made of a key and a value, and not matched.
+    is_made = name in ("key", "value") and "Call::Pair(key, value)" in text
+    return re.search(rf"(?<![.\w]){name}\b(?!\()", text) and (is_made or not is_bound)
+
+
+def main():
+    print(HEAD)
+    for crate in CRATES:
+        for path in sorted((TOP / "crates" / crate / "src").rglob("*.rt")):
+            for number, lines in examples(path):
+                text = code_alone("\n".join(lines))
+                name = "_".join([crate, *path.relative_to(TOP / "crates" / crate / "src").with_suffix("").parts, str(number)])
+                print("#[test]\nfn " + name + "(rt: HostRuntime) -> Result<(), Fail> {")
+                print("    let alloc = rt.alloc();")
+                for given, how in GIVEN.items():
+                    if is_free(given, text):
+                        if given == "map" and "write_sorted" in text:
+                            how = how.replace("HashMap", "BTreeMap")
+                        print("    " + how)
+                print("\n".join("    " + line for line in lines))
+                print("    Ok(())\n}\n")
+
+
+if __name__ == "__main__":
+    main()

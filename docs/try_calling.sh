@@ -1,0 +1,79 @@
+#!/usr/bin/env bash
+# Does what docs/CALLING.md says under "In a repository of your own", command by command, in a new temporary folder. There it
+# runs the programs of CALLING and of README, and the examples of the libraries' doc comments. It compares the examples of
+# CALLING with their sources, and docs/API.md with the sources too.
+#
+#     docs/try_calling.sh            a minute or two: compiles and runs, and proves nothing
+#     docs/try_calling.sh --check    proves the two programs too, which takes some ten minutes
+set -eu
+top=$(cd "$(dirname "${BASH_SOURCE[0]}")/.." && pwd)
+
+python3 - "$top" <<'PY'
+import pathlib, re, sys
+top = pathlib.Path(sys.argv[1])
+page = (top / "docs/CALLING.md").read_text()
+examples = re.findall(r"`calling/(\w+\.rt)`\..*?```rust\n(.*?)```", page, re.S)
+sources = top / "crates/properties_vectors/src/calling"
+wrong = [name for name, text in examples if text.strip() not in (sources / name).read_text()]
+missing = {path.name for path in sources.glob("*.rt")} - {name for name, _ in examples}
+if wrong or missing:
+    sys.exit(f"try_calling.sh: not as their sources: {wrong}; not shown: {sorted(missing)}")
+print(f"{len(examples)} examples are as their sources")
+PY
+
+"$top/docs/api.py" --check
+
+work=$(mktemp -d)
+trap 'rm -rf "$work"' EXIT
+mkdir "$work/todrenval"
+(cd "$top" && git ls-files crates | tar -cf - -T -) | tar -xf - -C "$work/todrenval"
+
+# The block of CALLING, or of another page, that has this word after its fence.
+block() {
+    python3 - "$top/$2" "$1" <<'PY'
+import re, sys
+text = open(sys.argv[1]).read()
+found = re.search("^```" + re.escape(sys.argv[2]) + "\n(.*?)^```", text, re.S | re.M)
+sys.stdout.write(found.group(1))
+PY
+}
+
+# The commands, as they stand on the page.
+commands=$(python3 - "$top/docs/CALLING.md" <<'PY'
+import re, sys
+section = open(sys.argv[1]).read().split("## In a repository of your own")[1].split("\n## ")[0]
+section = re.sub("^```.*?^```$", "", section, flags=re.S | re.M)
+print("\n".join(line[4:] for line in section.splitlines() if line.startswith("    ")))
+PY
+)
+cd "$work"
+before=$(printf '%s\n' "$commands" | sed '/^rt new/,$d')
+after=$(printf '%s\n' "$commands" | sed -n '/^rt new/,/^echo/p')
+eval "$before"
+block crates docs/CALLING.md >crates.txt
+eval "$after"
+block 'rust main' docs/CALLING.md >crates/my_program/src/main.rt
+block stdin docs/CALLING.md >crates/my_program/stdin
+block stdout docs/CALLING.md >"$work/wanted"
+mkdir -p crates/readme/src
+block 'rust' README.md >crates/readme/src/main.rt
+block 'stdout' README.md >"$work/wanted_of_readme"
+echo 'readme: counted_io java_properties' >>crates.txt
+
+try() {
+    (cd "crates/$1" && rt try <"$2" >"$work/printed" 2>"$work/said") || { cat "$work/said"; exit 1; }
+    diff "$3" "$work/printed"
+    echo "$1 prints what the page says"
+}
+try my_program "$PWD/crates/my_program/stdin" "$work/wanted"
+try readme /dev/null "$work/wanted_of_readme"
+mkdir -p crates/examples/src
+"$top/docs/examples.py" >crates/examples/src/lib.rt
+echo 'examples: counted_io properties_text java_properties' >>crates.txt
+(cd crates/examples && rt try --test >"$work/said" 2>&1) || { cat "$work/said"; exit 1; }
+grep 'test result' "$work/said"
+if [ "${1:-}" = --check ]; then
+    for name in my_program readme; do
+        (cd "crates/$name" && rt check 2>&1 | tail -1)
+    done
+fi
