@@ -16,3 +16,4 @@ pub mod Joining
 pub mod JoinedRuns
 pub mod ReadInto
 pub mod TextMaps
+pub mod BodyLines

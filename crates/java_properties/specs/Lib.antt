@@ -19,3 +19,4 @@ pub mod NaturalLines
 pub mod ReadLines
 pub mod ReadInto
 pub mod Maps
+pub mod BodyLines

@@ -15,6 +15,7 @@
 //! ```
 #![tactic(auto)]
 
+mod edit;
 mod error;
 mod input;
 mod iter;

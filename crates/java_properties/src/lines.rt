@@ -10,11 +10,11 @@ ghost use Rattle.java_properties.specs.LineFinder.{lines_left, transposed};
 ghost use Rattle.java_properties.specs.NaturalLines.{NaturalReading, NextLineGives};
 
 mod finder;
-mod join;
+pub(crate) mod join;
 pub mod joiner;
 mod logical;
 mod plain;
-mod search;
+pub(crate) mod search;
 mod seeker;
 
 use crate::error::PropertiesError;

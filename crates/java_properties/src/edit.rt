@@ -1,0 +1,3 @@
+//! Keys of a file set and removed, while every other byte stays.
+
+mod lines;
