@@ -52,8 +52,8 @@ ends-as true rest = cr-ends rest (begins_with_lf rest) refl
 -- the first line of some bytes is ended so, and the bytes after its ending hold the others
 ended-line : (e : Encoding) (text rest : List ℕ) (is_cr : Bool) → unit_size e ≡ 1 → HoldsNoLineEndUnit e text
     → let by = ending_before is_cr rest in
-      (more : List ℕ) × (text ++ (ascii_bytes e (end_character is_cr) ++ rest) ≡ text ++ (line_ending_text by ++ more))
-      × (held_lines_of e (text ++ (ascii_bytes e (end_character is_cr) ++ rest)) ≡ held_line e text (Some by) ∷ held_lines_of e more)
+    (more : List ℕ) × (text ++ (ascii_bytes e (end_character is_cr) ++ rest) ≡ text ++ (line_ending_text by ++ more))
+    × (held_lines_of e (text ++ (ascii_bytes e (end_character is_cr) ++ rest)) ≡ held_line e text (Some by) ∷ held_lines_of e more)
 ended-line windows_1252 text rest is_cr size h =
     let by = ending_before is_cr rest in
     let k : EndsAs (end_character is_cr ∷ rest) by = ends-as is_cr rest in
@@ -61,7 +61,7 @@ ended-line windows_1252 text rest is_cr size h =
       k.more,
       same,
       ap (held_lines_of windows_1252) (same ∙ ap (λ v. text ++ (v ++ k.more)) (sym (ending-windows_1252 by)))
-      ∙ held_lines-line windows_1252 text by k.more h tt k.alone,
+          ∙ held_lines-line windows_1252 text by k.more h tt k.alone,
     )
 ended-line utf_8 text rest is_cr size h =
     let by = ending_before is_cr rest in
@@ -70,7 +70,7 @@ ended-line utf_8 text rest is_cr size h =
       k.more,
       same,
       ap (held_lines_of utf_8) (same ∙ ap (λ v. text ++ (v ++ k.more)) (sym (ending-utf_8 by)))
-      ∙ held_lines-line utf_8 text by k.more h tt k.alone,
+          ∙ held_lines-line utf_8 text by k.more h tt k.alone,
     )
 ended-line utf_16le text rest is_cr size h = absurd (omega arith)
 ended-line utf_16be text rest is_cr size h = absurd (omega arith)

@@ -12,6 +12,7 @@ pub mod InputBuffer
 pub mod LineSearch
 pub mod PlainLines
 pub mod LineFinder
+pub mod LineTexts
 pub mod LineJoiner
 pub mod PropertiesIter
 pub mod LentItems

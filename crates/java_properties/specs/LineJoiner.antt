@@ -69,17 +69,6 @@ JoinsPlain old (Some number) new = TakesPlain old.state number new
 abbrev pub line_text : Finder → List ℕ
 line_text finder = decoded_line finder.state.encoding finder.line
 
--- The line that was found is decoded, and its text is kept; or its bytes are its text.
-abbrev pub OnOkKeeps : {E : Type 0} → Finder → Result Bool E → List ℕ → Type 0
-OnOkKeeps finder (Ok true) text = chars text ≡ line_text finder
-OnOkKeeps finder (Ok false) text = IsUtf8 finder.line × (chars finder.line ≡ line_text finder)
-OnOkKeeps finder (Err e) text = Unit {0}
-
--- The line that was found is added to a join, and it is told whether it is open.
-abbrev pub Adds : {E : Type 0} → Finder → List ℕ → Result Bool E → List ℕ → Type 0
-Adds finder old (Ok told) new = (told ≡ is_open (line_text finder)) × (new ≡ old ++ addition (line_text finder))
-Adds finder old (Err e) new = Unit {0}
-
 -- ---- logical lines
 
 -- Nothing was read; or what was held gave no item, so that reading had to go on.

@@ -16,6 +16,7 @@ mod logical;
 mod plain;
 pub(crate) mod search;
 mod seeker;
+pub(crate) mod texts;
 
 use crate::error::PropertiesError;
 use crate::lines::finder::LineFinder;
