@@ -1,23 +1,21 @@
 -- The natural lines of a body that is held whole.
-use Rattle.std.proofs.Common.{◌≡◌, ◌==◌, ℕ, ◌+◌, ◌≤◌, ◌<◌, suc, List, [], ◌∷◌, ◌++◌, length, take, drop, refl, ap, sym, ◌∙◌, subst, append-nil, append_assoc, length-append, arith}
-use Rattle.std.specs.Prelude.{Bool, true, false, if◌then◌else◌, Option, Some, None}
-use Rattle.std.proofs.lemmas.Bool.{cases_Bool, eqb-true}
+use Rattle.std.proofs.Common.{◌≡◌, ℕ, ◌+◌, ◌≤◌, List, [], ◌∷◌, ◌++◌, length, take, drop, refl, ap, sym, ◌∙◌, append-nil, append_assoc, length-append, arith}
+use Rattle.std.specs.Prelude.{Bool, true, false, if◌then◌else◌, Some, None}
+use Rattle.std.proofs.lemmas.Bool.{eqb-true}
 use Rattle.std.proofs.Math.Seq.{take-length, drop-append_seam}
 use Rattle.std.proofs.lemmas.List.{length-take-le}
 use Rattle.properties_format.specs.Text as text
 use Rattle.properties_format.specs.Text.{line_feed, carriage_return, line_ending_text}
-use Rattle.properties_format.specs.Encoding.{Encoding, windows_1252, utf_8, utf_16le, utf_16be, ascii_bytes, IsAligned}
+use Rattle.properties_format.specs.Encoding.{Encoding, windows_1252, utf_8, utf_16le, utf_16be, ascii_bytes}
 use Rattle.properties_format.specs.Reading.Lines.{begins_with_lf}
-use Rattle.properties_format.specs.Cut.{units, HoldsNoLineEndUnit, line_ending_bytes}
+use Rattle.properties_format.specs.Cut.{HoldsNoLineEndUnit}
 use Rattle.properties_format.specs.Reading.Body.{held_lines_of}
-use Rattle.properties_format.specs.Body.{ending_bytes}
 use Rattle.properties_format.proofs.Cut.Only.{ending-windows_1252, ending-utf_8}
 use Rattle.properties_format.proofs.Edited.Steps.{held_lines-line, held_lines-last}
 use Rattle.java_properties.proofs.LineSearch.{length-ascii_bytes}
-use Rattle.java_properties.specs.BodyLines.{IsFirstLine, ending_before, ending_in, held_line, lines_after}
+use Rattle.java_properties.specs.BodyLines.{IsFirstLine, ending_before, held_line}
 use Rattle.java_properties.specs.LineSearch.{unit_size, IsFirstLineEnd, end_character}
 use Rattle.java_properties.specs.Settings.{ending_of}
-use Rattle.java_properties.specs.declared.edit.lines.FirstLine.{FirstLine}
 use Rattle.java_properties.specs.declared.lines.search.LineEnd.{LineEnd}
 use Rattle.java_properties.specs.declared.writer.settings.LineEnding.{LineEnding}
 

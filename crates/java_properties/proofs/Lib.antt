@@ -17,3 +17,4 @@ pub mod JoinedRuns
 pub mod ReadInto
 pub mod TextMaps
 pub mod BodyLines
+pub mod BodyGroups

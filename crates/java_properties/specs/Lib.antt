@@ -21,3 +21,4 @@ pub mod ReadLines
 pub mod ReadInto
 pub mod Maps
 pub mod BodyLines
+pub mod BodyGroups

@@ -6,10 +6,9 @@ use Rattle.properties_format.specs.Groups.{is_open, addition}
 use Rattle.properties_format.specs.Reading.Cut.{decoded_line}
 
 -- The bytes of a line are decoded, and their text is kept; or the bytes are the text.
-abbrev pub KeepsText : {E : Type 0} → Encoding → List ℕ → Result Bool E → List ℕ → Type 0
-KeepsText e bytes (Ok true) text = chars text ≡ decoded_line e bytes
-KeepsText e bytes (Ok false) text = IsUtf8 bytes × (chars bytes ≡ decoded_line e bytes)
-KeepsText e bytes (Err error) text = Unit {0}
+abbrev pub KeepsText : Encoding → List ℕ → Bool → List ℕ → Type 0
+KeepsText e bytes true text = chars text ≡ decoded_line e bytes
+KeepsText e bytes false text = IsUtf8 bytes × (chars bytes ≡ decoded_line e bytes)
 
 -- A line is added to a join, and it is told whether it is open.
 abbrev pub AddsLine : {E : Type 0} → Encoding → List ℕ → List ℕ → Result Bool E → List ℕ → Type 0

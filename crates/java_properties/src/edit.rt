@@ -1,3 +1,4 @@
 //! Keys of a file set and removed, while every other byte stays.
 
+mod groups;
 mod lines;

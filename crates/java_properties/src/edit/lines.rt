@@ -2,9 +2,10 @@
 
 ghost use Rattle.std.specs.Prelude.{◌≡◌, ◌<◌, ◌+◌, drop, length};
 ghost use Rattle.properties_text.specs.Encoding.{encoding_of};
+ghost use Rattle.properties_format.specs.Body.{ending_bytes};
 ghost use Rattle.java_properties.specs.LineSearch.{unit_size};
 ghost use Rattle.java_properties.specs.Settings.{ending_of};
-ghost use Rattle.java_properties.specs.BodyLines.{IsFirstLine, ending_before};
+ghost use Rattle.java_properties.specs.BodyLines.{IsFirstLine, ending_before, ending_in};
 
 use crate::lines::search::{LineEnd, find_line_end};
 use crate::writer::LineEnding;
@@ -47,5 +48,16 @@ fn ending_at(bytes: &[u8], end: LineEnd) -> LineEnding
     match bytes.get(end.at + 1) {
         Some(b'\n') => LineEnding::CRLF,
         _ => LineEnding::CR,
+    }
+}
+
+/// How many bytes a line ending has.
+pub fn ending_size(ending: Option<LineEnding>) -> usize
+    ensures { result ≡ length (ending_bytes (ending_in ending)) }
+{
+    match ending {
+        None => 0,
+        Some(LineEnding::CR | LineEnding::LF) => 1,
+        Some(LineEnding::CRLF) => 2,
     }
 }

@@ -1,6 +1,6 @@
 // The text of a line: its bytes where they are text, and else what they are decoded to, or what several lines are joined to.
 
-ghost use Rattle.std.specs.Prelude.{◌≡◌, false, if◌then◌else◌, OnOk};
+ghost use Rattle.std.specs.Prelude.{◌≡◌, false, if◌then◌else◌, IfOk, OnOk};
 ghost use Rattle.std.specs.Str.{IsUtf8, chars};
 ghost use Rattle.properties_format.specs.Groups.{without_open_backslash};
 ghost use Rattle.properties_text.specs.Encoding.{encoding_of};
@@ -18,7 +18,7 @@ pub fn keep_text(
     encoding: Encoding,
     bytes: &[u8],
 ) -> Result<bool, AllocError>
-    ensures { KeepsText (encoding_of encoding) bytes.now result text.new }
+    ensures { IfOk result (λ is_kept. KeepsText (encoding_of encoding) bytes.now is_kept text.new) }
 {
     match as_text(encoding, bytes) {
         Some(_) => Ok(false),
