@@ -22,3 +22,4 @@ pub mod ReadInto
 pub mod Maps
 pub mod BodyLines
 pub mod BodyGroups
+pub mod BodyKeys

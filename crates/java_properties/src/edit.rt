@@ -1,4 +1,5 @@
 //! Keys of a file set and removed, while every other byte stays.
 
 mod groups;
+mod keys;
 mod lines;

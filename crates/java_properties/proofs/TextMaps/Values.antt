@@ -2,7 +2,7 @@
 use Rattle.std.proofs.Common.{◌≡◌, ℕ, Bool, true, false, List, [], ◌∷◌, refl, ap, sym, ◌∙◌, inl, inr}
 use Rattle.std.specs.Prelude.{Option, Some, None, bytes_eq, string_bytes, cond}
 use Rattle.std.specs.Option.{option_map}
-use Rattle.std.specs.Str.{chars, all_scalars, encode_utf8_all}
+use Rattle.std.specs.Str.{chars, all_scalars, encode_utf8_all, IsUtf8}
 use Rattle.std.specs.String.{string_eq}
 use Rattle.std.specs.HashMap.{HashMap, UpdatesBy, get_by_text}
 use Rattle.std.specs.Map.{lookup, update}
@@ -11,6 +11,7 @@ use Rattle.std.proofs.lemmas.Bool.{cases_Bool, cond-false, false_from_ne_true}
 use Rattle.std.proofs.lemmas.Map.Text.{hash_map_updates_text}
 use Rattle.std.proofs.lemmas.Slice.Eq.{bytes_eq-Decides}
 use Rattle.std.proofs.lemmas.Str.{IsUtf8-string_bytes, chars-encodes, encodes-chars, scalars-chars}
+use lib.Utf8.{encodes}
 use Rattle.java_properties.specs.Maps.{characters, value_at}
 
 -- two tests that pass together
@@ -41,6 +42,12 @@ pub flipped : (x y : List ℕ) → bytes_eq x y ≡ bytes_eq y x
 flipped x y = together (bytes_eq x y) (bytes_eq y x)
     (λ h. (bytes_eq-Decides y x).1 (sym ((bytes_eq-Decides x y).0 h)))
     (λ h. (bytes_eq-Decides x y).1 (sym ((bytes_eq-Decides y x).0 h)))
+
+-- two texts are the same by their bytes where they are by their characters
+pub same-characters : (x y : List ℕ) → IsUtf8 x → IsUtf8 y → bytes_eq x y ≡ bytes_eq (chars x) (chars y)
+same-characters x y u v = together (bytes_eq x y) (bytes_eq (chars x) (chars y))
+    (λ h. (bytes_eq-Decides (chars x) (chars y)).1 (ap chars ((bytes_eq-Decides x y).0 h)))
+    (λ h. (bytes_eq-Decides x y).1 (sym (encodes-chars x u) ∙ ap encodes ((bytes_eq-Decides (chars x) (chars y)).0 h) ∙ encodes-chars y v))
 
 -- and what is no text is no key
 no-key : {Y : Type 0} (key : List ℕ) → all_scalars key ≡ false → (x : String Y) → bytes_eq key (characters x) ≡ false
