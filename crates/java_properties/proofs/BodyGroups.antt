@@ -1,18 +1,20 @@
 -- The groups of a body that is held whole.
-use Rattle.std.proofs.Common.{◌≡◌, ℕ, ◌+◌, ◌-◌, ◌≤◌, ◌<◌, List, [], ◌∷◌, ◌++◌, length, take, drop, refl, ap, ap₂, sym, ◌∙◌, subst, inl, inr, append-nil, append_assoc, length-append, length-drop, lit<, arith}
+use Rattle.std.proofs.Common.{◌≡◌, ◌==◌, ℕ, ◌+◌, ◌-◌, ◌≤◌, ◌<◌, List, [], ◌∷◌, ◌++◌, length, take, drop, refl, ap, ap₂, sym, ◌∙◌, subst, inl, inr, append-nil, append_assoc, length-append, length-drop, lit<, arith}
 use Rattle.std.specs.Prelude.{◌⊎◌, ◌&&◌, ◌||◌, not, if◌then◌else◌, Bool, true, false, Some}
 use Rattle.std.proofs.lemmas.Bool.{cases_Bool, and_parts, not-true}
 use Rattle.std.proofs.Math.Seq.{drop-append_seam}
 use Rattle.std.proofs.lemmas.List.{length-take-le, drop-drop}
 use Rattle.std.specs.Str.{chars, IsUtf8}
 use Rattle.properties_format.specs.Lines.{Line}
+use Rattle.properties_format.specs.Writing.{is_empty}
+use Rattle.std.proofs.lemmas.Bool.Decides.{nat_tests}
 use Rattle.properties_format.specs.Groups.{is_comment_line, is_open, joined, addition, without_open_backslash}
 use Rattle.properties_format.specs.Reading.Groups.{closes}
 use Rattle.properties_format.specs.Reading.Cut.{decoded_line}
 use Rattle.properties_format.specs.Body.{HeldLine, as_lines, ending_bytes, group_bytes, last_ending}
 use Rattle.properties_format.specs.Reading.Body.{held_lines_of, held_groups_after, held_groups_of}
 use Rattle.properties_format.proofs.Body.Groups.{as_lines-append, groups-close, groups-leave, group_bytes-append}
-use Rattle.properties_format.proofs.Edited.Steps.{last_ending-push, is_left_open-push}
+use Rattle.properties_format.proofs.Edited.Steps.{last_ending-push, is_left_open-push, is_empty_line-push}
 use Rattle.properties_format.proofs.Groups.Joined.{joined-push, joined-one, joined-closed, joined-comment_line}
 use Rattle.properties_text.specs.Encoding.{encoding_of}
 use Rattle.java_properties.specs.LineTexts.{KeepsText}
@@ -98,12 +100,16 @@ line_size body at size h =
     let left : length (drop at body) ≡ length body - at = length-drop at body in
     length-take-le size (drop at body) (omega arith)
 
+no-bytes : (bytes : List ℕ) → (length bytes == 0) ≡ is_empty bytes
+no-bytes [] = refl
+no-bytes (b ∷ bytes) = grind (arith, nat_tests)
+
 -- the span of its line
 span-one : (body : List ℕ) (old : GroupReader) (line : FirstLine) (new : GroupReader) (group : Group) → TakesLine body old line new
     → group.start ≡ old.at → group.end ≡ old.at + line.size → group.ending ≡ line.ending
     → let h = held_line (encoding_of old.encoding) (take line.size (drop old.at body)) (ending_in line.ending) in
-    group.is_open ≡ (not (is_comment_line h.text) && is_open h.text) → IsSpanOf (h ∷ []) group new.at
-span-one body old line new group k starts ends ending opens =
+    group.is_open ≡ (not (is_comment_line h.text) && is_open h.text) → group.is_empty ≡ (line.size == 0) → IsSpanOf (h ∷ []) group new.at
+span-one body old line new group k starts ends ending opens empty =
     let bytes = take line.size (drop old.at body) in
     let by = ending_bytes (ending_in line.ending) in
     let size = line_size body old.at line.size k.held in
@@ -114,6 +120,7 @@ span-one body old line new group k starts ends ending opens =
       ending = ap ending_in ending;
       next = omega arith;
       opens = opens;
+      empty = empty ∙ ap (λ n. n == 0) (sym size) ∙ no-bytes bytes;
     }
 
 not_left-closes : (comment opened : Bool) → (not comment && opened) ≡ false → (comment || not opened) ≡ true
@@ -160,10 +167,10 @@ pub group-closed : (body : List ℕ) (old : GroupReader) (line : FirstLine) (new
     → TakesLine body old line new → old.is_done ≡ false → group.passed ≡ old.passed → group.start ≡ old.at → group.end ≡ old.at + line.size
     → group.ending ≡ line.ending
     → let bytes = take line.size (drop old.at body) in let text = decoded_line (encoding_of old.encoding) bytes in
-    group.is_open ≡ (not (is_comment_line text) && is_open text) → group.is_open ≡ false
+    group.is_open ≡ (not (is_comment_line text) && is_open text) → group.is_empty ≡ (line.size == 0) → group.is_open ≡ false
     → (is_kept ≡ false → IsUtf8 bytes) → chars (if is_kept then t else bytes) ≡ text
     → TakesGroup body old group (record new { text = t; is_kept = is_kept; decoded = d })
-group-closed body old line new group t d is_kept k going passed starts ends ending opens closed utf8 kept =
+group-closed body old line new group t d is_kept k going passed starts ends ending opens empty closed utf8 kept =
     let e = encoding_of old.encoding in
     let bytes = take line.size (drop old.at body) in
     let h : HeldLine = held_line e bytes (ending_in line.ending) in
@@ -181,7 +188,7 @@ group-closed body old line new group t d is_kept k going passed starts ends endi
       starts = starts;
       passed = passed;
       counted = k.passed;
-      span = span-one body old line new group k starts ends ending opens;
+      span = span-one body old line new group k starts ends ending opens empty;
       within = record { bytes = k.within.bytes; place = k.within.place; counted = k.within.counted; fits = k.within.fits };
       encoding = ap (λ v. let w : GroupReader = v in w.encoding) k.same;
       held_text = record { ordered = omega arith; within = omega arith; text = λ n. subst IsUtf8 (sym same) (utf8 n) };
@@ -193,9 +200,9 @@ pub group-opened : (body : List ℕ) (old : GroupReader) (line : FirstLine) (new
     → TakesLine body old line new → old.is_done ≡ false → group.passed ≡ old.passed → group.start ≡ old.at → group.end ≡ old.at + line.size
     → group.ending ≡ line.ending
     → let bytes = take line.size (drop old.at body) in let text = decoded_line (encoding_of old.encoding) bytes in
-    group.is_open ≡ (not (is_comment_line text) && is_open text) → group.is_open ≡ true → chars t ≡ without_open_backslash text
+    group.is_open ≡ (not (is_comment_line text) && is_open text) → group.is_empty ≡ (line.size == 0) → group.is_open ≡ true → chars t ≡ without_open_backslash text
     → IsJoined body old group (record new { text = t; is_kept = true; decoded = d })
-group-opened body old line new group t d k going passed starts ends ending opens opened kept =
+group-opened body old line new group t d k going passed starts ends ending opens empty opened kept =
     let e = encoding_of old.encoding in
     let bytes = take line.size (drop old.at body) in
     let h : HeldLine = held_line e bytes (ending_in line.ending) in
@@ -213,7 +220,7 @@ group-opened body old line new group t d k going passed starts ends ending opens
       starts = starts;
       passed = passed;
       counted = k.passed;
-      span = span-one body old line new group k starts ends ending opens;
+      span = span-one body old line new group k starts ends ending opens empty;
       ends = omega arith;
       encoding = ap (λ v. let w : GroupReader = v in w.encoding) k.same;
       kept = refl;
@@ -234,7 +241,7 @@ pub group-more : (body : List ℕ) (before : GroupReader) (group : Group) (mid :
     → IsJoined body before group mid → mid.is_done ≡ false → group.is_open ≡ true → TakesLine body mid line new
     → let text = decoded_line (encoding_of mid.encoding) (take line.size (drop mid.at body)) in
     told ≡ is_open text → chars t ≡ chars mid.text ++ addition text
-    → IsJoined body before (record group { end = mid.at + line.size; ending = line.ending; is_open = told }) (record new { text = t; decoded = d })
+    → IsJoined body before (record group { end = mid.at + line.size; ending = line.ending; is_open = told; is_empty = false }) (record new { text = t; decoded = d })
 group-more body before group mid line new t d told j going opened k tells kept =
     let bytes = take line.size (drop mid.at body) in
     let h : HeldLine = held_line (encoding_of mid.encoding) bytes (ending_in line.ending) in
@@ -266,6 +273,7 @@ group-more body before group mid line new t d told j going opened k tells kept =
         ending = sym (last_ending-push g h);
         next = omega arith;
         opens = tells ∙ sym (is_left_open-push j.first j.more h ∙ rw j.other refl);
+        empty = sym (is_empty_line-push j.first j.more h);
       };
       ends = omega arith;
       encoding = ap (λ v. let w : GroupReader = v in w.encoding) k.same ∙ j.encoding;
@@ -279,7 +287,7 @@ pub group-added : (body : List ℕ) (before : GroupReader) (group : Group) (mid 
     → IsJoined body before group mid → mid.is_done ≡ false → group.is_open ≡ true → TakesLine body mid line new
     → let text = decoded_line (encoding_of new.encoding) (take (mid.at + line.size - mid.at) (drop mid.at body)) in
     told ≡ is_open text → chars t ≡ chars new.text ++ addition text
-    → IsJoined body before (record group { end = mid.at + line.size; ending = line.ending; is_open = told }) (record new { text = t; decoded = d })
+    → IsJoined body before (record group { end = mid.at + line.size; ending = line.ending; is_open = told; is_empty = false }) (record new { text = t; decoded = d })
 group-added body before group mid line new t d told j going opened k tells added =
     let x = ap (λ v. let w : GroupReader = v in chars w.text) k.same in
     let same = slice-text body mid line new k in

@@ -4,7 +4,7 @@ use Rattle.std.specs.Prelude.{◌⊎◌, Option, Some, None, Result, Ok, Err}
 use Rattle.std.specs.Str.{chars, IsUtf8}
 use Rattle.properties_format.specs.Groups.{is_comment_line, joined}
 use Rattle.properties_format.specs.Body.{HeldLine, as_lines, ending_bytes, group_bytes, last_ending}
-use Rattle.properties_format.specs.Edited.{is_left_open}
+use Rattle.properties_format.specs.Edited.{is_empty_line, is_left_open}
 use Rattle.properties_format.specs.Reading.Body.{held_lines_of, held_groups_after, held_groups_of}
 use Rattle.properties_text.specs.Encoding.{encoding_of}
 use Rattle.java_properties.specs.LineSearch.{unit_size}
@@ -52,6 +52,7 @@ pub record IsSpanOf (held : List HeldLine) (group : Group) (after : ℕ) : Type 
   pub ending : ending_in group.ending ≡ last_ending held
   pub next : after ≡ group.start + length (group_bytes held)
   pub opens : group.is_open ≡ is_left_open held
+  pub empty : group.is_empty ≡ is_empty_line held
 
 -- the logical line of a group, in UTF-8
 abbrev pub text_of : List ℕ → GroupReader → Group → List ℕ

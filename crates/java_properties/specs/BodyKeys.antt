@@ -4,6 +4,7 @@ use Rattle.std.specs.Str.{chars}
 use Rattle.properties_format.specs.Items.{Outcome, ignored, given, broken}
 use Rattle.properties_format.specs.Reading.Items.{outcome_of}
 use Rattle.properties_format.specs.Reading.Body.{is_pair_with}
+use Rattle.properties_format.specs.Reading.Edited.{IsSound}
 use Rattle.java_properties.specs.LentItems.{IsFoundIn}
 use Rattle.java_properties.specs.PropertiesIter.{IsNoItem}
 use Rattle.java_properties.specs.declared.error.PropertiesError.{PropertiesError}
@@ -14,12 +15,6 @@ abbrev pub FindsItem : List ℕ → ℕ → Result (Option Found) PropertiesErro
 FindsItem line number (Ok None) = outcome_of (chars line) ≡ ignored
 FindsItem line number (Ok (Some found)) = IsFoundIn line found
 FindsItem line number (Err e) = IsNoItem number (chars line) e
-
--- no text of the logical line is malformed
-abbrev pub IsSound : Outcome → Type 0
-IsSound ignored = Unit {0}
-IsSound (given content) = Unit {0}
-IsSound (broken kind) = ⊥
 
 -- It is told whether a logical line is a pair with this key; or an error in the line of this number.
 abbrev pub TellsKey : List ℕ → List ℕ → ℕ → Result Bool PropertiesError → Type 0

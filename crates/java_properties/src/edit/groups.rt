@@ -27,6 +27,8 @@ pub struct Group {
     pub ending: Option<LineEnding>,
     /// Whether it is left open, so that a line after it would be joined to it.
     pub is_open: bool,
+    /// Whether it is one line without bytes.
+    pub is_empty: bool,
 }
 
 /// Reads the groups of a body, which is passed at each call.
@@ -72,6 +74,13 @@ impl GroupReader {
         kept_text(&self.text, self.is_kept, &body[group.start..group.end])
     }
 
+    /// The place after the group that came last.
+    pub fn place(&self) -> usize
+        ensures { result ≡ self.now.at }
+    {
+        self.at
+    }
+
     /// The next group, or `None` after the last one.
     pub fn next(&mut self, body: &[u8]) -> Result<Option<Group>, AllocError>
         requires { IsWithin body.now self.old }
@@ -93,6 +102,7 @@ impl GroupReader {
             end,
             ending: first.ending,
             is_open: goes_on(line),
+            is_empty: first.size == 0,
         };
         if !group.is_open {
             return Ok(Some(group));
@@ -120,6 +130,7 @@ impl GroupReader {
                 end,
                 ending: line.ending,
                 is_open,
+                is_empty: false,
                 ..joined
             };
         }

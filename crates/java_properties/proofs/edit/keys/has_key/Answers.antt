@@ -1,7 +1,7 @@
 use Rattle.std.proofs.Common.{ap, sym, ◌∙◌, subst}
 use Rattle.std.specs.Str.{chars}
 use Rattle.properties_format.specs.Reading.Body.{is_pair_with}
-use Rattle.java_properties.specs.BodyKeys.{IsSound}
+use Rattle.properties_format.specs.Reading.Edited.{IsSound}
 use Rattle.java_properties.proofs.Items.{found-item}
 use Rattle.java_properties.proofs.edit.keys.has_key.Goals as goal
 
