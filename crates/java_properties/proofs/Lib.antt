@@ -18,3 +18,4 @@ pub mod ReadInto
 pub mod TextMaps
 pub mod BodyLines
 pub mod BodyGroups
+pub mod BodyKeys

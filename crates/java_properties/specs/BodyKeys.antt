@@ -1,12 +1,24 @@
--- Whether a logical line is a pair with a key.
-use Rattle.std.specs.Prelude.{◌≡◌, ℕ, Bool, List, Option, Some, None, Result, Ok, Err}
+-- Which logical lines are pairs with a key, and where the last of them stands in a body.
+use Rattle.std.specs.Prelude.{◌≡◌, ◌⊎◌, ℕ, ◌+◌, Bool, if◌then◌else◌, List, [], ◌∷◌, ◌++◌, length, Option, Some, None, Result, Ok, Err}
 use Rattle.std.specs.Str.{chars}
+use Rattle.properties_format.specs.Encoding.{Encoding}
+use Rattle.properties_format.specs.Escapes.{Malformed}
+use Rattle.properties_format.specs.Body.{HeldLine, groups_bytes}
+use Rattle.properties_format.specs.Edited.{unreadable, final_group, added_ending, parting}
 use Rattle.properties_format.specs.Items.{Outcome, ignored, given, broken}
 use Rattle.properties_format.specs.Reading.Items.{outcome_of}
-use Rattle.properties_format.specs.Reading.Body.{is_pair_with}
-use Rattle.properties_format.specs.Reading.Edited.{IsSound}
+use Rattle.properties_format.specs.Reading.Body.{is_pair_with, entries_in, held_groups_of}
+use Rattle.properties_format.specs.Reading.Edited.{KeyPlace, last_place, IsSound, AreSound, result_by}
 use Rattle.java_properties.specs.LentItems.{IsFoundIn}
 use Rattle.java_properties.specs.PropertiesIter.{IsNoItem}
+use Rattle.java_properties.specs.BodyGroups.{core_bytes}
+use Rattle.java_properties.specs.Errors.{IsBareError, IsMalformed}
+use Rattle.java_properties.specs.declared.edit.groups.Group.{Group}
+use Rattle.java_properties.specs.declared.edit.place.Closing.{Closing}
+use Rattle.java_properties.specs.declared.edit.place.Closing.TheVariants as closing
+use Rattle.java_properties.specs.declared.edit.place.KeyPlace as place
+use Rattle.java_properties.specs.declared.edit.place.PairSpan.{PairSpan}
+use Rattle.java_properties.specs.declared.error.ErrorKind.TheVariants as kind
 use Rattle.java_properties.specs.declared.error.PropertiesError.{PropertiesError}
 use Rattle.java_properties.specs.declared.iter.found.Found.{Found}
 
@@ -20,3 +32,54 @@ FindsItem line number (Err e) = IsNoItem number (chars line) e
 abbrev pub TellsKey : List ℕ → List ℕ → ℕ → Result Bool PropertiesError → Type 0
 TellsKey line key number (Ok told) = IsSound (outcome_of line) × (told ≡ is_pair_with key (outcome_of line))
 TellsKey line key number (Err e) = IsNoItem number line e
+
+-- ---- the first fault of a body
+
+-- The first fault of these groups is so malformed, and the error says how, in its line; or there was no memory.
+abbrev pub IsFaultOf : List (List HeldLine) → PropertiesError → Type 0
+IsFaultOf groups e =
+    ((how : Malformed) × (n : ℕ) × ((made : List ℕ) → result_by (entries_in 1 groups) made ≡ unreadable how n) × IsMalformed how n e)
+    ⊎ IsBareError kind.Memory e
+
+-- ---- where a key stands
+
+-- The last pair with the key stands in this span.
+pub record IsPlaceOf (key : List ℕ) (groups : List (List HeldLine)) (pair : PairSpan) : Type 0 where
+  pub place : KeyPlace
+  pub is : last_place key groups ≡ Some place
+  pub division : groups ≡ place.before ++ place.group ∷ place.after
+  pub starts : pair.start ≡ length (groups_bytes place.before)
+  pub ends : pair.end ≡ pair.start + length (core_bytes place.group)
+
+abbrev pub IsPlace : List ℕ → List (List HeldLine) → Option PairSpan → Type 0
+IsPlace key groups None = last_place key groups ≡ None
+IsPlace key groups (Some pair) = IsPlaceOf key groups pair
+
+-- what parts a new pair from a group, by whether it is an empty line, and whether it is left open
+abbrev pub closing_of : Bool → Bool → Closing
+closing_of is_empty is_open = if is_empty then closing.Nothing else (if is_open then closing.TwoEndings else closing.OneEnding)
+
+-- the bytes of that, by a line ending
+abbrev pub parted : List ℕ → Closing → List ℕ
+parted ending closing.Nothing = []
+parted ending closing.OneEnding = ending
+parted ending closing.TwoEndings = ending ++ ending
+
+-- what is known of the key after one more group, which is a pair with it or not
+abbrev pub found_after : place.KeyPlace → Group → Bool → place.KeyPlace
+found_after found group is_pair =
+    record {
+      pair = if is_pair then Some (record { start = group.start; end = group.end }) else found.pair;
+      closing = closing_of group.is_empty group.is_open;
+    }
+
+-- A body was read, in which nothing is malformed, and it is found where the key stands.
+pub record IsKeyFound (e : Encoding) (body key : List ℕ) (found : place.KeyPlace) : Type 0 where
+  pub sound : AreSound (held_groups_of e body)
+  pub pair : IsPlace key (held_groups_of e body) found.pair
+  pub closing : (source : List ℕ) → parting source (final_group (held_groups_of e body)) ≡ parted (added_ending source) found.closing
+
+-- What looking for a key finds.
+abbrev pub FindsKey : Encoding → List ℕ → List ℕ → Result place.KeyPlace PropertiesError → Type 0
+FindsKey e body key (Ok found) = IsKeyFound e body key found
+FindsKey e body key (Err error) = IsFaultOf (held_groups_of e body) error

@@ -23,3 +23,4 @@ pub mod Maps
 pub mod BodyLines
 pub mod BodyGroups
 pub mod BodyKeys
+pub mod Sources

@@ -3,3 +3,5 @@
 mod groups;
 mod keys;
 mod lines;
+mod place;
+mod source;

@@ -1,0 +1,239 @@
+-- How a key is looked for in a body, group by group.
+use Rattle.std.proofs.Common.{◌≡◌, ◌≢◌, ℕ, ◌+◌, ◌-◌, ◌≤◌, ◌<◌, ◌^◌, suc, List, [], ◌∷◌, ◌++◌, length, take, drop, min, refl, ap, ap₂, sym, ◌∙◌, subst, inl, inr, append-nil, append_assoc, length-append, arith}
+use Rattle.std.specs.Prelude.{◌⊎◌, Bool, true, false, if◌then◌else◌, Option, Some, None, Result, Ok, Err}
+use Rattle.std.proofs.Math.Seq.{drop-length}
+use Rattle.std.proofs.lemmas.Bool.{cases_Bool, cases_lt}
+use Rattle.std.specs.Str.{chars}
+use Rattle.properties_format.specs.Encoding.{Encoding}
+use Rattle.properties_format.specs.Escapes.{Malformed}
+use Rattle.properties_format.specs.Lines.{Ended}
+use Rattle.properties_format.specs.Groups.{joined}
+use Rattle.properties_format.specs.Reading.Groups.{closes}
+use Rattle.properties_format.specs.Reading.Cut.{cut_of, decoded_line}
+use Rattle.properties_format.specs.Body.{HeldLine, HasKey, as_lines, held_in, group_bytes, groups_bytes}
+use Rattle.properties_format.specs.Edited.{unreadable, final_group, added_ending, parting, is_empty_line, is_left_open}
+use Rattle.properties_format.specs.Items.{Outcome, ignored, given, broken}
+use Rattle.properties_format.specs.Reading.Items.{outcome_of, followed}
+use Rattle.properties_format.specs.Reading.Body.{is_pair_with, has_key, entries_in, held_of, held_lines_of, held_groups_after, held_groups_of}
+use Rattle.properties_format.specs.Reading.Edited.{KeyPlace, last_place, IsSound, AreSound, result_by}
+use Rattle.properties_format.proofs.Body.Decoded.{decoded-nil}
+use Rattle.properties_format.proofs.Body.Groups.{groups_bytes-append, groups-close, groups-leave}
+use Rattle.properties_format.proofs.Cut.Units.{no_end_unit-nil}
+use Rattle.properties_format.proofs.Edited.Told.{outcome-empty}
+use Rattle.properties_format.proofs.Edited.Made.{has_key-true}
+use Rattle.properties_format.proofs.Edited.Steps.{last_place-new, last_place-other, with_after, final_group-push, result-after, held_lines-last}
+use Rattle.properties_text.specs.Encoding.{encoding_of}
+use Rattle.java_properties.proofs.BodyGroups.{groups-lines}
+use Rattle.java_properties.specs.BodyGroups.{IsWithin, lines_left, groups_left, core_bytes, text_of, TakesGroup}
+use Rattle.java_properties.specs.BodyKeys.{TellsKey, IsFaultOf, IsPlaceOf, IsPlace, closing_of, parted, IsKeyFound, found_after}
+use Rattle.java_properties.specs.Errors.{IsMalformed, IsBareError}
+use Rattle.java_properties.specs.PropertiesIter.{IsNoItem}
+use Rattle.java_properties.specs.declared.edit.groups.Group.{Group}
+use Rattle.java_properties.specs.declared.edit.groups.GroupReader.{GroupReader}
+use Rattle.java_properties.specs.declared.edit.place.Closing.{Closing}
+use Rattle.java_properties.specs.declared.edit.place.PairSpan.{PairSpan}
+use Rattle.java_properties.specs.declared.edit.place.KeyPlace as place
+use Rattle.java_properties.specs.declared.error.ErrorKind.TheVariants as kind
+use Rattle.java_properties.specs.declared.error.PropertiesError.{PropertiesError}
+
+-- ---- the groups that were read
+
+-- These groups of a body were read, in none of which anything is malformed.
+pub record HasRead (e : Encoding) (body : List ℕ) (groups : List (List HeldLine)) (s : GroupReader) : Type 0 where
+  pub all : held_groups_of e body ≡ groups ++ groups_left body s
+  pub sound : AreSound groups
+  pub counted : s.is_done ≡ false → s.passed ≡ length (held_in groups)
+  pub placed : s.at ≡ length (groups_bytes groups)
+  pub within : IsWithin body s
+  pub encoding : encoding_of s.encoding ≡ e
+
+pub read-none : (body : List ℕ) (s : GroupReader) → s.at ≡ 0 → s.passed ≡ 0 → s.is_done ≡ false → IsWithin body s → HasRead (encoding_of s.encoding) body [] s
+read-none body s at passed going w = record {
+  all = rw (going, at) refl;
+  sound = tt;
+  counted = λ h. passed;
+  placed = at;
+  within = w;
+  encoding = refl;
+}
+
+sound-append : (gs hs : List (List HeldLine)) → AreSound gs → AreSound hs → AreSound (gs ++ hs)
+sound-append [] hs h k = k
+sound-append (g ∷ gs) hs h k = (h.0, sound-append gs hs h.1 k)
+
+held_in-append : (gs hs : List (List HeldLine)) → held_in (gs ++ hs) ≡ held_in gs ++ held_in hs
+held_in-append [] hs = refl
+held_in-append (g ∷ gs) hs = ap (λ v. g ++ v) (held_in-append gs hs) ∙ sym (append_assoc g (held_in gs) (held_in hs))
+
+-- the next group was read, and nothing in it is malformed
+pub read-more : {e : Encoding} {body : List ℕ} {groups : List (List HeldLine)} {s t : GroupReader} {group : Group} → HasRead e body groups s
+    → (k : TakesGroup body s group t) → IsSound (outcome_of (chars (text_of body t group))) → HasRead e body (groups ++ k.held ∷ []) t
+read-more {e} {body} {groups} {s} {t} {group} h k sound =
+    let one : groups_bytes (k.held ∷ []) ≡ group_bytes k.held = append-nil (group_bytes k.held) in
+    let next = k.span.next in
+    let starts = k.starts in
+    let placed = h.placed in
+    let all : length (groups_bytes (groups ++ k.held ∷ [])) ≡ length (groups_bytes groups) + length (group_bytes k.held) =
+    ap length (groups_bytes-append groups (k.held ∷ []) ∙ ap (λ v. groups_bytes groups ++ v) one) ∙ length-append (groups_bytes groups) (group_bytes k.held) in
+    let lines : length (held_in (groups ++ k.held ∷ [])) ≡ length (held_in groups) + length k.held =
+    ap length (held_in-append groups (k.held ∷ []) ∙ ap (λ v. held_in groups ++ v) (append-nil k.held)) ∙ length-append (held_in groups) k.held in
+    record {
+      all = h.all ∙ ap (λ v. groups ++ v) k.groups ∙ sym (append_assoc groups (k.held ∷ []) (groups_left body t));
+      sound = sound-append groups (k.held ∷ []) h.sound (subst (λ v. IsSound (outcome_of v)) k.text sound, tt);
+      counted = λ going. (let a = k.counted going in let b = h.counted k.live in omega arith);
+      placed = omega arith;
+      within = k.within;
+      encoding = ap encoding_of k.encoding ∙ h.encoding;
+    }
+
+-- the last group was read
+pub read-all : {e : Encoding} {body : List ℕ} {groups : List (List HeldLine)} {s : GroupReader} → HasRead e body groups s → s.is_done ≡ true
+    → held_groups_of e body ≡ groups
+read-all {e} {body} {groups} {s} h done = h.all ∙ (rw done (append-nil groups))
+
+-- ---- the first fault
+
+-- no bytes are left: the last group is an empty line
+none-left : (body : List ℕ) (s t : GroupReader) (group : Group) → IsWithin body s → s.at ≡ length body → (k : TakesGroup body s group t)
+    → outcome_of (joined (as_lines k.held)) ≡ ignored
+none-left body s t group w at k =
+    let e = encoding_of s.encoding in
+    let h : HeldLine = record { bytes = []; text = decoded_line e []; ending = None } in
+    let none : drop s.at body ≡ [] = ap (λ n. drop n body) at ∙ drop-length body in
+    let lines : lines_left body s ≡ h ∷ [] = rw k.live (ap (held_lines_of e) none ∙ held_lines-last e [] (no_end_unit-nil e)) in
+    let nil = decoded-nil e in
+    let alone : closes [] (record { number = 0; text = decoded_line e [] }) ≡ true = ap (λ v. closes [] (record { number = 0; text = v })) nil in
+    let groups = groups-lines body s ∙ ap (held_groups_after []) lines ∙ groups-close [] h [] alone in
+    let held : k.held ≡ h ∷ [] = (let both = sym k.groups ∙ groups in cc) in
+    ap (λ v. outcome_of (joined (as_lines v))) held ∙ ap (λ v. outcome_of (joined (record { number = 0; text = v } ∷ []))) nil ∙ outcome-empty
+
+-- a line that is malformed has a number
+numbered : {e : Encoding} {body : List ℕ} {groups : List (List HeldLine)} {s t : GroupReader} {group : Group} (kind : Malformed) → HasRead e body groups s
+    → (k : TakesGroup body s group t) → outcome_of (joined (as_lines k.held)) ≡ broken kind → s.passed + 1 < 2 ^ 64
+numbered {e} {body} {groups} {s} {t} {group} kind h k is =
+    let place = h.within.place in
+    let counted = h.within.counted in
+    let fits = h.within.fits in
+    elim (cases_lt s.at (length body)) [
+      | inl less ↦ omega arith
+      | inr full ↦ let none = none-left body s t group h.within (omega arith) k in absurd (cc)
+    ]
+
+pub counted : {number passed n : ℕ} → number ≡ min (passed + 1) 18446744073709551615 → passed ≡ n → n + 1 < 2 ^ 64 → number ≡ n + 1
+counted is same fits = omega arith
+
+-- The first fault of a body is that of the group that came, whose line is this number.
+pub read-fault : {e : Encoding} {body : List ℕ} {groups : List (List HeldLine)} {s t : GroupReader} {group : Group} (number : ℕ) (error : PropertiesError)
+    → HasRead e body groups s → TakesGroup body s group t → (s.passed + 1 < 2 ^ 64 → number ≡ s.passed + 1)
+    → IsNoItem number (chars (text_of body t group)) error → IsFaultOf (held_groups_of e body) error
+read-fault {e} {body} {groups} {s} {t} {group} number error h k counts (inl (how, breaks, is)) =
+    let broke : outcome_of (joined (as_lines k.held)) ≡ broken how = ap outcome_of (sym k.text) ∙ breaks in
+    let n = counts (numbered how h k broke) in
+    let counted = h.counted k.live in
+    let first : number ≡ 1 + length (held_in groups) = omega arith in
+    inl (
+      how,
+      number,
+      (λ made.
+          ap (λ v. result_by (entries_in 1 v) made) (h.all ∙ ap (λ v. groups ++ v) k.groups)
+          ∙ result-after 1 groups (k.held ∷ groups_left body t) made h.sound
+          ∙ ap (λ o. result_by (followed (1 + length (held_in groups)) o (entries_in (1 + length (held_in groups) + length k.held) (groups_left body t))) made) broke
+          ∙ ap (unreadable how) (sym first)),
+      is,
+    )
+read-fault number error h k counts (inr is) = inr is
+
+-- ---- where the key stands
+
+-- After these groups it is known where the key stands.
+pub record HasLooked (e : Encoding) (body key : List ℕ) (s : GroupReader) (found : place.KeyPlace) : Type 0 where
+  pub groups : List (List HeldLine)
+  pub read : HasRead e body groups s
+  pub pair : IsPlace key groups found.pair
+  pub closing : (groups ≡ []) ⊎ ((source : List ℕ) → parting source (final_group groups) ≡ parted (added_ending source) found.closing)
+
+pub looked-none : (body key : List ℕ) (s : GroupReader) (found : place.KeyPlace) → s.at ≡ 0 → s.passed ≡ 0 → s.is_done ≡ false → IsWithin body s → found.pair ≡ None
+    → HasLooked (encoding_of s.encoding) body key s found
+looked-none body key s found at passed going w none =
+    record { groups = []; read = read-none body s at passed going w; pair = subst (IsPlace key []) (sym none) refl; closing = inl refl }
+
+-- a group after which a new pair is parted so
+parted-group : (source : List ℕ) (g : List HeldLine) (group : Group) → group.is_empty ≡ is_empty_line g → group.is_open ≡ is_left_open g
+    → parting source g ≡ parted (added_ending source) (closing_of group.is_empty group.is_open)
+parted-group source g group a b = rw (a, b) (parted-tests source (is_empty_line g) (is_left_open g))
+  where
+    parted-tests : (source : List ℕ) (empty opens : Bool)
+        → (if empty then [] else (if opens then added_ending source ++ added_ending source else added_ending source)) ≡ parted (added_ending source) (closing_of empty opens)
+    parted-tests source true opens = refl
+    parted-tests source false true = refl
+    parted-tests source false false = refl
+
+-- the place with one more group after it
+place-kept : (key : List ℕ) (groups : List (List HeldLine)) (g : List HeldLine) (pair : Option PairSpan) → IsPlace key groups pair → has_key key g ≡ false
+    → IsPlace key (groups ++ g ∷ []) pair
+place-kept key groups g None h other = last_place-other key groups g other ∙ ap (with_after g) h
+place-kept key groups g (Some pair) h other = record {
+  place = record { before = h.place.before; group = h.place.group; after = h.place.after ++ g ∷ [] };
+  is = last_place-other key groups g other ∙ ap (with_after g) h.is;
+  division = ap (λ v. v ++ g ∷ []) h.division ∙ append_assoc h.place.before (h.place.group ∷ h.place.after) (g ∷ []);
+  starts = h.starts;
+  ends = h.ends;
+}
+
+place-after : (key : List ℕ) (groups : List (List HeldLine)) (g : List HeldLine) (group : Group) (pair : Option PairSpan) (told : Bool) → IsPlace key groups pair
+    → told ≡ has_key key g → group.start ≡ length (groups_bytes groups) → group.end ≡ group.start + length (core_bytes g)
+    → IsPlace key (groups ++ g ∷ []) (if told then Some (record { start = group.start; end = group.end }) else pair)
+place-after key groups g group pair true h is starts ends = record {
+  place = record { before = groups; group = g; after = [] };
+  is = last_place-new key groups g (has_key-true key g (sym is));
+  division = refl;
+  starts = starts;
+  ends = ends;
+}
+place-after key groups g group pair false h is starts ends = place-kept key groups g pair h (sym is)
+
+-- one more group was looked at
+pub looked-more : {e : Encoding} {body key : List ℕ} {s t : GroupReader} {found : place.KeyPlace} {group : Group} (told : Bool) → HasLooked e body key s found
+    → TakesGroup body s group t → IsSound (outcome_of (chars (text_of body t group))) → told ≡ is_pair_with key (outcome_of (chars (text_of body t group)))
+    → HasLooked e body key t (found_after found group told)
+looked-more {e} {body} {key} {s} {t} {found} {group} told h k sound is = record {
+  groups = h.groups ++ k.held ∷ [];
+  read = read-more h.read k sound;
+  pair = place-after key h.groups k.held group found.pair told h.pair (is ∙ ap (λ v. is_pair_with key (outcome_of v)) k.text) (k.starts ∙ h.read.placed) k.span.core;
+  closing = inr (λ source. ap (parting source) (final_group-push h.groups k.held) ∙ parted-group source k.held group k.span.empty k.span.opens);
+}
+
+-- some groups are always there
+some-lines : (e : Encoding) (ls : List Ended) (last : List ℕ) → held_of e ls last ≡ [] → ⊥
+some-lines e [] last h = absurd (cc)
+some-lines e (l ∷ ls) last h = absurd (cc)
+
+some-more : (p : List HeldLine) (h : HeldLine) → p ++ h ∷ [] ≡ [] → ⊥
+some-more [] h k = absurd (cc)
+some-more (i ∷ p) h k = absurd (cc)
+
+some-after : (p hs : List HeldLine) → (p ≡ [] → hs ≡ [] → ⊥) → held_groups_after p hs ≡ [] → ⊥
+some-after [] [] some h = some refl refl
+some-after (i ∷ p) [] some h = absurd (cc)
+some-after p (h ∷ hs) some k = elim (cases_Bool (closes (as_lines p) (record { number = 0; text = h.text }))) [
+  | inl b ↦ let more = sym (groups-close p h hs b) ∙ k in absurd (cc)
+  | inr b ↦ some-after (p ++ h ∷ []) hs (λ none. absurd (some-more p h none)) (sym (groups-leave p h hs b) ∙ k)
+]
+
+some-groups : (e : Encoding) (body : List ℕ) → held_groups_of e body ≡ [] → ⊥
+unfolding held_groups_of
+some-groups e body h = some-after [] (held_lines_of e body) (λ none. some-lines e (cut_of e body).ended (cut_of e body).last) h
+
+-- all groups were looked at
+pub looked-all : {e : Encoding} {body key : List ℕ} {s : GroupReader} {found : place.KeyPlace} → HasLooked e body key s found → s.is_done ≡ true
+    → IsKeyFound e body key found
+looked-all {e} {body} {key} {s} {found} h done =
+    let all = read-all h.read done in
+    record {
+      sound = subst AreSound (sym all) h.read.sound;
+      pair = subst (λ v. IsPlace key v found.pair) (sym all) h.pair;
+      closing = elim h.closing [
+        | inl none ↦ absurd (some-groups e body (all ∙ none))
+        | inr closing ↦ λ source. ap (λ v. parting source (final_group v)) all ∙ closing source
+      ];
+    }
