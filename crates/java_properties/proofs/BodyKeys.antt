@@ -1,5 +1,8 @@
 -- How a key is looked for in a body, group by group.
-use Rattle.std.proofs.Common.{◌≡◌, ◌≢◌, ℕ, ◌+◌, ◌-◌, ◌≤◌, ◌<◌, ◌^◌, suc, List, [], ◌∷◌, ◌++◌, length, take, drop, min, refl, ap, ap₂, sym, ◌∙◌, subst, inl, inr, append-nil, append_assoc, length-append, arith}
+use Rattle.std.proofs.lemmas.Bool.Decides.{nat_tests}
+use Rattle.properties_format.specs.Text.{carriage_return}
+use Rattle.properties_format.specs.Reading.Lines.{ends_in_cr}
+use Rattle.std.proofs.Common.{get_or, ◌==◌, ◌≡◌, ◌≢◌, ℕ, ◌+◌, ◌-◌, ◌≤◌, ◌<◌, ◌^◌, suc, List, [], ◌∷◌, ◌++◌, length, take, drop, min, refl, ap, ap₂, sym, ◌∙◌, subst, inl, inr, append-nil, append_assoc, length-append, arith}
 use Rattle.std.specs.Prelude.{◌⊎◌, Bool, true, false, if◌then◌else◌, Option, Some, None, Result, Ok, Err}
 use Rattle.std.proofs.Math.Seq.{drop-length}
 use Rattle.std.proofs.lemmas.Bool.{cases_Bool, cases_lt}
@@ -237,3 +240,15 @@ looked-all {e} {body} {key} {s} {found} h done =
         | inr closing ↦ λ source. ap (λ v. parting source (final_group v)) all ∙ closing source
       ];
     }
+
+-- ---- the last byte
+
+pub last-cr : (xs : List ℕ) → (length xs == 0) ≡ false → (get_or xs (length xs - 1) 0 == carriage_return) ≡ ends_in_cr xs
+last-cr [] h = absurd (cc)
+last-cr (c ∷ []) h = refl
+last-cr (c ∷ d ∷ ds) h =
+    let n : length (c ∷ d ∷ ds) - 1 ≡ suc (length ds) = omega arith in
+    let m : length ds ≡ length (d ∷ ds) - 1 = omega arith in
+    ap (λ k. get_or (c ∷ d ∷ ds) k 0 == carriage_return) n
+    ∙ ap (λ k. get_or (d ∷ ds) k 0 == carriage_return) m
+    ∙ last-cr (d ∷ ds) (grind (arith, nat_tests))

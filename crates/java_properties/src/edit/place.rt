@@ -3,6 +3,7 @@
 ghost use Rattle.std.specs.Prelude.{◌≡◌, ◌++◌};
 ghost use Rattle.std.specs.Str.{chars};
 ghost use Rattle.properties_format.specs.Edited.{added_ending};
+ghost use Rattle.properties_format.specs.Reading.Lines.{ends_in_cr};
 ghost use Rattle.properties_text.specs.Encoding.{encoding_of};
 ghost use Rattle.java_properties.specs.LineSearch.{unit_size};
 ghost use Rattle.java_properties.specs.BodyKeys.{FindsKey, closing_of, found_after, parted};
@@ -102,12 +103,20 @@ fn closing_after(group: Group) -> Closing
 pub fn parting(source: &[u8], closing: Closing) -> &'static [u8]
     ensures { result.now ≡ parted (added_ending source.now) closing }
 {
-    let ends_in_cr = source.ends_with(b"\r");
-    match closing {
-        Closing::Nothing => b"",
-        Closing::OneEnding if ends_in_cr => b"\r",
-        Closing::OneEnding => b"\n",
-        Closing::TwoEndings if ends_in_cr => b"\r\r",
-        Closing::TwoEndings => b"\n\n",
+    match (closing, ends_in_cr(source)) {
+        (Closing::Nothing, _) => b"",
+        (Closing::OneEnding, true) => b"\r",
+        (Closing::OneEnding, false) => b"\n",
+        (Closing::TwoEndings, true) => b"\r\r",
+        (Closing::TwoEndings, false) => b"\n\n",
     }
+}
+
+fn ends_in_cr(source: &[u8]) -> bool
+    ensures { result ≡ ends_in_cr source.now }
+{
+    if source.is_empty() {
+        return false;
+    }
+    source[source.len() - 1] == b'\r'
 }
