@@ -100,7 +100,7 @@ line_size body at size h =
     let left : length (drop at body) ≡ length body - at = length-drop at body in
     length-take-le size (drop at body) (omega arith)
 
-no-bytes : (bytes : List ℕ) → (length bytes == 0) ≡ is_empty bytes
+pub no-bytes : (bytes : List ℕ) → (length bytes == 0) ≡ is_empty bytes
 no-bytes [] = refl
 no-bytes (b ∷ bytes) = grind (arith, nat_tests)
 

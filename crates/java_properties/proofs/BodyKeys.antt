@@ -2,12 +2,20 @@
 use Rattle.std.proofs.lemmas.Bool.Decides.{nat_tests}
 use Rattle.properties_format.specs.Text.{carriage_return}
 use Rattle.properties_format.specs.Reading.Lines.{ends_in_cr}
-use Rattle.std.proofs.Common.{get_or, ◌==◌, ◌≡◌, ◌≢◌, ℕ, ◌+◌, ◌-◌, ◌≤◌, ◌<◌, ◌^◌, suc, List, [], ◌∷◌, ◌++◌, length, take, drop, min, refl, ap, ap₂, sym, ◌∙◌, subst, inl, inr, append-nil, append_assoc, length-append, arith}
+use Rattle.std.proofs.Common.{take-add, get_or, ◌==◌, ◌≡◌, ◌≢◌, ℕ, ◌+◌, ◌-◌, ◌≤◌, ◌<◌, ◌^◌, zero, suc, List, [], ◌∷◌, ◌++◌, length, take, drop, min, refl, ap, ap₂, sym, ◌∙◌, subst, inl, inr, append-nil, append_assoc, length-append, arith}
 use Rattle.std.specs.Prelude.{◌⊎◌, Bool, true, false, if◌then◌else◌, Option, Some, None, Result, Ok, Err}
 use Rattle.std.proofs.Math.Seq.{drop-length}
-use Rattle.std.proofs.lemmas.Bool.{cases_Bool, cases_lt}
+use Rattle.std.proofs.lemmas.Bool.{cases_Bool, cases_lt, cond-true, cond-false}
+use Rattle.std.proofs.lemmas.List.{drop-drop, take-append-le, take_more}
+use Rattle.std.proofs.Math.Seq.{drop-append_seam, take-length}
+use Rattle.properties_format.specs.Edited.{is_editable}
+use Rattle.properties_format.specs.Reading.Edited.{without}
+use Rattle.properties_format.proofs.Body.Groups.{held-body, held_groups_of-meets}
+use Rattle.properties_format.proofs.Edited.Steps.{without-append}
+use Rattle.java_properties.specs.BodyKeys.{spans_bytes, AreWithin, AreOthersFound}
 use Rattle.std.specs.Str.{chars}
-use Rattle.properties_format.specs.Encoding.{Encoding}
+use Rattle.properties_format.specs.Encoding.{Encoding, windows_1252, utf_8, utf_16le, utf_16be}
+use Rattle.java_properties.specs.LineSearch.{unit_size}
 use Rattle.properties_format.specs.Escapes.{Malformed}
 use Rattle.properties_format.specs.Lines.{Ended}
 use Rattle.properties_format.specs.Groups.{joined}
@@ -34,10 +42,15 @@ use Rattle.java_properties.specs.PropertiesIter.{IsNoItem}
 use Rattle.java_properties.specs.declared.edit.groups.Group.{Group}
 use Rattle.java_properties.specs.declared.edit.groups.GroupReader.{GroupReader}
 use Rattle.java_properties.specs.declared.edit.place.Closing.{Closing}
-use Rattle.java_properties.specs.declared.edit.place.PairSpan.{PairSpan}
+use Rattle.java_properties.specs.declared.edit.place.BodySpan.{BodySpan}
 use Rattle.java_properties.specs.declared.edit.place.KeyPlace as place
 use Rattle.java_properties.specs.declared.error.ErrorKind.TheVariants as kind
 use Rattle.java_properties.specs.declared.error.PropertiesError.{PropertiesError}
+
+-- ---- parts of bytes
+
+pub front-of : (x y : List ℕ) → take (length x) (x ++ y) ≡ x
+front-of x y = take-append-le (length x) x y (omega arith) ∙ take-length x
 
 -- ---- the groups that were read
 
@@ -172,7 +185,7 @@ parted-group source g group a b = rw (a, b) (parted-tests source (is_empty_line 
     parted-tests source false false = refl
 
 -- the place with one more group after it
-place-kept : (key : List ℕ) (groups : List (List HeldLine)) (g : List HeldLine) (pair : Option PairSpan) → IsPlace key groups pair → has_key key g ≡ false
+place-kept : (key : List ℕ) (groups : List (List HeldLine)) (g : List HeldLine) (pair : Option BodySpan) → IsPlace key groups pair → has_key key g ≡ false
     → IsPlace key (groups ++ g ∷ []) pair
 place-kept key groups g None h other = last_place-other key groups g other ∙ ap (with_after g) h
 place-kept key groups g (Some pair) h other = record {
@@ -183,7 +196,7 @@ place-kept key groups g (Some pair) h other = record {
   ends = h.ends;
 }
 
-place-after : (key : List ℕ) (groups : List (List HeldLine)) (g : List HeldLine) (group : Group) (pair : Option PairSpan) (told : Bool) → IsPlace key groups pair
+place-after : (key : List ℕ) (groups : List (List HeldLine)) (g : List HeldLine) (group : Group) (pair : Option BodySpan) (told : Bool) → IsPlace key groups pair
     → told ≡ has_key key g → group.start ≡ length (groups_bytes groups) → group.end ≡ group.start + length (core_bytes g)
     → IsPlace key (groups ++ g ∷ []) (if told then Some (record { start = group.start; end = group.end }) else pair)
 place-after key groups g group pair true h is starts ends = record {
@@ -252,3 +265,145 @@ last-cr (c ∷ d ∷ ds) h =
     ap (λ k. get_or (c ∷ d ∷ ds) k 0 == carriage_return) n
     ∙ ap (λ k. get_or (d ∷ ds) k 0 == carriage_return) m
     ∙ last-cr (d ∷ ds) (grind (arith, nat_tests))
+
+-- ---- what is left without a key
+
+-- After these groups these parts of the body are left, and the part from a place on.
+pub record HasKept (e : Encoding) (body key : List ℕ) (s : GroupReader) (others : List BodySpan) (start : ℕ) : Type 0 where
+  pub groups : List (List HeldLine)
+  pub read : HasRead e body groups s
+  pub ordered : start ≤ s.at
+  pub within : AreWithin body others
+  pub bytes : spans_bytes body others ++ take (s.at - start) (drop start body) ≡ without key groups
+
+pub kept-none : (body key : List ℕ) (s : GroupReader) (others : List BodySpan) → s.at ≡ 0 → s.passed ≡ 0 → s.is_done ≡ false → IsWithin body s → others ≡ []
+    → HasKept (encoding_of s.encoding) body key s others 0
+kept-none body key s others at passed going w none = record {
+  groups = [];
+  read = read-none body s at passed going w;
+  ordered = omega arith;
+  within = subst (AreWithin body) (sym none) tt;
+  bytes = rw (none, at) refl;
+}
+
+spans-append : (body : List ℕ) (xs ys : List BodySpan) → spans_bytes body (xs ++ ys) ≡ spans_bytes body xs ++ spans_bytes body ys
+spans-append body [] ys = refl
+spans-append body (x ∷ xs) ys =
+    let part = take (x.end - x.start) (drop x.start body) in
+    ap (λ v. part ++ v) (spans-append body xs ys) ∙ sym (append_assoc part (spans_bytes body xs) (spans_bytes body ys))
+
+within-append : (body : List ℕ) (xs ys : List BodySpan) → AreWithin body xs → AreWithin body ys → AreWithin body (xs ++ ys)
+within-append body [] ys h k = k
+within-append body (x ∷ xs) ys h k = (h.0, h.1, within-append body xs ys h.2 k)
+
+one-span : (body : List ℕ) (xs : List BodySpan) (start after : ℕ)
+    → spans_bytes body (xs ++ record { start = start; end = after } ∷ []) ≡ spans_bytes body xs ++ take (after - start) (drop start body)
+one-span body xs start after =
+    spans-append body xs (record { start = start; end = after } ∷ []) ∙ ap (λ v. spans_bytes body xs ++ v) (append-nil (take (after - start) (drop start body)))
+
+no-part : (n : ℕ) (d : List ℕ) → take (n - n) d ≡ []
+no-part n d = ap (λ m. take m d) (let z : n - n ≡ 0 = omega arith in z)
+
+without-push : (key : List ℕ) (groups : List (List HeldLine)) (g : List HeldLine) → without key (groups ++ g ∷ []) ≡ without key groups ++ without key (g ∷ [])
+without-push key groups g = without-append key groups (g ∷ [])
+
+-- sources of these encodings are edited
+pub editable-bytes : (e : Encoding) → unit_size e ≡ 1 → is_editable e ≡ true
+editable-bytes windows_1252 h = refl
+editable-bytes utf_8 h = refl
+editable-bytes utf_16le h = absurd (omega arith)
+editable-bytes utf_16be h = absurd (omega arith)
+
+-- a pair with the key is taken out
+pub kept-removed : {e : Encoding} {body key : List ℕ} {s t : GroupReader} {others : List BodySpan} {start : ℕ} {group : Group} (more : List BodySpan) → HasKept e body key s others start
+    → TakesGroup body s group t → IsSound (outcome_of (chars (text_of body t group))) → true ≡ is_pair_with key (outcome_of (chars (text_of body t group)))
+    → more ≡ others ++ record { start = start; end = group.start } ∷ [] → HasKept e body key t more t.at
+kept-removed {e} {body} {key} {s} {t} {others} {start} {group} more h k sound is pushed =
+    let has : has_key key k.held ≡ true = ap (λ v. is_pair_with key (outcome_of v)) (sym k.text) ∙ sym is in
+    let starts = k.starts in
+    let ordered = h.ordered in
+    let place = h.read.within.place in
+    let within = within-append body others (record { start = start; end = group.start } ∷ []) h.within ((omega arith), (omega arith), tt) in
+    record {
+      groups = h.groups ++ k.held ∷ [];
+      read = read-more h.read k sound;
+      ordered = omega arith;
+      within = subst (AreWithin body) (sym pushed) within;
+      bytes = ap₂ (λ v w. spans_bytes body v ++ w) pushed (no-part t.at (drop t.at body))
+          ∙ append-nil (spans_bytes body (others ++ record { start = start; end = group.start } ∷ []))
+          ∙ one-span body others start group.start
+          ∙ ap (λ n. spans_bytes body others ++ take (n - start) (drop start body)) starts
+          ∙ h.bytes
+          ∙ sym (without-push key h.groups k.held ∙ ap (λ v. without key h.groups ++ v) (cond-true (has_key key k.held) [] (group_bytes k.held ++ []) has) ∙ append-nil (without key h.groups));
+    }
+
+-- the bytes of the group that came
+group-part : {e : Encoding} {body : List ℕ} {groups : List (List HeldLine)} {s t : GroupReader} {group : Group} → is_editable e ≡ true → HasRead e body groups s
+    → (k : TakesGroup body s group t) → (take (t.at - s.at) (drop s.at body) ≡ group_bytes k.held) × (s.at ≤ t.at)
+group-part {e} {body} {groups} {s} {t} {group} ok h k =
+    let front = groups_bytes groups in
+    let g = group_bytes k.held in
+    let rest = groups_bytes (groups_left body t) in
+    let whole : body ≡ front ++ (g ++ rest) =
+    sym (held-body e body (held_groups_of e body) ok (held_groups_of-meets e body))
+    ∙ ap groups_bytes (h.all ∙ ap (λ v. groups ++ v) k.groups)
+    ∙ groups_bytes-append groups (k.held ∷ groups_left body t) in
+    let next = k.span.next in
+    let starts = k.starts in
+    let placed = h.placed in
+    let size : t.at - s.at ≡ length g = omega arith in (
+      ap₂ (λ n d. take n d) size (ap₂ drop placed whole ∙ drop-append_seam front (g ++ rest)) ∙ front-of g rest,
+      (omega arith),
+    )
+
+-- any other group is left
+pub kept-more : {e : Encoding} {body key : List ℕ} {s t : GroupReader} {others : List BodySpan} {start : ℕ} {group : Group} → is_editable e ≡ true → HasKept e body key s others start
+    → TakesGroup body s group t → IsSound (outcome_of (chars (text_of body t group))) → false ≡ is_pair_with key (outcome_of (chars (text_of body t group)))
+    → HasKept e body key t others start
+kept-more {e} {body} {key} {s} {t} {others} {start} {group} ok h k sound is =
+    let has : has_key key k.held ≡ false = ap (λ v. is_pair_with key (outcome_of v)) (sym k.text) ∙ sym is in
+    let part = group-part ok h.read k in
+    let ordered = h.ordered in
+    let after = part.1 in
+    let sum : t.at - start ≡ (s.at - start) + (t.at - s.at) = omega arith in
+    let place : start + (s.at - start) ≡ s.at = omega arith in
+    let grown : take (t.at - start) (drop start body) ≡ take (s.at - start) (drop start body) ++ group_bytes k.held =
+    ap (λ n. take n (drop start body)) sum
+    ∙ take-add (s.at - start) (t.at - s.at) (drop start body)
+    ∙ ap (λ v. take (s.at - start) (drop start body) ++ take (t.at - s.at) v) (drop-drop (s.at - start) start body ∙ ap (λ n. drop n body) place)
+    ∙ ap (λ v. take (s.at - start) (drop start body) ++ v) part.0 in
+    record {
+      groups = h.groups ++ k.held ∷ [];
+      read = read-more h.read k sound;
+      ordered = omega arith;
+      within = h.within;
+      bytes = ap (λ v. spans_bytes body others ++ v) grown
+          ∙ sym (append_assoc (spans_bytes body others) (take (s.at - start) (drop start body)) (group_bytes k.held))
+          ∙ ap (λ v. v ++ group_bytes k.held) h.bytes
+          ∙ sym (without-push key h.groups k.held ∙ ap (λ v. without key h.groups ++ v) (cond-false (has_key key k.held) [] (group_bytes k.held ++ []) has ∙ append-nil (group_bytes k.held)));
+    }
+
+-- all groups were looked at
+pub kept-all : {e : Encoding} {body key : List ℕ} {s : GroupReader} {others : List BodySpan} {start : ℕ} (more : List BodySpan) → HasKept e body key s others start
+    → s.is_done ≡ true → more ≡ others ++ record { start = start; end = s.at } ∷ [] → AreOthersFound e body key more
+kept-all {e} {body} {key} {s} {others} {start} more h done pushed =
+    let all = read-all h.read done in
+    let place = h.read.within.place in
+    let within = within-append body others (record { start = start; end = s.at } ∷ []) h.within (h.ordered, place, tt) in
+    record {
+      sound = subst AreSound (sym all) h.read.sound;
+      within = subst (AreWithin body) (sym pushed) within;
+      bytes = ap (spans_bytes body) pushed ∙ one-span body others start s.at ∙ h.bytes ∙ ap (without key) (sym all);
+    }
+
+-- ---- parts that are copied
+
+pub within-at : (body : List ℕ) (spans : List BodySpan) (i : ℕ) (d : BodySpan) → AreWithin body spans → i < length spans
+    → ((get_or spans i d).start ≤ (get_or spans i d).end) × ((get_or spans i d).end ≤ length body)
+within-at body [] i d h k = absurd (omega arith)
+within-at body (s ∷ ss) zero d h k = (h.0, h.1)
+within-at body (s ∷ ss) (suc i) d h k = within-at body ss i d h.2 (omega arith)
+
+pub spans-more : (body : List ℕ) (spans : List BodySpan) (i : ℕ) (d : BodySpan) → i < length spans
+    → spans_bytes body (take (i + 1) spans) ≡ spans_bytes body (take i spans) ++ take ((get_or spans i d).end - (get_or spans i d).start) (drop (get_or spans i d).start body)
+spans-more body spans i d h = ap (spans_bytes body) (take_more spans i d h) ∙ one-span body (take i spans) (get_or spans i d).start (get_or spans i d).end

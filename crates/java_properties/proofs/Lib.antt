@@ -19,3 +19,4 @@ pub mod TextMaps
 pub mod BodyLines
 pub mod BodyGroups
 pub mod BodyKeys
+pub mod Editing

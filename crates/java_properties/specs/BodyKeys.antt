@@ -1,14 +1,16 @@
 -- Which logical lines are pairs with a key, and where the last of them stands in a body.
-use Rattle.std.specs.Prelude.{◌≡◌, ◌⊎◌, ℕ, ◌+◌, Bool, if◌then◌else◌, List, [], ◌∷◌, ◌++◌, length, Option, Some, None, Result, Ok, Err}
+use Rattle.std.specs.Prelude.{◌≡◌, ◌⊎◌, ℕ, ◌+◌, Bool, if◌then◌else◌, List, [], ◌∷◌, ◌++◌, take, drop, ◌-◌, ◌==◌, ◌&&◌, ◌≤◌, length, Option, Some, None, Result, Ok, Err}
 use Rattle.std.specs.Str.{chars}
-use Rattle.properties_format.specs.Encoding.{Encoding}
+use Rattle.std.specs.declared.vec.Vec.{Vec}
+use Rattle.properties_format.specs.Text.{line_feed}
+use Rattle.properties_format.specs.Encoding.{Encoding, begins_like_bom}
 use Rattle.properties_format.specs.Escapes.{Malformed}
 use Rattle.properties_format.specs.Body.{HeldLine, groups_bytes}
 use Rattle.properties_format.specs.Edited.{unreadable, final_group, added_ending, parting}
 use Rattle.properties_format.specs.Items.{Outcome, ignored, given, broken}
 use Rattle.properties_format.specs.Reading.Items.{outcome_of}
 use Rattle.properties_format.specs.Reading.Body.{is_pair_with, entries_in, held_groups_of}
-use Rattle.properties_format.specs.Reading.Edited.{KeyPlace, last_place, IsSound, AreSound, result_by}
+use Rattle.properties_format.specs.Reading.Edited.{KeyPlace, last_place, without, IsSound, AreSound, result_by}
 use Rattle.java_properties.specs.LentItems.{IsFoundIn}
 use Rattle.java_properties.specs.PropertiesIter.{IsNoItem}
 use Rattle.java_properties.specs.BodyGroups.{core_bytes}
@@ -17,7 +19,7 @@ use Rattle.java_properties.specs.declared.edit.groups.Group.{Group}
 use Rattle.java_properties.specs.declared.edit.place.Closing.{Closing}
 use Rattle.java_properties.specs.declared.edit.place.Closing.TheVariants as closing
 use Rattle.java_properties.specs.declared.edit.place.KeyPlace as place
-use Rattle.java_properties.specs.declared.edit.place.PairSpan.{PairSpan}
+use Rattle.java_properties.specs.declared.edit.place.BodySpan.{BodySpan}
 use Rattle.java_properties.specs.declared.error.ErrorKind.TheVariants as kind
 use Rattle.java_properties.specs.declared.error.PropertiesError.{PropertiesError}
 use Rattle.java_properties.specs.declared.iter.found.Found.{Found}
@@ -44,14 +46,14 @@ IsFaultOf groups e =
 -- ---- where a key stands
 
 -- The last pair with the key stands in this span.
-pub record IsPlaceOf (key : List ℕ) (groups : List (List HeldLine)) (pair : PairSpan) : Type 0 where
+pub record IsPlaceOf (key : List ℕ) (groups : List (List HeldLine)) (pair : BodySpan) : Type 0 where
   pub place : KeyPlace
   pub is : last_place key groups ≡ Some place
   pub division : groups ≡ place.before ++ place.group ∷ place.after
   pub starts : pair.start ≡ length (groups_bytes place.before)
   pub ends : pair.end ≡ pair.start + length (core_bytes place.group)
 
-abbrev pub IsPlace : List ℕ → List (List HeldLine) → Option PairSpan → Type 0
+abbrev pub IsPlace : List ℕ → List (List HeldLine) → Option BodySpan → Type 0
 IsPlace key groups None = last_place key groups ≡ None
 IsPlace key groups (Some pair) = IsPlaceOf key groups pair
 
@@ -83,3 +85,33 @@ pub record IsKeyFound (e : Encoding) (body key : List ℕ) (found : place.KeyPla
 abbrev pub FindsKey : Encoding → List ℕ → List ℕ → Result place.KeyPlace PropertiesError → Type 0
 FindsKey e body key (Ok found) = IsKeyFound e body key found
 FindsKey e body key (Err error) = IsFaultOf (held_groups_of e body) error
+
+-- ---- what is left without a key
+
+-- the bytes of these parts of a body, one after the other
+abbrev pub spans_bytes : List ℕ → List BodySpan → List ℕ
+spans_bytes body [] = []
+spans_bytes body (s ∷ ss) = take (s.end - s.start) (drop s.start body) ++ spans_bytes body ss
+
+-- these are parts of it
+abbrev pub AreWithin : List ℕ → List BodySpan → Type 0
+AreWithin body [] = Unit {0}
+AreWithin body (s ∷ ss) = (s.start ≤ s.end) × (s.end ≤ length body) × AreWithin body ss
+
+-- a source with these parts of its body alone, and an LF before them where else they would begin like a byte order mark that
+-- it has not
+abbrev pub left_bytes : List ℕ → ℕ → List BodySpan → List ℕ
+left_bytes source start others =
+    let rest = spans_bytes (drop start source) others in
+    take start source ++ ((if start == 0 && begins_like_bom rest then line_feed ∷ [] else []) ++ rest)
+
+-- A body was read, in which nothing is malformed, and these parts of it are left without the key.
+pub record AreOthersFound (e : Encoding) (body key : List ℕ) (others : List BodySpan) : Type 0 where
+  pub sound : AreSound (held_groups_of e body)
+  pub within : AreWithin body others
+  pub bytes : spans_bytes body others ≡ without key (held_groups_of e body)
+
+-- What looking for what is left finds.
+abbrev pub FindsOthers : {Z : Type 0} → Encoding → List ℕ → List ℕ → Result (Vec BodySpan Z) PropertiesError → Type 0
+FindsOthers e body key (Ok others) = AreOthersFound e body key others.items
+FindsOthers e body key (Err error) = IsFaultOf (held_groups_of e body) error

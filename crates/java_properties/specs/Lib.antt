@@ -24,3 +24,4 @@ pub mod BodyLines
 pub mod BodyGroups
 pub mod BodyKeys
 pub mod Sources
+pub mod Editing

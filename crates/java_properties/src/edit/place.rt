@@ -18,17 +18,17 @@ use std::alloc::Global;
 #[derive(Clone, Copy)]
 pub struct KeyPlace {
     /// The pair, without its last line ending.
-    pub pair: Option<PairSpan>,
+    pub pair: Option<BodySpan>,
     /// What parts a new pair from the last group.
     pub closing: Closing,
 }
 
-/// A pair, as a span of the bytes of a body.
+/// A part of a body, as a span of its bytes.
 #[derive(Clone, Copy)]
-pub struct PairSpan {
+pub struct BodySpan {
     /// The place of its first byte.
     pub start: usize,
-    /// The place after its last byte before its last line ending.
+    /// The place after its last byte.
     pub end: usize,
 }
 
@@ -72,7 +72,7 @@ impl KeyPlace {
         ensures { result ≡ found_after self group is_pair }
     {
         let pair = if is_pair {
-            Some(PairSpan {
+            Some(BodySpan {
                 start: group.start,
                 end: group.end,
             })

@@ -1,0 +1,47 @@
+-- What an editor returns.
+use Rattle.std.specs.Prelude.{◌≡◌, ◌⊎◌, ℕ, List, Result, Ok, Err}
+use Rattle.std.specs.Str.{chars}
+use Rattle.std.specs.declared.vec.Vec.{Vec}
+use Rattle.properties_format.specs.Encoding.{Encoding}
+use Rattle.properties_format.specs.Entries.{Content}
+use Rattle.properties_format.specs.Escapes.{Malformed}
+use Rattle.properties_format.specs.Body.{HeldLine}
+use Rattle.properties_format.specs.Edited.{EditResult, edited, unsupported, unreadable, put, remove, IsSetKeyResult, IsRemoveKeyResult, IsEditAllResult}
+use Rattle.properties_format.specs.Edited as format
+use Rattle.properties_format.specs.Changed.{IsSetIn, IsRemovedIn, AreEditedIn, map_edited, map_after, AreOthersThanLast, AreOthers, ReadsAfter, KeepsOthers}
+use Rattle.java_properties.specs.Errors.{IsBareError, IsMalformed}
+use Rattle.java_properties.specs.declared.error.ErrorKind.TheVariants as kind
+use Rattle.java_properties.specs.declared.error.PropertiesError.{PropertiesError}
+
+-- Why a source isn't edited, where this says which results are meant: its encoding is not one that is edited, and only then;
+-- or its first malformed escape; or there was no memory.
+abbrev pub IsRefusal : (EditResult → Type 0) → PropertiesError → Type 0
+IsRefusal IsMeant e =
+    (IsMeant unsupported × IsBareError kind.Unsupported e)
+    ⊎ (((how : Malformed) × (n : ℕ) × IsMeant (unreadable how n) × IsMalformed how n e) ⊎ ¬ (IsMeant unsupported) × IsBareError kind.Memory e)
+
+-- These bytes are the result that is meant, and no others are. They read as the source after the edit.
+pub record IsEdit (IsMeant : EditResult → Type 0) (Reads : List ℕ → Type 0) (bytes : List ℕ) : Type 0 where
+  pub result : IsMeant (edited bytes)
+  pub only : (other : EditResult) → IsMeant other → other ≡ edited bytes
+  pub reads : Reads bytes
+
+-- ---- a key
+
+-- The source with a key set: what its result is and reads as; and every group but the last pair with the key stands in it.
+pub record IsSet (e : Encoding) (source key value bytes : List ℕ) : Type 0 where
+  pub edit : IsEdit (IsSetKeyResult e source key value) (ReadsAfter (IsSetIn key value) (map_edited (put key value)) e source) bytes
+  pub keeps : KeepsOthers (AreOthersThanLast key) e source bytes
+
+abbrev pub SetsKey : {Z : Type 0} → Encoding → List ℕ → List ℕ → List ℕ → Result (Vec ℕ Z) PropertiesError → Type 0
+SetsKey e source key value (Ok bytes) = IsSet e source key value bytes.items
+SetsKey e source key value (Err error) = IsRefusal (IsSetKeyResult e source key value) error
+
+-- The source without a key: what its result is and reads as; and every group that is no pair with the key stands in it.
+pub record IsRemoved (e : Encoding) (source key bytes : List ℕ) : Type 0 where
+  pub edit : IsEdit (IsRemoveKeyResult e source key) (ReadsAfter (IsRemovedIn key) (map_edited (remove key)) e source) bytes
+  pub keeps : KeepsOthers (AreOthers key) e source bytes
+
+abbrev pub RemovesKey : {Z : Type 0} → Encoding → List ℕ → List ℕ → Result (Vec ℕ Z) PropertiesError → Type 0
+RemovesKey e source key (Ok bytes) = IsRemoved e source key bytes.items
+RemovesKey e source key (Err error) = IsRefusal (IsRemoveKeyResult e source key) error
