@@ -1,4 +1,4 @@
-//! The three laws of the format, for the proofs of callers.
+//! The three laws of the format and the laws of its edits, for the proofs of callers.
 //!
 //! The functions do nothing: each has a law as its contract. The contracts of [`read_lines`](crate::read_lines) and
 //! [`run_calls`](crate::run_calls) say the same of one run.
@@ -12,6 +12,10 @@ ghost use Rattle.properties_format.specs.Escapes.{IsMeaning};
 ghost use Rattle.properties_format.specs.Settings.{Settings};
 ghost use Rattle.properties_format.specs.Writing.{Call};
 ghost use Rattle.properties_format.specs.Pairs.{Pair};
+ghost use Rattle.properties_format.specs.Edited.{Edit};
+ghost use Rattle.properties_format.specs.EditLaws.{RemovingNoPairChangesNothing, SettingTwiceIsSettingOnce};
+ghost use Rattle.properties_format.specs.EditLaws.{SettingGivesTheValue, RemovingTakesTheValue};
+ghost use Rattle.properties_format.specs.EditLaws.{NoEditsChangeNothing, OneEditIsItsCall, ListsOfEditsFollow};
 ghost use Rattle.properties_format.specs.Laws.{HasOne, HasOneReading, ReadingInvertsWriting, EqualBytesOfEqualPairs, WritingAnewChangesNothing, MapIsReadBack, SplittingCommutes, LineEndsPartPieces};
 
 /// One reading: what an input says exists and is unique, step by step and for each way in which it goes on.
@@ -64,6 +68,27 @@ pub fn splitting_commutes_with_decoding()
     ensures parts { (e : Encoding) (before : List ℕ) (c : ℕ) (after : List ℕ) → LineEndsPartPieces e before c after }
 {}
 
+/// What edits come to, whatever the source: removing a key that no pair has changes no byte; setting a key twice is
+/// setting it once, to the later value; after a key is set the map has its value, after it is removed none, and every
+/// other key has what it had.
+///
+/// No edits give the source back. A list of one edit is the call for that edit, and one list of edits after another is
+/// the second list on what the first gave.
+///
+/// ```text
+/// laws::editing();
+/// // A proof that comes after may take two lists of edits, made one after the other, to be one list.
+/// ```
+pub fn editing()
+    ensures absent { (e : Encoding) (source key : List ℕ) → RemovingNoPairChangesNothing e source key }
+    ensures twice { (e : Encoding) (source key v w : List ℕ) → SettingTwiceIsSettingOnce e source key v w }
+    ensures set { (e : Encoding) (source key value : List ℕ) → SettingGivesTheValue e source key value }
+    ensures removed { (e : Encoding) (source key : List ℕ) → RemovingTakesTheValue e source key }
+    ensures none { (e : Encoding) (source : List ℕ) → NoEditsChangeNothing e source }
+    ensures one { (e : Encoding) (source : List ℕ) (edit : Edit) → OneEditIsItsCall e source edit }
+    ensures lists { (e : Encoding) (source : List ℕ) (xs ys : List Edit) → ListsOfEditsFollow e source xs ys }
+{}
+
 #[cfg(test)]
 mod tests {
     use super::*;
@@ -73,5 +98,6 @@ mod tests {
         one_reading();
         reading_inverts_writing();
         splitting_commutes_with_decoding();
+        editing();
     }
 }

@@ -15,5 +15,7 @@ pub mod AsciiOnly
 pub mod Maps
 pub mod Body
 pub mod Edited
+pub mod Slots
 pub mod Changed
 pub mod Laws
+pub mod EditLaws

@@ -24,4 +24,5 @@ pub mod Body
 pub mod Edited
 pub mod Changed
 pub mod Laws
+pub mod EditLaws
 pub mod Reading

@@ -15,3 +15,5 @@ pub mod Settings
 pub mod Maps
 pub mod Body
 pub mod Edited
+pub mod Slots
+pub mod Cells

@@ -33,7 +33,7 @@ decoded-is e d = (pieces_of e d, pieces_of-meets e d, refl)
 decoded-only : (e : Encoding) (d x : List ℕ) → IsDecodedLine e d x → x ≡ decoded_line e d
 decoded-only e d x (ps, h, s) = s ∙ ap characters (pieces_of-only e d ps h)
 
-held_of-meets : (e : Encoding) (ls : List Ended) (last : List ℕ) → AreHeld e ls last (held_of e ls last)
+pub held_of-meets : (e : Encoding) (ls : List Ended) (last : List ℕ) → AreHeld e ls last (held_of e ls last)
 held_of-meets e [] last = (decoded_line e last, decoded-is e last, refl)
 held_of-meets e (l ∷ ls) last = (decoded_line e l.text, held_of e ls last, decoded-is e l.text, refl, held_of-meets e ls last)
 
@@ -144,7 +144,7 @@ EndsOpen (l ∷ ls) = IsUnfinished (l ∷ ls)
 abbrev pub IsLastFit : List HeldLine → Type 0
 IsLastFit g = IsWhole (as_lines g) ⊎ EndsOpen (as_lines g)
 
-abbrev AreFit : List (List HeldLine) → Type 0
+abbrev pub AreFit : List (List HeldLine) → Type 0
 AreFit [] = Unit {0}
 AreFit (g ∷ []) = IsLastFit g
 AreFit (g ∷ h ∷ gs) = IsWhole (as_lines g) × AreFit (h ∷ gs)
@@ -165,7 +165,7 @@ fit (g ∷ i ∷ gs) (w ∷ whole) u t h k =
 -- ---- the bytes of a group
 
 -- lines with their endings, as the body holds them
-abbrev held_ended : Encoding → List Ended → List HeldLine
+abbrev pub held_ended : Encoding → List Ended → List HeldLine
 held_ended e [] = []
 held_ended e (l ∷ ls) = record { bytes = l.text; text = decoded_line e l.text; ending = Some l.by } ∷ held_ended e ls
 
@@ -202,7 +202,7 @@ lines-back : (ls ms : List Ended) (last : List ℕ) → AreLines (ls ++ ms) last
 lines-back [] ms last h = h
 lines-back (l ∷ ls) ms last h = lines-back ls ms last h.2
 
-ended-bytes : (e : Encoding) (ls : List Ended) → group_bytes (held_ended e ls) ≡ put_together ls []
+pub ended-bytes : (e : Encoding) (ls : List Ended) → group_bytes (held_ended e ls) ≡ put_together ls []
 ended-bytes e [] = refl
 ended-bytes e (l ∷ ls) = ap (λ v. l.text ++ (line_ending_text l.by ++ v)) (ended-bytes e ls)
 
@@ -210,7 +210,7 @@ ended-texts : (e : Encoding) (ls : List Ended) → ended_lines e ls ≡ as_lines
 ended-texts e [] = refl
 ended-texts e (l ∷ ls) = ap (λ v. record { number = 0; text = decoded_line e l.text } ∷ v) (ended-texts e ls)
 
-held-bytes : (e : Encoding) (ls : List Ended) (last : List ℕ) → group_bytes (held_of e ls last) ≡ put_together ls last
+pub held-bytes : (e : Encoding) (ls : List Ended) (last : List ℕ) → group_bytes (held_of e ls last) ≡ put_together ls last
 held-bytes e [] last = append-nil last
 held-bytes e (l ∷ ls) last = ap (λ v. l.text ++ (line_ending_text l.by ++ v)) (held-bytes e ls last)
 
@@ -238,18 +238,24 @@ line-ascii text crlf y = (text, carriage_return, line_feed ∷ y, refl, lit< tt)
 
 -- ---- the groups one by one
 
--- A group with others after it: its last line has an ending, and its bytes are one whole group.
+-- A group with others after it: its last line has an ending, its bytes are one whole group, and its lines are those of its bytes.
 pub record IsHeldFront (e : Encoding) (g : List HeldLine) : Type 0 where
   pub front : IsFront e (group_bytes g) (as_lines g)
   pub by : LineEnding
   pub ending : last_ending g ≡ Some by
   pub ascii : HasAscii (group_bytes g)
+  pub lines : List Ended
+  pub held : g ≡ held_ended e lines
+  pub are_lines : AreLines lines []
 
--- The last group: its last line has no ending, and it is whole or ends open.
+-- The last group: its last line has no ending, it is whole or ends open, and its lines are those of its bytes.
 pub record IsHeldLast (e : Encoding) (g : List HeldLine) : Type 0 where
   pub texts : line_texts e (group_bytes g) ≡ as_lines g
   pub fits : IsLastFit g
   pub ending : last_ending g ≡ None
+  pub lines : Lines
+  pub held : g ≡ held_of e lines.ended lines.last
+  pub are_lines : AreLines lines.ended lines.last
 
 -- There is a group at least, and each is such.
 abbrev pub AreHeldGroups : Encoding → List (List HeldLine) → Type 0
@@ -268,6 +274,9 @@ front-of e (l ∷ ls) h k =
       by = a.0;
       ending = a.1;
       ascii = line-ascii l.text l.by (group_bytes (held_ended e ls));
+      lines = l ∷ ls;
+      held = refl;
+      are_lines = h;
     }
 
 last-of : (e : Encoding) (ls : List Ended) (last : List ℕ) → AreLines ls last → IsLastFit (held_of e ls last) → IsHeldLast e (held_of e ls last)
@@ -277,6 +286,9 @@ last-of e ls last h k =
       texts = ap (λ v. line_texts_in e (lines_of v)) (held-bytes e ls last) ∙ ap (line_texts_in e) (lines_of-together ls last h) ∙ held-texts e ls last;
       fits = k;
       ending = held-last e ls last;
+      lines = record { ended = ls; last = last };
+      held = refl;
+      are_lines = h;
     }
 
 fit-some : (h : List HeldLine) (gs : List (List HeldLine)) → AreFit (h ∷ gs) → held_in (h ∷ gs) ≢ []

@@ -16,7 +16,7 @@ use Rattle.properties_format.proofs.Changed.Laws.{IsReadable, says, IsReadTo, ke
 use Rattle.properties_format.proofs.Changed.Maps.{map-edited, map-after}
 
 -- a source that is edited is readable
-readable : (e : Encoding) (source : List ℕ) → is_editable (byte_order_mark e source).encoding ≡ true → ItemsAre e source HoldsNoMalformed
+pub readable : (e : Encoding) (source : List ℕ) → is_editable (byte_order_mark e source).encoding ≡ true → ItemsAre e source HoldsNoMalformed
     → IsReadable e source
 readable e source ok h = record { editable = ok; no_fault = subst HoldsNoMalformed (items_of-only e source end h.0 h.1) h.2 }
 

@@ -89,7 +89,7 @@ ascii-cut x y z (u, c, v, s, l) =
     ∙ ap (λ w. begins_like_bom (w ++ z)) (sym s)
 
 -- nor what stands after a line ending
-ending-cut : (x : List ℕ) (by : LineEnding) (y : List ℕ) → begins_like_bom (x ++ (line_ending_text by ++ y)) ≡ begins_like_bom x
+pub ending-cut : (x : List ℕ) (by : LineEnding) (y : List ℕ) → begins_like_bom (x ++ (line_ending_text by ++ y)) ≡ begins_like_bom x
 ending-cut x lf y = byte_order_mark-cut x line_feed y (lit< tt)
 ending-cut x cr y = byte_order_mark-cut x carriage_return y (lit< tt)
 ending-cut x crlf y = byte_order_mark-cut x carriage_return (line_feed ∷ y) (lit< tt)
@@ -101,7 +101,7 @@ pair-parts e first key value =
     encoded_text-append e (spelt_key e false first key) (equals_sign ∷ spelt_text e false in_key_or_value value)
     ∙ ap (λ o. encoded_text e (spelt_key e false first key) ++ (unwrap_or o [] ++ encoded_text e (spelt_text e false in_key_or_value value))) (encoded-ascii e equals_sign (lit< tt))
 
-pair-ascii : (e : Encoding) (first : Bool) (key value : List ℕ) → HasAscii (pair_bytes e first key value)
+pub pair-ascii : (e : Encoding) (first : Bool) (key value : List ℕ) → HasAscii (pair_bytes e first key value)
 pair-ascii e first key value =
     (encoded_text e (spelt_key e false first key), equals_sign, encoded_text e (spelt_text e false in_key_or_value value), pair-parts e first key value, lit< tt)
 

@@ -231,14 +231,14 @@ last-open : (h : HeldLine) (hs : List HeldLine) → AreOpen (as_lines (h ∷ hs)
 last-open h [] k = k.0
 last-open h (i ∷ hs) k = last-open i hs k.1
 
-fit-closed : (g : List HeldLine) → IsLastFit g → is_left_open g ≡ false → IsWhole (as_lines g)
+pub fit-closed : (g : List HeldLine) → IsLastFit g → is_left_open g ≡ false → IsWhole (as_lines g)
 fit-closed g (inl h) k = h
 fit-closed [] (inr h) k = absurd h
 fit-closed (h ∷ hs) (inr u) k =
     let a : is_left_open (h ∷ hs) ≡ true = and_from (not (is_comment_line h.text)) (is_last_open (h ∷ hs)) (ap not u.0) (last-open h hs u.1) in
     absurd (cc)
 
-fit-open : (g : List HeldLine) → IsLastFit g → is_left_open g ≡ true → EndsOpen (as_lines g)
+pub fit-open : (g : List HeldLine) → IsLastFit g → is_left_open g ≡ true → EndsOpen (as_lines g)
 fit-open g (inr h) k = h
 fit-open [] (inl h) k = absurd h
 fit-open (h ∷ hs) (inl (inl w)) k =
@@ -249,7 +249,7 @@ fit-open (h ∷ hs) (inl (inr w)) k =
     absurd (cc)
 
 -- an empty line after a group that is left open closes it, and adds nothing to it
-closed-by_empty : (x : List Line) → EndsOpen x
+pub closed-by_empty : (x : List Line) → EndsOpen x
     → IsWhole (x ++ record { number = 0; text = [] } ∷ []) × (joined (x ++ record { number = 0; text = [] } ∷ []) ≡ joined x)
 closed-by_empty [] h = absurd h
 closed-by_empty (l ∷ ls) h = (

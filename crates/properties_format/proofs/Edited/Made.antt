@@ -39,18 +39,18 @@ HasKey-test key g (value, h) =
 pub has_key-false : (key : List ℕ) (g : List HeldLine) → has_key key g ≡ false → ¬ (HasKey key g)
 has_key-false key g h = λ k. let m = HasKey-test key g k in absurd (cc)
 
-no_key-test : (key : List ℕ) (g : List HeldLine) → ¬ (HasKey key g) → has_key key g ≡ false
+pub no_key-test : (key : List ℕ) (g : List HeldLine) → ¬ (HasKey key g) → has_key key g ≡ false
 no_key-test key g h = false_from_ne_true (has_key key g) (λ k. h (has_key-true key g k))
 
 -- ---- the last of them
 
 -- the place is that of the last group with the key
-record IsLastPlace (key : List ℕ) (gs : List (List HeldLine)) (p : KeyPlace) : Type 0 where
-  division : gs ≡ p.before ++ p.group ∷ p.after
-  has : HasKey key p.group
-  no_later : NoneHasKey key p.after
+pub record IsLastPlace (key : List ℕ) (gs : List (List HeldLine)) (p : KeyPlace) : Type 0 where
+  pub division : gs ≡ p.before ++ p.group ∷ p.after
+  pub has : HasKey key p.group
+  pub no_later : NoneHasKey key p.after
 
-abbrev IsPlace : List ℕ → List (List HeldLine) → Option KeyPlace → Type 0
+abbrev pub IsPlace : List ℕ → List (List HeldLine) → Option KeyPlace → Type 0
 IsPlace key gs None = NoneHasKey key gs
 IsPlace key gs (Some p) = IsLastPlace key gs p
 
@@ -64,7 +64,7 @@ place-meets : (key : List ℕ) (g : List HeldLine) (gs : List (List HeldLine)) (
 place-meets key g gs None h = place-here key g gs (has_key key g) refl h
 place-meets key g gs (Some p) h = record { division = ap (λ v. g ∷ v) h.division; has = h.has; no_later = h.no_later }
 
-last_place-meets : (key : List ℕ) (gs : List (List HeldLine)) → IsPlace key gs (last_place key gs)
+pub last_place-meets : (key : List ℕ) (gs : List (List HeldLine)) → IsPlace key gs (last_place key gs)
 last_place-meets key [] = tt
 last_place-meets key (g ∷ gs) = place-meets key g gs (last_place key gs) (last_place-meets key gs)
 

@@ -101,18 +101,18 @@ alone-joined l (inl h) = joined-comment_line l [] h
 alone-joined l (inr h) = joined-closed l h
 
 -- the line of the printed pair
-abbrev pair_line : Encoding → Bool → List ℕ → List ℕ → Line
+abbrev pub pair_line : Encoding → Bool → List ℕ → List ℕ → Line
 pair_line e first key value = record { number = 0; text = pair_text e first key value }
 
-pair-whole : (e : Encoding) (first : Bool) (key value : List ℕ) → All scalar key → All scalar value → IsWhole (pair_line e first key value ∷ [])
+pub pair-whole : (e : Encoding) (first : Bool) (key value : List ℕ) → All scalar key → All scalar value → IsWhole (pair_line e first key value ∷ [])
 pair-whole e first key value h k = alone-whole (pair_line e first key value) (pair-read_as e first key value h k).alone
 
-pair-outcome : (e : Encoding) (first : Bool) (key value : List ℕ) → All scalar key → All scalar value
+pub pair-outcome : (e : Encoding) (first : Bool) (key value : List ℕ) → All scalar key → All scalar value
     → outcome_of (joined (pair_line e first key value ∷ [])) ≡ given (pair key value)
 pair-outcome e first key value h k =
     let r = pair-read_as e first key value h k in ap outcome_of (alone-joined (pair_line e first key value) r.alone) ∙ r.outcome
 
-pair-plain : (e : Encoding) (first : Bool) (key value : List ℕ) → is_editable e ≡ true → All scalar key → All scalar value
+pub pair-plain : (e : Encoding) (first : Bool) (key value : List ℕ) → is_editable e ≡ true → All scalar key → All scalar value
     → HoldsNoLineEnd (pair_bytes e first key value)
 pair-plain e first key value ok h k =
     plain-bytes e (pair_bytes e first key value) ok (subst HoldsNoLineEnd (sym (pair-decoded e first key value ok h k)) (pair-read_as e first key value h k).plain)

@@ -60,7 +60,7 @@ result_by-meets (item n content ∷ entries) made = by-item n content entries ma
 result_by-meets (malformed kind n ∷ entries) made = (refl, refl)
 result_by-meets (read_fault n ∷ entries) made = by-fault n entries made (result_by entries made) (result_by-meets entries made)
 
-result_by-edited : (entries : List Entry) (made : List ℕ) → HoldsNoMalformed entries → result_by entries made ≡ edited made
+pub result_by-edited : (entries : List Entry) (made : List ℕ) → HoldsNoMalformed entries → result_by entries made ≡ edited made
 result_by-edited [] made h = refl
 result_by-edited (item n content ∷ entries) made h = result_by-edited entries made h
 result_by-edited (malformed kind n ∷ entries) made h = absurd h
@@ -74,7 +74,7 @@ result_by-unreadable (malformed other m ∷ entries) made kind n h = ap₂ (λ v
 result_by-unreadable (read_fault m ∷ entries) made kind n h = result_by-unreadable entries made kind n h
 
 -- the encoding in force is edited
-result-editable : (e : Encoding) (source made : List ℕ) → is_editable (byte_order_mark e source).encoding ≡ true
+pub result-editable : (e : Encoding) (source made : List ℕ) → is_editable (byte_order_mark e source).encoding ≡ true
     → result_of e source made ≡ result_by (items_of e source end) made
 result-editable e source made ok = cond-true (is_editable (byte_order_mark e source).encoding) (result_by (items_of e source end) made) unsupported ok
 

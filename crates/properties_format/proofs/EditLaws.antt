@@ -1,0 +1,180 @@
+-- The laws of edits.
+use Rattle.std.proofs.Common.{◌≡◌, ◌≢◌, ℕ, ◌+◌, true, false, List, [], ◌∷◌, ◌++◌, length, Option, Some, None, refl, ap, sym, ◌∙◌, inl, inr, subst}
+use Rattle.std.specs.Prelude.{bytes_eq}
+use Rattle.std.proofs.lemmas.Bool.{cond-true, cond-false, false_from_ne_true, cases_Bool}
+use Rattle.std.proofs.lemmas.Slice.Eq.{bytes_eq-Decides}
+use Rattle.properties_format.specs.Encoding.{Encoding, InForce, byte_order_mark, begins_like_bom}
+use Rattle.properties_format.specs.Lines.{end}
+use Rattle.properties_format.specs.Groups.{joined}
+use Rattle.properties_format.specs.Entries.{comment, pair, Entry}
+use Rattle.properties_format.specs.Items.{Outcome, ignored, given, broken, IsItems}
+use Rattle.properties_format.specs.Reading.Items.{outcome_of, followed, items_of}
+use Rattle.properties_format.specs.Maps.{HasNoPair, IsMap}
+use Rattle.properties_format.specs.Body.{HeldLine, as_lines, NoneHasKey, group_bytes, groups_bytes}
+use Rattle.properties_format.specs.Edited.{bom_of, guarding_lf, is_editable, HoldsNoMalformed, Edit, put, remove, edited, IsSetKeyResult, IsRemoveKeyResult, IsEditAllResult}
+use Rattle.properties_format.specs.Changed.{map_edited}
+use Rattle.properties_format.specs.Reading.Body.{held_groups_of, is_pair_with, has_key, entries_in}
+use Rattle.properties_format.specs.Reading.Edited.{without, key_set, edit_made, edits_made, result_of, set_key_result, edit_all_result}
+use Rattle.properties_format.specs.EditLaws.{RemovingNoPairChangesNothing, SettingTwiceIsSettingOnce, HasMap, DiffersAt, SettingGivesTheValue, RemovingTakesTheValue, NoEditsChangeNothing, OneEditIsItsCall, ListsOfEditsFollow}
+use Rattle.properties_format.proofs.Items.Unique.{items_of-only}
+use Rattle.properties_format.proofs.Maps.{map-only}
+use Rattle.properties_format.proofs.Body.Groups.{held_groups_of-meets, held-body}
+use Rattle.properties_format.proofs.Body.Numbers.{items_of-groups}
+use Rattle.properties_format.proofs.Edited.Made.{has_key-true, has_key-false, key_set-only, key_removed-only}
+use Rattle.properties_format.proofs.Edited.Results.{edits_made-only, set_key_result-meets, set_key_result-only, remove_key_result-meets, remove_key_result-only, edit_all_result-meets, edit_all_result-only, result_by-edited, result-editable}
+use Rattle.properties_format.proofs.Edited.ByteOrderMarks.{has_bom, source-whole}
+use Rattle.properties_format.specs.Reading.Slots.{slots_bytes, slots_of}
+use Rattle.properties_format.proofs.Slots.Places.{put-twice}
+use Rattle.properties_format.proofs.Slots.Edits.{edits_made-slots}
+use Rattle.properties_format.proofs.Changed.Laws.{IsReadable, key_set-says, edits-say}
+use Rattle.properties_format.proofs.Changed.Read.{readable, set_key-reads, remove_key-reads}
+
+-- ---- a key that no pair has
+
+-- what an entry says of the groups after it
+followed-none : (key : List ℕ) (n : ℕ) (o : Outcome) (entries : List Entry) → HoldsNoMalformed (followed n o entries) → HasNoPair key (followed n o entries)
+    → (is_pair_with key o ≡ false) × HoldsNoMalformed entries × HasNoPair key entries
+followed-none key n ignored entries h k = (refl, h, k)
+followed-none key n (given (comment text)) entries h k = (refl, h, k)
+followed-none key n (given (pair l v)) entries h k =
+    (false_from_ne_true (bytes_eq l key) (λ t. k.0 ((bytes_eq-Decides l key).0 t)), h, k.1)
+followed-none key n (broken kind) entries h k = absurd h
+
+-- where no item is a pair with the key, no group has it
+none-have : (key : List ℕ) (n : ℕ) (gs : List (List HeldLine)) → HoldsNoMalformed (entries_in n gs) → HasNoPair key (entries_in n gs) → NoneHasKey key gs
+none-have key n [] h k = tt
+none-have key n (g ∷ gs) h k =
+    let m = followed-none key n (outcome_of (joined (as_lines g))) (entries_in (n + length g) gs) h k in
+    (has_key-false key g m.0, none-have key (n + length g) gs m.1 m.2)
+
+-- and then all bytes are left
+without-none : (key : List ℕ) (gs : List (List HeldLine)) → NoneHasKey key gs → without key gs ≡ groups_bytes gs
+without-none key [] h = refl
+without-none key (g ∷ gs) h = elim (cases_Bool (has_key key g)) [
+  | inl k ↦ absurd (h.0 (has_key-true key g k))
+  | inr k ↦ rw k (ap (λ v. group_bytes g ++ v) (without-none key gs h.1))
+]
+
+-- the body of a source needs no LF that guards it
+body-unguarded : (e : Encoding) (source : List ℕ) → is_editable (byte_order_mark e source).encoding ≡ true
+    → guarding_lf source (byte_order_mark e source).body ≡ []
+body-unguarded e source ok = elim (has_bom e source ok) [
+  | inl m ↦
+      let b : begins_like_bom source ≡ true = ap begins_like_bom (source-whole e source ∙ ap (λ v. v ++ (byte_order_mark e source).body) m.0) in
+      rw b refl
+  | inr m ↦
+      let b : begins_like_bom (byte_order_mark e source).body ≡ false = ap (λ v. let w : InForce = v in begins_like_bom w.body) m.2 ∙ m.0 in
+      rw (m.0, b) refl
+]
+
+pub removing-no_pair : (e : Encoding) (source key : List ℕ) → RemovingNoPairChangesNothing e source key
+removing-no_pair e source key entries is none result h =
+    let f = byte_order_mark e source in
+    let gs = held_groups_of f.encoding f.body in
+    let r = readable e source h.0 h.1 in
+    let all = items_of-only e source end entries is ∙ items_of-groups e source in
+    let left : without key gs ≡ f.body =
+    without-none key gs (none-have key 1 gs (subst HoldsNoMalformed (items_of-groups e source) r.no_fault) (subst (HasNoPair key) all none))
+    ∙ held-body f.encoding f.body gs h.0 (held_groups_of-meets f.encoding f.body) in
+    key_removed-only e source key result h.2
+    ∙ ap (λ v. bom_of source ++ (guarding_lf source v ++ v)) left
+    ∙ ap (λ v. bom_of source ++ (v ++ f.body)) (body-unguarded e source h.0)
+    ∙ sym (source-whole e source)
+
+-- ---- a key that is set twice
+
+-- the result of a source that can be edited
+result-made : (e : Encoding) (source made : List ℕ) → IsReadable e source → result_of e source made ≡ edited made
+result-made e source made r = result-editable e source made r.editable ∙ result_by-edited (items_of e source end) made r.no_fault
+
+pub setting-twice : (e : Encoding) (source key first second : List ℕ) → SettingTwiceIsSettingOnce e source key first second
+setting-twice e source key first second k v w between h result =
+    let f = byte_order_mark e source in
+    let slots = slots_of (held_groups_of f.encoding f.body) in
+    let r = readable e source h.0 h.1 in
+    let next = (key_set-says e source key first between r k v h.2).readable in
+    let bytes : key_set e between key second ≡ key_set e source key second =
+    ap (λ x. key_set e x key second) (key_set-only e source key first between h.2)
+    ∙ edits_made-slots e source (put key first ∷ put key second ∷ []) h.0 ((k, v), ((k, w), tt))
+    ∙ ap (λ x. bom_of source ++ slots_bytes x) (put-twice f.encoding key first second slots)
+    ∙ sym (edits_made-slots e source (put key second ∷ []) h.0 ((k, w), tt)) in
+    let same : set_key_result e between key second ≡ set_key_result e source key second =
+    result-made e between (key_set e between key second) next ∙ ap edited bytes ∙ sym (result-made e source (key_set e source key second) r) in (
+      (λ i. subst (IsSetKeyResult e source key second) (sym (set_key_result-only e between key second result i ∙ same)) (set_key_result-meets e source key second)),
+      (λ i. subst (IsSetKeyResult e between key second) (sym (set_key_result-only e source key second result i ∙ sym same)) (set_key_result-meets e between key second)),
+    )
+
+-- ---- the map
+
+-- the maps of a source and of its result, where the result reads as the source after this edit
+maps-differ : (e : Encoding) (source result key : List ℕ) (edit : Edit) (value : Option (List ℕ)) (old new : List ℕ → Option (List ℕ))
+    → ((before after : List Entry) → IsItems e source end before → IsItems e result end after → IsMap before old → IsMap after (map_edited edit old))
+    → ((value_at : List ℕ → Option (List ℕ)) → DiffersAt key value value_at (map_edited edit value_at))
+    → HasMap e source old → HasMap e result new → DiffersAt key value old new
+maps-differ e source result key edit value old new reads differs (before, items, map) (after, next_items, next_map) =
+    let changed = reads before after items next_items map in
+    let same : ((k : List ℕ) → new k ≡ map_edited edit old k) = λ k. map-only after new next_map k ∙ sym (map-only after (map_edited edit old) changed k) in
+    let d = differs old in
+    (same key ∙ d.0, (λ other n. same other ∙ d.1 other n))
+
+own-test : (key : List ℕ) → bytes_eq key key ≡ true
+own-test key = (bytes_eq-Decides key key).1 refl
+
+other-test : (other key : List ℕ) → other ≢ key → bytes_eq other key ≡ false
+other-test other key n = false_from_ne_true (bytes_eq other key) (λ t. n ((bytes_eq-Decides other key).0 t))
+
+set-differs : (key value : List ℕ) (value_at : List ℕ → Option (List ℕ)) → DiffersAt key (Some value) value_at (map_edited (put key value) value_at)
+set-differs key value value_at = (
+  cond-true (bytes_eq key key) (Some value) (value_at key) (own-test key),
+  (λ other n. cond-false (bytes_eq other key) (Some value) (value_at other) (other-test other key n)),
+)
+
+removed-differs : (key : List ℕ) (value_at : List ℕ → Option (List ℕ)) → DiffersAt key None value_at (map_edited (remove key) value_at)
+removed-differs key value_at = (
+  cond-true (bytes_eq key key) None (value_at key) (own-test key),
+  (λ other n. cond-false (bytes_eq other key) None (value_at other) (other-test other key n)),
+)
+
+pub setting-gives : (e : Encoding) (source key value : List ℕ) → SettingGivesTheValue e source key value
+setting-gives e source key value k v result h old new =
+    maps-differ e source result key (put key value) (Some value) old new
+    (λ before after i j m. (set_key-reads e source key value result k v h before after i j).mapped old m) (set-differs key value)
+
+pub removing-takes : (e : Encoding) (source key : List ℕ) → RemovingTakesTheValue e source key
+removing-takes e source key result h old new =
+    maps-differ e source result key (remove key) None old new
+    (λ before after i j m. (remove_key-reads e source key result h before after i j).mapped old m) (removed-differs key)
+
+-- ---- lists of edits
+
+pub no_edits-nothing : (e : Encoding) (source : List ℕ) → NoEditsChangeNothing e source
+no_edits-nothing e source result h = h.2
+
+pub one_edit-call : (e : Encoding) (source : List ℕ) (edit : Edit) → OneEditIsItsCall e source edit
+one_edit-call e source (put key value) = λ result.
+    let all = put key value ∷ [] in (
+      (λ h. subst (IsSetKeyResult e source key value) (sym (edit_all_result-only e source all result h)) (set_key_result-meets e source key value)),
+      (λ h. subst (IsEditAllResult e source all) (sym (set_key_result-only e source key value result h)) (edit_all_result-meets e source all)),
+    )
+one_edit-call e source (remove key) = λ result.
+    let all = remove key ∷ [] in (
+      (λ h. subst (IsRemoveKeyResult e source key) (sym (edit_all_result-only e source all result h)) (remove_key_result-meets e source key)),
+      (λ h. subst (IsEditAllResult e source all) (sym (remove_key_result-only e source key result h)) (edit_all_result-meets e source all)),
+    )
+
+edits_made-append : (e : Encoding) (source : List ℕ) (first second : List Edit)
+    → edits_made e source (first ++ second) ≡ edits_made e (edits_made e source first) second
+edits_made-append e source [] second = refl
+edits_made-append e source (edit ∷ first) second = edits_made-append e (edit_made e source edit) first second
+
+pub lists-follow : (e : Encoding) (source : List ℕ) (first second : List Edit) → ListsOfEditsFollow e source first second
+lists-follow e source first second scalars between h result =
+    let r = readable e source h.0 h.1 in
+    let next = (edits-say e source first between r scalars h.2).readable in
+    let same : edit_all_result e source (first ++ second) ≡ edit_all_result e between second =
+    result-made e source (edits_made e source (first ++ second)) r
+    ∙ ap edited (edits_made-append e source first second ∙ ap (λ v. edits_made e v second) (sym (edits_made-only e source first between h.2)))
+    ∙ sym (result-made e between (edits_made e between second) next) in (
+      (λ k. subst (IsEditAllResult e between second) (sym (edit_all_result-only e source (first ++ second) result k ∙ same)) (edit_all_result-meets e between second)),
+      (λ k. subst (IsEditAllResult e source (first ++ second)) (sym (edit_all_result-only e between second result k ∙ sym same)) (edit_all_result-meets e source (first ++ second))),
+    )

@@ -1,0 +1,16 @@
+pub mod Lines
+pub mod Merged
+pub mod Removed
+pub mod Put
+pub mod Edits
+pub mod Places
+pub mod WellEnded
+pub mod Cells
+pub mod PutCell
+pub mod EndCells
+pub mod Kept
+pub mod RemoveCells
+pub mod GuardCells
+pub mod PushCells
+pub mod Links
+pub mod Removing

@@ -1,0 +1,62 @@
+-- The laws of edits on which a caller relies.
+-- Source: java.util.Properties of Java SE 7, setProperty and load (a later pair takes the place of an earlier one).
+use Rattle.std.specs.Prelude.{◌≡◌, ◌≢◌, ◌↔◌, All, ℕ, List, [], ◌∷◌, ◌++◌, Option, Some, None}
+use Rattle.properties_format.specs.Text.{scalar}
+use Rattle.properties_format.specs.Encoding.{Encoding}
+use Rattle.properties_format.specs.Lines.{end}
+use Rattle.properties_format.specs.Entries.{Entry}
+use Rattle.properties_format.specs.Items.{IsItems}
+use Rattle.properties_format.specs.Maps.{HasNoPair, IsMap}
+use Rattle.properties_format.specs.Edited.{Edit, put, remove, AreScalarEdits, EditResult, edited, ItemsAre, IsSetKeyResult, IsRemoveKeyResult, IsEditAllResult}
+
+-- ---- One key.
+
+-- Removing a key that no pair of the source has changes no byte.
+abbrev pub RemovingNoPairChangesNothing : Encoding → List ℕ → List ℕ → Type 0
+RemovingNoPairChangesNothing e source key =
+    (entries : List Entry) → IsItems e source end entries → HasNoPair key entries
+    → (result : List ℕ) → IsRemoveKeyResult e source key (edited result) → result ≡ source
+
+-- Setting a key twice is setting it once, to the later value: the second call has the results that it has on the source.
+abbrev pub SettingTwiceIsSettingOnce : Encoding → List ℕ → List ℕ → List ℕ → List ℕ → Type 0
+SettingTwiceIsSettingOnce e source key first second =
+    All scalar key → All scalar first → All scalar second → (between : List ℕ) → IsSetKeyResult e source key first (edited between)
+    → (result : EditResult) → IsSetKeyResult e between key second result ↔ IsSetKeyResult e source key second result
+
+-- read in this encoding, the bytes have this map
+abbrev pub HasMap : Encoding → List ℕ → (List ℕ → Option (List ℕ)) → Type 0
+HasMap e bytes value_at = ItemsAre e bytes (λ entries. IsMap entries value_at)
+
+-- the second map gives the key this value, and every other key what the first gives it
+abbrev pub DiffersAt : List ℕ → Option (List ℕ) → (List ℕ → Option (List ℕ)) → (List ℕ → Option (List ℕ)) → Type 0
+DiffersAt key value old new = (new key ≡ value) × ((other : List ℕ) → other ≢ key → new other ≡ old other)
+
+-- After a key is set, the map of the result has the value for it, and for every other key what the source's map has.
+abbrev pub SettingGivesTheValue : Encoding → List ℕ → List ℕ → List ℕ → Type 0
+SettingGivesTheValue e source key value =
+    All scalar key → All scalar value → (result : List ℕ) → IsSetKeyResult e source key value (edited result)
+    → (old new : List ℕ → Option (List ℕ)) → HasMap e source old → HasMap e result new → DiffersAt key (Some value) old new
+
+-- After a key is removed, the map of the result has no value for it, and for every other key what the source's map has.
+abbrev pub RemovingTakesTheValue : Encoding → List ℕ → List ℕ → Type 0
+RemovingTakesTheValue e source key =
+    (result : List ℕ) → IsRemoveKeyResult e source key (edited result) → (old new : List ℕ → Option (List ℕ)) → HasMap e source old → HasMap e result new
+    → DiffersAt key None old new
+
+-- ---- Lists of edits.
+
+-- No edits change no byte.
+abbrev pub NoEditsChangeNothing : Encoding → List ℕ → Type 0
+NoEditsChangeNothing e source = (result : List ℕ) → IsEditAllResult e source [] (edited result) → result ≡ source
+
+-- A list of one edit has the results of the call for that edit.
+abbrev pub OneEditIsItsCall : Encoding → List ℕ → Edit → Type 0
+OneEditIsItsCall e source (put key value) =
+    (result : EditResult) → IsEditAllResult e source (put key value ∷ []) result ↔ IsSetKeyResult e source key value result
+OneEditIsItsCall e source (remove key) = (result : EditResult) → IsEditAllResult e source (remove key ∷ []) result ↔ IsRemoveKeyResult e source key result
+
+-- A list of edits and then another are the second on what the first gave.
+abbrev pub ListsOfEditsFollow : Encoding → List ℕ → List Edit → List Edit → Type 0
+ListsOfEditsFollow e source first second =
+    AreScalarEdits first → (between : List ℕ) → IsEditAllResult e source first (edited between)
+    → (result : EditResult) → IsEditAllResult e source (first ++ second) result ↔ IsEditAllResult e between second result
