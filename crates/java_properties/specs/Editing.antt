@@ -1,5 +1,5 @@
 -- What an editor returns.
-use Rattle.std.specs.Prelude.{◌≡◌, ◌⊎◌, ℕ, List, Result, Ok, Err}
+use Rattle.std.specs.Prelude.{◌≡◌, ◌⊎◌, ℕ, List, Result, Ok, Err, map, string_bytes}
 use Rattle.std.specs.Str.{chars}
 use Rattle.std.specs.declared.vec.Vec.{Vec}
 use Rattle.properties_format.specs.Encoding.{Encoding}
@@ -10,6 +10,8 @@ use Rattle.properties_format.specs.Edited.{EditResult, edited, unsupported, unre
 use Rattle.properties_format.specs.Edited as format
 use Rattle.properties_format.specs.Changed.{IsSetIn, IsRemovedIn, AreEditedIn, map_edited, map_after, AreOthersThanLast, AreOthers, ReadsAfter, KeepsOthers}
 use Rattle.java_properties.specs.Errors.{IsBareError, IsMalformed}
+use Rattle.java_properties.specs.declared.edit.Edit.{Edit}
+use Rattle.java_properties.specs.declared.edit.Edit.TheVariants.{Put, Remove}
 use Rattle.java_properties.specs.declared.error.ErrorKind.TheVariants as kind
 use Rattle.java_properties.specs.declared.error.PropertiesError.{PropertiesError}
 
@@ -45,3 +47,31 @@ pub record IsRemoved (e : Encoding) (source key bytes : List ℕ) : Type 0 where
 abbrev pub RemovesKey : {Z : Type 0} → Encoding → List ℕ → List ℕ → Result (Vec ℕ Z) PropertiesError → Type 0
 RemovesKey e source key (Ok bytes) = IsRemoved e source key bytes.items
 RemovesKey e source key (Err error) = IsRefusal (IsRemoveKeyResult e source key) error
+
+-- ---- edits in turn
+
+abbrev pub edit_in : Edit → format.Edit
+edit_in (Put key value) = put (chars (string_bytes key)) (chars (string_bytes value))
+edit_in (Remove key) = remove (chars (string_bytes key))
+
+abbrev pub edits_in : List Edit → List format.Edit
+edits_in edits = map edit_in edits
+
+-- The source after edits: what its result is and reads as.
+abbrev pub AreMade : Encoding → List ℕ → List format.Edit → List ℕ → Type 0
+AreMade e source edits bytes = IsEdit (IsEditAllResult e source edits) (ReadsAfter (AreEditedIn edits) (map_after edits) e source) bytes
+
+abbrev pub EditsAll : {Z : Type 0} → Encoding → List ℕ → List format.Edit → Result (Vec ℕ Z) PropertiesError → Type 0
+EditsAll e source edits (Ok bytes) = AreMade e source edits bytes.items
+EditsAll e source edits (Err error) = IsRefusal (IsEditAllResult e source edits) error
+
+-- both are the same edit, with the same texts
+abbrev pub IsSameEdit : Edit → Edit → Type 0
+IsSameEdit (Put k v) (Put l w) = (string_bytes k ≡ string_bytes l) × (string_bytes v ≡ string_bytes w)
+IsSameEdit (Remove k) (Remove l) = string_bytes k ≡ string_bytes l
+IsSameEdit edit other = ⊥
+
+-- one edit is made
+abbrev pub MakesEdit : {Z : Type 0} → Encoding → List ℕ → format.Edit → Result (Vec ℕ Z) PropertiesError → Type 0
+MakesEdit e source (put key value) result = SetsKey e source key value result
+MakesEdit e source (remove key) result = RemovesKey e source key result

@@ -1,9 +1,10 @@
 //! Keys of a file set and removed, while every other byte stays.
 
+ghost use Rattle.std.specs.Prelude.{[]};
 ghost use Rattle.std.specs.Str.{chars};
 ghost use Rattle.properties_format.specs.Laws.{SplittingCommutes};
 ghost use Rattle.properties_text.specs.Encoding.{encoding_of};
-ghost use Rattle.java_properties.specs.Editing.{SetsKey, RemovesKey};
+ghost use Rattle.java_properties.specs.Editing.{EditsAll, MakesEdit, RemovesKey, SetsKey, edit_in, edits_in};
 
 mod groups;
 mod kept;
@@ -15,7 +16,7 @@ mod source;
 
 use crate::edit::kept::find_others;
 use crate::edit::place::find_key;
-use crate::edit::result::{appended, replaced, without_others};
+use crate::edit::result::{appended, concatenated, replaced, without_others};
 use crate::edit::source::Source;
 use crate::error::PropertiesError;
 use properties_text::encoding::Encoding;
@@ -79,4 +80,67 @@ pub fn remove_key(
     let others = find_others(alloc, opened.encoding, &source[opened.start..], key)?;
     let bytes = without_others(alloc, source, opened, &others)?;
     Ok(bytes)
+}
+
+/// A change of a key.
+#[derive(Debug, Clone, PartialEq, Eq, Drop)]
+pub enum Edit {
+    /// Set a key to a value, as [`set_key`] does.
+    Put(String, String),
+    /// Remove a key, as [`remove_key`] does.
+    Remove(String),
+}
+
+/// The source after these edits, in order: each is made to what the one before it gave.
+///
+/// Without edits it is a copy of the source. UTF-16 is refused, and so is a source with a malformed escape anywhere: the
+/// error is the one that reading the source would return.
+///
+/// ```text
+/// let edits = vec![in alloc; Edit::Put(port, value), Edit::Remove(host)]?;
+/// let edited = edit_all(alloc, source, Encoding::UTF_8, &edits)?;
+/// ```
+pub fn edit_all(
+    alloc: Global,
+    source: &[u8],
+    encoding: Encoding,
+    edits: &[Edit],
+) -> Result<Vec<u8>, PropertiesError>
+    ensures edits { EditsAll (encoding_of encoding) source.now (edits_in edits.now) result }
+    ensures splitting { SplittingCommutes (encoding_of encoding) source.now }
+{
+    let mut bytes = readable_copy(alloc, source, encoding)?;
+    for edit in edits {
+        bytes = make(alloc, &bytes, encoding, edit)?;
+    }
+    Ok(bytes)
+}
+
+// A copy of a source that is edited, and in which nothing is malformed.
+fn readable_copy(
+    alloc: Global,
+    source: &[u8],
+    encoding: Encoding,
+) -> Result<Vec<u8>, PropertiesError>
+    ensures { EditsAll (encoding_of encoding) source.now [] result }
+{
+    let opened = Source::open(source, encoding)?;
+    // The source is read for its first fault alone.
+    let _place = find_key(alloc, opened.encoding, &source[opened.start..], "")?;
+    let bytes = concatenated(alloc, source, b"", b"")?;
+    Ok(bytes)
+}
+
+fn make(
+    alloc: Global,
+    source: &[u8],
+    encoding: Encoding,
+    edit: &Edit,
+) -> Result<Vec<u8>, PropertiesError>
+    ensures { MakesEdit (encoding_of encoding) source.now (edit_in edit.now) result }
+{
+    match edit {
+        Edit::Put(key, value) => set_key(alloc, source, encoding, key, value),
+        Edit::Remove(key) => remove_key(alloc, source, encoding, key),
+    }
 }

@@ -151,8 +151,8 @@ fn print_pair(
     print_text(line, repertoire, Place::KeyOrValue, value)
 }
 
-// The bytes of three slices, one after the other. Their memory is taken before the first of them is copied.
-fn concatenated(
+/// The bytes of three slices, one after the other. Their memory is taken before the first of them is copied.
+pub fn concatenated(
     alloc: Global,
     front: &[u8],
     middle: &[u8],
