@@ -2,8 +2,8 @@
 use Rattle.std.proofs.lemmas.Bool.Decides.{nat_tests}
 use Rattle.properties_format.specs.Text.{carriage_return}
 use Rattle.properties_format.specs.Reading.Lines.{ends_in_cr}
-use Rattle.std.proofs.Common.{take-add, get_or, ◌==◌, ◌≡◌, ◌≢◌, ℕ, ◌+◌, ◌-◌, ◌≤◌, ◌<◌, ◌^◌, zero, suc, List, [], ◌∷◌, ◌++◌, length, take, drop, min, refl, ap, ap₂, sym, ◌∙◌, subst, inl, inr, append-nil, append_assoc, length-append, arith}
-use Rattle.std.specs.Prelude.{◌⊎◌, Bool, true, false, if◌then◌else◌, Option, Some, None, Result, Ok, Err}
+use Rattle.std.proofs.Common.{take-add, get_or, ◌==◌, ◌≡◌, ℕ, ◌+◌, ◌-◌, ◌≤◌, ◌<◌, ◌^◌, zero, suc, List, [], ◌∷◌, ◌++◌, length, take, drop, min, refl, ap, ap₂, sym, ◌∙◌, subst, inl, inr, append-nil, append_assoc, length-append, arith}
+use Rattle.std.specs.Prelude.{◌⊎◌, Bool, true, false, if◌then◌else◌, Option, Some, None}
 use Rattle.std.proofs.Math.Seq.{drop-length}
 use Rattle.std.proofs.lemmas.Bool.{cases_Bool, cases_lt, cond-true, cond-false}
 use Rattle.std.proofs.lemmas.List.{drop-drop, take-append-le, take_more}
@@ -21,12 +21,12 @@ use Rattle.properties_format.specs.Lines.{Ended}
 use Rattle.properties_format.specs.Groups.{joined}
 use Rattle.properties_format.specs.Reading.Groups.{closes}
 use Rattle.properties_format.specs.Reading.Cut.{cut_of, decoded_line}
-use Rattle.properties_format.specs.Body.{HeldLine, HasKey, as_lines, held_in, group_bytes, groups_bytes}
+use Rattle.properties_format.specs.Body.{HeldLine, as_lines, held_in, group_bytes, groups_bytes}
 use Rattle.properties_format.specs.Edited.{unreadable, final_group, added_ending, parting, is_empty_line, is_left_open}
-use Rattle.properties_format.specs.Items.{Outcome, ignored, given, broken}
+use Rattle.properties_format.specs.Items.{ignored, broken}
 use Rattle.properties_format.specs.Reading.Items.{outcome_of, followed}
 use Rattle.properties_format.specs.Reading.Body.{is_pair_with, has_key, entries_in, held_of, held_lines_of, held_groups_after, held_groups_of}
-use Rattle.properties_format.specs.Reading.Edited.{KeyPlace, last_place, IsSound, AreSound, result_by}
+use Rattle.properties_format.specs.Reading.Edited.{IsSound, AreSound, result_by}
 use Rattle.properties_format.proofs.Body.Decoded.{decoded-nil}
 use Rattle.properties_format.proofs.Body.Groups.{groups_bytes-append, groups-close, groups-leave}
 use Rattle.properties_format.proofs.Cut.Units.{no_end_unit-nil}
@@ -36,15 +36,12 @@ use Rattle.properties_format.proofs.Edited.Steps.{last_place-new, last_place-oth
 use Rattle.properties_text.specs.Encoding.{encoding_of}
 use Rattle.java_properties.proofs.BodyGroups.{groups-lines}
 use Rattle.java_properties.specs.BodyGroups.{IsWithin, lines_left, groups_left, core_bytes, text_of, TakesGroup}
-use Rattle.java_properties.specs.BodyKeys.{TellsKey, IsFaultOf, IsPlaceOf, IsPlace, closing_of, parted, IsKeyFound, found_after}
-use Rattle.java_properties.specs.Errors.{IsMalformed, IsBareError}
+use Rattle.java_properties.specs.BodyKeys.{IsFaultOf, IsPlace, closing_of, parted, IsKeyFound, found_after}
 use Rattle.java_properties.specs.PropertiesIter.{IsNoItem}
 use Rattle.java_properties.specs.declared.edit.groups.Group.{Group}
 use Rattle.java_properties.specs.declared.edit.groups.GroupReader.{GroupReader}
-use Rattle.java_properties.specs.declared.edit.place.Closing.{Closing}
 use Rattle.java_properties.specs.declared.edit.place.BodySpan.{BodySpan}
 use Rattle.java_properties.specs.declared.edit.place.KeyPlace as place
-use Rattle.java_properties.specs.declared.error.ErrorKind.TheVariants as kind
 use Rattle.java_properties.specs.declared.error.PropertiesError.{PropertiesError}
 
 -- ---- parts of bytes

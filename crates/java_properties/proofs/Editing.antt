@@ -3,14 +3,13 @@ use Rattle.std.proofs.Common.{◌≡◌, ◌==◌, ℕ, ◌+◌, ◌-◌, ◌≤
 use Rattle.std.specs.Str.{chars, IsUtf8}
 use Rattle.std.proofs.lemmas.Str.{scalars-chars}
 use Rattle.properties_text.proofs.Printing.Keys.{scalars-all}
-use Rattle.std.specs.Prelude.{◌⊎◌, Bool, true, false, if◌then◌else◌, Option, Some, None}
-use Rattle.std.proofs.Math.Seq.{drop-append_seam, take-length}
-use Rattle.std.proofs.lemmas.List.{take-append-drop, length-take-le, drop-drop, take-append-le}
-use Rattle.std.proofs.lemmas.Bool.{cases_Bool, cond-true, cond-false}
+use Rattle.std.specs.Prelude.{Bool, true, false, if◌then◌else◌, Some, None}
+use Rattle.std.proofs.Math.Seq.{drop-append_seam}
+use Rattle.std.proofs.lemmas.List.{length-take-le, drop-drop}
+use Rattle.std.proofs.lemmas.Bool.{cases_Bool, cond-true}
 use Rattle.properties_format.proofs.Encodings.ByteOrderMarks.{byte_order_mark-none}
 use Rattle.properties_text.specs.Decoding as text
 use Rattle.std.specs.Prelude.{not}
-use Rattle.std.proofs.lemmas.Bool.Decides.{nat_tests}
 use Rattle.std.proofs.Common.{lit<, take-add}
 use Rattle.std.specs.Prelude.{◌&&◌, unwrap_or}
 use Rattle.properties_format.specs.Text.{scalar, line_feed, equals_sign}
@@ -27,8 +26,8 @@ use Rattle.properties_format.specs.Laws.{SplittingCommutes}
 use Rattle.properties_format.proofs.Laws.{splitting-commutes}
 use Rattle.properties_format.specs.Lines.{end}
 use Rattle.properties_format.specs.Writing.{is_empty}
-use Rattle.properties_format.specs.Body.{HeldLine, ending_bytes, group_bytes, groups_bytes, last_ending}
-use Rattle.properties_format.specs.Edited.{bom_of, pair_bytes, final_group, parting, added_ending, is_editable, EditResult, edited, unsupported, unreadable, IsSetKeyResult, IsRemoveKeyResult}
+use Rattle.properties_format.specs.Body.{ending_bytes, groups_bytes, last_ending}
+use Rattle.properties_format.specs.Edited.{bom_of, pair_bytes, parting, added_ending, is_editable, EditResult, edited, unsupported, unreadable, IsSetKeyResult, IsRemoveKeyResult}
 use Rattle.properties_format.specs.Reading.Items.{items_of}
 use Rattle.properties_format.specs.Reading.Body.{held_groups_of, entries_in}
 use Rattle.properties_format.specs.Reading.Edited.{AreSound, without, key_removed, key_removed_in, result_by, result_of, key_set, key_set_in, set_at, set_key_result, remove_key_result, KeyPlace, last_place}
@@ -37,21 +36,30 @@ use Rattle.properties_format.proofs.Body.Numbers.{items_of-groups}
 use Rattle.properties_format.proofs.Edited.ByteOrderMarks.{source-whole}
 use Rattle.properties_format.proofs.Edited.Results.{set_key_result-meets, set_key_result-only, remove_key_result-meets, remove_key_result-only}
 use Rattle.properties_format.proofs.Edited.Steps.{result-after}
-use Rattle.properties_format.proofs.Changed.Read.{set_key-reads, remove_key-reads}
+use Rattle.properties_format.proofs.Changed.Read.{set_key-reads, remove_key-reads, edit_all-reads}
+use Rattle.properties_format.proofs.EditLaws.{lists-follow, one_edit-call}
+use Rattle.properties_format.specs.Edited.{Edit, put, remove, AreScalarEdits, IsEditAllResult}
+use Rattle.properties_format.specs.Reading.Edited.{edit_all_result}
+use Rattle.properties_format.proofs.Edited.Results.{edit_all_result-meets, edit_all_result-only}
+use Rattle.java_properties.proofs.ReadBack.Scalars.{string-scalars}
+use Rattle.std.specs.Prelude.{Ok, Err}
+use Rattle.std.specs.Global.{Vec}
+use Rattle.std.proofs.Common.{◌<◌, get_or}
+use Rattle.std.proofs.lemmas.List.{take_more, map-append}
+use Rattle.java_properties.specs.declared.edit.Edit as edit
+use Rattle.java_properties.specs.declared.edit.Edit.TheVariants as variant
+use Rattle.java_properties.specs.Editing.{edit_in, edits_in, AreMade, MakesEdit}
 use Rattle.properties_format.proofs.Changed.Stand.{key_set-keeps, key_removed-keeps}
 use Rattle.properties_text.specs.Encoding.{encoding_of}
 use Rattle.java_properties.specs.BodyGroups.{core_bytes}
 use Rattle.java_properties.specs.BodyKeys.{IsFaultOf, IsPlaceOf, IsPlace, IsKeyFound, AreOthersFound, left_bytes, parted}
-use Rattle.java_properties.specs.Editing.{IsRefusal, IsEdit, IsSet, IsRemoved}
-use Rattle.java_properties.specs.Errors.{IsBareError, IsMalformed}
+use Rattle.java_properties.specs.Editing.{IsRefusal, IsSet, IsRemoved}
 use Rattle.java_properties.specs.Sources.{IsInForce}
 use Rattle.java_properties.proofs.BodyGroups.{core-ending, no-bytes}
 use Rattle.java_properties.proofs.BodyKeys.{front-of}
-use Rattle.java_properties.specs.declared.edit.place.Closing.{Closing}
 use Rattle.java_properties.specs.declared.edit.place.BodySpan.{BodySpan}
 use Rattle.java_properties.specs.declared.edit.place.KeyPlace as place
 use Rattle.java_properties.specs.declared.edit.source.Source.{Source}
-use Rattle.java_properties.specs.declared.error.ErrorKind.TheVariants as kind
 use Rattle.java_properties.specs.declared.error.PropertiesError.{PropertiesError}
 
 -- ---- a source that is open
@@ -355,3 +363,68 @@ removed-result {source} {e} {opened} key bytes others h ok k made =
     ∙ ap (λ v. take opened.start source ++ ((if opened.start == 0 && begins_like_bom v then line_feed ∷ [] else []) ++ v)) k.bytes
     ∙ ap₂ (λ v b. v ++ ((if b && begins_like_bom rest then line_feed ∷ [] else []) ++ rest)) (sym (bom-front h)) unmarked) in
     ap (result_of e source) set ∙ result-made bytes h ok k.sound
+
+-- ---- edits in turn
+
+pub made-edits : {e : Encoding} {source bytes : List ℕ} (edits : List Edit) → AreScalarEdits edits → edit_all_result e source edits ≡ edited bytes
+    → AreMade e source edits bytes
+made-edits {e} {source} {bytes} edits scalar is =
+    let meets = subst (IsEditAllResult e source edits) is (edit_all_result-meets e source edits) in
+    record {
+      result = meets;
+      only = λ other h. edit_all_result-only e source edits other h ∙ is;
+      reads = edit_all-reads e source edits bytes scalar meets;
+    }
+
+-- a source with no edits is itself
+pub copied : {source : List ℕ} {e : Encoding} {opened : Source} (bytes : List ℕ) → IsInForce source e opened
+    → is_editable (encoding_of opened.encoding) ≡ true → AreSound (held_groups_of (encoding_of opened.encoding) (drop opened.start source))
+    → bytes ≡ source ++ ([] ++ []) → AreMade e source [] bytes
+copied {source} {e} {opened} bytes h ok sound made =
+    made-edits [] tt (result-made source h ok sound ∙ ap edited (sym (made ∙ append-nil source)))
+
+-- what an edit is refused for is what all the edits are
+lifted : (IsMeant IsWhole : EditResult → Type 0) (error : PropertiesError) → (IsMeant unsupported → IsWhole unsupported) → (IsWhole unsupported → IsMeant unsupported)
+    → ((how : Malformed) (n : ℕ) → IsMeant (unreadable how n) → IsWhole (unreadable how n)) → IsRefusal IsMeant error → IsRefusal IsWhole error
+lifted IsMeant IsWhole error to from broken (inl (none, is)) = inl (to none, is)
+lifted IsMeant IsWhole error to from broken (inr (inl (how, n, h, is))) = inr (inl (how, n, broken how n h, is))
+lifted IsMeant IsWhole error to from broken (inr (inr (some, is))) = inr (inr ((λ none. some (from none)), is))
+
+-- the call of an edit is that edit in a list by itself
+call-meets : (e : Encoding) (between : List ℕ) (edit : Edit) (next : Vec ℕ) → MakesEdit e between edit (Ok next) → IsEditAllResult e between (edit ∷ []) (edited next.items)
+call-meets e between (put key value) next h = (one_edit-call e between (put key value) (edited next.items)).1 h.edit.result
+call-meets e between (remove key) next h = (one_edit-call e between (remove key) (edited next.items)).1 h.edit.result
+
+call-refused : (e : Encoding) (between : List ℕ) (edit : Edit) (error : PropertiesError) → MakesEdit e between edit (Err error)
+    → IsRefusal (IsEditAllResult e between (edit ∷ [])) error
+call-refused e between (put key value) error h =
+    let same = one_edit-call e between (put key value) in
+    lifted (IsSetKeyResult e between key value) (IsEditAllResult e between (put key value ∷ [])) error (same unsupported).1 (same unsupported).0 (λ how n. (same (unreadable how n)).1) h
+call-refused e between (remove key) error h =
+    let same = one_edit-call e between (remove key) in
+    lifted (IsRemoveKeyResult e between key) (IsEditAllResult e between (remove key ∷ [])) error (same unsupported).1 (same unsupported).0 (λ how n. (same (unreadable how n)).1) h
+
+-- one more edit was made
+pub made-more : (e : Encoding) (source between : List ℕ) (edits : List Edit) (edit : Edit) (next : Vec ℕ) → AreScalarEdits edits → AreScalarEdits (edits ++ edit ∷ [])
+    → AreMade e source edits between → MakesEdit e between edit (Ok next) → AreMade e source (edits ++ edit ∷ []) next.items
+made-more e source between edits edit next scalar all h k =
+    let meets = (lists-follow e source edits (edit ∷ []) scalar between h.result (edited next.items)).1 (call-meets e between edit next k) in
+    made-edits (edits ++ edit ∷ []) all (sym (edit_all_result-only e source (edits ++ edit ∷ []) (edited next.items) meets))
+
+-- or there was no memory for it
+pub made-refused : (e : Encoding) (source between : List ℕ) (edits : List Edit) (edit : Edit) (others : List Edit) (error : PropertiesError) → AreScalarEdits edits
+    → AreMade e source edits between → MakesEdit e between edit (Err error) → IsRefusal (IsEditAllResult e source others) error
+made-refused e source between edits edit others error scalar h k =
+    let same = lists-follow e source edits (edit ∷ []) scalar between h.result in
+    lifted (IsEditAllResult e between (edit ∷ [])) (IsEditAllResult e source others) error (same unsupported).1 (same unsupported).0 (λ how n. (same (unreadable how n)).1)
+    (call-refused e between edit error k)
+
+-- the texts of edits are of scalar values
+pub edits-scalars : (edits : List edit.Edit) → AreScalarEdits (edits_in edits)
+edits-scalars [] = tt
+edits-scalars (variant.Put key value ∷ edits) = ((string-scalars key, string-scalars value), edits-scalars edits)
+edits-scalars (variant.Remove key ∷ edits) = (tt, edits-scalars edits)
+
+pub edits_in-more : (edits : List edit.Edit) (i : ℕ) (d : edit.Edit) → i < length edits
+    → edits_in (take (i + 1) edits) ≡ edits_in (take i edits) ++ edit_in (get_or edits i d) ∷ []
+edits_in-more edits i d h = ap edits_in (take_more edits i d h) ∙ map-append edit_in (take i edits) (get_or edits i d ∷ [])

@@ -7,7 +7,7 @@ use Rattle.properties_format.specs.Encoding.{Encoding, begins_like_bom}
 use Rattle.properties_format.specs.Escapes.{Malformed}
 use Rattle.properties_format.specs.Body.{HeldLine, groups_bytes}
 use Rattle.properties_format.specs.Edited.{unreadable, final_group, added_ending, parting}
-use Rattle.properties_format.specs.Items.{Outcome, ignored, given, broken}
+use Rattle.properties_format.specs.Items.{ignored}
 use Rattle.properties_format.specs.Reading.Items.{outcome_of}
 use Rattle.properties_format.specs.Reading.Body.{is_pair_with, entries_in, held_groups_of}
 use Rattle.properties_format.specs.Reading.Edited.{KeyPlace, last_place, without, IsSound, AreSound, result_by}

@@ -1,11 +1,9 @@
 -- What an editor returns.
 use Rattle.std.specs.Prelude.{◌≡◌, ◌⊎◌, ℕ, List, Result, Ok, Err, map, string_bytes}
 use Rattle.std.specs.Str.{chars}
-use Rattle.std.specs.declared.vec.Vec.{Vec}
+use Rattle.std.specs.Global.{Vec}
 use Rattle.properties_format.specs.Encoding.{Encoding}
-use Rattle.properties_format.specs.Entries.{Content}
 use Rattle.properties_format.specs.Escapes.{Malformed}
-use Rattle.properties_format.specs.Body.{HeldLine}
 use Rattle.properties_format.specs.Edited.{EditResult, edited, unsupported, unreadable, put, remove, IsSetKeyResult, IsRemoveKeyResult, IsEditAllResult}
 use Rattle.properties_format.specs.Edited as format
 use Rattle.properties_format.specs.Changed.{IsSetIn, IsRemovedIn, AreEditedIn, map_edited, map_after, AreOthersThanLast, AreOthers, ReadsAfter, KeepsOthers}
@@ -35,7 +33,7 @@ pub record IsSet (e : Encoding) (source key value bytes : List ℕ) : Type 0 whe
   pub edit : IsEdit (IsSetKeyResult e source key value) (ReadsAfter (IsSetIn key value) (map_edited (put key value)) e source) bytes
   pub keeps : KeepsOthers (AreOthersThanLast key) e source bytes
 
-abbrev pub SetsKey : {Z : Type 0} → Encoding → List ℕ → List ℕ → List ℕ → Result (Vec ℕ Z) PropertiesError → Type 0
+abbrev pub SetsKey : Encoding → List ℕ → List ℕ → List ℕ → Result (Vec ℕ) PropertiesError → Type 0
 SetsKey e source key value (Ok bytes) = IsSet e source key value bytes.items
 SetsKey e source key value (Err error) = IsRefusal (IsSetKeyResult e source key value) error
 
@@ -44,7 +42,7 @@ pub record IsRemoved (e : Encoding) (source key bytes : List ℕ) : Type 0 where
   pub edit : IsEdit (IsRemoveKeyResult e source key) (ReadsAfter (IsRemovedIn key) (map_edited (remove key)) e source) bytes
   pub keeps : KeepsOthers (AreOthers key) e source bytes
 
-abbrev pub RemovesKey : {Z : Type 0} → Encoding → List ℕ → List ℕ → Result (Vec ℕ Z) PropertiesError → Type 0
+abbrev pub RemovesKey : Encoding → List ℕ → List ℕ → Result (Vec ℕ) PropertiesError → Type 0
 RemovesKey e source key (Ok bytes) = IsRemoved e source key bytes.items
 RemovesKey e source key (Err error) = IsRefusal (IsRemoveKeyResult e source key) error
 
@@ -61,7 +59,7 @@ edits_in edits = map edit_in edits
 abbrev pub AreMade : Encoding → List ℕ → List format.Edit → List ℕ → Type 0
 AreMade e source edits bytes = IsEdit (IsEditAllResult e source edits) (ReadsAfter (AreEditedIn edits) (map_after edits) e source) bytes
 
-abbrev pub EditsAll : {Z : Type 0} → Encoding → List ℕ → List format.Edit → Result (Vec ℕ Z) PropertiesError → Type 0
+abbrev pub EditsAll : Encoding → List ℕ → List format.Edit → Result (Vec ℕ) PropertiesError → Type 0
 EditsAll e source edits (Ok bytes) = AreMade e source edits bytes.items
 EditsAll e source edits (Err error) = IsRefusal (IsEditAllResult e source edits) error
 
@@ -72,6 +70,6 @@ IsSameEdit (Remove k) (Remove l) = string_bytes k ≡ string_bytes l
 IsSameEdit edit other = ⊥
 
 -- one edit is made
-abbrev pub MakesEdit : {Z : Type 0} → Encoding → List ℕ → format.Edit → Result (Vec ℕ Z) PropertiesError → Type 0
+abbrev pub MakesEdit : Encoding → List ℕ → format.Edit → Result (Vec ℕ) PropertiesError → Type 0
 MakesEdit e source (put key value) result = SetsKey e source key value result
 MakesEdit e source (remove key) result = RemovesKey e source key result
