@@ -30,6 +30,11 @@ use Rattle.java_properties.specs.contracts.writer.settings.LineEndingHash.TheImp
 use Rattle.java_properties.specs.contracts.writer.calls.CallPartialEq.TheImpl as call_eq
 use Rattle.java_properties.specs.contracts.writer.calls.CallClone.TheImpl as call_clone
 use Rattle.java_properties.specs.Calls.{IsSameCall}
+use Rattle.java_properties.specs.declared.edit.Edit.{Edit}
+use Rattle.java_properties.specs.declared.edit.Edit.TheVariants as edit
+use Rattle.java_properties.specs.contracts.edit.EditPartialEq.TheImpl as edit_eq
+use Rattle.java_properties.specs.contracts.edit.EditClone.TheImpl as edit_clone
+use Rattle.java_properties.specs.Editing.{IsSameEdit}
 use Rattle.java_properties.specs.Line.{number_of, content_of, IsSameContent, IsSameLine, content_order, line_order}
 
 -- ---- which comes first
@@ -166,3 +171,20 @@ call-clone call.Flush call.Flush e = tt
 call-clone call.Flush other e = absurd e
 call-clone (call.AsciiOnly on) (call.AsciiOnly same) e = cc
 call-clone (call.AsciiOnly on) other e = absurd e
+
+-- ---- edits
+
+-- `==` of two edits
+pub edit-eq : (x y : Edit) → IsTrue ((edit_eq.ghosts).eq x y) ↔ IsSameEdit x y
+edit-eq (edit.Put k v) (edit.Put l w) =
+    both-tests _ _ (bytes_decides (string_bytes k) (string_bytes l)) (bytes_decides (string_bytes v) (string_bytes w))
+edit-eq (edit.Put k v) other = ((λ e. absurd (cc)), (λ h. absurd h))
+edit-eq (edit.Remove k) (edit.Remove l) = bytes_decides (string_bytes k) (string_bytes l)
+edit-eq (edit.Remove k) other = ((λ e. absurd (cc)), (λ h. absurd h))
+
+-- a clone of an edit
+pub edit-clone : (x y : Edit) → (edit_clone.ghosts).is_clone x y → IsSameEdit x y
+edit-clone (edit.Put k v) (edit.Put l w) e = (cc, cc)
+edit-clone (edit.Put k v) other e = absurd e
+edit-clone (edit.Remove k) (edit.Remove l) e = cc
+edit-clone (edit.Remove k) other e = absurd e

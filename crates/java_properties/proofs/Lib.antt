@@ -17,3 +17,7 @@ pub mod Joining
 pub mod JoinedRuns
 pub mod ReadInto
 pub mod TextMaps
+pub mod BodyLines
+pub mod BodyGroups
+pub mod BodyKeys
+pub mod Editing

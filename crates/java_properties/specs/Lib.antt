@@ -12,6 +12,7 @@ pub mod InputBuffer
 pub mod LineSearch
 pub mod PlainLines
 pub mod LineFinder
+pub mod LineTexts
 pub mod LineJoiner
 pub mod PropertiesIter
 pub mod GivenItems
@@ -20,3 +21,8 @@ pub mod NaturalLines
 pub mod ReadLines
 pub mod ReadInto
 pub mod Maps
+pub mod BodyLines
+pub mod BodyGroups
+pub mod BodyKeys
+pub mod Sources
+pub mod Editing

@@ -1,11 +1,11 @@
 -- What a contract sees of the joiner of lines, and what its calls give and leave.
-use Rattle.std.specs.Prelude.{◌≡◌, ◌⊎◌, ◌+◌, ◌++◌, ℕ, Bool, true, false, List, [], ◌∷◌, Option, Some, None, Result, Ok, Err}
-use Rattle.std.specs.Str.{chars, IsUtf8}
+use Rattle.std.specs.Prelude.{◌≡◌, ◌⊎◌, ◌+◌, ◌++◌, ℕ, true, false, List, [], ◌∷◌, Option, Some, None, Result, Ok, Err}
+use Rattle.std.specs.Str.{chars}
 use Rattle.std.specs.declared.io.Error.{Error}
 use Rattle.counted_io.specs.Streams.{Reader, HasRead, HasFailed}
 use Rattle.properties_format.specs.Lines as format
 use Rattle.properties_format.specs.Lines.{InputEnd, end, fault, more}
-use Rattle.properties_format.specs.Groups.{is_open, addition, without_open_backslash}
+use Rattle.properties_format.specs.Groups.{without_open_backslash}
 use Rattle.properties_format.specs.Reading.Cut.{decoded_line}
 use Rattle.properties_format.specs.Entries.{read_fault}
 use Rattle.properties_format.specs.ItemsToCome.{ReaderState}
@@ -68,17 +68,6 @@ JoinsPlain old (Some number) new = TakesPlain old.state number new
 -- the text of the line that was found, decoded
 abbrev pub line_text : Finder → List ℕ
 line_text finder = decoded_line finder.state.encoding finder.line
-
--- The line that was found is decoded, and its text is kept; or its bytes are its text.
-abbrev pub OnOkKeeps : {E : Type 0} → Finder → Result Bool E → List ℕ → Type 0
-OnOkKeeps finder (Ok true) text = chars text ≡ line_text finder
-OnOkKeeps finder (Ok false) text = IsUtf8 finder.line × (chars finder.line ≡ line_text finder)
-OnOkKeeps finder (Err e) text = Unit {0}
-
--- The line that was found is added to a join, and it is told whether it is open.
-abbrev pub Adds : {E : Type 0} → Finder → List ℕ → Result Bool E → List ℕ → Type 0
-Adds finder old (Ok told) new = (told ≡ is_open (line_text finder)) × (new ≡ old ++ addition (line_text finder))
-Adds finder old (Err e) new = Unit {0}
 
 -- ---- logical lines
 

@@ -6,7 +6,7 @@ ghost use Rattle.std.specs.String.{string_bytes};
 ghost use Rattle.properties_text.specs.Escaping.{malformed_in};
 ghost use Rattle.java_properties.specs.Errors.{kind_of, line_of, cause_of, cause_of_write, IsError, IsBareError, IsMalformed, SaysUnresolved, IsStreamError, RefusesText};
 ghost use Rattle.java_properties.specs.DisplayTexts.{description, cause_display, error_display};
-ghost use Rattle.java_properties.specs.declared.error.ErrorKind.TheVariants.{Io, BadCommentPrefix, BadKvSeparator, EmptyKey, TooManyLines, Failed, Memory};
+ghost use Rattle.java_properties.specs.declared.error.ErrorKind.TheVariants.{Io, BadCommentPrefix, BadKvSeparator, EmptyKey, TooManyLines, Failed, Memory, Unsupported};
 
 use properties_text::escape::{Malformed, UnescapeError};
 use std::alloc::{AllocError, AllocFailed};
@@ -164,6 +164,13 @@ impl PropertiesError {
         ensures { IsBareError Failed result }
     {
         PropertiesError::bare(ErrorKind::Failed)
+    }
+
+    /// Sources in UTF-16 aren't edited.
+    pub(crate) fn unsupported() -> PropertiesError
+        ensures { IsBareError Unsupported result }
+    {
+        PropertiesError::bare(ErrorKind::Unsupported)
     }
 
     /// An empty key can't be written before blanks alone.

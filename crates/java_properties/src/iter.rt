@@ -10,7 +10,7 @@ ghost use Rattle.java_properties.specs.LineFinder.{lines_left};
 ghost use Rattle.java_properties.specs.LentItems.{lent_entry, found_entry, BorrowsPlain, IsFoundIn, AdvanceGives, NextRefGives};
 ghost use Rattle.java_properties.specs.PropertiesIter.{Reading, NextGives};
 
-mod found;
+pub(crate) mod found;
 mod into;
 pub(crate) mod items;
 mod lent;

@@ -15,6 +15,7 @@
 //! ```
 #![tactic(auto)]
 
+mod edit;
 mod error;
 mod input;
 mod iter;
@@ -24,6 +25,7 @@ mod lines;
 mod maps;
 mod writer;
 
+pub use edit::{Edit, edit_all, remove_key, set_key};
 pub use error::{Cause, ErrorKind, PropertiesError};
 pub use iter::{ContentRef, Found, LineRef, PropertiesIter, Stopped, read_lines};
 pub use line::{Line, LineContent};

@@ -10,12 +10,13 @@ ghost use Rattle.java_properties.specs.LineFinder.{lines_left, transposed};
 ghost use Rattle.java_properties.specs.NaturalLines.{NaturalReading, NextLineGives};
 
 mod finder;
-mod join;
+pub(crate) mod join;
 pub mod joiner;
 mod logical;
 mod plain;
-mod search;
+pub(crate) mod search;
 mod seeker;
+pub(crate) mod texts;
 
 use crate::error::PropertiesError;
 use crate::lines::finder::LineFinder;

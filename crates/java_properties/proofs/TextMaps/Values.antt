@@ -16,6 +16,7 @@ use Rattle.std.proofs.lemmas.Bool.{cases_Bool, cond-false, false_from_ne_true}
 use Rattle.std.proofs.lemmas.Map.Text.{hash_map_updates_text, btree_map_updates_text, is_eq-slice_cmp}
 use Rattle.std.proofs.lemmas.Slice.Eq.{bytes_eq-Decides}
 use Rattle.std.proofs.lemmas.Str.{IsUtf8-string_bytes, chars-encodes, encodes-chars, scalars-chars}
+use lib.Utf8.{encodes}
 use Rattle.java_properties.specs.Maps.{Entries, characters, value_at}
 
 -- two tests that pass together
@@ -46,6 +47,12 @@ pub flipped : (x y : List ℕ) → bytes_eq x y ≡ bytes_eq y x
 flipped x y = together (bytes_eq x y) (bytes_eq y x)
     (λ h. (bytes_eq-Decides y x).1 (sym ((bytes_eq-Decides x y).0 h)))
     (λ h. (bytes_eq-Decides x y).1 (sym ((bytes_eq-Decides y x).0 h)))
+
+-- two texts are the same by their bytes where they are by their characters
+pub same-characters : (x y : List ℕ) → IsUtf8 x → IsUtf8 y → bytes_eq x y ≡ bytes_eq (chars x) (chars y)
+same-characters x y u v = together (bytes_eq x y) (bytes_eq (chars x) (chars y))
+    (λ h. (bytes_eq-Decides (chars x) (chars y)).1 (ap chars ((bytes_eq-Decides x y).0 h)))
+    (λ h. (bytes_eq-Decides x y).1 (sym (encodes-chars x u) ∙ ap encodes ((bytes_eq-Decides (chars x) (chars y)).0 h) ∙ encodes-chars y v))
 
 -- and what is no text is no key
 no-key : {Y : Type 0} (key : List ℕ) → all_scalars key ≡ false → (x : String Y) → bytes_eq key (characters x) ≡ false

@@ -1,10 +1,12 @@
 // What is found of an item before it is lent: it borrows nothing, so that reading can go on around it.
 
-ghost use Rattle.std.specs.Prelude.{◌≡◌, Some, None, false, not};
+ghost use Rattle.std.specs.Prelude.{◌≡◌, Some, None, false, not, bytes_eq};
 ghost use Rattle.std.specs.Option.{is_some};
 ghost use Rattle.std.specs.Str.{chars};
 ghost use Rattle.std.specs.Cow.{cow_str_bytes};
 ghost use Rattle.properties_text.specs.Parsing.{AreSpans, IsSpan, in_characters, spanned};
+ghost use Rattle.properties_format.specs.Items.{given};
+ghost use Rattle.properties_format.specs.Reading.Body.{is_pair_with};
 ghost use Rattle.properties_format.specs.Split.{IsSplit};
 ghost use Rattle.properties_text.specs.Escaping.{holds_backslash};
 ghost use Rattle.java_properties.specs.LentItems.{lent_entry, said_by, is_borrowed, BorrowsPlain, found_bytes, found_content, found_entry, AreTextsIn, spans_of, IsFoundIn, IsTextIn, FindsText, FindsContent, FindsIn, FindsPlain};
@@ -135,6 +137,17 @@ impl Found {
         } = self;
         LineRef::new(line_number, content.cut(line))
     }
+
+    /// Whether it is a pair with this key.
+    pub(crate) fn has_key(&self, line: &str, key: &str) -> bool
+        requires { IsFoundIn line.now self.now }
+        ensures { result ≡ is_pair_with (chars key.now) (given (found_content line.now self.now.content)) }
+    {
+        match &self.content {
+            FoundContent::Comment(_) => false,
+            FoundContent::KVPair(found, _) => found.is(line, key),
+        }
+    }
 }
 
 impl FoundContent {
@@ -161,6 +174,17 @@ impl FoundText {
         FoundText {
             span,
             resolved: None,
+        }
+    }
+
+    // Whether it is this text.
+    fn is(&self, line: &str, text: &str) -> bool
+        requires { IsTextIn line.now self.now }
+        ensures { result ≡ bytes_eq (chars (found_bytes line.now self.now)) (chars text.now) }
+    {
+        match &self.resolved {
+            None => self.span.cut(line) == text,
+            Some(resolved) => resolved.as_str() == text,
         }
     }
 

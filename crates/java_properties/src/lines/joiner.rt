@@ -9,14 +9,15 @@ ghost use Rattle.properties_format.specs.ItemsToCome.{start};
 ghost use Rattle.properties_text.specs.Encoding.{encoding_of};
 ghost use Rattle.java_properties.specs.LineFinder.{lines_left, IsHeldLine};
 ghost use Rattle.properties_text.specs.Escaping.{holds_backslash};
-ghost use Rattle.java_properties.specs.LineJoiner.{Joiner, Finds, OnOkKeeps, Joins, JoinsAfter, JoinsOn, JoinsPlain, TakesPlain, IsTextLine, Adds};
+ghost use Rattle.java_properties.specs.LineJoiner.{Joiner, Finds, Joins, JoinsAfter, JoinsOn, JoinsPlain, TakesPlain, IsTextLine};
 
 use crate::error::PropertiesError;
 use crate::lines::finder::LineFinder;
-use crate::lines::join::{addition, is_comment_line, is_open, without_open_backslash};
+use crate::lines::join::{is_comment_line, is_open};
 use crate::lines::plain::plain_front;
 use crate::lines::search::{LineEnd, unit_size};
 use crate::lines::seeker::HeldLine;
+use crate::lines::texts::{add_line, keep_opened, keep_text, kept_text};
 use counted_io::CountedRead;
 use memchr::memchr;
 use properties_text::encoding::decode::as_text;
@@ -63,7 +64,7 @@ impl LineJoiner {
     pub fn line(&self) -> &str
         ensures { result.now ≡ self.now.line }
     {
-        decoded_line(&self.text, self.is_kept, &self.finder)
+        kept_text(&self.text, self.is_kept, self.finder.line())
     }
 
     /// Ends the reading for good.
@@ -211,7 +212,7 @@ impl LineJoiner {
         ensures same_reader { IsSameReader R.CountedRead reader.old reader.new }
         ensures left { lines_left self.new.state ≤ lines_left self.old.state }
     {
-        keep_opened(&mut self.text, self.is_kept, &self.finder)?;
+        keep_opened(&mut self.text, self.is_kept, self.finder.line())?;
         let joined = join_lines(&mut self.finder, reader, &mut self.text, &mut self.decoded);
         self.is_kept = true;
         joined
@@ -231,7 +232,7 @@ impl LineJoiner {
             Ok(number) => number,
             Err(error) => return Some(Err(error)),
         };
-        match keep_decoded(&mut self.text, &self.finder) {
+        match keep_text(&mut self.text, self.finder.encoding(), self.finder.line()) {
             Ok(is_kept) => self.is_kept = is_kept,
             Err(error) => {
                 self.end();
@@ -239,65 +240,6 @@ impl LineJoiner {
             }
         }
         Some(Ok(number))
-    }
-}
-
-// Puts the text of the line that was found in the place of another, unless its bytes are its text, and says whether it
-// did.
-#[inline(always)]
-fn keep_decoded(text: &mut TextBuffer, finder: &LineFinder) -> Result<bool, AllocError>
-    ensures { OnOkKeeps finder.now result text.new }
-{
-    let encoding = finder.encoding();
-    let bytes = finder.line();
-    match as_text(encoding, bytes) {
-        Some(_) => Ok(false),
-        None => {
-            text.clear();
-            text.push_decoded(encoding, bytes)?;
-            Ok(true)
-        }
-    }
-}
-
-// The text that is kept, or else the line that was found.
-fn decoded_line<'a>(text: &'a TextBuffer, is_kept: bool, finder: &'a LineFinder) -> &'a str
-    requires { is_kept ≡ false → IsUtf8 finder.now.line }
-    ensures { result.now ≡ (if is_kept then text.now else finder.now.line) }
-{
-    if is_kept {
-        text.as_str()
-    } else {
-        // SAFETY: the line was decoded, and its bytes were its text.
-        unsafe { str::from_utf8_unchecked(finder.line()) }
-    }
-}
-
-// Keeps the line that came last, without the backslash that opens it: the text that is kept, or else the line that was
-// found.
-fn keep_opened(text: &mut TextBuffer, is_kept: bool, finder: &LineFinder) -> Result<(), AllocError>
-    requires { is_kept ≡ false → IsUtf8 finder.now.line }
-    ensures { let line = if is_kept then text.old else finder.now.line in
-        OnOk result (chars text.new ≡ without_open_backslash (chars line)) }
-{
-    if is_kept {
-        close(text);
-        return Ok(());
-    }
-    // SAFETY: the line was decoded, and its bytes were its text.
-    let line = unsafe { str::from_utf8_unchecked(finder.line()) };
-    text.clear();
-    text.push_text(without_open_backslash(line))
-}
-
-// Takes off the backslash that opens a line.
-fn close(text: &mut TextBuffer)
-    ensures { chars text.new ≡ without_open_backslash (chars text.old) }
-{
-    let line = text.as_str();
-    if is_open(line) {
-        let last = line.len() - 1;
-        text.truncate(last);
     }
 }
 
@@ -315,7 +257,7 @@ fn join_lines<R: CountedRead>(
     while let Some(found) = finder.find_line(reader) {
         match found {
             Ok(_) => {
-                if !append(finder, text, decoded)? {
+                if !add_line(text, decoded, finder.encoding(), finder.line())? {
                     return Ok(());
                 }
             }
@@ -323,18 +265,4 @@ fn join_lines<R: CountedRead>(
         }
     }
     Ok(())
-}
-
-// Appends what the line that was found adds to a join, and says whether it is open.
-fn append(
-    finder: &LineFinder,
-    text: &mut TextBuffer,
-    decoded: &mut TextBuffer,
-) -> Result<bool, AllocError>
-    ensures { Adds finder.now (chars text.old) result (chars text.new) }
-{
-    let is_kept = keep_decoded(decoded, finder)?;
-    let line = decoded_line(decoded, is_kept, finder);
-    text.push_text(addition(line))?;
-    Ok(is_open(line))
 }

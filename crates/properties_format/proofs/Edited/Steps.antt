@@ -18,7 +18,7 @@ use Rattle.properties_format.specs.Printing.{in_key_or_value, spelt_text, encode
 use Rattle.properties_format.specs.Body.{HeldLine, HasKey, group_bytes, as_lines, held_in, last_ending}
 use Rattle.properties_format.specs.Edited.{pair_bytes, final_group, is_last_open, is_left_open, is_empty_line, unreadable}
 use Rattle.properties_format.specs.Reading.Body.{held_of, held_lines_of, has_key, entries_in}
-use Rattle.properties_format.specs.Reading.Edited.{KeyPlace, place_after, last_place, without, result_by}
+use Rattle.properties_format.specs.Reading.Edited.{KeyPlace, place_after, last_place, without, IsSound, AreSound, result_by}
 use Rattle.properties_format.proofs.Cut.Steps.{cut_of-line}
 use Rattle.properties_format.proofs.Cut.Only.{cut_of-plain}
 use Rattle.properties_format.proofs.Printing.Characters.{encoded-ascii, encoded_text-append}
@@ -98,16 +98,6 @@ is_empty_line-push i [] h = refl
 is_empty_line-push i (j ∷ g) h = refl
 
 -- ---- the first fault
-
--- the group is not malformed
-abbrev pub IsSound : Outcome → Type 0
-IsSound ignored = Unit {0}
-IsSound (given content) = Unit {0}
-IsSound (broken kind) = ⊥
-
-abbrev pub AreSound : List (List HeldLine) → Type 0
-AreSound [] = Unit {0}
-AreSound (g ∷ gs) = IsSound (outcome_of (joined (as_lines g))) × AreSound gs
 
 -- a group that is not malformed has no fault
 pub result-sound : (n : ℕ) (o : Outcome) (entries : List Entry) (made : List ℕ) → IsSound o → result_by (followed n o entries) made ≡ result_by entries made

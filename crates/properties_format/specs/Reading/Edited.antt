@@ -4,9 +4,11 @@ use Rattle.properties_format.specs.Text.{line_feed}
 use Rattle.properties_format.specs.Encoding.{Encoding, InForce, byte_order_mark}
 use Rattle.properties_format.specs.Lines.{end}
 use Rattle.properties_format.specs.Entries.{Entry, item, malformed, read_fault}
-use Rattle.properties_format.specs.Reading.Items.{items_of}
+use Rattle.properties_format.specs.Groups.{joined}
+use Rattle.properties_format.specs.Items.{Outcome, ignored, given, broken}
+use Rattle.properties_format.specs.Reading.Items.{outcome_of, items_of}
 use Rattle.properties_format.specs.Writing.{is_empty}
-use Rattle.properties_format.specs.Body.{HeldLine, ending_bytes, group_bytes, groups_bytes, last_ending}
+use Rattle.properties_format.specs.Body.{HeldLine, as_lines, ending_bytes, group_bytes, groups_bytes, last_ending}
 use Rattle.properties_format.specs.Edited.{pair_bytes, final_group, parting, bom_of, guarding_lf, Edit, put, remove, EditResult, edited, unsupported, unreadable, is_editable}
 use Rattle.properties_format.specs.Reading.Body.{has_key, held_groups_of}
 
@@ -70,6 +72,16 @@ edits_made e source [] = source
 edits_made e source (edit ∷ edits) = edits_made e (edit_made e source edit) edits
 
 -- ---- results
+
+-- the group is not malformed
+abbrev pub IsSound : Outcome → Type 0
+IsSound ignored = Unit {0}
+IsSound (given content) = Unit {0}
+IsSound (broken kind) = ⊥
+
+abbrev pub AreSound : List (List HeldLine) → Type 0
+AreSound [] = Unit {0}
+AreSound (g ∷ gs) = IsSound (outcome_of (joined (as_lines g))) × AreSound gs
 
 -- the result by the items of the source: its first fault, or else these bytes
 abbrev pub result_by : List Entry → List ℕ → EditResult

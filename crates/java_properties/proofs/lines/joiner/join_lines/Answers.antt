@@ -4,8 +4,8 @@ use Rattle.std.proofs.lemmas.Result.{err_from_is_err_and}
 use Rattle.java_properties.proofs.LineJoiner.{goes-more, joins-closed, joins-done, join-no_room, join-refused, goes-live}
 use Rattle.java_properties.proofs.lines.joiner.join_lines.Goals as goal
 
-pub returns-in_err-append-in-Ok-clause-joins : goal.returns-in_err-append-in-Ok-clause-joins
-returns-in_err-append-in-Ok-clause-joins g c =
+pub returns-in_err-add_line-in-Ok-clause-joins : goal.returns-in_err-add_line-in-Ok-clause-joins
+returns-in_err-add_line-in-Ok-clause-joins g c =
     let next = rw c.in-Ok.is at c.in-Some.ensures.finds in
     let error = err_from_is_err_and c.from_residual.result c.from_residual.ensures.1 in
     let along = c.loop-found.invariant.along.1 in
@@ -14,13 +14,13 @@ returns-in_err-append-in-Ok-clause-joins g c =
 pub returns-then-not-branch-clause-joins : goal.returns-then-not-branch-clause-joins
 returns-then-not-branch-clause-joins g c =
     let next = rw c.in-Ok.is at c.in-Some.ensures.finds in
-    let added = c.in_ok-append-in-Ok.ensures in
+    let added = rw (c.encoding.ensures, c.line.ensures) at c.in_ok-add_line-in-Ok.ensures in
     joins-closed c.in-Ok.field-0 c.find_line.new.self c.loop-found.invariant.along.1 next (sym added.0 ∙ c.if-not-branch.true) added.1
 
 pub loop-found-preserved : goal.loop-found-preserved
 loop-found-preserved g c =
     let next = rw c.in-Ok.is at c.in-Some.ensures.finds in
-    let added = c.in_ok-append-in-Ok.ensures in
+    let added = rw (c.encoding.ensures, c.line.ensures) at c.in_ok-add_line-in-Ok.ensures in
     record {
       along = (
         c.loop-found.invariant.along.0 ++ next.bytes,

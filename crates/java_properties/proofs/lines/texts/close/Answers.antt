@@ -2,7 +2,7 @@ use Rattle.std.proofs.Common.{◌-◌, ◌∙◌, ap, length, subst, sym, take}
 use Rattle.std.specs.Str.{IsCharBoundary, chars}
 use Rattle.properties_format.specs.Groups.{without_open_backslash}
 use Rattle.properties_text.proofs.Texts.Joins.{cut_open}
-use Rattle.java_properties.proofs.lines.joiner.close.Goals as goal
+use Rattle.java_properties.proofs.lines.texts.close.Goals as goal
 
 pub overflow_sub-last : goal.overflow_sub-last
 overflow_sub-last c =

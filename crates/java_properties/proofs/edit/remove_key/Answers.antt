@@ -1,0 +1,44 @@
+use Rattle.std.proofs.Common.{◌∙◌, ap}
+use Rattle.std.proofs.lemmas.List.{take_rest}
+use Rattle.std.proofs.lemmas.Result.{err_from_is_err_and}
+use Rattle.std.specs.Str.{chars}
+use Rattle.properties_format.specs.Edited.{IsRemoveKeyResult}
+use Rattle.properties_format.specs.Reading.Edited.{key_removed}
+use Rattle.properties_format.proofs.Edited.Results.{remove_key_result-meets}
+use Rattle.properties_text.specs.Encoding.{encoding_of}
+use Rattle.java_properties.specs.BodyKeys.{left_bytes}
+use Rattle.java_properties.proofs.Editing.{refusal, splitting, removed-edits, removed-result}
+use Rattle.java_properties.proofs.edit.remove_key.Goals as goal
+
+pub returns-in_err-opened-clause-splitting : goal.returns-in_err-opened-clause-splitting
+returns-in_err-opened-clause-splitting c = splitting (encoding_of c.args.encoding) c.args.source.now
+
+pub returns-in_err-others-clause-removes : goal.returns-in_err-others-clause-removes
+returns-in_err-others-clause-removes c =
+    let e = encoding_of c.args.encoding in
+    let source = c.args.source.now in
+    let key = chars c.args.key.now in
+    let opened = c.in_ok-opened in
+    let error = err_from_is_err_and c.from_residual-in_err-others.result c.from_residual-in_err-others.ensures.1 in
+    let fault = rw (take_rest source opened.opened.start) at c.in_err-others.ensures in
+    rw (error.1, error.2) (refusal (IsRemoveKeyResult e source key) (key_removed e source key) opened.ensures.0 opened.ensures.1
+    (remove_key_result-meets e source key) (λ none. none) fault)
+
+pub returns-in_err-others-clause-splitting : goal.returns-in_err-others-clause-splitting
+returns-in_err-others-clause-splitting c = splitting (encoding_of c.args.encoding) c.args.source.now
+
+pub returns-in_err-bytes-clause-splitting : goal.returns-in_err-bytes-clause-splitting
+returns-in_err-bytes-clause-splitting c = splitting (encoding_of c.args.encoding) c.args.source.now
+
+pub returns-clause-removes : goal.returns-clause-removes
+returns-clause-removes c =
+    let source = c.args.source.now in
+    let key = chars c.args.key.now in
+    let bytes = c.in_ok-bytes.bytes.items in
+    let opened = c.in_ok-opened in
+    let found = rw (take_rest source opened.opened.start) at c.in_ok-others.ensures in
+    let made = c.in_ok-bytes.ensures ∙ ap (left_bytes source opened.opened.start) c.deref.ensures.value in
+    removed-edits (removed-result key bytes c.in_ok-others.others.items opened.ensures.0 opened.ensures.1 found made)
+
+pub returns-clause-splitting : goal.returns-clause-splitting
+returns-clause-splitting c = splitting (encoding_of c.args.encoding) c.args.source.now

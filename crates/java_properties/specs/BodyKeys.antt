@@ -1,0 +1,117 @@
+-- Which logical lines are pairs with a key, and where the last of them stands in a body.
+use Rattle.std.specs.Prelude.{◌≡◌, ◌⊎◌, ℕ, ◌+◌, Bool, if◌then◌else◌, List, [], ◌∷◌, ◌++◌, take, drop, ◌-◌, ◌==◌, ◌&&◌, ◌≤◌, length, Option, Some, None, Result, Ok, Err}
+use Rattle.std.specs.Str.{chars}
+use Rattle.std.specs.declared.vec.Vec.{Vec}
+use Rattle.properties_format.specs.Text.{line_feed}
+use Rattle.properties_format.specs.Encoding.{Encoding, begins_like_bom}
+use Rattle.properties_format.specs.Escapes.{Malformed}
+use Rattle.properties_format.specs.Body.{HeldLine, groups_bytes}
+use Rattle.properties_format.specs.Edited.{unreadable, final_group, added_ending, parting}
+use Rattle.properties_format.specs.Items.{ignored}
+use Rattle.properties_format.specs.Reading.Items.{outcome_of}
+use Rattle.properties_format.specs.Reading.Body.{is_pair_with, entries_in, held_groups_of}
+use Rattle.properties_format.specs.Reading.Edited.{KeyPlace, last_place, without, IsSound, AreSound, result_by}
+use Rattle.java_properties.specs.LentItems.{IsFoundIn}
+use Rattle.java_properties.specs.GivenItems.{IsNoItem}
+use Rattle.java_properties.specs.BodyGroups.{core_bytes}
+use Rattle.java_properties.specs.Errors.{IsBareError, IsMalformed}
+use Rattle.java_properties.specs.declared.edit.groups.Group.{Group}
+use Rattle.java_properties.specs.declared.edit.place.Closing.{Closing}
+use Rattle.java_properties.specs.declared.edit.place.Closing.TheVariants as closing
+use Rattle.java_properties.specs.declared.edit.place.KeyPlace as place
+use Rattle.java_properties.specs.declared.edit.place.BodySpan.{BodySpan}
+use Rattle.java_properties.specs.declared.error.ErrorKind.TheVariants as kind
+use Rattle.java_properties.specs.declared.error.PropertiesError.{PropertiesError}
+use Rattle.java_properties.specs.declared.iter.found.Found.{Found}
+
+-- What was found in a logical line, where it isn't blank; or an error in the line of this number.
+abbrev pub FindsItem : List ℕ → ℕ → Result (Option Found) PropertiesError → Type 0
+FindsItem line number (Ok None) = outcome_of (chars line) ≡ ignored
+FindsItem line number (Ok (Some found)) = IsFoundIn line found
+FindsItem line number (Err e) = IsNoItem number (chars line) e
+
+-- It is told whether a logical line is a pair with this key; or an error in the line of this number.
+abbrev pub TellsKey : List ℕ → List ℕ → ℕ → Result Bool PropertiesError → Type 0
+TellsKey line key number (Ok told) = IsSound (outcome_of line) × (told ≡ is_pair_with key (outcome_of line))
+TellsKey line key number (Err e) = IsNoItem number line e
+
+-- ---- the first fault of a body
+
+-- The first fault of these groups is so malformed, and the error says how, in its line; or there was no memory.
+abbrev pub IsFaultOf : List (List HeldLine) → PropertiesError → Type 0
+IsFaultOf groups e =
+    ((how : Malformed) × (n : ℕ) × ((made : List ℕ) → result_by (entries_in 1 groups) made ≡ unreadable how n) × IsMalformed how n e)
+    ⊎ IsBareError kind.Memory e
+
+-- ---- where a key stands
+
+-- The last pair with the key stands in this span.
+pub record IsPlaceOf (key : List ℕ) (groups : List (List HeldLine)) (pair : BodySpan) : Type 0 where
+  pub place : KeyPlace
+  pub is : last_place key groups ≡ Some place
+  pub division : groups ≡ place.before ++ place.group ∷ place.after
+  pub starts : pair.start ≡ length (groups_bytes place.before)
+  pub ends : pair.end ≡ pair.start + length (core_bytes place.group)
+
+abbrev pub IsPlace : List ℕ → List (List HeldLine) → Option BodySpan → Type 0
+IsPlace key groups None = last_place key groups ≡ None
+IsPlace key groups (Some pair) = IsPlaceOf key groups pair
+
+-- what parts a new pair from a group, by whether it is an empty line, and whether it is left open
+abbrev pub closing_of : Bool → Bool → Closing
+closing_of is_empty is_open = if is_empty then closing.Nothing else (if is_open then closing.TwoEndings else closing.OneEnding)
+
+-- the bytes of that, by a line ending
+abbrev pub parted : List ℕ → Closing → List ℕ
+parted ending closing.Nothing = []
+parted ending closing.OneEnding = ending
+parted ending closing.TwoEndings = ending ++ ending
+
+-- what is known of the key after one more group, which is a pair with it or not
+abbrev pub found_after : place.KeyPlace → Group → Bool → place.KeyPlace
+found_after found group is_pair =
+    record {
+      pair = if is_pair then Some (record { start = group.start; end = group.end }) else found.pair;
+      closing = closing_of group.is_empty group.is_open;
+    }
+
+-- A body was read, in which nothing is malformed, and it is found where the key stands.
+pub record IsKeyFound (e : Encoding) (body key : List ℕ) (found : place.KeyPlace) : Type 0 where
+  pub sound : AreSound (held_groups_of e body)
+  pub pair : IsPlace key (held_groups_of e body) found.pair
+  pub closing : (source : List ℕ) → parting source (final_group (held_groups_of e body)) ≡ parted (added_ending source) found.closing
+
+-- What looking for a key finds.
+abbrev pub FindsKey : Encoding → List ℕ → List ℕ → Result place.KeyPlace PropertiesError → Type 0
+FindsKey e body key (Ok found) = IsKeyFound e body key found
+FindsKey e body key (Err error) = IsFaultOf (held_groups_of e body) error
+
+-- ---- what is left without a key
+
+-- the bytes of these parts of a body, one after the other
+abbrev pub spans_bytes : List ℕ → List BodySpan → List ℕ
+spans_bytes body [] = []
+spans_bytes body (s ∷ ss) = take (s.end - s.start) (drop s.start body) ++ spans_bytes body ss
+
+-- these are parts of it
+abbrev pub AreWithin : List ℕ → List BodySpan → Type 0
+AreWithin body [] = Unit {0}
+AreWithin body (s ∷ ss) = (s.start ≤ s.end) × (s.end ≤ length body) × AreWithin body ss
+
+-- a source with these parts of its body alone, and an LF before them where else they would begin like a byte order mark that
+-- it has not
+abbrev pub left_bytes : List ℕ → ℕ → List BodySpan → List ℕ
+left_bytes source start others =
+    let rest = spans_bytes (drop start source) others in
+    take start source ++ ((if start == 0 && begins_like_bom rest then line_feed ∷ [] else []) ++ rest)
+
+-- A body was read, in which nothing is malformed, and these parts of it are left without the key.
+pub record AreOthersFound (e : Encoding) (body key : List ℕ) (others : List BodySpan) : Type 0 where
+  pub sound : AreSound (held_groups_of e body)
+  pub within : AreWithin body others
+  pub bytes : spans_bytes body others ≡ without key (held_groups_of e body)
+
+-- What looking for what is left finds.
+abbrev pub FindsOthers : {Z : Type 0} → Encoding → List ℕ → List ℕ → Result (Vec BodySpan Z) PropertiesError → Type 0
+FindsOthers e body key (Ok others) = AreOthersFound e body key others.items
+FindsOthers e body key (Err error) = IsFaultOf (held_groups_of e body) error

@@ -1,0 +1,75 @@
+-- What an editor returns.
+use Rattle.std.specs.Prelude.{◌≡◌, ◌⊎◌, ℕ, List, Result, Ok, Err, map, string_bytes}
+use Rattle.std.specs.Str.{chars}
+use Rattle.std.specs.Global.{Vec}
+use Rattle.properties_format.specs.Encoding.{Encoding}
+use Rattle.properties_format.specs.Escapes.{Malformed}
+use Rattle.properties_format.specs.Edited.{EditResult, edited, unsupported, unreadable, put, remove, IsSetKeyResult, IsRemoveKeyResult, IsEditAllResult}
+use Rattle.properties_format.specs.Edited as format
+use Rattle.properties_format.specs.Changed.{IsSetIn, IsRemovedIn, AreEditedIn, map_edited, map_after, AreOthersThanLast, AreOthers, ReadsAfter, KeepsOthers}
+use Rattle.java_properties.specs.Errors.{IsBareError, IsMalformed}
+use Rattle.java_properties.specs.declared.edit.Edit.{Edit}
+use Rattle.java_properties.specs.declared.edit.Edit.TheVariants.{Put, Remove}
+use Rattle.java_properties.specs.declared.error.ErrorKind.TheVariants as kind
+use Rattle.java_properties.specs.declared.error.PropertiesError.{PropertiesError}
+
+-- Why a source isn't edited, where this says which results are meant: its encoding is not one that is edited, and only then;
+-- or its first malformed escape; or there was no memory.
+abbrev pub IsRefusal : (EditResult → Type 0) → PropertiesError → Type 0
+IsRefusal IsMeant e =
+    (IsMeant unsupported × IsBareError kind.Unsupported e)
+    ⊎ (((how : Malformed) × (n : ℕ) × IsMeant (unreadable how n) × IsMalformed how n e) ⊎ ¬ (IsMeant unsupported) × IsBareError kind.Memory e)
+
+-- These bytes are the result that is meant, and no others are. They read as the source after the edit.
+pub record IsEdit (IsMeant : EditResult → Type 0) (Reads : List ℕ → Type 0) (bytes : List ℕ) : Type 0 where
+  pub result : IsMeant (edited bytes)
+  pub only : (other : EditResult) → IsMeant other → other ≡ edited bytes
+  pub reads : Reads bytes
+
+-- ---- a key
+
+-- The source with a key set: what its result is and reads as; and every group but the last pair with the key stands in it.
+pub record IsSet (e : Encoding) (source key value bytes : List ℕ) : Type 0 where
+  pub edit : IsEdit (IsSetKeyResult e source key value) (ReadsAfter (IsSetIn key value) (map_edited (put key value)) e source) bytes
+  pub keeps : KeepsOthers (AreOthersThanLast key) e source bytes
+
+abbrev pub SetsKey : Encoding → List ℕ → List ℕ → List ℕ → Result (Vec ℕ) PropertiesError → Type 0
+SetsKey e source key value (Ok bytes) = IsSet e source key value bytes.items
+SetsKey e source key value (Err error) = IsRefusal (IsSetKeyResult e source key value) error
+
+-- The source without a key: what its result is and reads as; and every group that is no pair with the key stands in it.
+pub record IsRemoved (e : Encoding) (source key bytes : List ℕ) : Type 0 where
+  pub edit : IsEdit (IsRemoveKeyResult e source key) (ReadsAfter (IsRemovedIn key) (map_edited (remove key)) e source) bytes
+  pub keeps : KeepsOthers (AreOthers key) e source bytes
+
+abbrev pub RemovesKey : Encoding → List ℕ → List ℕ → Result (Vec ℕ) PropertiesError → Type 0
+RemovesKey e source key (Ok bytes) = IsRemoved e source key bytes.items
+RemovesKey e source key (Err error) = IsRefusal (IsRemoveKeyResult e source key) error
+
+-- ---- edits in turn
+
+abbrev pub edit_in : Edit → format.Edit
+edit_in (Put key value) = put (chars (string_bytes key)) (chars (string_bytes value))
+edit_in (Remove key) = remove (chars (string_bytes key))
+
+abbrev pub edits_in : List Edit → List format.Edit
+edits_in edits = map edit_in edits
+
+-- The source after edits: what its result is and reads as.
+abbrev pub AreMade : Encoding → List ℕ → List format.Edit → List ℕ → Type 0
+AreMade e source edits bytes = IsEdit (IsEditAllResult e source edits) (ReadsAfter (AreEditedIn edits) (map_after edits) e source) bytes
+
+abbrev pub EditsAll : Encoding → List ℕ → List format.Edit → Result (Vec ℕ) PropertiesError → Type 0
+EditsAll e source edits (Ok bytes) = AreMade e source edits bytes.items
+EditsAll e source edits (Err error) = IsRefusal (IsEditAllResult e source edits) error
+
+-- both are the same edit, with the same texts
+abbrev pub IsSameEdit : Edit → Edit → Type 0
+IsSameEdit (Put k v) (Put l w) = (string_bytes k ≡ string_bytes l) × (string_bytes v ≡ string_bytes w)
+IsSameEdit (Remove k) (Remove l) = string_bytes k ≡ string_bytes l
+IsSameEdit edit other = ⊥
+
+-- one edit is made
+abbrev pub MakesEdit : Encoding → List ℕ → format.Edit → Result (Vec ℕ) PropertiesError → Type 0
+MakesEdit e source (put key value) result = SetsKey e source key value result
+MakesEdit e source (remove key) result = RemovesKey e source key result

@@ -1,0 +1,122 @@
+// Where a key stands in a body.
+
+ghost use Rattle.std.specs.Prelude.{◌≡◌, ◌++◌};
+ghost use Rattle.std.specs.Str.{chars};
+ghost use Rattle.properties_format.specs.Edited.{added_ending};
+ghost use Rattle.properties_format.specs.Reading.Lines.{ends_in_cr};
+ghost use Rattle.properties_text.specs.Encoding.{encoding_of};
+ghost use Rattle.java_properties.specs.LineSearch.{unit_size};
+ghost use Rattle.java_properties.specs.BodyKeys.{FindsKey, closing_of, found_after, parted};
+
+use crate::edit::groups::{Group, GroupReader};
+use crate::edit::keys::has_key;
+use crate::error::PropertiesError;
+use properties_text::encoding::Encoding;
+use std::alloc::Global;
+
+/// The last pair with a key, if there is one, and how the last group of the body ends.
+#[derive(Clone, Copy)]
+pub struct KeyPlace {
+    /// The pair, without its last line ending.
+    pub pair: Option<BodySpan>,
+    /// What parts a new pair from the last group.
+    pub closing: Closing,
+}
+
+/// A part of a body, as a span of its bytes.
+#[derive(Clone, Copy)]
+pub struct BodySpan {
+    /// The place of its first byte.
+    pub start: usize,
+    /// The place after its last byte.
+    pub end: usize,
+}
+
+/// What parts a new pair from the last group of a body.
+#[derive(Clone, Copy)]
+pub enum Closing {
+    /// Nothing, after an empty line.
+    Nothing,
+    /// A line ending.
+    OneEnding,
+    /// Two line endings, after a line that a backslash leaves open.
+    TwoEndings,
+}
+
+/// Looks for a key in a body, whose units are of one byte.
+pub fn find_key(
+    alloc: Global,
+    encoding: Encoding,
+    body: &[u8],
+    key: &str,
+) -> Result<KeyPlace, PropertiesError>
+    requires { unit_size (encoding_of encoding) ≡ 1 }
+    ensures { FindsKey (encoding_of encoding) body.now (chars key.now) result }
+{
+    let mut groups = GroupReader::new(alloc, encoding);
+    let mut place = KeyPlace {
+        pair: None,
+        closing: Closing::Nothing,
+    };
+    while let Some(group) = groups.next(body)? {
+        let number = group.passed.saturating_add(1);
+        let is_pair = has_key(alloc, number, groups.line(body, group), key)?;
+        place = place.after(group, is_pair);
+    }
+    Ok(place)
+}
+
+impl KeyPlace {
+    // What is known after this group, which is a pair with the key or not.
+    fn after(self, group: Group, is_pair: bool) -> KeyPlace
+        ensures { result ≡ found_after self group is_pair }
+    {
+        let pair = if is_pair {
+            Some(BodySpan {
+                start: group.start,
+                end: group.end,
+            })
+        } else {
+            self.pair
+        };
+        KeyPlace {
+            pair,
+            closing: closing_after(group),
+        }
+    }
+}
+
+// What parts a new pair from this group.
+fn closing_after(group: Group) -> Closing
+    ensures { result ≡ closing_of group.is_empty group.is_open }
+{
+    if group.is_empty {
+        Closing::Nothing
+    } else if group.is_open {
+        Closing::TwoEndings
+    } else {
+        Closing::OneEnding
+    }
+}
+
+/// The line endings that part a new pair from the last group of a source: CRs where the source ends in one, and else LFs.
+pub fn parting(source: &[u8], closing: Closing) -> &'static [u8]
+    ensures { result.now ≡ parted (added_ending source.now) closing }
+{
+    match (closing, ends_in_cr(source)) {
+        (Closing::Nothing, _) => b"",
+        (Closing::OneEnding, true) => b"\r",
+        (Closing::OneEnding, false) => b"\n",
+        (Closing::TwoEndings, true) => b"\r\r",
+        (Closing::TwoEndings, false) => b"\n\n",
+    }
+}
+
+fn ends_in_cr(source: &[u8]) -> bool
+    ensures { result ≡ ends_in_cr source.now }
+{
+    if source.is_empty() {
+        return false;
+    }
+    source[source.len() - 1] == b'\r'
+}

@@ -1,0 +1,172 @@
+// The bytes of an edited source.
+
+ghost use Rattle.std.specs.Prelude.{◌≡◌, ◌==◌, ◌≤◌, ◌+◌, ◌-◌, ◌++◌, [], ◌∷◌, take, drop, length, IfOk, OnOk};
+ghost use Rattle.std.specs.Str.{chars};
+ghost use Rattle.properties_format.specs.Text.{line_feed};
+ghost use Rattle.properties_format.specs.Writing.{is_empty};
+ghost use Rattle.properties_format.specs.Edited.{added_ending, pair_bytes};
+ghost use Rattle.properties_format.specs.Encoding.{begins_like_bom};
+ghost use Rattle.java_properties.specs.BodyKeys.{AreWithin, left_bytes, parted, spans_bytes};
+ghost use Rattle.properties_format.specs.Encoding.{output_encoding};
+ghost use Rattle.properties_text.specs.Encoding.{encoding_of};
+ghost use Rattle.properties_text.specs.Printing.{AppendsOnOk};
+
+use crate::edit::place::{BodySpan, Closing, parting};
+use crate::edit::source::Source;
+use properties_text::encoding::byte_order_mark::{ByteOrderMark, byte_order_mark};
+use properties_text::encoding::{Encoding, OutputEncoding};
+use properties_text::print::{LineBuffer, Place, Repertoire, print_key, print_raw, print_text};
+use std::alloc::{AllocError, Global};
+
+/// The source with a printed pair in the place of this one.
+pub fn replaced(
+    alloc: Global,
+    source: &[u8],
+    opened: Source,
+    pair: BodySpan,
+    key: &str,
+    value: &str,
+) -> Result<Vec<u8>, AllocError>
+    requires ordered { pair.start ≤ pair.end }
+    requires within { opened.start + pair.end ≤ length source.now }
+    ensures { let e = output_encoding (encoding_of opened.encoding) in
+        let line = pair_bytes e (pair.start == 0) (chars key.now) (chars value.now) in
+        IfOk result (λ bytes. bytes.items ≡ take (opened.start + pair.start) source.now
+        ++ (line ++ drop (opened.start + pair.end) source.now)) }
+{
+    let mut line = LineBuffer::new(alloc);
+    print_pair(&mut line, opened.encoding, pair.start == 0, key, value)?;
+    let front = &source[..opened.start + pair.start];
+    let back = &source[opened.start + pair.end..];
+    concatenated(alloc, front, line.as_slice(), back)
+}
+
+/// The source with a printed pair at its end, which is parted so from what stands before it.
+pub fn appended(
+    alloc: Global,
+    source: &[u8],
+    opened: Source,
+    closing: Closing,
+    key: &str,
+    value: &str,
+) -> Result<Vec<u8>, AllocError>
+    requires { opened.start ≤ length source.now }
+    ensures { let e = output_encoding (encoding_of opened.encoding) in
+        let parting = parted (added_ending source.now) closing in
+        let first = is_empty (drop opened.start source.now ++ parting) in
+        let line = pair_bytes e first (chars key.now) (chars value.now) in
+        IfOk result (λ bytes. bytes.items ≡ source.now ++ (parting ++ (line ++ line_feed ∷ []))) }
+{
+    let parting = parting(source, closing);
+    let first = are_empty(&source[opened.start..], parting);
+    let mut line = LineBuffer::new(alloc);
+    print_pair(&mut line, opened.encoding, first, key, value)?;
+    print_raw(&mut line, "\n")?;
+    concatenated(alloc, source, parting, line.as_slice())
+}
+
+/// The source with these parts of its body alone. An LF comes before them where they would begin like a byte order mark, and
+/// the source begins with none.
+pub fn without_others(
+    alloc: Global,
+    source: &[u8],
+    opened: Source,
+    others: &[BodySpan],
+) -> Result<Vec<u8>, AllocError>
+    requires within { opened.start ≤ length source.now }
+    requires parts { AreWithin (drop opened.start source.now) others.now }
+    ensures { IfOk result (λ bytes. bytes.items ≡ left_bytes source.now opened.start others.now) }
+{
+    let body = &source[opened.start..];
+    let mut bytes = Vec::with_capacity(alloc, size_with(opened.start, others))?;
+    bytes.extend_from_slice(&source[..opened.start])?;
+    push_spans(&mut bytes, body, others)?;
+    if opened.start == 0 && begins_like_bom(&bytes) {
+        // It seldom comes to this, so the bytes are moved.
+        bytes.insert(0, b'\n')?;
+    }
+    Ok(bytes)
+}
+
+// How many bytes a byte order mark, an LF and these parts have, at most.
+fn size_with(mark: usize, spans: &[BodySpan]) -> usize {
+    let mut size = mark.saturating_add(1);
+    for span in spans {
+        size = size.saturating_add(span.end.saturating_sub(span.start));
+    }
+    size
+}
+
+// Appends these parts of a body.
+fn push_spans(bytes: &mut Vec<u8>, body: &[u8], spans: &[BodySpan]) -> Result<(), AllocError>
+    requires { AreWithin body.now spans.now }
+    ensures { OnOk result (bytes.new.items ≡ bytes.old.items ++ spans_bytes body.now spans.now) }
+{
+    for span in spans {
+        bytes.extend_from_slice(part(body, *span))?;
+    }
+    Ok(())
+}
+
+fn part(body: &[u8], span: BodySpan) -> &[u8]
+    requires ordered { span.start ≤ span.end }
+    requires within { span.end ≤ length body.now }
+    ensures { result.now ≡ take (span.end - span.start) (drop span.start body.now) }
+{
+    &body[span.start..span.end]
+}
+
+fn begins_like_bom(bytes: &[u8]) -> bool
+    ensures { result ≡ begins_like_bom bytes.now }
+{
+    match byte_order_mark(bytes) {
+        ByteOrderMark::Present(_, _) => true,
+        ByteOrderMark::Absent | ByteOrderMark::Undecided => false,
+    }
+}
+
+fn are_empty(rest: &[u8], parting: &[u8]) -> bool
+    ensures { result ≡ is_empty (rest.now ++ parting.now) }
+{
+    rest.is_empty() && parting.is_empty()
+}
+
+// Appends a pair without a line ending. The `first` of a body isn't to be taken for a byte order mark.
+fn print_pair(
+    line: &mut LineBuffer,
+    encoding: Encoding,
+    first: bool,
+    key: &str,
+    value: &str,
+) -> Result<(), AllocError>
+    ensures { let e = output_encoding (encoding_of encoding) in
+        AppendsOnOk line.old (pair_bytes e first (chars key.now) (chars value.now)) result line.new }
+{
+    let repertoire = Repertoire {
+        encoding: OutputEncoding::from(encoding),
+        ascii_only: false,
+    };
+    print_key(line, repertoire, first, key)?;
+    print_raw(line, "=")?;
+    print_text(line, repertoire, Place::KeyOrValue, value)
+}
+
+/// The bytes of three slices, one after the other. Their memory is taken before the first of them is copied.
+pub fn concatenated(
+    alloc: Global,
+    front: &[u8],
+    middle: &[u8],
+    back: &[u8],
+) -> Result<Vec<u8>, AllocError>
+    ensures { IfOk result (λ bytes. bytes.items ≡ front.now ++ (middle.now ++ back.now)) }
+{
+    let size = front
+        .len()
+        .saturating_add(middle.len())
+        .saturating_add(back.len());
+    let mut bytes = Vec::with_capacity(alloc, size)?;
+    bytes.extend_from_slice(front)?;
+    bytes.extend_from_slice(middle)?;
+    bytes.extend_from_slice(back)?;
+    Ok(bytes)
+}
