@@ -18,7 +18,8 @@ pub fn lookup<R: CountedRead>(
     input: &mut R,
     key: &str,
 ) -> Result<Option<String>, PropertiesError>
-    ensures finds { IfOk result (λ found. FindsValue R.CountedRead input.old (chars key.now) found input.new) }
+    ensures finds { IfOk result (λ found.
+        FindsValue R.CountedRead input.old (chars key.now) found input.new) }
     ensures same_reader { IsSameReader R.CountedRead input.old input.new }
 {
     let map = read(alloc, input)?;
