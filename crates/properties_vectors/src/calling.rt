@@ -3,6 +3,7 @@
 pub mod catalogue;
 pub mod convert;
 pub mod count;
+pub mod edit;
 pub mod find;
 pub mod lint;
 pub mod load;

@@ -1,6 +1,6 @@
 // Sources that aren't edited: those of UTF-16, and those with a malformed escape.
 
-use super::support::{BOTH, Change, change, edits_of, is_refusal};
+use super::support::{BOTH, Change, changed, edits_of, is_refusal};
 use java_properties::{Encoding, ErrorKind, edit_all};
 use std::alloc::Global;
 use std::process::Abort;
@@ -21,7 +21,7 @@ fn check_refused(
     (kind, line): (ErrorKind, Option<usize>),
 ) -> Result<(), Fail> {
     for made in CHANGES {
-        assert!(rt; is_refusal(&change(alloc, source, encoding, made), kind, line));
+        assert!(rt; is_refusal(&changed(alloc, source, encoding, made), kind, line));
         let edits = edits_of(alloc, &[made, Change::Put("c", "d")])?;
         let answer = edit_all(alloc, source, encoding, edits.as_slice());
         assert!(rt; is_refusal(&answer, kind, line));

@@ -1,6 +1,6 @@
 // How sources and their lines end.
 
-use super::support::{BOTH, Change, Row, change, check_rows};
+use super::support::{BOTH, Change, Row, changed, check_rows};
 use crate::reading::support::Entry;
 use java_properties::{LineContent, read_lines};
 use std::test::Fail;
@@ -99,7 +99,7 @@ fn endings_are_kept(rt: HostRuntime) -> Result<(), Fail> {
 fn a_pair_after_an_open_comment_is_read(rt: HostRuntime) -> Result<(), Fail> {
     let source = b"\\\n#b\\".as_slice();
     for encoding in BOTH {
-        let edited = change(rt.alloc(), source, encoding, Change::Put("c", "d"))?;
+        let edited = changed(rt.alloc(), source, encoding, Change::Put("c", "d"))?;
         let mut input = edited.as_slice();
         let lines = read_lines(rt.alloc(), &mut input, encoding)?;
         let mut entries = Vec::new(rt.alloc());

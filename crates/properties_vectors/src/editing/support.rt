@@ -21,7 +21,7 @@ pub type Row<'a> = (&'a [u8], Change<'a>, &'a [u8]);
 pub const BOTH: [Encoding; 2] = [Encoding::WINDOWS_1252, Encoding::UTF_8];
 
 /// The source after a single call.
-pub fn change(
+pub fn changed(
     alloc: Global,
     source: &[u8],
     encoding: Encoding,
@@ -60,7 +60,7 @@ pub fn check_rows(
     rows: &[Row<'_>],
 ) -> Result<(), Fail> {
     for (place, (source, made, wanted)) in rows.iter().enumerate() {
-        let edited = change(alloc, source, encoding, *made)?;
+        let edited = changed(alloc, source, encoding, *made)?;
         assert_eq!(rt; edited.as_slice(), *wanted, "in row {place}");
         let edits = edits_of(alloc, &[*made])?;
         let edited = edit_all(alloc, source, encoding, edits.as_slice())?;

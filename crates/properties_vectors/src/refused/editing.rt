@@ -1,7 +1,7 @@
 // Sources that are edited.
 
 use super::is_memory;
-use crate::editing::support::{Change, change, edits_of, is_refusal};
+use crate::editing::support::{Change, changed, edits_of, is_refusal};
 use java_properties::{Edit, Encoding, ErrorKind, PropertiesError, edit_all};
 use std::alloc::Global;
 use std::process::Abort;
@@ -48,8 +48,8 @@ fn gives(rt: &impl Abort, answer: Result<Vec<u8>, PropertiesError>, wanted: &[u8
 
 fn check_change(rt: &impl Abort, alloc: Global, made: Change<'_>, wanted: &[u8]) {
     let encoding = Encoding::WINDOWS_1252;
-    if !gives(rt, change(alloc, SOURCE, encoding, made), wanted) {
-        assert!(rt; gives(rt, change(alloc, SOURCE, encoding, made), wanted));
+    if !gives(rt, changed(alloc, SOURCE, encoding, made), wanted) {
+        assert!(rt; gives(rt, changed(alloc, SOURCE, encoding, made), wanted));
     }
 }
 
@@ -98,8 +98,8 @@ fn a_guard_is_put_or_refused(rt: HostRuntime) {
     let encoding = Encoding::WINDOWS_1252;
     let made = Change::Remove("a");
     let wanted = b"\n\xfe\xff=2\n".as_slice();
-    if !gives(&rt, change(rt.alloc(), source, encoding, made), wanted) {
-        assert!(rt; gives(&rt, change(rt.alloc(), source, encoding, made), wanted));
+    if !gives(&rt, changed(rt.alloc(), source, encoding, made), wanted) {
+        assert!(rt; gives(&rt, changed(rt.alloc(), source, encoding, made), wanted));
     }
 }
 
@@ -107,9 +107,9 @@ fn a_guard_is_put_or_refused(rt: HostRuntime) {
 fn check_malformed(rt: &impl Abort, alloc: Global, made: Change<'_>) {
     let source = b"\xe9=1\nk=\xe9\\u12".as_slice();
     let encoding = Encoding::WINDOWS_1252;
-    let mut answer = change(alloc, source, encoding, made);
+    let mut answer = changed(alloc, source, encoding, made);
     if is_refusal(&answer, ErrorKind::Memory, None) {
-        answer = change(alloc, source, encoding, made);
+        answer = changed(alloc, source, encoding, made);
     }
     assert!(rt; is_refusal(&answer, ErrorKind::NotEnoughDigits, Some(2)));
 }
@@ -127,6 +127,6 @@ fn a_malformed_escape_is_told_or_memory_is_where_a_key_is_removed(rt: HostRuntim
 // No memory is taken before UTF-16 is refused.
 #[test]
 fn utf_16_is_refused_without_memory(rt: HostRuntime) {
-    let answer = change(rt.alloc(), b"", Encoding::UTF_16BE, Change::Remove("a"));
+    let answer = changed(rt.alloc(), b"", Encoding::UTF_16BE, Change::Remove("a"));
     assert!(rt; is_refusal(&answer, ErrorKind::Unsupported, None));
 }
