@@ -4,6 +4,7 @@ pub mod catalogue;
 pub mod compare;
 pub mod convert;
 pub mod count;
+pub mod edit;
 pub mod find;
 pub mod greetings;
 pub mod lint;

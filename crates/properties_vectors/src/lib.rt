@@ -8,6 +8,8 @@
 mod ascii;
 pub mod calling;
 #[cfg(test)]
+mod editing;
+#[cfg(test)]
 mod laws;
 #[cfg(test)]
 mod maps;

@@ -1,0 +1,63 @@
+// Editors that change settings in a file's bytes, and keep its comments.
+
+use java_properties::{Edit, Encoding, PropertiesError, edit_all, set_key};
+use std::alloc::{AllocError, Global};
+use std::collections::HashMap;
+
+/// The file with this port. Comments, blank lines and the order of the pairs stay.
+pub fn set_port(alloc: Global, file: &[u8], port: u16) -> Result<Vec<u8>, PropertiesError> {
+    let text = format!(in alloc; "{port}")?;
+    set_key(alloc, file, Encoding::UTF_8, "port", text.as_str())
+}
+
+/// The file with every setting of a map: those that it has are replaced, others come last.
+pub fn set_all(
+    alloc: Global,
+    file: &[u8],
+    settings: &HashMap<String, String>,
+) -> Result<Vec<u8>, PropertiesError> {
+    let edits = edits_from(alloc, settings)?;
+    edit_all(alloc, file, Encoding::UTF_8, edits.as_slice())
+}
+
+fn edits_from(alloc: Global, settings: &HashMap<String, String>) -> Result<Vec<Edit>, AllocError> {
+    let mut edits = Vec::new(alloc);
+    for (key, value) in settings {
+        edits.push(Edit::Put(key.clone()?, value.clone()?))?;
+    }
+    Ok(edits)
+}
+
+#[cfg(test)]
+mod tests {
+    use super::*;
+    use std::test::Fail;
+
+    #[test]
+    fn sets_a_port(rt: HostRuntime) -> Result<(), Fail> {
+        let file = b"# the front door\r\nport : 80\r\n\r\nhost = a\r\n".as_slice();
+        let edited = set_port(rt.alloc(), file, 8080)?;
+        let wanted = b"# the front door\r\nport=8080\r\n\r\nhost = a\r\n".as_slice();
+        assert_eq!(rt; edited.as_slice(), wanted);
+        Ok(())
+    }
+
+    #[test]
+    fn sets_what_a_map_has(rt: HostRuntime) -> Result<(), Fail> {
+        let alloc = rt.alloc();
+        let mut settings = HashMap::new(alloc);
+        settings.insert(
+            String::from_str(alloc, "port")?,
+            String::from_str(alloc, "8080")?,
+        )?;
+        settings.insert(
+            String::from_str(alloc, "host")?,
+            String::from_str(alloc, "b")?,
+        )?;
+        let file = b"# both\nhost = a\n! and\nport = 80".as_slice();
+        let edited = set_all(alloc, file, &settings)?;
+        let wanted = b"# both\nhost=b\n! and\nport=8080".as_slice();
+        assert_eq!(rt; edited.as_slice(), wanted);
+        Ok(())
+    }
+}

@@ -1,0 +1,8 @@
+// Keys that are set and removed, by single calls and by lists of edits.
+
+mod keys;
+mod lists;
+mod marks;
+mod refusals;
+mod sources;
+pub mod support;

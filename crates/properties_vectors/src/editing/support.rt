@@ -1,0 +1,89 @@
+// What the rows of edits are checked with.
+
+use java_properties::{
+    Cause, Edit, Encoding, ErrorKind, PropertiesError, edit_all, remove_key, set_key,
+};
+use std::alloc::{AllocError, Global};
+use std::process::Abort;
+use std::test::Fail;
+
+/// An edit whose texts are lent.
+#[derive(Clone, Copy)]
+pub enum Change<'a> {
+    Put(&'a str, &'a str),
+    Remove(&'a str),
+}
+
+/// A source, what is changed of it, and the source after that.
+pub type Row<'a> = (&'a [u8], Change<'a>, &'a [u8]);
+
+/// Both encodings that are edited.
+pub const BOTH: [Encoding; 2] = [Encoding::WINDOWS_1252, Encoding::UTF_8];
+
+/// The source after a single call.
+pub fn changed(
+    alloc: Global,
+    source: &[u8],
+    encoding: Encoding,
+    change: Change<'_>,
+) -> Result<Vec<u8>, PropertiesError> {
+    match change {
+        Change::Put(key, value) => set_key(alloc, source, encoding, key, value),
+        Change::Remove(key) => remove_key(alloc, source, encoding, key),
+    }
+}
+
+/// These changes as a list of edits.
+pub fn edits_of(alloc: Global, changes: &[Change<'_>]) -> Result<Vec<Edit>, AllocError> {
+    let mut edits = Vec::new(alloc);
+    for change in changes {
+        edits.push(edit_of(alloc, *change)?)?;
+    }
+    Ok(edits)
+}
+
+pub fn edit_of(alloc: Global, change: Change<'_>) -> Result<Edit, AllocError> {
+    match change {
+        Change::Put(key, value) => Ok(Edit::Put(
+            String::from_str(alloc, key)?,
+            String::from_str(alloc, value)?,
+        )),
+        Change::Remove(key) => Ok(Edit::Remove(String::from_str(alloc, key)?)),
+    }
+}
+
+/// Each row by the single call, and by a list of that one edit.
+pub fn check_rows(
+    rt: &impl Abort,
+    alloc: Global,
+    encoding: Encoding,
+    rows: &[Row<'_>],
+) -> Result<(), Fail> {
+    for (place, (source, made, wanted)) in rows.iter().enumerate() {
+        let edited = changed(alloc, source, encoding, *made)?;
+        assert_eq!(rt; edited.as_slice(), *wanted, "in row {place}");
+        let edits = edits_of(alloc, &[*made])?;
+        let edited = edit_all(alloc, source, encoding, edits.as_slice())?;
+        assert_eq!(rt; edited.as_slice(), *wanted, "in row {place}");
+    }
+    Ok(())
+}
+
+/// Whether it is an error of this kind, in this line, with the cause that goes with it.
+pub fn is_refusal(
+    answer: &Result<Vec<u8>, PropertiesError>,
+    kind: ErrorKind,
+    line: Option<usize>,
+) -> bool {
+    match answer {
+        Ok(_) => false,
+        Err(error) => {
+            error.kind() == kind
+                && error.line_number() == line
+                && match kind {
+                    ErrorKind::NotHex => matches!(error.cause(), Cause::NotHex),
+                    _ => matches!(error.cause(), Cause::None),
+                }
+        }
+    }
+}
