@@ -16,8 +16,8 @@ HEAD = """// Examples of doc comments, each as a test.
 
 use counted_io::{Counted, CountedRead, CountedWrite, ScriptedReader, ScriptedSink, SinkFault, Tail, send};
 use java_properties::{
-    Call, ContentRef, Encoding, LineContent, LineEnding, PropertiesError, PropertiesIter, PropertiesWriter, laws, read,
-    read_lines, read_sorted, run_calls, write, write_sorted,
+    Call, ContentRef, Edit, Encoding, LineContent, LineEnding, PropertiesError, PropertiesIter, PropertiesWriter, edit_all,
+    laws, read, read_lines, read_sorted, remove_key, run_calls, set_key, write, write_sorted,
 };
 use properties_text::encoding::decode::decode_line;
 use properties_text::encoding::{OutputEncoding, TextBuffer};
@@ -46,6 +46,9 @@ GIVEN = {
     "repertoire": "let repertoire = Repertoire { encoding: OutputEncoding::Utf8, ascii_only: false };",
     "line": "let mut line = LineBuffer::new(alloc);",
     "key": 'let key = String::from_str(alloc, "k")?;',
+    "source": 'let source: &[u8] = b"port=80";',
+    "port": 'let port = String::from_str(alloc, "port")?;',
+    "host": 'let host = String::from_str(alloc, "host")?;',
     "value": 'let value = String::from_str(alloc, "v")?;',
 }
 
@@ -75,8 +78,8 @@ def is_free(name, text):
     """Whether a name is used that the example doesn't bind."""
     ways = ["let (mut )?{}\\b", "\\|[^|]*\\b{}\\b[^|]*\\|", "\\(.*\\b{}\\b.*\\) =", "\\b{}\\) =>", "KVPair\\({},", "for {} in"]
     is_bound = any(re.search(way.format(name), text) for way in ways) or re.search(rf"Some\((Ok\()?{name}\b", text)
-    # A variant of `Call` is made of a key and a value, and not matched.
-    is_made = name in ("key", "value") and "Call::Pair(key, value)" in text
+    # A variant of `Call` or of `Edit` is made of texts, and not matched.
+    is_made = name in ("key", "value") and "Call::Pair(key, value)" in text or "Edit::Put(" in text
     return re.search(rf"(?<![.\w]){name}\b(?!\()", text) and (is_made or not is_bound)
 
 
