@@ -25,7 +25,12 @@ use std::alloc::Global;
 /// The source with a key set to a value.
 ///
 /// The last pair with the key is replaced by the printed pair, which takes over its line ending. Where there is none, the
-/// pair comes last, with a line feed. Every other byte stays as it is, a byte order mark included.
+/// pair comes last, with a line feed. Before it comes a line ending where the last line has none, or two where a backslash
+/// leaves that line open: CRs where the source ends in one, and else LFs. Every other byte stays as it is, a byte order
+/// mark included.
+///
+/// Keys are compared with their escapes resolved. At the front of a file a key that begins like a byte order mark has its
+/// first character escaped.
 ///
 /// UTF-16 is refused, and so is a source with a malformed escape anywhere: the error is the one that reading the source
 /// would return.
@@ -57,7 +62,8 @@ pub fn set_key(
 /// The source without a key.
 ///
 /// Every pair with the key is left out, together with its line endings, also where it goes on over several lines. Every other
-/// byte stays as it is. Only where the rest would begin like a byte order mark, a line feed comes before it.
+/// byte stays as it is. Only where the source has no byte order mark, and the rest would begin like one, a line feed comes
+/// before it.
 ///
 /// UTF-16 is refused, and so is a source with a malformed escape anywhere: the error is the one that reading the source
 /// would return.
@@ -93,7 +99,7 @@ pub enum Edit {
 
 /// The source after these edits, in order: each is made to what the one before it gave.
 ///
-/// Without edits it is a copy of the source. UTF-16 is refused, and so is a source with a malformed escape anywhere: the
+/// Without edits it is a copy of the source. Each edit takes time in the size of the source. UTF-16 is refused, and so is a source with a malformed escape anywhere: the
 /// error is the one that reading the source would return.
 ///
 /// ```text

@@ -131,7 +131,7 @@ fn are_empty(rest: &[u8], parting: &[u8]) -> bool
     rest.is_empty() && parting.is_empty()
 }
 
-// Appends a pair without a line ending. The `first` of a body isn't to be taken for a byte order mark.
+// Appends a pair without a line ending. One that is `first` in a body isn't to be taken for a byte order mark.
 fn print_pair(
     line: &mut LineBuffer,
     encoding: Encoding,

@@ -7,7 +7,7 @@ use crate::error::PropertiesError;
 use properties_text::encoding::Encoding;
 use properties_text::encoding::byte_order_mark::{ByteOrderMark, byte_order_mark};
 
-/// A source that can be edited.
+/// What is known of a source before it is edited.
 #[derive(Clone, Copy)]
 pub struct Source {
     /// The encoding in force.
@@ -29,7 +29,7 @@ impl Source {
     }
 }
 
-// The encoding in force, and the body.
+// The encoding in force, and where the body starts.
 fn in_force(source: &[u8], encoding: Encoding) -> Source
     ensures { IsInForce source.now (encoding_of encoding) result }
 {
