@@ -42,6 +42,7 @@ pub fn edits_of(alloc: Global, changes: &[Change<'_>]) -> Result<Vec<Edit>, Allo
     Ok(edits)
 }
 
+/// The edit that this change is, with texts of its own.
 pub fn edit_of(alloc: Global, change: Change<'_>) -> Result<Edit, AllocError> {
     match change {
         Change::Put(key, value) => Ok(Edit::Put(
