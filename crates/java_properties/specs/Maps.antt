@@ -22,6 +22,7 @@ use Rattle.properties_format.specs.Writing.{Call, pair_call, flush_call, wrote}
 use Rattle.java_properties.specs.Calls.{StopsAtCall}
 use Rattle.java_properties.specs.Errors.{IsBareError, Refuses}
 use Rattle.java_properties.specs.PropertiesWriter.{Writing, new_writer}
+use Rattle.java_properties.specs.ReadBack.{IsReadBackBefore}
 use Rattle.java_properties.specs.ReadLines.{entries_in, ReadsWhole, StopsMalformed, StopsFailed, StopsEarly}
 use Rattle.java_properties.specs.declared.error.ErrorKind.TheVariants as kind
 use Rattle.java_properties.specs.declared.error.PropertiesError.{PropertiesError}
@@ -151,7 +152,18 @@ pub record IsMapReadBack {W Y Z : Type 0} (sink : Sink W) (a : Encoding) (entrie
   pub only : (others : List Entry) → IsItems a bytes end others → others ≡ items_for pairs
   pub is_map : IsMap (items_for pairs) (value_at entries)
 
--- What writing a map says of reading it: where it was written, it is read back.
+-- Writing stopped, as a new writer stops that is asked for the map's pairs in order and then for a flush: what the calls
+-- before the one that failed wrote is read back as their pairs, one a line, and as nothing else. What the sink took after
+-- that, which is a part of the next line at most, is what the call says that failed.
+pub record IsMapReadBackBefore {W Y Z : Type 0} (sink : Sink W) (a : Encoding) (entries : Entries Y Z) (old : W) (error : PropertiesError) (new : W) : Type 0 where
+  pub pairs : List Texts
+  pub in_order : AreInOrder entries pairs
+  pub writer : Writing W
+  pub stops : IsReadBackBefore sink (new_writer a old) (calls_for pairs ++ (flush_call ∷ [])) error writer
+  pub sink_after : new ≡ writer.sink
+
+-- What writing a map says of reading it: what was written whole is read back. Where memory runs out for the order of the
+-- pairs, the sink isn't touched.
 abbrev pub MapReadsBack : {W Y Z : Type 0} → Sink W → Encoding → Entries Y Z → W → Result Unit PropertiesError → W → Type 0
 MapReadsBack sink a entries old (Ok done) new = IsMapReadBack sink a entries old new
-MapReadsBack sink a entries old (Err error) new = Unit {0}
+MapReadsBack sink a entries old (Err error) new = Refuses kind.Memory old error new ⊎ IsMapReadBackBefore sink a entries old error new

@@ -1,11 +1,15 @@
 -- What reading into a closure does.
-use Rattle.std.specs.Prelude.{◌≡◌, List, [], ◌∷◌, Option, Some, None, Result, Ok, Err}
+use Rattle.std.specs.Prelude.{◌≡◌, ℕ, List, [], ◌∷◌, ◌++◌, Option, Some, None, Result, Ok, Err}
 use Rattle.std.specs.Global.{Global}
 use Rattle.std.specs.List.{FoldsTo, flat_map}
 use Rattle.std.specs.declared.string.String.{String}
-use Rattle.counted_io.specs.Streams.{Reader}
+use Rattle.counted_io.specs.Streams.{Reader, HasRead}
+use Rattle.properties_format.specs.Entries.{Entry}
+use Rattle.properties_format.specs.ItemsToCome.{IsItemsToCome}
+use Rattle.properties_format.specs.Lines.{InputEnd, end}
 use Rattle.java_properties.specs.Line.{content_of}
 use Rattle.java_properties.specs.PropertiesIter.{Reading, NextGives}
+use Rattle.java_properties.specs.ReadLines.{entries_in}
 use Rattle.java_properties.specs.declared.error.PropertiesError.{PropertiesError}
 use Rattle.java_properties.specs.declared.line.Line.{Line}
 use Rattle.java_properties.specs.declared.line.LineContent.{LineContent}
@@ -44,6 +48,24 @@ abbrev pub last_answer : Result Unit PropertiesError → Option (Result Line Pro
 last_answer (Ok done) = None
 last_answer (Err error) = Some (Err error)
 
+-- The bytes were read, and of them and nothing after them the items to come were these lines.
+pub record HasReadAll {R : Type 0} (reader : Reader R) (old : Reading R) (lines : List Line) (new : Reading R) : Type 0 where
+  pub bytes : List ℕ
+  pub read : HasRead reader old.reader bytes new.reader
+  pub items : IsItemsToCome old.state bytes end (entries_in lines)
+
+-- The bytes were read, and of the items to come these lines were first, whatever came after them.
+pub record HasReadFirst {R : Type 0} (reader : Reader R) (old : Reading R) (lines : List Line) (new : Reading R) : Type 0 where
+  pub bytes : List ℕ
+  pub read : HasRead reader old.reader bytes new.reader
+  pub items : (d : List ℕ) (ending : InputEnd) (others : List Entry) → IsItemsToCome new.state d ending others
+      → IsItemsToCome old.state (bytes ++ d) ending (entries_in lines ++ others)
+
+-- what the lines were of the items to come: all of them, or those before the error, which comes after this place
+abbrev pub WereToCome : {R : Type 0} → Reader R → Reading R → List Line → Reading R → Result Unit PropertiesError → Reading R → Type 0
+WereToCome reader old lines before_end (Ok done) new = HasReadAll reader old lines new
+WereToCome reader old lines before_end (Err error) new = HasReadFirst reader old lines before_end
+
 -- The lines that came are all that were to come before the end or an error, and the closure was called on the pairs among them.
 pub record ReadsInto {R F : Type 0} (reader : Reader R) (step : F → String Global → String Global → Unit {0} → F → Type 0)
     (old : Reading R) (f : F) (result : Result Unit PropertiesError) (new : Reading R) : Type 0 where
@@ -53,3 +75,4 @@ pub record ReadsInto {R F : Type 0} (reader : Reader R) (step : F → String Glo
   pub before_end : Reading R
   pub given : GivesLines reader old lines before_end
   pub ended : NextGives reader before_end (last_answer result) new
+  pub items : WereToCome reader old lines before_end result new

@@ -182,14 +182,14 @@ impl<W: CountedWrite> PropertiesWriter<W> {
     /// call it can be applied to a writer that is at hand.
     ///
     /// ```text
-    /// writer.is_good();
+    /// writer.tell_settings_are_good();
     /// laws::reading_inverts_writing();
     /// // A proof that comes after may take lists of pairs to be equal that this writer writes as equal bytes.
     /// ```
-    pub fn is_good(&self)
+    pub fn tell_settings_are_good(&self)
         ensures { IsGoodWriter self.now }
     {
-        self.engine.settings.are_good();
+        self.engine.settings.tell_they_are_good();
     }
 
     /// The sink, with what was written so far.

@@ -1,9 +1,9 @@
 -- What a contract sees of the parts of a line.
-use Rattle.std.specs.Prelude.{◌≤◌, ◌-◌, ◌||◌, ◌==◌, not, ℕ, Bool, List, length, take, drop, Option, Some, None}
+use Rattle.std.specs.Prelude.{◌≡◌, ◌≤◌, ◌+◌, ◌-◌, ◌||◌, ◌==◌, not, ℕ, Bool, List, length, take, drop, Option, Some, None}
 use Rattle.std.specs.Str.{chars, IsCharBoundary}
 use Rattle.properties_format.specs.Text.{backslash, is_blank}
 use Rattle.properties_format.specs.Reading.Split.{ends_key}
-use Rattle.properties_format.specs.Split.{Logical, blank, comment, pair}
+use Rattle.properties_format.specs.Split.{Logical, blank, comment, pair, IsComment, IsPair}
 use Rattle.properties_text.specs.declared.parse.ParsedLine.{ParsedLine}
 use Rattle.properties_text.specs.declared.parse.ParsedLine.TheVariants as line
 use Rattle.properties_text.specs.declared.parse.ParsedSpans.{ParsedSpans}
@@ -51,3 +51,23 @@ abbrev pub AreSpans : List ℕ → Option ParsedSpans → Type 0
 AreSpans line None = Unit {0}
 AreSpans line (Some (spans.Comment text)) = IsSpan line text
 AreSpans line (Some (spans.KVPair key value)) = IsSpan line key × IsSpan line value
+
+-- The text of a comment stands after the indentation, the sign and the blanks behind it.
+pub record IsCommentAt (line : List ℕ) (text : Span) : Type 0 where
+  pub division : IsComment line (bytes_in line text)
+  pub start : text.start ≡ length division.indent + 1 + length division.trimmed.before
+  pub end : text.end ≡ text.start + length (bytes_in line text)
+
+-- The key stands after the indentation, and the value after what stands between the two, up to the end of the line.
+pub record IsPairAt (line : List ℕ) (key value : Span) : Type 0 where
+  pub division : IsPair line (bytes_in line key) (bytes_in line value)
+  pub key_start : key.start ≡ length division.indent
+  pub key_end : key.end ≡ key.start + length (bytes_in line key)
+  pub value_start : value.start ≡ key.end + length division.between
+  pub value_end : value.end ≡ length line
+
+-- each part stands where the division of the line has it
+abbrev pub AreInPlace : List ℕ → Option ParsedSpans → Type 0
+AreInPlace line None = Unit {0}
+AreInPlace line (Some (spans.Comment text)) = IsCommentAt line text
+AreInPlace line (Some (spans.KVPair key value)) = IsPairAt line key value

@@ -6,7 +6,7 @@ ghost use Rattle.std.specs.Str.{chars};
 ghost use Rattle.properties_format.specs.Text.{is_blank, without_leading_blanks};
 ghost use Rattle.properties_format.specs.Split.{IsSplit};
 ghost use Rattle.properties_format.specs.Reading.Split.{without_trailing_blanks, trimmed, ends_key, cut_key, past_separator};
-ghost use Rattle.properties_text.specs.Parsing.{is_plain, parsed, bytes_in, spanned, in_characters, IsSpan, AreSpans};
+ghost use Rattle.properties_text.specs.Parsing.{is_plain, parsed, bytes_in, spanned, in_characters, IsSpan, AreSpans, AreInPlace};
 
 use crate::characters::{is_blank, is_comment_sign, is_separator};
 use crate::vectors::{has_control, past_blank_bits, special_bits};
@@ -61,6 +61,7 @@ pub fn parse_spans(line: &str) -> Option<ParsedSpans>
     ensures slices { IsSplit line.now (spanned line.now result) }
     ensures meets { IsSplit (chars line.now) (in_characters (spanned line.now result)) }
     ensures spans { AreSpans line.now result }
+    ensures places { AreInPlace line.now result }
 {
     let bytes = line.as_bytes();
     let start = leading_blanks(bytes);

@@ -72,6 +72,10 @@ filters-ascii reader sink e input input' output output' (Ok done) h =
           subst (AreItemsInBoth (pair_lines e true h.items)) (read_back-pairs on 0 ps (pairs-taken ps))
           (wrote-on_both (output_encoding e) on (pair_calls h.items) refl (pairs-keep ps) on-good (calls_of-clean on ps) (calls_of-scalars ps h.scalars));
     }
-filters-ascii reader sink e input input' output output' (Err error) (inl h) = flushed-ascii e h.items h.written
-filters-ascii reader sink e input input' output output' (Err error) (inr (inl h)) = elim h.fails [ inl k ↦ pair-ascii e h.items k | inr k ↦ refused-ascii e h.items k ]
-filters-ascii reader sink e input input' output output' (Err error) (inr (inr h)) = after-ascii e h.items h.fails
+filters-ascii reader sink e input input' output output' (Err error) h = elim h.1.stops [
+  | inl k ↦ flushed-ascii e h.0 k.written
+  | inr k ↦ elim k [
+    | inl w ↦ elim w.fails [ inl f ↦ pair-ascii e h.0 f | inr f ↦ refused-ascii e h.0 f ]
+    | inr w ↦ after-ascii e h.0 w.fails
+  ]
+]

@@ -20,12 +20,16 @@ shown error h = let none = nothing-of _ error.refused h in rw none (_, refl)
 -- and the errors of filtering are of that kind
 pub filter-shown : {R W : Type 0} (reader : Reader R) (sink : Sink W) (e : Encoding) (only : Bool) (input input' : R) (output output' : W) (error : PropertiesError)
     → Filters reader sink e only input output (Err error) input' output' → (text : List ℕ) × (error_display error ≡ Some text)
-filter-shown reader sink e only input input' output output' error (inl h) = elim h.stops [
-  | inl k ↦ shown error k.is.its_text
-  | inr k ↦ elim k [ inl f ↦ shown error f.is.its_text | inr f ↦ elim f.is [ inl is ↦ shown error is.0.its_text | inr is ↦ shown error is.its_text ] ]
+filter-shown reader sink e only input input' output output' error h = elim h.1.stops [
+  | inl k ↦ elim k.stops [
+    | inl m ↦ shown error m.is.its_text
+    | inr m ↦ elim m [ inl f ↦ shown error f.is.its_text | inr f ↦ elim f.is [ inl is ↦ shown error is.0.its_text | inr is ↦ shown error is.its_text ] ]
+  ]
+  | inr k ↦ elim k [
+    | inl w ↦ elim w.fails [
+      | inl f ↦ shown error f.is.its_text
+      | inr f ↦ elim f.is [ inl is ↦ shown error is.its_text | inr is ↦ shown error is.0.its_text ]
+    ]
+    | inr w ↦ shown error w.fails.is.its_text
+  ]
 ]
-filter-shown reader sink e only input input' output output' error (inr (inl h)) = elim h.fails [
-  | inl k ↦ shown error k.is.its_text
-  | inr k ↦ elim k.is [ inl is ↦ shown error is.its_text | inr is ↦ shown error is.0.its_text ]
-]
-filter-shown reader sink e only input input' output output' error (inr (inr h)) = shown error h.fails.is.its_text

@@ -17,7 +17,7 @@ use Rattle.java_properties.specs.PropertiesWriter.{Writing, Flushes, HasFlushedS
 use Rattle.java_properties.specs.ReadLines.{BeginsItems}
 use Rattle.java_properties.specs.declared.error.PropertiesError.{PropertiesError}
 use Rattle.java_properties.proofs.Readings.{Comes, Collected, collected-start, collected-next, collected-none, collected-malformed, collected-error}
-use Rattle.propfilter.specs.Filter.{pair_writer, AreItems, HasScalars, WritesIfPair, HasFiltered, StopsInReading, StopsInWriting, StopsInFlush, Filters}
+use Rattle.propfilter.specs.Filter.{pair_writer, AreItems, HasScalars, WritesIfPair, HasFiltered, StopsInWriting, Filters}
 use Rattle.propfilter.proofs.Pairs.{HasWrittenPairs, pairs-none, pairs-comment, pairs-more, pairs-live, pairs-fail, pairs-refused, pairs-flushed, pairs-flush, pairs-flush-failed}
 
 -- the content of an entry
@@ -90,18 +90,17 @@ module _ {R W : Type 0} {reader : Reader R} {sink : Sink W} {e : Encoding} {only
   -- A pair came, and was not written.
   pub stops-writing : {error : PropertiesError} (new : Writing W) (number : ℕ) (content : Content) → HasPassed reader sink e only input output it w
       → GivesEntry reader it.state it.reader (item number content) after to → WritesIfPair sink w content (Err error) new
-      → StopsInWriting reader sink e only input output error to new.sink
-  stops-writing {error = error} new number content h n k = by-content content (begins came.comes) k
+      → Filters reader sink e only input output (Err error) to new.sink
+  stops-writing {error = error} new number content h n k = (h.items, record { scalars = h.scalars; stops = inr (inl (by-content content (begins came.comes) k)) })
     where
       came : Collected reader e input (h.bytes ++ n.bytes) (h.items ++ (item number content ∷ [])) after to
       came = collected-next h.collected n
 
       by-content : (c : Content) → BeginsItems e (h.bytes ++ n.bytes) (h.items ++ (item number c ∷ [])) (reader.at_end to)
           → WritesIfPair sink w c (Err error) new
-          → StopsInWriting reader sink e only input output error to new.sink
+          → StopsInWriting reader sink e only input output h.items error to new.sink
       by-content (comment text) b k = absurd (let same = k.0 in cc)
       by-content (pair key value) b k = record {
-        items = h.items;
         number = number;
         key = key;
         value = value;
@@ -115,13 +114,18 @@ module _ {R W : Type 0} {reader : Reader R} {sink : Sink W} {e : Encoding} {only
   -- reading stopped, and the sink was flushed
   pub stops-reading : {error : PropertiesError} (new : Writing W) (flush : Result Unit PropertiesError) → HasPassed reader sink e only input output it w
       → it.state.is_done ≡ false → GivesMalformed reader it.state it.reader error to ⊎ JoinsError reader it.state it.reader error after to
-      → Flushes sink w flush new → StopsInReading reader sink e only input output error to new.sink
-  stops-reading new flush h live k f = record {
-    items = h.items;
-    whole = h.whole;
-    stops = elim k [ inl m ↦ inl (collected-malformed h.collected live m) | inr j ↦ inr (collected-error h.collected live j) ];
-    written = pairs-flush new flush h.pairs f;
-  }
+      → Flushes sink w flush new → Filters reader sink e only input output (Err error) to new.sink
+  stops-reading new flush h live k f = (
+    h.items,
+    record {
+      scalars = h.scalars;
+      stops = inl (record {
+        whole = h.whole;
+        stops = elim k [ inl m ↦ inl (collected-malformed h.collected live m) | inr j ↦ inr (collected-error h.collected live j) ];
+        written = pairs-flush new flush h.pairs f;
+      });
+    },
+  )
 
   -- no item came any more, and the sink was flushed
   filtered : {new : Writing W} → HasPassed reader sink e only input output it w → GivesNone reader it.state it.reader after to
@@ -132,14 +136,19 @@ module _ {R W : Type 0} {reader : Reader R} {sink : Sink W} {e : Encoding} {only
 
   -- or the flush failed
   stops-flush : {error : PropertiesError} (new : Writing W) → HasPassed reader sink e only input output it w
-      → GivesNone reader it.state it.reader after to → RefusesFlush w error new ⊎ FailsInFlush sink w error new → StopsInFlush reader sink e only input output error to new.sink
+      → GivesNone reader it.state it.reader after to → RefusesFlush w error new ⊎ FailsInFlush sink w error new → Filters reader sink e only input output (Err error) to new.sink
   stops-flush new h n (inl k) = absurd (let live = pairs-live h.pairs in let failed = k.failed in cc)
-  stops-flush new h n (inr k) =
-      record { items = h.items; whole = h.whole; reads = collected-none h.collected n; fails = pairs-flush-failed h.pairs k }
+  stops-flush new h n (inr k) = (
+    h.items,
+    record {
+      scalars = h.scalars;
+      stops = inr (inr (record { whole = h.whole; reads = collected-none h.collected n; fails = pairs-flush-failed h.pairs k }));
+    },
+  )
 
   -- what is returned where no item comes any more
   pub returns : (new : Writing W) (result : Result Unit PropertiesError) → HasPassed reader sink e only input output it w
       → GivesNone reader it.state it.reader after to → Flushes sink w result new
       → Filters reader sink e only input output result to new.sink
   returns new (Ok done) h n f = filtered h n f
-  returns new (Err error) h n f = inr (inr (stops-flush new h n f))
+  returns new (Err error) h n f = stops-flush new h n f

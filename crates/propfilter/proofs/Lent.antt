@@ -1,14 +1,14 @@
 -- What was done to streams that were lent was done to the streams themselves.
 use Rattle.std.proofs.Common.{◌≡◌, ℕ, List, ◌∷◌, inl, inr}
 use Rattle.std.specs.Borrow.{MutBor}
-use Rattle.std.specs.Prelude.{Bool, Option, Some, None, Result, Ok, Err}
+use Rattle.std.specs.Prelude.{◌⊎◌, Bool, Option, Some, None, Result, Ok, Err}
 use Rattle.std.specs.declared.io.Error.{Error}
 use Rattle.counted_io.specs.Streams.{Reader, HasRead, HasFailed, Sink, HasWritten, HasFaulted, HasFailedFlush, CameFromWrite}
 use Rattle.properties_format.specs.Encoding.{Encoding}
 use Rattle.properties_format.specs.Entries.{Entry}
 use Rattle.java_properties.specs.ReadLines.{ReadsWhole, StopsMalformed, StopsFailed, StopsEarly}
 use Rattle.java_properties.specs.declared.error.PropertiesError.{PropertiesError}
-use Rattle.propfilter.specs.Filter.{TakesAndFlushes, FailsInPair, FailsAfterPairs, RefusesPair, Filters}
+use Rattle.propfilter.specs.Filter.{TakesAndFlushes, FailsInPair, FailsAfterPairs, RefusesPair, StopsInReading, StopsInWriting, StopsInFlush, Filters}
 
 -- what is known of a lent reader, and of a lent sink
 abbrev pub lent_reader : {R : Type 0} → Reader R → Reader (MutBor R)
@@ -91,18 +91,19 @@ after-lent : {W : Type 0} {sink : Sink W} {output output' : MutBor W} {e : Encod
 after-lent h = record { middle = h.middle.now; written = written-lent h.written; source = h.source; flushed = flush-lent h.flushed; is = h.is }
 
 module _ {R W : Type 0} (reader : Reader R) (sink : Sink W) (e : Encoding) (only : Bool) (input : MutBor R) (output : MutBor W) (input' : MutBor R) (output' : MutBor W) where
-  pub filters-lent : (result : Result Unit PropertiesError) → Filters (lent_reader reader) (lent_sink sink) e only input output result input' output'
-      → Filters reader sink e only input.now output.now result input'.now output'.now
-  filters-lent (Ok done) h =
-      record { items = h.items; whole = h.whole; scalars = h.scalars; reads = whole-lent h.reads; written = written-lent h.written; flushed = h.flushed }
-  filters-lent (Err error) (inl h) = inl (record {
-    items = h.items;
+  stops-lent : (items : List Entry) (error : PropertiesError)
+      → StopsInReading (lent_reader reader) (lent_sink sink) e only input output items error input' output'
+      ⊎ (StopsInWriting (lent_reader reader) (lent_sink sink) e only input output items error input' output'
+      ⊎ StopsInFlush (lent_reader reader) (lent_sink sink) e only input output items error input' output')
+      → StopsInReading reader sink e only input.now output.now items error input'.now output'.now
+      ⊎ (StopsInWriting reader sink e only input.now output.now items error input'.now output'.now
+      ⊎ StopsInFlush reader sink e only input.now output.now items error input'.now output'.now)
+  stops-lent items error (inl h) = inl (record {
     whole = h.whole;
     stops = elim h.stops [ inl k ↦ inl (malformed-lent k) | inr k ↦ inr (elim k [ inl f ↦ inl (fault-lent f) | inr f ↦ inr (early-lent f) ]) ];
     written = takes-lent _ h.written;
   })
-  filters-lent (Err error) (inr (inl h)) = inr (inl (record {
-    items = h.items;
+  stops-lent items error (inr (inl h)) = inr (inl (record {
     number = h.number;
     key = h.key;
     value = h.value;
@@ -112,8 +113,13 @@ module _ {R W : Type 0} (reader : Reader R) (sink : Sink W) (e : Encoding) (only
     begins = h.begins;
     fails = elim h.fails [ inl k ↦ inl (pair-lent k) | inr k ↦ inr (refused-lent k) ];
   }))
-  filters-lent (Err error) (inr (inr h)) =
-      inr (inr (record { items = h.items; whole = h.whole; reads = whole-lent h.reads; fails = after-lent h.fails }))
+  stops-lent items error (inr (inr h)) = inr (inr (record { whole = h.whole; reads = whole-lent h.reads; fails = after-lent h.fails }))
+
+  pub filters-lent : (result : Result Unit PropertiesError) → Filters (lent_reader reader) (lent_sink sink) e only input output result input' output'
+      → Filters reader sink e only input.now output.now result input'.now output'.now
+  filters-lent (Ok done) h =
+      record { items = h.items; whole = h.whole; scalars = h.scalars; reads = whole-lent h.reads; written = written-lent h.written; flushed = h.flushed }
+  filters-lent (Err error) h = (h.0, record { scalars = h.1.scalars; stops = stops-lent h.0 error h.1.stops })
 
 -- equals stand for equals
 pub filters-same : {R W : Type 0} (reader : Reader R) (sink : Sink W) (result : Result Unit PropertiesError) (e e' : Encoding) (only only' : Bool) (input input' new new' : R) (output output' to to' : W)

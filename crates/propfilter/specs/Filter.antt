@@ -104,15 +104,13 @@ pub record HasFiltered {R W : Type 0} (reader : Reader R) (sink : Sink W) (e : E
   pub flushed : sink.is_flushed output' ≡ true
 
 -- Reading stopped after these items: at malformed escapes, at a fault, or since memory ran out or the numbers for lines. Their pairs were written, and the sink was flushed, or its flush failed.
-pub record StopsInReading {R W : Type 0} (reader : Reader R) (sink : Sink W) (e : Encoding) (only : Bool) (input : R) (output : W) (error : PropertiesError) (input' : R) (output' : W) : Type 0 where
-  pub items : List Entry
+pub record StopsInReading {R W : Type 0} (reader : Reader R) (sink : Sink W) (e : Encoding) (only : Bool) (input : R) (output : W) (items : List Entry) (error : PropertiesError) (input' : R) (output' : W) : Type 0 where
   pub whole : AreItems items
   pub stops : StopsMalformed reader e input items error input' ⊎ (StopsFailed reader e input items error input' ⊎ StopsEarly reader e input items error input')
   pub written : TakesAndFlushes sink output (pair_lines e only items) output'
 
 -- Writing stopped at a pair, which comes after these items.
-pub record StopsInWriting {R W : Type 0} (reader : Reader R) (sink : Sink W) (e : Encoding) (only : Bool) (input : R) (output : W) (error : PropertiesError) (input' : R) (output' : W) : Type 0 where
-  pub items : List Entry
+pub record StopsInWriting {R W : Type 0} (reader : Reader R) (sink : Sink W) (e : Encoding) (only : Bool) (input : R) (output : W) (items : List Entry) (error : PropertiesError) (input' : R) (output' : W) : Type 0 where
   pub number : ℕ
   pub key : List ℕ
   pub value : List ℕ
@@ -122,19 +120,22 @@ pub record StopsInWriting {R W : Type 0} (reader : Reader R) (sink : Sink W) (e 
   pub begins : BeginsItems e bytes (items ++ (item number (pair key value) ∷ [])) (reader.at_end input')
   pub fails : FailsInPair sink e only output items key value error output' ⊎ RefusesPair sink e only output items error output'
 
--- The input was read to its end and its pairs were written, but the flush failed.
-pub record StopsInFlush {R W : Type 0} (reader : Reader R) (sink : Sink W) (e : Encoding) (only : Bool) (input : R) (output : W) (error : PropertiesError) (input' : R) (output' : W) : Type 0 where
-  pub items : List Entry
+-- The input was read to its end, these are its items, and their pairs were written, but the flush failed.
+pub record StopsInFlush {R W : Type 0} (reader : Reader R) (sink : Sink W) (e : Encoding) (only : Bool) (input : R) (output : W) (items : List Entry) (error : PropertiesError) (input' : R) (output' : W) : Type 0 where
   pub whole : AreItems items
   pub reads : ReadsWhole reader e input items input'
   pub fails : FailsAfterPairs sink e only output items error output'
 
+-- Filtering stopped after these items of the input, of whose pairs the texts are of scalar values.
+pub record StopsAfter {R W : Type 0} (reader : Reader R) (sink : Sink W) (e : Encoding) (only : Bool) (input : R) (output : W) (items : List Entry) (error : PropertiesError) (input' : R) (output' : W) : Type 0 where
+  pub scalars : ArePairsOfScalars (pairs_in items)
+  pub stops : StopsInReading reader sink e only input output items error input' output'
+      ⊎ (StopsInWriting reader sink e only input output items error input' output' ⊎ StopsInFlush reader sink e only input output items error input' output')
+
 -- What filtering an input to an output does.
 abbrev pub Filters : {R W : Type 0} → Reader R → Sink W → Encoding → Bool → R → W → Result Unit PropertiesError → R → W → Type 0
 Filters reader sink e only input output (Ok done) input' output' = HasFiltered reader sink e only input output input' output'
-Filters reader sink e only input output (Err error) input' output' =
-    StopsInReading reader sink e only input output error input' output'
-    ⊎ (StopsInWriting reader sink e only input output error input' output' ⊎ StopsInFlush reader sink e only input output error input' output')
+Filters reader sink e only input output (Err error) input' output' = (items : List Entry) × StopsAfter reader sink e only input output items error input' output'
 
 -- ---- filtering twice
 
@@ -149,10 +150,31 @@ pub record HasSettled {R W : Type 0} (reader : Reader R) (sink : Sink W) (e : En
   pub only : (others : List Entry) → IsItems (output_encoding e) bytes end others → others ≡ items_after 0 (pairs_in items)
   pub same : pair_lines (output_encoding e) false (items_after 0 (pairs_in items)) ≡ bytes
 
+-- of the line of a pair after these, at most a part: nothing, or a proper prefix
+abbrev pub IsPartOfNext : Encoding → List Entry → List ℕ → Type 0
+IsPartOfNext e items part = (part ≡ []) ⊎ ((key : List ℕ) × (value : List ℕ) × IsProperPrefix part (next_pair_line e false items key value))
+
+-- The sink took the lines of the pairs among these items, and then at most a part of one line more. A write or a flush may have failed.
+pub record TakesLines {W : Type 0} (sink : Sink W) (e : Encoding) (items : List Entry) (old new : W) : Type 0 where
+  pub part : List ℕ
+  pub begins : IsPartOfNext e items part
+  pub taken : HasWritten sink old (pair_lines e false items ++ part) new ⊎ HasFaulted sink old (pair_lines e false items ++ part) new
+
+-- Filtering stopped after these items, and the sink took the lines of their pairs. The lines are read, by themselves and in
+-- the output encoding, as these pairs, one a line and under its number, and as nothing else. To filter them writes the same
+-- bytes.
+pub record HasSettledBefore {R W : Type 0} (reader : Reader R) (sink : Sink W) (e : Encoding) (input : R) (output : W) (error : PropertiesError) (input' : R) (output' : W) : Type 0 where
+  pub items : List Entry
+  pub stops : StopsAfter reader sink e false input output items error input' output'
+  pub takes : TakesLines sink e items output output'
+  pub back : IsItems (output_encoding e) (pair_lines e false items) end (items_after 0 (pairs_in items))
+  pub only : (others : List Entry) → IsItems (output_encoding e) (pair_lines e false items) end others → others ≡ items_after 0 (pairs_in items)
+  pub same : pair_lines (output_encoding e) false (items_after 0 (pairs_in items)) ≡ pair_lines e false items
+
 -- What filtering says of filtering its output anew.
 abbrev pub Settles : {R W : Type 0} → Reader R → Sink W → Encoding → R → W → Result Unit PropertiesError → R → W → Type 0
 Settles reader sink e input output (Ok done) input' output' = HasSettled reader sink e input output input' output'
-Settles reader sink e input output (Err error) input' output' = Unit {0}
+Settles reader sink e input output (Err error) input' output' = HasSettledBefore reader sink e input output error input' output'
 
 -- ---- with ASCII alone on
 

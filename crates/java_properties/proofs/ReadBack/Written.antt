@@ -1,6 +1,6 @@
 -- What was written is read back.
 use Rattle.std.proofs.Common.{◌≡◌, List, [], ◌∷◌, ◌++◌, refl, ◌∙◌, inl, inr}
-use Rattle.std.specs.Prelude.{◌⊎◌, Bool, Result, Ok, Err}
+use Rattle.std.specs.Prelude.{Bool, Result, Ok, Err}
 use Rattle.std.specs.Global.{Vec}
 use Rattle.counted_io.specs.Streams.{Sink}
 use Rattle.properties_format.specs.Encoding.{output_encoding}
@@ -11,9 +11,7 @@ use Rattle.properties_format.proofs.ReadBack.Law.{items_of-wrote, IsItems-wrote}
 use Rattle.properties_text.specs.Encoding.{output_of}
 use Rattle.java_properties.specs.PropertiesWriter.{Writing}
 use Rattle.java_properties.specs.Calls.{HasMade, StopsAtCall, RunsCalls}
-use Rattle.java_properties.specs.Errors.{Refuses}
 use Rattle.java_properties.specs.ReadBack.{IsGoodWriter, IsCleanWriting, IsReadBack, IsReadBackBefore, ReadsBack}
-use Rattle.java_properties.specs.declared.error.ErrorKind.TheVariants as kind
 use Rattle.java_properties.specs.declared.error.PropertiesError.{PropertiesError}
 use Rattle.properties_text.specs.declared.encoding.encode.OutputEncoding.{OutputEncoding}
 use Rattle.properties_text.specs.declared.encoding.encode.OutputEncoding.TheVariants.{Windows1252, Utf8}
@@ -53,11 +51,9 @@ module _ {W : Type 0} {sink : Sink W} where
       }
 
   -- and so are those before one that failed
-  stops-read_back : {old new : Writing W} {calls : List Call} {error : PropertiesError} → IsGoodWriter old → AreOfScalars calls
-      → Refuses kind.Memory old error new ⊎ StopsAtCall sink old calls error new → IsCleanWriting old calls
-      → Refuses kind.Memory old error new ⊎ IsReadBackBefore sink old calls error new
-  stops-read_back good scalars (inl h) clean = inl h
-  stops-read_back {old = old} good scalars (inr h) clean = inr (record {
+  pub stops-read_back : {old new : Writing W} {calls : List Call} {error : PropertiesError} → IsGoodWriter old → AreOfScalars calls
+      → StopsAtCall sink old calls error new → IsCleanWriting old calls → IsReadBackBefore sink old calls error new
+  stops-read_back {old = old} good scalars h clean = record {
     before = h.before;
     call = h.call;
     others = h.others;
@@ -68,9 +64,10 @@ module _ {W : Type 0} {sink : Sink W} where
       prefixes = clean-before old.settings h.before (h.call ∷ h.others) (rw h.division at clean.prefixes);
     });
     fails = h.fails;
-  })
+  }
 
 pub runs-read_back : {W : Type 0} (sink : Sink W) (old new : Writing W) (calls : List Call) (result : Result (Vec Bool) PropertiesError) → IsGoodWriter old → AreOfScalars calls
     → RunsCalls sink old calls result new → ReadsBack sink old calls result new
 runs-read_back sink old new calls (Ok answers) good scalars h = λ clean. made-read_back good scalars h.made clean
-runs-read_back sink old new calls (Err error) good scalars h = stops-read_back good scalars h
+runs-read_back sink old new calls (Err error) good scalars (inl h) = λ clean. inl h
+runs-read_back sink old new calls (Err error) good scalars (inr h) = λ clean. inr (stops-read_back good scalars h clean)

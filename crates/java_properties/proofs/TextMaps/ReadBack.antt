@@ -1,5 +1,5 @@
 -- A map that was written is read back as it was.
-use Rattle.std.proofs.Common.{◌≡◌, ◌≢◌, ℕ, Bool, true, false, List, [], ◌∷◌, ◌++◌, refl, ap, sym, ◌∙◌, inr, subst, append_assoc}
+use Rattle.std.proofs.Common.{◌≡◌, ◌≢◌, ℕ, Bool, true, false, List, [], ◌∷◌, ◌++◌, refl, ap, sym, ◌∙◌, inl, inr, subst, append_assoc}
 use Rattle.std.specs.Prelude.{All, map, Option, Some, None, Result, Ok, Err, bytes_eq}
 use Rattle.std.specs.Option.{option_map}
 use Rattle.std.specs.Str.{chars, IsUtf8}
@@ -19,7 +19,7 @@ use Rattle.properties_format.specs.Items.{IsItems}
 use Rattle.properties_format.specs.Maps.{IsValue}
 use Rattle.properties_format.specs.Reading.Maps.{value_in}
 use Rattle.properties_format.specs.Settings.{default_settings}
-use Rattle.properties_format.specs.Writing.{pair_call, wrote}
+use Rattle.properties_format.specs.Writing.{pair_call, flush_call, wrote, ArePrefixesClean, AreOfScalars}
 use Rattle.properties_format.specs.Pairs.{Pair, calls_of, items_after, AreAccepted, ArePairsOfScalars}
 use Rattle.properties_format.specs.Laws.{HasPair, HasNoKey, AreDistinct}
 use Rattle.properties_format.proofs.Items.Unique.{items_of-meets, items_of-only}
@@ -30,6 +30,7 @@ use Rattle.properties_format.proofs.ReadBack.Lists.{items_of-pairs}
 use Rattle.java_properties.specs.Maps.{Entries, Texts, characters, value_at, entry_texts, calls_for, pair_of, items_for, AreInOrder, WritesPairs, WritesMap, MapReadsBack}
 use Rattle.java_properties.specs.declared.error.PropertiesError.{PropertiesError}
 use Rattle.java_properties.proofs.ReadBack.Scalars.{string-scalars}
+use Rattle.java_properties.proofs.ReadBack.Written.{stops-read_back}
 use Rattle.java_properties.proofs.TextMaps.Distinct.{AreKeysUtf8, ascending-distinct}
 use Rattle.java_properties.proofs.TextMaps.Writing.{accepted}
 
@@ -135,6 +136,21 @@ texts-scalars : (pairs : List Texts) → AllByRecursion AreTexts pairs → ArePa
 texts-scalars [] h = tt
 texts-scalars (texts ∷ pairs) h = ((h.0.1, h.0.2), texts-scalars pairs h.1)
 
+-- so are those of the pairs of a map, in its order
+map-texts : {Y Z : Type 0} (entries : Entries Y Z) (pairs : List Texts) → AreInOrder entries pairs → AllByRecursion AreTexts pairs
+map-texts entries pairs in_order =
+    let xs = map entry_texts entries in
+    recursion_from_All AreTexts pairs (All-permutation AreTexts xs pairs in_order.entries (All-from_recursion AreTexts xs (entries-texts entries)))
+
+-- the calls that write them, and then a flush, are of scalar values, and write under no prefix
+and-flush-scalars : (pairs : List Texts) → AllByRecursion AreTexts pairs → AreOfScalars (calls_for pairs ++ (flush_call ∷ []))
+and-flush-scalars [] h = (tt, tt)
+and-flush-scalars (texts ∷ pairs) h = ((h.0.1, h.0.2), and-flush-scalars pairs h.1)
+
+and-flush-clean : (pairs : List Texts) → ArePrefixesClean default_settings (calls_for pairs ++ (flush_call ∷ []))
+and-flush-clean [] = tt
+and-flush-clean (texts ∷ pairs) = and-flush-clean pairs
+
 -- The pairs of a map that were written in order are the map that was written.
 pub writes-map : {W Y Z : Type 0} (sink : Sink W) (a : Encoding) (entries : Entries Y Z) (pairs : List Texts) (old new : W) (result : Result Unit PropertiesError)
     → AreInOrder entries pairs → WritesPairs sink a pairs old result new → WritesMap sink a entries old result new
@@ -144,12 +160,24 @@ writes-map sink a entries pairs old new (Err error) in_order h = inr (record { p
 -- What writing a map says of reading it.
 pub writes-read_back : {W Y Z : Type 0} (sink : Sink W) (a : Encoding) (entries : Entries Y Z) (old new : W) (result : Result Unit PropertiesError)
     → output_encoding a ≡ a → WritesMap sink a entries old result new → MapReadsBack sink a entries old result new
-writes-read_back sink a entries old new (Err error) own h = tt
+writes-read_back sink a entries old new (Err error) own (inl h) = inl h
+writes-read_back sink a entries old new (Err error) own (inr h) =
+    inr (record {
+      pairs = h.pairs;
+      in_order = h.in_order;
+      writer = h.stops.writer;
+      stops = stops-read_back
+          (record { encoding = own; settings = default_settings-good })
+          (and-flush-scalars h.pairs (map-texts entries h.pairs h.in_order))
+          h.stops.stops
+          (record { first = refl; prefixes = and-flush-clean h.pairs });
+      sink_after = h.stops.sink_after;
+    })
 writes-read_back sink a entries old new (Ok done) own h =
     let xs = map entry_texts entries in
     let ps = map pair_of h.pairs in
     let bytes = wrote a default_settings 0 (calls_of ps) in
-    let texts = recursion_from_All AreTexts h.pairs (All-permutation AreTexts xs h.pairs h.in_order.entries (All-from_recursion AreTexts xs (entries-texts entries))) in
+    let texts = map-texts entries h.pairs h.in_order in
     let distinct = ascending-distinct h.pairs (texts-utf8 h.pairs texts) h.in_order.ascend in
     let moved = IsPermutation-map pair_of xs h.pairs h.in_order.entries in
     let told = items_of-pairs a default_settings own default_settings-good ps (pairs-accepted ps) (texts-scalars h.pairs texts) in

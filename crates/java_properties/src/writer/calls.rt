@@ -52,7 +52,7 @@ pub fn run_calls<W: CountedWrite>(
     ensures ascii { WritesAscii W.CountedWrite writer.old (calls_in calls.now) result writer.new }
     ensures same_sink { IsSameSink W.CountedWrite writer.old.sink writer.new.sink }
 {
-    writer.is_good();
+    writer.tell_settings_are_good();
     let mut answers = Vec::with_capacity(alloc, calls.len())?;
     for call in calls {
         let accepted = run_call(call, writer)?;

@@ -93,7 +93,7 @@ impl Settings {
     }
 
     /// They are always good ones, which this tells a proof. It does nothing.
-    pub fn are_good(&self)
+    pub fn tell_they_are_good(&self)
         ensures { AreGoodSettings self.now }
     {
         let _ = &self.line_ending;

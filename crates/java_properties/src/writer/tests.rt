@@ -39,7 +39,7 @@ fn runs_out_of_numbers(rt: HostRuntime) -> Result<(), Fail> {
 fn says_that_it_is_good_and_does_nothing(rt: HostRuntime) -> Result<(), Fail> {
     let sink = ScriptedSink::new(rt.alloc(), 100, None, SinkFault::Nothing);
     let writer = PropertiesWriter::new(rt.alloc(), sink)?;
-    writer.is_good();
+    writer.tell_settings_are_good();
     assert_eq!(rt; writer.get_ref().calls(), 0);
     Ok(())
 }

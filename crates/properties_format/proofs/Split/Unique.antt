@@ -111,7 +111,8 @@ split_of-meets line = let p : IsPast line (without_leading_blanks line) = withou
 
 -- ---- what the line is, is read
 
-sign-full : (c : ℕ) → is_comment_sign c ≡ true → is_blank c ≡ false
+-- a comment sign is no blank
+pub sign-full : (c : ℕ) → is_comment_sign c ≡ true → is_blank c ≡ false
 sign-full c e = elim (cases_Bool (is_blank c)) [
   | inl b ↦ absurd (grind (arith))
   | inr b ↦ b

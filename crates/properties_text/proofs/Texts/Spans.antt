@@ -1,15 +1,17 @@
 -- Where the parts of a line stand, from what the scans of its bytes have found.
-use Rattle.std.proofs.Common.{◌≡◌, ℕ, ◌<◌, ◌≤◌, ◌+◌, ◌-◌, true, false, List, [], length, take, drop, get_or, ap, sym, ◌∙◌, subst, inl, inr, arith}
+use Rattle.std.proofs.Common.{◌≡◌, ℕ, ◌<◌, ◌≤◌, ◌+◌, ◌-◌, true, false, List, [], ◌∷◌, ◌++◌, length, take, drop, get_or, refl, ap, sym, ◌∙◌, subst, inl, inr, arith}
 use Rattle.std.specs.Prelude.{Option, Some, None}
 use Rattle.std.specs.Str.{IsUtf8, IsCharBoundary, chars}
+use Rattle.std.proofs.Math.Seq.{drop-append-add}
 use Rattle.std.proofs.lemmas.Bool.{cases_lt, both_ways}
-use Rattle.std.proofs.lemmas.List.{drop_more, drop-drop, take_rest, length-drop}
+use Rattle.std.proofs.lemmas.List.{drop_more, drop-drop, take_rest, length-drop, length-take, length-append}
 use Rattle.std.proofs.lemmas.Str.{IsUtf8-drop, IsCharBoundary-after_ascii, IsCharBoundary-from_drop, IsCharBoundary-from_take, IsCharBoundary-from_rest}
-use Rattle.properties_format.specs.Text.{is_comment_sign, without_leading_blanks}
-use Rattle.properties_format.specs.Split.{comment, pair, IsSplit}
+use Rattle.properties_format.specs.Text.{is_blank, is_comment_sign, without_leading_blanks}
+use Rattle.properties_format.specs.Split.{comment, pair, begins, AreBlanks, IsComment, IsPair, IsSplit}
 use Rattle.properties_format.specs.Reading.Split.{trimmed, split_full, split_of}
-use Rattle.properties_format.proofs.Split.Unique.{split_of-meets}
-use Rattle.properties_text.specs.Parsing.{bytes_in, spanned, in_characters, IsSpan, AreSpans}
+use Rattle.properties_format.proofs.Split.Blanks.{without_leading_blanks-only}
+use Rattle.properties_format.proofs.Split.Unique.{split_of-meets, sign-full}
+use Rattle.properties_text.specs.Parsing.{bytes_in, spanned, in_characters, IsSpan, AreSpans, IsCommentAt, IsPairAt, AreInPlace}
 use Rattle.properties_text.specs.declared.parse.ParsedSpans.{ParsedSpans}
 use Rattle.properties_text.specs.declared.parse.ParsedSpans.TheVariants.{Comment, KVPair}
 use Rattle.properties_text.specs.declared.parse.Span.{Span}
@@ -21,14 +23,78 @@ pub record AreFound (line : List ℕ) (found : Option ParsedSpans) : Type 0 wher
   pub slices : IsSplit line (spanned line found)
   pub meets : IsSplit (chars line) (in_characters (spanned line found))
   pub spans : AreSpans line found
+  pub places : AreInPlace line found
 
-found : (line : List ℕ) (is : Option ParsedSpans) → IsUtf8 line → split_of line ≡ spanned line is → AreSpans line is → AreFound line is
-found line is u e s = record { slices = subst (IsSplit line) e (split_of-meets line); meets = split-characters line (spanned line is) u e; spans = s }
+found : (line : List ℕ) (is : Option ParsedSpans) → IsUtf8 line → split_of line ≡ spanned line is → AreSpans line is
+    → (IsSplit line (spanned line is) → AreInPlace line is) → AreFound line is
+found line is u e s place =
+    let slices = subst (IsSplit line) e (split_of-meets line) in
+    record { slices = slices; meets = split-characters line (spanned line is) u e; spans = s; places = place slices }
+
+-- ---- places
+
+span_length : (line : List ℕ) (span : Span) → span.end ≤ length line → length (bytes_in line span) ≡ span.end - span.start
+span_length line span w =
+    let long = length-take (span.end - span.start) (drop span.start line) in
+    let left = length-drop span.start line in
+    omega (arith, long, left, w)
+
+-- where the text of a line without its indentation begins
+indent-length : (line indent rest : List ℕ) (start : ℕ) → start ≤ length line → drop start line ≡ without_leading_blanks line → line ≡ indent ++ rest
+    → AreBlanks indent → begins is_blank rest ≡ false → start ≡ length indent
+indent-length line indent rest start l e whole blank full =
+    let past : drop start line ≡ rest = e ∙ ap without_leading_blanks whole ∙ without_leading_blanks-only indent rest blank full in
+    let all : length line ≡ length indent + length rest = ap length whole ∙ length-append indent rest in
+    let after : length line - start ≡ length rest = sym (length-drop start line) ∙ ap length past in
+    omega (arith, l, all, after)
+
+pair-places : (line : List ℕ) (start n v : ℕ) → start + n ≤ length line → v ≤ length line → drop start line ≡ without_leading_blanks line
+    → IsPair line (bytes_in line (record { start = start; end = start + n })) (bytes_in line (record { start = v; end = length line }))
+    → IsPairAt line (record { start = start; end = start + n }) (record { start = v; end = length line })
+pair-places line start n v fits fits_value e d =
+    let key : Span = record { start = start; end = start + n } in
+    let value : Span = record { start = v; end = length line } in
+    let k = bytes_in line key in
+    let w = bytes_in line value in
+    let at = indent-length line d.indent (k ++ (d.between ++ w)) start (omega (arith, fits)) e d.whole d.indent_blank d.begins_full in
+    let all = ap length d.whole ∙ length-append d.indent (k ++ (d.between ++ w)) in
+    let parts = length-append k (d.between ++ w) in
+    let last = length-append d.between w in
+    let key_long = span_length line key fits in
+    let value_long = span_length line value (omega arith) in
+    record {
+      division = d;
+      key_start = at;
+      key_end = omega (arith, key_long);
+      value_start = omega (arith, at, all, parts, last, key_long, value_long, fits_value);
+      value_end = refl;
+    }
+
+core-begins : (core after : List ℕ) → begins is_blank core ≡ false → (core ≡ [] → after ≡ []) → begins is_blank (core ++ after) ≡ false
+core-begins [] after full empty = ap (begins is_blank) (empty refl)
+core-begins (c ∷ core) after full empty = full
+
+comment-places : (line : List ℕ) (start : ℕ) (span : Span) → start < length line → drop start line ≡ without_leading_blanks line
+    → span.start ≤ span.end → span.end ≤ length line → drop span.start line ≡ without_leading_blanks (drop (start + 1) line)
+    → IsComment line (bytes_in line span) → IsCommentAt line span
+comment-places line start span l e o w s d =
+    let core = bytes_in line span in
+    let at = indent-length line d.indent (d.sign ∷ d.rest) start (omega (arith, l)) e d.whole d.indent_blank (sign-full d.sign d.is_sign) in
+    let cut : drop (start + 1) line ≡ d.rest =
+    ap (drop (start + 1)) d.whole ∙ ap (λ i. drop (i + 1) (d.indent ++ (d.sign ∷ d.rest))) at ∙ drop-append-add d.indent (d.sign ∷ d.rest) 1 in
+    let past : drop span.start line ≡ core ++ d.trimmed.after =
+    s ∙ ap without_leading_blanks (cut ∙ d.trimmed.whole)
+    ∙ without_leading_blanks-only d.trimmed.before (core ++ d.trimmed.after) d.trimmed.before_blank (core-begins core d.trimmed.after d.trimmed.begins_full d.trimmed.empty_last) in
+    let all = ap length d.whole ∙ length-append d.indent (d.sign ∷ d.rest) in
+    let rest = ap length d.trimmed.whole ∙ length-append d.trimmed.before (core ++ d.trimmed.after) in
+    let left = sym (length-drop span.start line) ∙ ap length past in
+    let long = span_length line span w in
+    record { division = d; start = omega (arith, all, rest, left, o, w); end = omega (arith, long, o) }
 
 -- a line of blanks
 pub found-blank : (line : List ℕ) → IsUtf8 line → without_leading_blanks line ≡ [] → AreFound line None
 unfolding split_of
-found-blank line u e = found line None u (ap split_full e) tt
+found-blank line u e = found line None u (ap split_full e) tt (λ d. tt)
 
 comment_sign-ascii : (c : ℕ) → is_comment_sign c ≡ true → c < 128
 comment_sign-ascii c m = elim (cases_lt c 128) [ inl h ↦ h | inr h ↦ absurd (both_ways (is_comment_sign c) (wide-no_comment_sign c h) m) ]
@@ -65,6 +131,7 @@ found-comment line start span u l e m o w s t =
     whole_span line span u o w
     (subst IsUtf8 (sym s) (without_leading_blanks-part (drop (start + 1) line) after).utf8)
     (subst IsUtf8 (sym t) (trimmed-part (drop (start + 1) line) after).utf8))
+    (comment-places line start span l e o w s)
 
 -- a pair, by the text from its key on and the place of its value
 pub found-pair : (line text : List ℕ) (start n v : ℕ) → IsUtf8 line → text ≡ drop start line
@@ -93,6 +160,7 @@ found-pair line text start n v u whole l e s nl k r fits_value there =
       whole_span line key u (omega arith) fits (subst IsUtf8 whole text_utf8) (subst IsUtf8 (sym key_bytes) (key_of-part text text_utf8).utf8),
       whole_span line value u fits_value (omega arith) value_utf8 (subst IsUtf8 (sym (take_rest line v)) value_utf8),
     )
+    (pair-places line start n v fits fits_value e)
 
 -- the same line, as its bytes
 pub found_at : (bytes line : List ℕ) (is : Option ParsedSpans) → bytes ≡ line → AreFound bytes is → AreFound line is

@@ -14,7 +14,7 @@ pub fn are_same_pairs<W: CountedWrite>(
 ) -> bool
     ensures { TellsPairs writer.now first.now second.now result }
 {
-    writer.is_good();
+    writer.tell_settings_are_good();
     laws::reading_inverts_writing();
     first == second
 }

@@ -17,7 +17,7 @@ returns-then-is_comment_sign c =
     let p = found_at bytes c.args.line.now _ c.as_bytes-bytes.ensures.value
     (found-comment bytes start c.trimmed_span.result c.as_bytes-bytes.ensures.utf8 inside c.leading_blanks-start.ensures.rest sign
     c.trimmed_span.ensures.ordered c.trimmed_span.ensures.within c.trimmed_span.ensures.start c.trimmed_span.ensures.text) in
-    record { slices = p.slices; meets = p.meets; spans = p.spans }
+    record { slices = p.slices; meets = p.meets; spans = p.spans; places = p.places }
 
 pub returns-in_err-first : goal.returns-in_err-first
 returns-in_err-first c =
@@ -26,7 +26,7 @@ returns-in_err-first c =
     let over : length bytes ≤ start = ltb-false start (length bytes) (sym c.in_err-first.ensures.lookup.0) in
     let p = found_at bytes c.args.line.now None c.as_bytes-bytes.ensures.value
     (found-blank bytes c.as_bytes-bytes.ensures.utf8 (sym c.leading_blanks-start.ensures.rest ∙ drop_all start bytes over)) in
-    rw c.from_residual.ensures (record { slices = p.slices; meets = p.meets; spans = p.spans })
+    rw c.from_residual.ensures (record { slices = p.slices; meets = p.meets; spans = p.spans; places = p.places })
 
 pub returns : goal.returns
 returns c =
@@ -41,4 +41,4 @@ returns c =
     (found-pair bytes _ start n c.value_start-value_start.result c.as_bytes-bytes.ensures.utf8 (take_rest bytes start)
     inside c.leading_blanks-start.ensures.rest sign c.key_length.ensures.within c.key_length.ensures.key c.key_length.ensures.rest
     c.value_start-value_start.ensures.within c.value_start-value_start.ensures.rest) in
-    record { slices = p.slices; meets = p.meets; spans = p.spans }
+    record { slices = p.slices; meets = p.meets; spans = p.spans; places = p.places }

@@ -1,4 +1,4 @@
-use Rattle.std.proofs.Common.{refl, ◌∙◌, inl, inr}
+use Rattle.std.proofs.Common.{refl, ◌∙◌}
 use Rattle.std.proofs.lemmas.Result.{err_from_is_err_and}
 use Rattle.counted_io.specs.Streams.{reader, sink}
 use Rattle.java_properties.specs.LentItems.{found_content}
@@ -20,7 +20,7 @@ loop-found-init g c =
 pub returns-in-Err-clause-filters : goal.returns-in-Err-clause-filters
 returns-in-Err-clause-filters g c =
     let stopped = (rw c.in-Err.is at c.in-Some.ensures.gives).0 in
-    inl (stops-reading c.flush.new.self c.flush.result c.loop-found.invariant.passed stopped.0 (compute-error {new = c.advance.new.self.state} stopped.2) c.flush.ensures.flushes)
+    stops-reading c.flush.new.self c.flush.result c.loop-found.invariant.passed stopped.0 (compute-error {new = c.advance.new.self.state} stopped.2) c.flush.ensures.flushes
 
 pub returns-clause-filters : goal.returns-clause-filters
 returns-clause-filters g c =
@@ -46,4 +46,4 @@ returns-in_err-write_found-in-Ok-clause-filters g c =
     let item = c.in-Ok.found in
     let content = found_content c.advance.new.self.line item.content in
     let refused = rw c.in_err-write_found-in-Ok.was at c.write_found.ensures.writes in
-    rw (error.1, error.2) (inr (inl (stops-writing c.write_found.new.lines item.line_number content c.loop-found.invariant.passed (compute-entry came.0.0) refused)))
+    rw (error.1, error.2) (stops-writing c.write_found.new.lines item.line_number content c.loop-found.invariant.passed (compute-entry came.0.0) refused)
