@@ -50,6 +50,7 @@ pub fn set_key(
     ensures sets { SetsKey (encoding_of encoding) source.now (chars key.now) (chars value.now) result }
     ensures splitting { SplittingCommutes (encoding_of encoding) source.now }
 {
+    // UTF-16 is refused before any line is read.
     let opened = Source::open(source, encoding)?;
     let place = find_key(alloc, opened.encoding, &source[opened.start..], key)?;
     let bytes = match place.pair {
