@@ -1,6 +1,6 @@
 -- Fronts of bytes that are text as they stand.
 use Rattle.std.proofs.Common.{◌≡◌, ◌↔◌, ◌<◌, ◌≤◌, arith, length-append, ℕ, true, List, [], ◌∷◌, ◌++◌, length, take, drop, ◌-◌, length-drop, refl, sym, ap, ◌∙◌, append-nil, append_assoc}
-use Rattle.std.specs.Prelude.{Result, Ok, Err, MatchResult, OnOk, is_ok, IsSome, if◌then◌else◌}
+use Rattle.std.specs.Prelude.{Result, Ok, Err, MatchResult, OnOk, OnErr, is_ok, IsSome, if◌then◌else◌}
 use Rattle.std.specs.Result.{result_ok}
 use Rattle.std.specs.Str.{IsUtf8, chars}
 use Rattle.std.proofs.Math.Utf8.{scalar as is_scalar}
@@ -15,7 +15,7 @@ use Rattle.properties_format.specs.Reading.Encoding.{first_piece, pieces_of}
 use Rattle.properties_format.proofs.Encodings.Pieces.{pieces_of-nil}
 use Rattle.properties_format.proofs.Encodings.Waiting.{characters-step}
 use Rattle.properties_format.proofs.Encodings.WellFormed.{IsUtf8-from_well_formed, characters-ascii, characters-text}
-use Rattle.properties_text.specs.Decoding.{IsText}
+use Rattle.properties_text.specs.Decoding.{IsText, KeepsText}
 
 -- an answer is there exactly where its fact holds
 pub ok-exactly : {X E : Type 0} (A : X → Type 0) (B : E → Type 0) (P : Type 0) (r : Result X E)
@@ -43,6 +43,21 @@ text-utf8 windows_1252 d h = IsUtf8-from_ascii d h
 text-utf8 utf_8 d h = IsUtf8-from_well_formed d h
 text-utf8 utf_16le d h = absurd h
 text-utf8 utf_16be d h = absurd h
+
+-- at an error this holds
+pub at-error : {X E : Type 0} {P : Type 0} (r : Result X E) → P → OnErr r P
+at-error (Ok x) h = tt
+at-error (Err e) h = h
+
+-- Where nothing was pushed any more, the text so far is kept: with what is left it makes all.
+pub text-kept : (old more now rest : List ℕ) (new : List ℕ) → new ≡ now → chars now ++ rest ≡ chars old ++ more → length old ≤ length now → KeepsText old more new
+text-kept old more now rest new same joins longer =
+    record { others = rest; begins = ap (λ v. chars v ++ rest) same ∙ joins; longer = rw same longer }
+
+-- a front was pushed, which is what is left without this
+pub front-joined : (text front after left all now : List ℕ) → now ≡ text ++ front → left ≡ front ++ after → text ++ left ≡ all → now ++ after ≡ all
+front-joined text front after left all now is split joins =
+    ap (λ v. v ++ after) is ∙ append_assoc text front after ∙ ap (λ v. text ++ v) (sym split) ∙ joins
 
 -- A text that is pushed.
 pub pushed-text : {E : Type 0} (r : Result Unit E) (old new more : List ℕ)

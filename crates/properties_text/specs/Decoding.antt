@@ -1,7 +1,7 @@
 -- What each part of the decoder gives: the byte order mark, the first piece, and text that stands as it is.
 use Rattle.std.specs.Prelude.{◌≡◌, ℕ, ◌≤◌, ◌<◌, ◌+◌, ◌*◌, ◌++◌, Bool, true, false, List, [], ◌∷◌, length, take, drop, encode_utf8_all}
 use Rattle.std.specs.List.{AllByRecursion}
-use Rattle.std.specs.Str.{IsAscii, all_scalars}
+use Rattle.std.specs.Str.{IsAscii, all_scalars, chars}
 use Rattle.std.specs.declared.borrow.CowStr.{CowStr}
 use Rattle.std.specs.declared.borrow.CowStr.TheVariants.{Borrowed, Owned}
 use Rattle.properties_format.specs.Encoding as format
@@ -124,3 +124,9 @@ IsText format.utf_16be d = ⊥
 abbrev pub IsBorrowed : {Z : Type 0} → CowStr Z → Type 0
 IsBorrowed (Borrowed text) = Unit {0}
 IsBorrowed (Owned text) = ⊥
+
+-- Where memory ran out: the text, in UTF-8, is a beginning of what it was to become, and no shorter than it was.
+pub record KeepsText (old more new : List ℕ) : Type 0 where
+  pub others : List ℕ
+  pub begins : chars new ++ others ≡ chars old ++ more
+  pub longer : length old ≤ length new

@@ -5,7 +5,7 @@ ghost use Rattle.std.specs.Str.{chars};
 ghost use Rattle.std.specs.String.{string_bytes};
 ghost use Rattle.std.specs.Cow.{cow_str_bytes};
 ghost use Rattle.properties_text.specs.Encoding.{encoding_of};
-ghost use Rattle.properties_text.specs.Decoding.{IsBorrowed, IsText, text_of};
+ghost use Rattle.properties_text.specs.Decoding.{IsBorrowed, IsText, KeepsText, text_of};
 
 use super::run::decode_run;
 use super::{Encoding, utf_8, windows_1252};
@@ -56,11 +56,13 @@ pub fn as_text(encoding: Encoding, bytes: &[u8]) -> Option<&str>
     }
 }
 
-/// Appends the text of some bytes. Where memory runs out, a part of it may have been appended.
+/// Appends the text of some bytes. Where memory runs out, a beginning of it may have been appended.
 #[inline(never)]
 pub fn push_decoded(text: &mut String, encoding: Encoding, bytes: &[u8]) -> Result<(), AllocError>
-    ensures { OnOk result
+    ensures appended { OnOk result
         (chars (string_bytes text.new) ≡ chars (string_bytes text.old) ++ text_of encoding bytes.now) }
+    ensures kept { let more = text_of encoding bytes.now in
+        OnErr result (KeepsText (string_bytes text.old) more (string_bytes text.new)) }
 {
     text.reserve(bytes.len())?;
     // What stands as text at the front is copied, then a run of characters is decoded, and so on.
@@ -84,6 +86,7 @@ pub fn push_decoded(text: &mut String, encoding: Encoding, bytes: &[u8]) -> Resu
 pub fn push_text(text: &mut String, more: &str) -> Result<(), AllocError>
     ensures appended { OnOk result
         (chars (string_bytes text.new) ≡ chars (string_bytes text.old) ++ chars more.now) }
+    ensures longer { length (string_bytes text.old) ≤ length (string_bytes text.new) }
     ensures unchanged { OnErr result (string_bytes text.new ≡ string_bytes text.old) }
 {
     // Not even a call for nothing: in most encodings no text stands as it is.

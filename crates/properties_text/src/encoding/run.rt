@@ -39,6 +39,7 @@ pub fn decode_run<'a>(
     ensures text { let text = chars (take result.end run.new) in
         text ++ text_of encoding result.rest.now
         ≡ chars (take start run.old) ++ text_of encoding bytes.now }
+    ensures onwards { start ≤ result.end }
     ensures left { length result.rest.now ≤ length bytes.now }
     ensures shorter { 0 < length bytes.now → length result.rest.now < length bytes.now }
 {
@@ -62,6 +63,7 @@ fn decode_windows_1252<'a>(run: &mut [u8], start: usize, bytes: &'a [u8]) -> Dec
     ensures text { let text = chars (take result.end run.new) in
         text ++ text_of WINDOWS_1252 result.rest.now
         ≡ chars (take start run.old) ++ text_of WINDOWS_1252 bytes.now }
+    ensures onwards { start ≤ result.end }
     ensures left { length result.rest.now ≤ length bytes.now }
     ensures shorter { 0 < length bytes.now → length result.rest.now < length bytes.now }
 {
@@ -84,6 +86,7 @@ fn decode_blocks<'a>(run: &mut [u8], start: usize, bytes: &'a [u8]) -> Decoded<'
     ensures text { let text = chars (take result.end run.new) in
         text ++ text_of WINDOWS_1252 result.rest.now
         ≡ chars (take start run.old) ++ text_of WINDOWS_1252 bytes.now }
+    ensures onwards { start ≤ result.end }
     ensures left { length result.rest.now ≤ length bytes.now }
     ensures shorter { result.end + 4 * length result.rest.now ≤ start + 4 * length bytes.now }
 {
@@ -121,6 +124,7 @@ fn decode_run_of<'a>(
     ensures text { let text = chars (take result.end run.new) in
         text ++ text_of encoding result.rest.now
         ≡ chars (take start run.old) ++ text_of encoding bytes.now }
+    ensures onwards { start ≤ result.end }
     ensures left { length result.rest.now ≤ length bytes.now }
     ensures shorter { start + 4 ≤ length run.old → 0 < length bytes.now
         → length result.rest.now < length bytes.now }

@@ -2,7 +2,7 @@
 
 ghost use Rattle.std.specs.Prelude.{◌≡◌, ◌≤◌, ◌<◌, ◌++◌, List, ℕ, [], length, take, IfOk, OnOk, OnErr};
 ghost use Rattle.std.specs.Str.{chars, IsUtf8, IsCharBoundary};
-ghost use Rattle.properties_text.specs.Decoding.{text_of};
+ghost use Rattle.properties_text.specs.Decoding.{text_of, KeepsText};
 
 use super::run::decode_run;
 use super::{Encoding, utf_8};
@@ -74,16 +74,18 @@ impl TextBuffer {
     #[inline]
     pub fn push_text(&mut self, more: &str) -> Result<(), AllocError>
         ensures appended { OnOk result (chars self.new ≡ chars self.old ++ chars more.now) }
+        ensures longer { length self.old ≤ length self.new }
         ensures unchanged { OnErr result (self.new ≡ self.old) }
     {
         self.filled = append(&mut self.bytes, self.filled, more.as_bytes())?;
         Ok(())
     }
 
-    /// Appends the text of some bytes. Where memory runs out, a part of it may have been appended.
+    /// Appends the text of some bytes. Where memory runs out, a beginning of it may have been appended.
     #[inline(never)]
     pub fn push_decoded(&mut self, encoding: Encoding, bytes: &[u8]) -> Result<(), AllocError>
-        ensures { OnOk result (chars self.new ≡ chars self.old ++ text_of encoding bytes.now) }
+        ensures appended { OnOk result (chars self.new ≡ chars self.old ++ text_of encoding bytes.now) }
+        ensures kept { OnErr result (KeepsText self.old (text_of encoding bytes.now) self.new) }
     {
         let mut rest = bytes;
         while !rest.is_empty() {
@@ -102,6 +104,8 @@ impl TextBuffer {
     ) -> Result<&'a [u8], AllocError>
         ensures text { IfOk result (λ rest.
             chars self.new ++ text_of encoding rest.now ≡ chars self.old ++ text_of encoding bytes.now) }
+        ensures unchanged { OnErr result (self.new ≡ self.old) }
+        ensures longer { length self.old ≤ length self.new }
         ensures left { IfOk result (λ rest. length rest.now ≤ length bytes.now) }
     {
         match encoding {
@@ -119,6 +123,8 @@ impl TextBuffer {
     fn push_run<'a>(&mut self, encoding: Encoding, bytes: &'a [u8]) -> Result<&'a [u8], AllocError>
         ensures text { IfOk result (λ rest.
             chars self.new ++ text_of encoding rest.now ≡ chars self.old ++ text_of encoding bytes.now) }
+        ensures unchanged { OnErr result (self.new ≡ self.old) }
+        ensures longer { length self.old ≤ length self.new }
         ensures left { IfOk result (λ rest. length rest.now ≤ length bytes.now) }
         ensures shorter { IfOk result (λ rest. 0 < length bytes.now → length rest.now < length bytes.now) }
     {

@@ -15,4 +15,4 @@ returns-in-Some c =
 
 pub returns-in_ok-push_decoded-in-None : goal.returns-in_ok-push_decoded-in-None
 returns-in_ok-push_decoded-in-None c =
-    c.in_ok-push_decoded-in-None.ensures ∙ ap (λ v. v ++ decoded_line (encoding_of c.args.encoding) c.args.bytes.now) (ap chars c.clear.ensures ∙ chars-nil)
+    c.in_ok-push_decoded-in-None.ensures.appended ∙ ap (λ v. v ++ decoded_line (encoding_of c.args.encoding) c.args.bytes.now) (ap chars c.clear.ensures ∙ chars-nil)

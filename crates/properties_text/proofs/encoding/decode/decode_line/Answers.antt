@@ -13,4 +13,4 @@ returns-in-Some-clause-text c =
 
 pub returns-in_ok-push_decoded-in-None-clause-text : goal.returns-in_ok-push_decoded-in-None-clause-text
 returns-in_ok-push_decoded-in-None-clause-text c =
-    c.in_ok-push_decoded-in-None.ensures ∙ ap (λ v. v ++ text_of c.args.encoding c.args.bytes.now) (ap chars c.new-text.ensures.bytes ∙ chars-nil)
+    c.in_ok-push_decoded-in-None.ensures.appended ∙ ap (λ v. v ++ text_of c.args.encoding c.args.bytes.now) (ap chars c.new-text.ensures.bytes ∙ chars-nil)

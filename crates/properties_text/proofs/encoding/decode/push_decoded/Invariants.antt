@@ -1,4 +1,4 @@
-use Rattle.std.proofs.Common.{◌≡◌, ◌++◌, length}
+use Rattle.std.proofs.Common.{◌≡◌, ◌≤◌, ◌++◌, length}
 use Rattle.std.specs.Str.{chars}
 use Rattle.std.specs.String.{string_bytes}
 use Rattle.properties_format.specs.Pieces.{characters}
@@ -8,8 +8,10 @@ use Rattle.properties_text.proofs.encoding.decode.push_decoded.Given as goal
 
 -- The text so far and the characters of the rest are the text before and the characters of all bytes.
 abbrev pub invariant-loop-run : goal.invariant-loop-run
-invariant-loop-run l =
-    chars (string_bytes l.text) ++ characters (pieces_of (encoding_of l.encoding) l.rest) ≡ chars (string_bytes l.fn.text) ++ characters (pieces_of (encoding_of l.encoding) l.fn.bytes)
+invariant-loop-run l = record {
+  text : chars (string_bytes l.text) ++ characters (pieces_of (encoding_of l.encoding) l.rest) ≡ chars (string_bytes l.fn.text) ++ characters (pieces_of (encoding_of l.encoding) l.fn.bytes);
+  longer : length (string_bytes l.fn.text) ≤ length (string_bytes l.text);
+}
 
 abbrev pub decreases-loop-run : goal.decreases-loop-run
 decreases-loop-run l = length l.rest

@@ -13,6 +13,7 @@ pub loop-rest-init : goal.loop-rest-init
 loop-rest-init c = record {
   same_room = refl;
   within = c.requires.within;
+  onwards = omega arith;
   left = omega arith;
   shorter = omega arith;
   is_text = c.requires.is_text;
@@ -31,6 +32,7 @@ loop-rest-preserved-then-kept-eq0 c =
     record {
       same_room = put.same_room ∙ held.same_room;
       within = omega (arith, put.within, put.same_room, c.if-run-at-ge32.true);
+      onwards = omega (arith, held.onwards, put.more);
       left = rw (taken-rest, length-drop 1 bytes) (omega (arith, held.left));
       shorter = rw (taken-rest, length-drop 1 bytes) (omega (arith, put.within, held.shorter, c.loop-rest-test.true));
       is_text = subst IsUtf8 (sym put.text) (IsUtf8-append _ _ held.is_text (IsUtf8-encode _ put.scalar));
@@ -49,6 +51,7 @@ loop-rest-preserved c =
     record {
       same_room = put.same_room ∙ held.same_room;
       within = omega (arith, put.within, put.same_room, c.if-run-at-ge32.true);
+      onwards = omega (arith, held.onwards, put.after);
       left = rw (taken-rest, length-drop kept bytes) (omega (arith, held.left));
       shorter = rw (taken-rest, length-drop kept bytes) (omega (arith, put.within, held.shorter, c.loop-rest-test.true));
       is_text = front.0;

@@ -9,6 +9,7 @@ abbrev pub invariant-loop-rest : goal.invariant-loop-rest
 invariant-loop-rest l = record {
   same_room : length l.run ≡ length l.fn.run;
   within : l.at ≤ length l.run;
+  onwards : l.start ≤ l.at;
   left : length l.rest ≤ length l.bytes;
   shorter : l.at + 4 * length l.rest ≤ l.start + 4 * length l.bytes;
   is_text : IsUtf8 (take l.at l.run);

@@ -13,6 +13,7 @@ pub loop-first-init : goal.loop-first-init
 loop-first-init c = record {
   same_room = refl;
   within = c.requires.within;
+  onwards = omega arith;
   left = omega arith;
   is_text = c.requires.is_text;
   text = refl;
@@ -34,6 +35,7 @@ loop-first-preserved c =
     record {
       same_room = put.same_room ∙ units.same_room ∙ held.same_room;
       within = omega (arith, put.within, put.same_room, units.same_room, held.within, c.if-run-at-lt4.false);
+      onwards = omega (arith, held.onwards, put.more);
       left = rw (taken-rest, length-drop c.first_piece-next.result.length c.loop-first.rest.now) (omega (arith, put.within, held.left, some, long));
       is_text = subst IsUtf8 (sym put.text) (IsUtf8-append _ _ before (IsUtf8-encode _ put.scalar));
       text = rw (taken-rest, whole) (decoded-one (encoding_of c.args.encoding) _ _ _ c.in-Some.first.now c.in-Some.others.now _ _ before put.scalar put.text (rw whole at joins) shown.character_is shown.length_is);
@@ -51,6 +53,7 @@ loop-first-preserved-in-Some-ascii_front c =
     record {
       same_room = put.same_room ∙ units.same_room ∙ held.same_room;
       within = omega (arith, put.after, put.same_room, units.same_room, held.within, c.if-run-at-lt4.false);
+      onwards = omega (arith, held.onwards, put.after);
       left = omega (arith, put.after, held.left, front.shorter);
       is_text = subst IsUtf8 (sym put.text) (IsUtf8-append _ _ before (IsUtf8-from_ascii _ (are-ascii _ front.ascii)));
       text = decoded-front _ _ _ _ _ _ before (are-ascii _ front.ascii) put.text joins front.same;
@@ -66,6 +69,7 @@ loop-first-preserved-then-written-gt0 c =
     record {
       same_room = put.same_room ∙ held.same_room;
       within = put.room;
+      onwards = omega (arith, held.onwards, put.after);
       left = rw (taken-rest, length-drop (2 * written.units) rest) (omega (arith, held.left, put.within, put.end));
       is_text = front.0;
       text = rw taken-rest front.1;

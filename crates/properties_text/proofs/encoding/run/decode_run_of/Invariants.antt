@@ -8,6 +8,7 @@ abbrev pub invariant-loop-first : goal.invariant-loop-first
 invariant-loop-first l = record {
   same_room : length l.run ≡ length l.fn.run;
   within : l.at ≤ length l.run;
+  onwards : l.start ≤ l.at;
   left : l.at + 4 * length l.rest ≤ l.start + 4 * length l.bytes;
   is_text : IsUtf8 (take l.at l.run);
   text : chars (take l.at l.run) ++ text_of l.encoding l.rest ≡ chars (take l.start l.fn.run) ++ text_of l.encoding l.bytes;

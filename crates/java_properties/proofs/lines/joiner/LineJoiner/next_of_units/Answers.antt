@@ -19,7 +19,7 @@ returns-clause-joins c =
     let encoding = c.encoding.ensures ∙ sym takes.encoding in
     let bytes = c.peeked-bytes.ensures ∙ sym c.take_line.ensures.line in
     let decoded : chars line ≡ line_text found =
-    c.in-Ok.ensures
+    c.in-Ok.ensures.appended
     ∙ ap (λ v. v ++ decoded_line (encoding_of c.encoding.result) c.peeked-bytes.result.now) (ap chars c.clear.ensures ∙ chars-nil)
     ∙ ap₂ decoded_line encoding bytes in
     let plain = ap (λ v. holds_backslash (chars v)) (sym c.as_str.ensures) ∙ sym c.has_backslash.ensures ∙ c.if-has_backslash.false in

@@ -19,7 +19,7 @@ returns-clause-joins c =
     let line = c.push_decoded.new.self in
     let bytes = c.peeked-bytes.result.now in
     let text : chars line ≡ decoded_line windows_1252 bytes =
-    c.in-Ok.ensures ∙ ap (λ v. v ++ decoded_line windows_1252 bytes) (ap chars c.clear.ensures ∙ chars-nil) in
+    c.in-Ok.ensures.appended ∙ ap (λ v. v ++ decoded_line windows_1252 bytes) (ap chars c.clear.ensures ∙ chars-nil) in
     let encoding = takes.encoding ∙ ap (λ v. let w : ReaderState = v in w.encoding) state ∙ c.requires.encoding in
     let same : bytes ≡ found.line = c.peeked-bytes.ensures ∙ sym c.take_line.ensures.line in
     let decoded : chars line ≡ line_text found = text ∙ ap₂ decoded_line (sym encoding) same in

@@ -1,11 +1,14 @@
-use Rattle.std.proofs.Common.{◌≡◌, ◌++◌, length}
+use Rattle.std.proofs.Common.{◌≡◌, ◌≤◌, ◌++◌, length}
 use Rattle.std.specs.Str.{chars}
 use Rattle.properties_text.specs.Decoding.{text_of}
 use Rattle.properties_text.proofs.encoding.text_buffer.TextBuffer.push_decoded.Given as goal
 
 -- The text so far and that of the rest are the text before and that of all bytes.
 abbrev pub invariant-loop-rest : goal.invariant-loop-rest
-invariant-loop-rest l = chars l.self ++ text_of l.encoding l.rest ≡ chars l.fn.self ++ text_of l.encoding l.bytes
+invariant-loop-rest l = record {
+  text : chars l.self ++ text_of l.encoding l.rest ≡ chars l.fn.self ++ text_of l.encoding l.bytes;
+  longer : length l.fn.self ≤ length l.self;
+}
 
 abbrev pub decreases-loop-rest : goal.decreases-loop-rest
 decreases-loop-rest l = length l.rest
