@@ -7,7 +7,7 @@
 # `refused::` or `refused_memory` hold all the same. Those of other names fail where their own data is refused, and
 # aren't looked at. None of these tests takes more than LAST allocations.
 first=${1:-1}
-last=${2:-16}
+last=${2:-24}
 crates=$(cd "$(dirname "$0")/.." && pwd)
 status=0
 for number in $(seq "$first" "$last"); do

@@ -2,7 +2,7 @@
 
 use java_properties::{Edit, Encoding, PropertiesError, edit_all, set_key};
 use std::alloc::{AllocError, Global};
-use std::collections::HashMap;
+use std::collections::BTreeMap;
 
 /// The file with this port. Comments, blank lines and the order of the pairs stay.
 pub fn set_port(alloc: Global, file: &[u8], port: u16) -> Result<Vec<u8>, PropertiesError> {
@@ -10,17 +10,17 @@ pub fn set_port(alloc: Global, file: &[u8], port: u16) -> Result<Vec<u8>, Proper
     set_key(alloc, file, Encoding::UTF_8, "port", text.as_str())
 }
 
-/// The file with every setting of a map: those that it has are replaced, others come last.
+/// The file with every setting of a map: those that it has are replaced, others come last, in order.
 pub fn set_all(
     alloc: Global,
     file: &[u8],
-    settings: &HashMap<String, String>,
+    settings: &BTreeMap<String, String>,
 ) -> Result<Vec<u8>, PropertiesError> {
     let edits = edits_from(alloc, settings)?;
     edit_all(alloc, file, Encoding::UTF_8, edits.as_slice())
 }
 
-fn edits_from(alloc: Global, settings: &HashMap<String, String>) -> Result<Vec<Edit>, AllocError> {
+fn edits_from(alloc: Global, settings: &BTreeMap<String, String>) -> Result<Vec<Edit>, AllocError> {
     let mut edits = Vec::new(alloc);
     for (key, value) in settings {
         edits.push(Edit::Put(key.clone()?, value.clone()?))?;
@@ -45,18 +45,21 @@ mod tests {
     #[test]
     fn sets_what_a_map_has(rt: HostRuntime) -> Result<(), Fail> {
         let alloc = rt.alloc();
-        let mut settings = HashMap::new(alloc);
-        settings.insert(
-            String::from_str(alloc, "port")?,
-            String::from_str(alloc, "8080")?,
-        )?;
-        settings.insert(
-            String::from_str(alloc, "host")?,
-            String::from_str(alloc, "b")?,
-        )?;
+        let mut settings = BTreeMap::new(alloc);
+        for (key, value) in [
+            ("user", "c"),
+            ("port", "8080"),
+            ("host", "b"),
+            ("door", "d"),
+        ] {
+            settings.insert(
+                String::from_str(alloc, key)?,
+                String::from_str(alloc, value)?,
+            )?;
+        }
         let file = b"# both\nhost = a\n! and\nport = 80".as_slice();
         let edited = set_all(alloc, file, &settings)?;
-        let wanted = b"# both\nhost=b\n! and\nport=8080".as_slice();
+        let wanted = b"# both\nhost=b\n! and\nport=8080\ndoor=d\nuser=c\n".as_slice();
         assert_eq!(rt; edited.as_slice(), wanted);
         Ok(())
     }
