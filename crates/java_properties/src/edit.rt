@@ -4,7 +4,7 @@ ghost use Rattle.std.specs.Prelude.{[]};
 ghost use Rattle.std.specs.Str.{chars};
 ghost use Rattle.properties_format.specs.Laws.{SplittingCommutes};
 ghost use Rattle.properties_text.specs.Encoding.{encoding_of};
-ghost use Rattle.java_properties.specs.Editing.{EditsAll, MakesEdit, RemovesKey, SetsKey, edit_in, edits_in};
+ghost use Rattle.java_properties.specs.Editing.{EditsAll, RemovesKey, SetsKey, edits_in};
 
 mod groups;
 mod kept;
@@ -12,11 +12,13 @@ mod keys;
 mod lines;
 mod place;
 mod result;
+mod slots;
 mod source;
 
 use crate::edit::kept::find_others;
 use crate::edit::place::find_key;
-use crate::edit::result::{appended, concatenated, replaced, without_others};
+use crate::edit::result::{appended, replaced, without_others};
+use crate::edit::slots::Slots;
 use crate::edit::source::Source;
 use crate::error::PropertiesError;
 use properties_text::encoding::Encoding;
@@ -115,38 +117,12 @@ pub fn edit_all(
     ensures edits { EditsAll (encoding_of encoding) source.now (edits_in edits.now) result }
     ensures splitting { SplittingCommutes (encoding_of encoding) source.now }
 {
-    let mut bytes = readable_copy(alloc, source, encoding)?;
-    for edit in edits {
-        bytes = make(alloc, &bytes, encoding, edit)?;
-    }
-    Ok(bytes)
-}
-
-// A copy of a source that is edited, and in which nothing is malformed.
-fn readable_copy(
-    alloc: Global,
-    source: &[u8],
-    encoding: Encoding,
-) -> Result<Vec<u8>, PropertiesError>
-    ensures { EditsAll (encoding_of encoding) source.now [] result }
-{
     let opened = Source::open(source, encoding)?;
-    // The source is read for its first fault alone.
-    let _place = find_key(alloc, opened.encoding, &source[opened.start..], "")?;
-    let bytes = concatenated(alloc, source, b"", b"")?;
-    Ok(bytes)
-}
-
-fn make(
-    alloc: Global,
-    source: &[u8],
-    encoding: Encoding,
-    edit: &Edit,
-) -> Result<Vec<u8>, PropertiesError>
-    ensures { MakesEdit (encoding_of encoding) source.now (edit_in edit.now) result }
-{
-    match edit {
-        Edit::Put(key, value) => set_key(alloc, source, encoding, key, value),
-        Edit::Remove(key) => remove_key(alloc, source, encoding, key),
+    let body = &source[opened.start..];
+    let is_marked = opened.start > 0;
+    let mut slots = Slots::parse(alloc, opened.encoding, body)?;
+    for edit in edits {
+        slots.make(alloc, opened.encoding, body, is_marked, edit)?;
     }
+    Ok(slots.to_bytes(alloc, source, opened.start)?)
 }
