@@ -96,6 +96,35 @@ pub record HoldsSome (s : Slots) : Type 0 where
 abbrev pub Changes : List ℕ → (format.Slots → format.Slots) → Slots → Slots → Type 0
 Changes body change old new = (m : format.Slots) → IsWellEnded m → Holds body old m → Holds body new (change m)
 
+-- ---- one more slot
+
+-- A slot comes last.
+pub record Pushes (old : Slots) (slot : Slot) (new : Slots) : Type 0 where
+  pub slots : new.slots.items ≡ old.slots.items ++ slot ∷ []
+  pub links : new.links.items ≡ old.links.items ++ (length old.slots.items + 1) ∷ []
+  pub same : new ≡ record old { slots = new.slots; links = new.links }
+
+-- A slot without bytes and without a line ending comes last.
+pub record PushesEmpty (old new : Slots) : Type 0 where
+  pub slot : Slot
+  pub is : (body : List ℕ) → IsCell body slot (record { slot = empty_slot None; alive = true })
+  pub slots : new.slots.items ≡ old.slots.items ++ slot ∷ []
+  pub links : new.links.items ≡ old.links.items ++ (length old.slots.items + 1) ∷ []
+  pub closing : new.closing ≡ closing.Nothing
+  pub same : new ≡ record old { slots = new.slots; links = new.links; closing = new.closing }
+
+-- ---- the first slot
+
+-- The first cell that is left has this number.
+pub record IsFirstLeft (cells : List Cell) (n : ℕ) : Type 0 where
+  pub inside : n < length cells
+  pub left : (get_or cells n no_cell).alive ≡ true
+  pub none_before : (k : ℕ) → k < n → (get_or cells k no_cell).alive ≡ false
+
+-- It is found, and what the slots are stays.
+abbrev pub FindsFirst : Slots → ℕ → Slots → Type 0
+FindsFirst old n new = (body : List ℕ) (cells : List Cell) → HoldsCells body old cells → IsFirstLeft cells n × HoldsCells body new cells
+
 -- ---- edits
 
 -- A key is put.

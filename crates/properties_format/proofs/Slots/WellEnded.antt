@@ -9,7 +9,7 @@ use Rattle.properties_format.specs.Reading.Items.{outcome_of}
 use Rattle.properties_format.specs.Reading.Cut.{decoded_line}
 use Rattle.properties_format.specs.Body.{HeldLine, group_bytes, last_ending}
 use Rattle.properties_format.specs.Edited.{final_group, is_empty_line, is_left_open, is_editable, Edit, AreScalarEdits}
-use Rattle.properties_format.specs.Reading.Slots.{Slot, unended_bytes, key_told, slot_of, slot_list, left_out, ended_by, closed_by, safe_ending, closing_of, Slots, AreWellEnded, IsWellEnded, final_slot, is_by_lf, is_lf_alone, slots_after}
+use Rattle.properties_format.specs.Reading.Slots.{unended_bytes, key_told, slot_of, slot_list, left_out, ended_by, closed_by, safe_ending, closing_of, AreWellEnded, IsWellEnded, final_slot, is_by_lf, slots_after}
 use Rattle.properties_format.proofs.Body.Decoded.{decoded-nil}
 use Rattle.properties_format.proofs.Edited.Told.{outcome-empty}
 use Rattle.properties_format.proofs.Slots.Lines.{AreLinesBy, ending-of, unended-some}

@@ -1,5 +1,5 @@
 -- Edits in turn, made to a list of slots: one for each group of the body, made once from the source. The bytes are made once, after the last edit.
-use Rattle.std.specs.Prelude.{ℕ, ◌&&◌, not, Bool, true, false, if◌then◌else◌, List, [], ◌∷◌, ◌++◌, Option, Some, None, bytes_eq}
+use Rattle.std.specs.Prelude.{◌≡◌, ℕ, ◌&&◌, not, Bool, true, false, if◌then◌else◌, List, [], ◌∷◌, ◌++◌, Option, Some, None, bytes_eq}
 use Rattle.properties_format.specs.Text.{LineEnding, lf, cr, crlf, line_ending_text}
 use Rattle.properties_format.specs.Encoding.{Encoding, byte_order_mark, begins_like_bom}
 use Rattle.properties_format.specs.Reading.Lines.{ends_in_cr}

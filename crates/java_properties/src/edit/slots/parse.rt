@@ -1,9 +1,9 @@
 // A body is read into slots.
 
-ghost use Rattle.std.specs.Prelude.{◌≡◌};
+ghost use Rattle.std.specs.Prelude.{◌≡◌, OnOk};
 ghost use Rattle.properties_text.specs.Encoding.{encoding_of};
 ghost use Rattle.java_properties.specs.LineSearch.{unit_size};
-ghost use Rattle.java_properties.specs.BodySlots.{ParsesSlots};
+ghost use Rattle.java_properties.specs.BodySlots.{ParsesSlots, Pushes};
 
 use crate::edit::groups::{Group, GroupReader};
 use crate::edit::keys::key_of;
@@ -81,8 +81,10 @@ impl Slots {
         Ok(())
     }
 
-    // The slot comes last.
-    pub fn push(&mut self, slot: Slot) -> Result<(), AllocError> {
+    /// The slot comes last.
+    pub fn push(&mut self, slot: Slot) -> Result<(), AllocError>
+        ensures { OnOk result (Pushes self.old slot self.new) }
+    {
         self.slots.push(slot)?;
         self.links.push(self.slots.len())?;
         Ok(())

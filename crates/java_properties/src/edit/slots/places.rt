@@ -23,7 +23,8 @@ pub fn add_place(
     ensures ordered { IsOrdered string_cmp places.new }
 {
     if let Some(stack) = places.get_mut(key.as_str()) {
-        return stack.push(place);
+        stack.push(place)?;
+        return Ok(());
     }
     let mut stack = Vec::new(alloc);
     stack.push(place)?;

@@ -4,8 +4,9 @@ ghost use Rattle.std.specs.Prelude.{OnOk};
 ghost use Rattle.std.specs.Str.{chars};
 ghost use Rattle.properties_format.specs.Encoding.{output_encoding};
 ghost use Rattle.properties_text.specs.Encoding.{encoding_of};
-ghost use Rattle.java_properties.specs.BodySlots.{HoldsSome, PutsKey};
+ghost use Rattle.java_properties.specs.BodySlots.{FindsFirst, HoldsSome, PushesEmpty, PutsKey};
 
+use crate::edit::lines::ending_bytes;
 use crate::edit::place::{BodySpan, Closing};
 use crate::edit::result::printed_pair;
 use crate::edit::slots::places::{add_place, last_place};
@@ -70,13 +71,20 @@ impl Slots {
             ending: Some(LineEnding::LF),
             is_left: true,
         })?;
-        add_place(alloc, &mut self.places, String::from_str(alloc, key)?, place)?;
+        add_place(
+            alloc,
+            &mut self.places,
+            String::from_str(alloc, key)?,
+            place,
+        )?;
         self.push_empty(alloc)?;
         Ok(())
     }
 
-    // An empty slot comes last.
-    pub fn push_empty(&mut self, alloc: Global) -> Result<(), AllocError> {
+    /// An empty slot comes last.
+    pub fn push_empty(&mut self, alloc: Global) -> Result<(), AllocError>
+        ensures { OnOk result (PushesEmpty self.old self.new) }
+    {
         self.push(Slot {
             kept: BodySpan { start: 0, end: 0 },
             added: Vec::new(alloc),
@@ -95,7 +103,8 @@ impl Slots {
             Closing::Nothing => slot.is_left = false,
             Closing::OneEnding => slot.ending = Some(self.parting),
             Closing::TwoEndings => {
-                slot.added.push(ending_byte(self.parting))?;
+                slot.added
+                    .extend_from_slice(ending_bytes(Some(self.parting)))?;
                 slot.ending = Some(self.parting);
             }
         }
@@ -103,7 +112,10 @@ impl Slots {
     }
 
     /// The first slot that is left.
-    pub fn first_left(&mut self) -> usize {
+    pub fn first_left(&mut self) -> usize
+        requires { HoldsSome self.old }
+        ensures { FindsFirst self.old result self.new }
+    {
         while self.first < self.slots.len() && !self.slots[self.first].is_left {
             self.first += 1;
         }

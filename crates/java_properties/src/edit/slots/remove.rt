@@ -4,9 +4,9 @@ ghost use Rattle.std.specs.Prelude.{OnOk};
 ghost use Rattle.std.specs.Str.{chars};
 ghost use Rattle.java_properties.specs.BodySlots.{Changes, HoldsIn, left_without};
 
-use crate::edit::slots::places::take_places;
 use crate::edit::result::begins_like_bom;
 use crate::edit::slots::Slots;
+use crate::edit::slots::places::take_places;
 use crate::writer::LineEnding;
 use std::alloc::{AllocError, Global};
 
