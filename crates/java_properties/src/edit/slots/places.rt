@@ -22,13 +22,8 @@ pub fn add_place(
         ≡ (if bytes_eq k (characters key) then stack_at places.old.entries k ++ place ∷ [] else stack_at places.old.entries k)) }
     ensures ordered { IsOrdered string_cmp places.new }
 {
-    if let Some(stack) = places.get_mut(key.as_str()) {
-        stack.push(place)?;
-        return Ok(());
-    }
-    let mut stack = Vec::new(alloc);
+    let stack = places.entry(key)?.or_insert(Vec::new(alloc));
     stack.push(place)?;
-    places.insert(key, stack)?;
     Ok(())
 }
 
