@@ -1,5 +1,5 @@
 -- The numbers under each key, after a change at one of them.
-use Rattle.std.proofs.Common.{◌≡◌, ℕ, Bool, true, false, List, [], ◌∷◌, ◌++◌, refl, ap, sym, ◌∙◌, inl, inr, length}
+use Rattle.std.proofs.Common.{◌≡◌, ℕ, Bool, true, false, List, [], ◌∷◌, ◌++◌, refl, ap, sym, ◌∙◌, inl, inr, length, arith}
 use Rattle.std.specs.Prelude.{◌-◌, Option, Some, None, bytes_eq, cond, if◌then◌else◌, slice_get}
 use Rattle.std.specs.Option.{option_map_or, unwrap_or}
 use Rattle.std.specs.Global.{Vec}
@@ -11,7 +11,7 @@ use Rattle.std.specs.Cmp.Lexicographic.{slice_cmp}
 use Rattle.std.specs.declared.string.String.{String}
 use Rattle.std.proofs.lemmas.Bool.{cases_Bool}
 use Rattle.std.proofs.lemmas.Slice.Eq.{bytes_eq-Decides}
-use Rattle.java_properties.specs.BodySlots.{stack_at}
+use Rattle.java_properties.specs.BodySlots.{stack_at, IsLastOf}
 use Rattle.java_properties.proofs.TextMaps.Values.{at_chars, at_chars-sorted, at_chars-updated, flipped}
 
 -- the numbers of a vector, where there is one
@@ -53,3 +53,17 @@ stack-grown m n key is v more h grown k = stack-updated m n key is (Some v) h k 
     there : bytes_eq k (chars key) ≡ false
         → (if bytes_eq k (chars key) then v.items else stack_at m.entries k) ≡ (if bytes_eq k (chars key) then stack_at m.entries k ++ more else stack_at m.entries k)
     there other = rw other refl
+
+-- what comes last of some numbers comes last where another stands before them
+last-later : (n m : ℕ) (ns : List ℕ) (o : Option ℕ) → IsLastOf (m ∷ ns) o → IsLastOf (n ∷ m ∷ ns) o
+last-later n m ns None h = absurd (cc)
+last-later n m ns (Some last) h = (n ∷ h.0, ap (λ v. n ∷ v) h.1)
+
+last-of : (n : ℕ) (ns : List ℕ) → IsLastOf (n ∷ ns) (slice_get (n ∷ ns) (length ns))
+last-of n [] = ([], refl)
+last-of n (m ∷ ns) = last-later n m ns (slice_get (m ∷ ns) (length ns)) (last-of m ns)
+
+-- The number that is got by the last index comes last, and none is got where there are none.
+pub last-got : (stack : List ℕ) → IsLastOf stack (slice_get stack (length stack - 1))
+last-got [] = refl
+last-got (n ∷ ns) = let e : length (n ∷ ns) - 1 ≡ length ns = omega arith in rw e (last-of n ns)

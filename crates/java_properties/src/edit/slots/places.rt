@@ -49,8 +49,5 @@ pub fn take_places(
         ≡ (if bytes_eq k (chars key.now) then [] else stack_at places.old.entries k) }
     ensures ordered { IsOrdered string_cmp places.new }
 {
-    match places.remove(key) {
-        Some(stack) => stack,
-        None => Vec::new(alloc),
-    }
+    places.remove(key).unwrap_or(Vec::new(alloc))
 }

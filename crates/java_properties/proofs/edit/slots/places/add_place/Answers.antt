@@ -1,4 +1,4 @@
-use Rattle.std.proofs.Common.{◌≡◌, ◌++◌, ◌∷◌, [], ◌∙◌, ap}
+use Rattle.std.proofs.Common.{◌≡◌, ◌++◌, ◌∷◌, [], ◌∙◌, ap, arith}
 use Rattle.std.specs.BTreeMap.{get_by_text}
 use Rattle.std.specs.BTreeMap.Entry.{map_with_value}
 use Rattle.std.specs.String.{string_bytes}
@@ -13,6 +13,7 @@ returns-clause-added c =
     let stack = c.push.new.self in
     let new = map_with_value c.in_ok-places.field-0 stack in
     let more = c.args.place ∷ [] in
-    let had = ap (λ v. v.items) c.or_insert-stack.ensures.value ∙ items-or _ _ c.new.ensures.items ∙ ap items_in c.in_ok-places.ensures.value in
+    let had : c.or_insert-stack.result.now.items ≡ items_in (get_by_text old key) = grind (arith, items-or) in
     let grown : stack.items ≡ items_in (get_by_text old key) ++ more = c.in_ok-push.ensures.items ∙ ap (λ s. s ++ more) had in
-    stack-grown old new key (IsUtf8-string_bytes c.args.key) stack more (c.in_ok-places.ensures.update.0 stack) grown
+    let added = stack-grown old new key (IsUtf8-string_bytes c.args.key) stack more (c.in_ok-places.ensures.update.0 stack) grown in
+    λ k. grind (arith, added k)
