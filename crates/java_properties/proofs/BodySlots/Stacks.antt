@@ -28,7 +28,8 @@ items-chosen true v o = refl
 items-chosen false v o = refl
 
 -- The numbers under a text's characters are those that are found by the text.
-pub stack-found : {Y : Type 0} (m : BTreeMap (String Y) (Vec ℕ)) (key : List ℕ) → IsUtf8 key → stack_at m.entries (chars key) ≡ items_in (get_by_text m key)
+pub stack-found : {Y : Type 0} (m : BTreeMap (String Y) (Vec ℕ)) (key : List ℕ) → IsUtf8 key
+    → stack_at m.entries (chars key) ≡ items_in (get_by_text m key)
 stack-found m key is = ap items_in (at_chars-sorted m key is)
 
 -- After a change at a text, that text has these numbers, and each other one has what it had.
@@ -42,16 +43,23 @@ stack-updated m n key is value h k =
 
 -- So it is where the numbers that it has are those that it had, and more.
 pub stack-grown : {Y : Type 0} (m n : BTreeMap (String Y) (Vec ℕ)) (key : List ℕ) → IsUtf8 key → (v : Vec ℕ) (more : List ℕ)
-    → UpdatesBy string_cmp (λ x. slice_cmp nat_cmp key (string_bytes x)) m n (Some v) → v.items ≡ items_in (get_by_text m key) ++ more
+    → UpdatesBy string_cmp (λ x. slice_cmp nat_cmp key (string_bytes x)) m n (Some v)
+    → v.items ≡ items_in (get_by_text m key) ++ more
     → (k : List ℕ) → stack_at n.entries k ≡ (if bytes_eq k (chars key) then stack_at m.entries k ++ more else stack_at m.entries k)
-stack-grown m n key is v more h grown k = stack-updated m n key is (Some v) h k ∙ elim (cases_Bool (bytes_eq k (chars key))) [ inl same ↦ here same | inr other ↦ there other ]
+stack-grown m n key is v more h grown k =
+    stack-updated m n key is (Some v) h k
+    ∙ elim (cases_Bool (bytes_eq k (chars key))) [ inl same ↦ here same | inr other ↦ there other ]
   where
-    here : bytes_eq k (chars key) ≡ true
-        → (if bytes_eq k (chars key) then v.items else stack_at m.entries k) ≡ (if bytes_eq k (chars key) then stack_at m.entries k ++ more else stack_at m.entries k)
-    here same = rw same (grown ∙ ap (λ s. s ++ more) (sym (stack-found m key is) ∙ ap (stack_at m.entries) (sym ((bytes_eq-Decides k (chars key)).0 same))))
+    has : Bool → List ℕ → List ℕ
+    has b stack = if b then stack else stack_at m.entries k
 
-    there : bytes_eq k (chars key) ≡ false
-        → (if bytes_eq k (chars key) then v.items else stack_at m.entries k) ≡ (if bytes_eq k (chars key) then stack_at m.entries k ++ more else stack_at m.entries k)
+    had : bytes_eq k (chars key) ≡ true → v.items ≡ stack_at m.entries k ++ more
+    had same = grown ∙ ap (λ s. s ++ more) (sym (stack-found m key is) ∙ ap (stack_at m.entries) (sym ((bytes_eq-Decides k (chars key)).0 same)))
+
+    here : bytes_eq k (chars key) ≡ true → has (bytes_eq k (chars key)) v.items ≡ has (bytes_eq k (chars key)) (stack_at m.entries k ++ more)
+    here same = rw same (had same)
+
+    there : bytes_eq k (chars key) ≡ false → has (bytes_eq k (chars key)) v.items ≡ has (bytes_eq k (chars key)) (stack_at m.entries k ++ more)
     there other = rw other refl
 
 -- what comes last of some numbers comes last where another stands before them

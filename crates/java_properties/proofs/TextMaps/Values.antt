@@ -79,14 +79,14 @@ by-none k s f = lookup-never (λ x. bytes_eq k (characters x)) (λ x. no-key k s
 by-text : {Y X : Type 0} (key : List ℕ) → IsUtf8 key → (f : List (String Y × X)) → at_chars f (chars key) ≡ at_bytes f key
 by-text key is f = by-bytes (chars key) (scalars-chars key is) f ∙ ap (at_bytes f) (encodes-chars key is)
 
--- What a map has at the characters of a text is what `get` finds by that text,
-pub value_at_text : {Y Z S : Type 0} (f : HashMap (String Y) (String Z) S) (key : List ℕ) → IsUtf8 key → value_at f.entries (chars key) ≡ option_map characters (hashed.get_by_text f key)
-value_at_text f key is = ap (option_map characters) (by-text key is f.entries)
-
 -- a sorted map is searched by the order of the bytes
 by-order : {Y X : Type 0} (f : BTreeMap (String Y) X) (bytes : List ℕ) → at_bytes f.entries bytes ≡ sorted.get_by_text f bytes
 by-order f bytes = lookup-same (λ x. bytes_eq bytes (string_bytes x)) (λ x. is_eq (slice_cmp nat_cmp bytes (string_bytes x)))
     (λ x. sym (is_eq-slice_cmp bytes (string_bytes x))) f.entries
+
+-- What a map has at the characters of a text is what `get` finds by that text,
+pub value_at_text : {Y Z S : Type 0} (f : HashMap (String Y) (String Z) S) (key : List ℕ) → IsUtf8 key → value_at f.entries (chars key) ≡ option_map characters (hashed.get_by_text f key)
+value_at_text f key is = ap (option_map characters) (by-text key is f.entries)
 
 -- and so it is of a sorted map.
 pub at_chars-sorted : {Y X : Type 0} (f : BTreeMap (String Y) X) (key : List ℕ) → IsUtf8 key → at_chars f.entries (chars key) ≡ sorted.get_by_text f key

@@ -31,10 +31,7 @@ pub fn add_place(
 pub fn last_place(places: &BTreeMap<String, Vec<usize>>, key: &str) -> Option<usize>
     ensures { IsLastOf (stack_at places.now.entries (chars key.now)) result }
 {
-    match places.get(key) {
-        Some(stack) => stack.last().copied(),
-        None => None,
-    }
+    places.get(key)?.last().copied()
 }
 
 /// Takes out the numbers of the key.

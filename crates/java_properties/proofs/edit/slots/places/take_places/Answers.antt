@@ -1,8 +1,6 @@
 use Rattle.std.proofs.Common.{◌≡◌, ◌∙◌, ap, sym, arith}
 use Rattle.std.specs.Prelude.{None}
-use Rattle.std.specs.Str.{chars}
 use Rattle.std.specs.BTreeMap.{get_by_text}
-use Rattle.java_properties.specs.BodySlots.{stack_at}
 use Rattle.java_properties.proofs.BodySlots.Stacks.{items_in, items-or, stack-found, stack-updated}
 use Rattle.java_properties.proofs.edit.slots.places.take_places.Goals as goal
 
