@@ -1,4 +1,4 @@
-use Rattle.std.proofs.Common.{◌≡◌, ◌∙◌, ap, sym, arith}
+use Rattle.std.proofs.Common.{◌≡◌, ◌∙◌, sym, arith}
 use Rattle.std.specs.Prelude.{None}
 use Rattle.std.specs.BTreeMap.{get_by_text}
 use Rattle.java_properties.proofs.BodySlots.Stacks.{items_in, items-or, stack-found, stack-updated}
