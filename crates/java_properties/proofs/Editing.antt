@@ -30,12 +30,14 @@ use Rattle.properties_format.specs.Body.{ending_bytes, groups_bytes, last_ending
 use Rattle.properties_format.specs.Edited.{bom_of, pair_bytes, parting, added_ending, is_editable, EditResult, edited, unsupported, unreadable, IsSetKeyResult, IsRemoveKeyResult}
 use Rattle.properties_format.specs.Reading.Items.{items_of}
 use Rattle.properties_format.specs.Reading.Body.{held_groups_of, entries_in}
+use Rattle.properties_format.specs.Reading.Slots.{unended_bytes}
 use Rattle.properties_format.specs.Reading.Edited.{AreSound, without, key_removed, key_removed_in, result_by, result_of, key_set, key_set_in, set_at, set_key_result, remove_key_result, KeyPlace, last_place}
 use Rattle.properties_format.proofs.Body.Groups.{groups_bytes-append, held_groups_of-meets, held-body}
 use Rattle.properties_format.proofs.Body.Numbers.{items_of-groups}
 use Rattle.properties_format.proofs.Edited.ByteOrderMarks.{source-whole}
 use Rattle.properties_format.proofs.Edited.Results.{set_key_result-meets, set_key_result-only, remove_key_result-meets, remove_key_result-only}
 use Rattle.properties_format.proofs.Edited.Steps.{result-after}
+use Rattle.properties_format.proofs.Slots.Lines.{bytes-unended}
 use Rattle.properties_format.proofs.Changed.Read.{set_key-reads, remove_key-reads, edit_all-reads}
 use Rattle.properties_format.proofs.EditLaws.{lists-follow, one_edit-call}
 use Rattle.properties_format.specs.Edited.{Edit, put, remove, AreScalarEdits, IsEditAllResult}
@@ -51,11 +53,10 @@ use Rattle.java_properties.specs.declared.edit.Edit.TheVariants as variant
 use Rattle.java_properties.specs.Editing.{edit_in, edits_in, AreMade, MakesEdit}
 use Rattle.properties_format.proofs.Changed.Stand.{key_set-keeps, key_removed-keeps}
 use Rattle.properties_text.specs.Encoding.{encoding_of}
-use Rattle.java_properties.specs.BodyGroups.{core_bytes}
 use Rattle.java_properties.specs.BodyKeys.{IsFaultOf, IsPlaceOf, IsPlace, IsKeyFound, AreOthersFound, left_bytes, parted}
 use Rattle.java_properties.specs.Editing.{IsRefusal, IsSet, IsRemoved}
 use Rattle.java_properties.specs.Sources.{IsInForce}
-use Rattle.java_properties.proofs.BodyGroups.{core-ending, no-bytes}
+use Rattle.java_properties.proofs.BodyGroups.{no-bytes}
 use Rattle.java_properties.proofs.BodyKeys.{front-of}
 use Rattle.java_properties.specs.declared.edit.place.BodySpan.{BodySpan}
 use Rattle.java_properties.specs.declared.edit.place.KeyPlace as place
@@ -193,16 +194,16 @@ pub place-split : (e : Encoding) (body key : List ℕ) (pair : BodySpan) → is_
 place-split e body key pair ok k =
     let gs = held_groups_of e body in
     let p = k.place in
-    let core = core_bytes p.group in
+    let bytes = unended_bytes p.group in
     let ending = ending_bytes (last_ending p.group) in
     let rest = ending ++ groups_bytes p.after in
-    let whole : body ≡ groups_bytes p.before ++ (core ++ rest) =
+    let whole : body ≡ groups_bytes p.before ++ (bytes ++ rest) =
     sym (held-body e body gs ok (held_groups_of-meets e body))
     ∙ ap groups_bytes k.division
     ∙ groups_bytes-append p.before (p.group ∷ p.after)
-    ∙ ap (λ v. groups_bytes p.before ++ (v ++ groups_bytes p.after)) (core-ending p.group)
-    ∙ ap (λ v. groups_bytes p.before ++ v) (append_assoc core ending (groups_bytes p.after)) in
-    let parts = split-at (groups_bytes p.before) core rest pair.start pair.end k.starts k.ends in
+    ∙ ap (λ v. groups_bytes p.before ++ (v ++ groups_bytes p.after)) (bytes-unended p.group)
+    ∙ ap (λ v. groups_bytes p.before ++ v) (append_assoc bytes ending (groups_bytes p.after)) in
+    let parts = split-at (groups_bytes p.before) bytes rest pair.start pair.end k.starts k.ends in
     record {
       front = ap (take pair.start) whole ∙ parts.0;
       back = ap (drop pair.end) whole ∙ parts.1;

@@ -1,9 +1,16 @@
 // A body is read into slots.
 
-ghost use Rattle.std.specs.Prelude.{◌≡◌, OnOk};
+ghost use Rattle.std.specs.Prelude.{◌≡◌, ◌≤◌, length, IfOk, OnOk};
+ghost use Rattle.std.specs.BTreeMap.{IsOrdered};
+ghost use Rattle.std.specs.Option.{option_map};
+ghost use Rattle.std.specs.String.{string_cmp};
+ghost use Rattle.properties_format.specs.Reading.Slots.{safe_ending};
 ghost use Rattle.properties_text.specs.Encoding.{encoding_of};
 ghost use Rattle.java_properties.specs.LineSearch.{unit_size};
+ghost use Rattle.java_properties.specs.Maps.{characters};
+ghost use Rattle.java_properties.specs.Settings.{ending_of};
 ghost use Rattle.java_properties.specs.BodySlots.{ParsesSlots, Pushes};
+ghost use Rattle.java_properties.specs.BodySlots.Parsed.{AddsGroup, AddsKey, HoldsGuard};
 
 use crate::edit::groups::{Group, GroupReader};
 use crate::edit::keys::key_of;
@@ -33,7 +40,9 @@ impl Slots {
     }
 
     // No group as yet.
-    fn with_guard(alloc: Global) -> Result<Slots, AllocError> {
+    fn with_guard(alloc: Global) -> Result<Slots, AllocError>
+        ensures { IfOk result (λ slots. HoldsGuard slots) }
+    {
         let mut slots = Slots {
             slots: Vec::new(alloc),
             links: Vec::new(alloc),
@@ -58,7 +67,12 @@ impl Slots {
         body: &[u8],
         group: Group,
         key: Option<String>,
-    ) -> Result<(), AllocError> {
+    ) -> Result<(), AllocError>
+        requires ordered { IsOrdered string_cmp self.old.places }
+        requires starts { group.start ≤ group.end }
+        requires within { group.end ≤ length body.now }
+        ensures { OnOk result (AddsGroup body.now group (option_map characters key) self.old self.new) }
+    {
         let place = self.slots.len();
         self.push(Slot {
             kept: BodySpan {
@@ -69,15 +83,9 @@ impl Slots {
             ending: group.ending,
             is_left: true,
         })?;
-        if let Some(key) = key {
-            add_place(alloc, &mut self.places, key, place)?;
-        }
+        add_key(alloc, &mut self.places, key, place)?;
         self.closing = closing_after(group);
-        self.parting = if ends_in_cr(&body[group.start..group.end]) {
-            LineEnding::CR
-        } else {
-            LineEnding::LF
-        };
+        self.parting = parting_after(&body[group.start..group.end]);
         Ok(())
     }
 
@@ -88,5 +96,33 @@ impl Slots {
         self.slots.push(slot)?;
         self.links.push(self.slots.len())?;
         Ok(())
+    }
+}
+
+// The number comes last of those of the key, where there is one.
+fn add_key(
+    alloc: Global,
+    places: &mut BTreeMap<String, Vec<usize>>,
+    key: Option<String>,
+    place: usize,
+) -> Result<(), AllocError>
+    requires { IsOrdered string_cmp places.old }
+    ensures added { OnOk result (AddsKey (option_map characters key) place places.old.entries places.new.entries) }
+    ensures ordered { IsOrdered string_cmp places.new }
+{
+    match key {
+        Some(key) => add_place(alloc, places, key, place),
+        None => Ok(()),
+    }
+}
+
+// A line ending that makes no CR LF after these bytes.
+fn parting_after(bytes: &[u8]) -> LineEnding
+    ensures { ending_of result ≡ safe_ending bytes.now }
+{
+    if ends_in_cr(bytes) {
+        LineEnding::CR
+    } else {
+        LineEnding::LF
     }
 }
