@@ -1,9 +1,9 @@
 // The bytes of slots.
 
-ghost use Rattle.std.specs.Prelude.{◌≡◌, ◌≤◌, ◌++◌, take, drop, length, IfOk};
+ghost use Rattle.std.specs.Prelude.{◌≡◌, ◌≤◌, ◌++◌, take, drop, length, IfOk, OnOk};
 ghost use Rattle.properties_format.specs.Reading.Slots as format;
 ghost use Rattle.properties_format.specs.Reading.Slots.{slots_bytes};
-ghost use Rattle.java_properties.specs.BodySlots.{Holds, HoldsIn};
+ghost use Rattle.java_properties.specs.BodySlots.{Holds, HoldsIn, written};
 
 use crate::edit::lines::{ending_bytes, ending_size};
 use crate::edit::slots::{Slot, Slots};
@@ -23,16 +23,21 @@ impl Slots {
             → bytes.items ≡ take start source.now ++ slots_bytes m.list) }
     {
         let body = &source[start..];
-        let mut size = start;
-        for slot in &self.slots {
-            size = size.saturating_add(slot.size());
-        }
-        let mut bytes = Vec::with_capacity(alloc, size)?;
+        let mut bytes = Vec::with_capacity(alloc, start.saturating_add(self.size()))?;
         bytes.extend_from_slice(&source[..start])?;
         for slot in &self.slots {
             slot.append(&mut bytes, body)?;
         }
         Ok(bytes)
+    }
+
+    // How many bytes they take.
+    fn size(&self) -> usize {
+        let mut size: usize = 0;
+        for slot in &self.slots {
+            size = size.saturating_add(slot.size());
+        }
+        size
     }
 }
 
@@ -50,7 +55,11 @@ impl Slot {
     }
 
     // Appends its bytes, where it is left.
-    fn append(&self, bytes: &mut Vec<u8>, body: &[u8]) -> Result<(), AllocError> {
+    fn append(&self, bytes: &mut Vec<u8>, body: &[u8]) -> Result<(), AllocError>
+        requires ordered { self.now.kept.start ≤ self.now.kept.end }
+        requires within { self.now.kept.end ≤ length body.now }
+        ensures { OnOk result (bytes.new.items ≡ bytes.old.items ++ written body.now self.now) }
+    {
         if !self.is_left {
             return Ok(());
         }
