@@ -21,13 +21,12 @@ use Rattle.properties_text.specs.declared.encoding.encode.OutputEncoding.{Output
 use Rattle.properties_text.specs.declared.print.Repertoire.{Repertoire}
 use Rattle.properties_text.specs.declared.print.Place.TheVariants.{KeyOrValue}
 use Rattle.properties_format.specs.Encoding.{Encoding, windows_1252, utf_8, utf_16le, utf_16be, InForce, byte_order_mark, begins_with, begins_like_bom, utf_8_bom, utf_16be_bom, utf_16le_bom, output_encoding}
-use Rattle.properties_format.specs.Escapes.{Malformed}
 use Rattle.properties_format.specs.Laws.{SplittingCommutes}
 use Rattle.properties_format.proofs.Laws.{splitting-commutes}
 use Rattle.properties_format.specs.Lines.{end}
 use Rattle.properties_format.specs.Writing.{is_empty}
 use Rattle.properties_format.specs.Body.{ending_bytes, groups_bytes, last_ending}
-use Rattle.properties_format.specs.Edited.{bom_of, pair_bytes, parting, added_ending, is_editable, EditResult, edited, unsupported, unreadable, IsSetKeyResult, IsRemoveKeyResult}
+use Rattle.properties_format.specs.Edited.{bom_of, pair_bytes, parting, added_ending, is_editable, EditResult, edited, unsupported, IsSetKeyResult, IsRemoveKeyResult}
 use Rattle.properties_format.specs.Reading.Items.{items_of}
 use Rattle.properties_format.specs.Reading.Body.{held_groups_of, entries_in}
 use Rattle.properties_format.specs.Reading.Edited.{AreSound, without, key_removed, key_removed_in, result_by, result_of, key_set, key_set_in, set_at, set_key_result, remove_key_result, KeyPlace, last_place}
@@ -37,7 +36,7 @@ use Rattle.properties_format.proofs.Edited.ByteOrderMarks.{source-whole}
 use Rattle.properties_format.proofs.Edited.Results.{set_key_result-meets, set_key_result-only, remove_key_result-meets, remove_key_result-only}
 use Rattle.properties_format.proofs.Edited.Steps.{result-after}
 use Rattle.properties_format.proofs.Changed.Read.{set_key-reads, remove_key-reads, edit_all-reads}
-use Rattle.properties_format.specs.Edited.{Edit, put, remove, AreScalarEdits, IsEditAllResult}
+use Rattle.properties_format.specs.Edited.{Edit, AreScalarEdits, IsEditAllResult}
 use Rattle.properties_format.specs.Reading.Edited.{edit_all_result}
 use Rattle.properties_format.proofs.Edited.Results.{edit_all_result-meets, edit_all_result-only}
 use Rattle.java_properties.proofs.ReadBack.Scalars.{string-scalars}

@@ -10,7 +10,8 @@ use crate::edit::slots::{Slot, Slots};
 use std::alloc::{AllocError, Global};
 
 impl Slots {
-    /// The source with what is left of its body, which starts there. The memory is taken before the first byte is copied.
+    /// The source with what is left of its body, which starts there. The memory is taken before the first byte is
+    /// copied.
     pub fn to_bytes(
         &self,
         alloc: Global,
@@ -44,14 +45,13 @@ impl Slots {
 impl Slot {
     // How many bytes it takes.
     fn size(&self) -> usize {
-        if !self.is_left {
-            return 0;
+        if self.is_left {
+            let kept = self.kept.end.saturating_sub(self.kept.start);
+            let unended = kept.saturating_add(self.added.len());
+            unended.saturating_add(ending_size(self.ending))
+        } else {
+            0
         }
-        self.kept
-            .end
-            .saturating_sub(self.kept.start)
-            .saturating_add(self.added.len())
-            .saturating_add(ending_size(self.ending))
     }
 
     // Appends its bytes, where it is left.
