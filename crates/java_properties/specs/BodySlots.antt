@@ -9,6 +9,7 @@ use Rattle.std.specs.String.{string_cmp}
 use Rattle.std.specs.declared.string.String.{String}
 use Rattle.properties_format.specs.Text as text
 use Rattle.properties_format.specs.Encoding.{Encoding}
+use Rattle.properties_format.specs.Body.{ending_bytes}
 use Rattle.properties_format.specs.Reading.Body.{held_groups_of}
 use Rattle.properties_format.specs.Reading.Edited.{IsSound, AreSound}
 use Rattle.properties_format.specs.Reading.Items.{outcome_of}
@@ -155,3 +156,9 @@ ParsesSlots e body (Err error) = IsFaultOf (held_groups_of e body) error
 abbrev pub IsLastOf : List ℕ → Option ℕ → Type 0
 IsLastOf stack None = stack ≡ []
 IsLastOf stack (Some n) = (before : List ℕ) × (stack ≡ before ++ n ∷ [])
+
+-- ---- the bytes of a slot
+
+-- what a slot comes to in the bytes that are made: nothing, where it isn't left
+abbrev pub written : List ℕ → Slot → List ℕ
+written body slot = if slot.is_left then slot_bytes body slot ++ ending_bytes (ending_in slot.ending) else []

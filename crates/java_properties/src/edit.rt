@@ -1,6 +1,5 @@
 //! Keys of a file set and removed, while every other byte stays.
 
-ghost use Rattle.std.specs.Prelude.{[]};
 ghost use Rattle.std.specs.Str.{chars};
 ghost use Rattle.properties_format.specs.Laws.{SplittingCommutes};
 ghost use Rattle.properties_text.specs.Encoding.{encoding_of};
@@ -101,8 +100,12 @@ pub enum Edit {
 
 /// The source after these edits, in order: each is made to what the one before it gave.
 ///
-/// Without edits it is a copy of the source. Each edit takes time in the size of the source. UTF-16 is refused, and so is a source with a malformed escape anywhere: the
-/// error is the one that reading the source would return.
+/// Without edits it is a copy of the source. The source is read once, and the result is made once: the time is that of
+/// the sizes of the source and of the edits together. Beside that, each key is looked for among the others, in about as
+/// many steps as their number has binary digits.
+///
+/// UTF-16 is refused, and so is a source with a malformed escape anywhere: the error is the one that reading the source
+/// would return.
 ///
 /// ```text
 /// let edits = vec![in alloc; Edit::Put(port, value), Edit::Remove(host)]?;
@@ -119,7 +122,7 @@ pub fn edit_all(
 {
     let opened = Source::open(source, encoding)?;
     let body = &source[opened.start..];
-    let is_marked = opened.start > 0;
+    let is_marked = opened.start != 0;
     let mut slots = Slots::parse(alloc, opened.encoding, body)?;
     for edit in edits {
         slots.make(alloc, opened.encoding, body, is_marked, edit)?;

@@ -168,8 +168,8 @@ pub fn printed_pair(
     concatenated(alloc, line.as_slice(), b"", b"")
 }
 
-/// The bytes of three slices, one after the other. Their memory is taken before the first of them is copied.
-pub fn concatenated(
+// The bytes of three slices, one after the other. Their memory is taken before the first of them is copied.
+fn concatenated(
     alloc: Global,
     front: &[u8],
     middle: &[u8],
