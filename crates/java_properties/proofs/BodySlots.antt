@@ -1,3 +1,4 @@
+pub mod Put
 -- Slots in one array, and the cells that they are.
 use Rattle.std.proofs.Common.{◌≡◌, ◌<◌, ℕ, ◌+◌, suc, zero, List, [], ◌∷◌, ◌++◌, length, get_or, set, refl, ap, arith}
 use Rattle.properties_format.specs.Reading.Cells.{Cell}

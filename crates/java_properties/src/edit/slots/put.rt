@@ -116,7 +116,7 @@ impl Slots {
         requires { HoldsSome self.old }
         ensures { FindsFirst self.old result self.new }
     {
-        while self.first < self.slots.len() && !self.slots[self.first].is_left {
+        while !self.slots[self.first].is_left {
             self.first += 1;
         }
         self.first
