@@ -113,10 +113,9 @@ impl Slots {
 
     /// The first slot that is left.
     pub fn first_left(&mut self) -> usize
-        requires { HoldsSome self.old }
         ensures { FindsFirst self.old result self.new }
     {
-        while !self.slots[self.first].is_left {
+        while self.first < self.slots.len() && !self.slots[self.first].is_left {
             self.first += 1;
         }
         self.first
