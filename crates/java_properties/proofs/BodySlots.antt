@@ -1,3 +1,4 @@
+pub mod Put
 -- Slots in one array, and the cells that they are.
 pub mod Stacks
 pub mod Parsed

@@ -1,10 +1,11 @@
 // A key is put into slots.
 
-ghost use Rattle.std.specs.Prelude.{OnOk};
+ghost use Rattle.std.specs.Prelude.{◌<◌, length, None, OnOk, Some};
 ghost use Rattle.std.specs.Str.{chars};
 ghost use Rattle.properties_format.specs.Encoding.{output_encoding};
 ghost use Rattle.properties_text.specs.Encoding.{encoding_of};
-ghost use Rattle.java_properties.specs.BodySlots.{FindsFirst, HoldsSome, PushesEmpty, PutsKey};
+ghost use Rattle.java_properties.specs.BodySlots.{FindsFirst, HoldsSome, IsLastOf, PushesEmpty, PutsKey, closing_in, stack_at};
+ghost use Rattle.java_properties.specs.BodySlots.Put.{ClosesSlot, FindsNextFirst, Refills};
 
 use crate::edit::lines::ending_bytes;
 use crate::edit::place::{BodySpan, Closing};
@@ -41,9 +42,23 @@ impl Slots {
         place: usize,
         key: &str,
         value: &str,
-    ) -> Result<(), AllocError> {
+    ) -> Result<(), AllocError>
+        requires holds { HoldsSome self.old }
+        requires last { IsLastOf (stack_at self.old.places.entries (chars key.now)) (Some place) }
+        ensures { let e = output_encoding (encoding_of encoding) in
+            OnOk result (PutsKey e (chars key.now) (chars value.now) self.old self.new) }
+    {
         let is_first = self.first_left() == place;
         let pair = printed_pair(alloc, encoding, is_first, key, value)?;
+        self.refill(place, pair);
+        Ok(())
+    }
+
+    // The slot in this place is a printed pair.
+    fn refill(&mut self, place: usize, pair: Vec<u8>)
+        requires { place < length self.old.slots.items }
+        ensures { Refills self.old place pair.items self.new }
+    {
         let slot = &mut self.slots[place];
         slot.kept = BodySpan { start: 0, end: 0 };
         slot.added = pair;
@@ -51,7 +66,6 @@ impl Slots {
             self.closing = Closing::OneEnding;
             self.parting = LineEnding::LF;
         }
-        Ok(())
     }
 
     fn append(
@@ -60,25 +74,37 @@ impl Slots {
         encoding: Encoding,
         key: &str,
         value: &str,
-    ) -> Result<(), AllocError> {
-        self.close_last()?;
-        let place = self.slots.len();
-        let is_first = self.first_left() == place;
+    ) -> Result<(), AllocError>
+        requires holds { HoldsSome self.old }
+        requires none { IsLastOf (stack_at self.old.places.entries (chars key.now)) None }
+        ensures { let e = output_encoding (encoding_of encoding) in
+            OnOk result (PutsKey e (chars key.now) (chars value.now) self.old self.new) }
+    {
+        let is_first = self.is_next_first();
         let pair = printed_pair(alloc, encoding, is_first, key, value)?;
+        let last = self.slots.len() - 1;
+        let place_key = String::from_str(alloc, key)?;
+        self.slots[last].close(self.closing, self.parting)?;
+        add_place(alloc, &mut self.places, place_key, last + 1)?;
         self.push(Slot {
             kept: BodySpan { start: 0, end: 0 },
             added: pair,
             ending: Some(LineEnding::LF),
             is_left: true,
         })?;
-        add_place(
-            alloc,
-            &mut self.places,
-            String::from_str(alloc, key)?,
-            place,
-        )?;
-        self.push_empty(alloc)?;
-        Ok(())
+        self.push_empty(alloc)
+    }
+
+    // Whether a pair that comes after the last slot is the first that is left.
+    fn is_next_first(&mut self) -> bool
+        requires { HoldsSome self.old }
+        ensures { FindsNextFirst self.old result self.new }
+    {
+        let first = self.first_left();
+        match self.closing {
+            Closing::Nothing => first + 1 == self.slots.len(),
+            Closing::OneEnding | Closing::TwoEndings => false,
+        }
     }
 
     /// An empty slot comes last.
@@ -95,30 +121,30 @@ impl Slots {
         Ok(())
     }
 
-    // What becomes of the last slot where a pair comes after it.
-    fn close_last(&mut self) -> Result<(), AllocError> {
-        let last = self.slots.len() - 1;
-        let slot = &mut self.slots[last];
-        match self.closing {
-            Closing::Nothing => slot.is_left = false,
-            Closing::OneEnding => slot.ending = Some(self.parting),
-            Closing::TwoEndings => {
-                slot.added
-                    .extend_from_slice(ending_bytes(Some(self.parting)))?;
-                slot.ending = Some(self.parting);
-            }
-        }
-        Ok(())
-    }
-
     /// The first slot that is left.
     pub fn first_left(&mut self) -> usize
-        requires { HoldsSome self.old }
         ensures { FindsFirst self.old result self.new }
     {
         while self.first < self.slots.len() && !self.slots[self.first].is_left {
             self.first += 1;
         }
         self.first
+    }
+}
+
+impl Slot {
+    // What becomes of the last slot where a pair comes after it.
+    fn close(&mut self, closing: Closing, by: LineEnding) -> Result<(), AllocError>
+        ensures { OnOk result (ClosesSlot (closing_in closing by) self.old self.new) }
+    {
+        match closing {
+            Closing::Nothing => self.is_left = false,
+            Closing::OneEnding => self.ending = Some(by),
+            Closing::TwoEndings => {
+                self.added.extend_from_slice(ending_bytes(Some(by)))?;
+                self.ending = Some(by);
+            }
+        }
+        Ok(())
     }
 }
