@@ -1,4 +1,5 @@
 -- The slots of a source in one array, as an editor holds them.
+pub mod Removal
 use Rattle.std.specs.Prelude.{◌≡◌, ℕ, ◌+◌, ◌-◌, ◌≤◌, ◌<◌, Bool, true, false, if◌then◌else◌, List, [], ◌∷◌, ◌++◌, length, take, drop, get_or, Option, Some, None, Result, Ok, Err, bytes_eq}
 use Rattle.std.specs.Option.{option_map, option_map_or}
 use Rattle.std.specs.Map.{lookup}
@@ -86,6 +87,7 @@ pub record Holds (body : List ℕ) (s : Slots) (m : format.Slots) : Type 0 where
 pub record HoldsIn (body : List ℕ) (s : Slots) : Type 0 where
   pub slots : format.Slots
   pub holds : Holds body s slots
+  pub well_ended : IsWellEnded slots
 
 -- or of any body.
 pub record HoldsSome (s : Slots) : Type 0 where

@@ -113,7 +113,6 @@ impl Slots {
 
     /// The first slot that is left.
     pub fn first_left(&mut self) -> usize
-        requires { HoldsSome self.old }
         ensures { FindsFirst self.old result self.new }
     {
         while self.first < self.slots.len() && !self.slots[self.first].is_left {
