@@ -1,4 +1,5 @@
 -- Slots in one array, and the cells that they are.
+pub mod TwoParts
 pub mod Removal
 use Rattle.std.proofs.Common.{◌≡◌, ◌<◌, ℕ, ◌+◌, suc, zero, List, [], ◌∷◌, ◌++◌, length, get_or, set, refl, ap, arith}
 use Rattle.properties_format.specs.Reading.Cells.{Cell}

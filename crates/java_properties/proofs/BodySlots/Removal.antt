@@ -5,10 +5,12 @@ use Rattle.std.proofs.lemmas.Bool.{cases_Bool}
 use Rattle.std.proofs.lemmas.Bool.Decides.{eqb_tells}
 use Rattle.std.proofs.lemmas.List.{get_or-set_same, get_or-set_other, length-set}
 use Rattle.properties_format.specs.Text as text
+use Rattle.properties_format.specs.Reading.Slots as format
+use Rattle.properties_format.specs.Reading.Slots.{is_by_cr, is_lf_alone, are_one_ending}
 use Rattle.properties_format.specs.Reading.Cells.{Cell, dead, AreLinks, AreDeadBetween}
 use Rattle.properties_format.proofs.Slots.Links.{links-kill, links-shorten}
 use Rattle.java_properties.specs.BodySlots.{AreCells, IsCell, no_cell}
-use Rattle.java_properties.specs.BodySlots.Removal.{LooseCells, IsNextLeft, FindsNext, without_cell, Leaves}
+use Rattle.java_properties.specs.BodySlots.Removal.{Tells, LooseCells, IsNextLeft, FindsNext, without_cell, Leaves, IsLeftOut, other, at_end, apart, both, LeftCells, KeepsRest, LeavesOut}
 use Rattle.java_properties.specs.declared.edit.slots.Slot.{Slot}
 use Rattle.java_properties.specs.declared.edit.slots.Slots.{Slots}
 use Rattle.java_properties.proofs.BodySlots.{cells-length, cells-at, cells-set}
@@ -131,3 +133,143 @@ leaves-set old place slot slots is made = record {
       };
   same = refl;
 }
+
+rest-leave : (old : Slots) (place : ℕ) (new : Slots) → Leaves old place new → KeepsRest old new
+rest-leave old place new h = record {
+  places = ap (λ v. let x : Slots = v in x.places) h.same;
+  closing = ap (λ v. let x : Slots = v in x.closing) h.same;
+  parting = ap (λ v. let x : Slots = v in x.parting) h.same;
+}
+
+rest-next : (old : Slots) (place next : ℕ) (new : Slots) → FindsNext old place next new → KeepsRest old new
+rest-next old place next new h = record {
+  places = ap (λ v. let x : Slots = v in x.places) h.same;
+  closing = ap (λ v. let x : Slots = v in x.closing) h.same;
+  parting = ap (λ v. let x : Slots = v in x.parting) h.same;
+}
+
+rest-both : (a b c : Slots) → KeepsRest a b → KeepsRest b c → KeepsRest a c
+rest-both a b c h k = record { places = k.places ∙ h.places; closing = k.closing ∙ h.closing; parting = k.parting ∙ h.parting }
+
+slot-is : (body : List ℕ) (s : Slots) (cells : List Cell) (i : ℕ) (slot : Slot) → LooseCells body s cells → i < length cells
+    → slot ≡ get_or s.slots.items i slot
+    → IsCell body slot (get_or cells i no_cell)
+slot-is body s cells i slot h l is =
+    let len = loose-length body s cells h in
+    let read : get_or s.slots.items i slot ≡ slot = sym is in
+    subst (λ v. IsCell body v (get_or cells i no_cell)) read (cells-at body s.slots.items cells i slot no_cell h.cells_are (omega arith))
+
+-- A slot that was left out has the ending that it had.
+ending-told : (body : List ℕ) (s : Slots) (cells : List Cell) (place : ℕ) (slot : Slot) (told : Bool) → LooseCells body s (without_cell cells place)
+    → place < length cells
+    → slot ≡ get_or s.slots.items place slot
+    → Tells (λ t. is_by_cr t.ending) slot told
+    → is_by_cr (get_or cells place no_cell).slot.ending ≡ told
+ending-told body s cells place slot told w l is tells =
+    let size = length-set cells place (dead (get_or cells place no_cell)) in
+    ap (λ v. let t : format.Slot = v in is_by_cr t.ending) (sym (kill-slot cells place place no_cell l).0)
+    ∙ sym (tells body (get_or (without_cell cells place) place no_cell) (slot-is body s (without_cell cells place) place slot w (omega arith) is))
+
+-- A place is left out: alone where its slot ends in no CR,
+pub leaves-other : (old : Slots) (place : ℕ) (new : Slots) (slot : Slot) (told : Bool) → Leaves old place new
+    → slot ≡ get_or new.slots.items place slot → Tells (λ t. is_by_cr t.ending) slot told → told ≡ false
+    → LeavesOut old place new
+leaves-other old place new slot told h is tells n = record {
+  leaves = λ body cells w l.
+      let left = h.cells body cells w l in
+      record {
+        new = without_cell cells place;
+        loose = left;
+        left = other (ending-told body new cells place slot told left l is tells ∙ n) refl;
+      };
+  same = rest-leave old place new h;
+}
+
+-- and where none after it is left,
+pub leaves-end : (old : Slots) (place : ℕ) (s : Slots) (next : ℕ) (new : Slots) → Leaves old place s → FindsNext s place next new
+    → length new.slots.items ≤ next
+    → LeavesOut old place new
+leaves-end old place s next new h f e = record {
+  leaves = λ body cells w l.
+      let size = length-set cells place (dead (get_or cells place no_cell)) in
+      let found = f.finds body (without_cell cells place) (h.cells body cells w l) (omega arith) in
+      let len = loose-length body new (without_cell cells place) found.1 in
+      let within = found.0.within in
+      let end : next ≡ length (without_cell cells place) = omega arith in
+      record {
+        new = without_cell cells place;
+        loose = found.1;
+        left = at_end (subst (λ n. AreDeadBetween (without_cell cells place) place n no_cell) end found.0.between) refl;
+      };
+  same = rest-both old s new (rest-leave old place s h) (rest-next s place next new f);
+}
+
+-- whether the next slot is the LF of the same line ending
+one-told : (body : List ℕ) (s new : Slots) (cells : List Cell) (place next : ℕ) (slot lone : Slot) (told : Bool)
+    → LooseCells body s (without_cell cells place)
+    → LooseCells body new (without_cell cells place)
+    → place < length cells
+    → next < length (without_cell cells place)
+    → slot ≡ get_or s.slots.items place slot
+    → Tells (λ t. is_by_cr t.ending) slot true
+    → lone ≡ get_or new.slots.items next lone
+    → Tells is_lf_alone lone told
+    → are_one_ending (get_or cells place no_cell).slot (get_or (without_cell cells place) next no_cell).slot ≡ told
+one-told body s new cells place next slot lone told w x l m is ends lone_is tells =
+    let t = get_or (without_cell cells place) next no_cell in
+    ap (λ b. b && is_lf_alone t.slot) (ending-told body s cells place slot true w l is ends)
+    ∙ sym (tells body t (slot-is body new (without_cell cells place) next lone x m lone_is))
+
+-- and where the next has another line ending.
+pub leaves-apart : (old : Slots) (place : ℕ) (s : Slots) (next : ℕ) (new : Slots) (slot lone : Slot) (cr told : Bool) → Leaves old place s
+    → slot ≡ get_or s.slots.items place slot → Tells (λ t. is_by_cr t.ending) slot cr → cr ≡ true
+    → FindsNext s place next new
+    → next < length new.slots.items
+    → lone ≡ get_or new.slots.items next lone → Tells is_lf_alone lone told → told ≡ false
+    → LeavesOut old place new
+leaves-apart old place s next new slot lone cr told h is ends by_cr f e lone_is tells n = record {
+  leaves = λ body cells w l.
+      let size = length-set cells place (dead (get_or cells place no_cell)) in
+      let left = h.cells body cells w l in
+      let found = f.finds body (without_cell cells place) left (omega arith) in
+      let len = loose-length body new (without_cell cells place) found.1 in
+      let inside : next < length (without_cell cells place) = omega arith in
+      record {
+        new = without_cell cells place;
+        loose = found.1;
+        left = apart next found.0 inside
+        (one-told body s new cells place next slot lone told left found.1 l inside is (subst (Tells (λ t. is_by_cr t.ending) slot) by_cr ends) lone_is tells ∙ n) refl;
+      };
+  same = rest-both old s new (rest-leave old place s h) (rest-next s place next new f);
+}
+
+-- The next goes with it where it is the LF of the same line ending.
+pub leaves-both : (old : Slots) (place : ℕ) (s : Slots) (next : ℕ) (t new : Slots) (slot lone : Slot) (cr told : Bool) → Leaves old place s
+    → slot ≡ get_or s.slots.items place slot → Tells (λ t. is_by_cr t.ending) slot cr → cr ≡ true
+    → FindsNext s place next t
+    → next < length t.slots.items
+    → lone ≡ get_or t.slots.items next lone → Tells is_lf_alone lone told → told ≡ true
+    → Leaves t next new
+    → LeavesOut old place new
+leaves-both old place s next t new slot lone cr told h is ends by_cr f e lone_is tells y k = record {
+  leaves = λ body cells w l.
+      let size = length-set cells place (dead (get_or cells place no_cell)) in
+      let left = h.cells body cells w l in
+      let found = f.finds body (without_cell cells place) left (omega arith) in
+      let len = loose-length body t (without_cell cells place) found.1 in
+      let inside : next < length (without_cell cells place) = omega arith in
+      record {
+        new = without_cell (without_cell cells place) next;
+        loose = k.cells body (without_cell cells place) found.1 inside;
+        left = both next found.0 inside
+        (one-told body s t cells place next slot lone told left found.1 l inside is (subst (Tells (λ t. is_by_cr t.ending) slot) by_cr ends) lone_is tells ∙ y) refl;
+      };
+  same = rest-both old t new (rest-both old s t (rest-leave old place s h) (rest-next s place next t f)) (rest-leave t next new k);
+}
+
+-- There are as many slots as before where one is left out.
+pub left-length : (body : List ℕ) (old : Slots) (place : ℕ) (new : Slots) (cells : List Cell) → LooseCells body old cells → place < length cells
+    → Leaves old place new
+    → length new.slots.items ≡ length cells
+left-length body old place new cells w l h =
+    loose-length body new (without_cell cells place) (h.cells body cells w l) ∙ length-set cells place (dead (get_or cells place no_cell))

@@ -75,10 +75,16 @@ pub record LeftCells (body : List ℕ) (cells : List Cell) (place : ℕ) (s : Sl
   pub loose : LooseCells body s new
   pub left : IsLeftOut cells place new
 
+-- What isn't said by the cells stays.
+pub record KeepsRest (old new : Slots) : Type 0 where
+  pub places : new.places ≡ old.places
+  pub closing : new.closing ≡ old.closing
+  pub parting : new.parting ≡ old.parting
+
 -- A place is left out.
 pub record LeavesOut (old : Slots) (place : ℕ) (new : Slots) : Type 0 where
   pub leaves : (body : List ℕ) (cells : List Cell) → LooseCells body old cells → place < length cells → LeftCells body cells place new
-  pub same : new ≡ record old { slots = new.slots; links = new.links }
+  pub same : KeepsRest old new
 
 -- ---- all places are left out
 
