@@ -1,6 +1,8 @@
 -- Slots in one array, and the cells that they are.
 pub mod TwoParts
 pub mod Removal
+pub mod RemovalPairs
+pub mod RemovalEnd
 use Rattle.std.proofs.Common.{◌≡◌, ◌<◌, ℕ, ◌+◌, suc, zero, List, [], ◌∷◌, ◌++◌, length, get_or, set, refl, ap, arith}
 use Rattle.properties_format.specs.Reading.Cells.{Cell}
 use Rattle.java_properties.specs.BodySlots.{IsCell, AreCells}

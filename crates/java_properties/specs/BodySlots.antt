@@ -124,8 +124,9 @@ pub record IsFirstLeft (cells : List Cell) (n : ℕ) : Type 0 where
   pub none_before : (k : ℕ) → k < n → (get_or cells k no_cell).alive ≡ false
 
 -- It is found, and what the slots are stays.
-abbrev pub FindsFirst : Slots → ℕ → Slots → Type 0
-FindsFirst old n new = (body : List ℕ) (cells : List Cell) → HoldsCells body old cells → IsFirstLeft cells n × HoldsCells body new cells
+pub record FindsFirst (old : Slots) (n : ℕ) (new : Slots) : Type 0 where
+  pub finds : (body : List ℕ) (cells : List Cell) → HoldsCells body old cells → IsFirstLeft cells n × HoldsCells body new cells
+  pub same : new ≡ record old { first = new.first }
 
 -- ---- edits
 

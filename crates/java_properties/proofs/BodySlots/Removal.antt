@@ -148,10 +148,11 @@ rest-next old place next new h = record {
   parting = ap (λ v. let x : Slots = v in x.parting) h.same;
 }
 
-rest-both : (a b c : Slots) → KeepsRest a b → KeepsRest b c → KeepsRest a c
+pub rest-both : (a b c : Slots) → KeepsRest a b → KeepsRest b c → KeepsRest a c
 rest-both a b c h k = record { places = k.places ∙ h.places; closing = k.closing ∙ h.closing; parting = k.parting ∙ h.parting }
 
-slot-is : (body : List ℕ) (s : Slots) (cells : List Cell) (i : ℕ) (slot : Slot) → LooseCells body s cells → i < length cells
+-- A slot that is read is the cell in its place.
+pub slot-is : (body : List ℕ) (s : Slots) (cells : List Cell) (i : ℕ) (slot : Slot) → LooseCells body s cells → i < length cells
     → slot ≡ get_or s.slots.items i slot
     → IsCell body slot (get_or cells i no_cell)
 slot-is body s cells i slot h l is =

@@ -35,8 +35,9 @@ impl Slots {
         requires { HoldsSome self.old }
         ensures { LeavesPairs (chars key.now) self.old self.new }
     {
-        for place in take_places(alloc, &mut self.places, key) {
-            self.leave_out(place);
+        let places = take_places(alloc, &mut self.places, key);
+        for place in &places {
+            self.leave_out(*place);
         }
     }
 
