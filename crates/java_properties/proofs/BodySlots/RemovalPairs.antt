@@ -1,5 +1,5 @@
 -- A key removed from slots in one array: all its places are left out.
-use Rattle.std.proofs.Common.{◌≡◌, ◌<◌, ◌≤◌, ℕ, ◌+◌, suc, Bool, true, false, List, [], ◌∷◌, ◌++◌, length, get_or, drop, if◌then◌else◌, None, refl, ap, sym, ◌∙◌, inl, inr, arith, subst}
+use Rattle.std.proofs.Common.{◌≡◌, ◌<◌, ◌≤◌, ℕ, ◌+◌, false, List, [], ◌∷◌, length, get_or, drop, if◌then◌else◌, refl, ap, sym, ◌∙◌, inl, inr, subst}
 use Rattle.std.specs.Prelude.{bytes_eq}
 use Rattle.std.specs.BTreeMap.{IsOrdered}
 use Rattle.std.specs.String.{string_cmp}
@@ -11,7 +11,7 @@ use Rattle.properties_format.specs.Reading.Cells.{Cell, live, places}
 use Rattle.properties_format.proofs.Slots.RemoveCells.{first-placed}
 use Rattle.properties_format.proofs.Slots.Removing.{IsRemoving, removing-start, removing-other, removing-end, removing-apart, removing-both, removed-last_left, removed-last_gone}
 use Rattle.java_properties.specs.BodySlots.{HoldsCells, HoldsSome, no_cell, stack_at}
-use Rattle.java_properties.specs.BodySlots.Removal.{LooseCells, HasPlace, IsLeftOut, other, at_end, apart, both, KeepsRest, LeavesOut, ArePairsOut, LeavesPairs}
+use Rattle.java_properties.specs.BodySlots.Removal.{LooseCells, HasPlace, IsLeftOut, other, at_end, apart, both, KeepsRest, LeavesOut, LeavesPairs}
 use Rattle.java_properties.specs.declared.edit.slots.Slots.{Slots}
 use Rattle.java_properties.proofs.BodySlots.Removal.{rest-both}
 
@@ -23,17 +23,26 @@ pub record IsGoing (body key : List ℕ) (start : List Cell) (s : Slots) (todo :
 
 -- So it is before each place, whichever cells the slots were.
 pub record AreGoing (key : List ℕ) (old initial s : Slots) (todo : List ℕ) : Type 0 where
-  pub going : (body : List ℕ) (start : List Cell) → HoldsCells body old start → AreWellEnded (live start) → IsGoing body key start s todo
+  pub going : (body : List ℕ) (start : List Cell) → HoldsCells body old start → AreWellEnded (live start)
+      → IsGoing body key start s todo
   pub rest : KeepsRest initial s
 
 -- It begins with all places of the key.
-pub going-start : (key : List ℕ) (old initial : Slots) (todo : List ℕ) → initial ≡ record old { places = initial.places }
+pub going-start : (key : List ℕ) (old initial : Slots) (todo : List ℕ)
+    → initial ≡ record old { places = initial.places }
     → todo ≡ stack_at old.places.entries key
     → AreGoing key old initial initial todo
 going-start key old initial todo same is = record {
   going = λ body start h a.
       let loose : LooseCells body (record old { places = initial.places }) start =
-      record { cells_are = h.cells_are; linked = h.linked; links_are = h.links_are; first_in = h.first_in; first_is = h.first_is; guard = h.guard } in
+      record {
+        cells_are = h.cells_are;
+        linked = h.linked;
+        links_are = h.links_are;
+        first_in = h.first_in;
+        first_is = h.first_is;
+        guard = h.guard;
+      } in
       let back : record old { places = initial.places } ≡ initial = sym same in
       let all : places key start ≡ todo = sym (h.places_are key) ∙ sym is in
       record {
@@ -45,7 +54,8 @@ going-start key old initial todo same is = record {
 }
 
 -- a place has a slot
-pub going-place : (key : List ℕ) (old initial s : Slots) (place : ℕ) (todo : List ℕ) → HoldsSome old → AreGoing key old initial s (place ∷ todo)
+pub going-place : (key : List ℕ) (old initial s : Slots) (place : ℕ) (todo : List ℕ) → HoldsSome old
+    → AreGoing key old initial s (place ∷ todo)
     → HasPlace s place
 going-place key old initial s place todo r g =
     let start = r.holds.holds in
@@ -69,7 +79,8 @@ left-out-removing key start cells place todo new r (both next f l n e) =
     (removing-both key start cells place next todo no_cell r f.after l f.between (f.left l) n)
 
 -- One place is left out.
-pub going-on : (key : List ℕ) (old initial s : Slots) (place : ℕ) (todo : List ℕ) (new : Slots) → AreGoing key old initial s (place ∷ todo)
+pub going-on : (key : List ℕ) (old initial s : Slots) (place : ℕ) (todo : List ℕ) (new : Slots)
+    → AreGoing key old initial s (place ∷ todo)
     → LeavesOut s place new
     → AreGoing key old initial new todo
 going-on key old initial s place todo new g h = record {
@@ -77,17 +88,24 @@ going-on key old initial s place todo new g h = record {
       let now = g.going body start w a in
       let m = first-placed key now.cells place todo no_cell now.removing.places_left in
       let left = h.leaves body now.cells now.loose m.inside in
-      record { cells = left.new; loose = left.loose; removing = left-out-removing key start now.cells place todo left.new now.removing left.left };
+      record {
+        cells = left.new;
+        loose = left.loose;
+        removing = left-out-removing key start now.cells place todo
+            left.new now.removing left.left;
+      };
   rest = rest-both initial s new g.rest h.same;
 }
 
 -- the next of the places
-pub going-next : (key : List ℕ) (old initial s : Slots) (todo : List ℕ) (i : ℕ) → AreGoing key old initial s (drop i todo) → i < length todo
+pub going-next : (key : List ℕ) (old initial s : Slots) (todo : List ℕ) (i : ℕ)
+    → AreGoing key old initial s (drop i todo) → i < length todo
     → AreGoing key old initial s (get_or todo i 0 ∷ drop (i + 1) todo)
 going-next key old initial s todo i g h = subst (AreGoing key old initial s) (drop_more todo i 0 h) g
 
 -- At the end the pairs are left out.
-pub going-end : (key : List ℕ) (old initial s : Slots) (todo : List ℕ) (n : ℕ) → AreGoing key old initial s (drop n todo) → length todo ≤ n
+pub going-end : (key : List ℕ) (old initial s : Slots) (todo : List ℕ) (n : ℕ)
+    → AreGoing key old initial s (drop n todo) → length todo ≤ n
     → ((k : List ℕ) → stack_at initial.places.entries k ≡ (if bytes_eq k key then [] else stack_at old.places.entries k))
     → IsOrdered string_cmp initial.places
     → initial.closing ≡ old.closing
@@ -104,8 +122,10 @@ going-end key old initial s todo n g end others ordered closing parting = record
         size = size;
         places_are = λ k. ap (λ v. stack_at v.entries k) g.rest.places ∙ others k ∙ place k start now.cells h r;
         ordered = subst (λ v. IsOrdered string_cmp v) (sym g.rest.places) ordered;
-        left = λ i n l. let m = removed-last_left key start now.cells i no_cell a h.ends (n ∙ size) r l in record { has = m.0; list = m.1 };
-        gone = λ i n l. let m = removed-last_gone key start now.cells i no_cell a h.ends (n ∙ size) r l in record { has = m.0; list = m.1 };
+        left = λ i n l. let m = removed-last_left key start now.cells i no_cell a h.ends (n ∙ size) r l in record
+            { has = m.0; list = m.1 };
+        gone = λ i n l. let m = removed-last_gone key start now.cells i no_cell a h.ends (n ∙ size) r l in record
+            { has = m.0; list = m.1 };
       };
   closing = g.rest.closing ∙ closing;
   parting = g.rest.parting ∙ parting;
@@ -113,11 +133,13 @@ going-end key old initial s todo n g end others ordered closing parting = record
   where
     apart-too : (k : List ℕ) → bytes_eq k key ≡ false → bytes_eq key k ≡ false
     apart-too k e = elim (cases_Bool (bytes_eq key k)) [
-      | inl f ↦ let same : key ≡ k = (bytes_eq-Decides key k).0 f in let self = (bytes_eq-Decides k key).1 (sym same) in absurd (cc)
+      | inl f ↦ let same : key ≡ k = (bytes_eq-Decides key k).0 f in let self = (bytes_eq-Decides k key).1
+          (sym same) in absurd (cc)
       | inr f ↦ f
     ]
 
-    place : {body : List ℕ} (k : List ℕ) (start cells : List Cell) → HoldsCells body old start → IsRemoving key start cells [] no_cell
+    place : {body : List ℕ} (k : List ℕ) (start cells : List Cell) → HoldsCells body old start
+        → IsRemoving key start cells [] no_cell
         → (if bytes_eq k key then [] else stack_at old.places.entries k) ≡ places k cells
     place k start cells h r = elim (cases_Bool (bytes_eq k key)) [
       | inl e ↦

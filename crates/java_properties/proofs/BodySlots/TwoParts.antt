@@ -12,8 +12,9 @@ begins-starts bytes [] = refl
 begins-starts [] (m ∷ ms) = refl
 begins-starts (b ∷ bytes) (m ∷ ms) = ap (λ v. m == b && v) (begins-starts bytes ms)
 
--- Two parts begin with bytes where the first begins with some of them, as many as it has, and the second with the others.
-pub begins-parts : (front back mark : List ℕ) (n : ℕ) → n ≤ length front → n ≤ length mark → (n < length front → length mark ≤ n)
+-- Two parts begin with bytes where the first begins with as many of them as it has, and the second with the others.
+pub begins-parts : (front back mark : List ℕ) (n : ℕ) → n ≤ length front → n ≤ length mark
+    → (n < length front → length mark ≤ n)
     → begins_with mark (front ++ back) ≡ (begins_with (take n mark) front && begins_with (drop n mark) back)
 begins-parts [] back mark zero a b h = refl
 begins-parts (f ∷ front) back [] zero a b h = refl
@@ -21,7 +22,8 @@ begins-parts (f ∷ front) back (m ∷ mark) zero a b h = let k = h (omega arith
 begins-parts [] back mark (suc n) a b h = absurd (omega arith)
 begins-parts (f ∷ front) back [] (suc n) a b h = absurd (omega arith)
 begins-parts (f ∷ front) back (m ∷ mark) (suc n) a b h =
-    let rest = begins-parts front back mark n (omega arith) (omega arith) (λ l. let k = h (omega arith) in omega arith) in
+    let rest =
+    begins-parts front back mark n (omega arith) (omega arith) (λ l. let k = h (omega arith) in omega arith) in
     elim (cases_Bool (m == f)) [
       | inl k ↦ rw k rest
       | inr k ↦ rw k refl

@@ -1,5 +1,5 @@
 -- A key removed from slots in one array: what each step on the way does.
-use Rattle.std.specs.Prelude.{◌≡◌, ℕ, ◌+◌, ◌≤◌, ◌<◌, ◌&&◌, Bool, true, false, if◌then◌else◌, List, [], ◌∷◌, ◌++◌, length, get_or, set, not, None, Some}
+use Rattle.std.specs.Prelude.{◌≡◌, ℕ, ◌+◌, ◌≤◌, ◌<◌, Bool, true, false, if◌then◌else◌, List, [], ◌∷◌, ◌++◌, length, get_or, set, None, Some}
 use Rattle.std.specs.BTreeMap.{IsOrdered}
 use Rattle.std.specs.String.{string_cmp}
 use Rattle.properties_format.specs.Text as text
@@ -40,7 +40,8 @@ without_cell cells place = set cells place (dead (get_or cells place no_cell))
 
 -- A slot is left out.
 pub record Leaves (old : Slots) (place : ℕ) (new : Slots) : Type 0 where
-  pub cells : (body : List ℕ) (cells : List Cell) → LooseCells body old cells → place < length cells → LooseCells body new (without_cell cells place)
+  pub cells : (body : List ℕ) (cells : List Cell) → LooseCells body old cells → place < length cells
+      → LooseCells body new (without_cell cells place)
   pub same : new ≡ record old { slots = new.slots }
 
 -- The next cell after a place that is left has this number; or it is the number of cells.
@@ -52,14 +53,17 @@ pub record IsNextLeft (cells : List Cell) (place next : ℕ) : Type 0 where
 
 -- It is found, and what the slots are stays.
 pub record FindsNext (old : Slots) (place next : ℕ) (new : Slots) : Type 0 where
-  pub finds : (body : List ℕ) (cells : List Cell) → LooseCells body old cells → place < length cells → IsNextLeft cells place next × LooseCells body new cells
+  pub finds : (body : List ℕ) (cells : List Cell) → LooseCells body old cells → place < length cells
+      → IsNextLeft cells place next × LooseCells body new cells
   pub same : new ≡ record old { links = new.links }
 
--- What is left of the cells: without one that ends in no CR; without one after which none is left; without one after which
--- the next has another line ending; and without one and the LF of its line ending.
+-- What is left of the cells: without one that ends in no CR; without one after which none is left; without one after
+-- which the next has another line ending; and without one and the LF of its line ending.
 pub data IsLeftOut (cells : List Cell) (place : ℕ) (new : List Cell) : Type 0 where
-  other : is_by_cr (get_or cells place no_cell).slot.ending ≡ false → new ≡ without_cell cells place → IsLeftOut cells place new
-  at_end : AreDeadBetween (without_cell cells place) place (length (without_cell cells place)) no_cell → new ≡ without_cell cells place → IsLeftOut cells place new
+  other : is_by_cr (get_or cells place no_cell).slot.ending ≡ false → new ≡ without_cell cells place
+      → IsLeftOut cells place new
+  at_end : AreDeadBetween (without_cell cells place) place (length (without_cell cells place)) no_cell
+      → new ≡ without_cell cells place → IsLeftOut cells place new
   apart : (next : ℕ) → IsNextLeft (without_cell cells place) place next → next < length (without_cell cells place)
       → are_one_ending (get_or cells place no_cell).slot (get_or (without_cell cells place) next no_cell).slot ≡ false
       → new ≡ without_cell cells place
@@ -83,7 +87,8 @@ pub record KeepsRest (old new : Slots) : Type 0 where
 
 -- A place is left out.
 pub record LeavesOut (old : Slots) (place : ℕ) (new : Slots) : Type 0 where
-  pub leaves : (body : List ℕ) (cells : List Cell) → LooseCells body old cells → place < length cells → LeftCells body cells place new
+  pub leaves : (body : List ℕ) (cells : List Cell) → LooseCells body old cells → place < length cells
+      → LeftCells body cells place new
   pub same : KeepsRest old new
 
 -- ---- all places are left out
@@ -106,7 +111,8 @@ pub record ArePairsOut (body key : List ℕ) (start : List Cell) (s : Slots) : T
 
 -- The pairs with a key are left out.
 pub record LeavesPairs (key : List ℕ) (old new : Slots) : Type 0 where
-  pub leaves : (body : List ℕ) (start : List Cell) → HoldsCells body old start → AreWellEnded (live start) → ArePairsOut body key start new
+  pub leaves : (body : List ℕ) (start : List Cell) → HoldsCells body old start → AreWellEnded (live start)
+      → ArePairsOut body key start new
   pub closing : new.closing ≡ old.closing
   pub parting : new.parting ≡ old.parting
 
@@ -130,12 +136,13 @@ pub record HoldsSomeCells (body : List ℕ) (s : Slots) : Type 0 where
   pub cells : List Cell
   pub holds : HoldsCells body s cells
 
--- an LF stands in front where it has to
+-- the slots with an LF in front where it has to stand
 pub record IsGuarded (body : List ℕ) (marked : Bool) (old : List Cell) (s : Slots) : Type 0 where
   pub cells : List Cell
   pub holds : HoldsCells body s cells
   pub list : slots_guarded marked (live old) ≡ live cells
 
+-- An LF comes in front where it has to.
 pub record Guards (body : List ℕ) (marked : Bool) (old new : Slots) : Type 0 where
   pub guards : (cells : List Cell) → HoldsCells body old cells → IsGuarded body marked cells new
   pub closing : new.closing ≡ old.closing

@@ -7,4 +7,5 @@ pub returns : goal.returns
 returns c =
     let old = c.args.self.now in
     let slot = c.index_mut.result.now in
-    leaves-set old c.args.place slot (with_item old.slots c.args.place (record slot { is_left = false })) c.index_mut.ensures.value refl
+    leaves-set old c.args.place slot (with_item old.slots c.args.place (record slot { is_left = false }))
+    c.index_mut.ensures.value refl

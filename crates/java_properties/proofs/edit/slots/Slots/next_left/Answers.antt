@@ -45,7 +45,8 @@ loop-next-preserved c =
     let size = loose-length r.body s r.cells w in
     let next = c.loop-next.next in
     let to = c.index-next-in-loop-next.result.now in
-    goes-on c.args.self.now c.args.place next to s c.index.result.now (with_item s.links c.args.place to) c.loop-next.invariant c.index.ensures
+    goes-on c.args.self.now c.args.place next to s c.index.result.now (with_item s.links c.args.place to)
+    c.loop-next.invariant c.index.ensures
     c.if-not-index.true (omega arith) (omega arith)
     (get_or_read s.links.items next to (omega arith) c.index-next-in-loop-next.ensures 0) refl
 
@@ -57,4 +58,5 @@ returns-else-not-index c =
 pub returns-after-loop-next : goal.returns-after-loop-next
 returns-after-loop-next c =
     let end = c.loop-next-test.false in
-    goes-found c.args.self.now c.args.place c.loop-next.next c.loop-next.self c.loop-next.invariant (λ h. absurd (omega arith))
+    goes-found c.args.self.now c.args.place c.loop-next.next c.loop-next.self c.loop-next.invariant
+    (λ h. absurd (omega arith))
