@@ -83,7 +83,7 @@ pub record Holds (body : List ℕ) (s : Slots) (m : format.Slots) : Type 0 where
   pub list : m.list ≡ live cells
   pub closing : m.closing ≡ closing_in s.closing s.parting
 
--- It is so of some slots of this body,
+-- It is so of some slots of this body, which are well ended,
 pub record HoldsIn (body : List ℕ) (s : Slots) : Type 0 where
   pub slots : format.Slots
   pub holds : Holds body s slots
