@@ -3,6 +3,10 @@ pub mod Put
 pub mod Stacks
 pub mod Parsed
 pub mod Bytes
+pub mod TwoParts
+pub mod Removal
+pub mod RemovalPairs
+pub mod RemovalEnd
 use Rattle.std.proofs.Common.{◌≡◌, ◌<◌, ℕ, ◌+◌, suc, zero, List, [], ◌∷◌, ◌++◌, length, get_or, set, refl, ap, arith}
 use Rattle.properties_format.specs.Reading.Cells.{Cell}
 use Rattle.java_properties.specs.BodySlots.{IsCell, AreCells}

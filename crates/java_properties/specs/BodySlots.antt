@@ -1,6 +1,7 @@
 -- The slots of a source in one array, as an editor holds them.
 pub mod Parsed
 pub mod Put
+pub mod Removal
 use Rattle.std.specs.Prelude.{◌≡◌, ℕ, ◌+◌, ◌-◌, ◌≤◌, ◌<◌, Bool, true, false, if◌then◌else◌, List, [], ◌∷◌, ◌++◌, length, take, drop, get_or, Option, Some, None, Result, Ok, Err, bytes_eq}
 use Rattle.std.specs.Option.{option_map, option_map_or}
 use Rattle.std.specs.Map.{lookup}
@@ -85,10 +86,11 @@ pub record Holds (body : List ℕ) (s : Slots) (m : format.Slots) : Type 0 where
   pub list : m.list ≡ live cells
   pub closing : m.closing ≡ closing_in s.closing s.parting
 
--- It is so of some slots of this body,
+-- It is so of some slots of this body, which are well ended,
 pub record HoldsIn (body : List ℕ) (s : Slots) : Type 0 where
   pub slots : format.Slots
   pub holds : Holds body s slots
+  pub well_ended : IsWellEnded slots
 
 -- or of any body.
 pub record HoldsSome (s : Slots) : Type 0 where

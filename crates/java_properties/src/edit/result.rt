@@ -116,8 +116,7 @@ fn part(body: &[u8], span: BodySpan) -> &[u8]
     &body[span.start..span.end]
 }
 
-/// Whether these bytes begin like a byte order mark.
-pub fn begins_like_bom(bytes: &[u8]) -> bool
+fn begins_like_bom(bytes: &[u8]) -> bool
     ensures { result ≡ begins_like_bom bytes.now }
 {
     match byte_order_mark(bytes) {
