@@ -177,9 +177,9 @@ loose-set body old new cells i slot n h l p a is s links first =
       links_are = subst (λ v. AreLinks (set cells i n) v.items no_cell) (sym links) (links-alive cells old.links.items i n no_cell h.links_are l a);
       first_in = omega arith;
       first_is = λ k m.
-        alive-same (get_or (set cells i n) k no_cell) (get_or cells k no_cell)
-        (get_or-set_other cells i k n no_cell (λ t. let b = h.first_is k (omega arith) in apart k t b))
-        ∙ h.first_is k (omega arith);
+          alive-same (get_or (set cells i n) k no_cell) (get_or cells k no_cell)
+          (get_or-set_other cells i k n no_cell (λ t. let b = h.first_is k (omega arith) in apart k t b))
+          ∙ h.first_is k (omega arith);
       guard = slot-same (get_or (set cells i n) 0 no_cell) (get_or cells 0 no_cell) (get_or-set_other cells i 0 n no_cell (λ t. omega arith)) ∙ h.guard;
     }
   where
@@ -204,11 +204,11 @@ loose-push body old new cells slot c h p is s links first =
       cells_are = subst (λ v. AreCells body v (cells ++ c ∷ [])) (sym s) (cells-push body old.slots.items cells slot c h.cells_are is);
       linked = omega arith;
       links_are = subst (λ v. AreLinks (cells ++ c ∷ []) v no_cell) (sym (links ∙ ap (λ v. old.links.items ++ (v + 1) ∷ []) number))
-        (links-push cells old.links.items c no_cell h.links_are h.linked);
+          (links-push cells old.links.items c no_cell h.links_are h.linked);
       first_in = omega arith;
       first_is = λ k m.
-        alive-same (get_or (cells ++ c ∷ []) k no_cell) (get_or cells k no_cell) (get_or_append_left cells (c ∷ []) no_cell k (omega arith))
-        ∙ h.first_is k (omega arith);
+          alive-same (get_or (cells ++ c ∷ []) k no_cell) (get_or cells k no_cell) (get_or_append_left cells (c ∷ []) no_cell k (omega arith))
+          ∙ h.first_is k (omega arith);
       guard = slot-same (get_or (cells ++ c ∷ []) 0 no_cell) (get_or cells 0 no_cell) (get_or_append_left cells (c ∷ []) no_cell 0 p) ∙ h.guard;
     }
 
@@ -306,13 +306,13 @@ puts-replaced e key value start old new place n bytes l f b r body m w h =
     record {
       cells = set cells place pair;
       holds = holds-refilled body old new cells place r.slot pair found.1 at.inside (place-after key cells place found.1.guard at.has) at.alive refl
-      (λ k. pair-same e first key value k c.slot c.slot.ending at.has ∙ sym (ap (λ v. v && slot_has k c.slot) at.alive)) is r.slots r.same;
+          (λ k. pair-same e first key value k c.slot c.slot.ending at.has ∙ sym (ap (λ v. v && slot_has k c.slot) at.alive)) is r.slots r.same;
       list = ap (λ v. let s : format.Slots = v in s.list) whole;
       closing = ap (λ v. let s : format.Slots = v in s.closing) whole
-      ∙ ap₂ (λ u v. if u then ended_by lf else v)
-      (last-tells cells place (length old.slots.items) found.1.ends at.inside size)
-      (sym (ap (λ v. let s : Slots = v in closing_in s.closing s.parting) f.same))
-      ∙ sym r.closing;
+          ∙ ap₂ (λ u v. if u then ended_by lf else v)
+          (last-tells cells place (length old.slots.items) found.1.ends at.inside size)
+          (sym (ap (λ v. let s : Slots = v in closing_in s.closing s.parting) f.same))
+          ∙ sym r.closing;
     }
 
 -- ---- the pair comes after all others
@@ -338,7 +338,17 @@ place-added key k old new others place size a s t =
     a ∙ pushed-if (bytes_eq k key) old place
     ∙ ap₂ (λ u v. u ++ v) s (ap₂ (λ b p. if b then p ∷ [] else []) (bytes-swap k key) t)
 
-pub puts-appended : (e : Encoding) (key value : List ℕ) (start found closed pushed new : Slots) (first : Bool) (last : ℕ) (before ended pair : Slot)
+-- There is a last slot, also after it was found whether a pair after it is the first.
+pub some-found : (body : List ℕ) (start found : Slots) (first : Bool) (cells : List Cell) → HoldsCells body start cells → FindsNextFirst start first found
+    → 0 < length found.slots.items
+some-found body start found first cells h f =
+    let m = (f.finds body cells h).1 in
+    let more = m.others in
+    let size = cells-length body found.slots.items cells m.cells_are in
+    omega arith
+
+-- So a key is put that no slot has.
+pub puts-appended : (e : Encoding) (key value own : List ℕ) (start found closed pushed new : Slots) (first : Bool) (last : ℕ) (before ended pair : Slot)
     → IsLastOf (stack_at start.places.entries key) None
     → FindsNextFirst start first found
     → last + 1 ≡ length found.slots.items
@@ -347,13 +357,15 @@ pub puts-appended : (e : Encoding) (key value : List ℕ) (start found closed pu
     → closed.slots.items ≡ set found.slots.items last ended
     → closed ≡ record found { slots = closed.slots; places = closed.places }
     → ((k : List ℕ) → stack_at closed.places.entries k
-    ≡ (if bytes_eq k key then stack_at found.places.entries k ++ (last + 1) ∷ [] else stack_at found.places.entries k))
+    ≡ (if bytes_eq k own then stack_at found.places.entries k ++ (last + 1) ∷ [] else stack_at found.places.entries k))
+    → own ≡ key
     → IsOrdered string_cmp closed.places
     → ((body : List ℕ) → IsCell body pair (record { slot = pair_slot e first key value (Some lf); alive = true }))
     → Pushes closed pair pushed
     → PushesEmpty pushed new
     → PutsKey e key value start new
-puts-appended e key value start found closed pushed new first last before ended pair none f number was closes set_is same added ordered is_pair p q body m w h =
+puts-appended e key value own start found closed pushed new first last before ended pair none f number was closes set_is same added own_is ordered is_pair p q
+    body m w h =
     let cells = h.cells in
     let found_is = f.finds body cells h.holds in
     let held = found_is.1 in
@@ -371,7 +383,7 @@ puts-appended e key value start found closed pushed new first last before ended 
     ap (λ v. let s : Slots = v in closing_in s.closing s.parting) f.same in
     let ended_is : IsCell body ended (closed_cell closing c) =
     subst (λ v. IsCell body ended (closed_cell v c)) closing_same (closes body c
-      (subst (λ v. IsCell body v c) (sym was) (cells-at body found.slots.items cells last before no_cell held.cells_are (omega arith)))) in
+    (subst (λ v. IsCell body v c) (sym was) (cells-at body found.slots.items cells last before no_cell held.cells_are (omega arith)))) in
     let loose_closed : LooseCells body closed kept =
     loose-set body found closed cells last ended (closed_cell closing c) held (omega arith) (omega arith) at.alive ended_is set_is
     (ap (λ v. let s : Slots = v in s.links) same) (ap (λ v. let s : Slots = v in s.first) same) in
@@ -391,13 +403,15 @@ puts-appended e key value start found closed pushed new first last before ended 
     record {
       cells = kept ++ one ∷ two ∷ [];
       holds = holds-loose body new (kept ++ one ∷ two ∷ []) (subst (LooseCells body new) (append_assoc kept (one ∷ []) (two ∷ [])) loose_new)
-      (ends-after kept (one ∷ two ∷ []) refl) (omega arith)
-      (λ k.
-      ap (λ v. stack_at v.entries k) places_same
-      ∙ place-added key k (stack_at found.places.entries k) (stack_at closed.places.entries k) (places k cells) (last + 1) (length cells) (added k) (held.places_are k) end
-      ∙ sym (places-end k cells closing last one.slot no_cell held.ends end no_key))
-      (subst (IsOrdered string_cmp) (sym places_same) ordered);
+          (ends-after kept (one ∷ two ∷ []) refl) (omega arith)
+          (λ k.
+          ap (λ v. stack_at v.entries k) places_same
+          ∙ place-added key k (stack_at found.places.entries k) (stack_at closed.places.entries k) (places k cells) (last + 1) (length cells)
+          (added k ∙ ap (λ v. if bytes_eq k v then stack_at found.places.entries k ++ (last + 1) ∷ [] else stack_at found.places.entries k) own_is)
+          (held.places_are k) end
+          ∙ sym (places-end k cells closing last one.slot no_cell held.ends end no_key))
+          (subst (IsOrdered string_cmp) (sym places_same) ordered);
       list = ap (λ v. let s : format.Slots = v in s.list) whole
-      ∙ ap (λ b. live (kept ++ record { slot = pair_slot e b key value (Some lf); alive = true } ∷ two ∷ [])) first_is;
+          ∙ ap (λ b. live (kept ++ record { slot = pair_slot e b key value (Some lf); alive = true } ∷ two ∷ [])) first_is;
       closing = ap (λ v. let s : format.Slots = v in s.closing) whole ∙ sym (ap (λ v. closing_in v new.parting) q.closing);
     }
