@@ -1,5 +1,5 @@
 -- A key is put into slots.
-use Rattle.std.proofs.Common.{◌≡◌, ◌≢◌, ◌<◌, ◌≤◌, ◌==◌, ℕ, ◌+◌, ◌-◌, ◌&&◌, Bool, true, false, List, [], ◌∷◌, ◌++◌, length, get_or, set, take, drop, Option, Some, None, if◌then◌else◌, refl, ap, ap₂, sym, ◌∙◌, subst, inl, inr, arith, below_more, append_assoc, append-nil}
+use Rattle.std.proofs.Common.{◌≡◌, ◌<◌, ◌≤◌, ◌==◌, ℕ, ◌+◌, ◌-◌, ◌&&◌, Bool, true, false, List, [], ◌∷◌, ◌++◌, length, get_or, set, take, drop, Some, None, if◌then◌else◌, refl, ap, ap₂, sym, ◌∙◌, subst, inl, inr, arith, below_more, append_assoc, append-nil}
 use Rattle.std.specs.Prelude.{bytes_eq}
 use Rattle.std.specs.BTreeMap.{IsOrdered}
 use Rattle.std.specs.String.{string_cmp}
@@ -16,9 +16,9 @@ use Rattle.properties_format.specs.Reading.Slots.{left_out, ended_by, closed_by,
 use Rattle.properties_format.specs.Reading.Cells.{Cell, live, places, cell_has, closed_cell, EndsAlive, AreLinks}
 use Rattle.properties_format.proofs.Slots.PutCell.{ends-after, ends-set, none-before, some-before, none-after, some-after, pair-same, placed, put-cell, places-set}
 use Rattle.properties_format.proofs.Slots.EndCells.{last-at, live-last, final-live, close-end, put-end, places-end}
-use Rattle.properties_format.proofs.Slots.Links.{links-set, links-alive, links-push}
-use Rattle.java_properties.specs.BodySlots.{IsCell, AreCells, no_cell, stack_at, closing_in, HoldsCells, Holds, IsFirstLeft, FindsFirst, IsLastOf, PutsKey, Pushes, PushesEmpty}
-use Rattle.java_properties.specs.BodySlots.Put.{LooseCells, cell_with, Refills, ClosesSlot, FindsNextFirst}
+use Rattle.properties_format.proofs.Slots.Links.{links-alive, links-push}
+use Rattle.java_properties.specs.BodySlots.{IsCell, AreCells, no_cell, stack_at, closing_in, HoldsCells, IsFirstLeft, FindsFirst, IsLastOf, PutsKey, Pushes, PushesEmpty}
+use Rattle.java_properties.specs.BodySlots.Put.{LooseCells, Refills, ClosesSlot, FindsNextFirst}
 use Rattle.java_properties.specs.declared.edit.slots.Slot.{Slot}
 use Rattle.java_properties.specs.declared.edit.slots.Slots.{Slots}
 use Rattle.java_properties.proofs.BodySlots.{cells-length, cells-at, cells-set, cells-push}

@@ -1,4 +1,4 @@
-use Rattle.std.proofs.Common.{◌+◌, ◌<◌, ◌∙◌, ap, sym, arith, length}
+use Rattle.std.proofs.Common.{◌+◌, ◌∙◌, ap, sym, arith}
 use Rattle.java_properties.specs.declared.edit.slots.Slot.{Slot}
 use Rattle.java_properties.specs.declared.edit.slots.Slots.{Slots}
 use Rattle.java_properties.proofs.BodySlots.Put.{first-inside, first-passed, first-found}

@@ -1,4 +1,4 @@
-use Rattle.std.proofs.Common.{◌≡◌, ◌≤◌, length, ap, sym, ◌∙◌, inl, inr, arith}
+use Rattle.std.proofs.Common.{◌≡◌, length, ap, sym, ◌∙◌, inl, inr, arith}
 use Rattle.properties_format.specs.Reading.Slots.{is_first, closed_slots}
 use Rattle.properties_format.specs.Reading.Cells.{live}
 use Rattle.java_properties.specs.Settings.{ending_of}
