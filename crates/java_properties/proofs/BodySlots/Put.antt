@@ -1,5 +1,5 @@
 -- A key is put into slots.
-use Rattle.std.proofs.Common.{◌≡◌, ◌≢◌, ◌<◌, ◌≤◌, ◌==◌, ℕ, ◌+◌, ◌-◌, ◌&&◌, Bool, true, false, List, [], ◌∷◌, ◌++◌, length, get_or, set, take, drop, Option, Some, None, if◌then◌else◌, refl, ap, ap₂, sym, ◌∙◌, subst, inl, inr, arith, below_more, append_assoc, append-nil}
+use Rattle.std.proofs.Common.{◌≡◌, ◌<◌, ◌≤◌, ◌==◌, ℕ, ◌+◌, ◌-◌, ◌&&◌, Bool, true, false, List, [], ◌∷◌, ◌++◌, length, get_or, set, take, drop, Some, None, if◌then◌else◌, refl, ap, ap₂, sym, ◌∙◌, subst, inl, inr, arith, below_more, append_assoc, append-nil}
 use Rattle.std.specs.Prelude.{bytes_eq}
 use Rattle.std.specs.BTreeMap.{IsOrdered}
 use Rattle.std.specs.String.{string_cmp}
@@ -16,9 +16,9 @@ use Rattle.properties_format.specs.Reading.Slots.{left_out, ended_by, closed_by,
 use Rattle.properties_format.specs.Reading.Cells.{Cell, live, places, cell_has, closed_cell, EndsAlive, AreLinks}
 use Rattle.properties_format.proofs.Slots.PutCell.{ends-after, ends-set, none-before, some-before, none-after, some-after, pair-same, placed, put-cell, places-set}
 use Rattle.properties_format.proofs.Slots.EndCells.{last-at, live-last, final-live, close-end, put-end, places-end}
-use Rattle.properties_format.proofs.Slots.Links.{links-set, links-alive, links-push}
-use Rattle.java_properties.specs.BodySlots.{IsCell, AreCells, no_cell, stack_at, closing_in, HoldsCells, Holds, IsFirstLeft, FindsFirst, IsLastOf, PutsKey, Pushes, PushesEmpty}
-use Rattle.java_properties.specs.BodySlots.Put.{LooseCells, cell_with, Refills, ClosesSlot, FindsNextFirst}
+use Rattle.properties_format.proofs.Slots.Links.{links-alive, links-push}
+use Rattle.java_properties.specs.BodySlots.{IsCell, AreCells, no_cell, stack_at, closing_in, HoldsCells, IsFirstLeft, FindsFirst, IsLastOf, PutsKey, Pushes, PushesEmpty}
+use Rattle.java_properties.specs.BodySlots.Put.{LooseCells, Refills, ClosesSlot, FindsNextFirst}
 use Rattle.java_properties.specs.declared.edit.slots.Slot.{Slot}
 use Rattle.java_properties.specs.declared.edit.slots.Slots.{Slots}
 use Rattle.java_properties.proofs.BodySlots.{cells-length, cells-at, cells-set, cells-push}
@@ -177,9 +177,9 @@ loose-set body old new cells i slot n h l p a is s links first =
       links_are = subst (λ v. AreLinks (set cells i n) v.items no_cell) (sym links) (links-alive cells old.links.items i n no_cell h.links_are l a);
       first_in = omega arith;
       first_is = λ k m.
-        alive-same (get_or (set cells i n) k no_cell) (get_or cells k no_cell)
-        (get_or-set_other cells i k n no_cell (λ t. let b = h.first_is k (omega arith) in apart k t b))
-        ∙ h.first_is k (omega arith);
+          alive-same (get_or (set cells i n) k no_cell) (get_or cells k no_cell)
+          (get_or-set_other cells i k n no_cell (λ t. let b = h.first_is k (omega arith) in apart k t b))
+          ∙ h.first_is k (omega arith);
       guard = slot-same (get_or (set cells i n) 0 no_cell) (get_or cells 0 no_cell) (get_or-set_other cells i 0 n no_cell (λ t. omega arith)) ∙ h.guard;
     }
   where
@@ -204,11 +204,11 @@ loose-push body old new cells slot c h p is s links first =
       cells_are = subst (λ v. AreCells body v (cells ++ c ∷ [])) (sym s) (cells-push body old.slots.items cells slot c h.cells_are is);
       linked = omega arith;
       links_are = subst (λ v. AreLinks (cells ++ c ∷ []) v no_cell) (sym (links ∙ ap (λ v. old.links.items ++ (v + 1) ∷ []) number))
-        (links-push cells old.links.items c no_cell h.links_are h.linked);
+          (links-push cells old.links.items c no_cell h.links_are h.linked);
       first_in = omega arith;
       first_is = λ k m.
-        alive-same (get_or (cells ++ c ∷ []) k no_cell) (get_or cells k no_cell) (get_or_append_left cells (c ∷ []) no_cell k (omega arith))
-        ∙ h.first_is k (omega arith);
+          alive-same (get_or (cells ++ c ∷ []) k no_cell) (get_or cells k no_cell) (get_or_append_left cells (c ∷ []) no_cell k (omega arith))
+          ∙ h.first_is k (omega arith);
       guard = slot-same (get_or (cells ++ c ∷ []) 0 no_cell) (get_or cells 0 no_cell) (get_or_append_left cells (c ∷ []) no_cell 0 p) ∙ h.guard;
     }
 
@@ -264,6 +264,18 @@ place-after key cells i g h = elim (cases_lt 0 i) [
       absurd (cc)
 ]
 
+-- The last place with a key is one of the slots, also after the first one was found.
+pub place-inside : (body key : List ℕ) (start old : Slots) (cells : List Cell) (place n : ℕ) → HoldsCells body start cells
+    → IsLastOf (stack_at start.places.entries key) (Some place)
+    → FindsFirst start n old
+    → place < length old.slots.items
+place-inside body key start old cells place n h l f =
+    let at = placed key cells l.0 place no_cell (sym (h.places_are key) ∙ l.1) in
+    let inside = at.inside in
+    let size = cells-length body old.slots.items cells (f.finds body cells h).1.cells_are in
+    omega arith
+
+-- So a key is put where a slot has it.
 pub puts-replaced : (e : Encoding) (key value : List ℕ) (start old new : Slots) (place n : ℕ) (bytes : List ℕ)
     → IsLastOf (stack_at start.places.entries key) (Some place)
     → FindsFirst start n old
@@ -276,7 +288,7 @@ puts-replaced e key value start old new place n bytes l f b r body m w h =
     let closing : format.Closing = closing_in start.closing start.parting in
     let stack : places key cells ≡ l.0 ++ place ∷ [] = sym (h.holds.places_are key) ∙ l.1 in
     let at = placed key cells l.0 place no_cell stack in
-    let c = get_or cells place no_cell in
+    let c : Cell = get_or cells place no_cell in
     let first = is_first (live (take place cells)) in
     let pair : Cell = record { slot = pair_slot e first key value c.slot.ending; alive = true } in
     let printed : bytes ≡ pair_bytes e first key value =
@@ -294,11 +306,112 @@ puts-replaced e key value start old new place n bytes l f b r body m w h =
     record {
       cells = set cells place pair;
       holds = holds-refilled body old new cells place r.slot pair found.1 at.inside (place-after key cells place found.1.guard at.has) at.alive refl
-      (λ k. pair-same e first key value k c.slot c.slot.ending at.has ∙ sym (ap (λ v. v && slot_has k c.slot) at.alive)) is r.slots r.same;
+          (λ k. pair-same e first key value k c.slot c.slot.ending at.has ∙ sym (ap (λ v. v && slot_has k c.slot) at.alive)) is r.slots r.same;
       list = ap (λ v. let s : format.Slots = v in s.list) whole;
       closing = ap (λ v. let s : format.Slots = v in s.closing) whole
-      ∙ ap₂ (λ u v. if u then ended_by lf else v)
-      (last-tells cells place (length old.slots.items) found.1.ends at.inside size)
-      (sym (ap (λ v. let s : Slots = v in closing_in s.closing s.parting) f.same))
-      ∙ sym r.closing;
+          ∙ ap₂ (λ u v. if u then ended_by lf else v)
+          (last-tells cells place (length old.slots.items) found.1.ends at.inside size)
+          (sym (ap (λ v. let s : Slots = v in closing_in s.closing s.parting) f.same))
+          ∙ sym r.closing;
+    }
+
+-- ---- the pair comes after all others
+
+bytes-swap : (x y : List ℕ) → bytes_eq x y ≡ bytes_eq y x
+bytes-swap x y = elim (cases_Bool (bytes_eq x y)) [
+  | inl k ↦ k ∙ sym ((bytes_eq-Decides y x).1 (sym ((bytes_eq-Decides x y).0 k)))
+  | inr k ↦ elim (cases_Bool (bytes_eq y x)) [
+    | inl j ↦ let t = (bytes_eq-Decides x y).1 (sym ((bytes_eq-Decides y x).0 j)) in absurd (cc)
+    | inr j ↦ k ∙ sym j
+  ]
+]
+
+pushed-if : (b : Bool) (xs : List ℕ) (p : ℕ) → (if b then xs ++ p ∷ [] else xs) ≡ xs ++ (if b then p ∷ [] else [])
+pushed-if true xs p = refl
+pushed-if false xs p = sym (append-nil xs)
+
+-- one more place of a key
+place-added : (key k : List ℕ) (old new others : List ℕ) (place size : ℕ) → new ≡ (if bytes_eq k key then old ++ place ∷ [] else old) → old ≡ others
+    → place ≡ size
+    → new ≡ others ++ (if bytes_eq key k then size ∷ [] else [])
+place-added key k old new others place size a s t =
+    a ∙ pushed-if (bytes_eq k key) old place
+    ∙ ap₂ (λ u v. u ++ v) s (ap₂ (λ b p. if b then p ∷ [] else []) (bytes-swap k key) t)
+
+-- There is a last slot, also after it was found whether a pair after it is the first.
+pub some-found : (body : List ℕ) (start found : Slots) (first : Bool) (cells : List Cell) → HoldsCells body start cells → FindsNextFirst start first found
+    → 0 < length found.slots.items
+some-found body start found first cells h f =
+    let m = (f.finds body cells h).1 in
+    let more = m.others in
+    let size = cells-length body found.slots.items cells m.cells_are in
+    omega arith
+
+-- So a key is put that no slot has.
+pub puts-appended : (e : Encoding) (key value own : List ℕ) (start found closed pushed new : Slots) (first : Bool) (last : ℕ) (before ended pair : Slot)
+    → IsLastOf (stack_at start.places.entries key) None
+    → FindsNextFirst start first found
+    → last + 1 ≡ length found.slots.items
+    → before ≡ get_or found.slots.items last before
+    → ClosesSlot (closing_in found.closing found.parting) before ended
+    → closed.slots.items ≡ set found.slots.items last ended
+    → closed ≡ record found { slots = closed.slots; places = closed.places }
+    → ((k : List ℕ) → stack_at closed.places.entries k
+    ≡ (if bytes_eq k own then stack_at found.places.entries k ++ (last + 1) ∷ [] else stack_at found.places.entries k))
+    → own ≡ key
+    → IsOrdered string_cmp closed.places
+    → ((body : List ℕ) → IsCell body pair (record { slot = pair_slot e first key value (Some lf); alive = true }))
+    → Pushes closed pair pushed
+    → PushesEmpty pushed new
+    → PutsKey e key value start new
+puts-appended e key value own start found closed pushed new first last before ended pair none f number was closes set_is same added own_is ordered is_pair p q
+    body m w h =
+    let cells = h.cells in
+    let found_is = f.finds body cells h.holds in
+    let held = found_is.1 in
+    let closing : format.Closing = closing_in start.closing start.parting in
+    let size = cells-length body found.slots.items cells held.cells_are in
+    let end : last + 1 ≡ length cells = omega arith in
+    let more = held.others in
+    let at = last-at cells last no_cell held.ends end in
+    let c : Cell = get_or cells last no_cell in
+    let kept : List Cell = set cells last (closed_cell closing c) in
+    let kept_size = length-set cells last (closed_cell closing c) in
+    let one : Cell = record { slot = pair_slot e first key value (Some lf); alive = true } in
+    let two : Cell = record { slot = empty_slot None; alive = true } in
+    let closing_same : closing_in found.closing found.parting ≡ closing =
+    ap (λ v. let s : Slots = v in closing_in s.closing s.parting) f.same in
+    let ended_is : IsCell body ended (closed_cell closing c) =
+    subst (λ v. IsCell body ended (closed_cell v c)) closing_same (closes body c
+    (subst (λ v. IsCell body v c) (sym was) (cells-at body found.slots.items cells last before no_cell held.cells_are (omega arith)))) in
+    let loose_closed : LooseCells body closed kept =
+    loose-set body found closed cells last ended (closed_cell closing c) held (omega arith) (omega arith) at.alive ended_is set_is
+    (ap (λ v. let s : Slots = v in s.links) same) (ap (λ v. let s : Slots = v in s.first) same) in
+    let loose_pushed : LooseCells body pushed (kept ++ one ∷ []) =
+    loose-push body closed pushed kept pair one loose_closed (omega arith) (is_pair body) p.slots p.links (ap (λ v. let s : Slots = v in s.first) p.same) in
+    let pushed_size = length-append kept (one ∷ []) in
+    let loose_new : LooseCells body new ((kept ++ one ∷ []) ++ two ∷ []) =
+    loose-push body pushed new (kept ++ one ∷ []) q.slot two loose_pushed (omega arith) (q.is body) q.slots q.links (ap (λ v. let s : Slots = v in s.first) q.same) in
+    let places_same : new.places ≡ closed.places = ap (λ v. let s : Slots = v in s.places) q.same ∙ ap (λ v. let s : Slots = v in s.places) p.same in
+    let all_size = length-append kept (one ∷ two ∷ []) in
+    let no_key : closing ≡ left_out → c.slot.key ≡ None =
+    λ k. ap (λ v. let s : format.Slot = v in s.key) (sym (ap final_slot h.list ∙ final-live cells last no_cell held.ends end)) ∙ w.left_out (h.closing ∙ k) in
+    let whole =
+    ap₂ (λ u v. let s : format.Slots = record { list = u; closing = v } in slots_put_at e key value s (last_slot key s.list)) h.list h.closing
+    ∙ put-end e key value cells closing last no_cell held.ends end (sym (h.holds.places_are key) ∙ none) in
+    let first_is : is_first (live kept) ≡ first = ap is_first (close-end cells closing last no_cell held.ends end) ∙ sym found_is.0 in
+    record {
+      cells = kept ++ one ∷ two ∷ [];
+      holds = holds-loose body new (kept ++ one ∷ two ∷ []) (subst (LooseCells body new) (append_assoc kept (one ∷ []) (two ∷ [])) loose_new)
+          (ends-after kept (one ∷ two ∷ []) refl) (omega arith)
+          (λ k.
+          ap (λ v. stack_at v.entries k) places_same
+          ∙ place-added key k (stack_at found.places.entries k) (stack_at closed.places.entries k) (places k cells) (last + 1) (length cells)
+          (added k ∙ ap (λ v. if bytes_eq k v then stack_at found.places.entries k ++ (last + 1) ∷ [] else stack_at found.places.entries k) own_is)
+          (held.places_are k) end
+          ∙ sym (places-end k cells closing last one.slot no_cell held.ends end no_key))
+          (subst (IsOrdered string_cmp) (sym places_same) ordered);
+      list = ap (λ v. let s : format.Slots = v in s.list) whole
+          ∙ ap (λ b. live (kept ++ record { slot = pair_slot e b key value (Some lf); alive = true } ∷ two ∷ [])) first_is;
+      closing = ap (λ v. let s : format.Slots = v in s.closing) whole ∙ sym (ap (λ v. closing_in v new.parting) q.closing);
     }

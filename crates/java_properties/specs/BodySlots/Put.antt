@@ -1,5 +1,6 @@
 -- A key put into slots in one array: what each step on the way does.
-use Rattle.std.specs.Prelude.{◌≡◌, ℕ, ◌+◌, ◌==◌, ◌≤◌, ◌<◌, Bool, false, if◌then◌else◌, List, length, get_or, set, Option, Some}
+use Rattle.std.specs.Prelude.{◌≡◌, ℕ, ◌+◌, ◌==◌, ◌≤◌, ◌<◌, Bool, false, if◌then◌else◌, List, length, get_or, set}
+use Rattle.std.specs.Prelude.{Option, Some}
 use Rattle.properties_format.specs.Text as text
 use Rattle.properties_format.specs.Reading.Slots as format
 use Rattle.properties_format.specs.Reading.Slots.{empty_slot, ended_by, is_first, closed_slots}
@@ -25,7 +26,9 @@ cell_with bytes key c = record { slot = record { bytes = bytes; ending = c.slot.
 
 -- The slot has other bytes.
 abbrev pub RefillsSlot : List ℕ → Slot → Slot → Type 0
-RefillsSlot bytes old new = (body : List ℕ) (key : Option (List ℕ)) (cell : Cell) → IsCell body old cell → IsCell body new (cell_with bytes key cell)
+RefillsSlot bytes old new =
+    (body : List ℕ) (key : Option (List ℕ)) (cell : Cell) → IsCell body old cell
+    → IsCell body new (cell_with bytes key cell)
 
 -- The slot in this place has other bytes. If it is the last one, an LF parts it from a pair that comes after it.
 pub record Refills (old : Slots) (place : ℕ) (bytes : List ℕ) (new : Slots) : Type 0 where
@@ -34,17 +37,20 @@ pub record Refills (old : Slots) (place : ℕ) (bytes : List ℕ) (new : Slots) 
   pub was : before ≡ get_or old.slots.items place before
   pub is : RefillsSlot bytes before slot
   pub slots : new.slots.items ≡ set old.slots.items place slot
-  pub closing : closing_in new.closing new.parting ≡ (if place + 1 == length old.slots.items then ended_by text.lf else closing_in old.closing old.parting)
+  pub closing : closing_in new.closing new.parting
+      ≡ (if place + 1 == length old.slots.items then ended_by text.lf else closing_in old.closing old.parting)
   pub same : new ≡ record old { slots = new.slots; closing = new.closing; parting = new.parting }
 
 -- ---- after all others
 
 -- The slot is closed, before a pair that comes after it.
 abbrev pub ClosesSlot : format.Closing → Slot → Slot → Type 0
-ClosesSlot closing old new = (body : List ℕ) (cell : Cell) → IsCell body old cell → IsCell body new (closed_cell closing cell)
+ClosesSlot closing old new =
+    (body : List ℕ) (cell : Cell) → IsCell body old cell → IsCell body new (closed_cell closing cell)
 
 -- It is found whether a pair after the last slot would be the first, and what the slots are stays.
 pub record FindsNextFirst (old : Slots) (result : Bool) (new : Slots) : Type 0 where
   pub finds : (body : List ℕ) (cells : List Cell) → HoldsCells body old cells
-      → (result ≡ is_first (closed_slots (closing_in old.closing old.parting) (live cells))) × HoldsCells body new cells
+      → (result ≡ is_first (closed_slots (closing_in old.closing old.parting) (live cells)))
+      × HoldsCells body new cells
   pub same : new ≡ record old { first = new.first }

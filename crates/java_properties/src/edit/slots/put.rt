@@ -4,7 +4,8 @@ ghost use Rattle.std.specs.Prelude.{◌<◌, length, None, OnOk, Some};
 ghost use Rattle.std.specs.Str.{chars};
 ghost use Rattle.properties_format.specs.Encoding.{output_encoding};
 ghost use Rattle.properties_text.specs.Encoding.{encoding_of};
-ghost use Rattle.java_properties.specs.BodySlots.{FindsFirst, HoldsSome, IsLastOf, PushesEmpty, PutsKey, closing_in, stack_at};
+ghost use Rattle.java_properties.specs.BodySlots.{FindsFirst, PushesEmpty, PutsKey};
+ghost use Rattle.java_properties.specs.BodySlots.{HoldsSome, IsLastOf, closing_in, stack_at};
 ghost use Rattle.java_properties.specs.BodySlots.Put.{ClosesSlot, FindsNextFirst, Refills};
 
 use crate::edit::lines::ending_bytes;
@@ -35,6 +36,7 @@ impl Slots {
         }
     }
 
+    // The pair comes in the place of another, with the same line ending.
     fn replace(
         &mut self,
         alloc: Global,
@@ -54,7 +56,7 @@ impl Slots {
         Ok(())
     }
 
-    // The slot in this place is a printed pair.
+    // The slot in this place is a printed pair. Where it is the last one, an LF parts it from a pair after it.
     fn refill(&mut self, place: usize, pair: Vec<u8>)
         requires { place < length self.old.slots.items }
         ensures { Refills self.old place pair.items self.new }
@@ -68,6 +70,7 @@ impl Slots {
         }
     }
 
+    // The pair comes after all slots, and an empty slot after it.
     fn append(
         &mut self,
         alloc: Global,

@@ -1,4 +1,4 @@
-use Rattle.std.proofs.Common.{◌≡◌, ◌≤◌, length, ap, sym, ◌∙◌, inl, inr, arith}
+use Rattle.std.proofs.Common.{◌≡◌, length, ap, sym, ◌∙◌, inl, inr, arith}
 use Rattle.properties_format.specs.Reading.Slots.{is_first, closed_slots}
 use Rattle.properties_format.specs.Reading.Cells.{live}
 use Rattle.java_properties.specs.Settings.{ending_of}
@@ -16,14 +16,14 @@ returns-in-Nothing c =
     let closing = sym (ap (λ v. let s : Slots = v in s.closing) f.same) ∙ c.in-Nothing.is in
     record {
       finds = λ body cells h.
-        let m = f.finds body cells h in
-        let number = cells-length body new.slots.items cells m.1.cells_are in
-        let count = c.len.ensures in
-        let size : c.len.result ≡ length cells = omega (arith, new.slots.ok.0) in (
-          sym (ap (λ v. is_first (closed_slots (closing_in v old.parting) (live cells))) closing
-          ∙ next-out cells c.first_left-first.result c.len.result m.0 m.1.ends size),
-          m.1,
-        );
+          let m = f.finds body cells h in
+          let number = cells-length body new.slots.items cells m.1.cells_are in
+          let count = c.len.ensures in
+          let size : c.len.result ≡ length cells = omega (arith, new.slots.ok.0) in (
+            sym (ap (λ v. is_first (closed_slots (closing_in v old.parting) (live cells))) closing
+                ∙ next-out cells c.first_left-first.result c.len.result m.0 m.1.ends size),
+            m.1,
+          );
       same = f.same;
     }
 
@@ -34,17 +34,17 @@ returns-in-OneEnding c =
     let by = ending_of old.parting in
     record {
       finds = λ body cells h.
-        let m = f.finds body cells h in
-        let more = m.1.others in (
-          elim c.in-OneEnding.is [
-            | inl k ↦
-                let closing = sym (ap (λ v. let s : Slots = v in s.closing) f.same) ∙ k in
-                sym (ap (λ v. is_first (closed_slots (closing_in v old.parting) (live cells))) closing ∙ next-ended cells by m.1.ends (omega arith))
-            | inr k ↦
-                let closing = sym (ap (λ v. let s : Slots = v in s.closing) f.same) ∙ k in
-                sym (ap (λ v. is_first (closed_slots (closing_in v old.parting) (live cells))) closing ∙ next-closed cells by m.1.ends (omega arith))
-          ],
-          m.1,
-        );
+          let m = f.finds body cells h in
+          let more = m.1.others in (
+            elim c.in-OneEnding.is [
+              | inl k ↦
+                  let closing = sym (ap (λ v. let s : Slots = v in s.closing) f.same) ∙ k in
+                  sym (ap (λ v. is_first (closed_slots (closing_in v old.parting) (live cells))) closing ∙ next-ended cells by m.1.ends (omega arith))
+              | inr k ↦
+                  let closing = sym (ap (λ v. let s : Slots = v in s.closing) f.same) ∙ k in
+                  sym (ap (λ v. is_first (closed_slots (closing_in v old.parting) (live cells))) closing ∙ next-closed cells by m.1.ends (omega arith))
+            ],
+            m.1,
+          );
       same = f.same;
     }

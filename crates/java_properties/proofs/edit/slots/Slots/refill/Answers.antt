@@ -1,8 +1,5 @@
-use Rattle.std.proofs.Common.{◌≡◌, ◌+◌, ◌==◌, if◌then◌else◌, length, ap, refl, inl, inr, arith}
+use Rattle.std.proofs.Common.{◌+◌, length, refl, inl, inr, arith}
 use Rattle.std.proofs.lemmas.Bool.Decides.{eqb_tells}
-use Rattle.properties_format.specs.Text as text
-use Rattle.properties_format.specs.Reading.Slots.{ended_by}
-use Rattle.java_properties.specs.BodySlots.{closing_in}
 use Rattle.java_properties.proofs.edit.slots.Slots.refill.Goals as goal
 
 pub returns-then-place-len : goal.returns-then-place-len
