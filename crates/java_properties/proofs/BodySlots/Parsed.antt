@@ -18,7 +18,7 @@ use Rattle.properties_format.specs.Reading.Slots.{left_out, ended_by, closed_by,
 use Rattle.properties_format.specs.Reading.Cells.{Cell, live, places, EndsAlive, AreLinks}
 use Rattle.properties_format.proofs.Body.Groups.{held_groups_of-meets}
 use Rattle.properties_format.proofs.Edited.Steps.{final_group-push}
-use Rattle.properties_format.proofs.Slots.Edits.{closing_by, span-unended}
+use Rattle.properties_format.proofs.Slots.Edits.{closing_by, slots-closing, span-unended}
 use Rattle.properties_format.proofs.Slots.Lines.{bytes-unended, ending-of}
 use Rattle.properties_format.proofs.Slots.Links.{links-push}
 use Rattle.properties_format.proofs.Slots.Merged.{AreInTurn, in-turn}
@@ -211,15 +211,6 @@ parsed-more {e} {body} {s} {t} {old} {group} new told ok h k sound is a =
 
 -- ---- all groups
 
--- the last group of a body has no line ending
-turn-final : (e : Encoding) (gs : List (List HeldLine)) → AreInTurn e gs → last_ending (final_group gs) ≡ None
-turn-final e [] a = absurd a
-turn-final e (g ∷ []) a = ending-of e None g a.0
-turn-final e (g ∷ h ∷ gs) a = turn-final e (h ∷ gs) a.1
-
-unended-last : (g : List HeldLine) → last_ending g ≡ None → unended_bytes g ≡ group_bytes g
-unended-last g none = sym (bytes-unended g ∙ ap (λ o. unended_bytes g ++ ending_bytes o) none ∙ append-nil (unended_bytes g))
-
 -- All groups were read.
 pub parsed-all : {e : Encoding} {body : List ℕ} {reader : GroupReader} {s : Slots} → is_editable e ≡ true → IsReadTo e body reader s → reader.is_done ≡ true
     → AreSound (held_groups_of e body) × Holds body s (slots_of (held_groups_of e body))
@@ -230,8 +221,7 @@ parsed-all {e} {body} {reader} {s} ok h done =
     let last : IsLastRead h.cells (final_group gs) s = elim h.last [
       | inl none ↦ absurd (some-groups e body (all ∙ none))
       | inr last ↦ subst (λ v. IsLastRead h.cells (final_group v) s) (sym all) last
-    ] in
-    let ended = turn-final e gs (in-turn e body gs ok (held_groups_of-meets e body)) in (
+    ] in (
       subst AreSound (sym all) h.read.sound,
       record {
         cells = h.cells;
@@ -248,6 +238,6 @@ parsed-all {e} {body} {reader} {s} ok h done =
           ordered = h.holds.ordered;
         };
         list = ap slot_list all ∙ sym h.list;
-        closing = ap (λ v. closing_by (safe_ending v) (final_group gs)) (sym (unended-last (final_group gs) ended)) ∙ sym last.closing;
+        closing = slots-closing e body ok ∙ sym last.closing;
       },
     )
