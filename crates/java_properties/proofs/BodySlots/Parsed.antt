@@ -1,37 +1,31 @@
 -- How the slots of a body are read, group by group.
-use Rattle.std.proofs.Common.{◌≡◌, ℕ, ◌+◌, ◌-◌, ◌≤◌, ◌<◌, zero, suc, List, [], ◌∷◌, ◌++◌, length, take, drop, get_or, refl, ap, ap₂, sym, ◌∙◌, subst, inl, inr, append-nil, length-append, arith}
+use Rattle.std.proofs.Common.{◌≡◌, ℕ, ◌+◌, ◌-◌, ◌<◌, List, [], ◌∷◌, ◌++◌, length, take, drop, refl, ap, ap₂, sym, ◌∙◌, subst, inl, inr, append-nil, length-append, arith}
 use Rattle.std.specs.Prelude.{◌⊎◌, Bool, true, false, if◌then◌else◌, Option, Some, None, bytes_eq}
-use Rattle.std.specs.Option.{option_map}
 use Rattle.std.specs.Str.{chars}
 use Rattle.std.specs.BTreeMap.{IsOrdered}
 use Rattle.std.specs.String.{string_cmp}
 use Rattle.std.proofs.lemmas.List.{get_or_append_left}
-use Rattle.properties_format.specs.Text as text
 use Rattle.properties_format.specs.Encoding.{Encoding}
-use Rattle.properties_format.specs.Body.{HeldLine, ending_bytes, group_bytes, groups_bytes, last_ending}
+use Rattle.properties_format.specs.Body.{HeldLine, groups_bytes}
 use Rattle.properties_format.specs.Edited.{is_editable, final_group, is_empty_line, is_left_open}
 use Rattle.properties_format.specs.Reading.Body.{held_groups_of}
 use Rattle.properties_format.specs.Reading.Edited.{IsSound, AreSound}
 use Rattle.properties_format.specs.Reading.Items.{outcome_of}
 use Rattle.properties_format.specs.Reading.Slots as format
 use Rattle.properties_format.specs.Reading.Slots.{left_out, ended_by, closed_by, empty_slot, slot_has, slot_of, slot_list, slots_of, key_told, safe_ending, unended_bytes}
-use Rattle.properties_format.specs.Reading.Cells.{Cell, live, places, EndsAlive, AreLinks}
-use Rattle.properties_format.proofs.Body.Groups.{held_groups_of-meets}
+use Rattle.properties_format.specs.Reading.Cells.{Cell, live, places, EndsAlive}
 use Rattle.properties_format.proofs.Edited.Steps.{final_group-push}
 use Rattle.properties_format.proofs.Slots.Edits.{closing_by, slots-closing, span-unended}
-use Rattle.properties_format.proofs.Slots.Lines.{bytes-unended, ending-of}
 use Rattle.properties_format.proofs.Slots.Links.{links-push}
-use Rattle.properties_format.proofs.Slots.Merged.{AreInTurn, in-turn}
 use Rattle.properties_format.proofs.Slots.PushCells.{slot_list-push, live-push, places-push, ends-push}
-use Rattle.java_properties.specs.LineSearch.{unit_size}
 use Rattle.java_properties.specs.Settings.{ending_of}
 use Rattle.properties_text.specs.Encoding.{encoding_of}
 use Rattle.java_properties.specs.BodyGroups.{IsWithin, groups_left, TakesGroup, text_of}
 use Rattle.java_properties.specs.BodyKeys.{closing_of}
 use Rattle.java_properties.specs.BodyLines.{ending_in}
-use Rattle.java_properties.specs.BodySlots.{IsCell, no_cell, stack_at, slot_bytes, closing_in, Holds, HoldsCells, ParsesSlots}
+use Rattle.java_properties.specs.BodySlots.{IsCell, no_cell, stack_at, slot_bytes, closing_in, Holds}
 use Rattle.java_properties.specs.BodySlots.Parsed.{HoldsParsed, HoldsGuard, AddsKey, AddsGroup, guard_cell, is_told}
-use Rattle.java_properties.proofs.BodyKeys.{HasRead, read-none, read-more, read-all, group-whole, some-groups, editable-bytes}
+use Rattle.java_properties.proofs.BodyKeys.{HasRead, read-none, read-more, read-all, group-whole, some-groups}
 use Rattle.java_properties.proofs.BodySlots.{cells-length, cells-push}
 use Rattle.java_properties.proofs.TextMaps.Values.{flipped}
 use Rattle.java_properties.specs.declared.edit.place.BodySpan.{BodySpan}
