@@ -12,7 +12,7 @@ use Rattle.properties_format.specs.Reading.Body.{held_groups_of}
 use Rattle.properties_format.specs.Reading.Edited.{IsSound, AreSound}
 use Rattle.properties_format.specs.Reading.Items.{outcome_of}
 use Rattle.properties_format.specs.Reading.Slots as format
-use Rattle.properties_format.specs.Reading.Slots.{left_out, ended_by, closed_by, empty_slot, slot_has, slot_of, slot_list, slots_of, key_told, safe_ending, unended_bytes}
+use Rattle.properties_format.specs.Reading.Slots.{left_out, ended_by, closed_by, slot_has, slot_of, slot_list, slots_of, key_told, safe_ending, unended_bytes}
 use Rattle.properties_format.specs.Reading.Cells.{Cell, live, places, EndsAlive}
 use Rattle.properties_format.proofs.Edited.Steps.{final_group-push}
 use Rattle.properties_format.proofs.Slots.Edits.{closing_by, slots-closing, span-unended}
@@ -36,20 +36,6 @@ use Rattle.java_properties.specs.declared.edit.slots.Slots.{Slots}
 use Rattle.java_properties.specs.declared.writer.settings.LineEnding.{LineEnding}
 
 -- ---- one more slot
-
--- the slot that is no group's alone
-pub parsed-guard : (body : List ℕ) (s : Slots) (slot : Slot) → s.slots.items ≡ slot ∷ [] → IsCell body slot guard_cell → s.links.items ≡ 1 ∷ []
-    → ((key : List ℕ) → stack_at s.places.entries key ≡ []) → s.first ≡ 0 → IsOrdered string_cmp s.places → HoldsParsed body s (guard_cell ∷ [])
-parsed-guard body s slot slots cell links none first ordered = record {
-  cells_are = rw slots (cell, tt);
-  linked = ap length links;
-  links_are = rw links (links-push [] [] guard_cell no_cell (λ i h. absurd (omega arith)) refl);
-  places_are = none;
-  first = first;
-  guard = refl;
-  some = omega arith;
-  ordered = ordered;
-}
 
 -- whether a key is that of a slot
 slot-told : (key : List ℕ) (s : format.Slot) → slot_has key s ≡ is_told key s.key
