@@ -1,37 +1,31 @@
 -- How the slots of a body are read, group by group.
-use Rattle.std.proofs.Common.{◌≡◌, ℕ, ◌+◌, ◌-◌, ◌≤◌, ◌<◌, zero, suc, List, [], ◌∷◌, ◌++◌, length, take, drop, get_or, refl, ap, ap₂, sym, ◌∙◌, subst, inl, inr, append-nil, length-append, arith}
+use Rattle.std.proofs.Common.{◌≡◌, ℕ, ◌+◌, ◌-◌, ◌<◌, List, [], ◌∷◌, ◌++◌, length, take, drop, refl, ap, ap₂, sym, ◌∙◌, subst, inl, inr, append-nil, length-append, arith}
 use Rattle.std.specs.Prelude.{◌⊎◌, Bool, true, false, if◌then◌else◌, Option, Some, None, bytes_eq}
-use Rattle.std.specs.Option.{option_map}
 use Rattle.std.specs.Str.{chars}
 use Rattle.std.specs.BTreeMap.{IsOrdered}
 use Rattle.std.specs.String.{string_cmp}
 use Rattle.std.proofs.lemmas.List.{get_or_append_left}
-use Rattle.properties_format.specs.Text as text
 use Rattle.properties_format.specs.Encoding.{Encoding}
-use Rattle.properties_format.specs.Body.{HeldLine, ending_bytes, group_bytes, groups_bytes, last_ending}
+use Rattle.properties_format.specs.Body.{HeldLine, groups_bytes}
 use Rattle.properties_format.specs.Edited.{is_editable, final_group, is_empty_line, is_left_open}
 use Rattle.properties_format.specs.Reading.Body.{held_groups_of}
 use Rattle.properties_format.specs.Reading.Edited.{IsSound, AreSound}
 use Rattle.properties_format.specs.Reading.Items.{outcome_of}
 use Rattle.properties_format.specs.Reading.Slots as format
-use Rattle.properties_format.specs.Reading.Slots.{left_out, ended_by, closed_by, empty_slot, slot_has, slot_of, slot_list, slots_of, key_told, safe_ending, unended_bytes}
-use Rattle.properties_format.specs.Reading.Cells.{Cell, live, places, EndsAlive, AreLinks}
-use Rattle.properties_format.proofs.Body.Groups.{held_groups_of-meets}
+use Rattle.properties_format.specs.Reading.Slots.{left_out, ended_by, closed_by, slot_has, slot_of, slot_list, slots_of, key_told, safe_ending, unended_bytes}
+use Rattle.properties_format.specs.Reading.Cells.{Cell, live, places, EndsAlive}
 use Rattle.properties_format.proofs.Edited.Steps.{final_group-push}
-use Rattle.properties_format.proofs.Slots.Edits.{closing_by, span-unended}
-use Rattle.properties_format.proofs.Slots.Lines.{bytes-unended, ending-of}
+use Rattle.properties_format.proofs.Slots.Edits.{closing_by, slots-closing, span-unended}
 use Rattle.properties_format.proofs.Slots.Links.{links-push}
-use Rattle.properties_format.proofs.Slots.Merged.{AreInTurn, in-turn}
 use Rattle.properties_format.proofs.Slots.PushCells.{slot_list-push, live-push, places-push, ends-push}
-use Rattle.java_properties.specs.LineSearch.{unit_size}
 use Rattle.java_properties.specs.Settings.{ending_of}
 use Rattle.properties_text.specs.Encoding.{encoding_of}
 use Rattle.java_properties.specs.BodyGroups.{IsWithin, groups_left, TakesGroup, text_of}
 use Rattle.java_properties.specs.BodyKeys.{closing_of}
 use Rattle.java_properties.specs.BodyLines.{ending_in}
-use Rattle.java_properties.specs.BodySlots.{IsCell, no_cell, stack_at, slot_bytes, closing_in, Holds, HoldsCells, ParsesSlots}
+use Rattle.java_properties.specs.BodySlots.{IsCell, no_cell, stack_at, slot_bytes, closing_in, Holds}
 use Rattle.java_properties.specs.BodySlots.Parsed.{HoldsParsed, HoldsGuard, AddsKey, AddsGroup, guard_cell, is_told}
-use Rattle.java_properties.proofs.BodyKeys.{HasRead, read-none, read-more, read-all, group-whole, some-groups, editable-bytes}
+use Rattle.java_properties.proofs.BodyKeys.{HasRead, read-none, read-more, read-all, group-whole, some-groups}
 use Rattle.java_properties.proofs.BodySlots.{cells-length, cells-push}
 use Rattle.java_properties.proofs.TextMaps.Values.{flipped}
 use Rattle.java_properties.specs.declared.edit.place.BodySpan.{BodySpan}
@@ -42,20 +36,6 @@ use Rattle.java_properties.specs.declared.edit.slots.Slots.{Slots}
 use Rattle.java_properties.specs.declared.writer.settings.LineEnding.{LineEnding}
 
 -- ---- one more slot
-
--- the slot that is no group's alone
-pub parsed-guard : (body : List ℕ) (s : Slots) (slot : Slot) → s.slots.items ≡ slot ∷ [] → IsCell body slot guard_cell → s.links.items ≡ 1 ∷ []
-    → ((key : List ℕ) → stack_at s.places.entries key ≡ []) → s.first ≡ 0 → IsOrdered string_cmp s.places → HoldsParsed body s (guard_cell ∷ [])
-parsed-guard body s slot slots cell links none first ordered = record {
-  cells_are = rw slots (cell, tt);
-  linked = ap length links;
-  links_are = rw links (links-push [] [] guard_cell no_cell (λ i h. absurd (omega arith)) refl);
-  places_are = none;
-  first = first;
-  guard = refl;
-  some = omega arith;
-  ordered = ordered;
-}
 
 -- whether a key is that of a slot
 slot-told : (key : List ℕ) (s : format.Slot) → slot_has key s ≡ is_told key s.key
@@ -211,15 +191,6 @@ parsed-more {e} {body} {s} {t} {old} {group} new told ok h k sound is a =
 
 -- ---- all groups
 
--- the last group of a body has no line ending
-turn-final : (e : Encoding) (gs : List (List HeldLine)) → AreInTurn e gs → last_ending (final_group gs) ≡ None
-turn-final e [] a = absurd a
-turn-final e (g ∷ []) a = ending-of e None g a.0
-turn-final e (g ∷ h ∷ gs) a = turn-final e (h ∷ gs) a.1
-
-unended-last : (g : List HeldLine) → last_ending g ≡ None → unended_bytes g ≡ group_bytes g
-unended-last g none = sym (bytes-unended g ∙ ap (λ o. unended_bytes g ++ ending_bytes o) none ∙ append-nil (unended_bytes g))
-
 -- All groups were read.
 pub parsed-all : {e : Encoding} {body : List ℕ} {reader : GroupReader} {s : Slots} → is_editable e ≡ true → IsReadTo e body reader s → reader.is_done ≡ true
     → AreSound (held_groups_of e body) × Holds body s (slots_of (held_groups_of e body))
@@ -230,8 +201,7 @@ parsed-all {e} {body} {reader} {s} ok h done =
     let last : IsLastRead h.cells (final_group gs) s = elim h.last [
       | inl none ↦ absurd (some-groups e body (all ∙ none))
       | inr last ↦ subst (λ v. IsLastRead h.cells (final_group v) s) (sym all) last
-    ] in
-    let ended = turn-final e gs (in-turn e body gs ok (held_groups_of-meets e body)) in (
+    ] in (
       subst AreSound (sym all) h.read.sound,
       record {
         cells = h.cells;
@@ -248,6 +218,6 @@ parsed-all {e} {body} {reader} {s} ok h done =
           ordered = h.holds.ordered;
         };
         list = ap slot_list all ∙ sym h.list;
-        closing = ap (λ v. closing_by (safe_ending v) (final_group gs)) (sym (unended-last (final_group gs) ended)) ∙ sym last.closing;
+        closing = slots-closing e body ok ∙ sym last.closing;
       },
     )
