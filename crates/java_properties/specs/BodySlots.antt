@@ -87,6 +87,7 @@ pub record Holds (body : List ℕ) (s : Slots) (m : format.Slots) : Type 0 where
 pub record HoldsIn (body : List ℕ) (s : Slots) : Type 0 where
   pub slots : format.Slots
   pub holds : Holds body s slots
+  pub well_ended : IsWellEnded slots
 
 -- or of any body.
 pub record HoldsSome (s : Slots) : Type 0 where
