@@ -50,7 +50,7 @@ use Rattle.properties_format.specs.Reading.Slots.{slots_bytes, slots_of, slots_e
 use Rattle.properties_format.proofs.Slots.Edits.{edit_all_result-slots, slots_after-push}
 use Rattle.properties_format.proofs.Slots.WellEnded.{slots_after-well_ended}
 use Rattle.java_properties.specs.Editing.{edit_in, edits_in, AreMade}
-use Rattle.java_properties.specs.BodySlots.{Holds, Changes}
+use Rattle.java_properties.specs.BodySlots.{Holds, HoldsIn, Changes}
 use Rattle.java_properties.specs.declared.edit.slots.Slots.{Slots}
 use Rattle.properties_format.proofs.Changed.Stand.{key_set-keeps, key_removed-keeps}
 use Rattle.properties_text.specs.Encoding.{encoding_of}
@@ -412,6 +412,12 @@ pub slots-none : {source : List ℕ} {e : Encoding} {opened : Source} (slots : S
     → Holds (drop opened.start source) slots (slots_after e source [])
 slots-none {source} {e} {opened} slots h holds =
     subst (Holds (drop opened.start source) slots) (sym (ap (λ v. let w : InForce = v in slots_of (held_groups_of w.encoding w.body)) h.in_force)) holds
+
+-- after any they hold what stands of it,
+pub slots-held : {source : List ℕ} {e : Encoding} {opened : Source} (body : List ℕ) (slots : Slots) (edits : List Edit) → IsInForce source e opened
+    → is_editable (encoding_of opened.encoding) ≡ true → AreScalarEdits edits → Holds body slots (slots_after e source edits) → HoldsIn body slots
+slots-held {source} {e} {opened} body slots edits h ok scalar holds =
+    record { slots = slots_after e source edits; holds = holds; well_ended = slots_after-well_ended e source edits (editable h ok) scalar }
 
 -- and one more edit is made to them.
 pub slots-more : {source : List ℕ} {e : Encoding} {opened : Source} (slots next : Slots) (edits : List Edit) (edit : Edit) → IsInForce source e opened

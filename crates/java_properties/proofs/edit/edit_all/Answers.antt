@@ -8,7 +8,7 @@ use Rattle.properties_format.proofs.Edited.Results.{edit_all_result-meets}
 use Rattle.properties_text.specs.Encoding.{encoding_of}
 use Rattle.java_properties.specs.BodySlots.{Holds}
 use Rattle.java_properties.specs.Editing.{AreMade, edit_in, edits_in}
-use Rattle.java_properties.proofs.Editing.{edits_in-more, edits-scalars, refusal, slots-none, slots-more, slots-edits, splitting}
+use Rattle.java_properties.proofs.Editing.{edits_in-more, edits-scalars, refusal, slots-none, slots-held, slots-more, slots-edits, splitting}
 use Rattle.java_properties.proofs.edit.edit_all.Goals as goal
 
 pub returns-in_err-opened-clause-splitting : goal.returns-in_err-opened-clause-splitting
@@ -35,7 +35,9 @@ loop-edit-init c =
     rw (take_rest c.args.source.now start) (slots-none c.in_ok-slots.slots c.in_ok-opened.ensures.0 parsed.1)
 
 pub make-requires : goal.make-requires
-make-requires c = record { slots = _; holds = c.loop-edit.invariant }
+make-requires c =
+    let done = take c.loop-edit.edit-index c.args.edits.now in
+    slots-held _ c.loop-edit.slots (edits_in done) c.in_ok-opened.ensures.0 c.in_ok-opened.ensures.1 (edits-scalars done) c.loop-edit.invariant
 
 pub returns-in_err-make-clause-splitting : goal.returns-in_err-make-clause-splitting
 returns-in_err-make-clause-splitting c = splitting (encoding_of c.args.encoding) c.args.source.now
@@ -58,8 +60,9 @@ loop-edit-preserved c =
 
 pub to_bytes-requires-clause-held : goal.to_bytes-requires-clause-held
 to_bytes-requires-clause-held c =
+    let done = take c.loop-edit.edit-index c.args.edits.now in
     let holds = rw (take_rest c.args.source.now c.in_ok-opened.opened.start) at c.loop-edit.invariant in
-    record { slots = _; holds = holds }
+    slots-held _ c.loop-edit.slots (edits_in done) c.in_ok-opened.ensures.0 c.in_ok-opened.ensures.1 (edits-scalars done) holds
 
 pub returns-in_err-to_bytes-clause-splitting : goal.returns-in_err-to_bytes-clause-splitting
 returns-in_err-to_bytes-clause-splitting c = splitting (encoding_of c.args.encoding) c.args.source.now
