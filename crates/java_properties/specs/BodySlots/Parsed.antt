@@ -40,7 +40,8 @@ is_told key (Some told) = bytes_eq key told
 
 -- The number comes last of those of the key that was told, where one was.
 abbrev pub AddsKey : {Y : Type 0} → Option (List ℕ) → ℕ → List (String Y × Vec ℕ) → List (String Y × Vec ℕ) → Type 0
-AddsKey told place old new = (key : List ℕ) → stack_at new key ≡ (if is_told key told then stack_at old key ++ place ∷ [] else stack_at old key)
+AddsKey told place old new = (key : List ℕ)
+    → stack_at new key ≡ (if is_told key told then stack_at old key ++ place ∷ [] else stack_at old key)
 
 -- The slot of a group comes last, under the key that was told, where it is a pair.
 pub record AddsGroup (body : List ℕ) (group : Group) (told : Option (List ℕ)) (old new : Slots) : Type 0 where
