@@ -11,15 +11,16 @@ use Rattle.std.proofs.lemmas.Bool.Decides.{nat_tests}
 use Rattle.properties_format.specs.Groups.{is_comment_line, is_open, joined, addition, without_open_backslash}
 use Rattle.properties_format.specs.Reading.Groups.{closes}
 use Rattle.properties_format.specs.Reading.Cut.{decoded_line}
-use Rattle.properties_format.specs.Body.{HeldLine, as_lines, ending_bytes, group_bytes, last_ending}
+use Rattle.properties_format.specs.Body.{HeldLine, as_lines, ending_bytes, group_bytes}
 use Rattle.properties_format.specs.Reading.Body.{held_lines_of, held_groups_after, held_groups_of}
+use Rattle.properties_format.specs.Reading.Slots.{unended_bytes}
 use Rattle.properties_format.proofs.Body.Groups.{as_lines-append, groups-close, groups-leave, group_bytes-append}
 use Rattle.properties_format.proofs.Edited.Steps.{last_ending-push, is_left_open-push, is_empty_line-push}
 use Rattle.properties_format.proofs.Groups.Joined.{joined-push, joined-one, joined-closed, joined-comment_line}
 use Rattle.properties_text.specs.Encoding.{encoding_of}
 use Rattle.java_properties.specs.LineTexts.{KeepsText}
 use Rattle.java_properties.specs.BodyLines.{ending_in, held_line, lines_after, IsFirstLine}
-use Rattle.java_properties.specs.BodyGroups.{IsWithin, lines_left, groups_left, TakesLine, core_bytes, IsSpanOf, TakesGroup, groups_from, IsJoined}
+use Rattle.java_properties.specs.BodyGroups.{IsWithin, lines_left, groups_left, TakesLine, IsSpanOf, TakesGroup, groups_from, IsJoined}
 use Rattle.java_properties.specs.declared.edit.lines.FirstLine.{FirstLine}
 use Rattle.java_properties.specs.declared.writer.settings.LineEnding.{LineEnding}
 use Rattle.java_properties.specs.declared.writer.settings.LineEnding.TheVariants.{CR, LF, CRLF}
@@ -28,21 +29,12 @@ use Rattle.java_properties.specs.declared.edit.groups.GroupReader.{GroupReader}
 
 -- ---- the bytes of a group
 
--- its last line ending comes after the others
-pub core-ending : (g : List HeldLine) → group_bytes g ≡ core_bytes g ++ ending_bytes (last_ending g)
-core-ending [] = refl
-core-ending (h ∷ []) = ap (λ v. h.bytes ++ v) (append-nil (ending_bytes h.ending))
-core-ending (h ∷ i ∷ hs) =
-    ap (λ v. h.bytes ++ (ending_bytes h.ending ++ v)) (core-ending (i ∷ hs))
-    ∙ ap (λ v. h.bytes ++ v) (sym (append_assoc (ending_bytes h.ending) (core_bytes (i ∷ hs)) (ending_bytes (last_ending (i ∷ hs)))))
-    ∙ sym (append_assoc h.bytes (ending_bytes h.ending ++ core_bytes (i ∷ hs)) (ending_bytes (last_ending (i ∷ hs))))
-
 -- one more line
-pub core-push : (g : List HeldLine) (h : HeldLine) → core_bytes (g ++ h ∷ []) ≡ group_bytes g ++ h.bytes
-core-push [] h = refl
-core-push (i ∷ []) h = ap (λ v. i.bytes ++ v) (ap (λ v. v ++ h.bytes) (sym (append-nil (ending_bytes i.ending)))) ∙ sym (append_assoc i.bytes (ending_bytes i.ending ++ []) h.bytes)
-core-push (i ∷ j ∷ g) h =
-    ap (λ v. i.bytes ++ (ending_bytes i.ending ++ v)) (core-push (j ∷ g) h)
+pub unended-push : (g : List HeldLine) (h : HeldLine) → unended_bytes (g ++ h ∷ []) ≡ group_bytes g ++ h.bytes
+unended-push [] h = refl
+unended-push (i ∷ []) h = ap (λ v. i.bytes ++ v) (ap (λ v. v ++ h.bytes) (sym (append-nil (ending_bytes i.ending)))) ∙ sym (append_assoc i.bytes (ending_bytes i.ending ++ []) h.bytes)
+unended-push (i ∷ j ∷ g) h =
+    ap (λ v. i.bytes ++ (ending_bytes i.ending ++ v)) (unended-push (j ∷ g) h)
     ∙ ap (λ v. i.bytes ++ v) (sym (append_assoc (ending_bytes i.ending) (group_bytes (j ∷ g)) h.bytes))
     ∙ sym (append_assoc i.bytes (ending_bytes i.ending ++ group_bytes (j ∷ g)) h.bytes)
 
@@ -116,7 +108,7 @@ span-one body old line new group k starts ends ending opens empty =
     let placed = k.placed in
     let all : length (bytes ++ (by ++ [])) ≡ length bytes + length by = ap (λ v. length (bytes ++ v)) (append-nil by) ∙ length-append bytes by in
     record {
-      core = omega arith;
+      unended = omega arith;
       ending = ap ending_in ending;
       next = omega arith;
       opens = opens;
@@ -254,8 +246,8 @@ group-more body before group mid line new t d told j going opened k tells kept =
     let next = j.span.next in
     let held = k.held in
     let pushed : length (j.first ∷ j.more ++ h ∷ []) ≡ length g + 1 = length-append g (h ∷ []) in
-    let core : length (core_bytes (g ++ h ∷ [])) ≡ length (group_bytes g) + length bytes =
-    ap length (core-push g h) ∙ length-append (group_bytes g) bytes in
+    let unended : length (unended_bytes (g ++ h ∷ [])) ≡ length (group_bytes g) + length bytes =
+    ap length (unended-push g h) ∙ length-append (group_bytes g) bytes in
     let last : length (bytes ++ (by ++ [])) ≡ length bytes + length by = ap (λ v. length (bytes ++ v)) (append-nil by) ∙ length-append bytes by in
     let all : length (group_bytes (g ++ h ∷ [])) ≡ length (group_bytes g) + length (bytes ++ (by ++ [])) =
     ap length (group_bytes-append g (h ∷ [])) ∙ length-append (group_bytes g) (bytes ++ (by ++ [])) in
@@ -269,7 +261,7 @@ group-more body before group mid line new t d told j going opened k tells kept =
       passed = j.passed;
       counted = λ n. (let a = k.passed n in let b = j.counted going in omega arith);
       span = record {
-        core = omega arith;
+        unended = omega arith;
         ending = sym (last_ending-push g h);
         next = omega arith;
         opens = tells ∙ sym (is_left_open-push j.first j.more h ∙ rw j.other refl);
@@ -306,7 +298,7 @@ pub group-whole : (body : List ℕ) (before : GroupReader) (group : Group) (new 
     → (group.is_open ≡ false ⊎ new.is_done ≡ true) → IsWithin body new → TakesGroup body before group new
 group-whole body before group new j ended w =
     let g = j.first ∷ j.more in
-    let core = j.span.core in
+    let unended = j.span.unended in
     let ends = j.ends in
     let none : new.is_done ≡ true → lines_left body new ≡ [] = λ h. rw h refl in
     record {

@@ -26,6 +26,7 @@ use Rattle.properties_format.specs.Edited.{unreadable, final_group, added_ending
 use Rattle.properties_format.specs.Items.{ignored, broken}
 use Rattle.properties_format.specs.Reading.Items.{outcome_of, followed}
 use Rattle.properties_format.specs.Reading.Body.{is_pair_with, has_key, entries_in, held_of, held_lines_of, held_groups_after, held_groups_of}
+use Rattle.properties_format.specs.Reading.Slots.{unended_bytes}
 use Rattle.properties_format.specs.Reading.Edited.{IsSound, AreSound, result_by}
 use Rattle.properties_format.proofs.Body.Decoded.{decoded-nil}
 use Rattle.properties_format.proofs.Body.Groups.{groups_bytes-append, groups-close, groups-leave}
@@ -35,7 +36,7 @@ use Rattle.properties_format.proofs.Edited.Made.{has_key-true}
 use Rattle.properties_format.proofs.Edited.Steps.{last_place-new, last_place-other, with_after, final_group-push, result-after, held_lines-last}
 use Rattle.properties_text.specs.Encoding.{encoding_of}
 use Rattle.java_properties.proofs.BodyGroups.{groups-lines}
-use Rattle.java_properties.specs.BodyGroups.{IsWithin, lines_left, groups_left, core_bytes, text_of, TakesGroup}
+use Rattle.java_properties.specs.BodyGroups.{IsWithin, lines_left, groups_left, text_of, TakesGroup}
 use Rattle.java_properties.specs.BodyKeys.{IsFaultOf, IsPlace, closing_of, parted, IsKeyFound, found_after}
 use Rattle.java_properties.specs.GivenItems.{IsNoItem}
 use Rattle.java_properties.specs.declared.edit.groups.Group.{Group}
@@ -194,7 +195,7 @@ place-kept key groups g (Some pair) h other = record {
 }
 
 place-after : (key : List ℕ) (groups : List (List HeldLine)) (g : List HeldLine) (group : Group) (pair : Option BodySpan) (told : Bool) → IsPlace key groups pair
-    → told ≡ has_key key g → group.start ≡ length (groups_bytes groups) → group.end ≡ group.start + length (core_bytes g)
+    → told ≡ has_key key g → group.start ≡ length (groups_bytes groups) → group.end ≡ group.start + length (unended_bytes g)
     → IsPlace key (groups ++ g ∷ []) (if told then Some (record { start = group.start; end = group.end }) else pair)
 place-after key groups g group pair true h is starts ends = record {
   place = record { before = groups; group = g; after = [] };
@@ -212,11 +213,11 @@ pub looked-more : {e : Encoding} {body key : List ℕ} {s t : GroupReader} {foun
 looked-more {e} {body} {key} {s} {t} {found} {group} told h k sound is = record {
   groups = h.groups ++ k.held ∷ [];
   read = read-more h.read k sound;
-  pair = place-after key h.groups k.held group found.pair told h.pair (is ∙ ap (λ v. is_pair_with key (outcome_of v)) k.text) (k.starts ∙ h.read.placed) k.span.core;
+  pair = place-after key h.groups k.held group found.pair told h.pair (is ∙ ap (λ v. is_pair_with key (outcome_of v)) k.text) (k.starts ∙ h.read.placed) k.span.unended;
   closing = inr (λ source. ap (parting source) (final_group-push h.groups k.held) ∙ parted-group source k.held group k.span.empty k.span.opens);
 }
 
--- some groups are always there
+-- each body has lines
 some-lines : (e : Encoding) (ls : List Ended) (last : List ℕ) → held_of e ls last ≡ [] → ⊥
 some-lines e [] last h = absurd (cc)
 some-lines e (l ∷ ls) last h = absurd (cc)
@@ -233,7 +234,8 @@ some-after p (h ∷ hs) some k = elim (cases_Bool (closes (as_lines p) (record {
   | inr b ↦ some-after (p ++ h ∷ []) hs (λ none. absurd (some-more p h none)) (sym (groups-leave p h hs b) ∙ k)
 ]
 
-some-groups : (e : Encoding) (body : List ℕ) → held_groups_of e body ≡ [] → ⊥
+-- each body has groups
+pub some-groups : (e : Encoding) (body : List ℕ) → held_groups_of e body ≡ [] → ⊥
 unfolding held_groups_of
 some-groups e body h = some-after [] (held_lines_of e body) (λ none. some-lines e (cut_of e body).ended (cut_of e body).last) h
 
@@ -334,6 +336,15 @@ kept-removed {e} {body} {key} {s} {t} {others} {start} {group} more h k sound is
           ∙ sym (without-push key h.groups k.held ∙ ap (λ v. without key h.groups ++ v) (cond-true (has_key key k.held) [] (group_bytes k.held ++ []) has) ∙ append-nil (without key h.groups));
     }
 
+-- the group that came stands in the body after those that were read
+pub group-whole : {e : Encoding} {body : List ℕ} {groups : List (List HeldLine)} {s t : GroupReader} {group : Group} → is_editable e ≡ true
+    → HasRead e body groups s → (k : TakesGroup body s group t)
+    → body ≡ groups_bytes groups ++ (group_bytes k.held ++ groups_bytes (groups_left body t))
+group-whole {e} {body} {groups} {s} {t} {group} ok h k =
+    sym (held-body e body (held_groups_of e body) ok (held_groups_of-meets e body))
+    ∙ ap groups_bytes (h.all ∙ ap (λ v. groups ++ v) k.groups)
+    ∙ groups_bytes-append groups (k.held ∷ groups_left body t)
+
 -- the bytes of the group that came
 group-part : {e : Encoding} {body : List ℕ} {groups : List (List HeldLine)} {s t : GroupReader} {group : Group} → is_editable e ≡ true → HasRead e body groups s
     → (k : TakesGroup body s group t) → (take (t.at - s.at) (drop s.at body) ≡ group_bytes k.held) × (s.at ≤ t.at)
@@ -341,10 +352,7 @@ group-part {e} {body} {groups} {s} {t} {group} ok h k =
     let front = groups_bytes groups in
     let g = group_bytes k.held in
     let rest = groups_bytes (groups_left body t) in
-    let whole : body ≡ front ++ (g ++ rest) =
-    sym (held-body e body (held_groups_of e body) ok (held_groups_of-meets e body))
-    ∙ ap groups_bytes (h.all ∙ ap (λ v. groups ++ v) k.groups)
-    ∙ groups_bytes-append groups (k.held ∷ groups_left body t) in
+    let whole = group-whole ok h k in
     let next = k.span.next in
     let starts = k.starts in
     let placed = h.placed in

@@ -21,41 +21,43 @@ use Rattle.properties_text.specs.declared.encoding.encode.OutputEncoding.{Output
 use Rattle.properties_text.specs.declared.print.Repertoire.{Repertoire}
 use Rattle.properties_text.specs.declared.print.Place.TheVariants.{KeyOrValue}
 use Rattle.properties_format.specs.Encoding.{Encoding, windows_1252, utf_8, utf_16le, utf_16be, InForce, byte_order_mark, begins_with, begins_like_bom, utf_8_bom, utf_16be_bom, utf_16le_bom, output_encoding}
-use Rattle.properties_format.specs.Escapes.{Malformed}
 use Rattle.properties_format.specs.Laws.{SplittingCommutes}
 use Rattle.properties_format.proofs.Laws.{splitting-commutes}
 use Rattle.properties_format.specs.Lines.{end}
 use Rattle.properties_format.specs.Writing.{is_empty}
 use Rattle.properties_format.specs.Body.{ending_bytes, groups_bytes, last_ending}
-use Rattle.properties_format.specs.Edited.{bom_of, pair_bytes, parting, added_ending, is_editable, EditResult, edited, unsupported, unreadable, IsSetKeyResult, IsRemoveKeyResult}
+use Rattle.properties_format.specs.Edited.{bom_of, pair_bytes, parting, added_ending, is_editable, EditResult, edited, unsupported, IsSetKeyResult, IsRemoveKeyResult}
 use Rattle.properties_format.specs.Reading.Items.{items_of}
 use Rattle.properties_format.specs.Reading.Body.{held_groups_of, entries_in}
+use Rattle.properties_format.specs.Reading.Slots.{unended_bytes}
 use Rattle.properties_format.specs.Reading.Edited.{AreSound, without, key_removed, key_removed_in, result_by, result_of, key_set, key_set_in, set_at, set_key_result, remove_key_result, KeyPlace, last_place}
 use Rattle.properties_format.proofs.Body.Groups.{groups_bytes-append, held_groups_of-meets, held-body}
 use Rattle.properties_format.proofs.Body.Numbers.{items_of-groups}
 use Rattle.properties_format.proofs.Edited.ByteOrderMarks.{source-whole}
 use Rattle.properties_format.proofs.Edited.Results.{set_key_result-meets, set_key_result-only, remove_key_result-meets, remove_key_result-only}
 use Rattle.properties_format.proofs.Edited.Steps.{result-after}
+use Rattle.properties_format.proofs.Slots.Lines.{bytes-unended}
 use Rattle.properties_format.proofs.Changed.Read.{set_key-reads, remove_key-reads, edit_all-reads}
-use Rattle.properties_format.proofs.EditLaws.{lists-follow, one_edit-call}
-use Rattle.properties_format.specs.Edited.{Edit, put, remove, AreScalarEdits, IsEditAllResult}
+use Rattle.properties_format.specs.Edited.{Edit, AreScalarEdits, IsEditAllResult}
 use Rattle.properties_format.specs.Reading.Edited.{edit_all_result}
 use Rattle.properties_format.proofs.Edited.Results.{edit_all_result-meets, edit_all_result-only}
 use Rattle.java_properties.proofs.ReadBack.Scalars.{string-scalars}
-use Rattle.std.specs.Prelude.{Ok, Err}
-use Rattle.std.specs.Global.{Vec}
 use Rattle.std.proofs.Common.{◌<◌, get_or}
 use Rattle.std.proofs.lemmas.List.{take_more, map-append}
 use Rattle.java_properties.specs.declared.edit.Edit as edit
 use Rattle.java_properties.specs.declared.edit.Edit.TheVariants as variant
-use Rattle.java_properties.specs.Editing.{edit_in, edits_in, AreMade, MakesEdit}
+use Rattle.properties_format.specs.Reading.Slots.{slots_bytes, slots_of, slots_edited, source_slots, slots_after, slots_made}
+use Rattle.properties_format.proofs.Slots.Edits.{edit_all_result-slots, slots_after-push}
+use Rattle.properties_format.proofs.Slots.WellEnded.{slots_after-well_ended}
+use Rattle.java_properties.specs.Editing.{edit_in, edits_in, AreMade}
+use Rattle.java_properties.specs.BodySlots.{Holds, HoldsIn, Changes}
+use Rattle.java_properties.specs.declared.edit.slots.Slots.{Slots}
 use Rattle.properties_format.proofs.Changed.Stand.{key_set-keeps, key_removed-keeps}
 use Rattle.properties_text.specs.Encoding.{encoding_of}
-use Rattle.java_properties.specs.BodyGroups.{core_bytes}
 use Rattle.java_properties.specs.BodyKeys.{IsFaultOf, IsPlaceOf, IsPlace, IsKeyFound, AreOthersFound, left_bytes, parted}
 use Rattle.java_properties.specs.Editing.{IsRefusal, IsSet, IsRemoved}
 use Rattle.java_properties.specs.Sources.{IsInForce}
-use Rattle.java_properties.proofs.BodyGroups.{core-ending, no-bytes}
+use Rattle.java_properties.proofs.BodyGroups.{no-bytes}
 use Rattle.java_properties.proofs.BodyKeys.{front-of}
 use Rattle.java_properties.specs.declared.edit.place.BodySpan.{BodySpan}
 use Rattle.java_properties.specs.declared.edit.place.KeyPlace as place
@@ -193,16 +195,16 @@ pub place-split : (e : Encoding) (body key : List ℕ) (pair : BodySpan) → is_
 place-split e body key pair ok k =
     let gs = held_groups_of e body in
     let p = k.place in
-    let core = core_bytes p.group in
+    let bytes = unended_bytes p.group in
     let ending = ending_bytes (last_ending p.group) in
     let rest = ending ++ groups_bytes p.after in
-    let whole : body ≡ groups_bytes p.before ++ (core ++ rest) =
+    let whole : body ≡ groups_bytes p.before ++ (bytes ++ rest) =
     sym (held-body e body gs ok (held_groups_of-meets e body))
     ∙ ap groups_bytes k.division
     ∙ groups_bytes-append p.before (p.group ∷ p.after)
-    ∙ ap (λ v. groups_bytes p.before ++ (v ++ groups_bytes p.after)) (core-ending p.group)
-    ∙ ap (λ v. groups_bytes p.before ++ v) (append_assoc core ending (groups_bytes p.after)) in
-    let parts = split-at (groups_bytes p.before) core rest pair.start pair.end k.starts k.ends in
+    ∙ ap (λ v. groups_bytes p.before ++ (v ++ groups_bytes p.after)) (bytes-unended p.group)
+    ∙ ap (λ v. groups_bytes p.before ++ v) (append_assoc bytes ending (groups_bytes p.after)) in
+    let parts = split-at (groups_bytes p.before) bytes rest pair.start pair.end k.starts k.ends in
     record {
       front = ap (take pair.start) whole ∙ parts.0;
       back = ap (drop pair.end) whole ∙ parts.1;
@@ -333,6 +335,19 @@ no_bom-begins b = elim (cases_Bool (begins_with utf_8_bom b)) [
   ]
 ]
 
+-- a source starts with its body where it begins with no byte order mark,
+unmarked : {source : List ℕ} {e : Encoding} {opened : Source} → IsInForce source e opened → (opened.start == 0) ≡ not (begins_like_bom source)
+unmarked {source} {e} {opened} h =
+    let size : length (bom_of source) ≡ opened.start = ap length (bom-front h) ∙ length-take-le opened.start source h.within in
+    ap (λ n. n == 0) (sym size) ∙ no_bom-begins source
+
+-- and doesn't where it begins with one
+marked : {source : List ℕ} {e : Encoding} {opened : Source} → IsInForce source e opened → not (opened.start == 0) ≡ begins_like_bom source
+marked {source} {e} {opened} h = ap not (unmarked h) ∙ again (begins_like_bom source)
+  where
+    again : (b : Bool) → not (not b) ≡ b
+    again b = elim (cases_Bool b) [ inl k ↦ rw k refl | inr k ↦ rw k refl ]
+
 -- ---- a key is removed
 
 pub removed-edits : {e : Encoding} {source key bytes : List ℕ} → remove_key_result e source key ≡ edited bytes → IsRemoved e source key bytes
@@ -355,18 +370,16 @@ removed-result {source} {e} {opened} key bytes others h ok k made =
     let f = encoding_of opened.encoding in
     let body = drop opened.start source in
     let rest = without key (held_groups_of f body) in
-    let size : length (bom_of source) ≡ opened.start = ap length (bom-front h) ∙ length-take-le opened.start source h.within in
-    let unmarked : (opened.start == 0) ≡ not (begins_like_bom source) = ap (λ n. n == 0) (sym size) ∙ no_bom-begins source in
     let set : key_removed e source key ≡ bytes =
     ap (λ v. key_removed_in v source key) h.in_force
     ∙ sym (made
     ∙ ap (λ v. take opened.start source ++ ((if opened.start == 0 && begins_like_bom v then line_feed ∷ [] else []) ++ v)) k.bytes
-    ∙ ap₂ (λ v b. v ++ ((if b && begins_like_bom rest then line_feed ∷ [] else []) ++ rest)) (sym (bom-front h)) unmarked) in
+    ∙ ap₂ (λ v b. v ++ ((if b && begins_like_bom rest then line_feed ∷ [] else []) ++ rest)) (sym (bom-front h)) (unmarked h)) in
     ap (result_of e source) set ∙ result-made bytes h ok k.sound
 
 -- ---- edits in turn
 
-pub made-edits : {e : Encoding} {source bytes : List ℕ} (edits : List Edit) → AreScalarEdits edits → edit_all_result e source edits ≡ edited bytes
+made-edits : {e : Encoding} {source bytes : List ℕ} (edits : List Edit) → AreScalarEdits edits → edit_all_result e source edits ≡ edited bytes
     → AreMade e source edits bytes
 made-edits {e} {source} {bytes} edits scalar is =
     let meets = subst (IsEditAllResult e source edits) is (edit_all_result-meets e source edits) in
@@ -375,49 +388,6 @@ made-edits {e} {source} {bytes} edits scalar is =
       only = λ other h. edit_all_result-only e source edits other h ∙ is;
       reads = edit_all-reads e source edits bytes scalar meets;
     }
-
--- a source with no edits is itself
-pub copied : {source : List ℕ} {e : Encoding} {opened : Source} (bytes : List ℕ) → IsInForce source e opened
-    → is_editable (encoding_of opened.encoding) ≡ true → AreSound (held_groups_of (encoding_of opened.encoding) (drop opened.start source))
-    → bytes ≡ source ++ ([] ++ []) → AreMade e source [] bytes
-copied {source} {e} {opened} bytes h ok sound made =
-    made-edits [] tt (result-made source h ok sound ∙ ap edited (sym (made ∙ append-nil source)))
-
--- what an edit is refused for is what all the edits are
-lifted : (IsMeant IsWhole : EditResult → Type 0) (error : PropertiesError) → (IsMeant unsupported → IsWhole unsupported) → (IsWhole unsupported → IsMeant unsupported)
-    → ((how : Malformed) (n : ℕ) → IsMeant (unreadable how n) → IsWhole (unreadable how n)) → IsRefusal IsMeant error → IsRefusal IsWhole error
-lifted IsMeant IsWhole error to from broken (inl (none, is)) = inl (to none, is)
-lifted IsMeant IsWhole error to from broken (inr (inl (how, n, h, is))) = inr (inl (how, n, broken how n h, is))
-lifted IsMeant IsWhole error to from broken (inr (inr (some, is))) = inr (inr ((λ none. some (from none)), is))
-
--- the call of an edit is that edit in a list by itself
-call-meets : (e : Encoding) (between : List ℕ) (edit : Edit) (next : Vec ℕ) → MakesEdit e between edit (Ok next) → IsEditAllResult e between (edit ∷ []) (edited next.items)
-call-meets e between (put key value) next h = (one_edit-call e between (put key value) (edited next.items)).1 h.edit.result
-call-meets e between (remove key) next h = (one_edit-call e between (remove key) (edited next.items)).1 h.edit.result
-
-call-refused : (e : Encoding) (between : List ℕ) (edit : Edit) (error : PropertiesError) → MakesEdit e between edit (Err error)
-    → IsRefusal (IsEditAllResult e between (edit ∷ [])) error
-call-refused e between (put key value) error h =
-    let same = one_edit-call e between (put key value) in
-    lifted (IsSetKeyResult e between key value) (IsEditAllResult e between (put key value ∷ [])) error (same unsupported).1 (same unsupported).0 (λ how n. (same (unreadable how n)).1) h
-call-refused e between (remove key) error h =
-    let same = one_edit-call e between (remove key) in
-    lifted (IsRemoveKeyResult e between key) (IsEditAllResult e between (remove key ∷ [])) error (same unsupported).1 (same unsupported).0 (λ how n. (same (unreadable how n)).1) h
-
--- one more edit was made
-pub made-more : (e : Encoding) (source between : List ℕ) (edits : List Edit) (edit : Edit) (next : Vec ℕ) → AreScalarEdits edits → AreScalarEdits (edits ++ edit ∷ [])
-    → AreMade e source edits between → MakesEdit e between edit (Ok next) → AreMade e source (edits ++ edit ∷ []) next.items
-made-more e source between edits edit next scalar all h k =
-    let meets = (lists-follow e source edits (edit ∷ []) scalar between h.result (edited next.items)).1 (call-meets e between edit next k) in
-    made-edits (edits ++ edit ∷ []) all (sym (edit_all_result-only e source (edits ++ edit ∷ []) (edited next.items) meets))
-
--- or there was no memory for it
-pub made-refused : (e : Encoding) (source between : List ℕ) (edits : List Edit) (edit : Edit) (others : List Edit) (error : PropertiesError) → AreScalarEdits edits
-    → AreMade e source edits between → MakesEdit e between edit (Err error) → IsRefusal (IsEditAllResult e source others) error
-made-refused e source between edits edit others error scalar h k =
-    let same = lists-follow e source edits (edit ∷ []) scalar between h.result in
-    lifted (IsEditAllResult e between (edit ∷ [])) (IsEditAllResult e source others) error (same unsupported).1 (same unsupported).0 (λ how n. (same (unreadable how n)).1)
-    (call-refused e between edit error k)
 
 -- the texts of edits are of scalar values
 pub edits-scalars : (edits : List edit.Edit) → AreScalarEdits (edits_in edits)
@@ -428,3 +398,46 @@ edits-scalars (variant.Remove key ∷ edits) = (tt, edits-scalars edits)
 pub edits_in-more : (edits : List edit.Edit) (i : ℕ) (d : edit.Edit) → i < length edits
     → edits_in (take (i + 1) edits) ≡ edits_in (take i edits) ++ edit_in (get_or edits i d) ∷ []
 edits_in-more edits i d h = ap edits_in (take_more edits i d h) ∙ map-append edit_in (take i edits) (get_or edits i d ∷ [])
+
+-- ---- edits of slots
+
+-- a source that is edited is in an encoding that is edited
+editable : {source : List ℕ} {e : Encoding} {opened : Source} → IsInForce source e opened → is_editable (encoding_of opened.encoding) ≡ true
+    → is_editable (byte_order_mark e source).encoding ≡ true
+editable h ok = ap (λ v. let w : InForce = v in is_editable w.encoding) h.in_force ∙ ok
+
+-- before any edits the slots are those of the body,
+pub slots-none : {source : List ℕ} {e : Encoding} {opened : Source} (slots : Slots) → IsInForce source e opened
+    → Holds (drop opened.start source) slots (slots_of (held_groups_of (encoding_of opened.encoding) (drop opened.start source)))
+    → Holds (drop opened.start source) slots (slots_after e source [])
+slots-none {source} {e} {opened} slots h holds =
+    subst (Holds (drop opened.start source) slots) (sym (ap (λ v. let w : InForce = v in slots_of (held_groups_of w.encoding w.body)) h.in_force)) holds
+
+-- after any they hold what stands of it,
+pub slots-held : {source : List ℕ} {e : Encoding} {opened : Source} (body : List ℕ) (slots : Slots) (edits : List Edit) → IsInForce source e opened
+    → is_editable (encoding_of opened.encoding) ≡ true → AreScalarEdits edits → Holds body slots (slots_after e source edits) → HoldsIn body slots
+slots-held {source} {e} {opened} body slots edits h ok scalar holds =
+    record { slots = slots_after e source edits; holds = holds; well_ended = slots_after-well_ended e source edits (editable h ok) scalar }
+
+-- and one more edit is made to them.
+pub slots-more : {source : List ℕ} {e : Encoding} {opened : Source} (slots next : Slots) (edits : List Edit) (edit : Edit) → IsInForce source e opened
+    → is_editable (encoding_of opened.encoding) ≡ true → AreScalarEdits edits → Holds (drop opened.start source) slots (slots_after e source edits)
+    → Changes (drop opened.start source) (slots_edited (output_encoding (encoding_of opened.encoding)) (not (opened.start == 0)) edit) slots next
+    → Holds (drop opened.start source) next (slots_after e source (edits ++ edit ∷ []))
+slots-more {source} {e} {opened} slots next edits edit h ok scalar before change =
+    let f = encoding_of opened.encoding in
+    let front = slots_after e source edits in
+    let in_force : output_encoding f ≡ (byte_order_mark e source).encoding =
+    output-same f ok ∙ sym (ap (λ v. let w : InForce = v in w.encoding) h.in_force) in
+    let more : slots_edited (output_encoding f) (not (opened.start == 0)) edit front ≡ slots_after e source (edits ++ edit ∷ []) =
+    ap₂ (λ v b. slots_edited v b edit front) in_force (marked h)
+    ∙ sym (slots_after-push (byte_order_mark e source).encoding (begins_like_bom source) edits edit (source_slots e source)) in
+    subst (Holds (drop opened.start source) next) more (change front (slots_after-well_ended e source edits (editable h ok) scalar) before)
+
+-- The bytes of the slots after edits are their result.
+pub slots-edits : {source : List ℕ} {e : Encoding} {opened : Source} (edits : List Edit) (bytes : List ℕ) → IsInForce source e opened
+    → is_editable (encoding_of opened.encoding) ≡ true → AreSound (held_groups_of (encoding_of opened.encoding) (drop opened.start source))
+    → AreScalarEdits edits → bytes ≡ take opened.start source ++ slots_bytes (slots_after e source edits).list → AreMade e source edits bytes
+slots-edits {source} {e} {opened} edits bytes h ok sound scalar made =
+    let is : slots_made e source edits ≡ bytes = ap (λ v. v ++ slots_bytes (slots_after e source edits).list) (bom-front h) ∙ sym made in
+    made-edits edits scalar (edit_all_result-slots e source edits scalar ∙ ap (result_of e source) is ∙ result-made bytes h ok sound)

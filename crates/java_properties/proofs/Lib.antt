@@ -20,4 +20,5 @@ pub mod TextMaps
 pub mod BodyLines
 pub mod BodyGroups
 pub mod BodyKeys
+pub mod BodySlots
 pub mod Editing

@@ -1,11 +1,12 @@
 -- The groups of a body that is held whole, one after another.
-use Rattle.std.specs.Prelude.{◌≡◌, ℕ, ◌+◌, ◌-◌, ◌≤◌, ◌<◌, ◌^◌, Bool, true, false, if◌then◌else◌, List, [], ◌∷◌, ◌++◌, take, drop, length}
+use Rattle.std.specs.Prelude.{◌≡◌, ℕ, ◌+◌, ◌-◌, ◌≤◌, ◌<◌, ◌^◌, Bool, true, false, if◌then◌else◌, List, [], ◌∷◌, take, drop, length}
 use Rattle.std.specs.Prelude.{◌⊎◌, Option, Some, None, Result, Ok, Err}
 use Rattle.std.specs.Str.{chars, IsUtf8}
 use Rattle.properties_format.specs.Groups.{is_comment_line, joined}
 use Rattle.properties_format.specs.Body.{HeldLine, as_lines, ending_bytes, group_bytes, last_ending}
 use Rattle.properties_format.specs.Edited.{is_empty_line, is_left_open}
 use Rattle.properties_format.specs.Reading.Body.{held_lines_of, held_groups_after, held_groups_of}
+use Rattle.properties_format.specs.Reading.Slots.{unended_bytes}
 use Rattle.properties_text.specs.Encoding.{encoding_of}
 use Rattle.java_properties.specs.LineSearch.{unit_size}
 use Rattle.java_properties.specs.BodyLines.{ending_in, held_line}
@@ -40,15 +41,9 @@ pub record TakesLine (body : List ℕ) (old : GroupReader) (line : FirstLine) (n
 
 -- ---- groups
 
--- the bytes of a group before its last line ending
-abbrev pub core_bytes : List HeldLine → List ℕ
-core_bytes [] = []
-core_bytes (h ∷ []) = h.bytes
-core_bytes (h ∷ i ∷ hs) = h.bytes ++ (ending_bytes h.ending ++ core_bytes (i ∷ hs))
-
 -- The lines stand in this span, before the next place.
 pub record IsSpanOf (held : List HeldLine) (group : Group) (after : ℕ) : Type 0 where
-  pub core : group.end ≡ group.start + length (core_bytes held)
+  pub unended : group.end ≡ group.start + length (unended_bytes held)
   pub ending : ending_in group.ending ≡ last_ending held
   pub next : after ≡ group.start + length (group_bytes held)
   pub opens : group.is_open ≡ is_left_open held

@@ -10,10 +10,10 @@ use Rattle.properties_format.specs.Edited.{unreadable, final_group, added_ending
 use Rattle.properties_format.specs.Items.{ignored}
 use Rattle.properties_format.specs.Reading.Items.{outcome_of}
 use Rattle.properties_format.specs.Reading.Body.{is_pair_with, entries_in, held_groups_of}
+use Rattle.properties_format.specs.Reading.Slots.{unended_bytes}
 use Rattle.properties_format.specs.Reading.Edited.{KeyPlace, last_place, without, IsSound, AreSound, result_by}
 use Rattle.java_properties.specs.LentItems.{IsFoundIn}
 use Rattle.java_properties.specs.GivenItems.{IsNoItem}
-use Rattle.java_properties.specs.BodyGroups.{core_bytes}
 use Rattle.java_properties.specs.Errors.{IsBareError, IsMalformed}
 use Rattle.java_properties.specs.declared.edit.groups.Group.{Group}
 use Rattle.java_properties.specs.declared.edit.place.Closing.{Closing}
@@ -51,7 +51,7 @@ pub record IsPlaceOf (key : List ℕ) (groups : List (List HeldLine)) (pair : Bo
   pub is : last_place key groups ≡ Some place
   pub division : groups ≡ place.before ++ place.group ∷ place.after
   pub starts : pair.start ≡ length (groups_bytes place.before)
-  pub ends : pair.end ≡ pair.start + length (core_bytes place.group)
+  pub ends : pair.end ≡ pair.start + length (unended_bytes place.group)
 
 abbrev pub IsPlace : List ℕ → List (List HeldLine) → Option BodySpan → Type 0
 IsPlace key groups None = last_place key groups ≡ None

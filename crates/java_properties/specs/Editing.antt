@@ -68,8 +68,3 @@ abbrev pub IsSameEdit : Edit → Edit → Type 0
 IsSameEdit (Put k v) (Put l w) = (string_bytes k ≡ string_bytes l) × (string_bytes v ≡ string_bytes w)
 IsSameEdit (Remove k) (Remove l) = string_bytes k ≡ string_bytes l
 IsSameEdit edit other = ⊥
-
--- one edit is made
-abbrev pub MakesEdit : Encoding → List ℕ → format.Edit → Result (Vec ℕ) PropertiesError → Type 0
-MakesEdit e source (put key value) result = SetsKey e source key value result
-MakesEdit e source (remove key) result = RemovesKey e source key result

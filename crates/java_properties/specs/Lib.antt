@@ -24,5 +24,6 @@ pub mod Maps
 pub mod BodyLines
 pub mod BodyGroups
 pub mod BodyKeys
+pub mod BodySlots
 pub mod Sources
 pub mod Editing

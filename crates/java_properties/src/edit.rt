@@ -1,10 +1,9 @@
 //! Keys of a file set and removed, while every other byte stays.
 
-ghost use Rattle.std.specs.Prelude.{[]};
 ghost use Rattle.std.specs.Str.{chars};
 ghost use Rattle.properties_format.specs.Laws.{SplittingCommutes};
 ghost use Rattle.properties_text.specs.Encoding.{encoding_of};
-ghost use Rattle.java_properties.specs.Editing.{EditsAll, MakesEdit, RemovesKey, SetsKey, edit_in, edits_in};
+ghost use Rattle.java_properties.specs.Editing.{EditsAll, RemovesKey, SetsKey, edits_in};
 
 mod groups;
 mod kept;
@@ -12,11 +11,13 @@ mod keys;
 mod lines;
 mod place;
 mod result;
+mod slots;
 mod source;
 
 use crate::edit::kept::find_others;
 use crate::edit::place::find_key;
-use crate::edit::result::{appended, concatenated, replaced, without_others};
+use crate::edit::result::{appended, replaced, without_others};
+use crate::edit::slots::Slots;
 use crate::edit::source::Source;
 use crate::error::PropertiesError;
 use properties_text::encoding::Encoding;
@@ -100,8 +101,12 @@ pub enum Edit {
 
 /// The source after these edits, in order: each is made to what the one before it gave.
 ///
-/// Without edits it is a copy of the source. Each edit takes time in the size of the source. UTF-16 is refused, and so is a source with a malformed escape anywhere: the
-/// error is the one that reading the source would return.
+/// Without edits it is a copy of the source. The source is read once, and the result is made once: the time is that of
+/// the sizes of the source and of the edits together. Beside that, each key is looked for among the others, in about as
+/// many steps as their number has binary digits.
+///
+/// UTF-16 is refused, and so is a source with a malformed escape anywhere: the error is the one that reading the source
+/// would return.
 ///
 /// ```text
 /// let edits = vec![in alloc; Edit::Put(port, value), Edit::Remove(host)]?;
@@ -116,38 +121,12 @@ pub fn edit_all(
     ensures edits { EditsAll (encoding_of encoding) source.now (edits_in edits.now) result }
     ensures splitting { SplittingCommutes (encoding_of encoding) source.now }
 {
-    let mut bytes = readable_copy(alloc, source, encoding)?;
-    for edit in edits {
-        bytes = make(alloc, &bytes, encoding, edit)?;
-    }
-    Ok(bytes)
-}
-
-// A copy of a source that is edited, and in which nothing is malformed.
-fn readable_copy(
-    alloc: Global,
-    source: &[u8],
-    encoding: Encoding,
-) -> Result<Vec<u8>, PropertiesError>
-    ensures { EditsAll (encoding_of encoding) source.now [] result }
-{
     let opened = Source::open(source, encoding)?;
-    // The source is read for its first fault alone.
-    let _place = find_key(alloc, opened.encoding, &source[opened.start..], "")?;
-    let bytes = concatenated(alloc, source, b"", b"")?;
-    Ok(bytes)
-}
-
-fn make(
-    alloc: Global,
-    source: &[u8],
-    encoding: Encoding,
-    edit: &Edit,
-) -> Result<Vec<u8>, PropertiesError>
-    ensures { MakesEdit (encoding_of encoding) source.now (edit_in edit.now) result }
-{
-    match edit {
-        Edit::Put(key, value) => set_key(alloc, source, encoding, key, value),
-        Edit::Remove(key) => remove_key(alloc, source, encoding, key),
+    let body = &source[opened.start..];
+    let is_marked = opened.start != 0;
+    let mut slots = Slots::parse(alloc, opened.encoding, body)?;
+    for edit in edits {
+        slots.make(alloc, opened.encoding, body, is_marked, edit)?;
     }
+    Ok(slots.to_bytes(alloc, source, opened.start)?)
 }

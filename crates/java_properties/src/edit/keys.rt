@@ -2,6 +2,7 @@
 
 ghost use Rattle.std.specs.Str.{chars};
 ghost use Rattle.java_properties.specs.BodyKeys.{FindsItem, TellsKey};
+ghost use Rattle.java_properties.specs.BodySlots.{TellsKeyOf};
 
 use crate::error::PropertiesError;
 use crate::iter::found::{Found, find_escaped, find_plain};
@@ -15,6 +16,16 @@ pub fn has_key(alloc: Global, number: usize, line: &str, key: &str) -> Result<bo
     match find_item(alloc, number, line)? {
         Some(found) => Ok(found.has_key(line, key)),
         None => Ok(false),
+    }
+}
+
+/// The key of a logical line, where it is a pair; or why its escapes aren't resolved, in the line of this number.
+pub fn key_of(alloc: Global, number: usize, line: &str) -> Result<Option<String>, PropertiesError>
+    ensures { TellsKeyOf (chars line.now) number result }
+{
+    match find_item(alloc, number, line)? {
+        Some(found) => Ok(found.key(alloc, line)?),
+        None => Ok(None),
     }
 }
 

@@ -61,3 +61,15 @@ pub fn ending_size(ending: Option<LineEnding>) -> usize
         Some(LineEnding::CRLF) => 2,
     }
 }
+
+/// The bytes of a line ending.
+pub fn ending_bytes(ending: Option<LineEnding>) -> &'static [u8]
+    ensures { result.now ≡ ending_bytes (ending_in ending) }
+{
+    match ending {
+        None => b"",
+        Some(LineEnding::CR) => b"\r",
+        Some(LineEnding::LF) => b"\n",
+        Some(LineEnding::CRLF) => b"\r\n",
+    }
+}

@@ -86,8 +86,8 @@ impl KeyPlace {
     }
 }
 
-// What parts a new pair from this group.
-fn closing_after(group: Group) -> Closing
+/// What parts a new pair from this group.
+pub fn closing_after(group: Group) -> Closing
     ensures { result ≡ closing_of group.is_empty group.is_open }
 {
     if group.is_empty {
@@ -112,7 +112,8 @@ pub fn parting(source: &[u8], closing: Closing) -> &'static [u8]
     }
 }
 
-fn ends_in_cr(source: &[u8]) -> bool
+/// Whether these bytes end in a CR.
+pub fn ends_in_cr(source: &[u8]) -> bool
     ensures { result ≡ ends_in_cr source.now }
 {
     if source.is_empty() {

@@ -151,8 +151,24 @@ fn print_pair(
     print_text(line, repertoire, Place::KeyOrValue, value)
 }
 
-/// The bytes of three slices, one after the other. Their memory is taken before the first of them is copied.
-pub fn concatenated(
+/// A pair as it is printed, without a line ending. One that is `first` in a body isn't to be taken for a byte order mark.
+pub fn printed_pair(
+    alloc: Global,
+    encoding: Encoding,
+    first: bool,
+    key: &str,
+    value: &str,
+) -> Result<Vec<u8>, AllocError>
+    ensures { let e = output_encoding (encoding_of encoding) in
+        IfOk result (λ bytes. bytes.items ≡ pair_bytes e first (chars key.now) (chars value.now)) }
+{
+    let mut line = LineBuffer::new(alloc);
+    print_pair(&mut line, encoding, first, key, value)?;
+    concatenated(alloc, line.as_slice(), b"", b"")
+}
+
+// The bytes of three slices, one after the other. Their memory is taken before the first of them is copied.
+fn concatenated(
     alloc: Global,
     front: &[u8],
     middle: &[u8],

@@ -1,12 +1,14 @@
 // What is found of an item before it is lent: it borrows nothing, so that reading can go on around it.
 
-ghost use Rattle.std.specs.Prelude.{◌≡◌, Some, None, false, not, bytes_eq};
-ghost use Rattle.std.specs.Option.{is_some};
+ghost use Rattle.std.specs.Prelude.{◌≡◌, Some, None, false, not, bytes_eq, IfOk};
+ghost use Rattle.std.specs.Option.{is_some, option_map};
 ghost use Rattle.std.specs.Str.{chars};
 ghost use Rattle.std.specs.Cow.{cow_str_bytes};
 ghost use Rattle.properties_text.specs.Parsing.{AreSpans, IsSpan, in_characters, spanned};
 ghost use Rattle.properties_format.specs.Items.{given};
 ghost use Rattle.properties_format.specs.Reading.Body.{is_pair_with};
+ghost use Rattle.properties_format.specs.Reading.Slots.{key_told};
+ghost use Rattle.java_properties.specs.Maps.{characters};
 ghost use Rattle.properties_format.specs.Split.{IsSplit};
 ghost use Rattle.properties_text.specs.Escaping.{holds_backslash};
 ghost use Rattle.java_properties.specs.LentItems.{lent_entry, said_by, is_borrowed, BorrowsPlain, found_bytes, found_content, found_entry, AreTextsIn, spans_of, IsFoundIn, IsTextIn, FindsText, FindsContent, FindsIn, FindsPlain};
@@ -14,7 +16,7 @@ ghost use Rattle.java_properties.specs.LentItems.{lent_entry, said_by, is_borrow
 use crate::iter::lent::{ContentRef, LineRef};
 use properties_text::escape::{UnescapeError, unescape};
 use properties_text::parse::{ParsedSpans, Span, parse_spans};
-use std::alloc::Global;
+use std::alloc::{AllocError, Global};
 use std::borrow::CowStr;
 
 /// An item that [`advance`](crate::PropertiesIter::advance) has found, for
@@ -150,6 +152,19 @@ impl Found {
     }
 }
 
+impl Found {
+    /// A copy of its key, where it is a pair.
+    pub(crate) fn key(&self, alloc: Global, line: &str) -> Result<Option<String>, AllocError>
+        requires { IsFoundIn line.now self.now }
+        ensures { IfOk result (λ key. option_map characters key ≡ key_told (given (found_content line.now self.now.content))) }
+    {
+        match &self.content {
+            FoundContent::Comment(_) => Ok(None),
+            FoundContent::KVPair(found, _) => Ok(Some(found.copied(alloc, line)?)),
+        }
+    }
+}
+
 impl FoundContent {
     fn cut(self, line: &str) -> ContentRef<'_>
         requires texts { AreTextsIn line.now self }
@@ -185,6 +200,17 @@ impl FoundText {
         match &self.resolved {
             None => self.span.cut(line) == text,
             Some(resolved) => resolved.as_str() == text,
+        }
+    }
+
+    // A copy of it.
+    fn copied(&self, alloc: Global, line: &str) -> Result<String, AllocError>
+        requires { IsTextIn line.now self.now }
+        ensures { IfOk result (λ text. characters text ≡ chars (found_bytes line.now self.now)) }
+    {
+        match &self.resolved {
+            None => String::from_str(alloc, self.span.cut(line)),
+            Some(resolved) => String::from_str(alloc, resolved.as_str()),
         }
     }
 

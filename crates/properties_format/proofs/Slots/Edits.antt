@@ -1,5 +1,5 @@
 -- Edits in turn, each made to the bytes that the one before gave, are the same edits made to the slots of the source.
-use Rattle.std.proofs.Common.{◌≡◌, ℕ, Bool, true, false, List, [], ◌∷◌, ◌++◌, length, take, drop, refl, ap, ap₂, sym, ◌∙◌, inl, inr, subst, arith, if◌then◌else◌, append_assoc}
+use Rattle.std.proofs.Common.{◌≡◌, ℕ, Bool, true, false, List, [], ◌∷◌, ◌++◌, length, take, drop, refl, ap, ap₂, sym, ◌∙◌, inl, inr, subst, arith, if◌then◌else◌, None, append-nil, append_assoc}
 use Rattle.std.proofs.lemmas.List.{drop_at, take_at}
 use Rattle.std.proofs.lemmas.Bool.{cases_Bool}
 use Rattle.properties_format.specs.Text.{LineEnding}
@@ -13,7 +13,7 @@ use Rattle.properties_format.specs.Reading.Slots.{slots_bytes, slot_list, Slots,
 use Rattle.properties_format.proofs.Body.Groups.{held_groups_of-meets, held-body}
 use Rattle.properties_format.proofs.Edited.Made.{key_set-only, without-meets, key_removed-only}
 use Rattle.properties_format.proofs.Edited.ByteOrderMarks.{has_bom, source-whole, key_set-in_force, key_removed-in_force}
-use Rattle.properties_format.proofs.Slots.Lines.{bytes-unended}
+use Rattle.properties_format.proofs.Slots.Lines.{bytes-unended, ending-of}
 use Rattle.properties_format.proofs.Slots.Merged.{AreInTurn, in-turn, merged, merged-groups}
 use Rattle.properties_format.proofs.Slots.Removed.{removed}
 use Rattle.properties_format.proofs.Slots.Put.{put-in, ends-last}
@@ -202,6 +202,21 @@ source-closing e source ok =
       | inl x ↦ rw x refl
       | inr x ↦ let t = s x in rw (x, t) refl
     ]
+
+-- the last of these groups has no line ending
+turn-final : (e : Encoding) (gs : List (List HeldLine)) → AreInTurn e gs → last_ending (final_group gs) ≡ None
+turn-final e [] a = absurd a
+turn-final e (g ∷ []) a = ending-of e None g a.0
+turn-final e (g ∷ h ∷ gs) a = turn-final e (h ∷ gs) a.1
+
+-- It is one too where the bytes of its last slot end in one.
+pub slots-closing : (e : Encoding) (body : List ℕ) → is_editable e ≡ true
+    → let g = final_group (held_groups_of e body) in (slots_of (held_groups_of e body)).closing ≡ closing_by (safe_ending (unended_bytes g)) g
+slots-closing e body ok =
+    let gs = held_groups_of e body in
+    let g = final_group gs in
+    let none = turn-final e gs (in-turn e body gs ok (held_groups_of-meets e body)) in
+    ap (λ v. closing_by (safe_ending v) g) (bytes-unended g ∙ ap (λ o. unended_bytes g ++ ending_bytes o) none ∙ append-nil (unended_bytes g))
 
 -- The bytes of a slot of a source stand in the body where its group stands.
 pub span-unended : (body front : List ℕ) (g : List HeldLine) (back : List ℕ) → body ≡ front ++ (group_bytes g ++ back)

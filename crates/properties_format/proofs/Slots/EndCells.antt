@@ -4,10 +4,9 @@ use Rattle.std.proofs.lemmas.Bool.{cases_Bool}
 use Rattle.std.proofs.lemmas.List.{set_at, length-append}
 use Rattle.properties_format.specs.Text.{lf}
 use Rattle.properties_format.specs.Encoding.{Encoding}
-use Rattle.properties_format.specs.Reading.Slots.{Slot, Slots, Closing, left_out, ended_by, closed_by, slot_has, is_first, last_slot, pair_slot, empty_slot, closed_slot, closed_slots, slots_put_at}
+use Rattle.properties_format.specs.Reading.Slots.{Slot, Slots, Closing, left_out, ended_by, closed_by, slot_has, is_first, last_slot, pair_slot, empty_slot, closed_slot, closed_slots, slots_put_at, final_slot}
 use Rattle.properties_format.specs.Reading.Cells.{Cell, live, cell_has, places_from, places, EndsAlive, closed_cell}
 use Rattle.properties_format.proofs.Slots.Places.{put-appends}
-use Rattle.properties_format.proofs.Slots.WellEnded.{final_slot}
 use Rattle.properties_format.proofs.Slots.Cells.{live-alive, live-append, cell-at, places-append, places-none}
 use Rattle.properties_format.proofs.Slots.PutCell.{ends-back}
 

@@ -5,10 +5,9 @@ use Rattle.std.proofs.lemmas.List.{set_at, get_or_at, length-append}
 use Rattle.properties_format.specs.Text.{lf}
 use Rattle.properties_format.specs.Encoding.{begins_like_bom}
 use Rattle.properties_format.specs.Writing.{is_empty}
-use Rattle.properties_format.specs.Reading.Slots.{Slot, slot_has, empty_slot, is_by_lf, is_lf_alone, are_one_ending, slots_without, last_has, slots_guarded}
+use Rattle.properties_format.specs.Reading.Slots.{Slot, slot_has, empty_slot, is_by_lf, is_lf_alone, are_one_ending, slots_without, last_has, slots_guarded, AreWellEnded}
 use Rattle.properties_format.specs.Reading.Cells.{AreDeadBetween, Cell, live, dead, places, EndsAlive, slots_kept}
 use Rattle.properties_format.proofs.Slots.Merged.{by_lf-is}
-use Rattle.properties_format.proofs.Slots.WellEnded.{AreWellEnded}
 use Rattle.properties_format.proofs.Slots.Cells.{live-alive, live-dead, live-append, live-none, cell-at, places-none}
 use Rattle.properties_format.proofs.Slots.PutCell.{drop-next}
 use Rattle.properties_format.proofs.Slots.EndCells.{last-at, live-last}

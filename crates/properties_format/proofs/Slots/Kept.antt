@@ -1,12 +1,11 @@
 -- The slots that are left where a key is removed, one pair after the other.
 use Rattle.std.proofs.Common.{◌≡◌, ℕ, ◌&&◌, Bool, true, false, List, [], ◌∷◌, ◌++◌, None, refl, ap, sym, ◌∙◌, inl, inr, if◌then◌else◌}
 use Rattle.std.proofs.lemmas.Bool.{cases_Bool, and_parts}
-use Rattle.properties_format.specs.Reading.Slots.{Slot, slot_has, empty_slot, is_by_cr, is_by_lf, is_lf_alone, are_one_ending, slots_without, last_has}
+use Rattle.properties_format.specs.Reading.Slots.{Slot, slot_has, empty_slot, is_by_cr, is_by_lf, is_lf_alone, are_one_ending, slots_without, last_has, AreWellEnded}
 use Rattle.properties_format.specs.Reading.Cells.{slots_kept}
 use Rattle.properties_format.specs.Writing.{is_empty}
 use Rattle.properties_format.proofs.Slots.Merged.{by_lf-is}
 use Rattle.properties_format.proofs.Slots.Places.{NoSlotHas}
-use Rattle.properties_format.proofs.Slots.WellEnded.{AreWellEnded}
 
 -- a slot with another key stays
 kept-other : (key : List ℕ) (s : Slot) (ss : List Slot) → slot_has key s ≡ false → slots_kept key (s ∷ ss) ≡ s ∷ slots_kept key ss

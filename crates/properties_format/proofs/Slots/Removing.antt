@@ -6,11 +6,10 @@ use Rattle.std.proofs.lemmas.Bool.Decides.{eqb_tells}
 use Rattle.std.proofs.lemmas.List.{get_or-set_same, get_or-set_other, length-set, drop-set-lt}
 use Rattle.properties_format.specs.Text.{lf}
 use Rattle.properties_format.specs.Writing.{is_empty}
-use Rattle.properties_format.specs.Reading.Slots.{Slot, slot_has, empty_slot, is_by_cr, is_by_lf, is_lf_alone, are_one_ending, slots_without, last_has}
+use Rattle.properties_format.specs.Reading.Slots.{Slot, slot_has, empty_slot, is_by_cr, is_by_lf, is_lf_alone, are_one_ending, slots_without, last_has, AreWellEnded}
 use Rattle.properties_format.specs.Reading.Cells.{Cell, live, dead, places, EndsAlive, AreDeadBetween, slots_kept}
 use Rattle.properties_format.proofs.Slots.Merged.{by_lf-is}
 use Rattle.properties_format.proofs.Slots.Places.{NoSlotHas}
-use Rattle.properties_format.proofs.Slots.WellEnded.{AreWellEnded}
 use Rattle.properties_format.proofs.Slots.Cells.{live-alive, live-append, cell-at, places-none}
 use Rattle.properties_format.proofs.Slots.EndCells.{last-at, live-last}
 use Rattle.properties_format.proofs.Slots.Kept.{begins_with_lf_alone}

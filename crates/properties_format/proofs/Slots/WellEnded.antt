@@ -9,29 +9,12 @@ use Rattle.properties_format.specs.Reading.Items.{outcome_of}
 use Rattle.properties_format.specs.Reading.Cut.{decoded_line}
 use Rattle.properties_format.specs.Body.{HeldLine, group_bytes, last_ending}
 use Rattle.properties_format.specs.Edited.{final_group, is_empty_line, is_left_open, is_editable, Edit, AreScalarEdits}
-use Rattle.properties_format.specs.Reading.Slots.{Slot, unended_bytes, key_told, slot_of, slot_list, left_out, ended_by, closed_by, safe_ending, closing_of, Slots, empty_slot, is_by_lf, is_lf_alone, slots_after}
+use Rattle.properties_format.specs.Reading.Slots.{unended_bytes, key_told, slot_of, slot_list, left_out, ended_by, closed_by, safe_ending, closing_of, AreWellEnded, IsWellEnded, final_slot, is_by_lf, slots_after}
 use Rattle.properties_format.proofs.Body.Decoded.{decoded-nil}
 use Rattle.properties_format.proofs.Edited.Told.{outcome-empty}
 use Rattle.properties_format.proofs.Slots.Lines.{AreLinesBy, ending-of, unended-some}
 use Rattle.properties_format.proofs.Slots.Merged.{AreInTurn, empty-is}
 use Rattle.properties_format.proofs.Slots.Edits.{reached}
-
--- No slot that is an LF alone is a pair, and the last slot has no ending.
-abbrev pub AreWellEnded : List Slot → Type 0
-AreWellEnded [] = ⊥
-AreWellEnded (s ∷ []) = s.ending ≡ None
-AreWellEnded (s ∷ t ∷ ss) = (is_lf_alone s ≡ true → s.key ≡ None) × AreWellEnded (t ∷ ss)
-
--- the last of the slots
-abbrev pub final_slot : List Slot → Slot
-final_slot [] = empty_slot None
-final_slot (s ∷ []) = s
-final_slot (s ∷ t ∷ ss) = final_slot (t ∷ ss)
-
--- Such slots; and where the last one is left out before a new pair, it is no pair itself.
-pub record IsWellEnded (s : Slots) : Type 0 where
-  pub slots : AreWellEnded s.list
-  pub left_out : s.closing ≡ left_out → (final_slot s.list).key ≡ None
 
 -- an empty line is no pair
 empty-key : (e : Encoding) (o : Option LineEnding) (g : List HeldLine) → AreLinesBy e o g → unended_bytes g ≡ [] → (slot_of g).key ≡ None

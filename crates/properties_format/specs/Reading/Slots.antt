@@ -1,5 +1,5 @@
 -- Edits in turn, made to a list of slots: one for each group of the body, made once from the source. The bytes are made once, after the last edit.
-use Rattle.std.specs.Prelude.{ℕ, ◌&&◌, not, Bool, true, false, if◌then◌else◌, List, [], ◌∷◌, ◌++◌, Option, Some, None, bytes_eq}
+use Rattle.std.specs.Prelude.{◌≡◌, ℕ, ◌&&◌, not, Bool, true, false, if◌then◌else◌, List, [], ◌∷◌, ◌++◌, Option, Some, None, bytes_eq}
 use Rattle.properties_format.specs.Text.{LineEnding, lf, cr, crlf, line_ending_text}
 use Rattle.properties_format.specs.Encoding.{Encoding, byte_order_mark, begins_like_bom}
 use Rattle.properties_format.specs.Reading.Lines.{ends_in_cr}
@@ -186,3 +186,22 @@ slots_after e source edits = slots_after_edits (byte_order_mark e source).encodi
 
 abbrev pub slots_made : Encoding → List ℕ → List Edit → List ℕ
 slots_made e source edits = bom_of source ++ slots_bytes (slots_after e source edits).list
+
+-- ---- what is so of the slots of a source, after any edits
+
+-- No slot that is an LF alone is a pair, and the last slot has no ending.
+abbrev pub AreWellEnded : List Slot → Type 0
+AreWellEnded [] = ⊥
+AreWellEnded (s ∷ []) = s.ending ≡ None
+AreWellEnded (s ∷ t ∷ ss) = (is_lf_alone s ≡ true → s.key ≡ None) × AreWellEnded (t ∷ ss)
+
+-- the last of the slots
+abbrev pub final_slot : List Slot → Slot
+final_slot [] = empty_slot None
+final_slot (s ∷ []) = s
+final_slot (s ∷ t ∷ ss) = final_slot (t ∷ ss)
+
+-- Such slots; and where the last one is left out before a new pair, it is no pair itself.
+pub record IsWellEnded (s : Slots) : Type 0 where
+  pub slots : AreWellEnded s.list
+  pub left_out : s.closing ≡ left_out → (final_slot s.list).key ≡ None

@@ -1,0 +1,417 @@
+-- A key is put into slots.
+use Rattle.std.proofs.Common.{◌≡◌, ◌<◌, ◌≤◌, ◌==◌, ℕ, ◌+◌, ◌-◌, ◌&&◌, Bool, true, false, List, [], ◌∷◌, ◌++◌, length, get_or, set, take, drop, Some, None, if◌then◌else◌, refl, ap, ap₂, sym, ◌∙◌, subst, inl, inr, arith, below_more, append_assoc, append-nil}
+use Rattle.std.specs.Prelude.{bytes_eq}
+use Rattle.std.specs.BTreeMap.{IsOrdered}
+use Rattle.std.specs.String.{string_cmp}
+use Rattle.std.proofs.lemmas.Bool.{cases_Bool, cases_lt}
+use Rattle.std.proofs.lemmas.Bool.Decides.{eqb_tells}
+use Rattle.std.proofs.lemmas.List.{length-append, length-set, get_or-set_other, get_or_append_left, take_at}
+use Rattle.std.proofs.lemmas.Slice.Eq.{bytes_eq-Decides}
+use Rattle.properties_format.specs.Text.{lf}
+use Rattle.properties_format.specs.Text as text
+use Rattle.properties_format.specs.Encoding.{Encoding}
+use Rattle.properties_format.specs.Edited.{pair_bytes}
+use Rattle.properties_format.specs.Reading.Slots as format
+use Rattle.properties_format.specs.Reading.Slots.{left_out, ended_by, closed_by, is_first, final_slot, last_slot, slot_has, pair_slot, empty_slot, closed_slots, slots_put_at}
+use Rattle.properties_format.specs.Reading.Cells.{Cell, live, places, cell_has, closed_cell, EndsAlive, AreLinks}
+use Rattle.properties_format.proofs.Slots.PutCell.{ends-after, ends-set, none-before, some-before, none-after, some-after, pair-same, placed, put-cell, places-set}
+use Rattle.properties_format.proofs.Slots.EndCells.{last-at, live-last, final-live, close-end, put-end, places-end}
+use Rattle.properties_format.proofs.Slots.Links.{links-alive, links-push}
+use Rattle.java_properties.specs.BodySlots.{IsCell, AreCells, no_cell, stack_at, closing_in, HoldsCells, IsFirstLeft, FindsFirst, IsLastOf, PutsKey, Pushes, PushesEmpty}
+use Rattle.java_properties.specs.BodySlots.Put.{LooseCells, Refills, ClosesSlot, FindsNextFirst}
+use Rattle.java_properties.specs.declared.edit.slots.Slot.{Slot}
+use Rattle.java_properties.specs.declared.edit.slots.Slots.{Slots}
+use Rattle.java_properties.proofs.BodySlots.{cells-length, cells-at, cells-set, cells-push}
+
+-- ---- the first slot
+
+-- Where none of the first n cells is left, there are more.
+dead-inside : (cells : List Cell) (n : ℕ) → EndsAlive cells → ((k : ℕ) → k < n → (get_or cells k no_cell).alive ≡ false) → n ≤ length cells
+    → 0 < length cells
+    → n < length cells
+dead-inside cells n a f h p = elim (cases_lt n (length cells)) [
+  | inl l ↦ l
+  | inr l ↦
+      let last = last-at cells (length cells - 1) no_cell a (omega arith) in
+      let left = last.alive in
+      let gone = f (length cells - 1) (omega arith) in
+      absurd (cc)
+]
+
+pub first-inside : (body : List ℕ) (s : Slots) (cells : List Cell) → HoldsCells body s cells → s.first < length s.slots.items
+first-inside body s cells h =
+    let size = cells-length body s.slots.items cells h.cells_are in
+    let more = h.others in
+    let l = dead-inside cells s.first h.ends h.first_is h.first_in (omega arith) in
+    omega arith
+
+-- A slot that isn't left is passed,
+pub first-passed : (body : List ℕ) (s : Slots) (cells : List Cell) (d : Slot) → HoldsCells body s cells
+    → (get_or s.slots.items s.first d).is_left ≡ false
+    → HoldsCells body (record s { first = s.first + 1 }) cells
+first-passed body s cells d h k =
+    let inside = first-inside body s cells h in
+    let size = cells-length body s.slots.items cells h.cells_are in
+    let cell = cells-at body s.slots.items cells s.first d no_cell h.cells_are inside in
+    record {
+      cells_are = h.cells_are;
+      linked = h.linked;
+      links_are = h.links_are;
+      places_are = h.places_are;
+      ends = h.ends;
+      first_in = omega arith;
+      first_is = below_more _ _ h.first_is (cell.left ∙ k);
+      guard = h.guard;
+      others = h.others;
+      ordered = h.ordered;
+    }
+
+-- and one that is left is found.
+pub first-found : (body : List ℕ) (s : Slots) (cells : List Cell) (d : Slot) → HoldsCells body s cells
+    → (get_or s.slots.items s.first d).is_left ≡ true
+    → IsFirstLeft cells s.first
+first-found body s cells d h k =
+    let inside = first-inside body s cells h in
+    let size = cells-length body s.slots.items cells h.cells_are in
+    let cell = cells-at body s.slots.items cells s.first d no_cell h.cells_are inside in
+    record { inside = omega arith; left = cell.left ∙ k; none_before = h.first_is }
+
+-- ---- which slot is the first, and which the last
+
+-- It is the first one that is left where no slot is left before it,
+pub first-tells : (cells : List Cell) (n i : ℕ) → IsFirstLeft cells n → i < length cells → (get_or cells i no_cell).alive ≡ true
+    → is_first (live (take i cells)) ≡ (n == i)
+first-tells cells n i f l a = elim (eqb_tells n i) [
+  | inl s ↦
+      let same = s.1 in
+      none-before cells i no_cell (omega arith) (λ k m. f.none_before k (omega arith)) ∙ sym s.0
+  | inr s ↦ elim (cases_lt i n) [
+    | inl m ↦ let gone = f.none_before i m in absurd (cc)
+    | inr m ↦ let apart = s.1 in some-before cells i n no_cell (omega arith) (omega arith) f.left ∙ sym s.0
+  ]
+]
+
+-- and the last one where none is left after it.
+pub last-tells : (cells : List Cell) (i size : ℕ) → EndsAlive cells → i < length cells → size ≡ length cells
+    → is_first (live (drop (i + 1) cells)) ≡ (i + 1 == size)
+last-tells cells i size a l z = elim (eqb_tells (i + 1) size) [
+  | inl s ↦ let same = s.1 in ap is_first (none-after cells i (omega arith)) ∙ sym s.0
+  | inr s ↦ let apart = s.1 in some-after cells i no_cell a (omega arith) ∙ sym s.0
+]
+
+closed-out : (xs : List format.Slot) (s : format.Slot) → closed_slots left_out (xs ++ s ∷ []) ≡ xs
+closed-out [] s = refl
+closed-out (x ∷ []) s = refl
+closed-out (x ∷ y ∷ xs) s = ap (λ v. x ∷ v) (closed-out (y ∷ xs) s)
+
+-- Where the last slot is left out, a pair after it is the first one if it was the only one left,
+pub next-out : (cells : List Cell) (n size : ℕ) → IsFirstLeft cells n → EndsAlive cells → size ≡ length cells
+    → is_first (closed_slots left_out (live cells)) ≡ (n + 1 == size)
+next-out cells n size f a z =
+    let inside = f.inside in
+    let i = length cells - 1 in
+    let m = last-at cells i no_cell a (omega arith) in
+    let front : closed_slots left_out (live cells) ≡ live (take i cells) =
+    ap (closed_slots left_out) (live-last cells i no_cell m)
+    ∙ closed-out (live m.before) (get_or cells i no_cell).slot
+    ∙ ap live (sym (ap (take i) m.division ∙ take_at m.before (get_or cells i no_cell ∷ []) i m.number)) in
+    ap is_first front ∙ first-tells cells n i f (omega arith) m.alive ∙ more n i size (omega arith)
+  where
+    more : (n i size : ℕ) → i + 1 ≡ size → (n == i) ≡ (n + 1 == size)
+    more n i size k = elim (eqb_tells n i) [
+      | inl s ↦ elim (eqb_tells (n + 1) size) [
+        | inl t ↦ s.0 ∙ sym t.0
+        | inr t ↦ let same = s.1 in let apart = t.1 in absurd (omega arith)
+      ]
+      | inr s ↦ elim (eqb_tells (n + 1) size) [
+        | inl t ↦ let apart = s.1 in let same = t.1 in absurd (omega arith)
+        | inr t ↦ s.0 ∙ sym t.0
+      ]
+    ]
+
+ended-some : (by : text.LineEnding) (xs : List format.Slot) (s : format.Slot) → is_first (closed_slots (ended_by by) (xs ++ s ∷ [])) ≡ false
+ended-some by [] s = refl
+ended-some by (x ∷ []) s = refl
+ended-some by (x ∷ y ∷ xs) s = refl
+
+closed-some : (by : text.LineEnding) (xs : List format.Slot) (s : format.Slot) → is_first (closed_slots (closed_by by) (xs ++ s ∷ [])) ≡ false
+closed-some by [] s = refl
+closed-some by (x ∷ []) s = refl
+closed-some by (x ∷ y ∷ xs) s = refl
+
+-- and else it never is.
+pub next-ended : (cells : List Cell) (by : text.LineEnding) → EndsAlive cells → 0 < length cells → is_first (closed_slots (ended_by by) (live cells)) ≡ false
+next-ended cells by a l =
+    let i = length cells - 1 in
+    let m = last-at cells i no_cell a (omega arith) in
+    ap (λ v. is_first (closed_slots (ended_by by) v)) (live-last cells i no_cell m) ∙ ended-some by (live m.before) (get_or cells i no_cell).slot
+
+pub next-closed : (cells : List Cell) (by : text.LineEnding) → EndsAlive cells → 0 < length cells → is_first (closed_slots (closed_by by) (live cells)) ≡ false
+next-closed cells by a l =
+    let i = length cells - 1 in
+    let m = last-at cells i no_cell a (omega arith) in
+    ap (λ v. is_first (closed_slots (closed_by by) v)) (live-last cells i no_cell m) ∙ closed-some by (live m.before) (get_or cells i no_cell).slot
+
+-- ---- the cells of slots
+
+alive-same : (a b : Cell) → a ≡ b → a.alive ≡ b.alive
+alive-same a b s = ap (λ v. let w : Cell = v in w.alive) s
+
+slot-same : (a b : Cell) → a ≡ b → a.slot ≡ b.slot
+slot-same a b s = ap (λ v. let w : Cell = v in w.slot) s
+
+-- Another slot takes the place of one that is left.
+pub loose-set : (body : List ℕ) (old new : Slots) (cells : List Cell) (i : ℕ) (slot : Slot) (n : Cell) → HoldsCells body old cells → i < length cells → 0 < i
+    → (get_or cells i no_cell).alive ≡ true
+    → IsCell body slot n
+    → new.slots.items ≡ set old.slots.items i slot
+    → new.links ≡ old.links
+    → new.first ≡ old.first
+    → LooseCells body new (set cells i n)
+loose-set body old new cells i slot n h l p a is s links first =
+    let size = length-set cells i n in
+    let within = h.first_in in
+    record {
+      cells_are = subst (λ v. AreCells body v (set cells i n)) (sym s) (cells-set body old.slots.items cells i slot n h.cells_are is);
+      linked = ap (λ v. length v.items) links ∙ h.linked ∙ sym size;
+      links_are = subst (λ v. AreLinks (set cells i n) v.items no_cell) (sym links) (links-alive cells old.links.items i n no_cell h.links_are l a);
+      first_in = omega arith;
+      first_is = λ k m.
+          alive-same (get_or (set cells i n) k no_cell) (get_or cells k no_cell)
+          (get_or-set_other cells i k n no_cell (λ t. let b = h.first_is k (omega arith) in apart k t b))
+          ∙ h.first_is k (omega arith);
+      guard = slot-same (get_or (set cells i n) 0 no_cell) (get_or cells 0 no_cell) (get_or-set_other cells i 0 n no_cell (λ t. omega arith)) ∙ h.guard;
+    }
+  where
+    apart : (k : ℕ) → k ≡ i → (get_or cells k no_cell).alive ≡ false → ⊥
+    apart k t b = let c = ap (λ v. (get_or cells v no_cell).alive) t in cc
+
+-- One more slot comes last.
+pub loose-push : (body : List ℕ) (old new : Slots) (cells : List Cell) (slot : Slot) (c : Cell) → LooseCells body old cells → 0 < length cells
+    → IsCell body slot c
+    → new.slots.items ≡ old.slots.items ++ slot ∷ []
+    → new.links.items ≡ old.links.items ++ (length old.slots.items + 1) ∷ []
+    → new.first ≡ old.first
+    → LooseCells body new (cells ++ c ∷ [])
+loose-push body old new cells slot c h p is s links first =
+    let number = cells-length body old.slots.items cells h.cells_are in
+    let size = length-append cells (c ∷ []) in
+    let room = length-append old.links.items ((length old.slots.items + 1) ∷ []) in
+    let linked = h.linked in
+    let all = ap length links in
+    let within = h.first_in in
+    record {
+      cells_are = subst (λ v. AreCells body v (cells ++ c ∷ [])) (sym s) (cells-push body old.slots.items cells slot c h.cells_are is);
+      linked = omega arith;
+      links_are = subst (λ v. AreLinks (cells ++ c ∷ []) v no_cell) (sym (links ∙ ap (λ v. old.links.items ++ (v + 1) ∷ []) number))
+          (links-push cells old.links.items c no_cell h.links_are h.linked);
+      first_in = omega arith;
+      first_is = λ k m.
+          alive-same (get_or (cells ++ c ∷ []) k no_cell) (get_or cells k no_cell) (get_or_append_left cells (c ∷ []) no_cell k (omega arith))
+          ∙ h.first_is k (omega arith);
+      guard = slot-same (get_or (cells ++ c ∷ []) 0 no_cell) (get_or cells 0 no_cell) (get_or_append_left cells (c ∷ []) no_cell 0 p) ∙ h.guard;
+    }
+
+-- Such slots hold their cells again, where the last is left and the places are kept.
+pub holds-loose : (body : List ℕ) (s : Slots) (cells : List Cell) → LooseCells body s cells → EndsAlive cells → 1 < length cells
+    → ((key : List ℕ) → stack_at s.places.entries key ≡ places key cells)
+    → IsOrdered string_cmp s.places
+    → HoldsCells body s cells
+holds-loose body s cells h a l p o = record {
+  cells_are = h.cells_are;
+  linked = h.linked;
+  links_are = h.links_are;
+  places_are = p;
+  ends = a;
+  first_in = h.first_in;
+  first_is = h.first_is;
+  guard = h.guard;
+  others = l;
+  ordered = o;
+}
+
+-- ---- the pair takes the place of another
+
+-- Slots of which one is replaced hold the cells with the pair.
+holds-refilled : (body : List ℕ) (old new : Slots) (cells : List Cell) (i : ℕ) (slot : Slot) (n : Cell) → HoldsCells body old cells → i < length cells
+    → 0 < i
+    → (get_or cells i no_cell).alive ≡ true
+    → n.alive ≡ true
+    → ((key : List ℕ) → cell_has key n ≡ cell_has key (get_or cells i no_cell))
+    → IsCell body slot n
+    → new.slots.items ≡ set old.slots.items i slot
+    → new ≡ record old { slots = new.slots; closing = new.closing; parting = new.parting }
+    → HoldsCells body new (set cells i n)
+holds-refilled body old new cells i slot n h l p a b k is s same =
+    let size = length-set cells i n in
+    let more = h.others in
+    let places_same = ap (λ v. let w : Slots = v in w.places) same in
+    holds-loose body new (set cells i n)
+    (loose-set body old new cells i slot n h l p a is s (ap (λ v. let w : Slots = v in w.links) same) (ap (λ v. let w : Slots = v in w.first) same))
+    (ends-set cells i n l b h.ends) (omega arith)
+    (λ key.
+    ap (λ v. stack_at v.entries key) places_same ∙ h.places_are key ∙ sym (places-set key cells i n no_cell l (k key)))
+    (subst (IsOrdered string_cmp) (sym places_same) h.ordered)
+
+-- The slot that is kept for an LF is no pair.
+place-after : (key : List ℕ) (cells : List Cell) (i : ℕ) → (get_or cells 0 no_cell).slot ≡ empty_slot (Some lf)
+    → slot_has key (get_or cells i no_cell).slot ≡ true → 0 < i
+place-after key cells i g h = elim (cases_lt 0 i) [
+  | inl l ↦ l
+  | inr l ↦
+      let zero : i ≡ 0 = omega arith in
+      let none : slot_has key (get_or cells i no_cell).slot ≡ false = ap (λ v. slot_has key (get_or cells v no_cell).slot) zero ∙ ap (slot_has key) g in
+      absurd (cc)
+]
+
+-- The last place with a key is one of the slots, also after the first one was found.
+pub place-inside : (body key : List ℕ) (start old : Slots) (cells : List Cell) (place n : ℕ) → HoldsCells body start cells
+    → IsLastOf (stack_at start.places.entries key) (Some place)
+    → FindsFirst start n old
+    → place < length old.slots.items
+place-inside body key start old cells place n h l f =
+    let at = placed key cells l.0 place no_cell (sym (h.places_are key) ∙ l.1) in
+    let inside = at.inside in
+    let size = cells-length body old.slots.items cells (f.finds body cells h).1.cells_are in
+    omega arith
+
+-- So a key is put where a slot has it.
+pub puts-replaced : (e : Encoding) (key value : List ℕ) (start old new : Slots) (place n : ℕ) (bytes : List ℕ)
+    → IsLastOf (stack_at start.places.entries key) (Some place)
+    → FindsFirst start n old
+    → bytes ≡ pair_bytes e (n == place) key value
+    → Refills old place bytes new
+    → PutsKey e key value start new
+puts-replaced e key value start old new place n bytes l f b r body m w h =
+    let cells = h.cells in
+    let found = f.finds body cells h.holds in
+    let closing : format.Closing = closing_in start.closing start.parting in
+    let stack : places key cells ≡ l.0 ++ place ∷ [] = sym (h.holds.places_are key) ∙ l.1 in
+    let at = placed key cells l.0 place no_cell stack in
+    let c : Cell = get_or cells place no_cell in
+    let first = is_first (live (take place cells)) in
+    let pair : Cell = record { slot = pair_slot e first key value c.slot.ending; alive = true } in
+    let printed : bytes ≡ pair_bytes e first key value =
+    b ∙ ap (λ v. pair_bytes e v key value) (sym (first-tells cells n place found.0 at.inside at.alive)) in
+    let size = cells-length body old.slots.items cells found.1.cells_are in
+    let inside = at.inside in
+    let before : IsCell body r.before c =
+    subst (λ v. IsCell body v c) (sym r.was) (cells-at body old.slots.items cells place r.before no_cell found.1.cells_are (omega arith)) in
+    let is : IsCell body r.slot pair =
+    subst (IsCell body r.slot)
+    (ap₂ (λ u v. record { slot = record { bytes = u; ending = c.slot.ending; key = Some key }; alive = v }) printed at.alive) (r.is body (Some key) c before) in
+    let whole =
+    ap₂ (λ u v. let s : format.Slots = record { list = u; closing = v } in slots_put_at e key value s (last_slot key s.list)) h.list h.closing
+    ∙ put-cell e key value cells closing l.0 place no_cell stack in
+    record {
+      cells = set cells place pair;
+      holds = holds-refilled body old new cells place r.slot pair found.1 at.inside (place-after key cells place found.1.guard at.has) at.alive refl
+          (λ k. pair-same e first key value k c.slot c.slot.ending at.has ∙ sym (ap (λ v. v && slot_has k c.slot) at.alive)) is r.slots r.same;
+      list = ap (λ v. let s : format.Slots = v in s.list) whole;
+      closing = ap (λ v. let s : format.Slots = v in s.closing) whole
+          ∙ ap₂ (λ u v. if u then ended_by lf else v)
+          (last-tells cells place (length old.slots.items) found.1.ends at.inside size)
+          (sym (ap (λ v. let s : Slots = v in closing_in s.closing s.parting) f.same))
+          ∙ sym r.closing;
+    }
+
+-- ---- the pair comes after all others
+
+bytes-swap : (x y : List ℕ) → bytes_eq x y ≡ bytes_eq y x
+bytes-swap x y = elim (cases_Bool (bytes_eq x y)) [
+  | inl k ↦ k ∙ sym ((bytes_eq-Decides y x).1 (sym ((bytes_eq-Decides x y).0 k)))
+  | inr k ↦ elim (cases_Bool (bytes_eq y x)) [
+    | inl j ↦ let t = (bytes_eq-Decides x y).1 (sym ((bytes_eq-Decides y x).0 j)) in absurd (cc)
+    | inr j ↦ k ∙ sym j
+  ]
+]
+
+pushed-if : (b : Bool) (xs : List ℕ) (p : ℕ) → (if b then xs ++ p ∷ [] else xs) ≡ xs ++ (if b then p ∷ [] else [])
+pushed-if true xs p = refl
+pushed-if false xs p = sym (append-nil xs)
+
+-- one more place of a key
+place-added : (key k : List ℕ) (old new others : List ℕ) (place size : ℕ) → new ≡ (if bytes_eq k key then old ++ place ∷ [] else old) → old ≡ others
+    → place ≡ size
+    → new ≡ others ++ (if bytes_eq key k then size ∷ [] else [])
+place-added key k old new others place size a s t =
+    a ∙ pushed-if (bytes_eq k key) old place
+    ∙ ap₂ (λ u v. u ++ v) s (ap₂ (λ b p. if b then p ∷ [] else []) (bytes-swap k key) t)
+
+-- There is a last slot, also after it was found whether a pair after it is the first.
+pub some-found : (body : List ℕ) (start found : Slots) (first : Bool) (cells : List Cell) → HoldsCells body start cells → FindsNextFirst start first found
+    → 0 < length found.slots.items
+some-found body start found first cells h f =
+    let m = (f.finds body cells h).1 in
+    let more = m.others in
+    let size = cells-length body found.slots.items cells m.cells_are in
+    omega arith
+
+-- So a key is put that no slot has.
+pub puts-appended : (e : Encoding) (key value own : List ℕ) (start found closed pushed new : Slots) (first : Bool) (last : ℕ) (before ended pair : Slot)
+    → IsLastOf (stack_at start.places.entries key) None
+    → FindsNextFirst start first found
+    → last + 1 ≡ length found.slots.items
+    → before ≡ get_or found.slots.items last before
+    → ClosesSlot (closing_in found.closing found.parting) before ended
+    → closed.slots.items ≡ set found.slots.items last ended
+    → closed ≡ record found { slots = closed.slots; places = closed.places }
+    → ((k : List ℕ) → stack_at closed.places.entries k
+    ≡ (if bytes_eq k own then stack_at found.places.entries k ++ (last + 1) ∷ [] else stack_at found.places.entries k))
+    → own ≡ key
+    → IsOrdered string_cmp closed.places
+    → ((body : List ℕ) → IsCell body pair (record { slot = pair_slot e first key value (Some lf); alive = true }))
+    → Pushes closed pair pushed
+    → PushesEmpty pushed new
+    → PutsKey e key value start new
+puts-appended e key value own start found closed pushed new first last before ended pair none f number was closes set_is same added own_is ordered is_pair p q
+    body m w h =
+    let cells = h.cells in
+    let found_is = f.finds body cells h.holds in
+    let held = found_is.1 in
+    let closing : format.Closing = closing_in start.closing start.parting in
+    let size = cells-length body found.slots.items cells held.cells_are in
+    let end : last + 1 ≡ length cells = omega arith in
+    let more = held.others in
+    let at = last-at cells last no_cell held.ends end in
+    let c : Cell = get_or cells last no_cell in
+    let kept : List Cell = set cells last (closed_cell closing c) in
+    let kept_size = length-set cells last (closed_cell closing c) in
+    let one : Cell = record { slot = pair_slot e first key value (Some lf); alive = true } in
+    let two : Cell = record { slot = empty_slot None; alive = true } in
+    let closing_same : closing_in found.closing found.parting ≡ closing =
+    ap (λ v. let s : Slots = v in closing_in s.closing s.parting) f.same in
+    let ended_is : IsCell body ended (closed_cell closing c) =
+    subst (λ v. IsCell body ended (closed_cell v c)) closing_same (closes body c
+    (subst (λ v. IsCell body v c) (sym was) (cells-at body found.slots.items cells last before no_cell held.cells_are (omega arith)))) in
+    let loose_closed : LooseCells body closed kept =
+    loose-set body found closed cells last ended (closed_cell closing c) held (omega arith) (omega arith) at.alive ended_is set_is
+    (ap (λ v. let s : Slots = v in s.links) same) (ap (λ v. let s : Slots = v in s.first) same) in
+    let loose_pushed : LooseCells body pushed (kept ++ one ∷ []) =
+    loose-push body closed pushed kept pair one loose_closed (omega arith) (is_pair body) p.slots p.links (ap (λ v. let s : Slots = v in s.first) p.same) in
+    let pushed_size = length-append kept (one ∷ []) in
+    let loose_new : LooseCells body new ((kept ++ one ∷ []) ++ two ∷ []) =
+    loose-push body pushed new (kept ++ one ∷ []) q.slot two loose_pushed (omega arith) (q.is body) q.slots q.links (ap (λ v. let s : Slots = v in s.first) q.same) in
+    let places_same : new.places ≡ closed.places = ap (λ v. let s : Slots = v in s.places) q.same ∙ ap (λ v. let s : Slots = v in s.places) p.same in
+    let all_size = length-append kept (one ∷ two ∷ []) in
+    let no_key : closing ≡ left_out → c.slot.key ≡ None =
+    λ k. ap (λ v. let s : format.Slot = v in s.key) (sym (ap final_slot h.list ∙ final-live cells last no_cell held.ends end)) ∙ w.left_out (h.closing ∙ k) in
+    let whole =
+    ap₂ (λ u v. let s : format.Slots = record { list = u; closing = v } in slots_put_at e key value s (last_slot key s.list)) h.list h.closing
+    ∙ put-end e key value cells closing last no_cell held.ends end (sym (h.holds.places_are key) ∙ none) in
+    let first_is : is_first (live kept) ≡ first = ap is_first (close-end cells closing last no_cell held.ends end) ∙ sym found_is.0 in
+    record {
+      cells = kept ++ one ∷ two ∷ [];
+      holds = holds-loose body new (kept ++ one ∷ two ∷ []) (subst (LooseCells body new) (append_assoc kept (one ∷ []) (two ∷ [])) loose_new)
+          (ends-after kept (one ∷ two ∷ []) refl) (omega arith)
+          (λ k.
+          ap (λ v. stack_at v.entries k) places_same
+          ∙ place-added key k (stack_at found.places.entries k) (stack_at closed.places.entries k) (places k cells) (last + 1) (length cells)
+          (added k ∙ ap (λ v. if bytes_eq k v then stack_at found.places.entries k ++ (last + 1) ∷ [] else stack_at found.places.entries k) own_is)
+          (held.places_are k) end
+          ∙ sym (places-end k cells closing last one.slot no_cell held.ends end no_key))
+          (subst (IsOrdered string_cmp) (sym places_same) ordered);
+      list = ap (λ v. let s : format.Slots = v in s.list) whole
+          ∙ ap (λ b. live (kept ++ record { slot = pair_slot e b key value (Some lf); alive = true } ∷ two ∷ [])) first_is;
+      closing = ap (λ v. let s : format.Slots = v in s.closing) whole ∙ sym (ap (λ v. closing_in v new.parting) q.closing);
+    }

@@ -1,0 +1,168 @@
+-- The slots of a source in one array, as an editor holds them.
+pub mod Parsed
+pub mod Put
+pub mod Removal
+use Rattle.std.specs.Prelude.{◌≡◌, ℕ, ◌+◌, ◌-◌, ◌≤◌, ◌<◌, Bool, true, false, if◌then◌else◌, List, [], ◌∷◌, ◌++◌, length, take, drop, get_or, Option, Some, None, Result, Ok, Err, bytes_eq}
+use Rattle.std.specs.Option.{option_map, option_map_or}
+use Rattle.std.specs.Map.{lookup}
+use Rattle.std.specs.Global.{Vec}
+use Rattle.std.specs.BTreeMap.{IsOrdered}
+use Rattle.std.specs.String.{string_cmp}
+use Rattle.std.specs.declared.string.String.{String}
+use Rattle.properties_format.specs.Text as text
+use Rattle.properties_format.specs.Encoding.{Encoding}
+use Rattle.properties_format.specs.Body.{ending_bytes}
+use Rattle.properties_format.specs.Reading.Body.{held_groups_of}
+use Rattle.properties_format.specs.Reading.Edited.{IsSound, AreSound}
+use Rattle.properties_format.specs.Reading.Items.{outcome_of}
+use Rattle.properties_format.specs.Reading.Slots as format
+use Rattle.properties_format.specs.Reading.Slots.{empty_slot, left_out, ended_by, closed_by, slots_of, last_slot, slots_put_at, slots_without, slots_guarded, last_has, key_told, IsWellEnded}
+use Rattle.properties_format.specs.Reading.Cells.{Cell, live, places, EndsAlive, AreLinks}
+use Rattle.java_properties.specs.Settings.{ending_of}
+use Rattle.java_properties.specs.Maps.{characters}
+use Rattle.java_properties.specs.GivenItems.{IsNoItem}
+use Rattle.java_properties.specs.BodyLines.{ending_in}
+use Rattle.java_properties.specs.BodyKeys.{IsFaultOf}
+use Rattle.java_properties.specs.declared.edit.place.Closing.{Closing}
+use Rattle.java_properties.specs.declared.edit.place.Closing.TheVariants as closing
+use Rattle.java_properties.specs.declared.edit.slots.Slot.{Slot}
+use Rattle.java_properties.specs.declared.edit.slots.Slots.{Slots}
+use Rattle.java_properties.specs.declared.error.PropertiesError.{PropertiesError}
+use Rattle.java_properties.specs.declared.writer.settings.LineEnding.{LineEnding}
+
+-- ---- a slot
+
+-- the bytes of a slot before its line ending
+abbrev pub slot_bytes : List ℕ → Slot → List ℕ
+slot_bytes body slot = take (slot.kept.end - slot.kept.start) (drop slot.kept.start body) ++ slot.added.items
+
+-- The slot is this cell. Which key it has, the cell alone says.
+pub record IsCell (body : List ℕ) (slot : Slot) (cell : Cell) : Type 0 where
+  pub bytes : cell.slot.bytes ≡ slot_bytes body slot
+  pub ending : cell.slot.ending ≡ ending_in slot.ending
+  pub left : cell.alive ≡ slot.is_left
+  pub ordered : slot.kept.start ≤ slot.kept.end
+  pub within : slot.kept.end ≤ length body
+
+abbrev pub AreCells : List ℕ → List Slot → List Cell → Type 0
+AreCells body [] [] = Unit {0}
+AreCells body [] (c ∷ cs) = ⊥
+AreCells body (s ∷ ss) [] = ⊥
+AreCells body (s ∷ ss) (c ∷ cs) = IsCell body s c × AreCells body ss cs
+
+-- ---- the array
+
+-- a cell that is no slot's
+abbrev pub no_cell : Cell
+no_cell = record { slot = empty_slot None; alive = false }
+
+-- the numbers kept under a key, which is given by its characters
+abbrev pub stack_at : {Y : Type 0} → List (String Y × Vec ℕ) → List ℕ → List ℕ
+stack_at entries key = option_map_or (λ v. v.items) (lookup (λ k. bytes_eq key (characters k)) entries) []
+
+-- what becomes of the last slot where a pair comes after it
+abbrev pub closing_in : Closing → LineEnding → format.Closing
+closing_in closing.Nothing by = left_out
+closing_in closing.OneEnding by = ended_by (ending_of by)
+closing_in closing.TwoEndings by = closed_by (ending_of by)
+
+-- The slots are these cells. The first of them is kept for an LF in front, and the last is left.
+pub record HoldsCells (body : List ℕ) (s : Slots) (cells : List Cell) : Type 0 where
+  pub cells_are : AreCells body s.slots.items cells
+  pub linked : length s.links.items ≡ length cells
+  pub links_are : AreLinks cells s.links.items no_cell
+  pub places_are : (key : List ℕ) → stack_at s.places.entries key ≡ places key cells
+  pub ends : EndsAlive cells
+  pub first_in : s.first ≤ length cells
+  pub first_is : (k : ℕ) → k < s.first → (get_or cells k no_cell).alive ≡ false
+  pub guard : (get_or cells 0 no_cell).slot ≡ empty_slot (Some text.lf)
+  pub others : 1 < length cells
+  pub ordered : IsOrdered string_cmp s.places
+
+-- What is left of the slots is this.
+pub record Holds (body : List ℕ) (s : Slots) (m : format.Slots) : Type 0 where
+  pub cells : List Cell
+  pub holds : HoldsCells body s cells
+  pub list : m.list ≡ live cells
+  pub closing : m.closing ≡ closing_in s.closing s.parting
+
+-- It is so of some slots of this body, which are well ended,
+pub record HoldsIn (body : List ℕ) (s : Slots) : Type 0 where
+  pub slots : format.Slots
+  pub holds : Holds body s slots
+  pub well_ended : IsWellEnded slots
+
+-- or of any body.
+pub record HoldsSome (s : Slots) : Type 0 where
+  pub body : List ℕ
+  pub holds : HoldsIn body s
+
+-- What is left of the slots is changed so.
+abbrev pub Changes : List ℕ → (format.Slots → format.Slots) → Slots → Slots → Type 0
+Changes body change old new = (m : format.Slots) → IsWellEnded m → Holds body old m → Holds body new (change m)
+
+-- ---- one more slot
+
+-- A slot comes last.
+pub record Pushes (old : Slots) (slot : Slot) (new : Slots) : Type 0 where
+  pub slots : new.slots.items ≡ old.slots.items ++ slot ∷ []
+  pub links : new.links.items ≡ old.links.items ++ (length old.slots.items + 1) ∷ []
+  pub same : new ≡ record old { slots = new.slots; links = new.links }
+
+-- A slot without bytes and without a line ending comes last.
+pub record PushesEmpty (old new : Slots) : Type 0 where
+  pub slot : Slot
+  pub is : (body : List ℕ) → IsCell body slot (record { slot = empty_slot None; alive = true })
+  pub slots : new.slots.items ≡ old.slots.items ++ slot ∷ []
+  pub links : new.links.items ≡ old.links.items ++ (length old.slots.items + 1) ∷ []
+  pub closing : new.closing ≡ closing.Nothing
+  pub same : new ≡ record old { slots = new.slots; links = new.links; closing = new.closing }
+
+-- ---- the first slot
+
+-- The first cell that is left has this number.
+pub record IsFirstLeft (cells : List Cell) (n : ℕ) : Type 0 where
+  pub inside : n < length cells
+  pub left : (get_or cells n no_cell).alive ≡ true
+  pub none_before : (k : ℕ) → k < n → (get_or cells k no_cell).alive ≡ false
+
+-- It is found, and what the slots are stays.
+pub record FindsFirst (old : Slots) (n : ℕ) (new : Slots) : Type 0 where
+  pub finds : (body : List ℕ) (cells : List Cell) → HoldsCells body old cells → IsFirstLeft cells n × HoldsCells body new cells
+  pub same : new ≡ record old { first = new.first }
+
+-- ---- edits
+
+-- A key is put.
+abbrev pub PutsKey : Encoding → List ℕ → List ℕ → Slots → Slots → Type 0
+PutsKey e key value old new = (body : List ℕ) → Changes body (λ m. slots_put_at e key value m (last_slot key m.list)) old new
+
+-- A key is removed, from a body before which a byte order mark stands or not.
+abbrev pub left_without : Bool → List ℕ → format.Slots → format.Slots
+left_without marked key m =
+    record { list = slots_guarded marked (slots_without key m.list); closing = if last_has key m.list then left_out else m.closing }
+
+-- ---- the slots of a body
+
+-- The key of a logical line is told, where it is a pair; or an error in the line of this number.
+abbrev pub TellsKeyOf : {Y : Type 0} → List ℕ → ℕ → Result (Option (String Y)) PropertiesError → Type 0
+TellsKeyOf line number (Ok key) = IsSound (outcome_of line) × (option_map characters key ≡ key_told (outcome_of line))
+TellsKeyOf line number (Err e) = IsNoItem number line e
+
+-- A body was read, in which nothing is malformed, into its slots; or its first fault was found.
+abbrev pub ParsesSlots : Encoding → List ℕ → Result Slots PropertiesError → Type 0
+ParsesSlots e body (Ok s) = AreSound (held_groups_of e body) × Holds body s (slots_of (held_groups_of e body))
+ParsesSlots e body (Err error) = IsFaultOf (held_groups_of e body) error
+
+-- ---- the slots of a key
+
+-- the number is the last of these
+abbrev pub IsLastOf : List ℕ → Option ℕ → Type 0
+IsLastOf stack None = stack ≡ []
+IsLastOf stack (Some n) = (before : List ℕ) × (stack ≡ before ++ n ∷ [])
+
+-- ---- the bytes of a slot
+
+-- what a slot comes to in the bytes that are made: nothing, where it isn't left
+abbrev pub written : List ℕ → Slot → List ℕ
+written body slot = if slot.is_left then slot_bytes body slot ++ ending_bytes (ending_in slot.ending) else []

@@ -1,0 +1,56 @@
+-- A key put into slots in one array: what each step on the way does.
+use Rattle.std.specs.Prelude.{◌≡◌, ℕ, ◌+◌, ◌==◌, ◌≤◌, ◌<◌, Bool, false, if◌then◌else◌, List, length, get_or, set}
+use Rattle.std.specs.Prelude.{Option, Some}
+use Rattle.properties_format.specs.Text as text
+use Rattle.properties_format.specs.Reading.Slots as format
+use Rattle.properties_format.specs.Reading.Slots.{empty_slot, ended_by, is_first, closed_slots}
+use Rattle.properties_format.specs.Reading.Cells.{Cell, live, closed_cell, AreLinks}
+use Rattle.java_properties.specs.BodySlots.{AreCells, IsCell, HoldsCells, no_cell, closing_in}
+use Rattle.java_properties.specs.declared.edit.slots.Slot.{Slot}
+use Rattle.java_properties.specs.declared.edit.slots.Slots.{Slots}
+
+-- The slots are these cells, whichever of them are left and whatever places are kept.
+pub record LooseCells (body : List ℕ) (s : Slots) (cells : List Cell) : Type 0 where
+  pub cells_are : AreCells body s.slots.items cells
+  pub linked : length s.links.items ≡ length cells
+  pub links_are : AreLinks cells s.links.items no_cell
+  pub first_in : s.first ≤ length cells
+  pub first_is : (k : ℕ) → k < s.first → (get_or cells k no_cell).alive ≡ false
+  pub guard : (get_or cells 0 no_cell).slot ≡ empty_slot (Some text.lf)
+
+-- ---- in the place of another
+
+-- the cell with these bytes, under a key
+abbrev pub cell_with : List ℕ → Option (List ℕ) → Cell → Cell
+cell_with bytes key c = record { slot = record { bytes = bytes; ending = c.slot.ending; key = key }; alive = c.alive }
+
+-- The slot has other bytes.
+abbrev pub RefillsSlot : List ℕ → Slot → Slot → Type 0
+RefillsSlot bytes old new =
+    (body : List ℕ) (key : Option (List ℕ)) (cell : Cell) → IsCell body old cell
+    → IsCell body new (cell_with bytes key cell)
+
+-- The slot in this place has other bytes. If it is the last one, an LF parts it from a pair that comes after it.
+pub record Refills (old : Slots) (place : ℕ) (bytes : List ℕ) (new : Slots) : Type 0 where
+  pub before : Slot
+  pub slot : Slot
+  pub was : before ≡ get_or old.slots.items place before
+  pub is : RefillsSlot bytes before slot
+  pub slots : new.slots.items ≡ set old.slots.items place slot
+  pub closing : closing_in new.closing new.parting
+      ≡ (if place + 1 == length old.slots.items then ended_by text.lf else closing_in old.closing old.parting)
+  pub same : new ≡ record old { slots = new.slots; closing = new.closing; parting = new.parting }
+
+-- ---- after all others
+
+-- The slot is closed, before a pair that comes after it.
+abbrev pub ClosesSlot : format.Closing → Slot → Slot → Type 0
+ClosesSlot closing old new =
+    (body : List ℕ) (cell : Cell) → IsCell body old cell → IsCell body new (closed_cell closing cell)
+
+-- It is found whether a pair after the last slot would be the first, and what the slots are stays.
+pub record FindsNextFirst (old : Slots) (result : Bool) (new : Slots) : Type 0 where
+  pub finds : (body : List ℕ) (cells : List Cell) → HoldsCells body old cells
+      → (result ≡ is_first (closed_slots (closing_in old.closing old.parting) (live cells)))
+      × HoldsCells body new cells
+  pub same : new ≡ record old { first = new.first }

@@ -1,0 +1,149 @@
+-- A key removed from slots in one array: what each step on the way does.
+use Rattle.std.specs.Prelude.{◌≡◌, ℕ, ◌+◌, ◌≤◌, ◌<◌, Bool, true, false, if◌then◌else◌, List, [], ◌∷◌, ◌++◌, length, get_or, set, None, Some}
+use Rattle.std.specs.BTreeMap.{IsOrdered}
+use Rattle.std.specs.String.{string_cmp}
+use Rattle.properties_format.specs.Text as text
+use Rattle.properties_format.specs.Reading.Slots as format
+use Rattle.properties_format.specs.Reading.Slots.{empty_slot, left_out, slots_without, slots_guarded, last_has, is_by_cr, are_one_ending, AreWellEnded}
+use Rattle.properties_format.specs.Reading.Cells.{Cell, live, dead, places, AreLinks, AreDeadBetween}
+use Rattle.java_properties.specs.BodySlots.{AreCells, IsCell, HoldsCells, no_cell, stack_at, closing_in}
+use Rattle.java_properties.specs.declared.edit.slots.Slot.{Slot}
+use Rattle.java_properties.specs.declared.edit.slots.Slots.{Slots}
+
+-- ---- one slot
+
+-- What a test of a slot tells, for each cell that it is.
+abbrev pub Tells : (format.Slot → Bool) → Slot → Bool → Type 0
+Tells test slot result = (body : List ℕ) (cell : Cell) → IsCell body slot cell → result ≡ test cell.slot
+
+-- ---- while places are left out
+
+-- The slots are these cells, whichever of them are left and whatever places are kept.
+pub record LooseCells (body : List ℕ) (s : Slots) (cells : List Cell) : Type 0 where
+  pub cells_are : AreCells body s.slots.items cells
+  pub linked : length s.links.items ≡ length cells
+  pub links_are : AreLinks cells s.links.items no_cell
+  pub first_in : s.first ≤ length cells
+  pub first_is : (k : ℕ) → k < s.first → (get_or cells k no_cell).alive ≡ false
+  pub guard : (get_or cells 0 no_cell).slot ≡ empty_slot (Some text.lf)
+
+-- They are some cells, and one of them has this number.
+pub record HasPlace (s : Slots) (place : ℕ) : Type 0 where
+  pub body : List ℕ
+  pub cells : List Cell
+  pub loose : LooseCells body s cells
+  pub inside : place < length cells
+
+-- the cells without the one at a place
+abbrev pub without_cell : List Cell → ℕ → List Cell
+without_cell cells place = set cells place (dead (get_or cells place no_cell))
+
+-- A slot is left out.
+pub record Leaves (old : Slots) (place : ℕ) (new : Slots) : Type 0 where
+  pub cells : (body : List ℕ) (cells : List Cell) → LooseCells body old cells → place < length cells
+      → LooseCells body new (without_cell cells place)
+  pub same : new ≡ record old { slots = new.slots }
+
+-- The next cell after a place that is left has this number; or it is the number of cells.
+pub record IsNextLeft (cells : List Cell) (place next : ℕ) : Type 0 where
+  pub after : place < next
+  pub within : next ≤ length cells
+  pub between : AreDeadBetween cells place next no_cell
+  pub left : next < length cells → (get_or cells next no_cell).alive ≡ true
+
+-- It is found, and what the slots are stays.
+pub record FindsNext (old : Slots) (place next : ℕ) (new : Slots) : Type 0 where
+  pub finds : (body : List ℕ) (cells : List Cell) → LooseCells body old cells → place < length cells
+      → IsNextLeft cells place next × LooseCells body new cells
+  pub same : new ≡ record old { links = new.links }
+
+-- What is left of the cells: without one that ends in no CR; without one after which none is left; without one after
+-- which the next has another line ending; and without one and the LF of its line ending.
+pub data IsLeftOut (cells : List Cell) (place : ℕ) (new : List Cell) : Type 0 where
+  other : is_by_cr (get_or cells place no_cell).slot.ending ≡ false → new ≡ without_cell cells place
+      → IsLeftOut cells place new
+  at_end : AreDeadBetween (without_cell cells place) place (length (without_cell cells place)) no_cell
+      → new ≡ without_cell cells place → IsLeftOut cells place new
+  apart : (next : ℕ) → IsNextLeft (without_cell cells place) place next → next < length (without_cell cells place)
+      → are_one_ending (get_or cells place no_cell).slot (get_or (without_cell cells place) next no_cell).slot ≡ false
+      → new ≡ without_cell cells place
+      → IsLeftOut cells place new
+  both : (next : ℕ) → IsNextLeft (without_cell cells place) place next → next < length (without_cell cells place)
+      → are_one_ending (get_or cells place no_cell).slot (get_or (without_cell cells place) next no_cell).slot ≡ true
+      → new ≡ without_cell (without_cell cells place) next
+      → IsLeftOut cells place new
+
+-- cells that are left where one is left out of these
+pub record LeftCells (body : List ℕ) (cells : List Cell) (place : ℕ) (s : Slots) : Type 0 where
+  pub new : List Cell
+  pub loose : LooseCells body s new
+  pub left : IsLeftOut cells place new
+
+-- What isn't said by the cells stays.
+pub record KeepsRest (old new : Slots) : Type 0 where
+  pub places : new.places ≡ old.places
+  pub closing : new.closing ≡ old.closing
+  pub parting : new.parting ≡ old.parting
+
+-- A place is left out.
+pub record LeavesOut (old : Slots) (place : ℕ) (new : Slots) : Type 0 where
+  pub leaves : (body : List ℕ) (cells : List Cell) → LooseCells body old cells → place < length cells
+      → LeftCells body cells place new
+  pub same : KeepsRest old new
+
+-- ---- all places are left out
+
+-- The slots without a key are these cells, and whether the last slot had it.
+pub record AreWithout (key : List ℕ) (start : List Cell) (had : Bool) (cells : List Cell) : Type 0 where
+  pub has : last_has key (live start) ≡ had
+  pub list : slots_without key (live start) ≡ live cells
+
+-- From the first cells each pair with the key is left out. If the last was one, an empty slot is to come after them.
+pub record ArePairsOut (body key : List ℕ) (start : List Cell) (s : Slots) : Type 0 where
+  pub cells : List Cell
+  pub loose : LooseCells body s cells
+  pub size : length cells ≡ length start
+  pub places_are : (k : List ℕ) → stack_at s.places.entries k ≡ places k cells
+  pub ordered : IsOrdered string_cmp s.places
+  pub left : (i : ℕ) → i + 1 ≡ length cells → (get_or cells i no_cell).alive ≡ true → AreWithout key start false cells
+  pub gone : (i : ℕ) → i + 1 ≡ length cells → (get_or cells i no_cell).alive ≡ false
+      → AreWithout key start true (cells ++ record { slot = empty_slot None; alive = true } ∷ [])
+
+-- The pairs with a key are left out.
+pub record LeavesPairs (key : List ℕ) (old new : Slots) : Type 0 where
+  pub leaves : (body : List ℕ) (start : List Cell) → HoldsCells body old start → AreWellEnded (live start)
+      → ArePairsOut body key start new
+  pub closing : new.closing ≡ old.closing
+  pub parting : new.parting ≡ old.parting
+
+-- ---- the last slot, and the LF in front
+
+-- The slots are cells without a key.
+pub record IsWithout (body key : List ℕ) (start : List Cell) (closing : format.Closing) (s : Slots) : Type 0 where
+  pub cells : List Cell
+  pub holds : HoldsCells body s cells
+  pub list : slots_without key (live start) ≡ live cells
+  pub closing_is : closing_in s.closing s.parting ≡ (if last_has key (live start) then left_out else closing)
+
+-- The last slot is left again.
+abbrev pub EndsLeft : Slots → Slots → Type 0
+EndsLeft old new =
+    (body key : List ℕ) (start : List Cell) → 1 < length start → ArePairsOut body key start old
+    → IsWithout body key start (closing_in old.closing old.parting) new
+
+-- The slots are some cells.
+pub record HoldsSomeCells (body : List ℕ) (s : Slots) : Type 0 where
+  pub cells : List Cell
+  pub holds : HoldsCells body s cells
+
+-- the slots with an LF in front where it has to stand
+pub record IsGuarded (body : List ℕ) (marked : Bool) (old : List Cell) (s : Slots) : Type 0 where
+  pub cells : List Cell
+  pub holds : HoldsCells body s cells
+  pub list : slots_guarded marked (live old) ≡ live cells
+
+-- An LF comes in front where it has to.
+pub record Guards (body : List ℕ) (marked : Bool) (old new : Slots) : Type 0 where
+  pub guards : (cells : List Cell) → HoldsCells body old cells → IsGuarded body marked cells new
+  pub closing : new.closing ≡ old.closing
+  pub parting : new.parting ≡ old.parting

@@ -1,0 +1,73 @@
+// The groups of a source as slots in one array: edits change the slots, and the bytes are made once.
+
+ghost use Rattle.std.specs.Prelude.{OnOk};
+ghost use Rattle.properties_format.specs.Edited.{Edit};
+ghost use Rattle.properties_format.specs.Encoding.{output_encoding};
+ghost use Rattle.properties_format.specs.Reading.Slots.{slots_edited};
+ghost use Rattle.properties_text.specs.Encoding.{encoding_of};
+ghost use Rattle.java_properties.specs.BodySlots.{Changes, HoldsIn};
+ghost use Rattle.java_properties.specs.Editing.{edit_in};
+
+use crate::edit::Edit;
+use crate::edit::place::{BodySpan, Closing};
+use crate::writer::LineEnding;
+use properties_text::encoding::Encoding;
+use std::alloc::{AllocError, Global};
+use std::collections::BTreeMap;
+
+mod bytes;
+mod parse;
+mod places;
+mod put;
+mod remove;
+
+/// What stands of a group after the edits so far.
+#[derive(Drop)]
+pub struct Slot {
+    /// The part of the body that it keeps.
+    kept: BodySpan,
+    /// The bytes after that part: a printed pair, or a line ending that closes an open line.
+    added: Vec<u8>,
+    /// Its last line ending, of which the last slot has none.
+    ending: Option<LineEnding>,
+    /// Whether it stands in what is left.
+    is_left: bool,
+}
+
+/// The groups of a body that is held whole, as slots in their order.
+///
+/// The first slot is kept for an LF that may have to stand before all others. The last slot is always left.
+#[derive(Drop)]
+pub struct Slots {
+    slots: Vec<Slot>,
+    // For each slot a later one, or their number: none between the two is left.
+    links: Vec<usize>,
+    // The slots of the pairs with each key, in order, but for those that aren't left.
+    places: BTreeMap<String, Vec<usize>>,
+    // None before this slot is left.
+    first: usize,
+    // What parts a new pair from the last slot, and its line endings.
+    closing: Closing,
+    parting: LineEnding,
+}
+
+impl Slots {
+    /// Makes an edit; `is_marked` says that a byte order mark stands before the body.
+    pub fn make(
+        &mut self,
+        alloc: Global,
+        encoding: Encoding,
+        body: &[u8],
+        is_marked: bool,
+        edit: &Edit,
+    ) -> Result<(), AllocError>
+        requires { HoldsIn body.now self.old }
+        ensures { let e = output_encoding (encoding_of encoding) in
+            OnOk result (Changes body.now (slots_edited e is_marked (edit_in edit.now)) self.old self.new) }
+    {
+        match edit {
+            Edit::Put(key, value) => self.put(alloc, encoding, key, value),
+            Edit::Remove(key) => self.remove(alloc, body, is_marked, key),
+        }
+    }
+}

@@ -1,0 +1,128 @@
+// A body is read into slots.
+
+ghost use Rattle.std.specs.Prelude.{◌≡◌, ◌≤◌, length, IfOk, OnOk};
+ghost use Rattle.std.specs.BTreeMap.{IsOrdered};
+ghost use Rattle.std.specs.Option.{option_map};
+ghost use Rattle.std.specs.String.{string_cmp};
+ghost use Rattle.properties_format.specs.Reading.Slots.{safe_ending};
+ghost use Rattle.properties_text.specs.Encoding.{encoding_of};
+ghost use Rattle.java_properties.specs.LineSearch.{unit_size};
+ghost use Rattle.java_properties.specs.Maps.{characters};
+ghost use Rattle.java_properties.specs.Settings.{ending_of};
+ghost use Rattle.java_properties.specs.BodySlots.{ParsesSlots, Pushes};
+ghost use Rattle.java_properties.specs.BodySlots.Parsed.{AddsGroup, AddsKey, HoldsGuard};
+
+use crate::edit::groups::{Group, GroupReader};
+use crate::edit::keys::key_of;
+use crate::edit::place::{BodySpan, Closing, closing_after, ends_in_cr};
+use crate::edit::slots::places::add_place;
+use crate::edit::slots::{Slot, Slots};
+use crate::error::PropertiesError;
+use crate::writer::LineEnding;
+use properties_text::encoding::Encoding;
+use std::alloc::{AllocError, Global};
+use std::collections::BTreeMap;
+
+impl Slots {
+    /// The slots of a body, whose units are of one byte.
+    pub fn parse(alloc: Global, encoding: Encoding, body: &[u8]) -> Result<Slots, PropertiesError>
+        requires { unit_size (encoding_of encoding) ≡ 1 }
+        ensures { ParsesSlots (encoding_of encoding) body.now result }
+    {
+        let mut groups = GroupReader::new(alloc, encoding);
+        let mut slots = Slots::with_guard(alloc)?;
+        while let Some(group) = groups.next(body)? {
+            let number = group.passed.saturating_add(1);
+            let key = key_of(alloc, number, groups.line(body, group))?;
+            slots.add_group(alloc, body, group, key)?;
+        }
+        Ok(slots)
+    }
+
+    // No group as yet.
+    fn with_guard(alloc: Global) -> Result<Slots, AllocError>
+        ensures { IfOk result (λ slots. HoldsGuard slots) }
+    {
+        let mut slots = Slots {
+            slots: Vec::new(alloc),
+            links: Vec::new(alloc),
+            places: BTreeMap::new(alloc),
+            first: 0,
+            closing: Closing::Nothing,
+            parting: LineEnding::LF,
+        };
+        slots.push(Slot {
+            kept: BodySpan { start: 0, end: 0 },
+            added: Vec::new(alloc),
+            ending: Some(LineEnding::LF),
+            is_left: false,
+        })?;
+        Ok(slots)
+    }
+
+    // One more group of the body, which is a pair with this key.
+    fn add_group(
+        &mut self,
+        alloc: Global,
+        body: &[u8],
+        group: Group,
+        key: Option<String>,
+    ) -> Result<(), AllocError>
+        requires ordered { IsOrdered string_cmp self.old.places }
+        requires starts { group.start ≤ group.end }
+        requires within { group.end ≤ length body.now }
+        ensures { OnOk result (AddsGroup body.now group (option_map characters key) self.old self.new) }
+    {
+        let place = self.slots.len();
+        self.push(Slot {
+            kept: BodySpan {
+                start: group.start,
+                end: group.end,
+            },
+            added: Vec::new(alloc),
+            ending: group.ending,
+            is_left: true,
+        })?;
+        add_key(alloc, &mut self.places, key, place)?;
+        self.closing = closing_after(group);
+        self.parting = parting_after(&body[group.start..group.end]);
+        Ok(())
+    }
+
+    /// The slot comes last.
+    pub fn push(&mut self, slot: Slot) -> Result<(), AllocError>
+        ensures { OnOk result (Pushes self.old slot self.new) }
+    {
+        self.slots.push(slot)?;
+        self.links.push(self.slots.len())?;
+        Ok(())
+    }
+}
+
+// The number comes last of those of the key, where there is one.
+fn add_key(
+    alloc: Global,
+    places: &mut BTreeMap<String, Vec<usize>>,
+    key: Option<String>,
+    place: usize,
+) -> Result<(), AllocError>
+    requires { IsOrdered string_cmp places.old }
+    ensures added { OnOk result (AddsKey (option_map characters key) place places.old.entries places.new.entries) }
+    ensures ordered { IsOrdered string_cmp places.new }
+{
+    match key {
+        Some(key) => add_place(alloc, places, key, place),
+        None => Ok(()),
+    }
+}
+
+// A line ending that makes no CR LF after these bytes.
+fn parting_after(bytes: &[u8]) -> LineEnding
+    ensures { ending_of result ≡ safe_ending bytes.now }
+{
+    if ends_in_cr(bytes) {
+        LineEnding::CR
+    } else {
+        LineEnding::LF
+    }
+}

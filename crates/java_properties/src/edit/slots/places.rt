@@ -1,0 +1,50 @@
+// The slots of each key, by their numbers.
+
+ghost use Rattle.std.specs.Prelude.{◌≡◌, ℕ, List, [], ◌∷◌, ◌++◌, OnOk, bytes_eq, if◌then◌else◌};
+ghost use Rattle.std.specs.Str.{chars};
+ghost use Rattle.std.specs.String.{string_cmp};
+ghost use Rattle.std.specs.BTreeMap.{IsOrdered};
+ghost use Rattle.java_properties.specs.Maps.{characters};
+ghost use Rattle.java_properties.specs.BodySlots.{IsLastOf, stack_at};
+
+use std::alloc::{AllocError, Global};
+use std::collections::BTreeMap;
+
+/// The number comes last of those of the key.
+pub fn add_place(
+    alloc: Global,
+    places: &mut BTreeMap<String, Vec<usize>>,
+    key: String,
+    place: usize,
+) -> Result<(), AllocError>
+    requires { IsOrdered string_cmp places.old }
+    ensures added { OnOk result ((k : List ℕ) → stack_at places.new.entries k
+        ≡ (if bytes_eq k (characters key) then stack_at places.old.entries k ++ place ∷ [] else stack_at places.old.entries k)) }
+    ensures ordered { IsOrdered string_cmp places.new }
+{
+    let stack = places.entry(key)?.or_insert(Vec::new(alloc));
+    stack.push(place)?;
+    Ok(())
+}
+
+/// The last number of the key.
+pub fn last_place(places: &BTreeMap<String, Vec<usize>>, key: &str) -> Option<usize>
+    ensures { IsLastOf (stack_at places.now.entries (chars key.now)) result }
+{
+    places.get(key)?.last().copied()
+}
+
+/// Takes out the numbers of the key.
+pub fn take_places(
+    alloc: Global,
+    places: &mut BTreeMap<String, Vec<usize>>,
+    key: &str,
+) -> Vec<usize>
+    requires { IsOrdered string_cmp places.old }
+    ensures taken { result.items ≡ stack_at places.old.entries (chars key.now) }
+    ensures others { (k : List ℕ) → stack_at places.new.entries k
+        ≡ (if bytes_eq k (chars key.now) then [] else stack_at places.old.entries k) }
+    ensures ordered { IsOrdered string_cmp places.new }
+{
+    places.remove(key).unwrap_or(Vec::new(alloc))
+}

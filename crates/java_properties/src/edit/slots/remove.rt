@@ -1,0 +1,146 @@
+// A key is removed from slots.
+
+ghost use Rattle.std.specs.Prelude.{◌≡◌, ◌<◌, ◌≤◌, ◌++◌, length, OnOk};
+ghost use Rattle.std.specs.Str.{chars};
+ghost use Rattle.properties_format.specs.Encoding.{begins_like_bom, begins_with};
+ghost use Rattle.properties_format.specs.Reading.Slots as format;
+ghost use Rattle.java_properties.specs.BodySlots.{Changes, HoldsIn, HoldsSome, left_without, slot_bytes};
+ghost use Rattle.java_properties.specs.BodySlots.Removal.{EndsLeft, FindsNext, Guards, HasPlace, HoldsSomeCells, Leaves, LeavesOut, LeavesPairs, Tells};
+
+use crate::edit::slots::places::take_places;
+use crate::edit::slots::{Slot, Slots};
+use crate::writer::LineEnding;
+use std::alloc::{AllocError, Global};
+
+impl Slots {
+    /// Leaves out each pair with the key; `is_marked` says that a byte order mark stands before the body.
+    pub fn remove(
+        &mut self,
+        alloc: Global,
+        body: &[u8],
+        is_marked: bool,
+        key: &str,
+    ) -> Result<(), AllocError>
+        requires { HoldsIn body.now self.old }
+        ensures { OnOk result (Changes body.now (left_without is_marked (chars key.now)) self.old self.new) }
+    {
+        self.leave_out_pairs(alloc, key);
+        self.end_with_one_left(alloc)?;
+        self.guard(body, is_marked);
+        Ok(())
+    }
+
+    // Leaves out each pair with the key, and with it the LF of its line ending.
+    fn leave_out_pairs(&mut self, alloc: Global, key: &str)
+        requires { HoldsSome self.old }
+        ensures { LeavesPairs (chars key.now) self.old self.new }
+    {
+        let places = take_places(alloc, &mut self.places, key);
+        for place in &places {
+            self.leave_out(*place);
+        }
+    }
+
+    // Where the last slot is left out, an empty one comes after it.
+    fn end_with_one_left(&mut self, alloc: Global) -> Result<(), AllocError>
+        requires { 0 < length self.old.slots.items }
+        ensures { OnOk result (EndsLeft self.old self.new) }
+    {
+        let last = self.slots.len() - 1;
+        if !self.slots[last].is_left {
+            self.push_empty(alloc)?;
+        }
+        Ok(())
+    }
+
+    // An LF comes before slots that begin like a byte order mark, where none stands before them.
+    fn guard(&mut self, body: &[u8], is_marked: bool)
+        requires { HoldsSomeCells body.now self.old }
+        ensures { Guards body.now is_marked self.old self.new }
+    {
+        let first = self.first_left();
+        if !is_marked && self.slots[first].begins_like_bom(body) {
+            self.slots[0].is_left = true;
+            self.first = 0;
+        }
+    }
+
+    // Leaves out a slot, and the LF after it of the same line ending.
+    fn leave_out(&mut self, place: usize)
+        requires { HasPlace self.old place }
+        ensures { LeavesOut self.old place self.new }
+    {
+        self.leave(place);
+        if !self.slots[place].ends_by_cr() {
+            return;
+        }
+        let next = self.next_left(place);
+        if next < self.slots.len() && self.slots[next].is_lf_alone() {
+            self.leave(next);
+        }
+    }
+
+    // Leaves out a slot alone.
+    fn leave(&mut self, place: usize)
+        requires { place < length self.old.slots.items }
+        ensures { Leaves self.old place self.new }
+    {
+        self.slots[place].is_left = false;
+    }
+
+    // The next slot that is left, or the number of slots. The links over others get shorter on the way.
+    fn next_left(&mut self, place: usize) -> usize
+        requires { HasPlace self.old place }
+        ensures { FindsNext self.old place result self.new }
+    {
+        let mut next = self.links[place];
+        while next < self.slots.len() && !self.slots[next].is_left {
+            next = self.links[next];
+            self.links[place] = next;
+        }
+        next
+    }
+}
+
+impl Slot {
+    fn ends_by_cr(&self) -> bool
+        ensures { Tells (λ slot. format.is_by_cr slot.ending) self.now result }
+    {
+        match self.ending {
+            Some(LineEnding::CR) => true,
+            Some(LineEnding::LF | LineEnding::CRLF) | None => false,
+        }
+    }
+
+    // Whether it is an LF and nothing else.
+    fn is_lf_alone(&self) -> bool
+        ensures { Tells format.is_lf_alone self.now result }
+    {
+        let is_by_lf = match self.ending {
+            Some(LineEnding::LF) => true,
+            Some(LineEnding::CR | LineEnding::CRLF) | None => false,
+        };
+        is_by_lf && self.kept.start == self.kept.end && self.added.is_empty()
+    }
+
+    // Whether its bytes begin like a byte order mark.
+    fn begins_like_bom(&self, body: &[u8]) -> bool
+        requires ordered { self.now.kept.start ≤ self.now.kept.end }
+        requires within { self.now.kept.end ≤ length body.now }
+        ensures { result ≡ begins_like_bom (slot_bytes body.now self.now) }
+    {
+        let kept = &body[self.kept.start..self.kept.end];
+        let added = self.added.as_slice();
+        begin_with(kept, added, &[0xef, 0xbb, 0xbf])
+            || begin_with(kept, added, &[0xfe, 0xff])
+            || begin_with(kept, added, &[0xff, 0xfe])
+    }
+}
+
+// Whether two parts, one after the other, begin with these bytes.
+fn begin_with(front: &[u8], back: &[u8], bytes: &[u8]) -> bool
+    ensures { result ≡ begins_with bytes.now (front.now ++ back.now) }
+{
+    let size = front.len().min(bytes.len());
+    front.starts_with(&bytes[..size]) && back.starts_with(&bytes[size..])
+}
