@@ -79,6 +79,15 @@ pub record HoldsCells (body : List ℕ) (s : Slots) (cells : List Cell) : Type 0
   pub others : 1 < length cells
   pub ordered : IsOrdered string_cmp s.places
 
+-- The slots are these cells, whichever of them are left and whatever places are kept.
+pub record LooseCells (body : List ℕ) (s : Slots) (cells : List Cell) : Type 0 where
+  pub cells_are : AreCells body s.slots.items cells
+  pub linked : length s.links.items ≡ length cells
+  pub links_are : AreLinks cells s.links.items no_cell
+  pub first_in : s.first ≤ length cells
+  pub first_is : (k : ℕ) → k < s.first → (get_or cells k no_cell).alive ≡ false
+  pub guard : (get_or cells 0 no_cell).slot ≡ empty_slot (Some text.lf)
+
 -- What is left of the slots is this.
 pub record Holds (body : List ℕ) (s : Slots) (m : format.Slots) : Type 0 where
   pub cells : List Cell

@@ -16,7 +16,7 @@ mod source;
 
 use crate::edit::kept::find_others;
 use crate::edit::place::find_key;
-use crate::edit::result::{appended, replaced, without_others};
+use crate::edit::result::{appended, others_alone, replaced};
 use crate::edit::slots::Slots;
 use crate::edit::source::Source;
 use crate::error::PropertiesError;
@@ -86,7 +86,7 @@ pub fn remove_key(
 {
     let opened = Source::open(source, encoding)?;
     let others = find_others(alloc, opened.encoding, &source[opened.start..], key)?;
-    let bytes = without_others(alloc, source, opened, &others)?;
+    let bytes = others_alone(alloc, source, opened, &others)?;
     Ok(bytes)
 }
 

@@ -17,8 +17,8 @@ use Rattle.properties_format.specs.Reading.Cells.{Cell, live, places, cell_has, 
 use Rattle.properties_format.proofs.Slots.PutCell.{ends-after, ends-set, none-before, some-before, none-after, some-after, pair-same, placed, put-cell, places-set}
 use Rattle.properties_format.proofs.Slots.EndCells.{last-at, live-last, final-live, close-end, put-end, places-end}
 use Rattle.properties_format.proofs.Slots.Links.{links-alive, links-push}
-use Rattle.java_properties.specs.BodySlots.{IsCell, AreCells, no_cell, stack_at, closing_in, HoldsCells, IsFirstLeft, FindsFirst, IsLastOf, PutsKey, Pushes, PushesEmpty}
-use Rattle.java_properties.specs.BodySlots.Put.{LooseCells, Refills, ClosesSlot, FindsNextFirst}
+use Rattle.java_properties.specs.BodySlots.{LooseCells, IsCell, AreCells, no_cell, stack_at, closing_in, HoldsCells, IsFirstLeft, FindsFirst, IsLastOf, PutsKey, Pushes, PushesEmpty}
+use Rattle.java_properties.specs.BodySlots.Put.{Refills, ClosesSlot, FindsNextFirst}
 use Rattle.java_properties.specs.declared.edit.slots.Slot.{Slot}
 use Rattle.java_properties.specs.declared.edit.slots.Slots.{Slots}
 use Rattle.java_properties.proofs.BodySlots.{cells-length, cells-at, cells-set, cells-push}

@@ -7,8 +7,8 @@ use Rattle.properties_format.specs.Reading.Slots as format
 use Rattle.properties_format.specs.Reading.Slots.{is_by_cr, is_lf_alone, are_one_ending}
 use Rattle.properties_format.specs.Reading.Cells.{Cell, dead, AreLinks, AreDeadBetween}
 use Rattle.properties_format.proofs.Slots.Links.{links-kill, links-shorten}
-use Rattle.java_properties.specs.BodySlots.{AreCells, IsCell, no_cell}
-use Rattle.java_properties.specs.BodySlots.Removal.{Tells, LooseCells, FindsNext, without_cell, Leaves, other, at_end, apart, both, KeepsRest, LeavesOut}
+use Rattle.java_properties.specs.BodySlots.{LooseCells, AreCells, IsCell, no_cell}
+use Rattle.java_properties.specs.BodySlots.Removal.{Tells, FindsNext, without_cell, Leaves, other, at_end, apart, both, KeepsRest, LeavesOut}
 use Rattle.java_properties.specs.declared.edit.slots.Slot.{Slot}
 use Rattle.java_properties.specs.declared.edit.slots.Slots.{Slots}
 use Rattle.java_properties.proofs.BodySlots.{cells-length, cells-at, cells-set}

@@ -10,8 +10,8 @@ use Rattle.properties_format.specs.Reading.Slots.{AreWellEnded}
 use Rattle.properties_format.specs.Reading.Cells.{Cell, live, places}
 use Rattle.properties_format.proofs.Slots.RemoveCells.{first-placed}
 use Rattle.properties_format.proofs.Slots.Removing.{IsRemoving, removing-start, removing-other, removing-end, removing-apart, removing-both, removed-last_left, removed-last_gone}
-use Rattle.java_properties.specs.BodySlots.{HoldsCells, HoldsSome, no_cell, stack_at}
-use Rattle.java_properties.specs.BodySlots.Removal.{LooseCells, HasPlace, IsLeftOut, other, at_end, apart, both, KeepsRest, LeavesOut, LeavesPairs}
+use Rattle.java_properties.specs.BodySlots.{LooseCells, HoldsCells, HoldsSome, no_cell, stack_at}
+use Rattle.java_properties.specs.BodySlots.Removal.{HasPlace, IsLeftOut, other, at_end, apart, both, KeepsRest, LeavesOut, LeavesPairs}
 use Rattle.java_properties.specs.declared.edit.slots.Slots.{Slots}
 use Rattle.java_properties.proofs.BodySlots.Removal.{rest-both}
 

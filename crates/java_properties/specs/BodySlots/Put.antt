@@ -9,15 +9,6 @@ use Rattle.java_properties.specs.BodySlots.{AreCells, IsCell, HoldsCells, no_cel
 use Rattle.java_properties.specs.declared.edit.slots.Slot.{Slot}
 use Rattle.java_properties.specs.declared.edit.slots.Slots.{Slots}
 
--- The slots are these cells, whichever of them are left and whatever places are kept.
-pub record LooseCells (body : List ℕ) (s : Slots) (cells : List Cell) : Type 0 where
-  pub cells_are : AreCells body s.slots.items cells
-  pub linked : length s.links.items ≡ length cells
-  pub links_are : AreLinks cells s.links.items no_cell
-  pub first_in : s.first ≤ length cells
-  pub first_is : (k : ℕ) → k < s.first → (get_or cells k no_cell).alive ≡ false
-  pub guard : (get_or cells 0 no_cell).slot ≡ empty_slot (Some text.lf)
-
 -- ---- in the place of another
 
 -- the cell with these bytes, under a key

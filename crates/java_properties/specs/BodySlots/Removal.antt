@@ -6,7 +6,7 @@ use Rattle.properties_format.specs.Text as text
 use Rattle.properties_format.specs.Reading.Slots as format
 use Rattle.properties_format.specs.Reading.Slots.{empty_slot, left_out, slots_without, slots_guarded, last_has, is_by_cr, are_one_ending, AreWellEnded}
 use Rattle.properties_format.specs.Reading.Cells.{Cell, live, dead, places, AreLinks, AreDeadBetween}
-use Rattle.java_properties.specs.BodySlots.{AreCells, IsCell, HoldsCells, no_cell, stack_at, closing_in}
+use Rattle.java_properties.specs.BodySlots.{AreCells, IsCell, HoldsCells, LooseCells, no_cell, stack_at, closing_in}
 use Rattle.java_properties.specs.declared.edit.slots.Slot.{Slot}
 use Rattle.java_properties.specs.declared.edit.slots.Slots.{Slots}
 
@@ -17,15 +17,6 @@ abbrev pub Tells : (format.Slot → Bool) → Slot → Bool → Type 0
 Tells test slot result = (body : List ℕ) (cell : Cell) → IsCell body slot cell → result ≡ test cell.slot
 
 -- ---- while places are left out
-
--- The slots are these cells, whichever of them are left and whatever places are kept.
-pub record LooseCells (body : List ℕ) (s : Slots) (cells : List Cell) : Type 0 where
-  pub cells_are : AreCells body s.slots.items cells
-  pub linked : length s.links.items ≡ length cells
-  pub links_are : AreLinks cells s.links.items no_cell
-  pub first_in : s.first ≤ length cells
-  pub first_is : (k : ℕ) → k < s.first → (get_or cells k no_cell).alive ≡ false
-  pub guard : (get_or cells 0 no_cell).slot ≡ empty_slot (Some text.lf)
 
 -- They are some cells, and one of them has this number.
 pub record HasPlace (s : Slots) (place : ℕ) : Type 0 where

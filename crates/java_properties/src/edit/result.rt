@@ -67,7 +67,7 @@ pub fn appended(
 
 /// The source with these parts of its body alone. An LF comes before them where they would begin like a byte order mark, and
 /// the source begins with none.
-pub fn without_others(
+pub fn others_alone(
     alloc: Global,
     source: &[u8],
     opened: Source,
