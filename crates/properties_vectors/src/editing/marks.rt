@@ -1,19 +1,10 @@
 // Byte order marks, what is like them, and texts past ASCII.
 
-use super::support::{Change, Row, check_rows};
+use super::support::{ALL, BOTH, Change, Row, check_rows};
 use java_properties::Encoding;
 use std::test::Fail;
 
-const WORKED: [Row<'static>; 2] = [
-    (b"", Change::Put("\u{fe}\u{ff}", "x"), b"\\u00fe\xff=x\n"),
-    (
-        b"\\u00fe\xff=1\n",
-        Change::Put("\u{fe}\u{ff}", "2"),
-        b"\\u00fe\xff=2\n",
-    ),
-];
-
-const WINDOWS_1252: [Row<'static>; 25] = [
+const MARKED: [Row<'static>; 11] = [
     (
         b"\xef\xbb\xbfa=1\nb=2\n",
         Change::Remove("a"),
@@ -24,17 +15,28 @@ const WINDOWS_1252: [Row<'static>; 25] = [
         Change::Put("a", "3"),
         b"\xef\xbb\xbfa=3\nb=2\n",
     ),
+    (
+        b"\xef\xbb\xbfa=1\r\n",
+        Change::Put("a", "\u{e9}"),
+        b"\xef\xbb\xbfa=\xc3\xa9\r\n",
+    ),
     (b"\xef\xbb\xbfa=1", Change::Remove("a"), b"\xef\xbb\xbf"),
+    (b"\xef\xbb\xbf", Change::Remove("a"), b"\xef\xbb\xbf"),
+    (b"\xef\xbb\xbf", Change::Put("a", "1"), b"\xef\xbb\xbfa=1\n"),
     (
         b"\xef\xbb\xbf",
         Change::Put("a", "\u{e9}"),
         b"\xef\xbb\xbfa=\xc3\xa9\n",
     ),
-    (b"\xef\xbb\xbf", Change::Remove("a"), b"\xef\xbb\xbf"),
     (
         b"\xef\xbb\xbf",
         Change::Put("\u{feff}", "1"),
         b"\xef\xbb\xbf\\ufeff=1\n",
+    ),
+    (
+        b"\xef\xbb\xbf\\ufeff=1\n",
+        Change::Put("\u{feff}", "2"),
+        b"\xef\xbb\xbf\\ufeff=2\n",
     ),
     (
         b"\xef\xbb\xbfa=1\n\xef\xbb\xbf=2\n",
@@ -46,6 +48,15 @@ const WINDOWS_1252: [Row<'static>; 25] = [
         Change::Remove("a"),
         b"\xef\xbb\xbf\xfe\xff=2\n",
     ),
+];
+
+// A byte order mark stays, and overrules the encoding that is asked for.
+#[test]
+fn a_mark_says_the_encoding(rt: HostRuntime) -> Result<(), Fail> {
+    check_rows(&rt, rt.alloc(), &ALL, &MARKED)
+}
+
+const GUARDED: [Row<'static>; 8] = [
     (
         b"a=1\n\xef\xbb\xbf=2\n",
         Change::Remove("a"),
@@ -61,6 +72,21 @@ const WINDOWS_1252: [Row<'static>; 25] = [
         b"a=1\n\n\xfe\xff=2\n",
         Change::Remove("a"),
         b"\n\xfe\xff=2\n",
+    ),
+];
+
+// Where the rest would begin like a mark, and only there, a line feed comes before it.
+#[test]
+fn a_rest_like_a_mark_is_guarded(rt: HostRuntime) -> Result<(), Fail> {
+    check_rows(&rt, rt.alloc(), &BOTH, &GUARDED)
+}
+
+const WINDOWS_1252: [Row<'static>; 11] = [
+    (b"", Change::Put("\u{fe}\u{ff}", "x"), b"\\u00fe\xff=x\n"),
+    (
+        b"\\u00fe\xff=1\n",
+        Change::Put("\u{fe}\u{ff}", "2"),
+        b"\\u00fe\xff=2\n",
     ),
     (b"", Change::Put("\u{fe}\u{ff}", "1"), b"\\u00fe\xff=1\n"),
     (b"", Change::Put("\u{ff}\u{fe}", "1"), b"\\u00ff\xfe=1\n"),
@@ -94,28 +120,11 @@ const WINDOWS_1252: [Row<'static>; 25] = [
 ];
 
 #[test]
-fn worked_rows_in_windows_1252(rt: HostRuntime) -> Result<(), Fail> {
-    check_rows(&rt, rt.alloc(), Encoding::WINDOWS_1252, &WORKED)
+fn texts_in_windows_1252(rt: HostRuntime) -> Result<(), Fail> {
+    check_rows(&rt, rt.alloc(), &[Encoding::WINDOWS_1252], &WINDOWS_1252)
 }
 
-#[test]
-fn marks_in_windows_1252(rt: HostRuntime) -> Result<(), Fail> {
-    check_rows(&rt, rt.alloc(), Encoding::WINDOWS_1252, &WINDOWS_1252)
-}
-
-const UTF_8: [Row<'static>; 11] = [
-    (
-        b"a=1\n\xef\xbb\xbf=2\n",
-        Change::Remove("a"),
-        b"\n\xef\xbb\xbf=2\n",
-    ),
-    (b"a=1\n\xfe\xff=2\n", Change::Remove("a"), b"\n\xfe\xff=2\n"),
-    (b"a=1\n\xff\xfe=2\n", Change::Remove("a"), b"\n\xff\xfe=2\n"),
-    (
-        b"\xef\xbb\xbfa=1\nb=2\n",
-        Change::Remove("a"),
-        b"\xef\xbb\xbfb=2\n",
-    ),
+const UTF_8: [Row<'static>; 7] = [
     (b"", Change::Put("\u{feff}k", "1"), b"\\ufeffk=1\n"),
     (
         b"#c\n",
@@ -138,28 +147,6 @@ const UTF_8: [Row<'static>; 11] = [
 ];
 
 #[test]
-fn marks_in_utf_8(rt: HostRuntime) -> Result<(), Fail> {
-    check_rows(&rt, rt.alloc(), Encoding::UTF_8, &UTF_8)
-}
-
-// A byte order mark overrules the encoding that is asked for.
-#[test]
-fn a_mark_says_the_encoding(rt: HostRuntime) -> Result<(), Fail> {
-    let rows: [Row<'_>; 2] = [
-        (b"\xef\xbb\xbf", Change::Put("a", "1"), b"\xef\xbb\xbfa=1\n"),
-        (
-            b"\xef\xbb\xbfa=1\r\n",
-            Change::Put("a", "\u{e9}"),
-            b"\xef\xbb\xbfa=\xc3\xa9\r\n",
-        ),
-    ];
-    for encoding in [
-        Encoding::WINDOWS_1252,
-        Encoding::UTF_8,
-        Encoding::UTF_16LE,
-        Encoding::UTF_16BE,
-    ] {
-        check_rows(&rt, rt.alloc(), encoding, &rows)?;
-    }
-    Ok(())
+fn texts_in_utf_8(rt: HostRuntime) -> Result<(), Fail> {
+    check_rows(&rt, rt.alloc(), &[Encoding::UTF_8], &UTF_8)
 }

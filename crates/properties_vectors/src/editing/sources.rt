@@ -38,13 +38,10 @@ const WORKED: [Row<'static>; 20] = [
 
 #[test]
 fn sources_are_edited(rt: HostRuntime) -> Result<(), Fail> {
-    for encoding in BOTH {
-        check_rows(&rt, rt.alloc(), encoding, &WORKED)?;
-    }
-    Ok(())
+    check_rows(&rt, rt.alloc(), &BOTH, &WORKED)
 }
 
-const ENDS: [Row<'static>; 31] = [
+const PARTED: [Row<'static>; 17] = [
     (b"a=1\r", Change::Put("b", "2"), b"a=1\rb=2\n"),
     (b"a=1\r\n", Change::Put("b", "2"), b"a=1\r\nb=2\n"),
     (b"a=1\n", Change::Put("b", "2"), b"a=1\nb=2\n"),
@@ -66,6 +63,15 @@ const ENDS: [Row<'static>; 31] = [
     (b"\\\n \x09", Change::Put("b", "2"), b"\\\n \x09\nb=2\n"),
     (b"\r", Change::Put("b", "2"), b"\rb=2\n"),
     (b"#c", Change::Put("b", "2"), b"#c\nb=2\n"),
+];
+
+// A new pair has a line of its own, whatever the last line is.
+#[test]
+fn new_pairs_are_parted_from_the_last_line(rt: HostRuntime) -> Result<(), Fail> {
+    check_rows(&rt, rt.alloc(), &BOTH, &PARTED)
+}
+
+const KEPT: [Row<'static>; 14] = [
     (b"b=1\r", Change::Put("b", "2"), b"b=2\r"),
     (b"b=1\r\n", Change::Put("b", "2"), b"b=2\r\n"),
     (b"b=1\n", Change::Put("b", "2"), b"b=2\n"),
@@ -88,10 +94,7 @@ const ENDS: [Row<'static>; 31] = [
 
 #[test]
 fn endings_are_kept(rt: HostRuntime) -> Result<(), Fail> {
-    for encoding in BOTH {
-        check_rows(&rt, rt.alloc(), encoding, &ENDS)?;
-    }
-    Ok(())
+    check_rows(&rt, rt.alloc(), &BOTH, &KEPT)
 }
 
 // Where `\` is the first line, the comment line after it is joined to it, and its own backslash goes on to the next line.

@@ -20,6 +20,14 @@ pub type Row<'a> = (&'a [u8], Change<'a>, &'a [u8]);
 /// Both encodings that are edited.
 pub const BOTH: [Encoding; 2] = [Encoding::WINDOWS_1252, Encoding::UTF_8];
 
+/// All encodings that can be asked for.
+pub const ALL: [Encoding; 4] = [
+    Encoding::WINDOWS_1252,
+    Encoding::UTF_8,
+    Encoding::UTF_16LE,
+    Encoding::UTF_16BE,
+];
+
 /// The source after a single call.
 pub fn changed(
     alloc: Global,
@@ -53,20 +61,34 @@ pub fn edit_of(alloc: Global, change: Change<'_>) -> Result<Edit, AllocError> {
     }
 }
 
-/// Each row by the single call, and by a list of that one edit.
+/// Each row in each of these encodings, by the single call and by a list of that one edit.
 pub fn check_rows(
     rt: &impl Abort,
     alloc: Global,
-    encoding: Encoding,
+    encodings: &[Encoding],
     rows: &[Row<'_>],
 ) -> Result<(), Fail> {
-    for (place, (source, made, wanted)) in rows.iter().enumerate() {
-        let edited = changed(alloc, source, encoding, *made)?;
-        assert_eq!(rt; edited.as_slice(), *wanted, "in row {place}");
-        let edits = edits_of(alloc, &[*made])?;
-        let edited = edit_all(alloc, source, encoding, edits.as_slice())?;
-        assert_eq!(rt; edited.as_slice(), *wanted, "in row {place}");
+    for encoding in encodings {
+        for (place, row) in rows.iter().enumerate() {
+            check_row(rt, alloc, *encoding, row, place)?;
+        }
     }
+    Ok(())
+}
+
+/// The row of this place, by the single call and by a list of that one edit.
+pub fn check_row(
+    rt: &impl Abort,
+    alloc: Global,
+    encoding: Encoding,
+    (source, made, wanted): &Row<'_>,
+    place: usize,
+) -> Result<(), Fail> {
+    let edited = changed(alloc, source, encoding, *made)?;
+    assert_eq!(rt; edited.as_slice(), *wanted, "in row {place}");
+    let edits = edits_of(alloc, &[*made])?;
+    let edited = edit_all(alloc, source, encoding, edits.as_slice())?;
+    assert_eq!(rt; edited.as_slice(), *wanted, "in row {place}");
     Ok(())
 }
 
