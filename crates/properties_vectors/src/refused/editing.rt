@@ -46,87 +46,114 @@ fn gives(rt: &impl Abort, answer: Result<Vec<u8>, PropertiesError>, wanted: &[u8
     }
 }
 
-fn check_change(rt: &impl Abort, alloc: Global, made: Change<'_>, wanted: &[u8]) {
-    let encoding = Encoding::WINDOWS_1252;
-    if !gives(rt, changed(alloc, SOURCE, encoding, made), wanted) {
-        assert!(rt; gives(rt, changed(alloc, SOURCE, encoding, made), wanted));
-    }
+// A call of the editor, for windows-1252.
+#[derive(Clone, Copy)]
+enum Call<'a> {
+    One(Change<'a>),
+    All(&'a [Edit]),
 }
 
-fn check_list(rt: &impl Abort, alloc: Global, edits: &[Edit], wanted: &[u8]) {
-    let encoding = Encoding::WINDOWS_1252;
-    if !gives(rt, edit_all(alloc, SOURCE, encoding, edits), wanted) {
-        assert!(rt; gives(rt, edit_all(alloc, SOURCE, encoding, edits), wanted));
+fn answer(alloc: Global, source: &[u8], call: Call<'_>) -> Result<Vec<u8>, PropertiesError> {
+    match call {
+        Call::One(made) => changed(alloc, source, Encoding::WINDOWS_1252, made),
+        Call::All(edits) => edit_all(alloc, source, Encoding::WINDOWS_1252, edits),
     }
 }
 
 // One growth at most is refused, so a second call gives the bytes, of the same source.
+fn check_given(rt: &impl Abort, alloc: Global, source: &[u8], call: Call<'_>, wanted: &[u8]) {
+    if !gives(rt, answer(alloc, source, call), wanted) {
+        assert!(rt; gives(rt, answer(alloc, source, call), wanted));
+    }
+}
+
 #[test]
 fn a_key_is_set_or_refused(rt: HostRuntime) {
     let [(made, wanted), _, _] = ROWS;
-    check_change(&rt, rt.alloc(), made, wanted);
+    check_given(&rt, rt.alloc(), SOURCE, Call::One(made), wanted);
 }
 
 #[test]
 fn a_new_key_is_set_or_refused(rt: HostRuntime) {
     let [_, (made, wanted), _] = ROWS;
-    check_change(&rt, rt.alloc(), made, wanted);
+    check_given(&rt, rt.alloc(), SOURCE, Call::One(made), wanted);
 }
 
 #[test]
 fn a_key_is_removed_or_refused(rt: HostRuntime) {
     let [_, _, (made, wanted)] = ROWS;
-    check_change(&rt, rt.alloc(), made, wanted);
+    check_given(&rt, rt.alloc(), SOURCE, Call::One(made), wanted);
 }
 
 #[test]
 fn edits_are_made_or_refused(rt: HostRuntime) {
     if let Ok(edits) = edits_of(rt.alloc(), &LIST) {
-        check_list(&rt, rt.alloc(), edits.as_slice(), AFTER_LIST);
+        let call = Call::All(edits.as_slice());
+        check_given(&rt, rt.alloc(), SOURCE, call, AFTER_LIST);
     }
 }
 
 #[test]
 fn a_copy_is_made_or_refused(rt: HostRuntime) {
-    check_list(&rt, rt.alloc(), &[], SOURCE);
+    check_given(&rt, rt.alloc(), SOURCE, Call::All(&[]), SOURCE);
 }
 
 // The guard before what begins like a byte order mark has its room from the start.
 #[test]
 fn a_guard_is_put_or_refused(rt: HostRuntime) {
-    let source = b"a=1\n\xfe\xff=2\n".as_slice();
-    let encoding = Encoding::WINDOWS_1252;
-    let made = Change::Remove("a");
-    let wanted = b"\n\xfe\xff=2\n".as_slice();
-    if !gives(&rt, changed(rt.alloc(), source, encoding, made), wanted) {
-        assert!(rt; gives(&rt, changed(rt.alloc(), source, encoding, made), wanted));
-    }
+    let call = Call::One(Change::Remove("a"));
+    check_given(
+        &rt,
+        rt.alloc(),
+        b"a=1\n\xfe\xff=2\n",
+        call,
+        b"\n\xfe\xff=2\n",
+    );
 }
 
 // A malformed escape is told as that, or Memory is, and never another error.
-fn check_malformed(rt: &impl Abort, alloc: Global, made: Change<'_>) {
+fn check_malformed(rt: &impl Abort, alloc: Global, call: Call<'_>) {
     let source = b"\xe9=1\nk=\xe9\\u12".as_slice();
-    let encoding = Encoding::WINDOWS_1252;
-    let mut answer = changed(alloc, source, encoding, made);
-    if is_refusal(&answer, ErrorKind::Memory, None) {
-        answer = changed(alloc, source, encoding, made);
+    let mut told = answer(alloc, source, call);
+    if is_refusal(&told, ErrorKind::Memory, None) {
+        told = answer(alloc, source, call);
     }
-    assert!(rt; is_refusal(&answer, ErrorKind::NotEnoughDigits, Some(2)));
+    assert!(rt; is_refusal(&told, ErrorKind::NotEnoughDigits, Some(2)));
 }
 
 #[test]
 fn a_malformed_escape_is_told_or_memory_is_where_a_key_is_set(rt: HostRuntime) {
-    check_malformed(&rt, rt.alloc(), Change::Put(KEY, "x"));
+    check_malformed(&rt, rt.alloc(), Call::One(Change::Put(KEY, "x")));
 }
 
 #[test]
 fn a_malformed_escape_is_told_or_memory_is_where_a_key_is_removed(rt: HostRuntime) {
-    check_malformed(&rt, rt.alloc(), Change::Remove(KEY));
+    check_malformed(&rt, rt.alloc(), Call::One(Change::Remove(KEY)));
+}
+
+#[test]
+fn a_malformed_escape_is_told_or_memory_is_where_edits_are_made(rt: HostRuntime) {
+    if let Ok(edits) = edits_of(rt.alloc(), &LIST) {
+        check_malformed(&rt, rt.alloc(), Call::All(edits.as_slice()));
+    }
+}
+
+#[test]
+fn a_malformed_escape_is_told_or_memory_is_where_no_edits_are_made(rt: HostRuntime) {
+    check_malformed(&rt, rt.alloc(), Call::All(&[]));
 }
 
 // No memory is taken before UTF-16 is refused.
 #[test]
 fn utf_16_is_refused_without_memory(rt: HostRuntime) {
-    let answer = changed(rt.alloc(), b"", Encoding::UTF_16BE, Change::Remove("a"));
-    assert!(rt; is_refusal(&answer, ErrorKind::Unsupported, None));
+    let source = b"\xfe\xff\0\xe9\0=\x001".as_slice();
+    let calls = [
+        Call::One(Change::Put("a", "b")),
+        Call::One(Change::Remove("a")),
+        Call::All(&[]),
+    ];
+    for call in calls {
+        let told = answer(rt.alloc(), source, call);
+        assert!(rt; is_refusal(&told, ErrorKind::Unsupported, None));
+    }
 }
