@@ -82,6 +82,18 @@ value_at_text f key is =
     by-bytes (chars key) (scalars-chars key is) f.entries
     ∙ ap (λ bytes. option_map characters (at_bytes f.entries bytes)) (encodes-chars key is)
 
+-- A sorted map finds, by the order of keys, what it has at their bytes.
+by-order : {Y Z : Type 0} (f : BTreeMap (String Y) (String Z)) (bytes : List ℕ) → at_bytes f.entries bytes ≡ sorted.get_by_text f bytes
+by-order f bytes = lookup-same (λ x. bytes_eq bytes (string_bytes x)) (λ x. is_eq (slice_cmp nat_cmp bytes (string_bytes x)))
+    (λ x. sym (is_eq-slice_cmp bytes (string_bytes x))) f.entries
+
+-- The same of a sorted map.
+pub value_at_text_sorted : {Y Z : Type 0} (f : BTreeMap (String Y) (String Z)) (key : List ℕ) → IsUtf8 key → value_at f.entries (chars key) ≡ option_map characters (sorted.get_by_text f key)
+value_at_text_sorted f key is =
+    by-bytes (chars key) (scalars-chars key is) f.entries
+    ∙ ap (λ bytes. option_map characters (at_bytes f.entries bytes)) (encodes-chars key is)
+    ∙ ap (option_map characters) (by-order f key)
+
 module _ {Y Z : Type 0} (old new : Entries Y Z) (key : String Y) (value : String Z) (h : IsPut old key value new) (k : List ℕ) where
   of-text : all_scalars k ≡ true → value_at new k ≡ update bytes_eq (value_at old) (characters key) (Some (characters value)) k
   of-text s =
@@ -112,10 +124,6 @@ pub value-inserted-sorted : {Y Z : Type 0} (m n : BTreeMap (String Y) (String Z)
     → (k : List ℕ) → value_at n.entries k ≡ update bytes_eq (value_at m.entries) (characters key) (Some (characters value)) k
 value-inserted-sorted {Y} {Z} m n key value h = value-put m.entries n.entries key value put
   where
-    by-order : (f : BTreeMap (String Y) (String Z)) (bytes : List ℕ) → at_bytes f.entries bytes ≡ sorted.get_by_text f bytes
-    by-order f bytes = lookup-same (λ x. bytes_eq bytes (string_bytes x)) (λ x. is_eq (slice_cmp nat_cmp bytes (string_bytes x)))
-        (λ x. sym (is_eq-slice_cmp bytes (string_bytes x))) f.entries
-
     put : IsPut m.entries key value n.entries
     put bytes =
         by-order n bytes
