@@ -1,7 +1,7 @@
 -- What `get` does: it prints the last value of a key.
 use Rattle.std.specs.Prelude.{◌≡◌, ◌⊎◌, ℕ, Bool, true, false, List, [], ◌∷◌, ◌++◌, Option, Some, None, Result, Ok, Err, encode_utf8_all}
 use Rattle.std.specs.Option.{option_map}
-use Rattle.std.specs.Global.{String}
+use Rattle.std.specs.declared.string.String.{String}
 use Rattle.counted_io.specs.Streams.{Reader, Sink}
 use Rattle.properties_format.specs.Encoding.{Encoding}
 use Rattle.properties_format.specs.Entries.{Entry}
@@ -19,7 +19,7 @@ pub record Finds {R : Type 0} (reader : Reader R) (e : Encoding) (from : R) (key
   pub value : IsValue items key found
 
 -- What looking up a key returns.
-abbrev pub LooksUp : {R : Type 0} → Reader R → Encoding → R → List ℕ → Result (Option String) PropertiesError → R → Type 0
+abbrev pub LooksUp : {R Z : Type 0} → Reader R → Encoding → R → List ℕ → Result (Option (String Z)) PropertiesError → R → Type 0
 LooksUp reader e from key (Ok found) to = Finds reader e from key (option_map characters found) to
 LooksUp reader e from key (Err error) to = StopsReadingMap reader e from error to
 

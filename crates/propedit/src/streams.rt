@@ -1,13 +1,13 @@
 // Streams that are read to their end and written whole.
 
-ghost use Rattle.std.specs.Prelude.{◌<◌, ◌∷◌, ◌++◌, [], length};
+ghost use Rattle.std.specs.Prelude.{◌≡◌, ◌<◌, ◌∷◌, ◌++◌, [], length, IfOk};
 ghost use Rattle.counted_io.specs.Streams.{IsSameReader, IsSameSink};
 ghost use Rattle.properties_format.specs.Text.{line_feed};
 ghost use Rattle.propedit.specs.Streams.{PutsAll, ReadsAll, ReadsMore, SaysWriteError, SendsAll};
 
 use counted_io::{CountedRead, CountedWrite, send};
 use java_properties::PropertiesError;
-use std::alloc::Global;
+use std::alloc::{AllocError, Global};
 use std::io;
 
 // How many bytes are read at once, at most.
@@ -18,9 +18,28 @@ pub fn read_whole<R: CountedRead>(alloc: Global, input: &mut R) -> Result<Vec<u8
     ensures reads { ReadsAll R.CountedRead input.old result input.new }
     ensures same_reader { IsSameReader R.CountedRead input.old input.new }
 {
-    let mut block = vec![in alloc; 0; BLOCK]?;
+    let mut block = cleared(alloc, BLOCK)?;
+    read_through(alloc, &mut block, input)
+}
+
+fn cleared(alloc: Global, size: usize) -> Result<Vec<u8>, AllocError>
+    ensures { IfOk result (λ block. length block.items ≡ size) }
+{
+    vec![in alloc; 0; size]
+}
+
+// All that a reader gives to its end, by way of a block.
+fn read_through<R: CountedRead>(
+    alloc: Global,
+    block: &mut [u8],
+    input: &mut R,
+) -> Result<Vec<u8>, PropertiesError>
+    requires { 0 < length block.old }
+    ensures reads { ReadsAll R.CountedRead input.old result input.new }
+    ensures same_reader { IsSameReader R.CountedRead input.old input.new }
+{
     let mut bytes = Vec::new(alloc);
-    while read_more(&mut bytes, &mut block, input)? {}
+    while read_more(&mut bytes, block, input)? {}
     Ok(bytes)
 }
 
