@@ -3,3 +3,4 @@ pub mod Errors
 pub mod Reading
 pub mod Sending
 pub mod Looking
+pub mod Granting

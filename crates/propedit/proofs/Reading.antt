@@ -6,19 +6,19 @@ use Rattle.counted_io.proofs.Streams.{read-none, read-more, failed-more}
 use Rattle.java_properties.specs.declared.error.PropertiesError.{PropertiesError}
 use Rattle.propedit.specs.Streams.{GivesWhole, FailsInRead, LacksRoom, HasReadMore}
 
-module _ {R : Type 0} {reader : Reader R} {a b : R} where
-  -- before the first read
-  pub read-nothing : (bytes : List ℕ) → bytes ≡ [] → HasRead reader a bytes a
-  read-nothing bytes e = subst (λ v. HasRead reader a v a) (sym e) (read-none a)
+-- before the first read
+pub read-nothing : {R : Type 0} (reader : Reader R) (a : R) (bytes : List ℕ) → bytes ≡ [] → HasRead reader a bytes a
+read-nothing reader a bytes e = subst (λ v. HasRead reader a v a) (sym e) (read-none a)
 
+module _ {R : Type 0} {reader : Reader R} {a b : R} where
   -- a read that gave bytes
   pub read-again : {c : R} (held held' : List ℕ) → HasRead reader a held b → HasReadMore reader held b held' c → HasRead reader a held' c
-  read-again held held' h k = subst (λ v. HasRead reader a v _) (sym k.added) (read-more h k.read)
+  read-again {c = c} held held' h k = subst (λ v. HasRead reader a v c) (sym k.added) (read-more h k.read)
 
   -- a read at the end
   pub read-last : {c : R} (held held' : List ℕ) → HasRead reader a held b → (held' ≡ held) × GivesWhole reader b [] c → GivesWhole reader a held' c
-  read-last held held' h k = record {
-    read = subst (λ v. HasRead reader a v _) (append-nil held ∙ sym k.0) (read-more h k.1.read);
+  read-last {c = c} held held' h k = record {
+    read = subst (λ v. HasRead reader a v c) (append-nil held ∙ sym k.0) (read-more h k.1.read);
     ended = k.1.ended;
   }
 

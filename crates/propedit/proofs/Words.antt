@@ -1,5 +1,6 @@
 -- Arguments, word by word.
-use Rattle.std.proofs.Common.{◌≡◌, ◌≢◌, ◌≤◌, ℕ, List, [], ◌∷◌, ◌++◌, length, map, take, drop, ◌-◌, get_or, refl, ap, ap₂, sym, ◌∙◌, arith, inl, inr, append_assoc, append-nil}
+use Rattle.std.proofs.Common.{◌≡◌, ◌≢◌, ◌==◌, true, false, rules, ◌≤◌, ℕ, List, [], ◌∷◌, ◌++◌, length, map, take, drop, ◌-◌, get_or, refl, ap, ap₂, sym, ◌∙◌, arith, inl, inr, append_assoc, append-nil}
+use borrow.Author.Tests.{tests}
 use Rattle.std.specs.Prelude.{◌⊎◌, Option, Some, None, codes, string_bytes}
 use Rattle.std.specs.declared.string.String.{String}
 use Rattle.std.proofs.lemmas.List.{take_rest}
@@ -151,12 +152,20 @@ no-words (change []) h = h.1 refl
 no-words (change (put k v ∷ edits)) h = let is = h.0 in cc
 no-words (change (remove k ∷ edits)) h = let is = h.0 in cc
 
-pub no-texts : {Z : Type 0} (texts : List (String Z)) → length texts ≡ 0 → IsWish (map string_bytes texts) None
+-- no texts, told by a test
+pub no-texts : {Z : Type 0} (texts : List (String Z)) → (length texts == 0) ≡ true → IsWish (map string_bytes texts) None
 no-texts [] h = no-words
-no-texts (a ∷ texts) h = absurd (omega arith)
+no-texts (a ∷ texts) h = absurd (some-length texts a h)
+  where
+    some-length : {Z : Type 0} (texts : List (String Z)) (a : String Z) → (length (a ∷ texts) == 0) ≡ true → ⊥
+    some-length texts a h =
+        let some : length (a ∷ texts) ≢ 0 = omega arith in
+        let e : (length (a ∷ texts) == 0) ≡ false = search (rules, tests) in
+        cc
 
-pub some-words : {Z : Type 0} (texts : List (String Z)) → length texts ≢ 0 → map string_bytes texts ≢ []
-some-words [] h e = h refl
+-- some texts, told by a test
+pub some-words : {Z : Type 0} (texts : List (String Z)) → (length texts == 0) ≡ false → map string_bytes texts ≢ []
+some-words [] h e = cc
 some-words (a ∷ texts) h e = cc
 
 -- words that ask to get no key, and are those of no edits

@@ -1,5 +1,4 @@
-use Rattle.std.proofs.Common.{◌≢◌, length, map, arith, ap, ◌∙◌, ◌∷◌, []}
-use borrow.Author.Tests.{tests}
+use Rattle.std.proofs.Common.{map, ap, sym, ◌∙◌, ◌∷◌, []}
 use Rattle.std.specs.Prelude.{string_bytes}
 use Rattle.std.proofs.lemmas.List.{map-append}
 use Rattle.propedit.specs.Asked.{text_edit, text_edits, vec_edits}
@@ -9,8 +8,7 @@ use Rattle.propedit.proofs.asked.edits_in.Goals as goal
 pub returns-in_default : goal.returns-in_default
 returns-in_default c =
     let none = rw c.in_default.is at c.in_ok-edit.ensures in
-    let some : length c.loop-rest.rest.now ≢ 0 = ? in
-    no-edits (map string_bytes c.args.words.now) (vec_edits c.loop-rest.edits) (map string_bytes c.loop-rest.rest.now) c.loop-rest.invariant (some-words c.loop-rest.rest.now some) none
+    no-edits (map string_bytes c.args.words.now) (vec_edits c.loop-rest.edits) (map string_bytes c.loop-rest.rest.now) c.loop-rest.invariant (some-words c.loop-rest.rest.now (sym c.is_empty.ensures ∙ c.loop-rest-test.true)) none
 
 pub loop-rest-preserved : goal.loop-rest-preserved
 loop-rest-preserved c =

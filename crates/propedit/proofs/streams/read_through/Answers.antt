@@ -1,10 +1,11 @@
 use Rattle.std.proofs.Common.{refl, ◌∙◌}
 use Rattle.std.proofs.lemmas.Result.{err_from_is_err_and}
+use Rattle.counted_io.specs.Streams.{reader}
 use Rattle.propedit.proofs.Reading.{read-nothing, read-again, read-last, read-failed}
 use Rattle.propedit.proofs.streams.read_through.Goals as goal
 
 pub loop-bytes-init : goal.loop-bytes-init
-loop-bytes-init g c = record { read = read-nothing c.new-bytes.result.items c.new-bytes.ensures.items; room = c.requires; same_reader = refl }
+loop-bytes-init g c = record { read = read-nothing (reader g.R.Read g.R.CountedRead) c.args.input.now c.new-bytes.result.items c.new-bytes.ensures.items; room = c.requires; same_reader = refl }
 
 pub returns-in_err-read_more-clause-reads : goal.returns-in_err-read_more-clause-reads
 returns-in_err-read_more-clause-reads g c =
