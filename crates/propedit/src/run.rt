@@ -123,3 +123,6 @@ fn fail<E: CountedWrite>(alloc: Global, errors: &mut E, error: PropertiesError) 
     say_error(alloc, errors, error);
     1
 }
+
+#[cfg(test)]
+mod tests;
