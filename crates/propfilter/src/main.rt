@@ -5,9 +5,9 @@ mod filter;
 mod run;
 
 use counted_io::Counted;
-use run::run;
+use run::{refuse, run};
 use std::env;
-use std::io::{self, BufReader, BufWriter};
+use std::io::{self, BufReader, BufWriter, ErrorKind};
 use std::process::ExitCode;
 
 // How many bytes go through a standard stream at once.
@@ -20,10 +20,16 @@ fn main(rt: HostRuntime) -> ExitCode {
 // What `run` returns on the program's arguments and the standard streams.
 fn status(rt: &HostRuntime) -> io::Result<u8> {
     let alloc = rt.alloc();
-    let arguments: Vec<String> = env::args(rt)?.skip(1).collect(alloc)?;
+    let mut errors = Counted::new(rt.stderr());
+    let arguments = match env::args(rt) {
+        Ok(arguments) => arguments,
+        // One of them is no text.
+        Err(error) if error.kind() == ErrorKind::InvalidData => return Ok(refuse(&mut errors)),
+        Err(error) => return Err(error),
+    };
+    let arguments: Vec<String> = arguments.skip(1).collect(alloc)?;
     let mut input = Counted::new(BufReader::with_capacity(alloc, BLOCK, rt.stdin())?);
     let mut output = Counted::new(BufWriter::with_capacity(alloc, BLOCK, rt.stdout())?);
-    let mut errors = Counted::new(rt.stderr());
     Ok(run(
         alloc,
         arguments.as_slice(),

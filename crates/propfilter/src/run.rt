@@ -1,12 +1,12 @@
 // The program, over any streams.
 
-ghost use Rattle.std.specs.Prelude.{◌∷◌, [], IfSome, map, string_bytes};
+ghost use Rattle.std.specs.Prelude.{◌≡◌, ◌∷◌, [], IfSome, map, string_bytes};
 ghost use Rattle.std.specs.Option.{option_map};
 ghost use Rattle.counted_io.specs.Streams.{IsSameReader, IsSameSink};
 ghost use Rattle.properties_text.specs.Encoding.{encoding_of};
 ghost use Rattle.java_properties.specs.DisplayTexts.{error_display};
 ghost use Rattle.propfilter.specs.Filter.{Filters};
-ghost use Rattle.propfilter.specs.Run.{asked_of, HasSaid, IsAsked, IsNamed, IsNamedWith, Runs, SaysIfRoom};
+ghost use Rattle.propfilter.specs.Run.{asked_of, line_of, usage, HasSaid, IsAsked, IsNamed, IsNamedWith, Runs, SaysIfRoom};
 
 use crate::filter::{filter, filter_ascii};
 use counted_io::{CountedRead, CountedWrite, send};
@@ -49,8 +49,7 @@ pub fn run<R: CountedRead, W: CountedWrite, E: CountedWrite>(
     ensures same_error_sink { IsSameSink E.CountedWrite errors.old errors.new }
 {
     let Some(asked) = asked_for(arguments) else {
-        say(errors, USAGE);
-        return 2;
+        return refuse(errors);
     };
     match filter_asked(alloc, input, output, asked) {
         Ok(()) => 0,
@@ -59,6 +58,16 @@ pub fn run<R: CountedRead, W: CountedWrite, E: CountedWrite>(
             1
         }
     }
+}
+
+/// Says the usage, and returns the status of arguments that ask for nothing that there is.
+pub fn refuse<E: CountedWrite>(errors: &mut E) -> u8
+    ensures answer { result ≡ 2 }
+    ensures says { HasSaid E.CountedWrite errors.old (line_of usage) errors.new }
+    ensures same_sink { IsSameSink E.CountedWrite errors.old errors.new }
+{
+    say(errors, USAGE);
+    2
 }
 
 fn filter_asked<R: CountedRead, W: CountedWrite>(

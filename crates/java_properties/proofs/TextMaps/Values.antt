@@ -92,6 +92,10 @@ value_at_text f key is = ap (option_map characters) (by-text key is f.entries)
 pub at_chars-sorted : {Y X : Type 0} (f : BTreeMap (String Y) X) (key : List ℕ) → IsUtf8 key → at_chars f.entries (chars key) ≡ sorted.get_by_text f key
 at_chars-sorted f key is = by-text key is f.entries ∙ by-order f key
 
+-- What a sorted map has at the characters of a text is what `get` finds by that text, as characters.
+pub value_at_text_sorted : {Y Z : Type 0} (f : BTreeMap (String Y) (String Z)) (key : List ℕ) → IsUtf8 key → value_at f.entries (chars key) ≡ option_map characters (sorted.get_by_text f key)
+value_at_text_sorted f key is = ap (option_map characters) (at_chars-sorted f key is)
+
 -- at the key of these bytes the entries have this, and at others what they had
 abbrev IsPut : {Y X : Type 0} → List (String Y × X) → List ℕ → Option X → List (String Y × X) → Type 0
 IsPut old key value new = (bytes : List ℕ) → at_bytes new bytes ≡ update bytes_eq (at_bytes old) key value bytes

@@ -1,0 +1,5 @@
+pub mod Streams
+pub mod Get
+pub mod Change
+pub mod Asked
+pub mod Run

@@ -1,0 +1,44 @@
+//! Gets, sets and removes keys of a properties file that comes from standard input.
+#![tactic(auto)]
+
+mod asked;
+mod change;
+mod get;
+mod run;
+mod say;
+mod streams;
+
+use counted_io::Counted;
+use run::{refuse, run};
+use std::env;
+use std::io::{self, BufReader, BufWriter, ErrorKind};
+use std::process::ExitCode;
+
+// How many bytes go through a standard stream at once.
+const BLOCK: usize = 1 << 16;
+
+fn main(rt: HostRuntime) -> ExitCode {
+    ExitCode::from(status(&rt).unwrap_or(1))
+}
+
+// What `run` returns on the program's arguments and the standard streams.
+fn status(rt: &HostRuntime) -> io::Result<u8> {
+    let alloc = rt.alloc();
+    let mut errors = Counted::new(rt.stderr());
+    let arguments = match env::args(rt) {
+        Ok(arguments) => arguments,
+        // One of them is no text.
+        Err(error) if error.kind() == ErrorKind::InvalidData => return Ok(refuse(&mut errors)),
+        Err(error) => return Err(error),
+    };
+    let arguments: Vec<String> = arguments.skip(1).collect(alloc)?;
+    let mut input = Counted::new(BufReader::with_capacity(alloc, BLOCK, rt.stdin())?);
+    let mut output = Counted::new(BufWriter::with_capacity(alloc, BLOCK, rt.stdout())?);
+    Ok(run(
+        alloc,
+        arguments.as_slice(),
+        &mut input,
+        &mut output,
+        &mut errors,
+    ))
+}

@@ -1,0 +1,29 @@
+// What is said of errors.
+
+ghost use Rattle.std.specs.Prelude.{IfSome};
+ghost use Rattle.counted_io.specs.Streams.{IsSameSink};
+ghost use Rattle.java_properties.specs.DisplayTexts.{error_display};
+ghost use Rattle.propedit.specs.Run.{HasSaid, SaysIfRoom};
+
+use counted_io::{CountedWrite, send};
+use java_properties::PropertiesError;
+use std::alloc::Global;
+
+/// Says a line. What fails is dropped: there is nowhere left to tell it.
+pub fn say<E: CountedWrite>(errors: &mut E, line: &str)
+    ensures says { HasSaid E.CountedWrite errors.old line.now errors.new }
+    ensures same_sink { IsSameSink E.CountedWrite errors.old errors.new }
+{
+    let _ = send(errors, line.as_bytes());
+    let _ = errors.flush_counted();
+}
+
+/// Says an error as a line, if there is memory for its text.
+pub fn say_error<E: CountedWrite>(alloc: Global, errors: &mut E, error: PropertiesError)
+    ensures says { IfSome (error_display error) (λ text. SaysIfRoom E.CountedWrite errors.old text errors.new) }
+    ensures same_sink { IsSameSink E.CountedWrite errors.old errors.new }
+{
+    if let Ok(line) = format!(in alloc; "{error}\n") {
+        say(errors, line.as_str());
+    }
+}
