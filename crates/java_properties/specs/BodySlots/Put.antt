@@ -1,11 +1,11 @@
 -- A key put into slots in one array: what each step on the way does.
-use Rattle.std.specs.Prelude.{◌≡◌, ℕ, ◌+◌, ◌==◌, ◌≤◌, ◌<◌, Bool, false, if◌then◌else◌, List, length, get_or, set}
-use Rattle.std.specs.Prelude.{Option, Some}
+use Rattle.std.specs.Prelude.{◌≡◌, ℕ, ◌+◌, ◌==◌, Bool, if◌then◌else◌, List, length, get_or, set}
+use Rattle.std.specs.Prelude.{Option}
 use Rattle.properties_format.specs.Text as text
 use Rattle.properties_format.specs.Reading.Slots as format
 use Rattle.properties_format.specs.Reading.Slots.{empty_slot, ended_by, is_first, closed_slots}
-use Rattle.properties_format.specs.Reading.Cells.{Cell, live, closed_cell, AreLinks}
-use Rattle.java_properties.specs.BodySlots.{AreCells, IsCell, HoldsCells, no_cell, closing_in}
+use Rattle.properties_format.specs.Reading.Cells.{Cell, live, closed_cell}
+use Rattle.java_properties.specs.BodySlots.{IsCell, HoldsCells, closing_in}
 use Rattle.java_properties.specs.declared.edit.slots.Slot.{Slot}
 use Rattle.java_properties.specs.declared.edit.slots.Slots.{Slots}
 

@@ -1,12 +1,11 @@
 -- A key removed from slots in one array: what each step on the way does.
-use Rattle.std.specs.Prelude.{◌≡◌, ℕ, ◌+◌, ◌≤◌, ◌<◌, Bool, true, false, if◌then◌else◌, List, [], ◌∷◌, ◌++◌, length, get_or, set, None, Some}
+use Rattle.std.specs.Prelude.{◌≡◌, ℕ, ◌+◌, ◌≤◌, ◌<◌, Bool, true, false, if◌then◌else◌, List, [], ◌∷◌, ◌++◌, length, get_or, set, None}
 use Rattle.std.specs.BTreeMap.{IsOrdered}
 use Rattle.std.specs.String.{string_cmp}
-use Rattle.properties_format.specs.Text as text
 use Rattle.properties_format.specs.Reading.Slots as format
 use Rattle.properties_format.specs.Reading.Slots.{empty_slot, left_out, slots_without, slots_guarded, last_has, is_by_cr, are_one_ending, AreWellEnded}
-use Rattle.properties_format.specs.Reading.Cells.{Cell, live, dead, places, AreLinks, AreDeadBetween}
-use Rattle.java_properties.specs.BodySlots.{AreCells, IsCell, HoldsCells, LooseCells, no_cell, stack_at, closing_in}
+use Rattle.properties_format.specs.Reading.Cells.{Cell, live, dead, places, AreDeadBetween}
+use Rattle.java_properties.specs.BodySlots.{IsCell, HoldsCells, LooseCells, no_cell, stack_at, closing_in}
 use Rattle.java_properties.specs.declared.edit.slots.Slot.{Slot}
 use Rattle.java_properties.specs.declared.edit.slots.Slots.{Slots}
 
