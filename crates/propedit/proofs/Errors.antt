@@ -1,6 +1,6 @@
 -- What is printed of errors, which hold no text that was refused.
 use Rattle.std.proofs.Common.{◌≡◌, ℕ, List, refl, inl, inr}
-use Rattle.std.specs.Prelude.{◌⊎◌, Bool, Option, Some, None, Result, Err}
+use Rattle.std.specs.Prelude.{Option, Some, None, Err}
 use Rattle.std.specs.Option.{option_map}
 use Rattle.counted_io.specs.Streams.{Reader, Sink}
 use Rattle.properties_format.specs.Encoding.{Encoding}

@@ -1,6 +1,6 @@
 -- What a map that was read tells of a key.
 use Rattle.std.proofs.Common.{◌≡◌, ℕ, List, [], ◌∷◌, ◌++◌, sym, ◌∙◌, subst}
-use Rattle.std.specs.Prelude.{Option, Some, Result, string_bytes}
+use Rattle.std.specs.Prelude.{Some, Result, string_bytes}
 use Rattle.std.specs.Option.{option_map}
 use Rattle.std.specs.Str.{chars, IsUtf8}
 use Rattle.std.specs.BTreeMap.{BTreeMap, get_by_text}
@@ -8,7 +8,6 @@ use Rattle.std.specs.declared.string.String.{String}
 use Rattle.std.proofs.lemmas.Str.{IsUtf8-string_bytes, encodes-chars}
 use Rattle.counted_io.specs.Streams.{Reader, Sink}
 use Rattle.properties_format.specs.Encoding.{Encoding}
-use Rattle.properties_format.specs.Maps.{IsValue}
 use Rattle.java_properties.specs.Maps.{HasReadMap, characters}
 use Rattle.java_properties.specs.ReadLines.{entries_in}
 use Rattle.java_properties.proofs.TextMaps.Values.{value_at_text_sorted}

@@ -1,7 +1,7 @@
 -- Arguments, word by word.
 use Rattle.std.proofs.Common.{◌≡◌, ◌≢◌, ◌==◌, true, false, rules, ◌≤◌, ℕ, List, [], ◌∷◌, ◌++◌, length, map, take, drop, ◌-◌, get_or, refl, ap, ap₂, sym, ◌∙◌, arith, inl, inr, append_assoc, append-nil}
 use borrow.Author.Tests.{tests}
-use Rattle.std.specs.Prelude.{◌⊎◌, Option, Some, None, codes, string_bytes}
+use Rattle.std.specs.Prelude.{Option, Some, None, codes, string_bytes}
 use Rattle.std.specs.declared.string.String.{String}
 use Rattle.std.proofs.lemmas.List.{take_rest}
 use Rattle.properties_format.specs.Edited.{Edit, put, remove}
@@ -10,7 +10,7 @@ use Rattle.java_properties.specs.Editing.{edits_in}
 use Rattle.java_properties.specs.declared.edit.Edit as editor
 use Rattle.java_properties.specs.declared.edit.Edit.TheVariants.{Put, Remove}
 use Rattle.std.specs.Str.{chars}
-use Rattle.propedit.specs.Asked.{Asks, in_characters, text_edits, AreEditsOf, AreWordsOf, IsAsked, IsAskedIn, IsKeyToGet, IsNamed, IsNamedFirst, IsNextEdit, IsWish, Wish, get, change, edit_words, name_of, words_of}
+use Rattle.propedit.specs.Asked.{in_characters, text_edits, AreEditsOf, AreWordsOf, IsAsked, IsAskedIn, IsKeyToGet, IsNamed, IsNamedFirst, IsNextEdit, IsWish, Wish, get, change, edit_words, name_of, words_of}
 
 -- ---- the first of some texts
 

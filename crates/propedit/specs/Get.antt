@@ -5,7 +5,7 @@ use Rattle.std.specs.declared.string.String.{String}
 use Rattle.counted_io.specs.Streams.{Reader, Sink}
 use Rattle.properties_format.specs.Encoding.{Encoding}
 use Rattle.properties_format.specs.Entries.{Entry}
-use Rattle.properties_format.specs.Maps.{HasNoPair, IsLastValue, IsValue}
+use Rattle.properties_format.specs.Maps.{IsValue}
 use Rattle.properties_format.specs.Text.{line_feed}
 use Rattle.java_properties.specs.Maps.{StopsReadingMap, characters}
 use Rattle.java_properties.specs.ReadLines.{ReadsWhole}

@@ -1,5 +1,5 @@
-use Rattle.std.proofs.Common.{map, sym}
-use Rattle.std.specs.Prelude.{IfOk, string_bytes}
+use Rattle.std.proofs.Common.{map}
+use Rattle.std.specs.Prelude.{string_bytes}
 use Rattle.std.specs.Option.{option_map}
 use Rattle.std.proofs.lemmas.Result.{IfOk-weaker}
 use Rattle.properties_text.specs.Encoding.{encoding_of}

@@ -1,4 +1,4 @@
-use Rattle.std.proofs.Common.{map, drop, ◌∙◌, ap, ◌∷◌, sym}
+use Rattle.std.proofs.Common.{map, drop}
 use Rattle.std.specs.Prelude.{string_bytes}
 use Rattle.propedit.proofs.Words.{first-text, named-first}
 use Rattle.propedit.proofs.asked.named_first.Goals as goal

@@ -1,7 +1,7 @@
-use Rattle.std.proofs.Common.{refl, ◌∙◌}
+use Rattle.std.proofs.Common.{refl}
 use Rattle.std.proofs.lemmas.Result.{err_from_is_err_and}
 use Rattle.counted_io.specs.Streams.{reader}
-use Rattle.propedit.proofs.Reading.{read-nothing, read-again, read-last, read-failed}
+use Rattle.propedit.proofs.Reading.{read-nothing, read-last, read-failed}
 use Rattle.propedit.proofs.streams.read_through.Goals as goal
 
 pub loop-bytes-init : goal.loop-bytes-init
