@@ -102,8 +102,8 @@ pub enum Edit {
 /// The source after these edits, in order: each is made to what the one before it gave.
 ///
 /// Without edits it is a copy of the source. The source is read once, and the result is made once: the time is that of
-/// the sizes of the source and of the edits together. Beside that, each key is looked for among the others, in about as
-/// many steps as their number has binary digits.
+/// the sizes of the source and of the edits together. Beside that, the key of each pair and of each edit is looked for
+/// among the others, which takes a few comparisons for each doubling of their number.
 ///
 /// UTF-16 is refused, and so is a source with a malformed escape anywhere: the error is the one that reading the source
 /// would return.
