@@ -2,7 +2,7 @@
 
 use super::*;
 use counted_io::Counted;
-use std::io::{self, ErrorKind, Read};
+use std::io::{self, ErrorKind, Read, Write};
 use std::process::Abort;
 use std::test::Fail;
 
@@ -163,11 +163,7 @@ fn edits_in_order(rt: HostRuntime) -> Result<(), Fail> {
             "",
         ),
     ];
-    check_rows(&rt, rt.alloc(), &rows[..2])?;
-    let (status, output, _) = edited(rt.alloc(), rows[2].0, rows[2].1)?;
-    assert_eq!(rt; status, 0);
-    assert_eq!(rt; output.as_slice(), b"set=remove\n".as_slice());
-    Ok(())
+    check_rows(&rt, rt.alloc(), rows.as_slice())
 }
 
 #[test]
@@ -242,6 +238,80 @@ fn tells_of_a_read_that_failed(rt: HostRuntime) -> Result<(), Fail> {
         assert_eq!(rt; status, 1);
         assert_eq!(rt; output.as_slice(), b"".as_slice());
         assert_eq!(rt; errors.as_slice(), told);
+    }
+    Ok(())
+}
+
+// Takes no byte, or fails where it is flushed.
+#[derive(Clone, Copy)]
+enum Faulty {
+    Write,
+    Flush,
+}
+
+impl Write for Faulty {
+    fn write(&mut self, buf: &[u8]) -> io::Result<usize> {
+        match self {
+            Faulty::Write => Err(io::Error::from(ErrorKind::Other)),
+            Faulty::Flush => Ok(buf.len()),
+        }
+    }
+
+    fn flush(&mut self) -> io::Result<()> {
+        match self {
+            Faulty::Write => Ok(()),
+            Faulty::Flush => Err(io::Error::from(ErrorKind::Other)),
+        }
+    }
+}
+
+#[test]
+fn tells_of_a_write_that_failed(rt: HostRuntime) -> Result<(), Fail> {
+    let told = b"I/O error (line_number = unknown)\n".as_slice();
+    let commands: [&[&str]; 2] = [&["get", "a"], &["set", "a", "2"]];
+    for command in commands {
+        let arguments = words(rt.alloc(), command)?;
+        for fault in [Faulty::Write, Faulty::Flush] {
+            let mut input = b"a=1".as_slice();
+            let mut output = Counted::new(fault);
+            let mut errors = Counted::new(Vec::new(rt.alloc()));
+            let status = run(
+                rt.alloc(),
+                arguments.as_slice(),
+                &mut input,
+                &mut output,
+                &mut errors,
+            );
+            assert_eq!(rt; status, 1);
+            assert_eq!(rt; errors.into_inner().as_slice(), told);
+        }
+    }
+    Ok(())
+}
+
+#[test]
+fn drops_what_it_cannot_tell(rt: HostRuntime) -> Result<(), Fail> {
+    let rows: [(&[&str], u8); 3] = [
+        (&["get", "a"], 1),
+        (&["set", "a", "2"], 1),
+        (&["set", "a"], 2),
+    ];
+    for (command, wanted) in rows {
+        let arguments = words(rt.alloc(), command)?;
+        for fault in [Faulty::Write, Faulty::Flush] {
+            let mut input = b"a=\\u12".as_slice();
+            let mut output = Counted::new(Vec::new(rt.alloc()));
+            let mut errors = Counted::new(fault);
+            let status = run(
+                rt.alloc(),
+                arguments.as_slice(),
+                &mut input,
+                &mut output,
+                &mut errors,
+            );
+            assert_eq!(rt; status, wanted);
+            assert_eq!(rt; output.into_inner().as_slice(), b"".as_slice());
+        }
     }
     Ok(())
 }
