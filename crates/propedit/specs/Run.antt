@@ -19,7 +19,7 @@ use Rattle.propedit.specs.Get.{Gets}
 abbrev pub usage : List ℕ
 usage =
     codes "usage: propedit [windows-1252|utf-8|utf-16le|utf-16be] get KEY"
-    ++ (line_feed ∷ codes "       propedit [windows-1252|utf-8] (set KEY VALUE | remove KEY)..")
+    ++ (line_feed ∷ codes "       propedit [windows-1252|utf-8|utf-16le|utf-16be] (set KEY VALUE | remove KEY)..")
 
 -- the line that says a text
 abbrev pub said_line : List ℕ → List ℕ

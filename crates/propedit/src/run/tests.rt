@@ -7,7 +7,7 @@ use std::process::Abort;
 use std::test::Fail;
 
 const TOLD: &str =
-    "usage: propedit [windows-1252|utf-8|utf-16le|utf-16be] get KEY\n       propedit [windows-1252|utf-8] (set KEY VALUE | remove KEY)..\n";
+    "usage: propedit [windows-1252|utf-8|utf-16le|utf-16be] get KEY\n       propedit [windows-1252|utf-8|utf-16le|utf-16be] (set KEY VALUE | remove KEY)..\n";
 
 // The arguments, as owned texts.
 fn words(alloc: Global, arguments: &[&str]) -> Result<Vec<String>, Fail> {
