@@ -1,16 +1,16 @@
 -- Arguments, word by word.
-use Rattle.std.proofs.Common.{◌≡◌, ◌≢◌, ◌==◌, true, false, rules, ◌≤◌, ℕ, List, [], ◌∷◌, ◌++◌, length, map, take, drop, ◌-◌, get_or, refl, ap, ap₂, sym, ◌∙◌, arith, inl, inr, append_assoc, append-nil}
+use Rattle.std.proofs.Common.{◌≡◌, ◌≢◌, ◌==◌, true, false, rules, ◌≤◌, ℕ, List, [], ◌∷◌, ◌++◌, length, map, take, drop, ◌+◌, ◌-◌, ◌<◌, get_or, refl, ap, sym, ◌∙◌, arith, inl, inr, append_assoc, append-nil}
 use borrow.Author.Tests.{tests}
-use Rattle.std.specs.Prelude.{Option, Some, None, codes, string_bytes}
+use Rattle.std.specs.Prelude.{Option, Some, None, Result, Ok, Err, OnErr, codes, string_bytes}
 use Rattle.std.specs.declared.string.String.{String}
-use Rattle.std.proofs.lemmas.List.{take_rest}
+use Rattle.std.proofs.lemmas.List.{length-append, length-map, take_rest}
 use Rattle.properties_format.specs.Edited.{Edit, put, remove}
 use Rattle.properties_format.specs.Encoding.{Encoding, windows_1252, utf_8, utf_16le, utf_16be}
 use Rattle.java_properties.specs.Editing.{edits_in}
 use Rattle.java_properties.specs.declared.edit.Edit as editor
 use Rattle.java_properties.specs.declared.edit.Edit.TheVariants.{Put, Remove}
 use Rattle.std.specs.Str.{chars}
-use Rattle.propedit.specs.Asked.{in_characters, text_edits, AreEditsOf, AreWordsOf, IsAsked, IsAskedIn, IsKeyToGet, IsNamed, IsNamedFirst, IsNextEdit, IsWish, Wish, get, change, edit_words, name_of, words_of}
+use Rattle.propedit.specs.Asked.{in_characters, text_edits, AreEdits, AreEditsOf, AreWords, AreWordsOf, AsksSome, IsAsked, IsAskedIn, IsEditCount, IsKeyToGet, IsNamed, IsNamedFirst, IsNextEdit, IsWish, Wish, get, change, edit_words, name_of, words_of}
 
 -- ---- the first of some texts
 
@@ -64,12 +64,15 @@ asked-unnamed arguments None none h = λ d wish asks. elim asks [
   | inr k ↦ h wish k.1
 ]
 
--- ---- edits
+-- Words after a name ask for something.
+pub asks-named : (arguments : List (List ℕ)) (e : Encoding) (words : List (List ℕ)) → arguments ≡ name_of e ∷ words → AreWords words → AsksSome arguments
+asks-named arguments e words is h = record { encoding = e; wish = h.0; asked = inl (words, is, h.1) }
 
--- the words of a removal
-pub remove-words : (words others : List (List ℕ)) (word spelt key clone : List ℕ) → words ≡ word ∷ (key ∷ others) → spelt ≡ word → spelt ≡ codes "remove" → clone ≡ key
-    → words ≡ codes "remove" ∷ (clone ∷ others)
-remove-words words others word spelt key clone h e is same = h ∙ ap₂ (λ v w. v ∷ (w ∷ others)) (sym e ∙ is) (sym same)
+-- and so do words alone
+pub asks-unnamed : (arguments : List (List ℕ)) → AreWords arguments → AsksSome arguments
+asks-unnamed arguments h = record { encoding = windows_1252; wish = h.0; asked = inr (refl, h.1) }
+
+-- ---- edits
 
 -- the words of one edit more
 pub words-more : (edits : List Edit) (edit : Edit) → words_of (edits ++ (edit ∷ [])) ≡ words_of edits ++ edit_words edit
@@ -86,6 +89,14 @@ rest-of (remove k ∷ done) [] rest e = absurd (cc)
 rest-of (remove k ∷ done) (put l w ∷ all) rest e = absurd (cc)
 rest-of (remove k ∷ done) (remove l ∷ all) rest e = rest-of done all rest (cc)
 
+-- Where no edit comes next, and the words are those of edits, all of them were found.
+pub all-edits : (words : List (List ℕ)) (done : List Edit) (rest : List (List ℕ)) → AreEdits words → words ≡ words_of done ++ rest → IsNextEdit rest None → words ≡ words_of done
+all-edits words done rest edits is none = left (rest-of done edits.0 rest (sym edits.1 ∙ is))
+  where
+    left : (others : List Edit) × (rest ≡ words_of others) → words ≡ words_of done
+    left ([], e) = is ∙ ap (λ v. words_of done ++ v) e ∙ append-nil (words_of done)
+    left (edit ∷ others, e) = absurd (none edit (words_of others) e)
+
 -- where no edit comes next and words are left, the words are those of no edits
 pub no-edits : (words : List (List ℕ)) (done : List Edit) (rest : List (List ℕ)) → words ≡ words_of done ++ rest → rest ≢ [] → IsNextEdit rest None → AreEditsOf words None
 no-edits words done rest is some none edits h = left (rest-of done edits rest (sym h ∙ is))
@@ -100,40 +111,61 @@ no-edits words done rest is some none edits h = left (rest-of done edits rest (s
 pub rest-words : {Z : Type 0} (texts : List (String Z)) (n : ℕ) → map string_bytes (take (length texts - n) (drop n texts)) ≡ map string_bytes (drop n texts)
 rest-words texts n = ap (map string_bytes) (take_rest texts n)
 
--- words that are left after those of an edit
-pub after-edit : {Z : Type 0} (texts : List (String Z)) (edit : Edit) (others : List (List ℕ)) → map string_bytes texts ≡ edit_words edit ++ others
-    → map string_bytes (drop (length (edit_words edit)) texts) ≡ others
-after-edit [] (put k v) others h = absurd (cc)
-after-edit (a ∷ []) (put k v) others h = absurd (cc)
-after-edit (a ∷ (b ∷ [])) (put k v) others h = absurd (cc)
-after-edit (a ∷ (b ∷ (d ∷ texts))) (put k v) others h = cc
-after-edit [] (remove k) others h = absurd (cc)
-after-edit (a ∷ []) (remove k) others h = absurd (cc)
-after-edit (a ∷ (b ∷ texts)) (remove k) others h = cc
+-- One edit more was found.
+pub edit-more : (words rest others : List (List ℕ)) (done : List Edit) (edit : Edit) → words ≡ words_of done ++ rest → rest ≡ edit_words edit ++ others
+    → words ≡ words_of (done ++ (edit ∷ [])) ++ others
+edit-more words rest others done edit is next =
+    is ∙ ap (λ v. words_of done ++ v) next ∙ sym (append_assoc (words_of done) (edit_words edit) others) ∙ ap (λ v. v ++ others) (sym (words-more done edit))
 
--- One edit more was found, and the words of so many texts were passed.
-pub edit-more : {Z : Type 0} (words : List (List ℕ)) (texts : List (String Z)) (done all : List Edit) (edit : Edit) (n : ℕ) → words ≡ words_of done ++ map string_bytes texts
-    → IsNextEdit (map string_bytes texts) (Some edit) → n ≡ length (edit_words edit) → all ≡ done ++ (edit ∷ [])
-    → words ≡ words_of all ++ map string_bytes (take (length texts - n) (drop n texts))
-edit-more words texts done all edit n is next count same =
-    let left : map string_bytes (take (length texts - n) (drop n texts)) ≡ next.0 = rest-words texts n ∙ ap (λ k. map string_bytes (drop k texts)) count ∙ after-edit texts edit next.0 next.1 in
-    let front : words_of all ≡ words_of done ++ edit_words edit = ap words_of same ∙ words-more done edit in
-    is ∙ ap (λ v. words_of done ++ v) next.1 ∙ sym (append_assoc (words_of done) (edit_words edit) next.0) ∙ ap₂ (λ v w. v ++ w) (sym front) (sym left)
+-- Fewer words are left after an edit.
+pub fewer-words : {Z : Type 0} (texts others : List (String Z)) (edit : Edit) → map string_bytes texts ≡ edit_words edit ++ map string_bytes others → length others < length texts
+fewer-words texts others (put k v) h =
+    let count : length (map string_bytes texts) ≡ length (edit_words (put k v) ++ map string_bytes others) = ap length h in
+    omega (arith, count, length-map texts string_bytes, length-map others string_bytes)
+fewer-words texts others (remove k) h =
+    let count : length (map string_bytes texts) ≡ length (edit_words (remove k) ++ map string_bytes others) = ap length h in
+    omega (arith, count, length-map texts string_bytes, length-map others string_bytes)
+
+-- a test that there are no texts, where there are some
+some-length : {Z : Type 0} (texts : List (String Z)) (a : String Z) → (length (a ∷ texts) == 0) ≡ true → ⊥
+some-length texts a h =
+    let some : length (a ∷ texts) ≢ 0 = omega arith in
+    let e : (length (a ∷ texts) == 0) ≡ false = search (rules, tests) in
+    cc
+
+-- So many edits were found, and these words are left.
+pub record HasCounted (words : List (List ℕ)) (count : ℕ) (rest : List (List ℕ)) : Type 0 where
+  pub done : List Edit
+  pub is : words ≡ words_of done ++ rest
+  pub length_is : length done ≡ count
+
+-- none of them yet
+pub counted-none : (words : List (List ℕ)) → HasCounted words 0 words
+counted-none words = record { done = []; is = refl; length_is = refl }
+
+-- one more
+pub counted-more : (words : List (List ℕ)) (count : ℕ) (rest others : List (List ℕ)) (edit : Edit) → HasCounted words count rest → rest ≡ edit_words edit ++ others → HasCounted words (count + 1) others
+counted-more words count rest others edit h next = record {
+  done = h.done ++ (edit ∷ []);
+  is = edit-more words rest others h.done edit h.is next;
+  length_is = length-append h.done (edit ∷ []) ∙ ap (λ n. n + 1) h.length_is;
+}
+
+-- Words are left, and no edit comes next.
+pub no-counted : (words : List (List ℕ)) (count : ℕ) (rest : List (List ℕ)) → HasCounted words count rest → rest ≢ [] → IsNextEdit rest None → AreEditsOf words None
+no-counted words count rest h some none = no-edits words h.done rest h.is some none
+
+-- all of them, where no texts are left, told by a test
+pub counted-all : {Z : Type 0} (words : List (List ℕ)) (count : ℕ) (texts : List (String Z)) → HasCounted words count (map string_bytes texts) → (length texts == 0) ≡ true
+    → IsEditCount words (Some count)
+counted-all words count [] h none = (h.done, h.is ∙ append-nil (words_of h.done), h.length_is)
+counted-all words count (a ∷ texts) h none = absurd (some-length texts a none)
 
 -- the words after a name
 pub after-name : {Z : Type 0} (texts : List (String Z)) (name : List ℕ) (words : List (List ℕ)) → map string_bytes texts ≡ name ∷ words
     → map string_bytes (take (length texts - 1) (drop 1 texts)) ≡ words
 after-name [] name words h = absurd (cc)
 after-name (a ∷ texts) name words h = rest-words (a ∷ texts) 1 ∙ (let is : map string_bytes texts ≡ words = cc in is)
-
-pub edit-fits : {Z : Type 0} (texts : List (String Z)) (edit : Edit) (others : List (List ℕ)) → map string_bytes texts ≡ edit_words edit ++ others → length (edit_words edit) ≤ length texts
-edit-fits [] (put k v) others h = absurd (cc)
-edit-fits (a ∷ []) (put k v) others h = absurd (cc)
-edit-fits (a ∷ (b ∷ [])) (put k v) others h = absurd (cc)
-edit-fits (a ∷ (b ∷ (d ∷ texts))) (put k v) others h = omega arith
-edit-fits [] (remove k) others h = absurd (cc)
-edit-fits (a ∷ []) (remove k) others h = absurd (cc)
-edit-fits (a ∷ (b ∷ texts)) (remove k) others h = omega arith
 
 -- ---- the code's edits
 
@@ -156,12 +188,6 @@ no-words (change (remove k ∷ edits)) h = let is = h.0 in cc
 pub no-texts : {Z : Type 0} (texts : List (String Z)) → (length texts == 0) ≡ true → IsWish (map string_bytes texts) None
 no-texts [] h = no-words
 no-texts (a ∷ texts) h = absurd (some-length texts a h)
-  where
-    some-length : {Z : Type 0} (texts : List (String Z)) (a : String Z) → (length (a ∷ texts) == 0) ≡ true → ⊥
-    some-length texts a h =
-        let some : length (a ∷ texts) ≢ 0 = omega arith in
-        let e : (length (a ∷ texts) == 0) ≡ false = search (rules, tests) in
-        cc
 
 -- some texts, told by a test
 pub some-words : {Z : Type 0} (texts : List (String Z)) → (length texts == 0) ≡ false → map string_bytes texts ≢ []
@@ -176,3 +202,16 @@ no-wish words none others (change edits) h = others edits h.0
 -- the words of edits, where there are words
 pub wish-edits : (words : List (List ℕ)) (edits : List Edit) → words ≢ [] → words ≡ words_of edits → IsWish words (Some (change edits))
 wish-edits words edits some h = (h, λ none. some (h ∙ ap words_of none))
+
+-- a key that is asked for
+pub words-of-get : (words : List (List ℕ)) (key : List ℕ) → words ≡ codes "get" ∷ (key ∷ []) → AreWords words
+words-of-get words key is = (get key, is)
+
+-- edits that are asked for
+pub words-of-edits : (words : List (List ℕ)) → words ≢ [] → AreEdits words → AreWords words
+words-of-edits words some h = (change h.0, (h.1, λ none. some (h.1 ∙ ap words_of none)))
+
+-- What holds anyway holds at an error.
+pub at-error : {T E P : Type 0} (r : Result T E) → P → OnErr r P
+at-error (Ok x) h = tt
+at-error (Err e) h = h

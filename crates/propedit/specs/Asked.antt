@@ -1,5 +1,5 @@
 -- What arguments ask for.
-use Rattle.std.specs.Prelude.{◌≡◌, ◌≢◌, ◌⊎◌, ℕ, List, [], ◌∷◌, ◌++◌, Option, Some, None, codes, map, string_bytes}
+use Rattle.std.specs.Prelude.{◌≡◌, ◌≢◌, ◌⊎◌, ℕ, List, [], ◌∷◌, ◌++◌, Option, Some, None, codes, length, map, string_bytes}
 use Rattle.std.specs.Str.{chars}
 use Rattle.std.specs.Borrow.{Bor}
 use Rattle.std.specs.Global.{Vec}
@@ -12,6 +12,8 @@ use Rattle.properties_text.specs.Encoding.{encoding_of}
 use Rattle.propedit.specs.declared.asked.Asked.{Asked}
 use Rattle.propedit.specs.declared.asked.Command.{Command}
 use Rattle.propedit.specs.declared.asked.Command.TheVariants.{Get, Change}
+use Rattle.propedit.specs.declared.asked.LentEdit.{LentEdit}
+use Rattle.propedit.specs.declared.asked.LentEdit.TheVariants as Lent
 
 -- ---- words
 
@@ -52,6 +54,16 @@ AreWordsOf words (change edits) = (words ≡ words_of edits) × (edits ≢ [])
 abbrev pub Asks : List (List ℕ) → Encoding → Wish → Type 0
 Asks arguments e wish = ((words : List (List ℕ)) × (arguments ≡ name_of e ∷ words) × AreWordsOf words wish) ⊎ (e ≡ windows_1252) × AreWordsOf arguments wish
 
+-- These words ask for something.
+abbrev pub AreWords : List (List ℕ) → Type 0
+AreWords words = (wish : Wish) × AreWordsOf words wish
+
+-- The arguments ask for something in some encoding.
+pub record AsksSome (arguments : List (List ℕ)) : Type 0 where
+  pub encoding : Encoding
+  pub wish : Wish
+  pub asked : Asks arguments encoding wish
+
 -- ---- what code finds of them
 
 -- the encoding of this name, where it is one
@@ -64,15 +76,24 @@ abbrev pub IsNamedFirst : List (List ℕ) → Option Encoding → Type 0
 IsNamedFirst arguments None = (e : Encoding) (words : List (List ℕ)) → arguments ≡ name_of e ∷ words → ⊥
 IsNamedFirst arguments (Some e) = (words : List (List ℕ)) × (arguments ≡ name_of e ∷ words)
 
--- the edit that the words begin with, where they begin with one
-abbrev pub IsNextEdit : List (List ℕ) → Option Edit → Type 0
+-- the edit that the words begin with, and the words after it, where they begin with one
+abbrev pub IsNextEdit : List (List ℕ) → Option (Edit × List (List ℕ)) → Type 0
 IsNextEdit words None = (edit : Edit) (others : List (List ℕ)) → words ≡ edit_words edit ++ others → ⊥
-IsNextEdit words (Some edit) = (others : List (List ℕ)) × (words ≡ edit_words edit ++ others)
+IsNextEdit words (Some next) = words ≡ edit_words next.0 ++ next.1
 
--- the setting of this key, where a word is left for its value
-abbrev pub IsPutNext : List ℕ → List (List ℕ) → Option Edit → Type 0
+-- the setting of this key, and the words after its value, where a word is left for the value
+abbrev pub IsPutNext : List ℕ → List (List ℕ) → Option (Edit × List (List ℕ)) → Type 0
 IsPutNext key words None = words ≡ []
-IsPutNext key words (Some edit) = (value : List ℕ) × (others : List (List ℕ)) × (words ≡ value ∷ others) × (edit ≡ put key value)
+IsPutNext key words (Some next) = (value : List ℕ) × (words ≡ value ∷ next.1) × (next.0 ≡ put key value)
+
+-- These words are those of edits.
+abbrev pub AreEdits : List (List ℕ) → Type 0
+AreEdits words = (edits : List Edit) × (words ≡ words_of edits)
+
+-- how many edits the words are, where they are those of edits
+abbrev pub IsEditCount : List (List ℕ) → Option ℕ → Type 0
+IsEditCount words None = (edits : List Edit) → words ≡ words_of edits → ⊥
+IsEditCount words (Some count) = (edits : List Edit) × (words ≡ words_of edits) × (length edits ≡ count)
 
 -- the edits whose words these are, where they are those of edits
 abbrev pub AreEditsOf : List (List ℕ) → Option (List Edit) → Type 0
@@ -113,6 +134,15 @@ vec_edits edits = text_edits edits.items
 -- the bytes of a text that is lent
 abbrev pub lent_bytes : {Z : Type 0} → Bor (String Z) → List ℕ
 lent_bytes text = string_bytes text.now
+
+-- the edit of lent texts
+abbrev pub lent_edit : LentEdit → Edit
+lent_edit (Lent.Put key value) = put (lent_bytes key) (lent_bytes value)
+lent_edit (Lent.Remove key) = remove (lent_bytes key)
+
+-- the same with the words after it
+abbrev pub lent_next : {Z : Type 0} → LentEdit × Bor (List (String Z)) → Edit × List (List ℕ)
+lent_next next = (lent_edit next.0, map string_bytes next.1.now)
 
 abbrev pub wish_of : Command → Wish
 wish_of (Get key) = get (string_bytes key)

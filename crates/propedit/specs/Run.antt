@@ -9,7 +9,7 @@ use Rattle.java_properties.specs.DisplayTexts.{error_display}
 use Rattle.java_properties.specs.Errors.{IsBareError}
 use Rattle.java_properties.specs.declared.error.ErrorKind.TheVariants as kind
 use Rattle.java_properties.specs.declared.error.PropertiesError.{PropertiesError}
-use Rattle.propedit.specs.Asked.{Wish, get, change, Asks, in_characters}
+use Rattle.propedit.specs.Asked.{Wish, get, change, Asks, AsksSome, in_characters}
 use Rattle.propedit.specs.Change.{Changes}
 use Rattle.propedit.specs.Get.{Gets}
 
@@ -19,7 +19,7 @@ use Rattle.propedit.specs.Get.{Gets}
 abbrev pub usage : List ℕ
 usage =
     codes "usage: propedit [windows-1252|utf-8|utf-16le|utf-16be] get KEY"
-    ++ (line_feed ∷ codes "       propedit [windows-1252|utf-8] (set KEY VALUE | remove KEY)..")
+    ++ (line_feed ∷ codes "       propedit [windows-1252|utf-8|utf-16le|utf-16be] (set KEY VALUE | remove KEY)..")
 
 -- the line that says a text
 abbrev pub said_line : List ℕ → List ℕ
@@ -91,8 +91,10 @@ pub record RefusesArguments {R W E : Type 0} (error_sink : Sink E) (arguments : 
   pub unwritten : output' ≡ output
   pub says : SaysUsage error_sink errors status errors'
 
--- There was no memory for what the arguments say: nothing was read or written, and this was said.
-pub record LacksMemory {R W E : Type 0} (error_sink : Sink E) (input : R) (output : W) (errors : E) (status : ℕ) (input' : R) (output' : W) (errors' : E) : Type 0 where
+-- There was no memory for what the arguments ask for: nothing was read or written, and this was said.
+pub record LacksMemory {R W E : Type 0} (error_sink : Sink E) (arguments : List (List ℕ)) (input : R) (output : W) (errors : E)
+    (status : ℕ) (input' : R) (output' : W) (errors' : E) : Type 0 where
+  pub asks : AsksSome arguments
   pub error : PropertiesError
   pub is : IsBareError kind.Memory error
   pub unread : input' ≡ input
@@ -105,4 +107,4 @@ abbrev pub Runs : {R W E : Type 0} → Reader R → Sink W → Sink E → List (
 Runs reader sink error_sink arguments input output errors status input' output' errors' =
     HasRun reader sink error_sink arguments input output errors status input' output' errors'
     ⊎ (RefusesArguments error_sink arguments input output errors status input' output' errors'
-    ⊎ LacksMemory error_sink input output errors status input' output' errors')
+    ⊎ LacksMemory error_sink arguments input output errors status input' output' errors')

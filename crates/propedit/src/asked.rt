@@ -1,9 +1,9 @@
 // What the arguments ask for.
 
-ghost use Rattle.std.specs.Prelude.{◌≡◌, length, map, string_bytes, IfOk};
+ghost use Rattle.std.specs.Prelude.{◌≡◌, map, string_bytes, IfOk, OnErr};
 ghost use Rattle.std.specs.Option.{option_map};
 ghost use Rattle.properties_text.specs.Encoding.{encoding_of};
-ghost use Rattle.propedit.specs.Asked.{asked_of, edit_words, lent_bytes, text_edit, vec_edits, wish_of, AreEditsOf, IsAsked, IsAskedIn, IsKeyToGet, IsNamed, IsNamedFirst, IsNextEdit, IsPutNext, IsWish};
+ghost use Rattle.propedit.specs.Asked.{asked_of, lent_bytes, lent_edit, lent_next, text_edit, vec_edits, wish_of, words_of, AreEdits, AreEditsOf, AreWords, AsksSome, IsAsked, IsAskedIn, IsEditCount, IsKeyToGet, IsNamed, IsNamedFirst, IsNextEdit, IsPutNext, IsWish};
 
 use java_properties::{Edit, Encoding};
 use std::alloc::{AllocError, Global};
@@ -24,10 +24,11 @@ pub enum Command {
     Change(Vec<Edit>),
 }
 
-/// What the arguments ask for, or `None` where it is nothing that there is.
+/// What the arguments ask for, or `None` where it is nothing that there is, for which no memory is needed.
 pub fn asked_for(alloc: Global, arguments: &[String]) -> Result<Option<Asked>, AllocError>
-    ensures { let names = map string_bytes arguments.now in
+    ensures asks { let names = map string_bytes arguments.now in
         IfOk result (λ asked. IsAsked names (option_map asked_of asked)) }
+    ensures lacks { OnErr result (AsksSome (map string_bytes arguments.now)) }
 {
     match named_first(arguments) {
         Some(encoding) => asked_in(alloc, encoding, &arguments[1..]),
@@ -41,8 +42,9 @@ fn asked_in(
     encoding: Encoding,
     words: &[String],
 ) -> Result<Option<Asked>, AllocError>
-    ensures { let names = map string_bytes words.now in
+    ensures asks { let names = map string_bytes words.now in
         IfOk result (λ asked. IsAskedIn (encoding_of encoding) names (option_map asked_of asked)) }
+    ensures lacks { OnErr result (AreWords (map string_bytes words.now)) }
 {
     let Some(command) = command_in(alloc, words)? else {
         return Ok(None);
@@ -72,8 +74,9 @@ fn encoding_named(name: &str) -> Option<Encoding>
 }
 
 fn command_in(alloc: Global, words: &[String]) -> Result<Option<Command>, AllocError>
-    ensures { let names = map string_bytes words.now in
+    ensures asks { let names = map string_bytes words.now in
         IfOk result (λ command. IsWish names (option_map wish_of command)) }
+    ensures lacks { OnErr result (AreWords (map string_bytes words.now)) }
 {
     if words.is_empty() {
         return Ok(None);
@@ -99,54 +102,86 @@ fn key_to_get(words: &[String]) -> Option<&String>
     }
 }
 
-// The edits that the words are, or `None` where they are others.
+// The edits that the words are, or `None` where they are others. Memory is asked for only where they are edits.
 fn edits_in(alloc: Global, words: &[String]) -> Result<Option<Vec<Edit>>, AllocError>
-    ensures { let names = map string_bytes words.now in
+    ensures finds { let names = map string_bytes words.now in
         IfOk result (λ edits. AreEditsOf names (option_map vec_edits edits)) }
+    ensures lacks { OnErr result (AreEdits (map string_bytes words.now)) }
 {
-    let mut edits = Vec::new(alloc);
-    let mut rest = words;
-    while !rest.is_empty() {
-        let Some(edit) = next_edit(rest)? else {
-            return Ok(None);
-        };
-        rest = &rest[word_count(&edit)..];
-        edits.push(edit)?;
+    match edit_count(words) {
+        Some(count) => Ok(Some(edits_of(alloc, words, count)?)),
+        None => Ok(None),
     }
-    Ok(Some(edits))
 }
 
-// The edit that the words begin with.
-fn next_edit(words: &[String]) -> Result<Option<Edit>, AllocError>
+// How many edits the words are, or `None` where they are others.
+fn edit_count(words: &[String]) -> Option<usize>
+    ensures { IsEditCount (map string_bytes words.now) result }
+{
+    let mut count = 0;
+    let mut rest = words;
+    while !rest.is_empty() {
+        let (_, others) = next_edit(rest)?;
+        rest = others;
+        count += 1;
+    }
+    Some(count)
+}
+
+// The edits that the words are, so many of them.
+fn edits_of(alloc: Global, words: &[String], count: usize) -> Result<Vec<Edit>, AllocError>
+    requires { AreEdits (map string_bytes words.now) }
     ensures { let names = map string_bytes words.now in
-        IfOk result (λ edit. IsNextEdit names (option_map text_edit edit)) }
+        IfOk result (λ edits. names ≡ words_of (vec_edits edits)) }
+{
+    let mut edits = Vec::with_capacity(alloc, count)?;
+    let mut rest = words;
+    while let Some((edit, others)) = next_edit(rest) {
+        edits.push(edit.into_edit()?)?;
+        rest = others;
+    }
+    Ok(edits)
+}
+
+// An edit whose texts are lent.
+#[derive(Clone, Copy)]
+enum LentEdit<'a> {
+    Put(&'a String, &'a String),
+    Remove(&'a String),
+}
+
+impl LentEdit<'_> {
+    fn into_edit(self) -> Result<Edit, AllocError>
+        ensures { IfOk result (λ edit. text_edit edit ≡ lent_edit self.entry) }
+    {
+        match self {
+            LentEdit::Put(key, value) => Ok(Edit::Put(key.clone()?, value.clone()?)),
+            LentEdit::Remove(key) => Ok(Edit::Remove(key.clone()?)),
+        }
+    }
+}
+
+// The edit that the words begin with, and the words after it.
+fn next_edit(words: &[String]) -> Option<(LentEdit<'_>, &[String])>
+    ensures { IsNextEdit (map string_bytes words.now) (option_map lent_next result) }
 {
     let [word, key, others @ ..] = words else {
-        return Ok(None);
+        return None;
     };
     match word.as_str() {
         "set" => next_put(key, others),
-        "remove" => Ok(Some(Edit::Remove(key.clone()?))),
-        _ => Ok(None),
+        "remove" => Some((LentEdit::Remove(key), others)),
+        _ => None,
     }
 }
 
-// The setting of a key, whose value is the first of these words.
-fn next_put(key: &String, words: &[String]) -> Result<Option<Edit>, AllocError>
+// The setting of a key, whose value is the first of these words, and the words after it.
+fn next_put<'a>(key: &'a String, words: &'a [String]) -> Option<(LentEdit<'a>, &'a [String])>
     ensures { let names = map string_bytes words.now in
-        IfOk result (λ edit. IsPutNext (string_bytes key.now) names (option_map text_edit edit)) }
+        IsPutNext (string_bytes key.now) names (option_map lent_next result) }
 {
-    let [value, ..] = words else {
-        return Ok(None);
+    let [value, others @ ..] = words else {
+        return None;
     };
-    Ok(Some(Edit::Put(key.clone()?, value.clone()?)))
-}
-
-fn word_count(edit: &Edit) -> usize
-    ensures { result ≡ length (edit_words (text_edit edit.now)) }
-{
-    match edit {
-        Edit::Put(_, _) => 3,
-        Edit::Remove(_) => 2,
-    }
+    Some((LentEdit::Put(key, value), others))
 }

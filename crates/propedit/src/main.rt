@@ -27,7 +27,7 @@ fn status(rt: &HostRuntime) -> io::Result<u8> {
     let mut errors = Counted::new(rt.stderr());
     let arguments = match env::args(rt) {
         Ok(arguments) => arguments,
-        // One of them is no text.
+        // One of them isn't UTF-8.
         Err(error) if error.kind() == ErrorKind::InvalidData => return Ok(refuse(&mut errors)),
         Err(error) => return Err(error),
     };

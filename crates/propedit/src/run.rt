@@ -16,7 +16,7 @@ use java_properties::PropertiesError;
 use std::alloc::Global;
 
 const USAGE: &str = "usage: propedit [windows-1252|utf-8|utf-16le|utf-16be] get KEY
-       propedit [windows-1252|utf-8] (set KEY VALUE | remove KEY)..
+       propedit [windows-1252|utf-8|utf-16le|utf-16be] (set KEY VALUE | remove KEY)..
 ";
 
 /// Does what the arguments ask for, and returns the exit status.

@@ -1,16 +1,17 @@
 // Runs of the program over texts.
 
 use super::*;
-use counted_io::Counted;
+use counted_io::{Counted, ScriptedSink, SinkFault};
+use std::alloc::AllocError;
 use std::io::{self, ErrorKind, Read};
 use std::process::Abort;
 use std::test::Fail;
 
-const TOLD: &str =
-    "usage: propedit [windows-1252|utf-8|utf-16le|utf-16be] get KEY\n       propedit [windows-1252|utf-8] (set KEY VALUE | remove KEY)..\n";
+const USAGE_TEXT: &str =
+    "usage: propedit [windows-1252|utf-8|utf-16le|utf-16be] get KEY\n       propedit [windows-1252|utf-8|utf-16le|utf-16be] (set KEY VALUE | remove KEY)..\n";
 
 // The arguments, as owned texts.
-fn words(alloc: Global, arguments: &[&str]) -> Result<Vec<String>, Fail> {
+fn words(alloc: Global, arguments: &[&str]) -> Result<Vec<String>, AllocError> {
     let mut words = Vec::new(alloc);
     for argument in arguments {
         words.push(String::from_str(alloc, argument)?)?;
@@ -37,54 +38,83 @@ fn edited(
     Ok((status, output.into_inner(), errors.into_inner()))
 }
 
-type Row<'a> = (&'a [&'a str], &'a [u8], u8, &'a [u8], &'a str);
+// A run, and what it has to give.
+#[derive(Drop)]
+struct Row<'a> {
+    arguments: &'a [&'a str],
+    input: &'a [u8],
+    status: u8,
+    output: &'a [u8],
+    errors: &'a str,
+}
+
+// A run that succeeds.
+fn gives<'a>(arguments: &'a [&'a str], input: &'a [u8], output: &'a [u8]) -> Row<'a> {
+    Row {
+        arguments,
+        input,
+        status: 0,
+        output,
+        errors: "",
+    }
+}
+
+// A run that fails, and says this.
+fn fails<'a>(arguments: &'a [&'a str], input: &'a [u8], errors: &'a str) -> Row<'a> {
+    Row {
+        arguments,
+        input,
+        status: 1,
+        output: b"",
+        errors,
+    }
+}
+
+// A run of arguments that ask for nothing.
+fn is_refused<'a>(arguments: &'a [&'a str]) -> Row<'a> {
+    Row {
+        arguments,
+        input: b"a=1",
+        status: 2,
+        output: b"",
+        errors: USAGE_TEXT,
+    }
+}
 
 fn check_rows(rt: &impl Abort, alloc: Global, rows: &[Row<'_>]) -> Result<(), Fail> {
-    for (arguments, input, status, output, errors) in rows {
-        let (found, written, said) = edited(alloc, arguments, *input)?;
-        assert_eq!(rt; found, *status);
-        assert_eq!(rt; written.as_slice(), *output);
-        assert_eq!(rt; said.as_slice(), errors.as_bytes());
+    for row in rows {
+        let (status, output, errors) = edited(alloc, row.arguments, row.input)?;
+        assert_eq!(rt; status, row.status);
+        assert_eq!(rt; output.as_slice(), row.output);
+        assert_eq!(rt; errors.as_slice(), row.errors.as_bytes());
     }
     Ok(())
 }
 
 #[test]
 fn gets_the_last_value(rt: HostRuntime) -> Result<(), Fail> {
-    let rows: [Row<'_>; 9] = [
-        (&["get", "a"], b"a=1\nb=2\na = 3", 0, b"3\n", ""),
-        (&["get", "caf\u{e9}"], b"caf\xe9=x", 0, b"x\n", ""),
-        (
-            &["windows-1252", "get", "a"],
-            b"a=\xe9",
-            0,
-            b"\xc3\xa9\n",
-            "",
-        ),
-        (&["utf-8", "get", "a"], b"a=\xc3\xa9", 0, b"\xc3\xa9\n", ""),
-        (
-            &["utf-16le", "get", "a"],
-            b"a\0=\0\xe9\0",
-            0,
-            b"\xc3\xa9\n",
-            "",
-        ),
-        (
-            &["utf-16be", "get", "a"],
-            b"\0a\0=\0\xe9",
-            0,
-            b"\xc3\xa9\n",
-            "",
-        ),
-        (&["get", "a"], b"\xff\xfea\0=\0\xe9\0", 0, b"\xc3\xa9\n", ""),
-        (
-            &["get", "a"],
-            b"a=\\u65e5\\\n  \\tx",
-            0,
-            b"\xe6\x97\xa5\tx\n",
-            "",
-        ),
-        (&["get", "a"], b"a", 0, b"\n", ""),
+    let rows: [Row<'_>; 7] = [
+        gives(&["get", "a"], b"a=1\nb=2\na = 3", b"3\n"),
+        gives(&["get", "caf\u{e9}"], b"caf\xe9=x", b"x\n"),
+        gives(&["get", "a"], b"a=\\u65e5\\\n  \\tx", b"\xe6\x97\xa5\tx\n"),
+        gives(&["get", "a"], b"a=1\\n2", b"1\n2\n"),
+        gives(&["get", "a"], b"a", b"\n"),
+        gives(&["get", ""], b"=1", b"1\n"),
+        gives(&["get", "utf-8"], b"utf-8=x", b"x\n"),
+    ];
+    check_rows(&rt, rt.alloc(), rows.as_slice())
+}
+
+#[test]
+fn reads_the_encoding_that_is_named_or_marked(rt: HostRuntime) -> Result<(), Fail> {
+    let told = b"\xc3\xa9\n".as_slice();
+    let rows: [Row<'_>; 6] = [
+        gives(&["windows-1252", "get", "a"], b"a=\xe9", told),
+        gives(&["utf-8", "get", "a"], b"a=\xc3\xa9", told),
+        gives(&["utf-16le", "get", "a"], b"a\0=\0\xe9\0", told),
+        gives(&["utf-16be", "get", "a"], b"\0a\0=\0\xe9", told),
+        gives(&["get", "a"], b"\xff\xfea\0=\0\xe9\0", told),
+        gives(&["utf-16le", "get", "a"], b"\xef\xbb\xbfa=\xc3\xa9", told),
     ];
     check_rows(&rt, rt.alloc(), rows.as_slice())
 }
@@ -92,92 +122,69 @@ fn gets_the_last_value(rt: HostRuntime) -> Result<(), Fail> {
 #[test]
 fn tells_of_an_absent_key(rt: HostRuntime) -> Result<(), Fail> {
     let rows: [Row<'_>; 3] = [
-        (&["get", "c"], b"a=1\nb=c", 1, b"", ""),
-        (&["get", ""], b"", 1, b"", ""),
-        (&["get", "\\u0061"], b"a=1", 1, b"", ""),
+        fails(&["get", "c"], b"a=1\nb=c", ""),
+        fails(&["get", ""], b"", ""),
+        fails(&["get", "\\u0061"], b"a=1", ""),
     ];
     check_rows(&rt, rt.alloc(), rows.as_slice())
 }
 
 #[test]
 fn edits(rt: HostRuntime) -> Result<(), Fail> {
-    let rows: [Row<'_>; 8] = [
-        (
+    let rows: [Row<'_>; 10] = [
+        gives(
             &["set", "a", "2"],
             b"# x\r\na : 1\r\nb=c",
-            0,
             b"# x\r\na=2\r\nb=c",
-            "",
         ),
-        (&["set", "c", "3"], b"a=1", 0, b"a=1\nc=3\n", ""),
-        (&["remove", "a"], b"a=1\nb=2\na=3", 0, b"b=2\n", ""),
-        (&["remove", "c"], b"a = 1", 0, b"a = 1", ""),
-        (
-            &["set", "a", "\u{e9}\u{65e5}"],
-            b"a=1",
-            0,
-            b"a=\xe9\\u65e5",
-            "",
+        gives(&["set", "c", "3"], b"a=1", b"a=1\nc=3\n"),
+        gives(&["remove", "a"], b"a=1\nb=2\na=3", b"b=2\n"),
+        gives(&["remove", "c"], b"a = 1", b"a = 1"),
+        gives(&["set", "a", "\\u0061"], b"", b"a=\\\\u0061\n"),
+        gives(&["set", "", ""], b"a=1", b"a=1\n=\n"),
+        gives(&["remove", ""], b"a=1\n=2\nb=3", b"a=1\nb=3"),
+        gives(&["set", "a", "2", "remove", "a"], b"a=1\nb=2", b"b=2"),
+        gives(
+            &["remove", "a", "set", "a", "2"],
+            b"a=1\nb=2",
+            b"b=2\na=2\n",
         ),
-        (
-            &["utf-8", "set", "a", "\u{e9}"],
-            b"a=1",
-            0,
-            b"a=\xc3\xa9",
-            "",
+        gives(
+            &["set", "set", "remove", "remove", "get"],
+            b"get=1",
+            b"set=remove\n",
         ),
-        (
-            &["set", "a", "\u{e9}"],
-            b"\xef\xbb\xbfa=1",
-            0,
-            b"\xef\xbb\xbfa=\xc3\xa9",
-            "",
-        ),
-        (&["set", "a", "\\u0061"], b"", 0, b"a=\\\\u0061\n", ""),
     ];
     check_rows(&rt, rt.alloc(), rows.as_slice())
 }
 
 #[test]
-fn edits_in_order(rt: HostRuntime) -> Result<(), Fail> {
-    let rows: [Row<'_>; 3] = [
-        (
-            &["set", "a", "2", "remove", "a"],
-            b"a=1\nb=2",
-            0,
-            b"b=2",
-            "",
+fn writes_the_encoding_that_is_named_or_marked(rt: HostRuntime) -> Result<(), Fail> {
+    let rows: [Row<'_>; 4] = [
+        gives(&["set", "a", "\u{e9}\u{65e5}"], b"a=1", b"a=\xe9\\u65e5"),
+        gives(&["utf-8", "set", "a", "\u{e9}"], b"a=1", b"a=\xc3\xa9"),
+        gives(
+            &["set", "a", "\u{e9}"],
+            b"\xef\xbb\xbfa=1",
+            b"\xef\xbb\xbfa=\xc3\xa9",
         ),
-        (
-            &["remove", "a", "set", "a", "2"],
-            b"a=1\nb=2",
-            0,
-            b"b=2\na=2\n",
-            "",
-        ),
-        (
-            &["set", "set", "remove", "remove", "get"],
-            b"get=1",
-            0,
-            b"set=remove\n",
-            "",
+        gives(
+            &["utf-16le", "set", "a", "2"],
+            b"\xef\xbb\xbfa=1",
+            b"\xef\xbb\xbfa=2",
         ),
     ];
-    check_rows(&rt, rt.alloc(), &rows[..2])?;
-    let (status, output, _) = edited(rt.alloc(), rows[2].0, rows[2].1)?;
-    assert_eq!(rt; status, 0);
-    assert_eq!(rt; output.as_slice(), b"set=remove\n".as_slice());
-    Ok(())
+    check_rows(&rt, rt.alloc(), rows.as_slice())
 }
 
 #[test]
 fn tells_of_malformed_escapes(rt: HostRuntime) -> Result<(), Fail> {
     let told = "Malformed \\uxxxx encoding: not enough digits. (line_number = 2)\n";
     let rows: [Row<'_>; 4] = [
-        (&["get", "a"], b"a=1\nk=\\u12", 1, b"", told),
-        (&["get", "k"], b"a=1\nk=\\u12", 1, b"", told),
-        (&["set", "a", "2"], b"a=1\nk=\\u12", 1, b"", told),
-        (&["remove", "c"], b"a=1\nk=\\u12", 1, b"", told),
+        fails(&["get", "a"], b"a=1\nk=\\u12", told),
+        fails(&["get", "k"], b"a=1\nk=\\u12", told),
+        fails(&["set", "a", "2"], b"a=1\nk=\\u12", told),
+        fails(&["remove", "c"], b"a=1\nk=\\u12", told),
     ];
     check_rows(&rt, rt.alloc(), rows.as_slice())
 }
@@ -186,33 +193,30 @@ fn tells_of_malformed_escapes(rt: HostRuntime) -> Result<(), Fail> {
 fn refuses_edits_of_utf_16(rt: HostRuntime) -> Result<(), Fail> {
     let told = "Encoding can't be edited. (line_number = unknown)\n";
     let rows: [Row<'_>; 3] = [
-        (&["utf-16le", "set", "a", "2"], b"a\0=\0", 1, b"", told),
-        (&["utf-16be", "remove", "a"], b"\0a\0=", 1, b"", told),
-        (&["utf-8", "set", "a", "2"], b"\xfe\xff\0a", 1, b"", told),
+        fails(&["utf-16le", "set", "a", "2"], b"a\0=\0", told),
+        fails(&["utf-16be", "remove", "a"], b"\0a\0=", told),
+        fails(&["utf-8", "set", "a", "2"], b"\xfe\xff\0a", told),
     ];
     check_rows(&rt, rt.alloc(), rows.as_slice())
 }
 
 #[test]
 fn refuses_other_arguments(rt: HostRuntime) -> Result<(), Fail> {
-    let rows: [&[&str]; 12] = [
-        &[],
-        &["utf-8"],
-        &["get"],
-        &["get", "a", "b"],
-        &["set", "a"],
-        &["remove"],
-        &["set", "a", "b", "get", "c"],
-        &["get", "a", "set", "a", "b"],
-        &["set", "a", "b", "remove"],
-        &["utf-8", "utf-8", "get", "a"],
-        &["latin-1", "get", "a"],
-        &["SET", "a", "b"],
+    let rows: [Row<'_>; 12] = [
+        is_refused(&[]),
+        is_refused(&["utf-8"]),
+        is_refused(&["get"]),
+        is_refused(&["get", "a", "b"]),
+        is_refused(&["set", "a"]),
+        is_refused(&["remove"]),
+        is_refused(&["set", "a", "b", "get", "c"]),
+        is_refused(&["get", "a", "set", "a", "b"]),
+        is_refused(&["set", "a", "b", "remove"]),
+        is_refused(&["utf-8", "utf-8", "get", "a"]),
+        is_refused(&["latin-1", "get", "a"]),
+        is_refused(&["SET", "a", "b"]),
     ];
-    for row in rows {
-        check_rows(&rt, rt.alloc(), &[(row, b"a=1", 2, b"", TOLD)])?;
-    }
-    Ok(())
+    check_rows(&rt, rt.alloc(), rows.as_slice())
 }
 
 // Gives one text, and then fails.
@@ -246,35 +250,166 @@ fn tells_of_a_read_that_failed(rt: HostRuntime) -> Result<(), Fail> {
     Ok(())
 }
 
-// A refused growth ends with status 1 and is told, or it was that of the text that tells it, and nothing is.
+// A sink that fails so, or takes no byte, at the third byte.
+fn full(alloc: Global, how: SinkFault) -> ScriptedSink {
+    ScriptedSink::new(alloc, 1, Some(3), how)
+}
+
+// A sink that takes all bytes, and can't be flushed.
+fn stuck(alloc: Global) -> ScriptedSink {
+    let mut sink = ScriptedSink::new(alloc, 64, None, SinkFault::Nothing);
+    sink.set_flush_fault(Some(ErrorKind::Other));
+    sink
+}
+
+// A command to whose output this happens tells it, after the sink took these bytes.
+fn check_fault(
+    rt: &impl Abort,
+    alloc: Global,
+    command: &[&str],
+    mut output: ScriptedSink,
+    taken: &[u8],
+) -> Result<(), Fail> {
+    let arguments = words(alloc, command)?;
+    let mut input = b"a=123".as_slice();
+    let mut errors = Counted::new(Vec::new(alloc));
+    let status = run(
+        alloc,
+        arguments.as_slice(),
+        &mut input,
+        &mut output,
+        &mut errors,
+    );
+    let told = b"I/O error (line_number = unknown)\n".as_slice();
+    assert_eq!(rt; status, 1);
+    assert_eq!(rt; output.bytes(), taken);
+    assert_eq!(rt; errors.into_inner().as_slice(), told);
+    Ok(())
+}
+
 #[test]
-fn tells_of_refused_memory(rt: HostRuntime) -> Result<(), Fail> {
-    let rows: [(&[&str], &[u8]); 2] = [(&["get", "a"], b"1\n"), (&["set", "a", "2"], b"a=2")];
-    for (arguments, wanted) in rows {
-        let arguments = words(rt.alloc(), arguments)?;
-        let mut output = Counted::new(Vec::with_capacity(rt.alloc(), 64)?);
-        let mut errors = Counted::new(Vec::with_capacity(rt.alloc(), 64)?);
-        let mut input = b"a=1".as_slice();
-        let status = run(
-            rt.alloc(),
-            arguments.as_slice(),
-            &mut input,
-            &mut output,
-            &mut errors,
-        );
-        let (output, errors) = (output.into_inner(), errors.into_inner());
-        if status == 0 {
-            assert_eq!(rt; output.as_slice(), wanted);
-            continue;
+fn tells_of_a_write_that_failed(rt: HostRuntime) -> Result<(), Fail> {
+    let rows: [(&[&str], &[u8]); 2] = [(&["get", "a"], b"12"), (&["set", "a", "2"], b"a=")];
+    for (command, taken) in rows {
+        for how in [SinkFault::Fault(ErrorKind::Other), SinkFault::Nothing] {
+            check_fault(&rt, rt.alloc(), command, full(rt.alloc(), how), taken)?;
         }
-        assert_eq!(rt; status, 1);
-        assert_eq!(rt; output.as_slice(), b"".as_slice());
-        assert!(rt;
-            matches!(
-                errors.as_slice(),
-                b"" | b"Out of memory. (line_number = unknown)\n"
-            )
-        );
     }
     Ok(())
+}
+
+#[test]
+fn tells_of_a_flush_that_failed(rt: HostRuntime) -> Result<(), Fail> {
+    let rows: [(&[&str], &[u8]); 2] = [(&["get", "a"], b"123\n"), (&["set", "a", "2"], b"a=2")];
+    for (command, taken) in rows {
+        check_fault(&rt, rt.alloc(), command, stuck(rt.alloc()), taken)?;
+    }
+    Ok(())
+}
+
+// A command whose errors can't be told has this status.
+fn check_status(
+    rt: &impl Abort,
+    alloc: Global,
+    command: &[&str],
+    mut errors: ScriptedSink,
+    wanted: u8,
+) -> Result<(), Fail> {
+    let arguments = words(alloc, command)?;
+    let mut input = b"a=\\u12".as_slice();
+    let mut output = Counted::new(Vec::new(alloc));
+    let status = run(
+        alloc,
+        arguments.as_slice(),
+        &mut input,
+        &mut output,
+        &mut errors,
+    );
+    assert_eq!(rt; status, wanted);
+    assert_eq!(rt; output.into_inner().as_slice(), b"".as_slice());
+    Ok(())
+}
+
+#[test]
+fn drops_what_it_cannot_tell(rt: HostRuntime) -> Result<(), Fail> {
+    let rows: [(&[&str], u8); 3] = [
+        (&["get", "a"], 1),
+        (&["set", "a", "2"], 1),
+        (&["set", "a"], 2),
+    ];
+    for (command, status) in rows {
+        for how in [SinkFault::Fault(ErrorKind::Other), SinkFault::Nothing] {
+            check_status(&rt, rt.alloc(), command, full(rt.alloc(), how), status)?;
+        }
+        check_status(&rt, rt.alloc(), command, stuck(rt.alloc()), status)?;
+    }
+    Ok(())
+}
+
+// A refused growth ends with status 1 and is told, or it was that of the text that tells it, and nothing is.
+fn check_refusal(rt: &impl Abort, alloc: Global, command: &[&str], wanted: &[u8]) {
+    let Ok(arguments) = words(alloc, command) else {
+        return;
+    };
+    let Ok(output) = Vec::with_capacity(alloc, 64) else {
+        return;
+    };
+    let Ok(errors) = Vec::with_capacity(alloc, 64) else {
+        return;
+    };
+    let (mut output, mut errors) = (Counted::new(output), Counted::new(errors));
+    let mut input = b"a=1".as_slice();
+    let status = run(
+        alloc,
+        arguments.as_slice(),
+        &mut input,
+        &mut output,
+        &mut errors,
+    );
+    let (output, errors) = (output.into_inner(), errors.into_inner());
+    if status == 0 {
+        assert_eq!(rt; output.as_slice(), wanted);
+        return;
+    }
+    assert_eq!(rt; status, 1);
+    assert_eq!(rt; output.as_slice(), b"".as_slice());
+    assert!(rt;
+        matches!(
+            errors.as_slice(),
+            b"" | b"Out of memory. (line_number = unknown)\n"
+        )
+    );
+}
+
+#[test]
+fn tells_of_memory_refused_to_get(rt: HostRuntime) {
+    check_refusal(&rt, rt.alloc(), &["get", "a"], b"1\n");
+}
+
+#[test]
+fn tells_of_memory_refused_to_set(rt: HostRuntime) {
+    check_refusal(&rt, rt.alloc(), &["set", "a", "2"], b"a=2");
+}
+
+// Whatever growth is refused, other arguments are told so.
+#[test]
+fn refuses_arguments_without_memory(rt: HostRuntime) {
+    let Ok(arguments) = words(rt.alloc(), &["set", "a", "b", "get", "c"]) else {
+        return;
+    };
+    let Ok(errors) = Vec::with_capacity(rt.alloc(), 256) else {
+        return;
+    };
+    let (mut output, mut errors) = (Counted::new(Vec::new(rt.alloc())), Counted::new(errors));
+    let mut input = b"a=1".as_slice();
+    let status = run(
+        rt.alloc(),
+        arguments.as_slice(),
+        &mut input,
+        &mut output,
+        &mut errors,
+    );
+    assert_eq!(rt; status, 2);
+    assert_eq!(rt; output.into_inner().as_slice(), b"".as_slice());
+    assert_eq!(rt; errors.into_inner().as_slice(), USAGE_TEXT.as_bytes());
 }

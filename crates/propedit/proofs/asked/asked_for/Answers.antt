@@ -7,12 +7,12 @@ use Rattle.propedit.specs.Asked.{asked_of, IsAsked, IsAskedIn}
 use Rattle.propedit.proofs.Words.{after-name, asked-named}
 use Rattle.propedit.proofs.asked.asked_for.Goals as goal
 
-pub returns-in-Some : goal.returns-in-Some
-returns-in-Some c =
+pub returns-in-Some-clause-asks : goal.returns-in-Some-clause-asks
+returns-in-Some-clause-asks c =
     let texts = c.args.arguments.now in
     let e = encoding_of c.in-Some.encoding in
     let words = c.in-Some.ensures.0 in
     let rest = after-name texts _ words c.in-Some.ensures.1 in
-    let asked = rw rest at c.asked_in.ensures in
+    let asked = rw rest at c.asked_in.ensures.asks in
     IfOk-weaker c.asked_in.result (λ asked. IsAskedIn e words (option_map asked_of asked)) (λ asked. IsAsked (map string_bytes texts) (option_map asked_of asked))
     (λ asked h. asked-named (map string_bytes texts) e words (option_map asked_of asked) c.in-Some.ensures.1 h) asked
