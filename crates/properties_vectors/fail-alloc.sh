@@ -4,8 +4,8 @@
 #     crates/properties_vectors/fail-alloc.sh [FIRST [LAST]]
 #
 # `rt try --fail-alloc N` refuses the Nth allocation of each test, and proves nothing. The tests whose names hold
-# `refused::`, `refused_memory` or `without_memory` hold all the same. Those of other names fail where their own data is refused, and
-# aren't looked at. None of these tests takes more than LAST allocations.
+# `refused::`, `refused_memory` or `without_memory` hold all the same. Those of other names fail where their own data is
+# refused, and aren't looked at. None of these tests takes more than LAST allocations.
 first=${1:-1}
 last=${2:-24}
 crates=$(cd "$(dirname "$0")/.." && pwd)

@@ -382,12 +382,12 @@ fn check_refusal(rt: &impl Abort, alloc: Global, command: &[&str], wanted: &[u8]
 }
 
 #[test]
-fn tells_of_memory_refused_to_get(rt: HostRuntime) {
+fn get_tells_of_refused_memory(rt: HostRuntime) {
     check_refusal(&rt, rt.alloc(), &["get", "a"], b"1\n");
 }
 
 #[test]
-fn tells_of_memory_refused_to_set(rt: HostRuntime) {
+fn set_tells_of_refused_memory(rt: HostRuntime) {
     check_refusal(&rt, rt.alloc(), &["set", "a", "2"], b"a=2");
 }
 
