@@ -16,8 +16,8 @@ HEAD = """// Examples of doc comments, each as a test.
 
 use counted_io::{Counted, CountedRead, CountedWrite, ScriptedReader, ScriptedSink, SinkFault, Tail, send};
 use java_properties::{
-    Call, ContentRef, Edit, Encoding, LineContent, LineEnding, PropertiesError, PropertiesIter, PropertiesWriter, edit_all,
-    laws, read, read_lines, read_sorted, remove_key, run_calls, set_key, write, write_sorted,
+    Call, ContentRef, Document, Edit, Encoding, LineContent, LineEnding, PropertiesError, PropertiesIter, PropertiesWriter,
+    edit_all, laws, read, read_lines, read_sorted, remove_key, run_calls, set_key, write, write_sorted,
 };
 use properties_text::encoding::decode::decode_line;
 use properties_text::encoding::{OutputEncoding, TextBuffer};

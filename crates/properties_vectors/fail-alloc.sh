@@ -7,7 +7,7 @@
 # `refused::`, `refused_memory` or `without_memory` hold all the same. Those of other names fail where their own data is
 # refused, and aren't looked at. None of these tests takes more than LAST allocations.
 first=${1:-1}
-last=${2:-24}
+last=${2:-32}
 crates=$(cd "$(dirname "$0")/.." && pwd)
 status=0
 for number in $(seq "$first" "$last"); do

@@ -18,7 +18,7 @@ use Rattle.properties_format.proofs.Body.Groups.{as_lines-append, groups-close, 
 use Rattle.properties_format.proofs.Edited.Steps.{last_ending-push, is_left_open-push, is_empty_line-push}
 use Rattle.properties_format.proofs.Groups.Joined.{joined-push, joined-one, joined-closed, joined-comment_line}
 use Rattle.properties_text.specs.Encoding.{encoding_of}
-use Rattle.java_properties.specs.LineTexts.{KeepsText}
+use Rattle.properties_lines.specs.LineTexts.{KeepsText}
 use Rattle.java_properties.specs.BodyLines.{ending_in, held_line, lines_after, IsFirstLine}
 use Rattle.java_properties.specs.BodyGroups.{IsWithin, lines_left, groups_left, TakesLine, IsSpanOf, TakesGroup, groups_from, IsJoined}
 use Rattle.java_properties.specs.declared.edit.lines.FirstLine.{FirstLine}

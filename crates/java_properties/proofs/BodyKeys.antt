@@ -15,7 +15,7 @@ use Rattle.properties_format.proofs.Edited.Steps.{without-append}
 use Rattle.java_properties.specs.BodyKeys.{spans_bytes, AreWithin, AreOthersFound}
 use Rattle.std.specs.Str.{chars}
 use Rattle.properties_format.specs.Encoding.{Encoding, windows_1252, utf_8, utf_16le, utf_16be}
-use Rattle.java_properties.specs.LineSearch.{unit_size}
+use Rattle.properties_lines.specs.LineSearch.{unit_size}
 use Rattle.properties_format.specs.Escapes.{Malformed}
 use Rattle.properties_format.specs.Lines.{Ended}
 use Rattle.properties_format.specs.Groups.{joined}

@@ -12,11 +12,11 @@ use Rattle.properties_format.specs.Cut.{HoldsNoLineEndUnit}
 use Rattle.properties_format.specs.Reading.Body.{held_lines_of}
 use Rattle.properties_format.proofs.Cut.Only.{ending-windows_1252, ending-utf_8}
 use Rattle.properties_format.proofs.Edited.Steps.{held_lines-line, held_lines-last}
-use Rattle.java_properties.proofs.LineSearch.{length-ascii_bytes}
+use Rattle.properties_lines.proofs.LineSearch.{length-ascii_bytes}
 use Rattle.java_properties.specs.BodyLines.{IsFirstLine, ending_before, held_line}
-use Rattle.java_properties.specs.LineSearch.{unit_size, IsFirstLineEnd, end_character}
+use Rattle.properties_lines.specs.LineSearch.{unit_size, IsFirstLineEnd, end_character}
 use Rattle.java_properties.specs.Settings.{ending_of}
-use Rattle.java_properties.specs.declared.lines.search.LineEnd.{LineEnd}
+use Rattle.properties_lines.specs.declared.search.LineEnd.{LineEnd}
 use Rattle.java_properties.specs.declared.writer.settings.LineEnding.{LineEnding}
 
 -- no line end is left: the bytes are the last line

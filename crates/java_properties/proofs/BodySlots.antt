@@ -7,6 +7,7 @@ pub mod TwoParts
 pub mod Removal
 pub mod RemovalPairs
 pub mod RemovalEnd
+pub mod RemovalLast
 use Rattle.std.proofs.Common.{◌≡◌, ◌<◌, ℕ, ◌+◌, suc, zero, List, [], ◌∷◌, ◌++◌, length, get_or, set, refl, ap, arith}
 use Rattle.properties_format.specs.Reading.Cells.{Cell}
 use Rattle.java_properties.specs.BodySlots.{IsCell, AreCells}

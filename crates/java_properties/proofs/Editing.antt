@@ -379,7 +379,7 @@ removed-result {source} {e} {opened} key bytes others h ok k made =
 
 -- ---- edits in turn
 
-made-edits : {e : Encoding} {source bytes : List ℕ} (edits : List Edit) → AreScalarEdits edits → edit_all_result e source edits ≡ edited bytes
+pub made-edits : {e : Encoding} {source bytes : List ℕ} (edits : List Edit) → AreScalarEdits edits → edit_all_result e source edits ≡ edited bytes
     → AreMade e source edits bytes
 made-edits {e} {source} {bytes} edits scalar is =
     let meets = subst (IsEditAllResult e source edits) is (edit_all_result-meets e source edits) in
@@ -402,7 +402,7 @@ edits_in-more edits i d h = ap edits_in (take_more edits i d h) ∙ map-append e
 -- ---- edits of slots
 
 -- a source that is edited is in an encoding that is edited
-editable : {source : List ℕ} {e : Encoding} {opened : Source} → IsInForce source e opened → is_editable (encoding_of opened.encoding) ≡ true
+pub editable : {source : List ℕ} {e : Encoding} {opened : Source} → IsInForce source e opened → is_editable (encoding_of opened.encoding) ≡ true
     → is_editable (byte_order_mark e source).encoding ≡ true
 editable h ok = ap (λ v. let w : InForce = v in is_editable w.encoding) h.in_force ∙ ok
 

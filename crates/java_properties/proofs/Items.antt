@@ -1,5 +1,5 @@
 -- How items come of logical lines.
-use Rattle.std.proofs.Common.{◌≡◌, ◌==◌, ℕ, true, false, List, [], ◌∷◌, ◌++◌, length, refl, sym, ap, ap₂, ◌∙◌, inl, inr, append_assoc, arith}
+use Rattle.std.proofs.Common.{◌≡◌, ◌==◌, ℕ, true, false, List, [], ◌∷◌, ◌++◌, length, refl, sym, ap, ap₂, subst, ◌∙◌, inl, inr, append_assoc, arith}
 use Rattle.std.specs.Prelude.{◌⊎◌, Option, Some, None, Result, Ok, Err}
 use Rattle.std.specs.Str.{chars}
 use Rattle.std.proofs.lemmas.Bool.{cases_Bool, eqb-true}
@@ -22,13 +22,14 @@ use Rattle.properties_format.proofs.ItemsToCome.Unique.{items_to_come-done}
 use Rattle.properties_text.specs.Escaping.{malformed_in, IsRefused}
 use Rattle.properties_text.specs.declared.escape.UnescapeError.{UnescapeError}
 use Rattle.properties_text.specs.declared.escape.UnescapeError.TheVariants as unescape
-use Rattle.java_properties.specs.Errors.{IsBareError, IsUnresolved, SaysUnresolved}
+use Rattle.java_properties.specs.Errors.{IsBareError, IsUnresolved, SaysUnresolved, SaysLineError}
 use Rattle.java_properties.specs.LentItems.{found_content, spans_of, AreTextsIn, IsFoundIn, FindsItem, FindsPlain}
-use Rattle.java_properties.specs.LineFinder.{PassesSome}
-use Rattle.java_properties.proofs.LineJoiner.{some-start, some-on, all-on}
-use Rattle.java_properties.specs.LineJoiner.{IsLazyItems, JoinsError, JoinsNext, Comes, Joiner, numbered_line}
+use Rattle.properties_lines.specs.LineFinder.{PassesSome}
+use Rattle.properties_lines.proofs.LineJoiner.{some-start, some-on, all-on}
+use Rattle.properties_lines.specs.LineJoiner.{IsLazyItems, JoinsError, JoinsNext, Comes, Joiner, numbered_line}
+use Rattle.properties_lines.specs.declared.error.LineError.{LineError}
 use Rattle.properties_text.specs.Parsing.{spanned, in_characters}
-use Rattle.java_properties.specs.GivenItems.{IsNoItem, Gives, BreaksOff, GivesEntry, GivesNone, GivesMalformed}
+use Rattle.java_properties.specs.GivenItems.{IsNoItem, Gives, BreaksOff, GivesEntry, GivesNone, GivesMalformed, GivesError}
 use Rattle.java_properties.specs.declared.error.ErrorKind.TheVariants.{Memory}
 use Rattle.java_properties.specs.declared.iter.found.Found.{Found}
 use Rattle.java_properties.specs.declared.iter.found.FoundContent.{FoundContent}
@@ -183,9 +184,24 @@ module _ {R : Type 0} {reader : Reader R} where
       by-comes (Comes.at_last k items) =
           inr (k, passed-on h n.live n.bytes end ∙ items ∙ followed-ignored number (chars new.line) [] o, inr (n.ended k))
 
+  -- why no line could be read
+  pub tells-error : {s u : ReaderState} {from to : R} {why : LineError} {e : PropertiesError} → JoinsError reader s from why u to → SaysLineError why e → GivesError reader s from e to
+  tells-error {e = e} (inl f) says = inl (record {
+    bytes = f.bytes;
+    error = f.error;
+    number = f.number;
+    failed = f.failed;
+    is = subst (λ v. SaysLineError v e) f.is says;
+    items = f.items;
+    lazy = f.lazy;
+  })
+  tells-error {e = e} (inr (inl f)) says =
+      inr (inl (record { bytes = f.bytes; read = f.read; passes = f.passes; is = subst (λ v. SaysLineError v e) f.is says; lazy = f.lazy }))
+  tells-error {e = e} (inr (inr f)) says = inr (inr (record { bytes = f.bytes; read = f.read; is = subst (λ v. SaysLineError v e) f.is says; lazy = f.lazy }))
+
   -- a line could not be read
-  pub passed-error : {s t u : ReaderState} {from to next : R} {r : List ℕ} {e : PropertiesError} → Passed reader s from r t to → t.is_done ≡ false
-      → JoinsError reader t to e u next → (s.is_done ≡ false) × JoinsError reader s from e u next
+  pub passed-error : {s t : ReaderState} {from to next : R} {r : List ℕ} {e : PropertiesError} → Passed reader s from r t to → t.is_done ≡ false
+      → GivesError reader t to e next → (s.is_done ≡ false) × GivesError reader s from e next
   passed-error {r = r} h g (inl f) = (
     passed-live h g,
     inl (record {
@@ -204,12 +220,12 @@ module _ {R : Type 0} {reader : Reader R} where
       (passed-live h g, inr (inr (record { bytes = r ++ f.bytes; read = read-more h.read f.read; is = f.is; lazy = passed-lazy h g f.lazy })))
 
   -- a line gave no item
-  pub passed-no_item : {s t : ReaderState} {from to next : R} {r : List ℕ} {e : PropertiesError} (number : ℕ) (new : Joiner) (u : ReaderState) → Passed reader s from r t to
+  pub passed-no_item : {s t : ReaderState} {from to next : R} {r : List ℕ} {e : PropertiesError} (number : ℕ) (new : Joiner) → Passed reader s from r t to
       → JoinsNext reader t to number new next → IsNoItem number (chars new.line) e
-      → (s.is_done ≡ false) × (GivesMalformed reader s from e next ⊎ JoinsError reader s from e u next)
-  passed-no_item {r = r} number new u h n (inr is) =
+      → (s.is_done ≡ false) × (GivesMalformed reader s from e next ⊎ GivesError reader s from e next)
+  passed-no_item {r = r} number new h n (inr is) =
       (passed-live h n.live, inr (inr (inr (record { bytes = r ++ n.bytes; read = read-more h.read n.read; is = is; lazy = passed-lazy h n.live n.lazy }))))
-  passed-no_item {s} {t} {next = next} {r = r} number new u h n (inl (kind, o, is)) = (
+  passed-no_item {s} {t} {next = next} {r = r} number new h n (inl (kind, o, is)) = (
     passed-live h n.live,
     inl (record {
       bytes = r ++ n.bytes;
@@ -296,6 +312,6 @@ module _ {R : Type 0} {reader : Reader R} where
   passed-finds (Some (Err e)) new next h (live, done, inr n) = let k = passed-error h live n in (k.0, done, inr k.1)
 
   -- an item came for which there was no memory
-  pub item-lost : {s t u : ReaderState} {from to : R} {entry : Entry} {e : PropertiesError} → GivesEntry reader s from entry t to → IsBareError Memory e
-      → (s.is_done ≡ false) × JoinsError reader s from e u to
+  pub item-lost : {s t : ReaderState} {from to : R} {entry : Entry} {e : PropertiesError} → GivesEntry reader s from entry t to → IsBareError Memory e
+      → (s.is_done ≡ false) × GivesError reader s from e to
   item-lost n is = (n.live, inr (inr (record { bytes = n.bytes; read = n.read; is = is; lazy = n.lazy })))

@@ -3,18 +3,11 @@ pub mod Engine
 pub mod Calls
 pub mod ReadBack
 pub mod AsciiOnly
-mod InputBuffer
-pub mod LineFinder
-pub mod PlainLines
-pub mod LineSearch
-pub mod LineJoiner
 pub mod Comparisons
 pub mod Items
 pub mod LentItems
 pub mod Told
 pub mod Readings
-pub mod Joining
-pub mod JoinedRuns
 pub mod ReadInto
 pub mod TextMaps
 pub mod BodyLines
@@ -22,3 +15,4 @@ pub mod BodyGroups
 pub mod BodyKeys
 pub mod BodySlots
 pub mod Editing
+pub mod BodyDocuments

@@ -15,11 +15,10 @@ use Rattle.properties_format.proofs.Cut.Byline.{byline-is_lines, lines-is_byline
 use Rattle.properties_format.proofs.Laws.{one-reading}
 use Rattle.properties_format.proofs.ItemsToCome.Unique.{items_to_come-start}
 use Rattle.java_properties.specs.Errors.{IsBareError}
-use Rattle.java_properties.specs.LineFinder.{PassesSome}
-use Rattle.java_properties.proofs.LineJoiner.{some-start, some-on, all-on}
+use Rattle.properties_lines.specs.LineFinder.{PassesSome}
+use Rattle.properties_lines.proofs.LineJoiner.{some-start, some-on, all-on}
 use Rattle.java_properties.proofs.Told.{tell-all}
-use Rattle.java_properties.specs.LineJoiner.{JoinsError}
-use Rattle.java_properties.specs.GivenItems.{Gives, BreaksOff, GivesEntry, GivesNone, GivesMalformed}
+use Rattle.java_properties.specs.GivenItems.{Gives, BreaksOff, GivesEntry, GivesNone, GivesMalformed, GivesError}
 use Rattle.java_properties.specs.ReadLines.{IsReading, BeginsReading, ReadsWhole, StopsMalformed, StopsFailed, StopsEarly}
 use Rattle.java_properties.specs.declared.error.ErrorKind.TheVariants as kind
 use Rattle.java_properties.specs.declared.error.PropertiesError.{PropertiesError}
@@ -137,8 +136,8 @@ module _ {R : Type 0} {reader : Reader R} where
   ))
 
   -- a line could not be read
-  pub collected-error : {e : Encoding} {from to next : R} {r : List ℕ} {entries : List Entry} {s t : ReaderState} {error : PropertiesError} → Collected reader e from r entries s to
-      → s.is_done ≡ false → JoinsError reader s to error t next → StopsFailed reader e from entries error next ⊎ StopsEarly reader e from entries error next
+  pub collected-error : {e : Encoding} {from to next : R} {r : List ℕ} {entries : List Entry} {s : ReaderState} {error : PropertiesError} → Collected reader e from r entries s to
+      → s.is_done ≡ false → GivesError reader s to error next → StopsFailed reader e from entries error next ⊎ StopsEarly reader e from entries error next
   collected-error {e} {r = r} {entries} h g (inl f) = inl (record {
     bytes = r ++ f.bytes;
     cause = f.error;

@@ -5,8 +5,8 @@ use Rattle.counted_io.specs.Streams.{Reader}
 use Rattle.properties_format.specs.Entries.{Entry}
 use Rattle.properties_format.specs.ItemsToCome.{ReaderState}
 use Rattle.properties_format.proofs.ItemsToCome.Divisions.{are_to_come, to_come_are, comes_first, first_comes, lines_come_first, first_lines_come}
-use Rattle.java_properties.specs.LineFinder as finder
-use Rattle.java_properties.specs.LineJoiner as joiner
+use Rattle.properties_lines.specs.LineFinder as finder
+use Rattle.properties_lines.specs.LineJoiner as joiner
 use Rattle.java_properties.specs.GivenItems as given
 use Rattle.java_properties.specs.LentItems.{FindsItem, AdvancesTo}
 use Rattle.java_properties.specs.PropertiesIter as told
@@ -43,7 +43,8 @@ module _ {R : Type 0} {reader : Reader R} {old new : ReaderState} {from to : R} 
   tell-none : given.GivesNone reader old from new to → told.GivesNone reader old from new to
   tell-none h = record { bytes = h.bytes; read = h.read; items = are_to_come h.items; done = h.done; idle = h.idle; ended = h.ended }
 
-  tell-error : {e : PropertiesError} → given.GivesMalformed reader old from e to ⊎ joiner.JoinsError reader old from e new to
+module _ {R : Type 0} {reader : Reader R} {old : ReaderState} {from to : R} where
+  tell-error : {e : PropertiesError} → given.GivesMalformed reader old from e to ⊎ given.GivesError reader old from e to
       → told.GivesMalformed reader old from e to ⊎ told.GivesError reader old from e to
   tell-error (inl h) = inl (record { bytes = h.bytes; number = h.number; kind = h.kind; read = h.read; is = h.is; breaks = tell-breaks h.breaks; lazy = tell-lazy h.lazy })
   tell-error (inr (inl h)) = inr (inl (record {
@@ -105,8 +106,9 @@ module _ {R : Type 0} {reader : Reader R} {old new : ReaderState} {from to : R} 
   pub compute-none : told.GivesNone reader old from new to → given.GivesNone reader old from new to
   compute-none h = record { bytes = h.bytes; read = h.read; items = to_come_are h.items; done = h.done; idle = h.idle; ended = h.ended }
 
+module _ {R : Type 0} {reader : Reader R} {old : ReaderState} {from to : R} where
   pub compute-error : {e : PropertiesError} → told.GivesMalformed reader old from e to ⊎ told.GivesError reader old from e to
-      → given.GivesMalformed reader old from e to ⊎ joiner.JoinsError reader old from e new to
+      → given.GivesMalformed reader old from e to ⊎ given.GivesError reader old from e to
   compute-error (inl h) = inl (record { bytes = h.bytes; number = h.number; kind = h.kind; read = h.read; is = h.is; breaks = compute-breaks h.breaks; lazy = compute-lazy h.lazy })
   compute-error (inr (inl h)) = inr (inl (record {
     bytes = h.bytes;

@@ -8,7 +8,7 @@ use Rattle.properties_format.specs.Edited.{is_empty_line, is_left_open}
 use Rattle.properties_format.specs.Reading.Body.{held_lines_of, held_groups_after, held_groups_of}
 use Rattle.properties_format.specs.Reading.Slots.{unended_bytes}
 use Rattle.properties_text.specs.Encoding.{encoding_of}
-use Rattle.java_properties.specs.LineSearch.{unit_size}
+use Rattle.properties_lines.specs.LineSearch.{unit_size}
 use Rattle.java_properties.specs.BodyLines.{ending_in, held_line}
 use Rattle.java_properties.specs.declared.edit.lines.FirstLine.{FirstLine}
 use Rattle.java_properties.specs.declared.edit.groups.Group.{Group}

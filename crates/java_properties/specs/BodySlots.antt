@@ -146,6 +146,15 @@ pub record FindsFirst (old : Slots) (n : ℕ) (new : Slots) : Type 0 where
 abbrev pub PutsKey : Encoding → List ℕ → List ℕ → Slots → Slots → Type 0
 PutsKey e key value old new = (body : List ℕ) → Changes body (λ m. slots_put_at e key value m (last_slot key m.list)) old new
 
+-- Nothing is changed of what is left of the slots.
+abbrev pub KeepsAll : Slots → Slots → Type 0
+KeepsAll old new = (body : List ℕ) → Changes body (λ m. m) old new
+
+-- A key is put; or there was no memory, and what is left of the slots stays.
+abbrev pub PutsOrKeeps : {E : Type 0} → Encoding → List ℕ → List ℕ → Slots → Result Unit E → Slots → Type 0
+PutsOrKeeps e key value old (Ok done) new = PutsKey e key value old new
+PutsOrKeeps e key value old (Err error) new = KeepsAll old new
+
 -- A key is removed, from a body before which a byte order mark stands or not.
 abbrev pub left_without : Bool → List ℕ → format.Slots → format.Slots
 left_without marked key m =

@@ -7,6 +7,8 @@ use Rattle.properties_format.specs.Escapes.{Malformed, Breaks, not_enough_digits
 use Rattle.properties_text.specs.Escaping.{malformed_in}
 use Rattle.properties_text.specs.declared.escape.UnescapeError.{UnescapeError}
 use Rattle.properties_text.specs.declared.escape.UnescapeError.TheVariants as unescape
+use Rattle.properties_lines.specs.declared.error.LineError.{LineError}
+use Rattle.properties_lines.specs.declared.error.LineError.TheVariants as why
 use Rattle.java_properties.specs.declared.error.ErrorKind.{ErrorKind}
 use Rattle.java_properties.specs.declared.error.Cause.{Cause}
 use Rattle.java_properties.specs.declared.error.ErrorKind.TheVariants as kind
@@ -71,6 +73,12 @@ SaysUnresolved unescape.Memory line error = IsBareError kind.Memory error
 -- The text breaks, and the error says how, in this line; or there was no memory.
 abbrev pub IsUnresolved : List ℕ → ℕ → PropertiesError → Type 0
 IsUnresolved text line error = ((malformed : Malformed) × Breaks text malformed × IsMalformed malformed line error) ⊎ IsBareError kind.Memory error
+
+-- no line came for this reason
+abbrev pub SaysLineError : LineError → PropertiesError → Type 0
+SaysLineError (why.Io number source) error = IsStreamError (Some number) source error
+SaysLineError why.TooManyLines error = IsBareError kind.TooManyLines error
+SaysLineError why.Memory error = IsBareError kind.Memory error
 
 -- A text was refused, and the error of this kind has it: no line, and nothing that it came from.
 pub record RefusesText (kind : ErrorKind) (text : List ℕ) (error : PropertiesError) : Type 0 where

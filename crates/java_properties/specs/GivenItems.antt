@@ -1,17 +1,18 @@
 -- What the item reader gives, by the items to come as they are computed. Page PropertiesIter says it by divisions.
 use Rattle.std.specs.Prelude.{◌≡◌, ◌⊎◌, ℕ, Bool, true, false, List, [], ◌∷◌, ◌++◌, Option, Some, None, Result, Ok, Err}
-use Rattle.counted_io.specs.Streams.{Reader, HasRead}
-use Rattle.properties_format.specs.Lines.{InputEnd, end}
-use Rattle.properties_format.specs.Entries.{Entry, malformed}
+use Rattle.std.specs.declared.io.Error.{Error}
+use Rattle.counted_io.specs.Streams.{Reader, HasRead, HasFailed}
+use Rattle.properties_format.specs.Lines.{InputEnd, end, fault, more}
+use Rattle.properties_format.specs.Entries.{Entry, malformed, read_fault}
 use Rattle.properties_format.specs.Escapes.{Malformed}
 use Rattle.properties_format.specs.Items.{broken}
 use Rattle.properties_format.specs.Reading.Items.{outcome_of}
 use Rattle.properties_format.specs.ItemsToCome.{ReaderState}
 use Rattle.properties_format.specs.Reading.ItemsToCome.{items_to_come}
 use Rattle.properties_format.specs.Reading.ReaderSteps.{ReadsEntry}
-use Rattle.java_properties.specs.Errors.{IsBareError, IsMalformed}
-use Rattle.java_properties.specs.LineFinder.{PassesSome}
-use Rattle.java_properties.specs.LineJoiner.{IsLazyItems, JoinsError}
+use Rattle.java_properties.specs.Errors.{IsBareError, IsStreamError, IsMalformed}
+use Rattle.properties_lines.specs.LineFinder.{PassesSome, PassesAll}
+use Rattle.properties_lines.specs.LineJoiner.{IsLazyItems}
 use Rattle.java_properties.specs.PropertiesIter.{entry_of}
 use Rattle.java_properties.specs.declared.error.ErrorKind.TheVariants as kind
 use Rattle.java_properties.specs.declared.error.PropertiesError.{PropertiesError}
@@ -65,9 +66,38 @@ pub record GivesMalformed {R : Type 0} (reader : Reader R) (old : ReaderState) (
   pub breaks : BreaksOff old bytes (malformed kind number) (reader.at_end to)
   pub lazy : IsLazyItems old from bytes to
 
+-- A read failed, and nothing but that fault is left to come. It is named by the line that it cut, also in a join.
+pub record GivesFault {R : Type 0} (reader : Reader R) (old : ReaderState) (from : R) (e : PropertiesError) (to : R) : Type 0 where
+  pub bytes : List ℕ
+  pub error : Error
+  pub number : ℕ
+  pub failed : HasFailed reader from bytes error to
+  pub is : IsStreamError (Some number) error e
+  pub items : items_to_come old bytes fault ≡ read_fault number ∷ []
+  pub lazy : items_to_come old [] more ≡ []
+
+-- There was no number for another line.
+pub record GivesTooMany {R : Type 0} (reader : Reader R) (old : ReaderState) (from : R) (e : PropertiesError) (to : R) : Type 0 where
+  pub bytes : List ℕ
+  pub read : HasRead reader from bytes to
+  pub passes : PassesAll old bytes
+  pub is : IsBareError kind.TooManyLines e
+  pub lazy : IsLazyItems old from bytes to
+
+-- There was no memory.
+pub record GivesNoRoom {R : Type 0} (reader : Reader R) (old : ReaderState) (from : R) (e : PropertiesError) (to : R) : Type 0 where
+  pub bytes : List ℕ
+  pub read : HasRead reader from bytes to
+  pub is : IsBareError kind.Memory e
+  pub lazy : IsLazyItems old from bytes to
+
+-- Why no line could be read.
+abbrev pub GivesError : {R : Type 0} → Reader R → ReaderState → R → PropertiesError → R → Type 0
+GivesError reader old from e to = GivesFault reader old from e to ⊎ (GivesTooMany reader old from e to ⊎ GivesNoRoom reader old from e to)
+
 -- What the next item is, and what asking for it leaves. After `None` and after an error the iterator is at its end.
 abbrev pub GivesItem : {R : Type 0} → Reader R → ReaderState → R → Option (Result Line PropertiesError) → ReaderState → R → Type 0
 GivesItem reader old from None new to = GivesNone reader old from new to
 GivesItem reader old from (Some (Ok line)) new to = GivesNext reader old from line new to
 GivesItem reader old from (Some (Err e)) new to =
-    (old.is_done ≡ false) × (new.is_done ≡ true) × (GivesMalformed reader old from e to ⊎ JoinsError reader old from e new to)
+    (old.is_done ≡ false) × (new.is_done ≡ true) × (GivesMalformed reader old from e to ⊎ GivesError reader old from e to)

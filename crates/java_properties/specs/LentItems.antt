@@ -19,7 +19,7 @@ use Rattle.java_properties.specs.Errors.{IsBareError, SaysUnresolved}
 use Rattle.properties_text.specs.Escaping.{holds_backslash, IsRefused}
 use Rattle.properties_text.specs.declared.escape.UnescapeError.{UnescapeError}
 use Rattle.properties_format.specs.ItemsToCome.{ReaderState}
-use Rattle.java_properties.specs.LineJoiner.{Joiner, JoinsError, JoinsNext}
+use Rattle.properties_lines.specs.LineJoiner.{Joiner, JoinsNext}
 use Rattle.java_properties.specs.Line.{number_of, content_of}
 use Rattle.properties_text.specs.Parsing.{bytes_in, spanned, in_characters, IsSpan}
 use Rattle.java_properties.specs.GivenItems as given
@@ -152,7 +152,7 @@ abbrev pub FindsItem : {R : Type 0} → Reader R → ReaderState → R → Optio
 FindsItem reader old from None new to = given.GivesNone reader old from new.state to
 FindsItem reader old from (Some (Ok found)) new to = given.GivesEntry reader old from (found_entry new.line found) new.state to × IsFoundIn new.line found
 FindsItem reader old from (Some (Err e)) new to =
-    (old.is_done ≡ false) × (new.state.is_done ≡ true) × (given.GivesMalformed reader old from e to ⊎ JoinsError reader old from e new.state to)
+    (old.is_done ≡ false) × (new.state.is_done ≡ true) × (given.GivesMalformed reader old from e to ⊎ given.GivesError reader old from e to)
 
 -- the same of an iterator, said by divisions
 abbrev pub AdvancesTo : {R : Type 0} → Reader R → Reading R → Option (Result Found PropertiesError) → Reading R → Type 0

@@ -5,19 +5,11 @@ pub mod Engine
 pub mod Calls
 pub mod ReadBack
 pub mod AsciiOnly
-pub mod Joining
 pub mod Line
 pub mod DisplayTexts
-pub mod InputBuffer
-pub mod LineSearch
-pub mod PlainLines
-pub mod LineFinder
-pub mod LineTexts
-pub mod LineJoiner
 pub mod PropertiesIter
 pub mod GivenItems
 pub mod LentItems
-pub mod NaturalLines
 pub mod ReadLines
 pub mod ReadInto
 pub mod Maps
@@ -27,3 +19,5 @@ pub mod BodyKeys
 pub mod BodySlots
 pub mod Sources
 pub mod Editing
+pub mod Documents
+pub mod BodyDocuments

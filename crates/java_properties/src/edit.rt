@@ -5,6 +5,7 @@ ghost use Rattle.properties_format.specs.Laws.{SplittingCommutes};
 ghost use Rattle.properties_text.specs.Encoding.{encoding_of};
 ghost use Rattle.java_properties.specs.Editing.{EditsAll, RemovesKey, SetsKey, edits_in};
 
+mod document;
 mod groups;
 mod kept;
 mod keys;
@@ -13,7 +14,9 @@ mod place;
 mod result;
 mod slots;
 mod source;
+mod values;
 
+pub use crate::edit::document::Document;
 use crate::edit::kept::find_others;
 use crate::edit::place::find_key;
 use crate::edit::result::{appended, others_alone, replaced};

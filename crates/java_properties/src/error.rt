@@ -4,10 +4,11 @@ ghost use Rattle.std.specs.Prelude.{◌≡◌, Some, None};
 ghost use Rattle.std.specs.Str.{chars};
 ghost use Rattle.std.specs.String.{string_bytes};
 ghost use Rattle.properties_text.specs.Escaping.{malformed_in};
-ghost use Rattle.java_properties.specs.Errors.{kind_of, line_of, cause_of, cause_of_write, IsError, IsBareError, IsMalformed, SaysUnresolved, IsStreamError, RefusesText};
+ghost use Rattle.java_properties.specs.Errors.{kind_of, line_of, cause_of, cause_of_write, IsError, IsBareError, IsMalformed, SaysUnresolved, SaysLineError, IsStreamError, RefusesText};
 ghost use Rattle.java_properties.specs.DisplayTexts.{description, cause_display, error_display};
 ghost use Rattle.java_properties.specs.declared.error.ErrorKind.TheVariants.{Io, BadCommentPrefix, BadKvSeparator, EmptyKey, TooManyLines, Failed, Memory, Unsupported};
 
+use properties_lines::error::LineError;
 use properties_text::escape::{Malformed, UnescapeError};
 use std::alloc::{AllocError, AllocFailed};
 use std::error::Error;
@@ -122,13 +123,6 @@ impl PropertiesError {
         PropertiesError::io(line_number, cause)
     }
 
-    /// A read failed in the line of this number.
-    pub(crate) fn read_fault(line_number: usize, error: io::Error) -> PropertiesError
-        ensures { IsStreamError (Some line_number) error result }
-    {
-        PropertiesError::io(line_number, Cause::Io(error))
-    }
-
     /// Escapes in the line of this number aren't resolved.
     pub(crate) fn unresolved(line_number: usize, error: UnescapeError) -> PropertiesError
         ensures { SaysUnresolved error line_number result }
@@ -234,6 +228,20 @@ impl From<io::Error> for PropertiesError {
             line_number: None,
             cause: Cause::Io(error),
             refused: None,
+        }
+    }
+}
+
+impl From<LineError> for PropertiesError {
+    ghost from_gives = { SaysLineError };
+
+    fn from(error: LineError) -> PropertiesError {
+        match error {
+            LineError::Io(line_number, error) => {
+                PropertiesError::io(line_number, Cause::Io(error))
+            }
+            LineError::TooManyLines => PropertiesError::too_many_lines(),
+            LineError::Memory => PropertiesError::bare(ErrorKind::Memory),
         }
     }
 }

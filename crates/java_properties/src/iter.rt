@@ -6,7 +6,7 @@ ghost use Rattle.std.specs.Iterator.{at_most};
 ghost use Rattle.properties_format.specs.Encoding.{windows_1252};
 ghost use Rattle.properties_format.specs.ItemsToCome.{start};
 ghost use Rattle.properties_text.specs.Encoding.{encoding_of};
-ghost use Rattle.java_properties.specs.LineFinder.{lines_left};
+ghost use Rattle.properties_lines.specs.LineFinder.{lines_left};
 ghost use Rattle.java_properties.specs.LentItems.{lent_entry, found_entry, BorrowsPlain, IsFoundIn, AdvanceGives, NextRefGives};
 ghost use Rattle.java_properties.specs.PropertiesIter.{Reading, NextGives};
 

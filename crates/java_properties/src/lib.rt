@@ -17,15 +17,13 @@
 
 mod edit;
 mod error;
-mod input;
 mod iter;
 pub mod laws;
 mod line;
-mod lines;
 mod maps;
 mod writer;
 
-pub use edit::{Edit, edit_all, remove_key, set_key};
+pub use edit::{Document, Edit, edit_all, remove_key, set_key};
 pub use error::{Cause, ErrorKind, PropertiesError};
 pub use iter::{ContentRef, Found, LineRef, PropertiesIter, Stopped, read_lines};
 pub use line::{Line, LineContent};

@@ -236,6 +236,9 @@ fn first_four(text: &str) -> Option<Four<'_>>
     ensures characters { StartsWithFour (chars text.now) result }
     ensures shorter { IfSome result (λ four. length four.rest.now ≤ length text.now) }
 {
+    if let Some(four) = ascii_four(text) {
+        return Some(four);
+    }
     let mut characters = text.chars();
     let first = characters.next()?;
     let second = characters.next()?;
@@ -247,6 +250,30 @@ fn first_four(text: &str) -> Option<Four<'_>>
         third,
         fourth,
         rest: characters.as_str(),
+    })
+}
+
+// The same where they are ASCII, as digits are, by their bytes.
+#[inline(always)]
+fn ascii_four(text: &str) -> Option<Four<'_>>
+    ensures characters { IfSome result (λ four. StartsWithFour (chars text.now) (Some four)) }
+    ensures shorter { IfSome result (λ four. length four.rest.now ≤ length text.now) }
+{
+    let bytes = text.as_bytes();
+    if bytes.len() < 4
+        || bytes[0] >= 0x80
+        || bytes[1] >= 0x80
+        || bytes[2] >= 0x80
+        || bytes[3] >= 0x80
+    {
+        return None;
+    }
+    Some(Four {
+        first: char::from(bytes[0]),
+        second: char::from(bytes[1]),
+        third: char::from(bytes[2]),
+        fourth: char::from(bytes[3]),
+        rest: &text[4..],
     })
 }
 

@@ -1,6 +1,6 @@
 //! Texts as they are printed.
 
-ghost use Rattle.std.specs.Prelude.{◌≡◌, true, ◌++◌, ◌∷◌, ◌<◌, ◌||◌, not, nat_lt, [], is_some, unwrap_or, IfOk, OnOk, OnErr};
+ghost use Rattle.std.specs.Prelude.{◌≡◌, true, ◌++◌, ◌∷◌, ◌<◌, ◌≤◌, ◌||◌, not, nat_lt, [], is_some, unwrap_or, length, IfOk, OnOk, OnErr};
 ghost use Rattle.std.specs.Char.{digit_char};
 ghost use Rattle.std.specs.Str.{chars};
 ghost use Rattle.properties_format.specs.Text.{backslash};
@@ -148,9 +148,30 @@ fn print_runs(line: &mut LineBuffer, text: &str) -> Result<(), AllocError>
             None => return Ok(()),
             Some(character) => {
                 print_in_key_or_value(line, WINDOWS_1252, character)?;
-                rest = characters.as_str();
+                rest = print_lacking(line, characters.as_str())?;
             }
         }
+    }
+}
+
+// Prints the characters at the front that windows-1252 lacks, and returns the text after them.
+fn print_lacking<'a>(line: &mut LineBuffer, text: &'a str) -> Result<&'a str, AllocError>
+    ensures printed { IfOk result (λ rest.
+        line.new ++ text_bytes all_of_windows_1252 KeyOrValue (chars rest.now)
+        ≡ line.old ++ text_bytes all_of_windows_1252 KeyOrValue (chars text.now)) }
+    ensures left { IfOk result (λ rest. length rest.now ≤ length text.now) }
+{
+    let mut rest = text;
+    loop {
+        let mut characters = rest.chars();
+        let Some(character) = characters.next() else {
+            return Ok(rest);
+        };
+        if character < '\u{100}' || byte_of(character).is_some() {
+            return Ok(rest);
+        }
+        print_escape(line, character)?;
+        rest = characters.as_str();
     }
 }
 

@@ -10,5 +10,6 @@ pub mod greetings;
 pub mod lint;
 pub mod load;
 pub mod lookup;
+pub mod migrate;
 pub mod ordered;
 pub mod settings;

@@ -1,5 +1,6 @@
 // Keys that are set and removed, by single calls and by lists of edits.
 
+mod documents;
 mod keys;
 mod lists;
 mod marks;

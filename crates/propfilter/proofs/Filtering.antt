@@ -10,9 +10,8 @@ use Rattle.properties_format.specs.Lines.{end}
 use Rattle.properties_format.specs.Pairs.{pairs_in, ArePairsOfScalars}
 use Rattle.properties_format.specs.Reading.ItemsToCome.{items_to_come}
 use Rattle.properties_format.proofs.Items.Unique.{items_of-meets}
-use Rattle.java_properties.specs.LineJoiner.{JoinsError}
 use Rattle.java_properties.specs.PropertiesIter.{Reading}
-use Rattle.java_properties.specs.GivenItems.{GivesEntry, GivesNone, GivesMalformed}
+use Rattle.java_properties.specs.GivenItems.{GivesEntry, GivesNone, GivesMalformed, GivesError}
 use Rattle.java_properties.specs.PropertiesWriter.{Writing, Flushes, HasFlushedSink, RefusesFlush, FailsInFlush}
 use Rattle.java_properties.specs.ReadLines.{BeginsItems}
 use Rattle.java_properties.specs.declared.error.PropertiesError.{PropertiesError}
@@ -86,6 +85,23 @@ module _ {R W : Type 0} {reader : Reader R} {sink : Sink W} {e : Encoding} {only
       written (comment text) k = rw k.1 (pairs-comment number text h.pairs)
       written (pair key value) k = pairs-more number key value h.pairs k
 
+module _ {R W : Type 0} {reader : Reader R} {sink : Sink W} {e : Encoding} {only : Bool} {input : R} {output : W} {it : Reading R} {w : Writing W} {to : R} where
+  -- reading stopped, and the sink was flushed
+  pub stops-reading : {error : PropertiesError} (new : Writing W) (flush : Result Unit PropertiesError) → HasPassed reader sink e only input output it w
+      → it.state.is_done ≡ false → GivesMalformed reader it.state it.reader error to ⊎ GivesError reader it.state it.reader error to
+      → Flushes sink w flush new → Filters reader sink e only input output (Err error) to new.sink
+  stops-reading new flush h live k f = (
+    h.items,
+    record {
+      scalars = h.scalars;
+      stops = inl (record {
+        whole = h.whole;
+        stops = elim k [ inl m ↦ inl (collected-malformed h.collected live m) | inr j ↦ inr (collected-error h.collected live j) ];
+        written = pairs-flush new flush h.pairs f;
+      });
+    },
+  )
+
 module _ {R W : Type 0} {reader : Reader R} {sink : Sink W} {e : Encoding} {only : Bool} {input : R} {output : W} {it : Reading R} {w : Writing W} {after : ReaderState} {to : R} where
   -- A pair came, and was not written.
   pub stops-writing : {error : PropertiesError} (new : Writing W) (number : ℕ) (content : Content) → HasPassed reader sink e only input output it w
@@ -110,22 +126,6 @@ module _ {R W : Type 0} {reader : Reader R} {sink : Sink W} {e : Encoding} {only
         begins = b;
         fails = elim k [ inl refused ↦ inr (pairs-refused key value h.pairs refused) | inr failed ↦ inl (pairs-fail key value h.pairs failed) ];
       }
-
-  -- reading stopped, and the sink was flushed
-  pub stops-reading : {error : PropertiesError} (new : Writing W) (flush : Result Unit PropertiesError) → HasPassed reader sink e only input output it w
-      → it.state.is_done ≡ false → GivesMalformed reader it.state it.reader error to ⊎ JoinsError reader it.state it.reader error after to
-      → Flushes sink w flush new → Filters reader sink e only input output (Err error) to new.sink
-  stops-reading new flush h live k f = (
-    h.items,
-    record {
-      scalars = h.scalars;
-      stops = inl (record {
-        whole = h.whole;
-        stops = elim k [ inl m ↦ inl (collected-malformed h.collected live m) | inr j ↦ inr (collected-error h.collected live j) ];
-        written = pairs-flush new flush h.pairs f;
-      });
-    },
-  )
 
   -- no item came any more, and the sink was flushed
   filtered : {new : Writing W} → HasPassed reader sink e only input output it w → GivesNone reader it.state it.reader after to

@@ -22,8 +22,8 @@ part-kept body s i slot h below is =
     let cell = cell-at body s.slots.items h.holds.cells i slot h.holds.holds.cells_are below is in
     (cell.ordered, cell.within)
 
--- it comes to the bytes of its cell
-written-cell : (body : List ℕ) (slot : Slot) (cell : Cell) → IsCell body slot cell → cell_bytes cell ≡ written body slot
+-- It comes to the bytes of its cell.
+pub written-cell : (body : List ℕ) (slot : Slot) (cell : Cell) → IsCell body slot cell → cell_bytes cell ≡ written body slot
 written-cell body slot cell h = rw (h.left, h.bytes, h.ending) refl
 
 -- The bytes of the slots up to a place, and of the slot there.

@@ -5,7 +5,7 @@ use Rattle.std.specs.BTreeMap.{IsOrdered}
 use Rattle.std.specs.String.{string_cmp}
 use Rattle.std.proofs.lemmas.Bool.{cases_Bool, cases_lt}
 use Rattle.std.proofs.lemmas.Bool.Decides.{eqb_tells}
-use Rattle.std.proofs.lemmas.List.{length-append, length-set, get_or-set_other, get_or_append_left, take_at}
+use Rattle.std.proofs.lemmas.List.{length-append, length-set, set-get_or, set_past, get_or-set_other, get_or_append_left, take_at}
 use Rattle.std.proofs.lemmas.Slice.Eq.{bytes_eq-Decides}
 use Rattle.properties_format.specs.Text.{lf}
 use Rattle.properties_format.specs.Text as text
@@ -17,8 +17,8 @@ use Rattle.properties_format.specs.Reading.Cells.{Cell, live, places, cell_has, 
 use Rattle.properties_format.proofs.Slots.PutCell.{ends-after, ends-set, none-before, some-before, none-after, some-after, pair-same, placed, put-cell, places-set}
 use Rattle.properties_format.proofs.Slots.EndCells.{last-at, live-last, final-live, close-end, put-end, places-end}
 use Rattle.properties_format.proofs.Slots.Links.{links-alive, links-push}
-use Rattle.java_properties.specs.BodySlots.{LooseCells, IsCell, AreCells, no_cell, stack_at, closing_in, HoldsCells, IsFirstLeft, FindsFirst, IsLastOf, PutsKey, Pushes, PushesEmpty}
-use Rattle.java_properties.specs.BodySlots.Put.{Refills, ClosesSlot, FindsNextFirst}
+use Rattle.java_properties.specs.BodySlots.{LooseCells, IsCell, AreCells, no_cell, stack_at, closing_in, HoldsCells, HoldsSome, IsFirstLeft, FindsFirst, IsLastOf, PutsKey, KeepsAll, Pushes, PushesEmpty}
+use Rattle.java_properties.specs.BodySlots.Put.{Refills, ClosesSlot, FindsNextFirst, KeepsParts}
 use Rattle.java_properties.specs.declared.edit.slots.Slot.{Slot}
 use Rattle.java_properties.specs.declared.edit.slots.Slots.{Slots}
 use Rattle.java_properties.proofs.BodySlots.{cells-length, cells-at, cells-set, cells-push}
@@ -75,6 +75,42 @@ first-found body s cells d h k =
     let size = cells-length body s.slots.items cells h.cells_are in
     let cell = cells-at body s.slots.items cells s.first d no_cell h.cells_are inside in
     record { inside = omega arith; left = cell.left ∙ k; none_before = h.first_is }
+
+-- Where the slots and the links are what they were, what is left of the slots stays.
+pub keeps-parts : (old new : Slots) → KeepsParts old new → KeepsAll old new
+keeps-parts old new p body m w h =
+    let held = h.holds in
+    let cells = h.cells in
+    let places_same : new.places ≡ old.places = ap (λ v. let s : Slots = v in s.places) p.same in
+    let first_same : new.first ≡ old.first = ap (λ v. let s : Slots = v in s.first) p.same in
+    record {
+      cells = cells;
+      holds = record {
+        cells_are = p.cells body cells held.cells_are;
+        linked = ap length p.links ∙ held.linked;
+        links_are = subst (λ v. AreLinks cells v no_cell) (sym p.links) held.links_are;
+        places_are = λ key. ap (λ v. stack_at v.entries key) places_same ∙ held.places_are key;
+        ends = held.ends;
+        first_in = subst (λ v. v ≤ length cells) (sym first_same) held.first_in;
+        first_is = λ k l. held.first_is k (subst (λ v. k < v) first_same l);
+        guard = held.guard;
+        others = held.others;
+        ordered = subst (IsOrdered string_cmp) (sym places_same) held.ordered;
+      };
+      list = h.list;
+      closing = h.closing ∙ sym (ap (λ v. let s : Slots = v in closing_in s.closing s.parting) p.same);
+    }
+
+-- So there is still a body that they hold.
+pub holds-parts : (old new : Slots) → KeepsParts old new → HoldsSome old → HoldsSome new
+holds-parts old new p h = record {
+  body = h.body;
+  holds = record {
+    slots = h.holds.slots;
+    holds = keeps-parts old new p h.body h.holds.slots h.holds.well_ended h.holds.holds;
+    well_ended = h.holds.well_ended;
+  };
+}
 
 -- ---- which slot is the first, and which the last
 
@@ -159,6 +195,20 @@ alive-same a b s = ap (λ v. let w : Cell = v in w.alive) s
 
 slot-same : (a b : Cell) → a ≡ b → a.slot ≡ b.slot
 slot-same a b s = ap (λ v. let w : Cell = v in w.slot) s
+
+-- A slot that is the same cell takes the place of one.
+pub cells-same : (body : List ℕ) (slots : List Slot) (cells : List Cell) (i : ℕ) (slot before : Slot)
+    → ((cell : Cell) → IsCell body before cell → IsCell body slot cell)
+    → before ≡ get_or slots i before
+    → AreCells body slots cells
+    → AreCells body (set slots i slot) cells
+cells-same body slots cells i slot before same was a = elim (cases_lt i (length slots)) [
+  | inl l ↦
+      subst (AreCells body (set slots i slot)) (set-get_or cells i no_cell)
+      (cells-set body slots cells i slot (get_or cells i no_cell) a
+      (same (get_or cells i no_cell) (subst (λ v. IsCell body v (get_or cells i no_cell)) (sym was) (cells-at body slots cells i before no_cell a l))))
+  | inr l ↦ subst (λ v. AreCells body v cells) (sym (set_past slots i slot l)) a
+]
 
 -- Another slot takes the place of one that is left.
 pub loose-set : (body : List ℕ) (old new : Slots) (cells : List Cell) (i : ℕ) (slot : Slot) (n : Cell) → HoldsCells body old cells → i < length cells → 0 < i

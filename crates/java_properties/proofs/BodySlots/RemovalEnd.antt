@@ -1,105 +1,19 @@
--- A key removed from slots in one array: the last slot is left again, and an LF comes in front where it has to.
-use Rattle.std.proofs.Common.{◌≡◌, ◌<◌, ℕ, ◌+◌, ◌&&◌, suc, zero, Bool, true, false, not, List, [], ◌∷◌, ◌++◌, length, get_or, set, if◌then◌else◌, None, Some, refl, ap, ap₂, sym, ◌∙◌, arith, subst, append-nil}
+-- A key removed from slots in one array: an LF comes in front where it has to, and what all steps come to.
+use Rattle.std.proofs.Common.{◌≡◌, ◌<◌, ℕ, ◌&&◌, suc, zero, Bool, true, false, not, List, [], ◌∷◌, length, get_or, set, Some, refl, ap, ap₂, sym, ◌∙◌, arith, subst}
 use Rattle.std.specs.Global.{Vec}
-use Rattle.std.specs.BTreeMap.{IsOrdered}
-use Rattle.std.specs.String.{string_cmp}
-use Rattle.std.proofs.lemmas.List.{get_or_append_left, length-append}
 use Rattle.properties_format.specs.Text as text
 use Rattle.properties_format.specs.Encoding.{begins_like_bom}
 use Rattle.properties_format.specs.Reading.Slots as format
-use Rattle.properties_format.specs.Reading.Slots.{empty_slot, left_out, slot_has, slots_without, slots_guarded, last_has, AreWellEnded, IsWellEnded}
-use Rattle.properties_format.specs.Reading.Cells.{Cell, live, places, AreLinks}
-use Rattle.properties_format.proofs.Slots.Links.{links-push, links-first}
-use Rattle.properties_format.proofs.Slots.PutCell.{ends-at, ends-set, places-set}
-use Rattle.properties_format.proofs.Slots.PushCells.{places-push, ends-push}
+use Rattle.properties_format.specs.Reading.Slots.{empty_slot, slot_has, slots_without, slots_guarded, last_has, AreWellEnded}
+use Rattle.properties_format.specs.Reading.Cells.{Cell}
+use Rattle.properties_format.proofs.Slots.Links.{links-first}
+use Rattle.properties_format.proofs.Slots.PutCell.{ends-set, places-set}
 use Rattle.properties_format.proofs.Slots.GuardCells.{guard-none, guard-first}
-use Rattle.java_properties.specs.BodySlots.{AreCells, IsCell, HoldsCells, HoldsIn, Changes, PushesEmpty, FindsFirst, IsFirstLeft, no_cell, stack_at, closing_in, slot_bytes, left_without}
-use Rattle.java_properties.specs.BodySlots.Removal.{LeavesPairs, EndsLeft, HoldsSomeCells, IsGuarded, Guards}
+use Rattle.java_properties.specs.BodySlots.{AreCells, IsCell, HoldsCells, HoldsIn, HoldsSome, Changes, FindsFirst, IsFirstLeft, no_cell, closing_in, slot_bytes, left_without}
+use Rattle.java_properties.specs.BodySlots.Removal.{IsEmptied, EmptiesLast, AreWithout, LeavesPairs, HoldsSomeCells, IsGuarded, Guards}
 use Rattle.java_properties.specs.declared.edit.slots.Slot.{Slot}
 use Rattle.java_properties.specs.declared.edit.slots.Slots.{Slots}
-use Rattle.java_properties.proofs.BodySlots.{cells-at, cells-set, cells-push, cells-length}
-use Rattle.java_properties.proofs.BodySlots.Removal.{loose-length, slot-is}
-
--- ---- the last slot
-
--- It is left where it was no pair with the key,
-pub ends-left : (old : Slots) (last : ℕ) (slot : Slot) → last + 1 ≡ length old.slots.items
-    → slot ≡ get_or old.slots.items last slot → slot.is_left ≡ true
-    → EndsLeft old old
-ends-left old last slot n is left body key start more p =
-    let len = loose-length body old p.cells p.loose in
-    let size = p.size in
-    let alive = (slot-is body old p.cells last slot p.loose (omega arith) is).left ∙ left in
-    let end : last + 1 ≡ length p.cells = omega arith in
-    let w = p.left last end alive in
-    let had = w.has in
-    record {
-      cells = p.cells;
-      holds = record {
-        cells_are = p.loose.cells_are;
-        linked = p.loose.linked;
-        links_are = p.loose.links_are;
-        places_are = p.places_are;
-        ends = ends-at p.cells last no_cell end alive;
-        first_in = p.loose.first_in;
-        first_is = p.loose.first_is;
-        guard = p.loose.guard;
-        others = omega arith;
-        ordered = p.ordered;
-      };
-      list = w.list;
-      closing_is = rw had refl;
-    }
-
--- and else an empty one comes last.
-pub ends-pushed : (old : Slots) (last : ℕ) (slot : Slot) (new : Slots) → last + 1 ≡ length old.slots.items
-    → slot ≡ get_or old.slots.items last slot
-    → slot.is_left ≡ false
-    → PushesEmpty old new
-    → EndsLeft old new
-ends-pushed old last slot new n is left h body key start more p =
-    let empty : Cell = record { slot = empty_slot None; alive = true } in
-    let len = loose-length body old p.cells p.loose in
-    let size = p.size in
-    let gone = (slot-is body old p.cells last slot p.loose (omega arith) is).left ∙ left in
-    let w = p.gone last (omega arith) gone in
-    let had = w.has in
-    let room = length-append p.cells (empty ∷ []) in
-    let linked = p.loose.linked in
-    let links = length-append old.links.items ((length old.slots.items + 1) ∷ []) in
-    let links_size : length new.links.items ≡ length (old.links.items ++ (length old.slots.items + 1) ∷ []) =
-    ap length h.links in
-    let first : new.first ≡ old.first = ap (λ v. let x : Slots = v in x.first) h.same in
-    let places_same : new.places ≡ old.places = ap (λ v. let x : Slots = v in x.places) h.same in
-    let first_in = p.loose.first_in in
-    record {
-      cells = p.cells ++ empty ∷ [];
-      holds = record {
-        cells_are = subst (λ v. AreCells body v (p.cells ++ empty ∷ [])) (sym h.slots)
-            (cells-push body old.slots.items p.cells h.slot empty p.loose.cells_are (h.is body));
-        linked = omega arith;
-        links_are = subst (λ v. AreLinks (p.cells ++ empty ∷ []) v no_cell)
-            (ap (λ m. old.links.items ++ (m + 1) ∷ []) (sym len) ∙ sym h.links)
-            (links-push p.cells old.links.items empty no_cell p.loose.links_are linked);
-        places_are = λ k. ap (λ v. stack_at v.entries k) places_same
-            ∙ p.places_are k
-            ∙ sym (places-push k p.cells (empty_slot None) ∙ append-nil (places k p.cells));
-        ends = ends-push p.cells (empty_slot None);
-        first_in = omega arith;
-        first_is = λ k l.
-            let inside : k < length p.cells = omega arith in
-            ap (λ v. let c : Cell = v in c.alive) (get_or_append_left p.cells (empty ∷ []) no_cell k inside)
-            ∙ p.loose.first_is k (omega arith);
-        guard =
-            let inside : 0 < length p.cells = omega arith in
-            ap (λ v. let c : Cell = v in c.slot) (get_or_append_left p.cells (empty ∷ []) no_cell 0 inside)
-            ∙ p.loose.guard;
-        others = omega arith;
-        ordered = subst (λ v. IsOrdered string_cmp v) (sym places_same) p.ordered;
-      };
-      list = w.list;
-      closing_is = rw had (ap (λ v. closing_in v new.parting) h.closing);
-    }
+use Rattle.java_properties.proofs.BodySlots.{cells-at, cells-set, cells-length}
 
 -- ---- the LF in front
 
@@ -241,41 +155,41 @@ guards-set body marked old n s slot first slots told f is tells is_mark m first_
 
 -- ---- a key is removed
 
--- There are slots after the pairs are left out,
-pub out-length : (body key : List ℕ) (old s : Slots) → HoldsIn body old → LeavesPairs key old s
-    → 0 < length s.slots.items
-out-length body key old s r leaves =
-    let start = r.holds in
-    let out = leaves.leaves body start.cells start.holds (subst AreWellEnded start.list r.well_ended.slots) in
-    let size = out.size in
-    let len = loose-length body s out.cells out.loose in
-    let more = start.holds.others in
-    omega arith
+-- What the slots are after the pairs are left out, of which none comes last any more.
+are-without : (body key : List ℕ) (m : format.Slots) (s t : Slots) → (e : IsEmptied body key m s) → LeavesPairs key s t
+    → AreWithout body key e.holds.cells t
+are-without body key m s t e leaves =
+    let list = e.holds.list in
+    leaves.leaves body e.holds.cells e.holds.holds (subst AreWellEnded list e.well_ended.slots)
+    (ap (last_has key) (sym list) ∙ e.has)
 
--- and they hold what they have to after the last one is left again.
-pub out-holds : (body key : List ℕ) (old s t : Slots) → HoldsIn body old → LeavesPairs key old s → EndsLeft s t
+-- The slots hold what they have to after the last one is emptied,
+pub emptied-holds : (body key : List ℕ) (old s : Slots) → HoldsIn body old → EmptiesLast key old s → HoldsSome s
+emptied-holds body key old s r empties =
+    let e = empties body r.slots r.well_ended r.holds in
+    record { body = body; holds = record { slots = e.slots; holds = e.holds; well_ended = e.well_ended } }
+
+-- and after the pairs are left out.
+pub out-holds : (body key : List ℕ) (old s t : Slots) → HoldsIn body old → EmptiesLast key old s → LeavesPairs key s t
     → HoldsSomeCells body t
-out-holds body key old s t r leaves ends =
-    let start = r.holds in
-    let out = leaves.leaves body start.cells start.holds (subst AreWellEnded start.list r.well_ended.slots) in
-    let e = ends body key start.cells start.holds.others out in
-    record { cells = e.cells; holds = e.holds }
+out-holds body key old s t r empties leaves =
+    let o = are-without body key r.slots s t (empties body r.slots r.well_ended r.holds) leaves in
+    record { cells = o.cells; holds = o.holds }
 
 -- What the three steps come to.
-pub removes : (body key : List ℕ) (marked : Bool) (old s t new : Slots) → LeavesPairs key old s → EndsLeft s t
+pub removes : (body key : List ℕ) (marked : Bool) (old s t new : Slots) → EmptiesLast key old s → LeavesPairs key s t
     → Guards body marked t new
     → Changes body (left_without marked key) old new
-removes body key marked old s t new leaves ends guards m well h =
-    let out = leaves.leaves body h.cells h.holds (subst AreWellEnded h.list well.slots) in
-    let e = ends body key h.cells h.holds.others out in
-    let g = guards.guards e.cells e.holds in
+removes body key marked old s t new empties leaves guards m well h =
+    let e = empties body m well h in
+    let o = are-without body key m s t e leaves in
+    let g = guards.guards o.cells o.holds in
     record {
       cells = g.cells;
       holds = g.holds;
-      list = ap (λ v. slots_guarded marked (slots_without key v)) h.list ∙ ap (slots_guarded marked) e.list ∙ g.list;
-      closing = ap₂ (λ u v. if last_has key u then left_out else v) h.list h.closing
-          ∙ ap₂ (λ u v. if last_has key (live h.cells) then left_out else closing_in u v) (sym leaves.closing)
-          (sym leaves.parting)
-          ∙ sym e.closing_is
+      list = ap (slots_guarded marked) (e.list ∙ ap (slots_without key) e.holds.list ∙ o.list) ∙ g.list;
+      closing = sym e.closing
+          ∙ e.holds.closing
+          ∙ ap₂ closing_in (sym leaves.closing) (sym leaves.parting)
           ∙ ap₂ closing_in (sym guards.closing) (sym guards.parting);
     }

@@ -1,18 +1,20 @@
 -- A key removed from slots in one array: all its places are left out.
-use Rattle.std.proofs.Common.{◌≡◌, ◌<◌, ◌≤◌, ℕ, ◌+◌, false, List, [], ◌∷◌, length, get_or, drop, if◌then◌else◌, refl, ap, sym, ◌∙◌, inl, inr, subst}
+use Rattle.std.proofs.Common.{◌≡◌, ◌<◌, ◌≤◌, ℕ, ◌+◌, ◌-◌, true, false, List, [], ◌∷◌, length, get_or, drop, if◌then◌else◌, refl, ap, sym, ◌∙◌, inl, inr, arith, subst}
 use Rattle.std.specs.Prelude.{bytes_eq}
 use Rattle.std.specs.BTreeMap.{IsOrdered}
 use Rattle.std.specs.String.{string_cmp}
 use Rattle.std.proofs.lemmas.Bool.{cases_Bool}
 use Rattle.std.proofs.lemmas.List.{drop_more, drop_all}
 use Rattle.std.proofs.lemmas.Slice.Eq.{bytes_eq-Decides}
-use Rattle.properties_format.specs.Reading.Slots.{AreWellEnded}
-use Rattle.properties_format.specs.Reading.Cells.{Cell, live, places}
+use Rattle.properties_format.specs.Reading.Slots.{last_has, AreWellEnded}
+use Rattle.properties_format.specs.Reading.Cells.{Cell, live, places, EndsAlive}
+use Rattle.properties_format.proofs.Slots.PutCell.{ends-at}
 use Rattle.properties_format.proofs.Slots.RemoveCells.{first-placed}
 use Rattle.properties_format.proofs.Slots.Removing.{IsRemoving, removing-start, removing-other, removing-end, removing-apart, removing-both, removed-last_left, removed-last_gone}
 use Rattle.java_properties.specs.BodySlots.{LooseCells, HoldsCells, HoldsSome, no_cell, stack_at}
 use Rattle.java_properties.specs.BodySlots.Removal.{HasPlace, IsLeftOut, other, at_end, apart, both, KeepsRest, LeavesOut, LeavesPairs}
 use Rattle.java_properties.specs.declared.edit.slots.Slots.{Slots}
+use Rattle.java_properties.proofs.BodySlots.Put.{holds-loose}
 use Rattle.java_properties.proofs.BodySlots.Removal.{rest-both}
 
 -- Cells are left, from which the key is to be left out at these places still.
@@ -103,6 +105,17 @@ pub going-next : (key : List ℕ) (old initial s : Slots) (todo : List ℕ) (i :
     → AreGoing key old initial s (get_or todo i 0 ∷ drop (i + 1) todo)
 going-next key old initial s todo i g h = subst (AreGoing key old initial s) (drop_more todo i 0 h) g
 
+-- The last slot stays left, where it is no pair with the key.
+last-stays : (key : List ℕ) (start now : List Cell) (i : ℕ) → AreWellEnded (live start) → EndsAlive start
+    → i + 1 ≡ length start
+    → IsRemoving key start now [] no_cell
+    → last_has key (live start) ≡ false
+    → (get_or now i no_cell).alive ≡ true
+last-stays key start now i a e n r none = elim (cases_Bool (get_or now i no_cell).alive) [
+  | inl k ↦ k
+  | inr k ↦ let had = (removed-last_gone key start now i no_cell a e n r k).0 in absurd (cc)
+]
+
 -- At the end the pairs are left out.
 pub going-end : (key : List ℕ) (old initial s : Slots) (todo : List ℕ) (n : ℕ)
     → AreGoing key old initial s (drop n todo) → length todo ≤ n
@@ -112,20 +125,20 @@ pub going-end : (key : List ℕ) (old initial s : Slots) (todo : List ℕ) (n : 
     → initial.parting ≡ old.parting
     → LeavesPairs key old s
 going-end key old initial s todo n g end others ordered closing parting = record {
-  leaves = λ body start h a.
+  leaves = λ body start h a none.
       let now = (subst (AreGoing key old initial s) (drop_all n todo end) g).going body start h a in
       let r = now.removing in
       let size = r.size in
+      let more = h.others in
+      let last = length start - 1 in
+      let alive = last-stays key start now.cells last a h.ends (omega arith) r none in
       record {
         cells = now.cells;
-        loose = now.loose;
-        size = size;
-        places_are = λ k. ap (λ v. stack_at v.entries k) g.rest.places ∙ others k ∙ place k start now.cells h r;
-        ordered = subst (λ v. IsOrdered string_cmp v) (sym g.rest.places) ordered;
-        left = λ i n l. let m = removed-last_left key start now.cells i no_cell a h.ends (n ∙ size) r l in record
-            { has = m.0; list = m.1 };
-        gone = λ i n l. let m = removed-last_gone key start now.cells i no_cell a h.ends (n ∙ size) r l in record
-            { has = m.0; list = m.1 };
+        holds = holds-loose body s now.cells now.loose (ends-at now.cells last no_cell (omega arith) alive)
+            (omega arith)
+            (λ k. ap (λ v. stack_at v.entries k) g.rest.places ∙ others k ∙ place k start now.cells h r)
+            (subst (λ v. IsOrdered string_cmp v) (sym g.rest.places) ordered);
+        list = (removed-last_left key start now.cells last no_cell a h.ends (omega arith) r alive).1;
       };
   closing = g.rest.closing ∙ closing;
   parting = g.rest.parting ∙ parting;

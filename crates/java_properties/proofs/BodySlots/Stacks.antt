@@ -1,11 +1,11 @@
 -- The numbers under each key, after a change at one of them.
-use Rattle.std.proofs.Common.{◌≡◌, ℕ, Bool, true, false, List, [], ◌∷◌, ◌++◌, refl, ap, sym, ◌∙◌, inl, inr, length, arith}
-use Rattle.std.specs.Prelude.{◌-◌, Option, Some, None, bytes_eq, cond, if◌then◌else◌, slice_get}
-use Rattle.std.specs.Option.{option_map_or, unwrap_or}
+use Rattle.std.proofs.Common.{◌≡◌, ℕ, Bool, true, false, List, [], ◌∷◌, ◌++◌, refl, ap, sym, ◌∙◌, inl, inr, length, subst, arith, append-nil}
+use Rattle.std.specs.Prelude.{◌-◌, Option, Some, None, bytes_eq, cond, if◌then◌else◌, slice_get, take, Result, Ok, Err, OnErr}
+use Rattle.std.specs.Option.{IsSome, option_map_or, unwrap_or}
 use Rattle.std.specs.Global.{Vec}
 use Rattle.std.specs.Str.{chars, IsUtf8}
 use Rattle.std.specs.String.{string_cmp, string_bytes}
-use Rattle.std.specs.BTreeMap.{BTreeMap, UpdatesBy, get_by_text}
+use Rattle.std.specs.BTreeMap.{BTreeMap, UpdatesBy, WritesThrough, get_by_text}
 use Rattle.std.specs.Ordering.{nat_cmp}
 use Rattle.std.specs.Cmp.Lexicographic.{slice_cmp}
 use Rattle.std.specs.declared.string.String.{String}
@@ -62,6 +62,38 @@ stack-grown m n key is v more h grown k =
     there : bytes_eq k (chars key) ≡ false → has (bytes_eq k (chars key)) v.items ≡ has (bytes_eq k (chars key)) (stack_at m.entries k ++ more)
     there other = rw other refl
 
+-- where a change of the numbers of one key leaves those of the others
+changed-at : (stacks : List ℕ → List ℕ) (change : List ℕ → List ℕ) (key k value : List ℕ) → value ≡ change (stacks key)
+    → (if bytes_eq k key then value else stacks k) ≡ (if bytes_eq k key then change (stacks k) else stacks k)
+changed-at stacks change key k value is = elim (cases_Bool (bytes_eq k key)) [
+  | inl same ↦ rw same (is ∙ ap (λ v. change (stacks v)) (sym ((bytes_eq-Decides k key).0 same)))
+  | inr other ↦ rw other refl
+]
+
+-- So it is where the last number is taken out of those that it has,
+pub stack-popped : {Y : Type 0} (m n : BTreeMap (String Y) (Vec ℕ)) (key : List ℕ) → IsUtf8 key → (stack left : Vec ℕ)
+    → Some stack ≡ get_by_text m key
+    → WritesThrough string_cmp (λ x. slice_cmp nat_cmp key (string_bytes x)) m left n
+    → left.items ≡ take (length stack.items - 1) stack.items
+    → (k : List ℕ) → stack_at n.entries k
+    ≡ (if bytes_eq k (chars key) then take (length (stack_at m.entries k) - 1) (stack_at m.entries k) else stack_at m.entries k)
+stack-popped m n key is stack left found h popped k =
+    stack-updated m n key is (Some left) (h.3 (subst (λ o. IsSome o) found refl)) k
+    ∙ changed-at (stack_at m.entries) (λ s. take (length s - 1) s) (chars key) k left.items
+    (popped ∙ ap (λ s. take (length s - 1) s) (ap items_in found ∙ sym (stack-found m key is)))
+
+-- and where it has none.
+pub stack-none : {Y : Type 0} (m : BTreeMap (String Y) (Vec ℕ)) (key : List ℕ) → IsUtf8 key → None ≡ get_by_text m key
+    → (k : List ℕ) → stack_at m.entries k
+    ≡ (if bytes_eq k (chars key) then take (length (stack_at m.entries k) - 1) (stack_at m.entries k) else stack_at m.entries k)
+stack-none m key is none k = elim (cases_Bool (bytes_eq k (chars key))) [
+  | inl same ↦
+      let empty : stack_at m.entries k ≡ [] =
+      ap (stack_at m.entries) ((bytes_eq-Decides k (chars key)).0 same) ∙ stack-found m key is ∙ sym (ap items_in none) in
+      rw (same, empty) refl
+  | inr other ↦ rw other refl
+]
+
 -- what comes last of some numbers comes last where another stands before them
 last-later : (n m : ℕ) (ns : List ℕ) (o : Option ℕ) → IsLastOf (m ∷ ns) o → IsLastOf (n ∷ m ∷ ns) o
 last-later n m ns None h = absurd (cc)
@@ -75,3 +107,13 @@ last-of n (m ∷ ns) = last-later n m ns (slice_get (m ∷ ns) (length ns)) (las
 pub last-got : (stack : List ℕ) → IsLastOf stack (slice_get stack (length stack - 1))
 last-got [] = refl
 last-got (n ∷ ns) = let e : length (n ∷ ns) - 1 ≡ length ns = omega arith in rw e (last-of n ns)
+
+-- Nothing more under a key leaves what was there.
+pub same-if : (b : Bool) (xs : List ℕ) → (if b then xs ++ [] else xs) ≡ xs
+same-if true xs = append-nil xs
+same-if false xs = refl
+
+-- What holds anyway holds where there is an error.
+pub on-err : {T E P : Type 0} (r : Result T E) → P → OnErr r P
+on-err (Ok done) p = tt
+on-err (Err error) p = p

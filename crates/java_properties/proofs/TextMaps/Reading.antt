@@ -10,9 +10,8 @@ use Rattle.properties_format.specs.Maps.{IsMap}
 use Rattle.properties_format.proofs.Maps.{map-none, map-comment, map-pair}
 use Rattle.java_properties.specs.Errors.{IsBareError}
 use Rattle.java_properties.specs.Line.{number_of, content_of}
-use Rattle.java_properties.specs.LineJoiner.{JoinsError}
 use Rattle.java_properties.specs.PropertiesIter.{said, entry_of}
-use Rattle.java_properties.specs.GivenItems.{GivesEntry, GivesNone, GivesMalformed}
+use Rattle.java_properties.specs.GivenItems.{GivesEntry, GivesNone, GivesMalformed, GivesError}
 use Rattle.java_properties.specs.ReadLines.{entries_in}
 use Rattle.java_properties.specs.Maps.{Entries, value_at, InsertsIfPair, HasReadMap, StopsReadingMap}
 use Rattle.java_properties.specs.declared.error.ErrorKind.TheVariants as kind
@@ -63,8 +62,8 @@ module _ {R Y Z : Type 0} {reader : Reader R} {e : Encoding} where
   passed-lost line h g is = record { lines = h.lines; stops = inr (inr (collected-lost h.collected g is)) }
 
   -- an error came
-  pub passed-error : {from to next : R} {m : Entries Y Z} {s t : ReaderState} {error : PropertiesError} → HasPassed reader e from m s to
-      → s.is_done ≡ false → GivesMalformed reader s to error next ⊎ JoinsError reader s to error t next → StopsReadingMap reader e from error next
+  pub passed-error : {from to next : R} {m : Entries Y Z} {s : ReaderState} {error : PropertiesError} → HasPassed reader e from m s to
+      → s.is_done ≡ false → GivesMalformed reader s to error next ⊎ GivesError reader s to error next → StopsReadingMap reader e from error next
   passed-error h live k = record {
     lines = h.lines;
     stops = elim k [ inl m ↦ inl (collected-malformed h.collected live m) | inr j ↦ inr (collected-error h.collected live j) ];

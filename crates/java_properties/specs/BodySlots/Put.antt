@@ -1,11 +1,13 @@
 -- A key put into slots in one array: what each step on the way does.
-use Rattle.std.specs.Prelude.{◌≡◌, ℕ, ◌+◌, ◌==◌, Bool, if◌then◌else◌, List, length, get_or, set}
+use Rattle.std.specs.Prelude.{◌≡◌, ℕ, ◌+◌, ◌-◌, ◌≤◌, ◌==◌, Bool, if◌then◌else◌, List, length, get_or, set}
 use Rattle.std.specs.Prelude.{Option}
+use Rattle.std.specs.Vec.{vec_len, vec_capacity}
 use Rattle.properties_format.specs.Text as text
 use Rattle.properties_format.specs.Reading.Slots as format
 use Rattle.properties_format.specs.Reading.Slots.{empty_slot, ended_by, is_first, closed_slots}
 use Rattle.properties_format.specs.Reading.Cells.{Cell, live, closed_cell}
-use Rattle.java_properties.specs.BodySlots.{IsCell, HoldsCells, closing_in}
+use Rattle.java_properties.specs.BodySlots.{IsCell, AreCells, HoldsCells, closing_in}
+use Rattle.java_properties.specs.declared.edit.place.Closing.TheVariants as closing
 use Rattle.java_properties.specs.declared.edit.slots.Slot.{Slot}
 use Rattle.java_properties.specs.declared.edit.slots.Slots.{Slots}
 
@@ -45,3 +47,22 @@ pub record FindsNextFirst (old : Slots) (result : Bool) (new : Slots) : Type 0 w
       → (result ≡ is_first (closed_slots (closing_in old.closing old.parting) (live cells)))
       × HoldsCells body new cells
   pub same : new ≡ record old { first = new.first }
+
+-- ---- the memory for that
+
+-- The slots and the links stay what they are.
+pub record KeepsParts (old new : Slots) : Type 0 where
+  pub cells : (body : List ℕ) (cells : List Cell) → AreCells body old.slots.items cells → AreCells body new.slots.items cells
+  pub links : new.links.items ≡ old.links.items
+  pub same : new ≡ record old { slots = new.slots; links = new.links }
+
+-- There is room for so many more slots,
+pub record HasRoom (n : ℕ) (s : Slots) : Type 0 where
+  pub slots : vec_len s.slots + n ≤ vec_capacity s.slots
+  pub links : vec_len s.links + n ≤ vec_capacity s.links
+
+-- and for a line ending after the bytes of the last one, where it is to be closed by one.
+abbrev pub HasRoomToClose : Slots → Type 0
+HasRoomToClose s =
+    (d : Slot) → s.closing ≡ closing.TwoEndings
+    → vec_len (get_or s.slots.items (length s.slots.items - 1) d).added + 2 ≤ vec_capacity (get_or s.slots.items (length s.slots.items - 1) d).added

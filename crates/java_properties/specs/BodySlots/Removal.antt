@@ -1,11 +1,9 @@
 -- A key removed from slots in one array: what each step on the way does.
-use Rattle.std.specs.Prelude.{◌≡◌, ℕ, ◌+◌, ◌≤◌, ◌<◌, Bool, true, false, if◌then◌else◌, List, [], ◌∷◌, ◌++◌, length, get_or, set, None}
-use Rattle.std.specs.BTreeMap.{IsOrdered}
-use Rattle.std.specs.String.{string_cmp}
+use Rattle.std.specs.Prelude.{◌≡◌, ℕ, ◌≤◌, ◌<◌, Bool, true, false, if◌then◌else◌, List, length, get_or, set}
 use Rattle.properties_format.specs.Reading.Slots as format
-use Rattle.properties_format.specs.Reading.Slots.{empty_slot, left_out, slots_without, slots_guarded, last_has, is_by_cr, are_one_ending, AreWellEnded}
-use Rattle.properties_format.specs.Reading.Cells.{Cell, live, dead, places, AreDeadBetween}
-use Rattle.java_properties.specs.BodySlots.{IsCell, HoldsCells, LooseCells, no_cell, stack_at, closing_in}
+use Rattle.properties_format.specs.Reading.Slots.{left_out, slots_without, slots_guarded, last_has, is_by_cr, are_one_ending, AreWellEnded, IsWellEnded}
+use Rattle.properties_format.specs.Reading.Cells.{Cell, live, dead, AreDeadBetween}
+use Rattle.java_properties.specs.BodySlots.{IsCell, Holds, HoldsCells, LooseCells, no_cell}
 use Rattle.java_properties.specs.declared.edit.slots.Slot.{Slot}
 use Rattle.java_properties.specs.declared.edit.slots.Slots.{Slots}
 
@@ -81,45 +79,38 @@ pub record LeavesOut (old : Slots) (place : ℕ) (new : Slots) : Type 0 where
       → LeftCells body cells place new
   pub same : KeepsRest old new
 
+-- ---- the last slot
+
+-- The slots end in no pair with the key. Without the key the same comes of them as of those before.
+pub record IsEmptied (body key : List ℕ) (old : format.Slots) (s : Slots) : Type 0 where
+  pub slots : format.Slots
+  pub holds : Holds body s slots
+  pub well_ended : IsWellEnded slots
+  pub has : last_has key slots.list ≡ false
+  pub list : slots_without key old.list ≡ slots_without key slots.list
+  pub closing : slots.closing ≡ (if last_has key old.list then left_out else old.closing)
+
+-- Where the last slot is a pair with the key, an empty slot takes its place.
+abbrev pub EmptiesLast : List ℕ → Slots → Slots → Type 0
+EmptiesLast key old new = (body : List ℕ) (m : format.Slots) → IsWellEnded m → Holds body old m → IsEmptied body key m new
+
 -- ---- all places are left out
 
--- The slots without a key are these cells, and whether the last slot had it.
-pub record AreWithout (key : List ℕ) (start : List Cell) (had : Bool) (cells : List Cell) : Type 0 where
-  pub has : last_has key (live start) ≡ had
-  pub list : slots_without key (live start) ≡ live cells
-
--- From the first cells each pair with the key is left out. If the last was one, an empty slot is to come after them.
-pub record ArePairsOut (body key : List ℕ) (start : List Cell) (s : Slots) : Type 0 where
-  pub cells : List Cell
-  pub loose : LooseCells body s cells
-  pub size : length cells ≡ length start
-  pub places_are : (k : List ℕ) → stack_at s.places.entries k ≡ places k cells
-  pub ordered : IsOrdered string_cmp s.places
-  pub left : (i : ℕ) → i + 1 ≡ length cells → (get_or cells i no_cell).alive ≡ true → AreWithout key start false cells
-  pub gone : (i : ℕ) → i + 1 ≡ length cells → (get_or cells i no_cell).alive ≡ false
-      → AreWithout key start true (cells ++ record { slot = empty_slot None; alive = true } ∷ [])
-
--- The pairs with a key are left out.
-pub record LeavesPairs (key : List ℕ) (old new : Slots) : Type 0 where
-  pub leaves : (body : List ℕ) (start : List Cell) → HoldsCells body old start → AreWellEnded (live start)
-      → ArePairsOut body key start new
-  pub closing : new.closing ≡ old.closing
-  pub parting : new.parting ≡ old.parting
-
--- ---- the last slot, and the LF in front
-
--- The slots are cells without a key.
-pub record IsWithout (body key : List ℕ) (start : List Cell) (closing : format.Closing) (s : Slots) : Type 0 where
+-- The slots are these cells without the key.
+pub record AreWithout (body key : List ℕ) (start : List Cell) (s : Slots) : Type 0 where
   pub cells : List Cell
   pub holds : HoldsCells body s cells
   pub list : slots_without key (live start) ≡ live cells
-  pub closing_is : closing_in s.closing s.parting ≡ (if last_has key (live start) then left_out else closing)
 
--- The last slot is left again.
-abbrev pub EndsLeft : Slots → Slots → Type 0
-EndsLeft old new =
-    (body key : List ℕ) (start : List Cell) → 1 < length start → ArePairsOut body key start old
-    → IsWithout body key start (closing_in old.closing old.parting) new
+-- The pairs with a key are left out, of slots that end in none.
+pub record LeavesPairs (key : List ℕ) (old new : Slots) : Type 0 where
+  pub leaves : (body : List ℕ) (start : List Cell) → HoldsCells body old start → AreWellEnded (live start)
+      → last_has key (live start) ≡ false
+      → AreWithout body key start new
+  pub closing : new.closing ≡ old.closing
+  pub parting : new.parting ≡ old.parting
+
+-- ---- the LF in front
 
 -- The slots are some cells.
 pub record HoldsSomeCells (body : List ℕ) (s : Slots) : Type 0 where

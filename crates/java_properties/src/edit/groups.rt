@@ -4,13 +4,13 @@ ghost use Rattle.std.specs.Prelude.{◌≡◌, ◌&&◌, not, true, false, IfOk}
 ghost use Rattle.std.specs.Str.{chars};
 ghost use Rattle.properties_format.specs.Groups.{is_comment_line, is_open};
 ghost use Rattle.properties_text.specs.Encoding.{encoding_of};
-ghost use Rattle.java_properties.specs.LineSearch.{unit_size};
+ghost use Rattle.properties_lines.specs.LineSearch.{unit_size};
 ghost use Rattle.java_properties.specs.BodyGroups.{IsWithin, TakesLine, GivesGroup, JoinsGroup, text_of, IsTextHeld};
 
 use crate::edit::lines::{FirstLine, ending_size, first_line};
-use crate::lines::join::{is_comment_line, is_open};
-use crate::lines::texts::{add_line, keep_opened, keep_text, kept_text};
 use crate::writer::LineEnding;
+use properties_lines::join::{is_comment_line, is_open};
+use properties_lines::texts::{add_line, keep_opened, keep_text, kept_text};
 use properties_text::encoding::{Encoding, TextBuffer};
 use std::alloc::{AllocError, Global};
 

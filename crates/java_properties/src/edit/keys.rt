@@ -3,6 +3,7 @@
 ghost use Rattle.std.specs.Str.{chars};
 ghost use Rattle.java_properties.specs.BodyKeys.{FindsItem, TellsKey};
 ghost use Rattle.java_properties.specs.BodySlots.{TellsKeyOf};
+ghost use Rattle.java_properties.specs.BodyDocuments.{TellsPairOf};
 
 use crate::error::PropertiesError;
 use crate::iter::found::{Found, find_escaped, find_plain};
@@ -25,6 +26,20 @@ pub fn key_of(alloc: Global, number: usize, line: &str) -> Result<Option<String>
 {
     match find_item(alloc, number, line)? {
         Some(found) => Ok(found.key(alloc, line)?),
+        None => Ok(None),
+    }
+}
+
+/// The pair that a logical line is, where it is one; or why its escapes aren't resolved, in the line of this number.
+pub fn pair_of(
+    alloc: Global,
+    number: usize,
+    line: &str,
+) -> Result<Option<(String, String)>, PropertiesError>
+    ensures { TellsPairOf (chars line.now) number result }
+{
+    match find_item(alloc, number, line)? {
+        Some(found) => Ok(found.pair(alloc, line)?),
         None => Ok(None),
     }
 }

@@ -3,12 +3,12 @@
 ghost use Rattle.std.specs.Prelude.{◌≡◌, ◌<◌, ◌+◌, drop, length};
 ghost use Rattle.properties_text.specs.Encoding.{encoding_of};
 ghost use Rattle.properties_format.specs.Body.{ending_bytes};
-ghost use Rattle.java_properties.specs.LineSearch.{unit_size};
+ghost use Rattle.properties_lines.specs.LineSearch.{unit_size};
 ghost use Rattle.java_properties.specs.Settings.{ending_of};
 ghost use Rattle.java_properties.specs.BodyLines.{IsFirstLine, ending_before, ending_in};
 
-use crate::lines::search::{LineEnd, find_line_end};
 use crate::writer::LineEnding;
+use properties_lines::search::{LineEnd, find_line_end};
 use properties_text::encoding::Encoding;
 
 /// The first line of some bytes.

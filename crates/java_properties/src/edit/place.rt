@@ -5,7 +5,7 @@ ghost use Rattle.std.specs.Str.{chars};
 ghost use Rattle.properties_format.specs.Edited.{added_ending};
 ghost use Rattle.properties_format.specs.Reading.Lines.{ends_in_cr};
 ghost use Rattle.properties_text.specs.Encoding.{encoding_of};
-ghost use Rattle.java_properties.specs.LineSearch.{unit_size};
+ghost use Rattle.properties_lines.specs.LineSearch.{unit_size};
 ghost use Rattle.java_properties.specs.BodyKeys.{FindsKey, closing_of, found_after, parted};
 
 use crate::edit::groups::{Group, GroupReader};

@@ -67,7 +67,10 @@ impl Slots {
     {
         match edit {
             Edit::Put(key, value) => self.put(alloc, encoding, key, value),
-            Edit::Remove(key) => self.remove(alloc, body, is_marked, key),
+            Edit::Remove(key) => {
+                self.remove(alloc, body, is_marked, key);
+                Ok(())
+            }
         }
     }
 }

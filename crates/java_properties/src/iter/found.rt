@@ -9,6 +9,7 @@ ghost use Rattle.properties_format.specs.Items.{given};
 ghost use Rattle.properties_format.specs.Reading.Body.{is_pair_with};
 ghost use Rattle.properties_format.specs.Reading.Slots.{key_told};
 ghost use Rattle.java_properties.specs.Maps.{characters};
+ghost use Rattle.java_properties.specs.BodyDocuments.{pair_characters, pair_told};
 ghost use Rattle.properties_format.specs.Split.{IsSplit};
 ghost use Rattle.properties_text.specs.Escaping.{holds_backslash};
 ghost use Rattle.java_properties.specs.LentItems.{lent_entry, said_by, is_borrowed, BorrowsPlain, found_bytes, found_content, found_entry, AreTextsIn, spans_of, IsFoundIn, IsTextIn, FindsText, FindsContent, FindsIn, FindsPlain};
@@ -161,6 +162,24 @@ impl Found {
         match &self.content {
             FoundContent::Comment(_) => Ok(None),
             FoundContent::KVPair(found, _) => Ok(Some(found.copied(alloc, line)?)),
+        }
+    }
+
+    /// Copies of its key and its value, where it is a pair.
+    pub(crate) fn pair(
+        &self,
+        alloc: Global,
+        line: &str,
+    ) -> Result<Option<(String, String)>, AllocError>
+        requires { IsFoundIn line.now self.now }
+        ensures { IfOk result (λ pair. option_map pair_characters pair ≡ pair_told (given (found_content line.now self.now.content))) }
+    {
+        match &self.content {
+            FoundContent::Comment(_) => Ok(None),
+            FoundContent::KVPair(key, value) => {
+                let key = key.copied(alloc, line)?;
+                Ok(Some((key, value.copied(alloc, line)?)))
+            }
         }
     }
 }

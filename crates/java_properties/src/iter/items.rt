@@ -5,8 +5,8 @@ ghost use Rattle.std.specs.Str.{chars};
 ghost use Rattle.counted_io.specs.Streams.{IsSameReader};
 ghost use Rattle.properties_format.specs.ItemsToCome.{start};
 ghost use Rattle.properties_text.specs.Encoding.{encoding_of};
-ghost use Rattle.java_properties.specs.LineFinder.{lines_left};
-ghost use Rattle.java_properties.specs.LineJoiner.{Joiner};
+ghost use Rattle.properties_lines.specs.LineFinder.{lines_left};
+ghost use Rattle.properties_lines.specs.LineJoiner.{Joiner};
 ghost use Rattle.java_properties.specs.LentItems.{lent_entry, found_entry, BorrowsPlain, IsFoundIn, FindsItem, ComesTo, OnLine, Owns};
 ghost use Rattle.java_properties.specs.GivenItems.{GivesItem};
 
@@ -14,8 +14,8 @@ use crate::error::PropertiesError;
 use crate::iter::found::{Found, find_escaped, find_plain};
 use crate::iter::lent::LineRef;
 use crate::line::Line;
-use crate::lines::joiner::LineJoiner;
 use counted_io::CountedRead;
+use properties_lines::joiner::LineJoiner;
 use properties_text::encoding::Encoding;
 use properties_text::escape::has_backslash;
 use std::alloc::Global;
@@ -94,7 +94,7 @@ impl ItemReader {
     {
         let number = match self.lines.next_line(reader) {
             Some(Ok(number)) => number,
-            Some(Err(error)) => return Came::Answer(Some(Err(error))),
+            Some(Err(error)) => return Came::Answer(Some(Err(PropertiesError::from(error)))),
             None => return Came::Answer(None),
         };
         let line = self.lines.line();

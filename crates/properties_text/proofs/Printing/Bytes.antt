@@ -1,6 +1,6 @@
 -- Texts that are printed byte by byte.
 use Rattle.std.proofs.Common.{◌≡◌, ℕ, ◌+◌, ◌-◌, ◌<◌, ◌≤◌, ◌==◌, Bool, true, false, cond, nat_lt, List, [], ◌∷◌, ◌++◌, refl, sym, ap, ap₂, ◌∙◌, inl, inr, append_assoc, append-nil, arith, length, take, drop, get_or, lit<, le-ltb, lt-ltb, ne_eqb, eqb-true}
-use Rattle.std.specs.Prelude.{Some, map, not, ◌&&◌, encode_utf8, encode_utf8_all, slice_index, unwrap_or}
+use Rattle.std.specs.Prelude.{Option, Some, None, is_some, map, not, ◌&&◌, encode_utf8, encode_utf8_all, slice_index, unwrap_or}
 use Rattle.std.specs.Str.{chars, IsUtf8, IsAscii}
 use Rattle.std.proofs.lemmas.Bool.{cases_Bool, cases_lt, cond-true, cond-false, agree_below_at, false_from_ne_true}
 use Rattle.std.specs.List.{All}
@@ -13,7 +13,7 @@ use borrow.Rule.Slice.PartMut.{put_mid, post_of}
 use Rattle.properties_format.specs.Text.{space, backslash}
 use Rattle.properties_format.specs.Windows1252.{windows_1252_byte, windows_1252_table, is_in_table, place_from}
 use Rattle.properties_format.specs.Encoding.{Encoding, windows_1252, utf_8, one_byte, encoded}
-use Rattle.properties_format.specs.Printing.{in_key_or_value, literal, is_special, has_letter, letter_escape, spelt, spelt_text, encoded_text}
+use Rattle.properties_format.specs.Printing.{in_key_or_value, unicode_escape, may_stand, literal, is_special, has_letter, letter_escape, spelt, spelt_text, encoded_text}
 use Rattle.properties_format.proofs.Printing.Characters.{AreAscii, encoded_text-append, spelt_text-append, encoded_text-ascii, encoded-ascii, special-ascii, letter_escape-ascii}
 use Rattle.properties_format.proofs.Encodings.Utf8Characters.{encode-two, encode-three, encode-four}
 use Rattle.properties_text.specs.Encoding.{output_of, EncodesFront}
@@ -266,4 +266,27 @@ run-more line new last whole text bs rest c held h e f =
     ∙ append_assoc line (spelt_bytes bs) (encoded_text windows_1252 (spelt windows_1252 false in_key_or_value c) ++ text_bytes all_of_windows_1252 KeyOrValue rest)
     ∙ ap (λ v. line ++ (spelt_bytes bs ++ v)) (sym (encoded_text-append windows_1252 (spelt windows_1252 false in_key_or_value c) (spelt_text windows_1252 false in_key_or_value rest)))
     ∙ ap (λ v. line ++ v) (sym (spelt-front text bs (c ∷ rest) h))
+    ∙ held
+
+-- what windows-1252 lacks is escaped
+lacked-spelt : (c : ℕ) → 0x80 ≤ c → is_some (windows_1252_byte c) ≡ false → encoded_text windows_1252 (spelt windows_1252 false in_key_or_value c) ≡ unicode_escape c
+lacked-spelt c h e =
+    ap (encoded_text windows_1252) (
+    cond-false (is_special c) _ _ (past-special c h)
+    ∙ cond-false (has_letter c) _ _ (past-letter c h)
+    ∙ cond-false (nat_lt c space) _ _ (past-control c h)
+    ∙ cond-false (may_stand windows_1252 false c) (c ∷ []) (unicode_escape c) (some-byte (windows_1252_byte c) ∙ e)
+    )
+    ∙ encoded_escape windows_1252 c
+  where
+    some-byte : (o : Option ℕ) → is_some (one_byte o) ≡ is_some o
+    some-byte None = refl
+    some-byte (Some b) = refl
+
+pub lacked-more : (line new whole rest : List ℕ) (c : ℕ) → line ++ text_bytes all_of_windows_1252 KeyOrValue (c ∷ rest) ≡ whole → 0x80 ≤ c
+    → is_some (windows_1252_byte c) ≡ false → new ≡ line ++ unicode_escape c → new ++ text_bytes all_of_windows_1252 KeyOrValue rest ≡ whole
+lacked-more line new whole rest c held h e f =
+    ap (λ v. v ++ text_bytes all_of_windows_1252 KeyOrValue rest) (f ∙ ap (λ v. line ++ v) (sym (lacked-spelt c h e)))
+    ∙ append_assoc line (encoded_text windows_1252 (spelt windows_1252 false in_key_or_value c)) (text_bytes all_of_windows_1252 KeyOrValue rest)
+    ∙ ap (λ v. line ++ v) (sym (encoded_text-append windows_1252 (spelt windows_1252 false in_key_or_value c) (spelt_text windows_1252 false in_key_or_value rest)))
     ∙ held

@@ -1,6 +1,6 @@
 // One byte a character.
 
-ghost use Rattle.std.specs.Prelude.{◌≡◌, ◌<◌, ◌==◌, ◌↔◌, length, position, IfSome, IsSome};
+ghost use Rattle.std.specs.Prelude.{◌≡◌, ◌↔◌, IfSome, IsSome};
 ghost use Rattle.std.specs.Str.{IsAscii};
 ghost use Rattle.properties_format.specs.Windows1252.{windows_1252_character, windows_1252_byte};
 
@@ -43,19 +43,41 @@ pub fn as_text(bytes: &[u8]) -> Option<&str>
 pub fn byte_of(character: char) -> Option<u8>
     ensures { result ≡ windows_1252_byte character }
 {
-    match character {
-        '\0'..='\x7f' | '\u{a0}'..='\u{ff}' => u8::try_from(u32::from(character)).ok(),
-        _ => {
-            let place = place_of(&HIGH, character)?;
-            u8::try_from(place + 0x80).ok()
-        }
-    }
-}
-
-// The first place of a character.
-fn place_of(characters: &[char], character: char) -> Option<usize>
-    ensures value { result ≡ position (λ c. c == character) characters.now }
-    ensures within { IfSome result (λ place. place < length characters.now) }
-{
-    characters.iter().position(|other| *other == character)
+    let byte = match character {
+        '\0'..='\x7f' | '\u{a0}'..='\u{ff}' => return u8::try_from(u32::from(character)).ok(),
+        '\u{20ac}' => 0x80,
+        '\u{81}' => 0x81,
+        '\u{201a}' => 0x82,
+        '\u{192}' => 0x83,
+        '\u{201e}' => 0x84,
+        '\u{2026}' => 0x85,
+        '\u{2020}' => 0x86,
+        '\u{2021}' => 0x87,
+        '\u{2c6}' => 0x88,
+        '\u{2030}' => 0x89,
+        '\u{160}' => 0x8a,
+        '\u{2039}' => 0x8b,
+        '\u{152}' => 0x8c,
+        '\u{8d}' => 0x8d,
+        '\u{17d}' => 0x8e,
+        '\u{8f}' => 0x8f,
+        '\u{90}' => 0x90,
+        '\u{2018}' => 0x91,
+        '\u{2019}' => 0x92,
+        '\u{201c}' => 0x93,
+        '\u{201d}' => 0x94,
+        '\u{2022}' => 0x95,
+        '\u{2013}' => 0x96,
+        '\u{2014}' => 0x97,
+        '\u{2dc}' => 0x98,
+        '\u{2122}' => 0x99,
+        '\u{161}' => 0x9a,
+        '\u{203a}' => 0x9b,
+        '\u{153}' => 0x9c,
+        '\u{9d}' => 0x9d,
+        '\u{17e}' => 0x9e,
+        '\u{178}' => 0x9f,
+        _ => return None,
+    };
+    Some(byte)
 }

@@ -1,6 +1,6 @@
-// Lists of edits, each made to what the one before it gave.
+// Lists of edits, each made to what the one before it gave; and the same edits of a document.
 
-use super::support::{BOTH, Change, edit_of, edits_of};
+use super::support::{BOTH, Change, bytes_after, edit_of, edits_of};
 use java_properties::{Encoding, edit_all};
 use std::alloc::Global;
 use std::process::Abort;
@@ -90,6 +90,8 @@ fn check_lists(
     for (place, (source, changes, wanted)) in rows.iter().enumerate() {
         let edits = edits_of(alloc, changes)?;
         let edited = edit_all(alloc, source, encoding, edits.as_slice())?;
+        assert_eq!(rt; edited.as_slice(), *wanted, "in row {place}");
+        let edited = bytes_after(alloc, source, encoding, changes)?;
         assert_eq!(rt; edited.as_slice(), *wanted, "in row {place}");
     }
     Ok(())

@@ -1,6 +1,6 @@
 // Sources that aren't edited: those of UTF-16, and those with a malformed escape.
 
-use super::support::{BOTH, Change, changed, edits_of, is_refusal};
+use super::support::{BOTH, Change, bytes_after, changed, edits_of, is_refusal};
 use java_properties::{Encoding, ErrorKind, edit_all};
 use std::alloc::Global;
 use std::process::Abort;
@@ -27,6 +27,8 @@ fn check_refused(
         assert!(rt; is_refusal(&answer, kind, line));
     }
     let answer = edit_all(alloc, source, encoding, &[]);
+    assert!(rt; is_refusal(&answer, kind, line));
+    let answer = bytes_after(alloc, source, encoding, &[]);
     assert!(rt; is_refusal(&answer, kind, line));
     Ok(())
 }

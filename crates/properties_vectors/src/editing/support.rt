@@ -1,7 +1,8 @@
 // What the rows of edits are checked with.
 
 use java_properties::{
-    Cause, Edit, Encoding, ErrorKind, PropertiesError, edit_all, remove_key, set_key,
+    Cause, Document, Edit, Encoding, ErrorKind, PropertiesError, edit_all, read_sorted, remove_key,
+    set_key,
 };
 use std::alloc::{AllocError, Global};
 use std::process::Abort;
@@ -61,7 +62,48 @@ pub fn edit_of(alloc: Global, change: Change<'_>) -> Result<Edit, AllocError> {
     }
 }
 
-/// Each row in each of these encodings, by the single call and by a list of that one edit.
+/// Makes a change to a document.
+pub fn change_document(document: &mut Document, change: Change<'_>) -> Result<(), AllocError> {
+    match change {
+        Change::Put(key, value) => document.put(key, value),
+        Change::Remove(key) => {
+            document.remove(key);
+            Ok(())
+        }
+    }
+}
+
+/// These changes made to a document, one after another.
+pub fn bytes_after(
+    alloc: Global,
+    source: &[u8],
+    encoding: Encoding,
+    changes: &[Change<'_>],
+) -> Result<Vec<u8>, PropertiesError> {
+    let mut document = Document::parse(alloc, source, encoding)?;
+    for change in changes {
+        change_document(&mut document, *change)?;
+    }
+    Ok(document.to_bytes(alloc)?)
+}
+
+/// The keys of a document have the values that a reader of its bytes finds.
+pub fn check_values(
+    rt: &impl Abort,
+    alloc: Global,
+    encoding: Encoding,
+    document: &Document,
+) -> Result<(), Fail> {
+    let bytes = document.to_bytes(alloc)?;
+    let mut input = bytes.as_slice();
+    let map = read_sorted(alloc, &mut input, encoding)?;
+    for (key, value) in &map {
+        assert_eq!(rt; document.get(key.as_str()), Some(value.as_str()));
+    }
+    Ok(())
+}
+
+/// Each row in each of these encodings, by the single call, by a list of that one edit and by a document.
 pub fn check_rows(
     rt: &impl Abort,
     alloc: Global,
@@ -76,7 +118,7 @@ pub fn check_rows(
     Ok(())
 }
 
-/// The row of this place, by the single call and by a list of that one edit.
+/// The row of this place, by the single call, by a list of that one edit and by a document.
 pub fn check_row(
     rt: &impl Abort,
     alloc: Global,
@@ -88,6 +130,8 @@ pub fn check_row(
     assert_eq!(rt; edited.as_slice(), *wanted, "in row {place}");
     let edits = edits_of(alloc, &[*made])?;
     let edited = edit_all(alloc, source, encoding, edits.as_slice())?;
+    assert_eq!(rt; edited.as_slice(), *wanted, "in row {place}");
+    let edited = bytes_after(alloc, source, encoding, &[*made])?;
     assert_eq!(rt; edited.as_slice(), *wanted, "in row {place}");
     Ok(())
 }

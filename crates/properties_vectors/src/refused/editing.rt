@@ -1,9 +1,9 @@
 // Sources that are edited.
 
 use super::is_memory;
-use crate::editing::support::{Change, changed, edits_of, is_refusal};
-use java_properties::{Edit, Encoding, ErrorKind, PropertiesError, edit_all};
-use std::alloc::Global;
+use crate::editing::support::{Change, change_document, changed, edits_of, is_refusal};
+use java_properties::{Document, Edit, Encoding, ErrorKind, PropertiesError, edit_all};
+use std::alloc::{AllocError, Global};
 use std::process::Abort;
 
 // Lines that are decoded, joined and unescaped, and more pairs with the key than a list takes without growing.
@@ -109,6 +109,63 @@ fn a_guard_is_put_or_refused(rt: HostRuntime) {
         call,
         b"\n\xfe\xff=2\n",
     );
+}
+
+// Its last line is left open, so that a new pair takes memory for two line endings too.
+const OPEN: &[u8] = b"k=1\na\\";
+
+// One growth at most is refused, so a document is opened at a second try.
+fn opened(rt: &impl Abort, alloc: Global) -> Result<Document, PropertiesError> {
+    match Document::parse(alloc, OPEN, Encoding::WINDOWS_1252) {
+        Ok(document) => Ok(document),
+        Err(error) => {
+            assert!(rt; is_memory(&error));
+            Document::parse(alloc, OPEN, Encoding::WINDOWS_1252)
+        }
+    }
+}
+
+// The bytes of a document, at a second try where the first is refused.
+fn bytes_of(alloc: Global, document: &Document) -> Result<Vec<u8>, AllocError> {
+    match document.to_bytes(alloc) {
+        Ok(bytes) => Ok(bytes),
+        Err(_) => document.to_bytes(alloc),
+    }
+}
+
+// A change that is refused leaves a document as it was, and is made at a second try.
+fn check_document(
+    rt: &impl Abort,
+    alloc: Global,
+    made: Change<'_>,
+    wanted: &[u8],
+) -> Result<(), PropertiesError> {
+    let mut document = opened(rt, alloc)?;
+    if change_document(&mut document, made).is_err() {
+        assert_eq!(rt; document.get("k"), Some("1"));
+        assert_eq!(rt; document.get("c"), None);
+        assert_eq!(rt; bytes_of(alloc, &document)?.as_slice(), OPEN);
+        change_document(&mut document, made)?;
+    }
+    assert_eq!(rt; bytes_of(alloc, &document)?.as_slice(), wanted);
+    Ok(())
+}
+
+#[test]
+fn a_document_is_changed_or_stays(rt: HostRuntime) -> Result<(), PropertiesError> {
+    check_document(&rt, rt.alloc(), Change::Put("k", "x"), b"k=x\na\\")
+}
+
+#[test]
+fn a_document_gets_a_new_key_or_stays(rt: HostRuntime) -> Result<(), PropertiesError> {
+    let wanted = b"k=1\na\\\n\nc=x\n".as_slice();
+    check_document(&rt, rt.alloc(), Change::Put("c", "x"), wanted)
+}
+
+#[test]
+fn a_key_of_a_document_is_removed_without_memory(rt: HostRuntime) -> Result<(), PropertiesError> {
+    check_document(&rt, rt.alloc(), Change::Remove("k"), b"a\\")?;
+    check_document(&rt, rt.alloc(), Change::Remove("a"), b"k=1\n")
 }
 
 // A malformed escape is told as that, or Memory is, and never another error.

@@ -6,17 +6,19 @@ ghost use Rattle.std.specs.Option.{option_map};
 ghost use Rattle.std.specs.String.{string_cmp};
 ghost use Rattle.properties_format.specs.Reading.Slots.{safe_ending};
 ghost use Rattle.properties_text.specs.Encoding.{encoding_of};
-ghost use Rattle.java_properties.specs.LineSearch.{unit_size};
+ghost use Rattle.properties_lines.specs.LineSearch.{unit_size};
 ghost use Rattle.java_properties.specs.Maps.{characters};
 ghost use Rattle.java_properties.specs.Settings.{ending_of};
 ghost use Rattle.java_properties.specs.BodySlots.{ParsesSlots, Pushes};
+ghost use Rattle.java_properties.specs.BodyDocuments.{ParsesBody};
 ghost use Rattle.java_properties.specs.BodySlots.Parsed.{AddsGroup, AddsKey, HoldsGuard};
 
 use crate::edit::groups::{Group, GroupReader};
-use crate::edit::keys::key_of;
+use crate::edit::keys::{key_of, pair_of};
 use crate::edit::place::{BodySpan, Closing, closing_after, ends_in_cr};
 use crate::edit::slots::places::add_place;
 use crate::edit::slots::{Slot, Slots};
+use crate::edit::values::keep_value;
 use crate::error::PropertiesError;
 use crate::writer::LineEnding;
 use properties_text::encoding::Encoding;
@@ -37,6 +39,27 @@ impl Slots {
             slots.add_group(alloc, body, group, key)?;
         }
         Ok(slots)
+    }
+
+    /// The same, and the value of each key of the body.
+    pub fn parse_with_values(
+        alloc: Global,
+        encoding: Encoding,
+        body: &[u8],
+    ) -> Result<(Slots, BTreeMap<String, String>), PropertiesError>
+        requires { unit_size (encoding_of encoding) ≡ 1 }
+        ensures { ParsesBody (encoding_of encoding) body.now result }
+    {
+        let mut groups = GroupReader::new(alloc, encoding);
+        let mut slots = Slots::with_guard(alloc)?;
+        let mut values = BTreeMap::new(alloc);
+        while let Some(group) = groups.next(body)? {
+            let number = group.passed.saturating_add(1);
+            let pair = pair_of(alloc, number, groups.line(body, group))?;
+            let key = keep_value(alloc, &mut values, pair)?;
+            slots.add_group(alloc, body, group, key)?;
+        }
+        Ok((slots, values))
     }
 
     // No group as yet.

@@ -1,6 +1,6 @@
 // The slots of each key, by their numbers.
 
-ghost use Rattle.std.specs.Prelude.{◌≡◌, ℕ, List, [], ◌∷◌, ◌++◌, OnOk, bytes_eq, if◌then◌else◌};
+ghost use Rattle.std.specs.Prelude.{◌≡◌, ℕ, ◌-◌, List, [], ◌∷◌, ◌++◌, length, take, OnOk, bytes_eq, if◌then◌else◌, OnErr};
 ghost use Rattle.std.specs.Str.{chars};
 ghost use Rattle.std.specs.String.{string_cmp};
 ghost use Rattle.std.specs.BTreeMap.{IsOrdered};
@@ -10,7 +10,7 @@ ghost use Rattle.java_properties.specs.BodySlots.{IsLastOf, stack_at};
 use std::alloc::{AllocError, Global};
 use std::collections::BTreeMap;
 
-/// The number comes last of those of the key.
+/// The number comes last of those of the key. Where memory runs out, every key has the numbers that it had.
 pub fn add_place(
     alloc: Global,
     places: &mut BTreeMap<String, Vec<usize>>,
@@ -20,6 +20,7 @@ pub fn add_place(
     requires { IsOrdered string_cmp places.old }
     ensures added { OnOk result ((k : List ℕ) → stack_at places.new.entries k
         ≡ (if bytes_eq k (characters key) then stack_at places.old.entries k ++ place ∷ [] else stack_at places.old.entries k)) }
+    ensures kept { OnErr result ((k : List ℕ) → stack_at places.new.entries k ≡ stack_at places.old.entries k) }
     ensures ordered { IsOrdered string_cmp places.new }
 {
     let stack = places.entry(key)?.or_insert(Vec::new(alloc));
@@ -32,6 +33,19 @@ pub fn last_place(places: &BTreeMap<String, Vec<usize>>, key: &str) -> Option<us
     ensures { IsLastOf (stack_at places.now.entries (chars key.now)) result }
 {
     places.get(key)?.last().copied()
+}
+
+/// Takes out the last number of the key.
+pub fn pop_place(places: &mut BTreeMap<String, Vec<usize>>, key: &str)
+    requires { IsOrdered string_cmp places.old }
+    ensures popped { (k : List ℕ) → stack_at places.new.entries k
+        ≡ (let stack = stack_at places.old.entries k in
+        if bytes_eq k (chars key.now) then take (length stack - 1) stack else stack) }
+    ensures ordered { IsOrdered string_cmp places.new }
+{
+    if let Some(stack) = places.get_mut(key) {
+        stack.pop();
+    }
 }
 
 /// Takes out the numbers of the key.

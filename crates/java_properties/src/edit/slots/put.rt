@@ -1,14 +1,16 @@
 // A key is put into slots.
 
-ghost use Rattle.std.specs.Prelude.{◌<◌, length, None, OnOk, Some};
+ghost use Rattle.std.specs.Prelude.{◌≡◌, ◌<◌, ◌≤◌, ◌+◌, ℕ, length, None, OnOk, Some};
 ghost use Rattle.std.specs.Str.{chars};
+ghost use Rattle.std.specs.Vec.{vec_capacity, vec_len};
 ghost use Rattle.properties_format.specs.Encoding.{output_encoding};
 ghost use Rattle.properties_text.specs.Encoding.{encoding_of};
-ghost use Rattle.java_properties.specs.BodySlots.{FindsFirst, PushesEmpty, PutsKey};
+ghost use Rattle.java_properties.specs.BodySlots.{FindsFirst, Pushes, PutsOrKeeps};
 ghost use Rattle.java_properties.specs.BodySlots.{HoldsSome, IsLastOf, closing_in, stack_at};
 ghost use Rattle.java_properties.specs.BodySlots.Put.{ClosesSlot, FindsNextFirst, Refills};
+ghost use Rattle.java_properties.specs.BodySlots.Put.{HasRoom, HasRoomToClose, KeepsParts};
+ghost use Rattle.java_properties.specs.declared.edit.place.Closing.TheVariants.{TwoEndings};
 
-use crate::edit::lines::ending_bytes;
 use crate::edit::place::{BodySpan, Closing};
 use crate::edit::result::printed_pair;
 use crate::edit::slots::places::{add_place, last_place};
@@ -18,7 +20,8 @@ use properties_text::encoding::Encoding;
 use std::alloc::{AllocError, Global};
 
 impl Slots {
-    /// Puts a pair in the place of the last one with the key, or after all slots.
+    /// Puts a pair in the place of the last one with the key, or after all slots. Where memory runs out, nothing of what
+    /// is left changes.
     pub fn put(
         &mut self,
         alloc: Global,
@@ -28,7 +31,7 @@ impl Slots {
     ) -> Result<(), AllocError>
         requires { HoldsSome self.old }
         ensures { let e = output_encoding (encoding_of encoding) in
-            OnOk result (PutsKey e (chars key.now) (chars value.now) self.old self.new) }
+            PutsOrKeeps e (chars key.now) (chars value.now) self.old result self.new }
     {
         match last_place(&self.places, key) {
             Some(place) => self.replace(alloc, encoding, place, key, value),
@@ -48,7 +51,7 @@ impl Slots {
         requires holds { HoldsSome self.old }
         requires last { IsLastOf (stack_at self.old.places.entries (chars key.now)) (Some place) }
         ensures { let e = output_encoding (encoding_of encoding) in
-            OnOk result (PutsKey e (chars key.now) (chars value.now) self.old self.new) }
+            PutsOrKeeps e (chars key.now) (chars value.now) self.old result self.new }
     {
         let is_first = self.first_left() == place;
         let pair = printed_pair(alloc, encoding, is_first, key, value)?;
@@ -81,21 +84,59 @@ impl Slots {
         requires holds { HoldsSome self.old }
         requires none { IsLastOf (stack_at self.old.places.entries (chars key.now)) None }
         ensures { let e = output_encoding (encoding_of encoding) in
-            OnOk result (PutsKey e (chars key.now) (chars value.now) self.old self.new) }
+            PutsOrKeeps e (chars key.now) (chars value.now) self.old result self.new }
     {
+        self.make_room()?;
         let is_first = self.is_next_first();
         let pair = printed_pair(alloc, encoding, is_first, key, value)?;
         let last = self.slots.len() - 1;
         let place_key = String::from_str(alloc, key)?;
-        self.slots[last].close(self.closing, self.parting)?;
         add_place(alloc, &mut self.places, place_key, last + 1)?;
-        self.push(Slot {
+
+        // There is room for all that follows, so that no step of it fails.
+        self.slots[last].close(self.closing, self.parting);
+        self.push_reserved(Slot {
             kept: BodySpan { start: 0, end: 0 },
             added: pair,
             ending: Some(LineEnding::LF),
             is_left: true,
-        })?;
-        self.push_empty(alloc)
+        });
+        self.push_reserved(Slot {
+            kept: BodySpan { start: 0, end: 0 },
+            added: Vec::new(alloc),
+            ending: None,
+            is_left: true,
+        });
+        self.closing = Closing::Nothing;
+        Ok(())
+    }
+
+    // Room for two slots after all others, and for what closes the last one.
+    fn make_room(&mut self) -> Result<(), AllocError>
+        requires { HoldsSome self.old }
+        ensures kept { KeepsParts self.old self.new }
+        ensures room { OnOk result (HasRoom 2 self.new) }
+        ensures closing { OnOk result (HasRoomToClose self.new) }
+    {
+        self.slots.reserve(2)?;
+        self.links.reserve(2)?;
+        match self.closing {
+            Closing::Nothing | Closing::OneEnding => Ok(()),
+            Closing::TwoEndings => {
+                let last = self.slots.len() - 1;
+                self.slots[last].added.reserve(2)
+            }
+        }
+    }
+
+    // The slot comes last, where there is room for it.
+    fn push_reserved(&mut self, slot: Slot)
+        requires { HasRoom 1 self.old }
+        ensures pushes { Pushes self.old slot self.new }
+        ensures room { (n : ℕ) → HasRoom (n + 1) self.old → HasRoom n self.new }
+    {
+        self.slots.push_reserved(slot);
+        self.links.push_reserved(self.slots.len());
     }
 
     // Whether a pair that comes after the last slot is the first that is left.
@@ -108,20 +149,6 @@ impl Slots {
             Closing::Nothing => first + 1 == self.slots.len(),
             Closing::OneEnding | Closing::TwoEndings => false,
         }
-    }
-
-    /// An empty slot comes last.
-    pub fn push_empty(&mut self, alloc: Global) -> Result<(), AllocError>
-        ensures { OnOk result (PushesEmpty self.old self.new) }
-    {
-        self.push(Slot {
-            kept: BodySpan { start: 0, end: 0 },
-            added: Vec::new(alloc),
-            ending: None,
-            is_left: true,
-        })?;
-        self.closing = Closing::Nothing;
-        Ok(())
     }
 
     /// The first slot that is left.
@@ -137,17 +164,24 @@ impl Slots {
 
 impl Slot {
     // What becomes of the last slot where a pair comes after it.
-    fn close(&mut self, closing: Closing, by: LineEnding) -> Result<(), AllocError>
-        ensures { OnOk result (ClosesSlot (closing_in closing by) self.old self.new) }
+    fn close(&mut self, closing: Closing, by: LineEnding)
+        requires { closing ≡ TwoEndings → vec_len self.old.added + 2 ≤ vec_capacity self.old.added }
+        ensures { ClosesSlot (closing_in closing by) self.old self.new }
     {
         match closing {
             Closing::Nothing => self.is_left = false,
             Closing::OneEnding => self.ending = Some(by),
             Closing::TwoEndings => {
-                self.added.extend_from_slice(ending_bytes(Some(by)))?;
+                match by {
+                    LineEnding::CR => self.added.push_reserved(b'\r'),
+                    LineEnding::LF => self.added.push_reserved(b'\n'),
+                    LineEnding::CRLF => {
+                        self.added.push_reserved(b'\r');
+                        self.added.push_reserved(b'\n');
+                    }
+                }
                 self.ending = Some(by);
             }
         }
-        Ok(())
     }
 }

@@ -1,36 +1,48 @@
 // A key is removed from slots.
 
-ghost use Rattle.std.specs.Prelude.{◌≡◌, ◌<◌, ◌≤◌, ◌++◌, length, OnOk};
+ghost use Rattle.std.specs.Prelude.{◌≡◌, ◌<◌, ◌≤◌, ◌++◌, length};
 ghost use Rattle.std.specs.Str.{chars};
 ghost use Rattle.properties_format.specs.Encoding.{begins_like_bom, begins_with};
 ghost use Rattle.properties_format.specs.Reading.Slots as format;
 ghost use Rattle.java_properties.specs.BodySlots.{Changes, HoldsIn, HoldsSome, left_without, slot_bytes};
-ghost use Rattle.java_properties.specs.BodySlots.Removal.{EndsLeft, FindsNext, Guards, HasPlace, HoldsSomeCells, Leaves, LeavesOut, LeavesPairs, Tells};
+ghost use Rattle.java_properties.specs.BodySlots.Removal.{EmptiesLast, FindsNext, Guards, HasPlace, HoldsSomeCells, Leaves, LeavesOut, LeavesPairs, Tells};
 
-use crate::edit::slots::places::take_places;
+use crate::edit::place::{BodySpan, Closing};
+use crate::edit::slots::places::{last_place, pop_place, take_places};
 use crate::edit::slots::{Slot, Slots};
 use crate::writer::LineEnding;
-use std::alloc::{AllocError, Global};
+use std::alloc::Global;
 
 impl Slots {
     /// Leaves out each pair with the key; `is_marked` says that a byte order mark stands before the body.
-    pub fn remove(
-        &mut self,
-        alloc: Global,
-        body: &[u8],
-        is_marked: bool,
-        key: &str,
-    ) -> Result<(), AllocError>
+    pub fn remove(&mut self, alloc: Global, body: &[u8], is_marked: bool, key: &str)
         requires { HoldsIn body.now self.old }
-        ensures { OnOk result (Changes body.now (left_without is_marked (chars key.now)) self.old self.new) }
+        ensures { Changes body.now (left_without is_marked (chars key.now)) self.old self.new }
     {
+        self.empty_last(alloc, key);
         self.leave_out_pairs(alloc, key);
-        self.end_with_one_left(alloc)?;
         self.guard(body, is_marked);
-        Ok(())
     }
 
-    // Leaves out each pair with the key, and with it the LF of its line ending.
+    // Where the last slot is a pair with the key, an empty slot takes its place.
+    fn empty_last(&mut self, alloc: Global, key: &str)
+        requires { HoldsSome self.old }
+        ensures { EmptiesLast (chars key.now) self.old self.new }
+    {
+        let last = self.slots.len() - 1;
+        if last_place(&self.places, key) == Some(last) {
+            pop_place(&mut self.places, key);
+            self.slots[last] = Slot {
+                kept: BodySpan { start: 0, end: 0 },
+                added: Vec::new(alloc),
+                ending: None,
+                is_left: true,
+            };
+            self.closing = Closing::Nothing;
+        }
+    }
+
+    // Leaves out each pair with the key, and with it the LF of its line ending. The last slot is not one of them.
     fn leave_out_pairs(&mut self, alloc: Global, key: &str)
         requires { HoldsSome self.old }
         ensures { LeavesPairs (chars key.now) self.old self.new }
@@ -39,18 +51,6 @@ impl Slots {
         for place in &places {
             self.leave_out(*place);
         }
-    }
-
-    // Where the last slot is left out, an empty one comes after it.
-    fn end_with_one_left(&mut self, alloc: Global) -> Result<(), AllocError>
-        requires { 0 < length self.old.slots.items }
-        ensures { OnOk result (EndsLeft self.old self.new) }
-    {
-        let last = self.slots.len() - 1;
-        if !self.slots[last].is_left {
-            self.push_empty(alloc)?;
-        }
-        Ok(())
     }
 
     // An LF comes before slots that begin like a byte order mark, where none stands before them.

@@ -1,8 +1,10 @@
-use Rattle.std.proofs.Common.{List, ℕ, sym, ap, ◌∙◌, take, subst, rules}
+use Rattle.std.proofs.Common.{List, ℕ, ◌++◌, sym, ap, ◌∙◌, take, subst, rules}
 use Rattle.std.specs.Str.{chars}
 use Rattle.std.proofs.lemmas.Str.{chars-nil, chars_past_char}
 use Rattle.std.proofs.lemmas.List.{nil_from_length}
 use Rattle.properties_text.specs.Encoding.{EncodesFront}
+use Rattle.properties_text.specs.Printing.{text_bytes, all_of_windows_1252}
+use Rattle.properties_text.specs.declared.print.Place.TheVariants.{KeyOrValue}
 use Rattle.properties_text.proofs.Printing.Bytes.{run-last, run-more}
 use Rattle.properties_text.proofs.print.print_runs.Goals as goal
 
@@ -22,9 +24,9 @@ loop-characters-preserved c =
     let text = chars c.loop-characters.rest.now in
     let after = c.next.new.self.rest.now in
     let parts = chars_past_char run.result.rest.now after c.in-Some.character run.ensures.is_text (sym c.chars-characters.ensures.rest ∙ c.in-Some.ensures.steps.0) in
-    let E : List ℕ → Type 0 = EncodesFront text bytes in (
+    let E : List ℕ → Type 0 = EncodesFront text bytes in
+    let printed = run-more c.loop-characters.line c.print_bytes.new.line c.print_in_key_or_value.new.line _ text bytes (chars after) c.in-Some.character c.loop-characters.invariant.1
+    (subst E parts run.ensures.encoded) c.in_ok-print_bytes.ensures c.in_ok-print_in_key_or_value-in-Some.ensures in (
       search rules,
-      rw c.as_str-rest.ensures
-          (run-more c.loop-characters.line c.print_bytes.new.line c.print_in_key_or_value.new.line _ text bytes (chars after) c.in-Some.character c.loop-characters.invariant.1
-          (subst E parts run.ensures.encoded) c.in_ok-print_bytes.ensures c.in_ok-print_in_key_or_value-in-Some.ensures),
+      c.in_ok-rest-in-Some.ensures.printed ∙ ap (λ v. c.print_in_key_or_value.new.line ++ text_bytes all_of_windows_1252 KeyOrValue (chars v)) c.as_str.ensures ∙ printed,
     )

@@ -20,7 +20,7 @@ loop-found-init g c =
 pub returns-in-Err-clause-filters : goal.returns-in-Err-clause-filters
 returns-in-Err-clause-filters g c =
     let stopped = (rw c.in-Err.is at c.in-Some.ensures.gives).0 in
-    stops-reading c.flush.new.self c.flush.result c.loop-found.invariant.passed stopped.0 (compute-error {new = c.advance.new.self.state} stopped.2) c.flush.ensures.flushes
+    stops-reading c.flush.new.self c.flush.result c.loop-found.invariant.passed stopped.0 (compute-error stopped.2) c.flush.ensures.flushes
 
 pub returns-clause-filters : goal.returns-clause-filters
 returns-clause-filters g c =

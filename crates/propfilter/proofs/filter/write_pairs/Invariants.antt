@@ -1,5 +1,5 @@
 use Rattle.counted_io.specs.Streams.{reader, sink, IsSameReader, IsSameSink}
-use Rattle.java_properties.specs.LineFinder.{lines_left}
+use Rattle.properties_lines.specs.LineFinder.{lines_left}
 use Rattle.propfilter.proofs.Filtering.{HasPassed}
 use Rattle.propfilter.proofs.filter.write_pairs.Given as goal
 

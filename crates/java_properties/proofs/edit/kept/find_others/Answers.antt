@@ -4,7 +4,7 @@ use Rattle.std.specs.Str.{chars}
 use Rattle.properties_text.specs.Encoding.{encoding_of}
 use Rattle.java_properties.proofs.BodyKeys.{HasKept, counted, read-fault, kept-none, kept-removed, kept-more, kept-all, editable-bytes}
 use Rattle.java_properties.specs.BodyGroups.{IsWithin}
-use Rattle.java_properties.specs.LineSearch.{unit_size}
+use Rattle.properties_lines.specs.LineSearch.{unit_size}
 use Rattle.java_properties.specs.declared.edit.groups.GroupReader.{GroupReader}
 use Rattle.java_properties.proofs.edit.kept.find_others.Goals as goal
 

@@ -4,7 +4,7 @@ use Rattle.properties_format.specs.ItemsToCome.{ReaderState}
 use Rattle.counted_io.specs.Streams.{reader}
 use Rattle.properties_text.specs.Encoding.{encoding_of}
 use Rattle.java_properties.specs.ReadLines.{entries_in, StopsEarly}
-use Rattle.java_properties.specs.LineJoiner.{Joiner}
+use Rattle.properties_lines.specs.LineJoiner.{Joiner}
 use Rattle.java_properties.specs.PropertiesIter.{entry_of}
 use Rattle.std.proofs.lemmas.List.{map-append}
 use Rattle.java_properties.proofs.Readings.{Collected, collected-start, collected-next, collected-none, collected-lost, collected-malformed, collected-error}

@@ -3,7 +3,7 @@ use Rattle.std.proofs.lemmas.Result.{err_from_is_err_and}
 use Rattle.properties_format.specs.ItemsToCome.{ReaderState}
 use Rattle.properties_text.specs.Encoding.{encoding_of}
 use Rattle.counted_io.specs.Streams.{reader}
-use Rattle.java_properties.specs.LineJoiner.{Joiner}
+use Rattle.properties_lines.specs.LineJoiner.{Joiner}
 use Rattle.java_properties.proofs.TextMaps.Reading.{HasPassed, passed-none, passed-more, passed-lost, passed-error, passed-all}
 use Rattle.java_properties.proofs.maps.sorted.read_sorted.Goals as goal
 

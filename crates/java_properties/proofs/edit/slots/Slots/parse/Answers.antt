@@ -3,7 +3,7 @@ use Rattle.std.proofs.lemmas.Result.{err_from_is_err_and}
 use Rattle.std.specs.Option.{option_map}
 use Rattle.properties_text.specs.Encoding.{encoding_of}
 use Rattle.java_properties.specs.BodyGroups.{IsWithin}
-use Rattle.java_properties.specs.LineSearch.{unit_size}
+use Rattle.properties_lines.specs.LineSearch.{unit_size}
 use Rattle.java_properties.specs.Maps.{characters}
 use Rattle.java_properties.proofs.BodyKeys.{counted, editable-bytes, read-fault}
 use Rattle.java_properties.proofs.BodySlots.Parsed.{IsReadTo, parsed-none, parsed-more, parsed-all}

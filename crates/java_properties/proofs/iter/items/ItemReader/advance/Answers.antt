@@ -3,10 +3,10 @@ use Rattle.std.specs.Str.{chars}
 use Rattle.properties_format.specs.Reading.Items.{outcome_of}
 use Rattle.properties_format.specs.ItemsToCome.{ReaderState}
 use Rattle.counted_io.specs.Streams.{reader}
-use Rattle.java_properties.specs.LineFinder.{lines_left}
-use Rattle.java_properties.specs.LineJoiner.{Joiner}
+use Rattle.properties_lines.specs.LineFinder.{lines_left}
+use Rattle.properties_lines.specs.LineJoiner.{Joiner}
 use Rattle.java_properties.specs.LentItems.{found_content, IsFoundIn}
-use Rattle.java_properties.proofs.LineJoiner.{joins-plain, not-plain}
+use Rattle.properties_lines.proofs.LineJoiner.{joins-plain, not-plain}
 use Rattle.java_properties.proofs.Items.{Passed, passed-start, found-item, gives-item, passed-blank, passed-finds, plain-blank}
 use Rattle.java_properties.proofs.iter.items.ItemReader.advance.Goals as goal
 

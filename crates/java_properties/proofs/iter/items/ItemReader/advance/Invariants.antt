@@ -1,6 +1,6 @@
 use Rattle.std.proofs.Common.{◌≤◌, ℕ, List}
 use Rattle.counted_io.specs.Streams.{reader, IsSameReader}
-use Rattle.java_properties.specs.LineFinder.{lines_left}
+use Rattle.properties_lines.specs.LineFinder.{lines_left}
 use Rattle.java_properties.proofs.Items.{Passed}
 use Rattle.java_properties.proofs.iter.items.ItemReader.advance.Given as goal
 

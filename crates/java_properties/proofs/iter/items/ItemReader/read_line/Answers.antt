@@ -2,7 +2,7 @@ use Rattle.std.proofs.Common.{◌≡◌, sym, ap, subst, List, ℕ, []}
 use Rattle.std.specs.Str.{chars}
 use Rattle.properties_format.specs.ItemsToCome.{ReaderState}
 use Rattle.counted_io.specs.Streams.{reader}
-use Rattle.java_properties.specs.LineJoiner.{Joiner}
+use Rattle.properties_lines.specs.LineJoiner.{Joiner}
 use Rattle.java_properties.specs.LentItems.{found_content, IsFoundIn}
 use Rattle.java_properties.specs.GivenItems.{IsNoItem}
 use Rattle.java_properties.proofs.Items.{Passed, passed-start, passed-none, passed-no_item, gives-item, found-item}
@@ -38,5 +38,5 @@ returns-in-Err-clause-comes g c =
     let Q : List ℕ → Type 0 = λ v. IsNoItem c.in-Some-Ok.number (chars v) c.unresolved.result in
     let none = subst Q c.line-line.ensures (c.in-Err.ensures c.in-Some-Ok.number c.unresolved.result c.unresolved.ensures) in
     let done = ap (λ v. let w : Joiner = v in w.state.is_done) c.end.ensures in
-    let k = passed-no_item c.in-Some-Ok.number c.next_line.new.self c.end.new.self.state start next none in
+    let k = passed-no_item c.in-Some-Ok.number c.next_line.new.self start next none in
     (k.0, done, k.1)

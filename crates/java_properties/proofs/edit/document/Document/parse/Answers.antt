@@ -1,0 +1,68 @@
+use Rattle.std.specs.Prelude.{[]}
+use Rattle.std.proofs.lemmas.List.{take_rest}
+use Rattle.std.proofs.lemmas.Result.{err_from_is_err_and}
+use Rattle.properties_format.specs.Edited.{IsEditAllResult}
+use Rattle.properties_format.specs.Reading.Edited.{edits_made}
+use Rattle.properties_format.proofs.Edited.Results.{edit_all_result-meets}
+use Rattle.properties_text.specs.Encoding.{encoding_of}
+use Rattle.java_properties.specs.declared.edit.document.Document.TheInside.{Inside}
+use Rattle.java_properties.proofs.BodyDocuments.Edits.{IsOpened, opens-document}
+use Rattle.java_properties.proofs.Editing.{refusal, splitting}
+use Rattle.java_properties.proofs.edit.document.Document.parse.Goals as goal
+
+pub returns-in_err-opened-clause-splitting : goal.returns-in_err-opened-clause-splitting
+returns-in_err-opened-clause-splitting c = splitting (encoding_of c.args.encoding) c.args.source.now
+
+pub returns-in_err-slots-clause-opens : goal.returns-in_err-slots-clause-opens
+returns-in_err-slots-clause-opens c =
+    let e = encoding_of c.args.encoding in
+    let source = c.args.source.now in
+    let opened = c.in_ok-opened in
+    let error = err_from_is_err_and c.from_residual-in_err-slots.result c.from_residual-in_err-slots.ensures.1 in
+    let fault = rw (take_rest source opened.opened.start) at c.in_err-slots.ensures in
+    rw (error.1, error.2) (refusal (IsEditAllResult e source []) (edits_made e source []) opened.ensures.0 opened.ensures.1
+    (edit_all_result-meets e source []) (λ none. none) fault)
+
+pub returns-in_err-slots-clause-splitting : goal.returns-in_err-slots-clause-splitting
+returns-in_err-slots-clause-splitting c = splitting (encoding_of c.args.encoding) c.args.source.now
+
+pub returns-in_err-to_vec-clause-splitting : goal.returns-in_err-to_vec-clause-splitting
+returns-in_err-to_vec-clause-splitting c = splitting (encoding_of c.args.encoding) c.args.source.now
+
+-- the document that is made
+document : goal.In_ok-to_vec → Inside
+document c =
+    record {
+      alloc = c.args.alloc;
+      source = c.in_ok-to_vec.field-0;
+      encoding = c.args.encoding;
+      opened = c.in_ok-opened.opened;
+      slots = c.in_ok-slots.slots;
+      values = c.in_ok-slots.values;
+    }
+
+is-opened : (c : goal.In_ok-to_vec) → IsOpened (document c) c.args.source.now
+unfolding document
+is-opened c =
+    let source = c.args.source.now in
+    let opened = c.in_ok-opened in
+    let parsed = rw (take_rest source opened.opened.start) at c.in_ok-slots.ensures in
+    opens-document (document c) source (c.in_ok-to_vec.ensures.items_if_clones_equal (λ x y same. same)) (record {
+      in_force = opened.ensures.0;
+      editable = opened.ensures.1;
+      sound = parsed.0.0;
+      slots = parsed.0.1;
+      is_map = parsed.1;
+      ordered = parsed.2;
+    })
+
+pub invariant_of-result : goal.invariant_of-result
+unfolding document
+invariant_of-result c = let is = is-opened c in is.document
+
+pub returns-clause-opens : goal.returns-clause-opens
+unfolding document
+returns-clause-opens c = let is = is-opened c in (is.same, is.made)
+
+pub returns-clause-splitting : goal.returns-clause-splitting
+returns-clause-splitting c = splitting (encoding_of c.args.encoding) c.args.source.now

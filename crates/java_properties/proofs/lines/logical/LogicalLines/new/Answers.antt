@@ -1,6 +1,0 @@
-use Rattle.std.proofs.Common.{refl}
-use Rattle.java_properties.proofs.JoinedRuns.{joins_all}
-use Rattle.java_properties.proofs.lines.logical.LogicalLines.new.Goals as goal
-
-pub returns-clause-joins : goal.returns-clause-joins
-returns-clause-joins g c = joins_all g.I.Iterator.next_gives _ refl

@@ -1,0 +1,124 @@
+// A source that stays open for edits.
+
+ghost use Rattle.std.specs.Prelude.{◌≡◌, IfOk};
+ghost use Rattle.std.specs.Option.{option_map};
+ghost use Rattle.std.specs.Str.{chars};
+ghost use Rattle.properties_format.specs.Laws.{SplittingCommutes};
+ghost use Rattle.properties_text.specs.Encoding.{encoding_of};
+ghost use Rattle.java_properties.specs.Documents.{HasValueAt, OpensDocument, PutsInto, RemovesFrom};
+
+use crate::edit::slots::Slots;
+use crate::edit::source::Source;
+use crate::edit::values::{put_value, restore_value};
+use crate::error::PropertiesError;
+use properties_text::encoding::Encoding;
+use std::alloc::{AllocError, Global};
+use std::collections::BTreeMap;
+use std::marker::Model;
+
+/// A source that stays open for edits.
+///
+/// For a program that changes keys one at a time and looks at values in between, as an editor with a window does: `get`,
+/// `put` and `remove` don't read the source again. What is removed keeps its memory until the document is dropped. For
+/// a list of edits that is known beforehand, [`edit_all`](crate::edit_all) needs less.
+///
+/// ```text
+/// let mut document = Document::parse(alloc, b"# the front door\nport = 80\n", Encoding::UTF_8)?;
+/// assert_eq!(rt; document.get("port"), Some("80"));
+/// document.put("port", "8080")?;
+/// document.remove("host");
+/// let bytes = document.to_bytes(alloc)?;
+/// // They are `# the front door`, a line feed, `port=8080` and a line feed.
+/// ```
+#[derive(Drop)]
+pub struct Document {
+    alloc: Global,
+    source: Vec<u8>,
+    // The encoding that was asked for, of which contracts speak. No code reads it.
+    encoding: Encoding,
+    // What is in force.
+    opened: Source,
+    slots: Slots,
+    // The value of each key.
+    values: BTreeMap<String, String>,
+}
+
+impl Model for Document {
+    ghost use Rattle.java_properties.specs.Documents.{OpenDocument};
+
+    ghost Value = { OpenDocument };
+
+    ghost use Rattle.java_properties.specs.BodyDocuments.{open_document, IsDocument};
+
+    ghost view = { open_document };
+
+    ghost invariant = { IsDocument };
+}
+
+impl Document {
+    /// Opens a copy of a source.
+    ///
+    /// UTF-16 is refused, and so is a source with a malformed escape anywhere: the error is the one that reading the
+    /// source would return.
+    pub fn parse(
+        alloc: Global,
+        source: &[u8],
+        encoding: Encoding,
+    ) -> Result<Document, PropertiesError>
+        ensures opens { OpensDocument (encoding_of encoding) source.now result }
+        ensures splitting { SplittingCommutes (encoding_of encoding) source.now }
+    {
+        let opened = Source::open(source, encoding)?;
+        let (slots, values) = Slots::parse_with_values(
+            alloc,
+            opened.encoding,
+            &source[opened.start..],
+        )?;
+        Ok(Document {
+            alloc,
+            source: source.to_vec(alloc)?,
+            encoding,
+            opened,
+            slots,
+            values,
+        })
+    }
+
+    /// The value of a key: that of the last pair with it, or none where no pair has it.
+    pub fn get(&self, key: &str) -> Option<&str>
+        ensures { HasValueAt self.now (chars key.now) (option_map (λ value. chars value.now) result) }
+    {
+        Some(self.values.get(key)?.as_str())
+    }
+
+    /// Sets a key to a value, as [`set_key`](crate::set_key) does. Where memory runs out, nothing changes.
+    pub fn put(&mut self, key: &str, value: &str) -> Result<(), AllocError>
+        ensures { PutsInto (chars key.now) (chars value.now) self.old result self.new }
+    {
+        let before = put_value(self.alloc, &mut self.values, key, value)?;
+        match self.slots.put(self.alloc, self.opened.encoding, key, value) {
+            Ok(()) => Ok(()),
+            Err(error) => {
+                restore_value(&mut self.values, key, before);
+                Err(error)
+            }
+        }
+    }
+
+    /// Removes a key, as [`remove_key`](crate::remove_key) does. It takes no memory.
+    pub fn remove(&mut self, key: &str)
+        ensures { RemovesFrom (chars key.now) self.old self.new }
+    {
+        let is_marked = self.opened.start != 0;
+        let body = &self.source[self.opened.start..];
+        self.slots.remove(self.alloc, body, is_marked, key);
+        self.values.remove(key);
+    }
+
+    /// The file after the edits: what wasn't edited stands as it was.
+    pub fn to_bytes(&self, alloc: Global) -> Result<Vec<u8>, AllocError>
+        ensures { IfOk result (λ bytes. bytes.items ≡ self.now.bytes) }
+    {
+        self.slots.to_bytes(alloc, &self.source, self.opened.start)
+    }
+}

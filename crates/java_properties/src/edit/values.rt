@@ -1,0 +1,66 @@
+// The values of keys that stay open.
+
+ghost use Rattle.std.specs.Prelude.{◌≡◌, ℕ, List, IfOk, OnOk, bytes_eq, true, if◌then◌else◌};
+ghost use Rattle.std.specs.Option.{is_some, option_map};
+ghost use Rattle.std.specs.Str.{chars};
+ghost use Rattle.std.specs.String.{string_cmp};
+ghost use Rattle.std.specs.BTreeMap.{IsOrdered};
+ghost use Rattle.java_properties.specs.Maps.{characters, value_at};
+ghost use Rattle.java_properties.specs.BodyDocuments.{KeepsValue, PutsValue, pair_characters};
+
+use std::alloc::{AllocError, Global};
+use std::collections::BTreeMap;
+
+/// Keeps the value of a pair, where there is one, and returns a copy of its key.
+pub fn keep_value(
+    alloc: Global,
+    values: &mut BTreeMap<String, String>,
+    pair: Option<(String, String)>,
+) -> Result<Option<String>, AllocError>
+    requires { IsOrdered string_cmp values.old }
+    ensures kept { IfOk result (λ key. KeepsValue (option_map pair_characters pair) values.old.entries values.new.entries key) }
+    ensures ordered { IsOrdered string_cmp values.new }
+{
+    let Some((key, value)) = pair else {
+        return Ok(None);
+    };
+    let copy = String::from_str(alloc, key.as_str())?;
+    values.insert(key, value)?;
+    Ok(Some(copy))
+}
+
+/// Puts a value under a key, and returns the one that stood there.
+pub fn put_value(
+    alloc: Global,
+    values: &mut BTreeMap<String, String>,
+    key: &str,
+    value: &str,
+) -> Result<Option<String>, AllocError>
+    requires { IsOrdered string_cmp values.old }
+    ensures put { PutsValue (chars key.now) (chars value.now) values.old.entries result values.new.entries }
+    ensures ordered { IsOrdered string_cmp values.new }
+{
+    let value = String::from_str(alloc, value)?;
+    let key = String::from_str(alloc, key)?;
+    Ok(values.insert(key, value)?)
+}
+
+/// Puts back what stood under a key, or nothing where nothing did.
+pub fn restore_value(values: &mut BTreeMap<String, String>, key: &str, before: Option<String>)
+    requires ordered { IsOrdered string_cmp values.old }
+    requires there { is_some (value_at values.old.entries (chars key.now)) ≡ true }
+    ensures restored { (k : List ℕ) → value_at values.new.entries k
+        ≡ (if bytes_eq k (chars key.now) then option_map characters before else value_at values.old.entries k) }
+    ensures ordered { IsOrdered string_cmp values.new }
+{
+    match before {
+        None => {
+            values.remove(key);
+        }
+        Some(before) => {
+            if let Some(value) = values.get_mut(key) {
+                *value = before;
+            }
+        }
+    }
+}

@@ -1,0 +1,7 @@
+mod InputBuffer
+pub mod LineFinder
+pub mod PlainLines
+pub mod LineSearch
+pub mod LineJoiner
+pub mod Joining
+pub mod JoinedRuns

@@ -1,0 +1,21 @@
+use Rattle.std.proofs.Common.{arith}
+use Rattle.properties_lines.proofs.LineSearch.{searched-hit, searched-last, searched-all, found-unit, searched-past}
+use Rattle.properties_lines.proofs.search.search_units.Goals as goal
+
+pub returns-then-bytes-at-lt2 : goal.returns-then-bytes-at-lt2
+returns-then-bytes-at-lt2 c =
+    let s = searched-hit _ c.args.bytes.now c.hits.searched c.in-Some.hit c.requires.size c.hits.invariant c.in-Some.ensures.0 in
+    searched-last _ c.args.bytes.now _ c.requires.size s c.if-bytes-at-lt2.true
+
+pub returns-in-Some-line_end_unit : goal.returns-in-Some-line_end_unit
+returns-in-Some-line_end_unit c =
+    let s = searched-hit _ c.args.bytes.now c.hits.searched c.in-Some.hit c.requires.size c.hits.invariant c.in-Some.ensures.0 in
+    found-unit _ c.args.bytes.now _ s (omega arith) c.in-Some-line_end_unit.ensures
+
+pub hits-preserved : goal.hits-preserved
+hits-preserved c =
+    let s = searched-hit _ c.args.bytes.now c.hits.searched c.in-Some.hit c.requires.size c.hits.invariant c.in-Some.ensures.0 in
+    searched-past _ c.args.bytes.now _ c.requires.size s (omega arith) c.in_default-line_end_unit.ensures
+
+pub returns : goal.returns
+returns c = searched-all _ c.args.bytes.now c.hits.searched c.hits.invariant c.in_default.ensures

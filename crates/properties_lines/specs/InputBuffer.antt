@@ -1,0 +1,40 @@
+-- What a read into the buffer of undecoded bytes does.
+use Rattle.std.specs.Prelude.{◌≡◌, ℕ, ◌+◌, ◌≤◌, true, List, [], ◌++◌, length, take, Result, Ok, Err}
+use Rattle.std.specs.declared.io.Error.{Error}
+use Rattle.counted_io.specs.Streams.{Reader, HasRead, HasFailed}
+use Rattle.properties_lines.specs.declared.input.FillError.{FillError}
+use Rattle.properties_lines.specs.declared.input.FillError.TheVariants.{Memory, Io}
+
+-- the bytes that are held, how many were taken before them, and for how many there is room after them
+pub record Buffer : Type 0 where
+  pub held : List ℕ
+  pub taken : ℕ
+  pub room : ℕ
+
+-- these bytes were read, and are held after the others; where there are none, the reader is at its end
+pub record HasFilled {R : Type 0} (reader : Reader R) (held : List ℕ) (old : R) (held' : List ℕ) (new : R) (count : ℕ) : Type 0 where
+  pub bytes : List ℕ
+  pub read : HasRead reader old bytes new
+  pub added : held' ≡ held ++ bytes
+  pub counted : count ≡ length bytes
+  pub ended : bytes ≡ [] → reader.at_end new ≡ true
+
+-- One read: its bytes are held after those that were, or it failed, or there was no room for it, and nothing was read.
+abbrev pub Fills : {R : Type 0} → Reader R → List ℕ → R → Result ℕ FillError → List ℕ → R → Type 0
+Fills reader held old (Ok count) held' new = HasFilled reader held old held' new count
+Fills reader held old (Err (Memory e)) held' new = (held' ≡ held) × (new ≡ old)
+Fills reader held old (Err (Io e)) held' new = (held' ≡ held) × HasFailed reader old [] e new
+
+-- this many bytes were read, and stand from the place on
+pub record HasReadAt {R : Type 0} (reader : Reader R) (place : ℕ) (buffer : List ℕ) (old : R) (count : ℕ) (buffer' : List ℕ) (new : R) : Type 0 where
+  pub bytes : List ℕ
+  pub read : HasRead reader old bytes new
+  pub front : take (place + count) buffer' ≡ take place buffer ++ bytes
+  pub counted : count ≡ length bytes
+  pub within : place + count ≤ length buffer
+  pub ended : bytes ≡ [] → reader.at_end new ≡ true
+
+-- one read into the room from a place of a buffer on
+abbrev pub ReadsAt : {R : Type 0} → Reader R → ℕ → List ℕ → R → Result ℕ Error → List ℕ → R → Type 0
+ReadsAt reader place buffer old (Ok count) buffer' new = HasReadAt reader place buffer old count buffer' new
+ReadsAt reader place buffer old (Err e) buffer' new = (take place buffer' ≡ take place buffer) × HasFailed reader old [] e new

@@ -1,0 +1,8 @@
+pub mod InputBuffer
+pub mod LineSearch
+pub mod PlainLines
+pub mod LineFinder
+pub mod LineTexts
+pub mod LineJoiner
+pub mod NaturalLines
+pub mod Joining

@@ -1,0 +1,26 @@
+// Why no line comes.
+
+ghost use Rattle.std.specs.Prelude.{◌≡◌};
+ghost use Rattle.properties_lines.specs.declared.error.LineError.TheVariants.{Memory};
+
+use std::alloc::AllocError;
+use std::io;
+
+/// Why no line comes.
+#[derive(Debug, Drop)]
+pub enum LineError {
+    /// A read failed in the line of this number.
+    Io(usize, io::Error),
+    /// A line has no number, since `usize::MAX` lines stand before it.
+    TooManyLines,
+    /// Memory ran out.
+    Memory,
+}
+
+impl From<AllocError> for LineError {
+    ghost from_gives = { λ _ e. e ≡ Memory };
+
+    fn from(_: AllocError) -> LineError {
+        LineError::Memory
+    }
+}

@@ -1,0 +1,169 @@
+// The search for line ends among undecoded bytes.
+
+ghost use Rattle.std.specs.Prelude.{◌≡◌, ◌≤◌, length, take, map};
+ghost use Rattle.std.specs.Simd.Lanes.{mask_l};
+ghost use Rattle.memchr.specs.Find.{IsFirst, Passes};
+ghost use Rattle.properties_format.specs.Text.{is_line_end};
+ghost use Rattle.properties_format.specs.Lines.{HoldsNoLineEnd};
+ghost use Rattle.properties_text.specs.Encoding.{encoding_of};
+ghost use Rattle.properties_lines.specs.LineSearch.{unit_size, whole_units, IsSearched, IsLineEndUnit};
+ghost use Rattle.properties_lines.specs.LineSearch.{FindsLineEnd, FindsLineEndByte};
+
+use memchr::memchr2;
+use properties_text::encoding::Encoding;
+use std::simd::prelude::*;
+
+// Up to how many bytes away this search looks for a line end. Past that, a search by larger steps pays.
+const NEAR: usize = 128;
+
+// The line end with these low four bits, or else a byte with other low bits.
+static LINE_ENDS: [u8; 16] = [1, 0, 0, 0, 0, 0, 0, 0, 0, 0, b'\n', 0, 0, b'\r', 0, 0];
+
+/// Where a line end stands among undecoded bytes.
+#[derive(Clone, Copy, Debug, PartialEq, Eq)]
+pub struct LineEnd {
+    /// The place of its first byte.
+    pub at: usize,
+    /// Whether it is a CR. An LF may come after it and be of the same line end.
+    pub is_cr: bool,
+}
+
+/// How many bytes a unit is.
+pub fn unit_size(encoding: Encoding) -> usize
+    ensures { result ≡ unit_size (encoding_of encoding) }
+{
+    match encoding {
+        Encoding::WINDOWS_1252 | Encoding::UTF_8 => 1,
+        Encoding::UTF_16LE | Encoding::UTF_16BE => 2,
+    }
+}
+
+/// How many of so many bytes are whole units.
+///
+/// Where a search found no line end among them, the next goes on from there, over these bytes and more.
+pub fn whole_units(encoding: Encoding, length: usize) -> usize
+    ensures { result ≡ whole_units (encoding_of encoding) length }
+{
+    length - length % unit_size(encoding)
+}
+
+/// The first CR or LF among the units of the bytes. Those before `from` are whole units that hold none.
+#[inline(always)]
+pub fn find_line_end(encoding: Encoding, bytes: &[u8], from: usize) -> Option<LineEnd>
+    requires { IsSearched (encoding_of encoding) bytes.now from }
+    ensures { FindsLineEnd (encoding_of encoding) bytes.now result }
+{
+    match encoding {
+        Encoding::WINDOWS_1252 | Encoding::UTF_8 => find_in_bytes(bytes, from),
+        Encoding::UTF_16LE | Encoding::UTF_16BE => find_in_units(encoding, bytes, from),
+    }
+}
+
+// The first CR or LF where a unit is one byte.
+#[inline(always)]
+fn find_in_bytes(bytes: &[u8], from: usize) -> Option<LineEnd>
+    requires within { from ≤ length bytes.now }
+    requires none_before { HoldsNoLineEnd (take from bytes.now) }
+    ensures { FindsLineEndByte bytes.now result }
+{
+    let at = find_end_byte(bytes, from)?;
+    let is_cr = bytes[at] == b'\r';
+    Some(LineEnd { at, is_cr })
+}
+
+// The first CR or LF where a unit is two bytes: a byte like one counts only in a unit whose other byte is zero.
+#[inline(never)]
+fn find_in_units(encoding: Encoding, bytes: &[u8], from: usize) -> Option<LineEnd>
+    requires size { unit_size (encoding_of encoding) ≡ 2 }
+    requires searched { IsSearched (encoding_of encoding) bytes.now from }
+    ensures { FindsLineEnd (encoding_of encoding) bytes.now result }
+{
+    let near = from + (bytes.len() - from).min(NEAR);
+    let mut searched = from;
+    while near - searched >= 16 {
+        let bits = line_end_bits(u8x16::from_slice(&bytes[searched..]));
+        if bits == 0 {
+            searched += 16;
+            continue;
+        }
+        let hit = searched + bits.trailing_zeros() as usize;
+        let unit = hit - hit % 2;
+        if let Some(is_cr) = line_end_unit(encoding, bytes[unit], bytes[unit + 1]) {
+            return Some(LineEnd { at: unit, is_cr });
+        }
+        searched = unit + 2;
+    }
+    search_units(encoding, bytes, searched)
+}
+
+// The same, past the blocks that are near.
+#[inline(never)]
+fn search_units(encoding: Encoding, bytes: &[u8], from: usize) -> Option<LineEnd>
+    requires size { unit_size (encoding_of encoding) ≡ 2 }
+    requires searched { IsSearched (encoding_of encoding) bytes.now from }
+    ensures { FindsLineEnd (encoding_of encoding) bytes.now result }
+{
+    let mut searched = from;
+    'hits: while let Some(hit) = find_end_byte(bytes, searched) {
+        let at = hit - hit % 2;
+        if bytes.len() - at < 2 {
+            return None;
+        }
+        if let Some(is_cr) = line_end_unit(encoding, bytes[at], bytes[at + 1]) {
+            return Some(LineEnd { at, is_cr });
+        }
+        searched = at + 2;
+    }
+    None
+}
+
+// The place of the first byte like a CR or an LF, from this place on. Where it is near, and not among the last bytes, it is
+// found without a call.
+#[inline]
+fn find_end_byte(bytes: &[u8], from: usize) -> Option<usize>
+    requires { from ≤ length bytes.now }
+    ensures { IsFirst (Passes is_line_end bytes.now) from (length bytes.now) result }
+{
+    let mut at = from;
+    while at - from < NEAR && bytes.len() - at >= 16 {
+        let bits = line_end_bits(u8x16::from_slice(&bytes[at..]));
+        if bits != 0 {
+            return Some(at + bits.trailing_zeros() as usize);
+        }
+        at += 16;
+    }
+    search_end_byte(bytes, at)
+}
+
+// Bit i is set where byte i is a CR or an LF.
+#[inline(always)]
+fn line_end_bits(v: u8x16) -> u64
+    ensures { result ≡ mask_l (map is_line_end v) }
+{
+    let low = v & u8x16::splat(15);
+    let ends = u8x16::from_array(LINE_ENDS).swizzle_dyn(low);
+    v.simd_eq(ends).to_bitmask()
+}
+
+fn search_end_byte(bytes: &[u8], from: usize) -> Option<usize>
+    requires { from ≤ length bytes.now }
+    ensures { IsFirst (Passes is_line_end bytes.now) from (length bytes.now) result }
+{
+    let offset = memchr2(b'\n', b'\r', &bytes[from..])?;
+    Some(from + offset)
+}
+
+// Whether a unit of two bytes is a CR, where it is a line end.
+fn line_end_unit(encoding: Encoding, first: u8, second: u8) -> Option<bool>
+    requires { unit_size (encoding_of encoding) ≡ 2 }
+    ensures { IsLineEndUnit (encoding_of encoding) first second result }
+{
+    match (encoding, first, second) {
+        (Encoding::UTF_16LE, b'\n', 0) | (Encoding::UTF_16BE, 0, b'\n') => Some(false),
+        (Encoding::UTF_16LE, b'\r', 0) | (Encoding::UTF_16BE, 0, b'\r') => Some(true),
+        _ => None,
+    }
+}
+
+#[cfg(test)]
+mod tests;

@@ -1,0 +1,18 @@
+use Rattle.std.proofs.Common.{◌≡◌, ◌≤◌, ◌++◌, length}
+use Rattle.std.specs.Str.{chars}
+use denote.Text.{Utf8}
+use denote.Shadow.{shadow}
+use Rattle.properties_text.specs.Printing.{text_bytes, all_of_windows_1252}
+use Rattle.properties_text.specs.declared.print.Place.TheVariants.{KeyOrValue}
+use Rattle.properties_text.proofs.print.print_lacking.Given as goal
+
+-- What was printed so far and what the rest is printed to are what the text is printed to.
+abbrev pub invariant-loop-character : goal.invariant-loop-character
+invariant-loop-character l = record {
+  utf8 : shadow (Utf8 l.rest);
+  printed : l.line ++ text_bytes all_of_windows_1252 KeyOrValue (chars l.rest) ≡ l.fn.line ++ text_bytes all_of_windows_1252 KeyOrValue (chars l.text);
+  left : length l.rest ≤ length l.text;
+}
+
+abbrev pub decreases-loop-character : goal.decreases-loop-character
+decreases-loop-character l = length l.rest

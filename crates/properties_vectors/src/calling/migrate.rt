@@ -1,0 +1,45 @@
+// A program that brings the settings file of an earlier version to the names of this one.
+
+use java_properties::{Document, Encoding, PropertiesError};
+use std::alloc::{AllocError, Global};
+
+/// The file with the names of this version: `server.port` is called `port`, and `debug` is gone. Where `retries` has no
+/// value, it gets one. Comments and all other lines stay.
+pub fn migrate(alloc: Global, file: &[u8]) -> Result<Vec<u8>, PropertiesError> {
+    let mut document = Document::parse(alloc, file, Encoding::UTF_8)?;
+    rename(alloc, &mut document, "server.port", "port")?;
+    document.remove("debug");
+    if document.get("retries").is_none() {
+        document.put("retries", "3")?;
+    }
+    Ok(document.to_bytes(alloc)?)
+}
+
+// Puts the value of a key under another key, where it has one.
+fn rename(alloc: Global, document: &mut Document, from: &str, to: &str) -> Result<(), AllocError> {
+    let Some(value) = document.get(from) else {
+        return Ok(());
+    };
+    // `put` changes the document, from which the value is lent.
+    let value = String::from_str(alloc, value)?;
+    document.put(to, value.as_str())?;
+    document.remove(from);
+    Ok(())
+}
+
+#[cfg(test)]
+mod tests {
+    use super::*;
+    use std::test::Fail;
+
+    #[test]
+    fn brings_a_file_to_new_names(rt: HostRuntime) -> Result<(), Fail> {
+        let file = b"# ours\nserver.port : 80\n\ndebug=yes\nhost = a\n".as_slice();
+        let migrated = migrate(rt.alloc(), file)?;
+        let wanted = b"# ours\n\nhost = a\nport=80\nretries=3\n".as_slice();
+        assert_eq!(rt; migrated.as_slice(), wanted);
+        let again = migrate(rt.alloc(), wanted)?;
+        assert_eq!(rt; again.as_slice(), wanted);
+        Ok(())
+    }
+}
