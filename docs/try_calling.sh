@@ -12,10 +12,10 @@ python3 - "$top" <<'PY'
 import pathlib, re, sys
 top = pathlib.Path(sys.argv[1])
 page = (top / "docs/CALLING.md").read_text()
-examples = re.findall(r"`calling/(\w+\.rt)`\..*?```rust\n(.*?)```", page, re.S)
-sources = top / "crates/properties_vectors/src/calling"
+examples = re.findall(r"^`(\w+\.rt)`\..*?```rust\n(.*?)```", page, re.S | re.M)
+sources = top / "crates/calling/src"
 wrong = [name for name, text in examples if text.strip() not in (sources / name).read_text()]
-missing = {path.name for path in sources.glob("*.rt")} - {name for name, _ in examples}
+missing = {path.name for path in sources.glob("*.rt")} - {"lib.rt"} - {name for name, _ in examples}
 if wrong or missing:
     sys.exit(f"try_calling.sh: not as their sources: {wrong}; not shown: {sorted(missing)}")
 print(f"{len(examples)} examples are as their sources")

@@ -28,31 +28,38 @@ may_stand-on e c = elim (cases_Bool (nat_lt c 0x80)) [
   | inr k ↦ and_left (nat_lt c 0x80) (is_some (encoded e c)) k ∙ sym k
 ]
 
+-- so a character that may stand as itself is below 80 hexadecimal
 may_stand-below : (e : Encoding) (c : ℕ) → may_stand e true c ≡ true → c < 0x80
 may_stand-below e c h = ltb-true c 0x80 (sym (may_stand-on e c) ∙ h)
 
+-- as itself or escaped, a character is the same in every encoding
 literal-same : (e f : Encoding) (c : ℕ) → literal e true c ≡ literal f true c
 literal-same e f c = ap (λ b. cond b (c ∷ []) (unicode_escape c)) (may_stand-on e c ∙ sym (may_stand-on f c))
 
+-- a character is printed the same in every encoding
 spelt-same : (e f : Encoding) (place : Place) (c : ℕ) → spelt e true place c ≡ spelt f true place c
 spelt-same e f in_key_or_value c =
     ap (λ x. cond (is_special c) (backslash ∷ c ∷ []) (cond (has_letter c) (letter_escape c) (cond (nat_lt c space) (unicode_escape c) x))) (literal-same e f c)
 spelt-same e f in_comment c = ap (λ x. cond (c == backslash) (backslash ∷ backslash ∷ []) (cond (c == 0x0a || c == 0x0d) (letter_escape c) x)) (literal-same e f c)
 spelt-same e f in_prefix c = literal-same e f c
 
+-- and in ASCII
 spelt-ascii : (e : Encoding) (place : Place) (c : ℕ) → AreAscii (spelt e true place c)
 spelt-ascii e place c = spelt-either e true place c AreAscii (λ x h. h) (λ k. (may_stand-below e c k, tt))
 
 -- ---- texts
 
+-- a text is printed the same in every encoding
 spelt_text-same : (e f : Encoding) (place : Place) (x : List ℕ) → spelt_text e true place x ≡ spelt_text f true place x
 spelt_text-same e f place [] = refl
 spelt_text-same e f place (c ∷ x) = ap₂ (λ v w. v ++ w) (spelt-same e f place c) (spelt_text-same e f place x)
 
+-- and in ASCII
 pub spelt_text-ascii : (e : Encoding) (place : Place) (x : List ℕ) → AreAscii (spelt_text e true place x)
 spelt_text-ascii e place [] = tt
 spelt_text-ascii e place (c ∷ x) = AreAscii-append (spelt e true place c) (spelt_text e true place x) (spelt-ascii e place c) (spelt_text-ascii e place x)
 
+-- the bytes of a text of ASCII begin like no byte order mark
 ascii-unmarked : (e : Encoding) (x : List ℕ) → AreAscii x → begins_like_bom (encoded_text e x) ≡ false
 ascii-unmarked e [] h = refl
 ascii-unmarked e (c ∷ x) h = front-unmarked e (c ∷ x) c x refl h.0
@@ -61,13 +68,16 @@ ascii-unmarked e (c ∷ x) h = front-unmarked e (c ∷ x) c x refl h.0
 pub is_bom_like-on : (e : Encoding) (key : List ℕ) → is_bom_like e true key ≡ false
 is_bom_like-on e key = ascii-unmarked e (spelt_text e true in_key_or_value key) (spelt_text-ascii e in_key_or_value key)
 
+-- so a key is printed on the first line as on any other
 spelt_key-on : (e : Encoding) (first : Bool) (key : List ℕ) → spelt_key e true first key ≡ spelt_text e true in_key_or_value key
 spelt_key-on e true key = ap (λ b. cond b (with_first_escaped e true key) (spelt_text e true in_key_or_value key)) (is_bom_like-on e key)
 spelt_key-on e false key = refl
 
+-- a key is printed the same in every encoding
 spelt_key-same : (e f : Encoding) (first : Bool) (key : List ℕ) → spelt_key e true first key ≡ spelt_key f true first key
 spelt_key-same e f first key = spelt_key-on e first key ∙ spelt_text-same e f in_key_or_value key ∙ sym (spelt_key-on f first key)
 
+-- and in ASCII
 spelt_key-ascii : (e : Encoding) (first : Bool) (key : List ℕ) → AreAscii (spelt_key e true first key)
 spelt_key-ascii e first key = subst AreAscii (sym (spelt_key-on e first key)) (spelt_text-ascii e in_key_or_value key)
 
@@ -78,16 +88,19 @@ abbrev parts : Encoding → Bool → Settings → Bool → Content → List ℕ
 parts e only s first (comment text) = spelt_text e only in_prefix s.comment_prefix ++ (spelt_text e only in_comment text ++ line_ending_text s.line_ending)
 parts e only s first (pair key value) = spelt_key e only first key ++ (s.kv_separator ++ (spelt_text e only in_key_or_value value ++ line_ending_text s.line_ending))
 
+-- while it is on, a line is printed from these parts
 printed-parts : (e : Encoding) (s : Settings) (first : Bool) (line : Content) → s.ascii_only ≡ true → printed_text e s first line ≡ parts e true s first line
 printed-parts e s first (comment text) on = ap (λ b. parts e b s first (comment text)) on
 printed-parts e s first (pair key value) on = ap (λ b. parts e b s first (pair key value)) on
 
+-- which are the same in every encoding
 parts-same : (e f : Encoding) (s : Settings) (first : Bool) (line : Content) → parts e true s first line ≡ parts f true s first line
 parts-same e f s first (comment text) =
     ap₂ (λ v w. v ++ (w ++ line_ending_text s.line_ending)) (spelt_text-same e f in_prefix s.comment_prefix) (spelt_text-same e f in_comment text)
 parts-same e f s first (pair key value) =
     ap₂ (λ v w. v ++ (s.kv_separator ++ (w ++ line_ending_text s.line_ending))) (spelt_key-same e f first key) (spelt_text-same e f in_key_or_value value)
 
+-- and of ASCII, where the separator is good
 parts-ascii : (e : Encoding) (s : Settings) (first : Bool) (line : Content) → IsGoodSeparator s.kv_separator → AreAscii (parts e true s first line)
 parts-ascii e s first (comment text) g =
     AreAscii-append (spelt_text e true in_prefix s.comment_prefix) (spelt_text e true in_comment text ++ line_ending_text s.line_ending) (spelt_text-ascii e in_prefix s.comment_prefix)
@@ -102,9 +115,11 @@ record AreShared (f : Encoding) (x y : List ℕ) : Type 0 where
   ascii : AreAscii x
   same : x ≡ y
 
+-- such bytes and then more such bytes
 shared-append : (f : Encoding) (x y z w : List ℕ) → AreShared f x y → AreShared f z w → AreShared f (x ++ z) (y ++ w)
 shared-append f x y z w h k = record { ascii = AreAscii-append x z h.ascii k.ascii; same = ap₂ (λ v u. v ++ u) h.same k.same }
 
+-- while it is on, the bytes of a line are such
 printed-shared : (e f : Encoding) (s : Settings) (first : Bool) (line : Content) → s.ascii_only ≡ true → IsGoodSeparator s.kv_separator → AreShared f (printed e s first line) (printed f s first line)
 printed-shared e f s first line on g =
     let x = parts e true s first line in
@@ -113,6 +128,7 @@ printed-shared e f s first line on g =
     let b = ap (encoded_text f) (printed-parts f s first line on) ∙ encoded_text-ascii f y (parts-ascii f s first line g) in
     record { ascii = subst AreAscii (sym a) (parts-ascii e s first line g); same = a ∙ parts-same e f s first line ∙ sym b }
 
+-- and those of the line that a call writes, where it writes one
 line-shared : (e f : Encoding) (s : Settings) (n : ℕ) (o : Option Content) → s.ascii_only ≡ true → IsGoodSeparator s.kv_separator → AreShared f (line_bytes e s n o) (line_bytes f s n o)
 line-shared e f s n None on g = record { ascii = tt; same = refl }
 line-shared e f s n (Some line) on g = printed-shared e f s (n == 0) line on g
@@ -140,6 +156,7 @@ separator-kept s (ending_call line_ending) g = g
 separator-kept s flush_call g = g
 separator-kept s (ascii_only_call mode) g = g
 
+-- and so are the bytes of calls that don't turn it off
 wrote-shared : (e f : Encoding) (s : Settings) (n : ℕ) (calls : List Call) → s.ascii_only ≡ true → AllKeepAsciiOnly calls → IsGoodSeparator s.kv_separator → AreShared f (wrote e s n calls) (wrote f s n calls)
 wrote-shared e f s n [] on k g = record { ascii = tt; same = refl }
 wrote-shared e f s n (call ∷ calls) on k g =
@@ -157,6 +174,7 @@ bytes-ascii x h = All-from_recursion (λ b. b < 0x80) x (go x h)
     go [] h = tt
     go (b ∷ x) h = (h.0, go x h.1)
 
+-- the front of a text of ASCII is of ASCII
 ascii-front : (x y : List ℕ) → AreAscii (x ++ y) → AreAscii x
 ascii-front [] y h = tt
 ascii-front (c ∷ x) y h = (h.0, ascii-front x y h.1)
@@ -190,6 +208,7 @@ wrote-on_both e s calls on k g c h =
 abbrev turned_on : Settings → Settings
 turned_on s = record s { ascii_only = true }
 
+-- good settings are good with it on
 turned-good : (s : Settings) → AreGoodSettings s → AreGoodSettings (turned_on s)
 turned-good s g = record { prefix = g.prefix; scalars = g.scalars; separator = g.separator }
 
@@ -208,6 +227,7 @@ AreItemsInBoth-wrote e s (call ∷ calls) k g c h =
 
 -- ---- a beginning of the calls
 
+-- where none of the calls turns it off, none of the first ones does
 keep-front : (xs ys : List Call) → AllKeepAsciiOnly (xs ++ ys) → AllKeepAsciiOnly xs
 keep-front [] ys k = tt
 keep-front (x ∷ xs) ys k = (k.0, keep-front xs ys k.1)
@@ -217,10 +237,12 @@ pub begun-ascii : (e : Encoding) (s : Settings) (n : ℕ) (xs ys : List Call) �
 begun-ascii e s n [] ys k g = bytes-ascii [] tt
 begun-ascii e s n (x ∷ xs) ys k g = wrote-ascii e s n (x ∷ xs) (k.0, keep-front xs ys k.1) g
 
+-- calls that don't turn it off leave it on
 kept-on : (s : Settings) (calls : List Call) → s.ascii_only ≡ true → AllKeepAsciiOnly calls → (settings_after s calls).ascii_only ≡ true
 kept-on s [] on k = on
 kept-on s (call ∷ calls) on k = kept-on (settings_after_call s call) calls (call-on s call on k.0) k.1
 
+-- a good separator stays one after any calls
 kept-separator : (s : Settings) (calls : List Call) → IsGoodSeparator s.kv_separator → IsGoodSeparator (settings_after s calls).kv_separator
 kept-separator s [] g = g
 kept-separator s (call ∷ calls) g = kept-separator (settings_after_call s call) calls (separator-kept s call g)

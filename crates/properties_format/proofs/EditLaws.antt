@@ -1,5 +1,5 @@
 -- The laws of edits.
-use Rattle.std.proofs.Common.{◌≡◌, ◌≢◌, ℕ, ◌+◌, true, false, List, [], ◌∷◌, ◌++◌, length, Option, Some, None, refl, ap, sym, ◌∙◌, inl, inr, subst}
+use Rattle.std.proofs.Common.{◌≡◌, ℕ, ◌+◌, true, false, List, [], ◌∷◌, ◌++◌, length, Option, Some, None, refl, ap, sym, ◌∙◌, inl, inr, subst}
 use Rattle.std.specs.Prelude.{bytes_eq}
 use Rattle.std.proofs.lemmas.Bool.{cond-true, cond-false, false_from_ne_true, cases_Bool}
 use Rattle.std.proofs.lemmas.Slice.Eq.{bytes_eq-Decides}
@@ -23,6 +23,7 @@ use Rattle.properties_format.proofs.Body.Numbers.{items_of-groups}
 use Rattle.properties_format.proofs.Edited.Made.{has_key-true, has_key-false, key_set-only, key_removed-only}
 use Rattle.properties_format.proofs.Edited.Results.{edits_made-only, set_key_result-meets, set_key_result-only, remove_key_result-meets, remove_key_result-only, edit_all_result-meets, edit_all_result-only, result_by-edited, result-editable}
 use Rattle.properties_format.proofs.Edited.ByteOrderMarks.{has_bom, source-whole}
+use Rattle.properties_format.proofs.Changed.Maps.{other-test}
 use Rattle.properties_format.specs.Reading.Slots.{slots_bytes, slots_of}
 use Rattle.properties_format.proofs.Slots.Places.{put-twice}
 use Rattle.properties_format.proofs.Slots.Edits.{edits_made-slots}
@@ -67,6 +68,7 @@ body-unguarded e source ok = elim (has_bom e source ok) [
       rw (m.0, b) refl
 ]
 
+-- Removing a key that no pair of the source has changes no byte.
 pub removing-no_pair : (e : Encoding) (source key : List ℕ) → RemovingNoPairChangesNothing e source key
 removing-no_pair e source key entries is none result h =
     let f = byte_order_mark e source in
@@ -87,6 +89,7 @@ removing-no_pair e source key entries is none result h =
 result-made : (e : Encoding) (source made : List ℕ) → IsReadable e source → result_of e source made ≡ edited made
 result-made e source made r = result-editable e source made r.editable ∙ result_by-edited (items_of e source end) made r.no_fault
 
+-- Setting a key twice is setting it once, to the later value.
 pub setting-twice : (e : Encoding) (source key first second : List ℕ) → SettingTwiceIsSettingOnce e source key first second
 setting-twice e source key first second k v w between h result =
     let f = byte_order_mark e source in
@@ -117,29 +120,31 @@ maps-differ e source result key edit value old new reads differs (before, items,
     let d = differs old in
     (same key ∙ d.0, (λ other n. same other ∙ d.1 other n))
 
+-- a key passes the test against itself
 own-test : (key : List ℕ) → bytes_eq key key ≡ true
 own-test key = (bytes_eq-Decides key key).1 refl
 
-other-test : (other key : List ℕ) → other ≢ key → bytes_eq other key ≡ false
-other-test other key n = false_from_ne_true (bytes_eq other key) (λ t. n ((bytes_eq-Decides other key).0 t))
-
+-- the map with a key set gives it the value, and every other key what it had
 set-differs : (key value : List ℕ) (value_at : List ℕ → Option (List ℕ)) → DiffersAt key (Some value) value_at (map_edited (put key value) value_at)
 set-differs key value value_at = (
   cond-true (bytes_eq key key) (Some value) (value_at key) (own-test key),
   (λ other n. cond-false (bytes_eq other key) (Some value) (value_at other) (other-test other key n)),
 )
 
+-- the map with a key removed gives it none, and every other key what it had
 removed-differs : (key : List ℕ) (value_at : List ℕ → Option (List ℕ)) → DiffersAt key None value_at (map_edited (remove key) value_at)
 removed-differs key value_at = (
   cond-true (bytes_eq key key) None (value_at key) (own-test key),
   (λ other n. cond-false (bytes_eq other key) None (value_at other) (other-test other key n)),
 )
 
+-- After a key is set, the map has the value for it, and for every other key what it had.
 pub setting-gives : (e : Encoding) (source key value : List ℕ) → SettingGivesTheValue e source key value
 setting-gives e source key value k v result h old new =
     maps-differ e source result key (put key value) (Some value) old new
     (λ before after i j m. (set_key-reads e source key value result k v h before after i j).mapped old m) (set-differs key value)
 
+-- After a key is removed, the map has no value for it, and for every other key what it had.
 pub removing-takes : (e : Encoding) (source key : List ℕ) → RemovingTakesTheValue e source key
 removing-takes e source key result h old new =
     maps-differ e source result key (remove key) None old new
@@ -147,9 +152,11 @@ removing-takes e source key result h old new =
 
 -- ---- lists of edits
 
+-- No edits change no byte.
 pub no_edits-nothing : (e : Encoding) (source : List ℕ) → NoEditsChangeNothing e source
 no_edits-nothing e source result h = h.2
 
+-- A list of one edit has the results of the call for that edit.
 pub one_edit-call : (e : Encoding) (source : List ℕ) (edit : Edit) → OneEditIsItsCall e source edit
 one_edit-call e source (put key value) = λ result.
     let all = put key value ∷ [] in (
@@ -162,11 +169,13 @@ one_edit-call e source (remove key) = λ result.
       (λ h. subst (IsEditAllResult e source all) (sym (remove_key_result-only e source key result h)) (edit_all_result-meets e source all)),
     )
 
+-- edits and then more edits are the second, made to what the first gave
 edits_made-append : (e : Encoding) (source : List ℕ) (first second : List Edit)
     → edits_made e source (first ++ second) ≡ edits_made e (edits_made e source first) second
 edits_made-append e source [] second = refl
 edits_made-append e source (edit ∷ first) second = edits_made-append e (edit_made e source edit) first second
 
+-- A list of edits and then another have the results of the second on what the first gave.
 pub lists-follow : (e : Encoding) (source : List ℕ) (first second : List Edit) → ListsOfEditsFollow e source first second
 lists-follow e source first second scalars between h result =
     let r = readable e source h.0 h.1 in

@@ -1,8 +1,6 @@
 -- The three laws.
-use Rattle.std.proofs.Common.{◌≡◌, ℕ, ◌+◌, ◌<◌, ◌==◌, true, List, [], ◌∷◌, ◌++◌, refl, ap, sym, ◌∙◌, inl, inr, ap₂, subst, eqb-true, lit<}
+use Rattle.std.proofs.Common.{◌≡◌, ℕ, ◌+◌, List, [], ◌∷◌, ◌++◌, refl, ap, sym, ◌∙◌, ap₂, subst}
 use Rattle.std.specs.Prelude.{Some}
-use Rattle.std.proofs.lemmas.Bool.{or_cases}
-use Rattle.properties_format.specs.Text.{is_line_end, line_feed, carriage_return}
 use Rattle.properties_format.specs.Pieces.{piece}
 use Rattle.properties_format.specs.Encoding.{Encoding, byte_order_mark, ascii_bytes, IsPieces, IsDecoded}
 use Rattle.properties_format.specs.Reading.Encoding.{pieces_of, decoded_of}
@@ -27,7 +25,7 @@ use Rattle.properties_format.proofs.Encodings.Pieces.{pieces_of-meets, pieces_of
 use Rattle.properties_format.proofs.Encodings.Cuts.{pieces_of-cut_ascii}
 use Rattle.properties_format.proofs.Lines.Meets.{lines_of-meets}
 use Rattle.properties_format.proofs.Lines.Only.{lines_of-only}
-use Rattle.properties_format.proofs.Cut.Byline.{byline-is_lines, lines-is_byline}
+use Rattle.properties_format.proofs.Cut.Byline.{byline-is_lines, lines-is_byline, end-ascii}
 use Rattle.properties_format.proofs.Groups.Meets.{groups_of-meets}
 use Rattle.properties_format.proofs.Groups.Only.{groups_of-only}
 use Rattle.properties_format.proofs.Split.Unique.{split_of-meets, split_of-only}
@@ -39,27 +37,35 @@ use Rattle.properties_format.proofs.ReadBack.Lists.{items_of-pairs, pairs_in-ite
 
 -- ---- One reading.
 
+-- a value that meets it is the one, where each that meets it is equal to it
 one : {A : Type 0} {Meets : A → Type 0} (value : A) → Meets value → ((other : A) → Meets other → other ≡ value) → HasOne Meets
 one value meets only = record { value = value; meets = meets; only = only }
 
+-- bytes have one list of pieces
 pub one-pieces : (e : Encoding) (d : List ℕ) → HasOne (IsPieces e d)
 one-pieces e d = one (pieces_of e d) (pieces_of-meets e d) (pieces_of-only e d)
 
+-- an input has one text
 pub one-text : (e : Encoding) (bytes : List ℕ) → HasOne (IsDecoded e bytes)
 one-text e bytes = one (decoded_of e bytes) (decoded_of-meets e bytes) (decoded_of-only e bytes)
 
+-- a text has one list of lines
 pub one-lines : (x : List ℕ) → HasOne (IsLines x)
 one-lines x = one (lines_of x) (lines_of-meets x) (lines_of-only x)
 
+-- lines have one division into groups
 pub one-groups : (lines : List Line) (ending : InputEnd) → HasOne (IsGroups lines ending)
 one-groups lines ending = one (groups_of lines ending) (groups_of-meets lines ending) (groups_of-only lines ending)
 
+-- a logical line is blank, a comment or a pair in one way
 pub one-split : (line : List ℕ) → HasOne (IsSplit line)
 one-split line = one (split_of line) (split_of-meets line) (split_of-only line)
 
+-- a text means one text or breaks in one way
 pub one-meaning : (text : List ℕ) → HasOne (IsMeaning text)
 one-meaning text = one (meaning_of text) (meaning_of-meets text) (meaning_of-only text)
 
+-- an input has one list of items
 pub one-items : (e : Encoding) (bytes : List ℕ) (ending : InputEnd) → HasOne (IsItems e bytes ending)
 one-items e bytes ending = one (items_of e bytes ending) (items_of-meets e bytes ending) (items_of-only e bytes ending)
 
@@ -80,6 +86,7 @@ one-reading e bytes ending =
 
 -- ---- Reading inverts writing.
 
+-- What calls wrote has the items that they told, and no others.
 pub reading-inverts_writing : (e : Encoding) (s : Settings) (calls : List Call) → ReadingInvertsWriting e s calls
 reading-inverts_writing e s calls k entries =
     let w = wrote e s 0 calls in (
@@ -87,17 +94,20 @@ reading-inverts_writing e s calls k entries =
       (λ same. subst (IsItems e w end) (sym same) (IsItems-wrote e s calls k.encoding k.settings k.prefixes k.scalars)),
     )
 
+-- Under one setting, two lists of accepted pairs write equal bytes exactly if they are equal.
 pub equal-bytes : (e : Encoding) (s : Settings) (ps qs : List Pair) → EqualBytesOfEqualPairs e s ps qs
 equal-bytes e s ps qs h k = (
   (λ same. pairs-equal e s h.encoding h.settings ps qs h.accepted h.scalars k.accepted k.scalars same),
   (λ same. ap (λ v. wrote e s 0 (calls_of v)) same),
 )
 
+-- Reading pairs that were written, and writing them anew, changes no byte.
 pub writing-anew : (e : Encoding) (s : Settings) (ps : List Pair) → WritingAnewChangesNothing e s ps
 writing-anew e s ps h entries is = pairs-settle e s h.encoding h.settings ps entries h.accepted h.scalars is
 
 -- ---- The map of what was written.
 
+-- the pairs among entries and then among more entries
 pairs_in-append : (xs ys : List Entry) → pairs_in (xs ++ ys) ≡ pairs_in xs ++ pairs_in ys
 pairs_in-append [] ys = refl
 pairs_in-append (item n (comment text) ∷ xs) ys = pairs_in-append xs ys
@@ -115,10 +125,12 @@ abbrev lines_after : ℕ → List Pair → ℕ
 lines_after n [] = n
 lines_after n (p ∷ ps) = lines_after (n + 1) ps
 
+-- the items of pairs and then of more pairs, which are numbered on
 items_after-append : (n : ℕ) (xs ys : List Pair) → items_after n (xs ++ ys) ≡ items_after n xs ++ items_after (lines_after n xs) ys
 items_after-append n [] ys = refl
 items_after-append n (x ∷ xs) ys = ap (λ v. item (n + 1) (pair x.0 x.1) ∷ v) (items_after-append (n + 1) xs ys)
 
+-- among pairs with keys of their own, none after a pair has its key
 distinct-later : (key value : List ℕ) (before after : List Pair) → AreDistinct (before ++ ((key, value) ∷ after)) → HasNoKey key after
 distinct-later key value [] after h = h.0
 distinct-later key value (p ∷ before) after h = distinct-later key value before after h.1
@@ -144,6 +156,7 @@ among-value n key value ps k = (
   sym (pairs_in-items n ps) ∙ ap pairs_in k.division ∙ pairs_in-append k.before (item k.number (pair key value) ∷ k.after),
 )
 
+-- The map of pairs that were written, each with a key of its own, has exactly these pairs.
 pub map-read_back : (e : Encoding) (s : Settings) (ps : List Pair) → MapIsReadBack e s ps
 map-read_back e s ps h distinct entries is value_at m key value = (
   (λ same. among-value 0 key value ps (subst (λ v. IsLastValue v key value) read (subst (IsValue entries key) same (m key)))),
@@ -156,20 +169,16 @@ map-read_back e s ps h distinct entries is value_at m key value = (
 
 -- ---- Splitting commutes with decoding.
 
+-- The lines of an input's bytes, each decoded by itself, are the lines of its text.
 pub splitting-commutes : (e : Encoding) (bytes : List ℕ) → SplittingCommutes e bytes
 splitting-commutes e bytes text lines d = ((λ k. byline-is_lines e bytes text lines k d), (λ k. lines-is_byline e bytes text lines k d))
 
-line_end-ascii : (c : ℕ) → is_line_end c ≡ true → c < 0x80
-line_end-ascii c h = elim (or_cases (c == line_feed) (c == carriage_return) h) [
-  | inl e ↦ subst (λ v. v < 0x80) (sym (eqb-true c line_feed e)) (lit< tt)
-  | inr e ↦ subst (λ v. v < 0x80) (sym (eqb-true c carriage_return e)) (lit< tt)
-]
-
+-- A CR or an LF where a unit may begin parts the pieces before it from those after it.
 pub line_ends-part : (e : Encoding) (before : List ℕ) (c : ℕ) (after : List ℕ) → LineEndsPartPieces e before c after
 line_ends-part e before c after ends aligned ps qs h k =
     subst (IsPieces e (before ++ (ascii_bytes e c ++ after))) parted (pieces_of-meets e (before ++ (ascii_bytes e c ++ after)))
   where
     parted : pieces_of e (before ++ (ascii_bytes e c ++ after)) ≡ ps ++ (piece (ascii_bytes e c) c ∷ qs)
     parted =
-        pieces_of-cut_ascii e c before after (line_end-ascii c ends) aligned
+        pieces_of-cut_ascii e c before after (end-ascii c ends) aligned
         ∙ ap₂ (λ v w. v ++ (piece (ascii_bytes e c) c ∷ w)) (sym (pieces_of-only e before ps h)) (sym (pieces_of-only e after qs k))

@@ -3,6 +3,5 @@ pub mod Cut
 pub mod Meets
 pub mod Numbers
 pub mod Only
-pub mod Parted
 pub mod Plain
 pub mod Steps

@@ -15,14 +15,17 @@ abbrev ValueSays : List ℕ → Entry → Option (List ℕ) → Type 0
 ValueSays key entry None = (entries : List Entry) → HasNoPair key entries → HasNoPair key (entry ∷ entries)
 ValueSays key entry (Some value) = IsPairOf key value entry
 
+-- texts that fail the test are not the same
 not_same : (x y : List ℕ) → bytes_eq x y ≡ false → x ≡ y → ⊥
 not_same x y e q = let t = (bytes_eq-Decides x y).1 q in cc
 
+-- a pair gives its key its value, and no other key
 pair-says : (n : ℕ) (k v key : List ℕ) (b : Bool) → bytes_eq k key ≡ b → ValueSays key (item n (pair k v)) (value_of (item n (pair k v)) key)
 pair-says n k v key true e =
     rw e (n, ap (λ x. item n (pair x v)) ((bytes_eq-Decides k key).0 e))
 pair-says n k v key false e = rw e (λ entries h. ((λ q. not_same k key e q), h))
 
+-- what is computed of an entry is what it says
 says : (entry : Entry) (key : List ℕ) → ValueSays key entry (value_of entry key)
 says (item n (pair k v)) key = pair-says n k v key (bytes_eq k key) refl
 says (item n (comment text)) key = λ entries h. h
@@ -37,6 +40,7 @@ with_front entry entries key None None h s = s entries h
 with_front entry entries key None (Some v) h s =
     record { before = []; number = s.0; after = entries; division = ap (λ x. x ∷ entries) s.1; no_later = h }
 
+-- what is computed is the value of the key
 pub value_in-meets : (entries : List Entry) (key : List ℕ) → IsValue entries key (value_in entries key)
 value_in-meets [] key = tt
 value_in-meets (entry ∷ entries) key = with_front entry entries key (value_in entries key) (value_of entry key) (value_in-meets entries key) (says entry key)
@@ -58,6 +62,7 @@ last-in [] n key value after h =
     ∙ cond-true (bytes_eq key key) (Some value) None ((bytes_eq-Decides key key).1 refl)
 last-in (entry ∷ before) n key value after h = ap (λ r. first_value r (value_of entry key)) (last-in before n key value after h)
 
+-- a value of the key is what is computed
 pub value_in-only : (entries : List Entry) (key : List ℕ) (r : Option (List ℕ)) → IsValue entries key r → r ≡ value_in entries key
 value_in-only entries key None h = sym (none-in entries key h)
 value_in-only entries key (Some value) g = sym (ap (λ x. value_in x key) g.division ∙ last-in g.before g.number key value g.after g.no_later)
@@ -66,21 +71,25 @@ value_in-only entries key (Some value) g = sym (ap (λ x. value_in x key) g.divi
 pub map-meets : (entries : List Entry) → IsMap entries (value_in entries)
 map-meets entries key = value_in-meets entries key
 
+-- and every map of the entries gives each key that value
 pub map-only : (entries : List Entry) (value_at : List ℕ → Option (List ℕ)) → IsMap entries value_at → (key : List ℕ) → value_at key ≡ value_in entries key
 map-only entries value_at h key = value_in-only entries key (value_at key) (h key)
 
 -- ---- one entry more
 
-first-assoc : (a b c : Option (List ℕ)) → first_value (first_value a b) c ≡ first_value a (first_value b c)
+-- of three values the first is the same, whichever two are taken together
+pub first-assoc : (a b c : Option (List ℕ)) → first_value (first_value a b) c ≡ first_value a (first_value b c)
 first-assoc None b c = refl
 first-assoc (Some v) b c = refl
 
-first-none : (o : Option (List ℕ)) → o ≡ first_value o None
+-- without a second value, the first of two is what there is
+pub first-none : (o : Option (List ℕ)) → first_value o None ≡ o
 first-none None = refl
 first-none (Some v) = refl
 
+-- among entries and then more entries, the value is that of the second, or else that of the first
 value_in-append : (xs ys : List Entry) (key : List ℕ) → value_in (xs ++ ys) key ≡ first_value (value_in ys key) (value_in xs key)
-value_in-append [] ys key = first-none (value_in ys key)
+value_in-append [] ys key = sym (first-none (value_in ys key))
 value_in-append (x ∷ xs) ys key =
     ap (λ r. first_value r (value_of x key)) (value_in-append xs ys key) ∙ first-assoc (value_in ys key) (value_in xs key) (value_of x key)
 

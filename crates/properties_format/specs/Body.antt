@@ -54,6 +54,7 @@ abbrev pub group_bytes : List HeldLine → List ℕ
 group_bytes [] = []
 group_bytes (h ∷ hs) = h.bytes ++ (ending_bytes h.ending ++ group_bytes hs)
 
+-- the bytes of the groups, in order
 abbrev pub groups_bytes : List (List HeldLine) → List ℕ
 groups_bytes [] = []
 groups_bytes (g ∷ gs) = group_bytes g ++ groups_bytes gs

@@ -100,6 +100,7 @@ pub record IsKeyRemoved (e : Encoding) (source key result : List ℕ) : Type 0 w
 
 -- ---- Edits in turn.
 
+-- an edit: a key to set and its value, or a key to remove
 pub data Edit : Type 0 where
   put : List ℕ → List ℕ → Edit
   remove : List ℕ → Edit
@@ -119,6 +120,7 @@ abbrev pub IsScalarEdit : Edit → Type 0
 IsScalarEdit (put key value) = All scalar key × All scalar value
 IsScalarEdit (remove key) = Unit {0}
 
+-- the texts that these edits put in are of scalar values
 abbrev pub AreScalarEdits : List Edit → Type 0
 AreScalarEdits [] = Unit {0}
 AreScalarEdits (edit ∷ edits) = IsScalarEdit edit × AreScalarEdits edits

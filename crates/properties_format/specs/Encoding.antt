@@ -7,6 +7,7 @@ use Rattle.properties_format.specs.Utf8.{IsUtf8Piece}
 use Rattle.properties_format.specs.Utf16.{low_first, high_first, IsUtf16Piece}
 pub use Rattle.properties_format.specs.Pieces.{Piece, characters}
 
+-- the four encodings
 pub data Encoding : Type 0 where
   windows_1252 : Encoding
   utf_8 : Encoding

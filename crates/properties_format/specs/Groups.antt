@@ -42,6 +42,7 @@ abbrev pub IsWhole : List Line → Type 0
 IsWhole [] = ⊥
 IsWhole (l ∷ ls) = (is_comment_line l.text ≡ true) × (ls ≡ []) ⊎ (is_comment_line l.text ≡ false) × EndsClosed l ls
 
+-- each of these groups is whole
 abbrev pub AreWhole : List (List Line) → Type 0
 AreWhole [] = Unit {0}
 AreWhole (g ∷ gs) = IsWhole g × AreWhole gs

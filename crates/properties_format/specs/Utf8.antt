@@ -10,6 +10,7 @@ pub record Range : Type 0 where
   pub least : ℕ
   pub most : ℕ
 
+-- the range from one byte to another, both in it
 abbrev pub from_to : ℕ → ℕ → Range
 from_to least most = record { least = least; most = most }
 

@@ -19,6 +19,7 @@ pub data Call : Type 0 where
   flush_call : Call
   ascii_only_call : Bool → Call
 
+-- nothing is in the list
 abbrev pub is_empty : List ℕ → Bool
 is_empty [] = true
 is_empty (c ∷ cs) = false
@@ -67,6 +68,7 @@ abbrev pub lines_with : ℕ → Option Content → ℕ
 lines_with n None = n
 lines_with n (Some line) = n + 1
 
+-- the number of lines after a list of calls, from this number on
 abbrev pub line_count_after : Settings → ℕ → List Call → ℕ
 line_count_after s n [] = n
 line_count_after s n (call ∷ calls) = line_count_after (settings_after_call s call) (lines_with n (written_line s call)) calls
@@ -130,6 +132,7 @@ IsOfScalars (ending_call line_ending) = Unit {0}
 IsOfScalars flush_call = Unit {0}
 IsOfScalars (ascii_only_call on) = Unit {0}
 
+-- each text of these calls is one of scalar values
 abbrev pub AreOfScalars : List Call → Type 0
 AreOfScalars [] = Unit {0}
 AreOfScalars (call ∷ calls) = IsOfScalars call × AreOfScalars calls

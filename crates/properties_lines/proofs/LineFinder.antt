@@ -1,8 +1,7 @@
 -- How a line is sought and found, step by step.
-use Rattle.std.proofs.Common.{◌≡◌, ◌<◌, ◌≤◌, ◌==◌, ◌&&◌, ◌+◌, ℕ, Bool, true, false, List, [], ◌∷◌, ◌++◌, take, drop, length, refl, sym, ap, ap₂, ◌∙◌, append_assoc, length-append, inl, inr, arith, eqb-true, append-nil, subst}
+use Rattle.std.proofs.Common.{◌≡◌, ◌<◌, ◌≤◌, ◌==◌, ◌&&◌, ◌+◌, ℕ, Bool, true, false, List, [], ◌∷◌, ◌++◌, take, drop, length, refl, sym, ap, ap₂, ◌∙◌, append_assoc, length-append, inl, inr, arith, eqb-true, append-nil, subst, unwrap_or}
 use Rattle.std.specs.Prelude.{Option, Some, None, Err}
-use Rattle.std.proofs.Math.Seq.{drop-append_seam, take-length}
-use Rattle.std.proofs.lemmas.Grind.{common_steps}
+use Rattle.std.proofs.Math.Seq.{drop-append_seam}
 use Rattle.std.proofs.lemmas.List.{length-take-le}
 use Rattle.std.proofs.lemmas.Bool.{cases_Bool, and_parts}
 use Rattle.properties_format.specs.Text.{line_feed, carriage_return, is_line_end}
@@ -31,9 +30,9 @@ use Rattle.properties_lines.proofs.LineSearch.{searched-more, length-ascii_bytes
 use Rattle.properties_lines.specs.declared.error.LineError.{LineError}
 use Rattle.properties_lines.specs.declared.error.LineError.TheVariants as why
 use Rattle.properties_lines.specs.declared.search.LineEnd.{LineEnd}
-use Rattle.properties_lines.specs.declared.seeker.HeldLine.{HeldLine}
+use Rattle.properties_lines.specs.declared.finder.HeldLine.{HeldLine}
 use Rattle.properties_lines.specs.LineFinder as finder
-use Rattle.properties_lines.specs.LineFinder.{IsLineStart, IsSettled, HoldsNoEndYet, IsAlike, SkipsFeed, PassesFeed, Settles, SettlesLast, Along, IsAtLast, IsReady, HoldsLineEnd, LooksFor, Looks, HasFound, HasEnded, HasBroken, HasNoRoom, Seeks, PassesFirst, IsHeldLine, Finder, TakesHeld, FindsNext, FindsError, IsRefused}
+use Rattle.properties_lines.specs.LineFinder.{IsLineStart, IsSettled, HoldsNoEndYet, IsAlike, TellsStart, Settles, SettlesLast, Along, IsAtLast, IsReady, HoldsLineEnd, LooksFor, Looks, HasFound, HasEnded, HasBroken, HasNoRoom, Seeks, PassesFirst, IsHeldLine, Finder, TakesHeld, FindsNext, FindsError, IsRefused}
 use Rattle.properties_text.specs.declared.encoding.byte_order_mark.ByteOrderMark.{ByteOrderMark}
 use Rattle.properties_text.specs.declared.encoding.byte_order_mark.ByteOrderMark.TheVariants.{Present, Absent, Undecided}
 
@@ -76,23 +75,34 @@ not-begins m d r h k = elim (cases_Bool (begins_with m d)) [
   | inr b ↦ b
 ]
 
-alike-passed : {s : ReaderState} {rest : List ℕ} → ReadsLines s [] [] (after_passed s rest) → IsAlike s (after_passed s rest)
-alike-passed h = record { gives = h; passed = refl; done = refl }
+alike-self : (s : ReaderState) → IsAlike s s
+alike-self s = record { gives = lines-start s; passed = refl; done = refl }
 
-pub skips-lf : (s : ReaderState) (rest : List ℕ) → s.is_decided ≡ true → s.after_cr ≡ true → s.held ≡ ascii_bytes s.encoding line_feed ++ rest
-    → SkipsFeed s (after_passed s rest)
-skips-lf s rest d a h = record {
-  alike = alike-passed (lines-passed_lf s rest d a h);
-  decided = d;
-  after_end = refl;
-  none = λ k. no_end_unit-right s.encoding (ascii_bytes s.encoding line_feed) rest (unit-aligned s.encoding) (rw h at k);
+-- an LF stands at the front
+pub first-lf : (s : ReaderState) → s.is_decided ≡ true → s.after_cr ≡ true → (n : ℕ) → n ≤ length s.held → s.held ≡ ascii_bytes s.encoding line_feed ++ drop n s.held
+    → PassesFirst s n
+first-lf s d a n w h = record {
+  within = w;
+  alike = record { gives = lines-passed_lf s (drop n s.held) d a h; passed = refl; done = refl };
+  none = λ k. no_end_unit-right s.encoding (ascii_bytes s.encoding line_feed) (drop n s.held) (unit-aligned s.encoding) (rw h at k);
 }
 
-pub skips-none : (s : ReaderState) (r : Bool) → s.is_decided ≡ true → unit_size s.encoding ≤ length s.held
-    → ((rest : List ℕ) → s.held ≡ ascii_bytes s.encoding line_feed ++ rest → r ≡ true) → r ≡ false → SkipsFeed s (after_passed s s.held)
-skips-none s r d l h k =
+-- other bytes do
+pub first-none : (s : ReaderState) (r : Bool) → s.is_decided ≡ true → unit_size s.encoding ≤ length s.held
+    → ((rest : List ℕ) → s.held ≡ ascii_bytes s.encoding line_feed ++ rest → r ≡ true) → r ≡ false → PassesFirst s 0
+first-none s r d l h k =
     let none : begins_with_lf (units s.encoding s.held) ≡ false = sym (lf_first-bytes s.encoding s.held) ∙ not-begins _ _ r h k in
-    record { alike = alike-passed (lines-passed_none s d (some-units s.encoding s.held l) none); decided = d; after_end = refl; none = λ m. m }
+    record {
+      within = omega arith;
+      alike = record { gives = lines-passed_none s d (some-units s.encoding s.held l) none; passed = refl; done = refl };
+      none = λ m. m;
+    }
+
+-- no CR stands before
+pub first-alone : (s : ReaderState) → s.after_cr ≡ false → PassesFirst s 0
+first-alone s a =
+    let P : Bool → Type 0 = λ v. IsAlike s (record s { after_cr = v }) in
+    record { within = omega arith; alike = subst P a (alike-self s); none = λ m. m }
 
 -- ---- where it is settled
 
@@ -102,35 +112,8 @@ tells-decided b (Present e n) h k = h.1
 tells-decided b Absent h k = h.1
 tells-decided b Undecided h k = absurd (k refl)
 
-alike-self : (s : ReaderState) → IsAlike s s
-alike-self s = record { gives = lines-start s; passed = refl; done = refl }
-
-pub alike-on : {s t u : ReaderState} → IsAlike s t → IsAlike t u → IsAlike s u
-alike-on h k = record { gives = lines-on h.gives k.gives; passed = k.passed ∙ h.passed; done = k.done ∙ h.done }
-
 pub alike-decided : (s : ReaderState) → s.is_decided ≡ false → awaits_bom s.held ≡ false → IsAlike s (after_decided s)
 alike-decided s h k = record { gives = lines-decided s h k; passed = refl; done = refl }
-
--- no LF is sought
-pub passes-none : (s : ReaderState) → s.is_decided ≡ true → s.after_cr ≡ false → PassesFeed s true s
-passes-none s d a = record { alike = alike-self s; decided = d; after_end = a; none = λ m. m }
-
--- one is passed over
-pub passes-skipped : (s t : ReaderState) → s.after_cr ≡ true → SkipsFeed s t → PassesFeed s true t
-passes-skipped s t a h = h
-
--- fewer bytes than a unit hold no line end
-pub short-none : (e : Encoding) (d : List ℕ) → length d < unit_size e → HoldsNoLineEndUnit e d
-short-none windows_1252 [] h = tt
-short-none windows_1252 (b ∷ d) h = absurd (omega arith)
-short-none utf_8 [] h = tt
-short-none utf_8 (b ∷ d) h = absurd (omega arith)
-short-none utf_16le [] h = tt
-short-none utf_16le (b ∷ []) h = tt
-short-none utf_16le (b ∷ c ∷ d) h = absurd (omega arith)
-short-none utf_16be [] h = tt
-short-none utf_16be (b ∷ []) h = tt
-short-none utf_16be (b ∷ c ∷ d) h = absurd (omega arith)
 
 -- a line end that is not held yet gives no line
 pub yet-more : (s : ReaderState) → s.is_done ≡ false → HoldsNoEndYet s → natural_to_come s [] more ≡ []
@@ -145,25 +128,9 @@ settles-waiting s g d h = record {
   no = λ e. (refl, inr (d, h));
 }
 
--- The LF that is of an end before is passed, or waited for.
-pub settles-decided : (s t : ReaderState) (settled : Bool) → s.is_done ≡ false → s.is_decided ≡ true → PassesFeed s settled t → Settles s settled t
-settles-decided s t true g d h =
-    record { alike = h.alike; yes = λ e. record { decided = h.decided; after_end = h.after_end }; no = λ e. absurd (cc) }
-settles-decided s t false g d (same, after, short) = rw same (record {
-  alike = alike-self s;
-  yes = λ e. absurd (cc);
-  no = λ e. (refl, inl (d, short-none s.encoding s.held short));
-})
-
--- The byte order mark was just decided, and no line end stands before.
-pub settles-deciding : (s t : ReaderState) (settled : Bool) → s.is_decided ≡ false → s.after_cr ≡ false → awaits_bom s.held ≡ false
-    → PassesFeed (after_decided s) settled t → Settles s settled t
-settles-deciding s t true d a h skips = record {
-  alike = alike-on (alike-decided s d h) skips.alike;
-  yes = λ e. record { decided = skips.decided; after_end = skips.after_end };
-  no = λ e. absurd (cc);
-}
-settles-deciding s t false d a h (same, after, short) = absurd (cc)
+-- The byte order mark is decided, and no line end stands before.
+pub settles-decided : (s : ReaderState) → s.is_decided ≡ false → s.after_cr ≡ false → awaits_bom s.held ≡ false → Settles s true (after_decided s)
+settles-decided s d a h = record { alike = alike-decided s d h; yes = λ e. record { decided = refl; after_end = a }; no = λ e. absurd (cc) }
 
 -- ---- where nothing more comes
 
@@ -187,47 +154,35 @@ waiting-none : (s : ReaderState) → s.is_decided ≡ false → HoldsNoEndYet s 
 waiting-none s d (inl h) = absurd (cc)
 waiting-none s d (inr h) = let f = waiting-front s.encoding s.held h.1 in rw f.0 f.1
 
--- the LF of an end before was passed, or none can come
-last-passed : (s t : ReaderState) (settled : Bool) → s.is_decided ≡ true → PassesFeed s settled t → SettlesLast s (record t { after_cr = false })
-last-passed s t true d h =
-    let e : t ≡ record t { after_cr = false } = ap (λ v. let w : ReaderState = record t { after_cr = v } in w) h.after_end in
-    let P : ReaderState → Type 0 = SettlesLast s in
-    subst P e (record {
-      gives = λ ending. h.alike.gives.gives [] ending;
-      passed = h.alike.passed;
-      done = h.alike.done;
-      settled = record { decided = h.decided; after_end = h.after_end };
-      none = λ k. h.none (yet-decided s d k);
-    })
-last-passed s t false d (same, after, short) = rw same (record {
+-- the LF of an end before is passed, or none can come
+pub last-decided : (s : ReaderState) (told : Option ℕ) → s.is_decided ≡ true → TellsStart s told → SettlesLast s (after_passed s (drop (unwrap_or told 0) s.held))
+last-decided s (Some start) d h = record {
+  gives = λ ending. h.alike.gives.gives [] ending;
+  passed = refl;
+  done = refl;
+  settled = record { decided = d; after_end = refl };
+  none = λ k. h.none (yet-decided s d k);
+}
+last-decided s None d (after, short) = record {
   gives = λ ending. gives-passed_last s ending d (sym (lf_first-bytes s.encoding s.held) ∙ short-not_begins s.encoding s.held short);
   passed = refl;
   done = refl;
   settled = record { decided = d; after_end = refl };
   none = λ k. yet-decided s d k;
-})
+}
 
-pub settles_last-decided : (s t : ReaderState) (settled : Bool) → s.is_decided ≡ true → PassesFeed s settled t → SettlesLast s (record t { after_cr = false })
-settles_last-decided = last-passed
-
-pub settles_last-deciding : (s t : ReaderState) (settled : Bool) → s.is_decided ≡ false → PassesFeed (after_decided s) settled t
-    → SettlesLast s (record t { after_cr = false })
-settles_last-deciding s t settled d p =
-    let k = last-passed (after_decided s) t settled refl p in
-    record {
-      gives = λ ending. gives-on (gives-decided_last s ending d) (k.gives ending);
-      passed = k.passed;
-      done = k.done;
-      settled = k.settled;
-      none = λ h. k.none (inl (refl, waiting-none s d h));
-    }
+pub last-deciding : (s : ReaderState) → s.is_decided ≡ false → s.after_cr ≡ false → SettlesLast s (after_decided s)
+last-deciding s d a = record {
+  gives = λ ending. gives-decided_last s ending d;
+  passed = refl;
+  done = refl;
+  settled = record { decided = refl; after_end = a };
+  none = waiting-none s d;
+}
 
 -- ---- reading on
 
 module _ {R : Type 0} {reader : Reader R} where
-  pub along-start : (s : ReaderState) (from : R) → Along reader s from [] s from
-  along-start s from = record { read = read-none from; gives = lines-start s; passed = refl; done = refl; lazy = inl (refl, refl) }
-
   -- a step that reads nothing
   pub along-alike : {s t u : ReaderState} {from to : R} {r : List ℕ} → Along reader s from r t to → IsAlike t u → Along reader s from r u to
   along-alike h k = record { read = h.read; gives = lines-then h.gives k.gives; passed = k.passed ∙ h.passed; done = k.done ∙ h.done; lazy = h.lazy }
@@ -387,26 +342,7 @@ found-state t line_end number h n =
     let m : drop (line_end.at + unit_size t.encoding) t.held ≡ h.rest = after-end t.encoding t.held h.rest line_end.at (end_character line_end.is_cr) (omega (arith, h.within)) h.line.held in
     rw (m, n, is-cr line_end.is_cr) refl
 
--- the finder after the last line
-abbrev pub at_last_line : ReaderState → Finder
-at_last_line t = record { state = record t { held = []; is_done = true }; line = t.held }
-
-pub last-state : (t w : ReaderState) (d : List ℕ) → w ≡ record t { is_done = true } → d ≡ t.held
-    → (let f : Finder = record { state = record w { held = drop (length d) w.held }; line = take (length d) w.held } in f) ≡ at_last_line t
-last-state t w d h k =
-    let none : drop (length t.held) t.held ≡ [] = grind (arith, common_steps) in
-    rw (h, k, none, take-length t.held) refl
-
 -- ---- lines that are held
-
-pub first-lf : (s : ReaderState) (n : ℕ) → s.is_decided ≡ true → s.after_cr ≡ true → n ≤ length s.held → s.held ≡ ascii_bytes s.encoding line_feed ++ drop n s.held
-    → PassesFirst s n
-first-lf s n d a w h = record { within = w; alike = (skips-lf s (drop n s.held) d a h).alike }
-
-pub first-none : (s : ReaderState) (r : Bool) → s.is_decided ≡ true → length (ascii_bytes s.encoding line_feed) ≤ length s.held
-    → ((rest : List ℕ) → s.held ≡ ascii_bytes s.encoding line_feed ++ rest → r ≡ true) → r ≡ false → PassesFirst s 0
-first-none s r d l h k =
-    record { within = omega arith; alike = (skips-none s r d (omega (arith, l, length-ascii_bytes s.encoding line_feed)) h k).alike }
 
 -- a search of the bytes finds such a line
 pub peeks : (s : ReaderState) (line : HeldLine) → IsLineStart s line.start → IsFirstLineEnd s.encoding (drop line.start s.held) line.end → IsHeldLine s line
@@ -450,35 +386,13 @@ module _ {R : Type 0} {reader : Reader R} where
     lazy = inl (refl, refl);
   }
 
-  pub found-next : {old begun t : ReaderState} {from to : R} (line_end : LineEnd) (number : ℕ) (new : Finder) → begun ≡ old → HasFound reader begun from line_end t to → old.is_done ≡ false
-      → number ≡ old.passed + 1 → new ≡ found_at t line_end number → FindsNext reader old from number new to
-  found-next {old} {t = t} {from} {to} line_end number new same sought g n e =
-      let Q : ReaderState → Type 0 = λ v. HasFound reader v from line_end t to in
-      let h = subst Q same sought in
-      let k : number ≡ t.passed + 1 = n ∙ ap (λ v. v + 1) (sym h.along.passed) in
-      let c = end_character line_end.is_cr in
-      let took = lines-then h.along.gives (lines-take t (take line_end.at t.held) c h.held.rest h.held.line) in
-      let P : Finder → Type 0 = λ v. FindsNext reader old from number v to in
-      subst P (sym e) (record {
-        bytes = h.bytes;
-        read = h.along.read;
-        live = g;
-        numbered = n;
-        passes = finder.Passes.going_on h.held.line.going (rw (← found-state t line_end number h.held k) (rw k took));
-        counted = λ d. refl;
-        ended = λ d. let b = h.held.line.going in absurd (cc);
-        lazy = h.along.lazy;
-      })
-
-  pub found-last : {old begun t : ReaderState} {from to : R} (number : ℕ) (new : Finder) → begun ≡ old → HasEnded reader begun from t to → old.is_done ≡ false
-      → number ≡ old.passed + 1 → new ≡ at_last_line t → FindsNext reader old from number new to
-  found-last {old} {t = t} {from} {to} number new same sought g n e =
-      let Q : ReaderState → Type 0 = λ v. HasEnded reader v from t to in
-      let h = subst Q same sought in
+  -- the last line was
+  pub found-last : {s t : ReaderState} {from to : R} (number : ℕ) (new : Finder) → s.is_done ≡ false → number ≡ s.passed + 1 → HasEnded reader s from t to
+      → new ≡ record { state = record t { held = []; is_done = true }; line = t.held } → FindsNext reader s from number new to
+  found-last {s} {t} {from} {to} number new g n h e =
       let k : number ≡ t.passed + 1 = n ∙ ap (λ v. v + 1) (sym h.last.passed) in
       let u : ReaderState = record t { held = []; is_done = true } in
-      let P : Finder → Type 0 = λ v. FindsNext reader old from number v to in
-      subst P (sym e) (record {
+      rw e (record {
         bytes = h.bytes;
         read = h.read;
         live = g;
@@ -489,14 +403,11 @@ module _ {R : Type 0} {reader : Reader R} where
         lazy = inr h.last.lazy;
       })
 
-  pub found-none : {old : ReaderState} {from to : R} {number : ℕ} {e : LineError} (begun t u : ReaderState) (error : FillError) → begun ≡ old → Seeks reader begun from (Err error) t to
-      → number ≡ old.passed + 1 → IsRefused number error e → FindsError reader old from e u to
-  found-none {old} {from} {to} begun t u (Memory error) same sought n is =
-      let Q : ReaderState → Type 0 = λ v. HasNoRoom reader v from to in
-      inr (inr (record { room = subst Q same sought; is = is }))
-  found-none {old} {from} {to} {e = e} begun t u (Io error) same sought n is =
-      let Q : ReaderState → Type 0 = λ v. HasBroken reader v from error t to in
-      let h = subst Q same sought in
+  -- none could be read
+  pub found-none : {s : ReaderState} (t u : ReaderState) {from to : R} {number : ℕ} {e : LineError} (error : FillError) → Seeks reader s from (Err error) t to → number ≡ s.passed + 1
+      → IsRefused number error e → FindsError reader s from e u to
+  found-none t u (Memory error) h n is = inr (inr (record { room = h; is = is }))
+  found-none t u {e = e} (Io error) h n is =
       let k = natural-fault _ h.last.none in
       inl (record {
         bytes = h.bytes;

@@ -1,10 +1,18 @@
 -- How natural lines are joined, step by step.
-use Rattle.std.proofs.Common.{◌≡◌, ◌+◌, ℕ, true, false, List, [], ◌∷◌, ◌++◌, refl, sym, ap, ap₂, ◌∙◌, inl, inr, subst, append_assoc, append-nil}
-use Rattle.std.specs.Prelude.{◌⊎◌, Option, Some, None, Result, Ok, Err}
+use Rattle.std.proofs.Common.{◌≡◌, ◌+◌, ◌==◌, ℕ, suc, Bool, true, false, arith, eqb-true, List, [], ◌∷◌, ◌++◌, refl, sym, ap, ap₂, ◌∙◌, inl, inr, subst, append_assoc, append-nil}
+use Rattle.std.specs.Prelude.{◌⊎◌, if◌then◌else◌, Option, Some, None, Result, Ok, Err}
 use Rattle.std.specs.Str.{chars}
-use Rattle.std.proofs.lemmas.Bool.{cases_Bool}
+use Rattle.std.proofs.lemmas.Bool.{cases_Bool, or_from, false_from_ne_true}
+use Rattle.memchr.specs.Find.{IsFirstByte, is_byte}
 use Rattle.counted_io.specs.Streams.{Reader}
 use Rattle.counted_io.proofs.Streams.{read-none, read-more, failed-more}
+use Rattle.properties_format.specs.Text.{backslash}
+use Rattle.properties_format.specs.Encoding.{Encoding, windows_1252, utf_8, utf_16le, utf_16be, ascii_bytes, IsPieces}
+use Rattle.properties_format.specs.Pieces.{Piece, characters}
+use Rattle.properties_format.specs.Reading.Encoding.{pieces_of}
+use Rattle.properties_format.specs.Reading.Cut.{decoded_line}
+use Rattle.properties_format.proofs.Encodings.Pieces.{pieces_of-meets}
+use Rattle.properties_format.proofs.Encodings.Characters.{piece-ascii}
 use Rattle.properties_format.specs.Lines as format
 use Rattle.properties_format.specs.Lines.{InputEnd, end, fault, more}
 use Rattle.properties_format.specs.Groups.{is_open, is_comment_line, addition, without_open_backslash}
@@ -16,7 +24,8 @@ use Rattle.properties_format.proofs.ItemsToCome.Entries.{joining-open, joining-c
 use Rattle.properties_format.proofs.ItemsToCome.Steps.{lines-start, lines-on, on-start, on-open, logical-comment_line, logical-closed}
 use Rattle.properties_format.specs.Reading.ReaderSteps.{ReadsLines}
 use Rattle.properties_text.specs.Escaping.{holds_backslash}
-use Rattle.properties_text.proofs.Texts.Resolving.{plain-closed}
+use Rattle.properties_text.proofs.Texts.Resolving.{plain-closed, holds-part}
+use Rattle.properties_lines.specs.LineTexts.{KeepsText}
 use Rattle.properties_lines.specs.LineFinder as finder
 use Rattle.properties_lines.specs.LineFinder.{Finder, Passes, PassesSome, PassesAll, IsLazy, TakesHeld, FindsError, FindsFault, FindsTooMany, FindsNoRoom}
 use Rattle.properties_lines.specs.LineJoiner.{line_text, join_of, Pends, Closes, IsLazyJoin, IsLazyItems, GoesOn, JoinsAll, JoinError, Joiner, numbered_line, TakesPlain, JoinsPlain, FindsNext, Comes, JoinsAfter, JoinsOn, JoinsNext, JoinsError}
@@ -42,6 +51,47 @@ pub takes-plain : (s : ReaderState) (number : ℕ) (f : Finder) (line : List ℕ
 takes-plain s number f line h same plain =
     let P : List ℕ → Type 0 = λ v. ReadsLines s [] (record { number = number; text = v } ∷ []) f.state in
     record { live = h.live; numbered = h.numbered; reads = subst P same h.reads; going = h.going; counted = h.counted; plain = plain }
+
+-- a search found no backslash
+pub none-found : (bytes : List ℕ) → IsFirstByte (is_byte backslash) bytes None → holds_backslash bytes ≡ false
+none-found [] h = refl
+none-found (b ∷ bytes) h =
+    or_from (b == backslash) (holds_backslash bytes) (false_from_ne_true (b == backslash) (h 0 (omega arith) (omega arith)))
+    (none-found bytes (λ k l e. h (suc k) (omega arith) (omega arith)))
+
+-- a backslash is a byte by itself, in each encoding
+backslash-bytes : (e : Encoding) → holds_backslash (ascii_bytes e backslash) ≡ true
+backslash-bytes windows_1252 = refl
+backslash-bytes utf_8 = refl
+backslash-bytes utf_16le = refl
+backslash-bytes utf_16be = refl
+
+unescaped-pieces : (e : Encoding) (d : List ℕ) (ps : List Piece) → IsPieces e d ps → holds_backslash d ≡ false → holds_backslash (characters ps) ≡ false
+unescaped-pieces e d [] h k = refl
+unescaped-pieces e d (p ∷ ps) (rest, same, is, others) k =
+    let none : holds_backslash (p.bytes ++ rest) ≡ false = ap holds_backslash (sym same) ∙ k in
+    or_from (p.character == backslash) (holds_backslash (characters ps))
+    (elim (cases_Bool (p.character == backslash)) [
+      | inl b ↦
+          let c : p.character ≡ backslash = eqb-true p.character backslash b in
+          let bytes = piece-ascii e p rest is (omega (arith, c)) ∙ ap (ascii_bytes e) c in
+          absurd (cc (holds-part [] p.bytes rest none, ap holds_backslash bytes, backslash-bytes e))
+      | inr b ↦ b
+    ])
+    (unescaped-pieces e rest ps others (holds-part p.bytes rest [] (rw append-nil none)))
+
+-- a text holds no backslash where its bytes hold none
+unescaped-decoded : (e : Encoding) (d : List ℕ) → holds_backslash d ≡ false → holds_backslash (decoded_line e d) ≡ false
+unescaped-decoded e d h = unescaped-pieces e d (pieces_of e d) (pieces_of-meets e d) h
+
+-- a line that was held, and what is kept of its text
+pub takes-kept : (s : ReaderState) (number : ℕ) (f : Finder) (is_kept : Bool) (text : List ℕ) → TakesHeld s number f
+    → KeepsText f.state.encoding f.line is_kept text → holds_backslash f.line ≡ false
+    → TakesPlain s number (record { state = f.state; line = if is_kept then text else f.line })
+takes-kept s number f true text h keeps plain =
+    takes-plain s number f text h (sym keeps) (ap holds_backslash keeps ∙ unescaped-decoded f.state.encoding f.line plain)
+takes-kept s number f false text h keeps plain =
+    takes-plain s number f f.line h (sym keeps.1) (ap holds_backslash keeps.1 ∙ unescaped-decoded f.state.encoding f.line plain)
 
 -- none came
 pub not-plain : (old new : Joiner) {answer : Option ℕ} → JoinsPlain old answer new → ((number : ℕ) → answer ≡ Some number → ⊥) → new.state ≡ old.state

@@ -1,15 +1,13 @@
 -- The steps of a search for a line end among undecoded bytes.
-use Rattle.std.proofs.Common.{eqb, map, inl, inr, ◌≡◌, ◌<◌, ◌≤◌, ◌+◌, ◌-◌, ◌%◌, ◌==◌, ℕ, suc, zero, true, false, Bool, List, [], ◌∷◌, ◌++◌, take, drop, length, get_or}
+use Rattle.std.proofs.Common.{inl, inr, ◌≡◌, ◌<◌, ◌≤◌, ◌+◌, ◌-◌, ◌%◌, ◌==◌, ℕ, suc, zero, true, false, Bool, List, [], ◌∷◌, ◌++◌, take, drop, length, get_or}
 use Rattle.std.proofs.Common.{drop-cons, length-append, length-drop, refl, sym, ap, subst, ◌∙◌, arith}
 use Rattle.std.specs.Prelude.{Option, Some, None, option_map}
 use Rattle.std.proofs.Math.Seq.{take-add}
-use Rattle.std.specs.Int.Count.{count_trailing_zeros}
-use Rattle.std.specs.Simd.Lanes.{mask_l}
-use Rattle.std.proofs.lemmas.Bool.{false_from_ne_true, cases_lt, agree_below_at}
-use Rattle.std.proofs.lemmas.List.{take-append-drop, take_rest, length-take-le, take-append-le, get_or-drop, get_or-take}
+use Rattle.std.proofs.lemmas.Bool.{false_from_ne_true, cases_lt}
+use Rattle.std.proofs.lemmas.List.{take-append-drop, take_rest, length-take-le, take-append-le, get_or-drop}
 use Rattle.std.proofs.lemmas.Bool.Decides.{nat_tests}
 use Rattle.std.proofs.lemmas.Grind.{common_steps}
-use Rattle.properties_text.proofs.ByteSearch.{no_lane, first_lane}
+use Rattle.byte_blocks.proofs.Searching.{none-in_block, first-in_block, long-block}
 use Rattle.memchr.specs.Find.{Nowhere, NoneBefore, Passes, IsFirst, IsFirstByte}
 use Rattle.properties_format.specs.Text.{carriage_return, is_line_end}
 use Rattle.properties_format.specs.Lines.{HoldsNoLineEnd}
@@ -18,7 +16,6 @@ use Rattle.properties_format.specs.Cut.{HoldsNoLineEndUnit}
 use Rattle.properties_format.proofs.Cut.Units.{no_end_unit-append, no_end_unit-left, no_end-no_unit}
 use Rattle.properties_lines.specs.LineSearch.{unit_size, whole_units, IsSearched, end_character, IsFirstLineEnd}
 use Rattle.properties_lines.specs.declared.search.LineEnd.{LineEnd}
-use Rattle.properties_lines.specs.declared.search.TheConstants.{LINE_ENDS}
 
 -- ---- Units.
 
@@ -129,57 +126,6 @@ nowhere-from : (d : List ℕ) (from count to : ℕ) → Nowhere (Passes is_line_
 nowhere-from d from count to h le k low high is = h (k - from) (omega arith) (omega arith) (ap is_line_end (read-from d from k low) ∙ is)
 
 -- ---- Blocks of sixteen.
-
--- one look-up
-pub line_end_at : (b : ℕ) → b < 256 → eqb b (get_or LINE_ENDS (b % 16) 0) ≡ is_line_end b
-line_end_at b h = agree_below_at (λ b. eqb b (get_or LINE_ENDS (b % 16) 0)) is_line_end 256 b refl h
-
--- The lanes before this one fail a test, and it passes, where it is one.
-pub record IsFirstLane (test : ℕ → Bool) (v : List ℕ) (first : ℕ) : Type 0 where
-  pub before : (k : ℕ) → k < first → k < 16 → test (get_or v k 0) ≡ false
-  pub there : first < 16 → test (get_or v first 0) ≡ true
-
--- Where no bit is set, no lane is a line end.
-pub clear-lanes : (v : List ℕ) (bits : ℕ) → length v ≡ 16 → bits ≡ mask_l (map is_line_end v) → bits ≡ 0 → IsFirstLane is_line_end v 16
-clear-lanes v bits long is no_bit =
-    let none = no_lane is_line_end v bits is no_bit in
-    record {
-      before = λ k h small. false_from_ne_true (is_line_end (get_or v k 0)) (none k (omega arith) (omega (arith, long, small)));
-      there = λ h. absurd (omega (arith, h));
-    }
-
--- Else the first that is set is that of a lane, which is the first line end.
-pub hit-lane : (v : List ℕ) (bits : ℕ) → length v ≡ 16 → bits ≡ mask_l (map is_line_end v) → 0 < bits
-    → (count_trailing_zeros 64 bits < 16) × IsFirstLane is_line_end v (count_trailing_zeros 64 bits)
-hit-lane v bits long is some =
-    let first = first_lane is_line_end v bits (omega (arith, long)) is some in (
-      omega (arith, first.0.high, long),
-      record {
-        before = λ k h small. false_from_ne_true (is_line_end (get_or v k 0)) (first.0.before k (omega arith) h);
-        there = λ h. first.1;
-      },
-    )
-
--- No line end stands in the lanes before it.
-pub nowhere-more : (bytes : List ℕ) (from at n first : ℕ) → at + 16 ≤ length bytes → n ≤ first → n ≤ 16 → Nowhere (Passes is_line_end bytes) from at → IsFirstLane is_line_end (take 16 (drop at bytes)) first
-    → Nowhere (Passes is_line_end bytes) from (at + n)
-nowhere-more bytes from at n first within low small none lane k i j p = elim (cases_lt k at) [
-  | inl h ↦ none k i h p
-  | inr h ↦
-      let place = k - at in
-      let same : get_or (take 16 (drop at bytes)) place 0 ≡ get_or bytes k 0 =
-      get_or-take 16 (drop at bytes) place 0 (omega (arith, h, j, small)) ∙ get_or-drop at bytes place 0 ∙ ap (λ i. get_or bytes i 0) (let e : at + place ≡ k = omega (arith, h) in e) in
-      absurd (cc (p, same, lane.before place (omega (arith, h, j, low)) (omega (arith, h, j, small))))
-]
-
--- The first lane that is one is the first of all.
-pub first-in-block : (bytes : List ℕ) (from at first : ℕ) → from ≤ at → at + 16 ≤ length bytes → first < 16 → Nowhere (Passes is_line_end bytes) from at
-    → IsFirstLane is_line_end (take 16 (drop at bytes)) first → IsFirst (Passes is_line_end bytes) from (length bytes) (Some (at + first))
-first-in-block bytes from at first low within small none lane =
-    let same : get_or (take 16 (drop at bytes)) first 0 ≡ get_or bytes (at + first) 0 = get_or-take 16 (drop at bytes) first 0 small ∙ get_or-drop at bytes first 0 in (
-      record { low = omega (arith, low); high = omega (arith, within, small); before = nowhere-more bytes from at first first within (omega arith) (omega (arith, small)) none lane },
-      ap is_line_end (sym same) ∙ lane.there small,
-    )
 
 -- A search goes on where another found none.
 pub first-on : (bytes : List ℕ) (from at : ℕ) (found : Option ℕ) → from ≤ at → Nowhere (Passes is_line_end bytes) from at → IsFirst (Passes is_line_end bytes) at (length bytes) found
@@ -371,12 +317,12 @@ searched-hit e bytes from hit size s h =
 
 -- a search goes on after a block without such a byte
 pub searched-block : (e : Encoding) (bytes : List ℕ) (at : ℕ) → unit_size e ≡ 2 → IsSearched e bytes at → at + 16 ≤ length bytes
-    → IsFirstLane is_line_end (take 16 (drop at bytes)) 16 → IsSearched e bytes (at + 16)
-searched-block e bytes at size s within lane =
+    → IsFirstByte is_line_end (take 16 (drop at bytes)) None → IsSearched e bytes (at + 16)
+searched-block e bytes at size s within none =
     let even : at % 2 ≡ 0 = subst (λ n. at % n ≡ 0) size (searched-size e bytes at s) in
     let two : (at + 16) % 2 ≡ 0 = omega arith in
     searched-up_to e bytes at (at + 16) s
-    (nowhere-more bytes at at 16 16 within (omega arith) (omega arith) (λ k low high p. absurd (omega (arith, low, high))) lane)
+    (none-in_block is_line_end bytes at at 16 at within (omega arith) (λ k low high p. absurd (omega (arith, low, high))) none)
     (omega arith) within (subst (λ n. (at + 16) % n ≡ 0) (sym size) two)
 
 -- a unit of a block in which such a byte stands, up to which there is none
@@ -384,14 +330,11 @@ pub record IsUnitThere (e : Encoding) (bytes : List ℕ) (end at : ℕ) : Type 0
   pub searched : IsSearched e bytes at
   pub within : at + 2 ≤ end
 
-pub unit-there : (e : Encoding) (bytes : List ℕ) (at end bits : ℕ) → unit_size e ≡ 2 → IsSearched e bytes at → at + 16 ≤ end → end ≤ length bytes
-    → bits ≡ mask_l (map is_line_end (take 16 (drop at bytes))) → ¬ (bits ≡ 0)
-    → IsUnitThere e bytes end (at + count_trailing_zeros 64 bits - (at + count_trailing_zeros 64 bits) % 2)
-unit-there e bytes at end bits size s room held is some =
-    let first = count_trailing_zeros 64 bits in
+pub unit-there : (e : Encoding) (bytes : List ℕ) (at end first : ℕ) → unit_size e ≡ 2 → IsSearched e bytes at → at + 16 ≤ end → end ≤ length bytes
+    → IsFirstByte is_line_end (take 16 (drop at bytes)) (Some first) → IsUnitThere e bytes end (at + first - (at + first) % 2)
+unit-there e bytes at end first size s room held is =
     let within : at + 16 ≤ length bytes = omega (arith, room, held) in
-    let long = length-take-le 16 (drop at bytes) (omega (arith, within, length-drop at bytes)) in
-    let hit = hit-lane (take 16 (drop at bytes)) bits long is (omega (arith, some)) in
+    let small : first < 16 = omega (arith, is.0.high, long-block bytes at 16 within) in
     let even : at % 2 ≡ 0 = subst (λ n. at % n ≡ 0) size (searched-size e bytes at s) in
-    let found = first-in-block bytes at at first (omega arith) within hit.0 (λ k low high p. absurd (omega (arith, low, high))) hit.1 in
-    record { searched = searched-hit e bytes at (at + first) size s found.0; within = omega (arith, even, room, hit.0) }
+    let found = first-in_block is_line_end bytes at at 16 at first (omega arith) within (omega arith) (λ k low high p. absurd (omega (arith, low, high))) is in
+    record { searched = searched-hit e bytes at (at + first) size s found.0; within = omega (arith, even, room, small) }

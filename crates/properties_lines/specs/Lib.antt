@@ -3,6 +3,7 @@ pub mod LineSearch
 pub mod PlainLines
 pub mod LineFinder
 pub mod LineTexts
+pub mod LineErrors
 pub mod LineJoiner
 pub mod NaturalLines
 pub mod Joining

@@ -1,4 +1,4 @@
--- What a contract sees of the line finder and of the seeker in it, and what their calls give and leave.
+-- What a contract sees of the line finder, and what its calls give and leave.
 use Rattle.std.specs.Prelude.{◌≡◌, ◌⊎◌, ◌+◌, ◌-◌, ◌^◌, ◌<◌, ◌≤◌, ℕ, Bool, true, false, if◌then◌else◌, List, [], ◌∷◌, take, drop, length, Option, Some, None, Result, Ok, Err}
 use Rattle.std.specs.declared.io.Error.{Error}
 use Rattle.counted_io.specs.Streams.{Reader, HasRead, HasFailed}
@@ -18,7 +18,7 @@ use Rattle.properties_lines.specs.declared.error.LineError.{LineError}
 use Rattle.properties_lines.specs.declared.input.FillError.{FillError}
 use Rattle.properties_lines.specs.declared.input.FillError.TheVariants.{Memory, Io}
 use Rattle.properties_lines.specs.declared.search.LineEnd.{LineEnd}
-use Rattle.properties_lines.specs.declared.seeker.HeldLine.{HeldLine}
+use Rattle.properties_lines.specs.declared.finder.HeldLine.{HeldLine}
 
 -- ---- what is held
 
@@ -52,17 +52,16 @@ pub record SettlesLast (old new : ReaderState) : Type 0 where
   pub settled : IsSettled new
   pub none : HoldsNoEndYet old → HoldsNoLineEndUnit new.encoding new.held
 
--- The LF that may stand at the front is passed over.
-pub record SkipsFeed (old new : ReaderState) : Type 0 where
-  pub alike : IsAlike old new
-  pub decided : new.is_decided ≡ true
-  pub after_end : new.after_cr ≡ false
-  pub none : HoldsNoLineEndUnit old.encoding old.held → HoldsNoLineEndUnit new.encoding new.held
+-- The next line starts after so many bytes: after an LF that is of the line end before, or where none is.
+pub record PassesFirst (s : ReaderState) (count : ℕ) : Type 0 where
+  pub within : count ≤ length s.held
+  pub alike : IsAlike s (after_passed s (drop count s.held))
+  pub none : HoldsNoLineEndUnit s.encoding s.held → HoldsNoLineEndUnit s.encoding (drop count s.held)
 
--- It is known whether an LF comes that is of a line end before, and if so it was passed; or too little is held to tell.
-abbrev pub PassesFeed : ReaderState → Bool → ReaderState → Type 0
-PassesFeed old true new = SkipsFeed old new
-PassesFeed old false new = (new ≡ old) × (old.after_cr ≡ true) × (length old.held < unit_size old.encoding)
+-- The next line starts there; or a CR stands before, and too little is held to tell whether an LF comes.
+abbrev pub TellsStart : ReaderState → Option ℕ → Type 0
+TellsStart s (Some start) = PassesFirst s start
+TellsStart s None = (s.after_cr ≡ true) × (length s.held < unit_size s.encoding)
 
 -- ---- seeking
 
@@ -140,11 +139,6 @@ Seeks reader old from (Err (Io error)) new to = HasBroken reader old from error 
 Seeks reader old from (Err (Memory error)) new to = HasNoRoom reader old from to
 
 -- ---- lines that are held
-
--- The bytes after so many come next: after an LF that is of the line end before, or where none is.
-pub record PassesFirst (s : ReaderState) (count : ℕ) : Type 0 where
-  pub within : count ≤ length s.held
-  pub alike : IsAlike s (after_passed s (drop count s.held))
 
 -- The reading goes on in an encoding that is decided, the next line starts after so many bytes, and there is a number for it.
 pub record IsLineStart (s : ReaderState) (start : ℕ) : Type 0 where

@@ -7,7 +7,7 @@ ghost use Rattle.properties_format.specs.Groups.{addition, is_comment_line, is_o
 
 use properties_text::characters::is_comment_sign;
 use properties_text::escape::count_ending_backslashes;
-use properties_text::parse::{indentation, leading_blanks};
+use properties_text::parse::leading_blanks;
 
 /// Whether the first character that is no blank is a comment sign.
 pub fn is_comment_line(text: &str) -> bool
@@ -48,5 +48,5 @@ pub fn addition(text: &str) -> &str
 fn without_leading_blanks(text: &str) -> &str
     ensures { chars result.now ≡ without_leading_blanks (chars text.now) }
 {
-    &text[indentation(text.as_bytes())..]
+    &text[leading_blanks(text.as_bytes())..]
 }

@@ -4,7 +4,6 @@ ghost use Rattle.std.specs.Prelude.{◌≡◌, ◌≤◌, ◌<◌, false, true, 
 ghost use Rattle.properties_format.specs.Groups.{without_open_backslash};
 ghost use Rattle.std.specs.Str.{IsUtf8, chars};
 ghost use Rattle.counted_io.specs.Streams.{IsSameReader};
-ghost use Rattle.properties_format.specs.Encoding.{windows_1252};
 ghost use Rattle.properties_format.specs.ItemsToCome.{start};
 ghost use Rattle.properties_text.specs.Encoding.{encoding_of};
 ghost use Rattle.properties_lines.specs.LineFinder.{lines_left, IsHeldLine};
@@ -12,17 +11,14 @@ ghost use Rattle.properties_text.specs.Escaping.{holds_backslash};
 ghost use Rattle.properties_lines.specs.LineJoiner.{Joiner, Finds, Joins, JoinsAfter, JoinsOn, JoinsPlain, TakesPlain, IsTextLine};
 
 use crate::error::LineError;
-use crate::finder::LineFinder;
+use crate::finder::{HeldLine, LineFinder};
 use crate::join::{is_comment_line, is_open};
 use crate::plain::plain_front;
 use crate::search::{LineEnd, unit_size};
-use crate::seeker::HeldLine;
 use crate::texts::{add_line, keep_opened, keep_text, kept_text};
 use counted_io::CountedRead;
 use memchr::memchr;
-use properties_text::encoding::decode::as_text;
 use properties_text::encoding::{Encoding, TextBuffer};
-use properties_text::escape::has_backslash;
 use std::alloc::{AllocError, Global};
 use std::marker::Model;
 
@@ -90,14 +86,28 @@ impl LineJoiner {
         if plain.is_ascii {
             Some(self.take_plain(HeldLine { start, end }))
         } else {
-            self.take_past_ascii(start, end.at, end.is_cr)
+            self.take_unescaped(start, end.at, end.is_cr)
         }
     }
 
-    // The same of a line past ASCII that is held at this place. It is passed in parts, so that the caller needn't put it into
-    // memory.
+    // `next_plain` where units aren't bytes.
     #[inline(never)]
-    fn take_past_ascii(&mut self, start: usize, at: usize, is_cr: bool) -> Option<usize>
+    fn next_of_units(&mut self) -> Option<usize>
+        ensures joins { JoinsPlain self.old result self.new }
+        ensures nearer { OnSome result (lines_left self.new.state < lines_left self.old.state) }
+    {
+        let line = self.finder.peek()?;
+        // Not even decoded, where it may hold a backslash.
+        match memchr(b'\\', self.finder.peeked(line)) {
+            Some(_) => None,
+            None => self.take_unescaped(line.start, line.end.at, line.end.is_cr),
+        }
+    }
+
+    // Takes a line that is held at this place, whose bytes hold no backslash. It is passed in parts, so that the caller
+    // needn't put it into memory.
+    #[inline(never)]
+    fn take_unescaped(&mut self, start: usize, at: usize, is_cr: bool) -> Option<usize>
         requires held { IsHeldLine self.old.state (record { start = start; end = record { at = at; is_cr = is_cr } }) }
         requires unescaped { holds_backslash (take at (drop start self.old.state.held)) ≡ false }
         ensures joins { JoinsPlain self.old result self.new }
@@ -105,64 +115,12 @@ impl LineJoiner {
     {
         let end = LineEnd { at, is_cr };
         let line = HeldLine { start, end };
-        match self.finder.encoding() {
-            Encoding::WINDOWS_1252 => self.take_windows_1252(line),
-            Encoding::UTF_8 => self.take_utf_8(line),
-            // Their units aren't bytes.
-            Encoding::UTF_16LE | Encoding::UTF_16BE => None,
-        }
-    }
-
-    // Where its bytes are text.
-    fn take_utf_8(&mut self, line: HeldLine) -> Option<usize>
-        requires held { IsHeldLine self.old.state line }
-        requires unescaped { holds_backslash (take line.end.at (drop line.start self.old.state.held)) ≡ false }
-        ensures joins { JoinsPlain self.old result self.new }
-        ensures nearer { OnSome result (lines_left self.new.state < lines_left self.old.state) }
-    {
-        let encoding = self.finder.encoding();
-        let _text = as_text(encoding, self.finder.peeked(line))?;
-        Some(self.take_plain(line))
-    }
-
-    // Its text is decoded. Where memory runs out, the long way finds that out anew.
-    fn take_windows_1252(&mut self, line: HeldLine) -> Option<usize>
-        requires encoding { self.old.state.encoding ≡ windows_1252 }
-        requires held { IsHeldLine self.old.state line }
-        requires unescaped { holds_backslash (take line.end.at (drop line.start self.old.state.held)) ≡ false }
-        ensures joins { JoinsPlain self.old result self.new }
-        ensures nearer { OnSome result (lines_left self.new.state < lines_left self.old.state) }
-    {
-        self.text.clear();
         let bytes = self.finder.peeked(line);
-        let Ok(()) = self.text.push_decoded(Encoding::WINDOWS_1252, bytes) else {
+        // Where memory runs out, the long way finds that out anew.
+        let Ok(is_kept) = keep_text(&mut self.text, self.finder.encoding(), bytes) else {
             return None;
         };
-        self.is_kept = true;
-        Some(self.finder.take_line(line))
-    }
-
-    // `next_plain` where units aren't bytes: the line is decoded.
-    #[inline(never)]
-    fn next_of_units(&mut self) -> Option<usize>
-        ensures joins { JoinsPlain self.old result self.new }
-        ensures nearer { OnSome result (lines_left self.new.state < lines_left self.old.state) }
-    {
-        let line = self.finder.peek()?;
-        let bytes = self.finder.peeked(line);
-        // Not even decoded, where it may hold a backslash.
-        if memchr(b'\\', bytes).is_some() {
-            return None;
-        }
-        self.text.clear();
-        let Ok(()) = self.text.push_decoded(self.finder.encoding(), bytes) else {
-            return None;
-        };
-        // Never so, since a backslash has a byte like one. That isn't proved.
-        if has_backslash(self.text.as_str()) {
-            return None;
-        }
-        self.is_kept = true;
+        self.is_kept = is_kept;
         Some(self.finder.take_line(line))
     }
 

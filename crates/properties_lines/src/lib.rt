@@ -16,6 +16,5 @@ pub mod join;
 pub mod joiner;
 mod plain;
 pub mod search;
-mod seeker;
 pub mod single_lines;
 pub mod texts;

@@ -1,14 +1,14 @@
 // Lines without a backslash at the front of the bytes that are held, sixteen bytes at once.
 
-ghost use Rattle.std.specs.Prelude.{◌≡◌, ◌<◌, true, false, nat_le, map, take, length, IfSome};
+ghost use Rattle.std.specs.Prelude.{◌≡◌, ◌<◌, true, false, take, length, IfSome};
 ghost use Rattle.std.specs.Str.{IsAscii};
-ghost use Rattle.std.specs.Simd.Lanes.{mask_l};
 ghost use Rattle.memchr.specs.Find.{Nowhere, Passes};
 ghost use Rattle.properties_format.specs.Text.{is_line_end};
 ghost use Rattle.properties_text.specs.Escaping.{holds_backslash};
-ghost use Rattle.properties_lines.specs.PlainLines.{ends_plain, IsPlainLine};
+ghost use Rattle.properties_lines.specs.PlainLines.{IsPlainLine};
 
 use crate::search::LineEnd;
+use byte_blocks::{ByteClass, PastAscii, PlainEnds};
 use properties_text::characters::is_line_end;
 use std::simd::prelude::*;
 
@@ -20,9 +20,6 @@ pub struct PlainLine {
     /// Whether all of its bytes are known to be ASCII.
     pub is_ascii: bool,
 }
-
-// The byte with these low four bits that ends a plain text, or else one with other low bits.
-static ENDS: [u8; 16] = [1, 0, 0, 0, 0, 0, 0, 0, 0, 0, b'\n', 0, b'\\', b'\r', 0, 0];
 
 /// The line that the bytes begin with, if it holds no backslash. `None` says nothing, since the last bytes aren't searched.
 #[inline(always)]
@@ -37,13 +34,12 @@ pub fn plain_front(bytes: &[u8]) -> Option<PlainLine>
     let mut is_ascii = true;
     while bytes.len() - at >= 16 {
         let v = u8x16::from_slice(&bytes[at..]);
-        let first = ends_plain_bits(v).trailing_zeros();
-        let past = past_ascii_bits(v);
-        if first < 16 {
-            is_ascii = is_ascii && first <= past.trailing_zeros();
-            return line_at(bytes, at + first as usize, is_ascii);
+        let past = PastAscii::marks(v);
+        if let Some(first) = PlainEnds::marks(v).first() {
+            is_ascii = is_ascii && past.is_clear_before(first);
+            return line_at(bytes, at + first, is_ascii);
         }
-        is_ascii = is_ascii && past == 0;
+        is_ascii = is_ascii && past.is_clear();
         at += 16;
     }
     None
@@ -66,24 +62,6 @@ fn line_at(bytes: &[u8], at: usize, is_ascii: bool) -> Option<PlainLine>
         end: LineEnd { at, is_cr },
         is_ascii,
     })
-}
-
-// Bit i is set where byte i is past ASCII.
-#[inline(always)]
-fn past_ascii_bits(v: u8x16) -> u64
-    ensures { result ≡ mask_l (map (nat_le 0x80) v) }
-{
-    v.simd_ge(u8x16::splat(0x80)).to_bitmask()
-}
-
-// Bit i is set where byte i is a CR, an LF or a backslash.
-#[inline(always)]
-fn ends_plain_bits(v: u8x16) -> u64
-    ensures { result ≡ mask_l (map ends_plain v) }
-{
-    let low = v & u8x16::splat(15);
-    let ends = u8x16::from_array(ENDS).swizzle_dyn(low);
-    v.simd_eq(ends).to_bitmask()
 }
 
 #[cfg(test)]

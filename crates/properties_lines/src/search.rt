@@ -1,7 +1,6 @@
 // The search for line ends among undecoded bytes.
 
-ghost use Rattle.std.specs.Prelude.{◌≡◌, ◌≤◌, length, take, map};
-ghost use Rattle.std.specs.Simd.Lanes.{mask_l};
+ghost use Rattle.std.specs.Prelude.{◌≡◌, ◌≤◌, length, take};
 ghost use Rattle.memchr.specs.Find.{IsFirst, Passes};
 ghost use Rattle.properties_format.specs.Text.{is_line_end};
 ghost use Rattle.properties_format.specs.Lines.{HoldsNoLineEnd};
@@ -9,15 +8,12 @@ ghost use Rattle.properties_text.specs.Encoding.{encoding_of};
 ghost use Rattle.properties_lines.specs.LineSearch.{unit_size, whole_units, IsSearched, IsLineEndUnit};
 ghost use Rattle.properties_lines.specs.LineSearch.{FindsLineEnd, FindsLineEndByte};
 
+use byte_blocks::{LineEnds, find_in_block};
 use memchr::memchr2;
 use properties_text::encoding::Encoding;
-use std::simd::prelude::*;
 
 // Up to how many bytes away this search looks for a line end. Past that, a search by larger steps pays.
 const NEAR: usize = 128;
-
-// The line end with these low four bits, or else a byte with other low bits.
-static LINE_ENDS: [u8; 16] = [1, 0, 0, 0, 0, 0, 0, 0, 0, 0, b'\n', 0, 0, b'\r', 0, 0];
 
 /// Where a line end stands among undecoded bytes.
 #[derive(Clone, Copy, Debug, PartialEq, Eq)]
@@ -81,12 +77,11 @@ fn find_in_units(encoding: Encoding, bytes: &[u8], from: usize) -> Option<LineEn
     let near = from + (bytes.len() - from).min(NEAR);
     let mut searched = from;
     while near - searched >= 16 {
-        let bits = line_end_bits(u8x16::from_slice(&bytes[searched..]));
-        if bits == 0 {
+        let Some(first) = find_in_block::<LineEnds>(bytes, searched) else {
             searched += 16;
             continue;
-        }
-        let hit = searched + bits.trailing_zeros() as usize;
+        };
+        let hit = searched + first;
         let unit = hit - hit % 2;
         if let Some(is_cr) = line_end_unit(encoding, bytes[unit], bytes[unit + 1]) {
             return Some(LineEnd { at: unit, is_cr });
@@ -126,23 +121,12 @@ fn find_end_byte(bytes: &[u8], from: usize) -> Option<usize>
 {
     let mut at = from;
     while at - from < NEAR && bytes.len() - at >= 16 {
-        let bits = line_end_bits(u8x16::from_slice(&bytes[at..]));
-        if bits != 0 {
-            return Some(at + bits.trailing_zeros() as usize);
+        if let Some(first) = find_in_block::<LineEnds>(bytes, at) {
+            return Some(at + first);
         }
         at += 16;
     }
     search_end_byte(bytes, at)
-}
-
-// Bit i is set where byte i is a CR or an LF.
-#[inline(always)]
-fn line_end_bits(v: u8x16) -> u64
-    ensures { result ≡ mask_l (map is_line_end v) }
-{
-    let low = v & u8x16::splat(15);
-    let ends = u8x16::from_array(LINE_ENDS).swizzle_dyn(low);
-    v.simd_eq(ends).to_bitmask()
 }
 
 fn search_end_byte(bytes: &[u8], from: usize) -> Option<usize>

@@ -4,18 +4,16 @@ use Rattle.std.specs.Prelude.{Option, Some, None, IfSome}
 use Rattle.std.specs.Str.{IsAscii, IsUtf8, chars}
 use Rattle.std.specs.List.{AllByRecursion}
 use Rattle.std.proofs.lemmas.Bool.{cases_Bool, leb-true}
-use Rattle.std.specs.Simd.Lanes.{chunk}
-use Rattle.std.proofs.Math.Seq.{take-add}
-use Rattle.std.proofs.lemmas.List.{drop_more, length-drop, take-append-drop, take-take, take_all}
+use Rattle.std.proofs.lemmas.List.{drop_more, length-drop}
 use Rattle.std.proofs.lemmas.List.Elements.{All-from_recursion}
-use Rattle.std.proofs.lemmas.Str.{IsAscii-append, IsAscii-drop, IsAscii-take, chars-IsAscii, chars-append}
+use Rattle.std.proofs.lemmas.Str.{chars-IsAscii, chars-append}
 use Rattle.std.proofs.lemmas.Str.Ascii.{IsAscii-from_all}
 use Rattle.properties_format.specs.Encoding.{utf_16le, utf_16be}
 use Rattle.properties_format.proofs.Encodings.Waiting.{characters-step}
 use Rattle.properties_format.proofs.Encodings.WellFormed.{characters-ascii}
 use Rattle.properties_text.specs.Decoding.{text_of, unit_of, utf_16_of, AreFour, IsAsciiFront}
 use Rattle.properties_text.specs.declared.encoding.Encoding.TheVariants.{WINDOWS_1252}
-use Rattle.properties_text.specs.declared.encoding.run.AsciiFront.{AsciiFront}
+use Rattle.properties_text.specs.declared.encoding.decode.AsciiFront.{AsciiFront}
 use Rattle.properties_text.specs.declared.encoding.utf_16.ByteOrder.{ByteOrder}
 use Rattle.properties_text.specs.declared.encoding.utf_16.ByteOrder.TheVariants.{LowFirst, HighFirst}
 use Rattle.properties_text.proofs.TextFronts.{taken-rest}
@@ -92,19 +90,3 @@ bytes-front bytes a b c d front long ea eb ec ed are =
       same = rw (are.text, rest) (ap (text_of WINDOWS_1252) whole ∙ characters-ascii text (drop 4 bytes) is ∙ ap (λ v. v ++ text_of WINDOWS_1252 (drop 4 bytes)) (chars-IsAscii text is));
       shorter = rw (rest, length-drop 4 bytes) (omega (arith, long));
     }
-
--- ---- blocks of sixteen
-
-pub ascii-chunk : (bytes : List ℕ) (i n : ℕ) → IsAscii bytes → IsAscii (chunk i n bytes)
-ascii-chunk bytes i n h = IsAscii-take (drop i bytes) n (IsAscii-drop bytes i h)
-
-pub ascii-more : (bytes : List ℕ) (at : ℕ) → IsAscii (take at bytes) → IsAscii (chunk at 16 bytes) → IsAscii (take (at + 16) bytes)
-ascii-more bytes at h k = subst IsAscii (sym (take-add at 16 bytes)) (IsAscii-append (take at bytes) (chunk at 16 bytes) h k)
-
--- the first and the last sixteen, that meet
-pub ascii-whole : (bytes : List ℕ) (at : ℕ) → 16 ≤ length bytes → length bytes ≤ at + 16 → IsAscii (take at bytes) → IsAscii (chunk (length bytes - 16) 16 bytes) → IsAscii bytes
-ascii-whole bytes at long meets h k =
-    let before = length bytes - 16 in
-    let front = subst IsAscii (take-take before at bytes (omega arith)) (IsAscii-take (take at bytes) before h) in
-    let back = subst IsAscii (take_all 16 (drop before bytes) (omega (arith, length-drop before bytes))) k in
-    subst IsAscii (take-append-drop before bytes) (IsAscii-append (take before bytes) (drop before bytes) front back)

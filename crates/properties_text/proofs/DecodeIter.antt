@@ -16,8 +16,8 @@ use Rattle.properties_text.specs.declared.encoding.Encoding as named
 use Rattle.properties_text.specs.declared.encoding.byte_order_mark.ByteOrderMark.{ByteOrderMark}
 use Rattle.properties_text.specs.declared.encoding.byte_order_mark.ByteOrderMark.TheVariants.{Present, Absent, Undecided}
 use Rattle.properties_text.specs.DecodeIter.{Undecoded, is_over, awaits_piece, waits, coming, characters_to_come, CanCome, GivesOn, GoesOn, Decodes, Ends, ShowsFault}
-use Rattle.properties_text.specs.declared.encoding.decode_iter.Ending.{Ending}
-use Rattle.properties_text.specs.declared.encoding.decode_iter.Ending.TheVariants.{More, End, Fault}
+use Rattle.properties_text.specs.declared.single_lines.decode_iter.Ending.{Ending}
+use Rattle.properties_text.specs.declared.single_lines.decode_iter.Ending.TheVariants.{More, End, Fault}
 
 -- ---- Bytes that wait are few.
 

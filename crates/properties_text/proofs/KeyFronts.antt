@@ -1,12 +1,11 @@
--- Plain characters at the front of a key, sixteen at once.
-use Rattle.std.proofs.Common.{◌≡◌, ℕ, zero, suc, ◌+◌, ◌<◌, ◌≤◌, ◌==◌, ◌||◌, true, false, cond, not, eqb, List, [], ◌∷◌, length, take, drop, get_or, map, refl, sym, ap, subst, ◌∙◌, inl, inr, arith}
-use Rattle.std.specs.List.{All, prefix_len}
-use Rattle.std.specs.Int.Count.{count_trailing_zeros}
-use Rattle.std.specs.Simd.Lanes.{mask_l}
-use Rattle.std.proofs.lemmas.Bool.{cases_Bool, or_parts, ne_eqb, eqb-true}
-use Rattle.std.proofs.lemmas.List.{take-append-drop, drop-take, take-take, take_all, get_or-take, length-take-le}
-use Rattle.std.proofs.lemmas.List.Elements.{All-nil, All-cons, All-head, All-tail, All-append, All-get_or}
-use Rattle.std.proofs.lemmas.Simd.{first_set_mask_l}
+-- Plain characters at the front of a key.
+use Rattle.std.proofs.Common.{◌≡◌, ℕ, zero, suc, ◌+◌, ◌<◌, ◌≤◌, ◌==◌, ◌||◌, Bool, true, false, List, length, take, get_or, refl, ap, subst, ◌∙◌, inl, inr, arith}
+use Rattle.std.specs.List.{All}
+use Rattle.std.proofs.lemmas.Bool.{cases_Bool, or_parts, ne_eqb, false_from_ne_true, ltb-false}
+use Rattle.std.proofs.lemmas.List.{get_or-take, length-take, length-take-le}
+use Rattle.std.proofs.lemmas.List.Elements.{All-get_or, All-from_get_or}
+use Rattle.memchr.specs.Find.{Nowhere, Passes}
+use Rattle.byte_blocks.specs.Classes.{is_control}
 use Rattle.properties_format.specs.Text.{space, tab, form_feed, backslash, is_separator, is_comment_sign}
 use Rattle.properties_format.specs.Printing.{is_special}
 use Rattle.properties_format.specs.Reading.Split.{ends_key}
@@ -23,46 +22,18 @@ plain-one c h s =
     let no_feed : (c == form_feed) ≡ false = ne_eqb c form_feed (λ e. absurd (omega (arith, e, h))) in
     rw (first.0, second.0, no_tab, no_feed, third.0) refl
 
--- those before the first that is special
-plain-prefix : (v : List ℕ) → All (λ c. space ≤ c) v → All (λ c. is_plain c ≡ true) (take (prefix_len (λ c. not (is_special c)) v) v)
-plain-prefix [] h = All-nil (λ c. is_plain c ≡ true)
-plain-prefix (c ∷ v) h = elim (cases_Bool (is_special c)) [
-  | inl s ↦ rw s (All-nil (λ c. is_plain c ≡ true))
-  | inr s ↦
-      let P : List ℕ → Type 0 = λ l. All (λ c. is_plain c ≡ true) l in
-      let n = prefix_len (λ c. not (is_special c)) v in
-      let more = All-cons (λ c. is_plain c ≡ true) c (take n v) (plain-one c (All-head (λ c. space ≤ c) c v h) s) (plain-prefix v (All-tail (λ c. space ≤ c) c v h)) in
-      rw s (subst (λ k. P (take k (c ∷ v))) (let e : suc n ≡ 1 + n = omega arith in e) more)
-]
+-- whether a character is one of these
+abbrev pub may_end : ℕ → Bool
+may_end c = is_control c || is_special c
 
--- and so are as many of a block as come before its first bit, or all where no bit is set
-pub plain-block : (v : List ℕ) (bits first : ℕ) → length v ≡ 16 → All (λ c. space ≤ c) v → bits ≡ mask_l (map is_special v) → first ≡ count_trailing_zeros 64 bits
-    → All (λ c. is_plain c ≡ true) (take first v)
-unfolding count_trailing_zeros
-plain-block v bits first long h is at =
-    let P : List ℕ → Type 0 = λ l. All (λ c. is_plain c ≡ true) l in
-    let n = prefix_len (λ c. not (is_special c)) v in
-    let set = first_set_mask_l is_special v 16 long (omega arith) in
-    elim (cases_Bool (eqb bits 0)) [
-      | inl none ↦
-          let zero_bits : bits ≡ 0 = eqb-true bits 0 none in
-          let whole : 16 ≡ n = sym (ap (λ b. cond (eqb b 0) 16 (count_trailing_zeros 64 b)) (sym is ∙ zero_bits)) ∙ set in
-          let many : first ≡ 64 = at ∙ ap (count_trailing_zeros 64) zero_bits in
-          subst P (take_all n v (omega (arith, whole, long)) ∙ sym (take_all first v (omega (arith, many, long)))) (plain-prefix v h)
-      | inr some ↦
-          let same : first ≡ n = at ∙ sym (rw some refl) ∙ ap (λ b. cond (eqb b 0) 16 (count_trailing_zeros 64 b)) is ∙ set in
-          subst (λ k. P (take k v)) (sym same) (plain-prefix v h)
-    ]
-
--- more of a text
-pub plain-more : (xs v : List ℕ) (at n : ℕ) → All (λ c. is_plain c ≡ true) (take at xs) → v ≡ take 16 (drop at xs) → n ≤ 16 → All (λ c. is_plain c ≡ true) (take n v)
-    → All (λ c. is_plain c ≡ true) (take (at + n) xs)
-plain-more xs v at n a e h b =
-    let P : List ℕ → Type 0 = λ l. All (λ c. is_plain c ≡ true) l in
-    let l = take (at + n) xs in
-    let front = subst P (sym (take-take at (at + n) xs (omega arith))) a in
-    let back = subst P (ap (take n) e ∙ take-take n 16 (drop at xs) h ∙ sym (drop-take at n xs)) b in
-    subst P (take-append-drop at l) (All-append (λ c. is_plain c ≡ true) (take at l) (drop at l) front back)
+-- before the first such character all are plain
+pub plain-front : (text : List ℕ) (n : ℕ) → Nowhere (Passes may_end text) 0 n → All (λ c. is_plain c ≡ true) (take n text)
+plain-front text n none =
+    All-from_get_or (λ c. is_plain c ≡ true) (take n text) 0 (λ k inside.
+    let small : k < n = omega (arith, inside, length-take n text) in
+    let c = get_or text k 0 in
+    let parts = or_parts (is_control c) (is_special c) (false_from_ne_true (may_end c) (none k (omega arith) small)) in
+    ap is_plain (get_or-take n text k 0 small) ∙ plain-one c (ltb-false c space parts.0) parts.1)
 
 -- Plain characters all belong to the key.
 pub cut-plains : (xs : List ℕ) (i : ℕ) → i ≤ length xs → All (λ c. is_plain c ≡ true) (take i xs) → IsCutSoFar xs i false

@@ -1,17 +1,17 @@
 -- Characters of Latin-1 as they are written in UTF-8, eight and sixteen at once.
-use Rattle.std.proofs.Common.{◌≡◌, ◌↔◌, ℕ, zero, suc, ◌+◌, ◌-◌, ◌*◌, ◌/◌, ◌%◌, ◌^◌, ◌<◌, ◌≤◌, Bool, true, false, not, ◌&&◌, cond, ltb, eqb, leb, nat_lt, List, [], ◌∷◌, ◌++◌, refl, sym, ap, ap₂, subst, zero-add, ◌∙◌, inl, inr, append_assoc, arith, length, take, drop, get_or, map, replicate, w8, Fits, bit_and, bit_xor}
+use Rattle.std.proofs.Common.{◌≡◌, ℕ, zero, suc, ◌+◌, ◌-◌, ◌*◌, ◌/◌, ◌%◌, ◌^◌, ◌<◌, ◌≤◌, Bool, true, false, not, cond, ltb, eqb, leb, nat_lt, List, [], ◌∷◌, ◌++◌, refl, sym, ap, ap₂, subst, ◌∙◌, inl, inr, append_assoc, arith, length, take, drop, get_or, map, replicate, w8, Fits, bit_and, bit_xor}
 use Rattle.std.specs.Prelude.{encode_utf8_all}
 use Rattle.std.specs.Char.{encode_utf8}
 use Rattle.std.specs.Int.RustNames.{count_ones}
-use Rattle.std.specs.Simd.Lanes.{zip2, Each1, pick_l, sel_l, put_chunk, mask_l, top, all_below}
+use Rattle.std.specs.Simd.Lanes.{zip2, Each1, pick_l, sel_l, put_chunk, mask_l, top}
 use Rattle.std.specs.List.{AllByRecursion, range_with_len, prefix_len}
 use Rattle.std.specs.Str.{IsAscii, IsUtf8, chars}
 use Rattle.std.specs.Int.Count.{count_trailing_zeros}
 use Rattle.std.proofs.Math.Utf8.{scalar, scalars}
-use Rattle.std.proofs.lemmas.Bool.{cases_Bool, eq-eqb, cond-false, and_from, and_parts, agree_below_at, eqb-true, ltb-true, ltb-false, leb-true, leb-false, lt-ltb}
-use Rattle.std.proofs.lemmas.List.{length-append, length-map, length-take, length-take-le, length-drop, take_at, take_all, drop-take, take-take, take-map, take-append-drop, map-append, map-id, get_or-map, get_or_append_left, get_or-append-add}
-use Rattle.std.proofs.lemmas.Nat.{one_shl, ones_le_self}
-use Rattle.std.proofs.lemmas.Simd.{first_set_mask_l, run_in_chunk_fails, swz_l, SwzOk, SwzOk-from_below, Each1-chunk, mask_l-lt, mask_l-mod, ones-mask_l_cons, tops_compared, zip2_splat, zip2_splat_left, zip2_of_maps, splat_is_map, pick_l_left, pick_l-range_with_len, pick_l_whole}
+use Rattle.std.proofs.lemmas.Bool.{cases_Bool, cond-false, and_from, agree_below_at, eqb-true, ltb-true, ltb-false, leb-true, leb-false, lt-ltb}
+use Rattle.std.proofs.lemmas.List.{get_or-take, length-append, length-map, length-take-le, length-drop, take_all, drop-take, take-take, take-append-drop, map-id}
+use Rattle.std.proofs.lemmas.Nat.{one_shl}
+use Rattle.std.proofs.lemmas.Simd.{first_set_mask_l, swz_l, Each1-chunk, mask_l-mod, tops_compared, zip2_splat, zip2_splat_left, zip2_of_maps, splat_is_map, pick_l_left, pick_l-range_with_len, pick_l_whole}
 use Rattle.std.proofs.lemmas.Str.{encodes-append, encodes-IsAscii, encode_ascii, IsAscii-take, IsUtf8-append, chars-append, chars-encodes}
 use Rattle.properties_format.proofs.Encodings.Utf8Characters.{encode-two}
 use Rattle.properties_format.specs.Windows1252.{is_in_table, windows_1252_character}
@@ -20,41 +20,9 @@ use Rattle.properties_format.proofs.Encodings.Waiting.{characters-step}
 use Rattle.properties_text.specs.Decoding.{text_of}
 use Rattle.properties_text.specs.declared.encoding.Encoding.TheVariants.{WINDOWS_1252}
 use Rattle.properties_text.specs.Latin1.{is_past_ascii, lead_byte, last_byte}
-use Rattle.properties_text.specs.declared.encoding.latin_1.lanes.TheConstants.{LANES}
 use Rattle.properties_text.proofs.AsciiFronts.{are-ascii}
-use Rattle.properties_text.proofs.Printing.Vectors.{all_bits-at, starts, starts-take, each_below, swizzled, stored, first-bits}
-
--- ---- the table
-
--- the lanes that a row begins with, for characters from lane i on
-abbrev lanes : ℕ → List Bool → List ℕ
-lanes i [] = []
-lanes i (b ∷ bs) = cond b ((8 + i) ∷ i ∷ []) (i ∷ []) ++ lanes (suc i) bs
-
--- and a test of it
-abbrev is_row : List Bool → List ℕ → Bool
-is_row bs row = starts (lanes 0 bs) row && (all_below 16 row && eqb (length row) 16)
-
--- the row that these bits name
-abbrev pub row : ℕ → List ℕ
-row bits = get_or LANES bits []
-
--- all 256 rows
-tested : (bs : List Bool) → length bs ≡ 8 → is_row bs (row (mask_l bs)) ≡ true
-tested bs e = all_bits-at 8 (λ bs. is_row bs (row (mask_l bs))) bs e refl
-
--- what a row holds
-record IsRow (bs : List Bool) (r : List ℕ) : Type 0 where
-  front : take (length (lanes 0 bs)) r ≡ lanes 0 bs
-  below : Each1 (λ k. k < 16) r
-  long : length r ≡ 16
-
-row_at : (bs : List Bool) → length bs ≡ 8 → IsRow bs (row (mask_l bs))
-row_at bs e =
-    let r = row (mask_l bs) in
-    let held = and_parts (starts (lanes 0 bs) r) (all_below 16 r && eqb (length r) 16) (tested bs e) in
-    let more = and_parts (all_below 16 r) (eqb (length r) 16) held.1 in
-    record { front = starts-take (lanes 0 bs) r held.0; below = each_below 16 r more.0; long = eqb-true (length r) 16 more.1 }
+use Rattle.byte_blocks.proofs.Marking.{fails-before_bit}
+use Rattle.properties_text.proofs.LaneTable.{row, stored, first-bits, spread, spread-stored}
 
 -- ---- one character
 
@@ -82,64 +50,21 @@ two-bytes c l h = elim (cases_Bool (nat_lt c 0xc0)) [
       rw f (encode-two c l (omega arith) ∙ ap₂ (λ x y. x ∷ y ∷ []) first second)
 ]
 
--- how many bytes the characters have
-length-latin : (cs : List ℕ) → Each1 (Fits w8) cs → length (encode_utf8_all cs) ≡ length cs + count_ones (mask_l (map is_past_ascii cs))
-length-latin [] h = omega (arith, ones_le_self 0)
-length-latin (c ∷ cs) h =
-    let more = length-latin cs h.1 in
-    let ones = ones-mask_l_cons (is_past_ascii c) (map is_past_ascii cs) in
-    elim (cases_Bool (is_past_ascii c)) [
-      | inl t ↦
-          let two = ap length (two-bytes c (leb-true 0x80 c t) h.0.fits) in
-          let bit : ◌≡◌ {A = ℕ} (cond (is_past_ascii c) 1 0) 1 = rw t refl in
-          omega (arith, length-append (encode_utf8 c) (encode_utf8_all cs), two, more, ones, bit)
-      | inr f ↦
-          let one = ap length (encode_ascii c (leb-false 0x80 c f)) in
-          let bit : ◌≡◌ {A = ℕ} (cond (is_past_ascii c) 1 0) 0 = rw f refl in
-          omega (arith, length-append (encode_utf8 c) (encode_utf8_all cs), one, more, ones, bit)
-    ]
-
--- ---- what the lanes pick
-
-picked : (pairs : List ℕ) (i : ℕ) (cs : List ℕ) → Each1 (Fits w8) cs
-    → ((k : ℕ) → k < length cs → get_or pairs (i + k) 0 ≡ last_byte (get_or cs k 0))
-    → ((k : ℕ) → k < length cs → get_or pairs (8 + (i + k)) 0 ≡ lead_byte (get_or cs k 0))
-    → pick_l 0 pairs (lanes i (map is_past_ascii cs)) ≡ encode_utf8_all cs
-picked pairs i [] fits h g = refl
-picked pairs i (c ∷ cs) fits h g =
-    map-append (λ k. get_or pairs k 0) (cond (is_past_ascii c) ((8 + i) ∷ i ∷ []) (i ∷ [])) (lanes (suc i) (map is_past_ascii cs))
-    ∙ ap₂ (λ x y. x ++ y)
-    one
-    (picked pairs (suc i) cs fits.1 (λ k lt. ap (λ n. get_or pairs n 0) (omega arith) ∙ h (suc k) (omega arith)) (λ k lt. ap (λ n. get_or pairs n 0) (omega arith) ∙ g (suc k) (omega arith)))
-  where
-    last : get_or pairs i 0 ≡ last_byte c
-    last = ap (λ n. get_or pairs n 0) (omega arith) ∙ h 0 (omega arith)
-
-    lead : get_or pairs (8 + i) 0 ≡ lead_byte c
-    lead = ap (λ n. get_or pairs n 0) (omega arith) ∙ g 0 (omega arith)
-
-    one : map (λ k. get_or pairs k 0) (cond (is_past_ascii c) ((8 + i) ∷ i ∷ []) (i ∷ [])) ≡ encode_utf8 c
-    one = elim (cases_Bool (is_past_ascii c)) [
-      | inl t ↦ rw t (ap₂ (λ x y. x ∷ y ∷ []) lead last ∙ sym (two-bytes c (leb-true 0x80 c t) fits.0.fits))
-      | inr f ↦
-          let low = leb-false 0x80 c f in
-          let same : last_byte c ≡ c = rw (lt-ltb c 0xc0 (omega arith)) refl in
-          rw f (ap (λ x. x ∷ []) (last ∙ same) ∙ sym (encode_ascii c low))
-    ]
-
 -- ---- eight characters
 
--- their bits
-pub bits-below : (cs : List ℕ) (bits : ℕ) → length cs ≡ 8 → bits ≡ mask_l (map is_past_ascii cs) → bits < 256
-bits-below cs bits long e =
-    let below = subst (λ n. mask_l (map is_past_ascii cs) < 2 ^ n) (length-map cs is_past_ascii ∙ long) (mask_l-lt (map is_past_ascii cs)) in omega arith
+-- one character, of one byte or of two
+one-spread : (c : ℕ) → c < 0x100 → encode_utf8 c ≡ cond (is_past_ascii c) (lead_byte c ∷ last_byte c ∷ []) (last_byte c ∷ [])
+one-spread c small = elim (cases_Bool (is_past_ascii c)) [
+  | inl t ↦ rw t (two-bytes c (leb-true 0x80 c t) small)
+  | inr f ↦
+      let low = leb-false 0x80 c f in
+      let same : last_byte c ≡ c = rw (lt-ltb c 0xc0 (omega arith)) refl in
+      rw f (encode_ascii c low ∙ ap (λ x. x ∷ []) (sym same))
+]
 
--- their row
-pub row-below : (cs : List ℕ) (bits : ℕ) → length cs ≡ 8 → bits ≡ mask_l (map is_past_ascii cs) → SwzOk w8 16 16 0 (row bits)
-row-below cs bits long e =
-    let held = row_at (map is_past_ascii cs) (length-map cs is_past_ascii ∙ long) in
-    subst (λ n. SwzOk w8 16 16 0 (row n)) (sym e)
-    (SwzOk-from_below w8 16 1 16 0 (row (mask_l (map is_past_ascii cs))) refl (omega (arith, held.long)) held.below)
+latin-spread : (cs : List ℕ) → Each1 (Fits w8) cs → encode_utf8_all cs ≡ spread is_past_ascii lead_byte last_byte cs
+latin-spread [] fits = refl
+latin-spread (c ∷ cs) fits = ap₂ (λ x y. x ++ y) (one-spread c fits.0.fits) (latin-spread cs fits.1)
 
 -- the bits of the first k
 kept-bits : (cs : List ℕ) (bits k : ℕ) → length cs ≡ 8 → k ≤ 8 → bits ≡ mask_l (map is_past_ascii cs)
@@ -151,33 +76,8 @@ pub put_8-is : (at : ℕ) (out cs pairs : List ℕ) (bits k m : ℕ) → length 
     → pairs ≡ map last_byte cs ++ map lead_byte cs → m ≡ at + (k + count_ones (bits % (1 * 2 ^ k % 2 ^ 64)))
     → take m (put_chunk at out (swz_l w8 16 pairs 0 (row bits))) ≡ take at out ++ encode_utf8_all (take k cs)
 put_8-is at out cs pairs bits k m long fits room le e is place =
-    let flags = map is_past_ascii cs in
-    let r = row bits in
-    let held = subst (λ n. IsRow flags (row n)) (sym e) (row_at flags (length-map cs is_past_ascii ∙ long)) in
-    let whole = encode_utf8_all cs in
-    let front = encode_utf8_all (take k cs) in
-    let joined : whole ≡ front ++ encode_utf8_all (drop k cs) = ap encode_utf8_all (sym (take-append-drop k cs)) ∙ encodes-append (take k cs) (drop k cs) in
-    let last : (j : ℕ) → j < length cs → get_or pairs (0 + j) 0 ≡ last_byte (get_or cs j 0) =
-    (λ j lt. ap₂ (λ n l. get_or l n 0) (zero-add j) is ∙ get_or_append_left (map last_byte cs) (map lead_byte cs) 0 j (omega (arith, length-map cs last_byte)) ∙ get_or-map last_byte cs j 0 0 lt) in
-    let lead : (j : ℕ) → j < length cs → get_or pairs (8 + (0 + j)) 0 ≡ lead_byte (get_or cs j 0) =
-    (λ j lt.
-    let at_8 : 8 + (0 + j) ≡ length (map last_byte cs) + j = omega (arith, length-map cs last_byte) in
-    ap₂ (λ n l. get_or l n 0) at_8 is ∙ get_or-append-add (map last_byte cs) (map lead_byte cs) j 0 ∙ get_or-map lead_byte cs j 0 0 lt) in
-    let picks : pick_l 0 pairs (lanes 0 flags) ≡ whole = picked pairs 0 cs fits last lead in
-    let count : length (lanes 0 flags) ≡ length whole = sym (length-map (lanes 0 flags) (λ j. get_or pairs j 0)) ∙ ap length picks in
-    let size : length (pick_l 0 pairs r) ≡ 16 = length-map r (λ j. get_or pairs j 0) ∙ held.long in
-    let n = length front in
-    let n_is : n ≡ k + count_ones (bits % (1 * 2 ^ k % 2 ^ 64)) =
-    length-latin (take k cs) (Each1-chunk (Fits w8) 0 k cs fits)
-    ∙ ap₂ (λ x y. x + count_ones y) (length-take-le k cs (omega arith)) (sym (kept-bits cs bits k long le e)) in
-    let within : n ≤ length (lanes 0 flags) = omega (arith, ap length joined, length-append front (encode_utf8_all (drop k cs)), count) in
-    let small : length (lanes 0 flags) ≤ 16 = omega (arith, ap length held.front, length-take (length (lanes 0 flags)) r, held.long) in
-    ap (λ l. take m (put_chunk at out l)) (swizzled pairs r (omega (arith, held.long)) held.below)
-    ∙ stored at n m out (pick_l 0 pairs r) (omega arith) (omega arith) (omega arith)
-    ∙ ap (λ l. take at out ++ l)
-    (sym (take-take n (length (lanes 0 flags)) (pick_l 0 pairs r) within)
-    ∙ ap (take n) (take-map (λ j. get_or pairs j 0) (length (lanes 0 flags)) r ∙ ap (map (λ j. get_or pairs j 0)) held.front ∙ picks ∙ joined)
-    ∙ take_at front (encode_utf8_all (drop k cs)) n refl)
+    spread-stored is_past_ascii lead_byte last_byte at out cs pairs bits k m long room le e is (place ∙ ap (λ n. at + (k + count_ones n)) (kept-bits cs bits k long le e))
+    ∙ ap (λ l. take at out ++ l) (sym (latin-spread (take k cs) (Each1-chunk (Fits w8) 0 k cs fits)))
 
 -- ---- sixteen characters
 
@@ -295,27 +195,6 @@ first-below m v bits n k long most e few le =
     ] in
     prefix-below m v k within
 
--- of n bytes that are copied
-pub copied-ascii : (v : List ℕ) (n k : ℕ) → length v ≡ n → n ≤ 64
-    → k ≤ count_trailing_zeros 64 (mask_l (map (top 7) (zip2 (λ a b. cond (leb a b) 255 0) (replicate n 0x80) v)) % 2 ^ 64) → k ≤ n
-    → AllByRecursion (λ b. b < 0x80) (take k v)
-copied-ascii v n k long most few le = first-below 0x80 v _ n k long most (past_ascii-bits v n long most) few le
-
-none-past : (v : List ℕ) → length v ≡ 16
-    → eqb (mask_l (map (top 7) (zip2 (λ a b. cond (leb a b) 255 0) (replicate 16 0x80) v)) % 2 ^ 64) 0 ≡ true → IsAscii v
-none-past v long e = are-ascii v (below-all v (sym (past_ascii-bits v 16 long (omega arith)) ∙ eqb-true _ 0 e))
-
-none-set : (v : List ℕ) → IsAscii v → mask_l (map is_past_ascii v) ≡ 0
-none-set [] h = refl
-none-set (b ∷ v) h =
-    let first : is_past_ascii b ≡ false = elim (cases_Bool (is_past_ascii b)) [ inl t ↦ absurd (omega (arith, leb-true 0x80 b t, h 0)) | inr f ↦ f ] in
-    let more = none-set v (λ i. h (suc i)) in
-    rw first (omega arith)
-
-pub ascii-block : (v : List ℕ) → length v ≡ 16
-    → (eqb (mask_l (map (top 7) (zip2 (λ a b. cond (leb a b) 255 0) (replicate 16 0x80) v)) % 2 ^ 64) 0 ≡ true) ↔ IsAscii v
-ascii-block v long = (none-past v long, λ h. eq-eqb _ 0 (past_ascii-bits v 16 long (omega arith) ∙ none-set v h))
-
 -- the bits of the bytes from 80 to 9F
 table-at : (b : ℕ) → b < 256 → ltb (bit_xor b 0x80) 0x20 ≡ is_in_table b
 table-at b h = agree_below_at (λ b. ltb (bit_xor b 0x80) 0x20) is_in_table 256 b refl h
@@ -334,16 +213,8 @@ table-bits v long fits =
 -- bytes before the first from 80 to 9F
 pub not-in_table : (bytes : List ℕ) (bits k : ℕ) → 16 ≤ length bytes → bits ≡ mask_l (map is_in_table (take 16 bytes)) → k ≤ 16 → k ≤ count_trailing_zeros 64 bits
     → (j : ℕ) → j < k → is_in_table (get_or bytes j 0) ≡ false
-not-in_table bytes bits k long e le few =
-    let v = take 16 bytes in
-    let first = prefix_len (λ b. not (is_in_table b)) v in
-    let set : cond (eqb bits 0) 16 (count_trailing_zeros 64 bits) ≡ first =
-    ap (λ n. cond (eqb n 0) 16 (count_trailing_zeros 64 n)) e ∙ first_set_mask_l is_in_table v 16 (length-take-le 16 bytes long) (omega arith) in
-    let within : k ≤ first = elim (cases_Bool (eqb bits 0)) [
-      | inl t ↦ let is : 16 ≡ first = sym (rw t refl) ∙ set in omega arith
-      | inr f ↦ let is : count_trailing_zeros 64 bits ≡ first = sym (rw f refl) ∙ set in omega arith
-    ] in
-    λ j lt. run_in_chunk_fails is_in_table bytes 0 16 first 0 long refl j (omega arith) (omega arith)
+not-in_table bytes bits k long e le few j lt =
+    ap is_in_table (sym (get_or-take 16 bytes j 0 (omega (arith, lt, le)))) ∙ fails-before_bit is_in_table (take 16 bytes) bits k (length-take-le 16 bytes long) e le few j lt
 
 -- they are characters of the same numbers
 same-numbers : (bytes : List ℕ) (k : ℕ) → k ≤ length bytes → ((j : ℕ) → j < k → is_in_table (get_or bytes j 0) ≡ false)

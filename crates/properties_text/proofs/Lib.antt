@@ -6,10 +6,10 @@ pub mod DecodeIter
 pub mod Printing
 pub mod Texts
 pub mod Scanning
+pub mod Blocks
+pub mod LaneTable
 pub mod KeyFronts
-pub mod ByteSearch
 pub mod BlankFronts
-pub mod AsciiBlocks
 pub mod AsciiFronts
 pub mod Latin1
 pub mod UnitBlocks

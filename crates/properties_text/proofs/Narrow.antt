@@ -1,5 +1,6 @@
 -- Sixteen bytes of UTF-8 at once, whose characters are of Latin-1.
 use Rattle.std.proofs.Common.{◌≡◌, ℕ, zero, suc, ◌+◌, ◌-◌, ◌*◌, ◌/◌, ◌%◌, ◌^◌, ◌<◌, ◌≤◌, ◌==◌, Bool, true, false, ◌&&◌, cond, eqb, leb, nat_le, nat_lt, List, [], ◌∷◌, ◌++◌, refl, sym, ap, ap₂, subst, zero-add, ◌∙◌, append_assoc, arith, length, take, drop, get_or, map, replicate, w8, bit_or}
+use Rattle.std.specs.Int.Count.{count_trailing_zeros}
 use Rattle.std.specs.Int.RustNames.{count_ones}
 use Rattle.std.specs.Int.Bits.{or_zero_r}
 use Rattle.std.specs.Simd.Lanes.{zip2, Each1, pick_l, sel_l, put_chunk, mask_l, top, all_below}
@@ -14,7 +15,9 @@ use Rattle.properties_text.specs.Latin1.{is_lead, is_beyond, raised, all_raised,
 use Rattle.properties_text.specs.declared.encoding.narrow.lanes.TheConstants.{KEPT}
 use Rattle.properties_text.proofs.AsciiFronts.{past}
 use Rattle.properties_text.proofs.Latin1.{half, front-half, sel_l-map}
-use Rattle.properties_text.proofs.Printing.Vectors.{starts, starts-take, each_below, swizzled, stored, split, first-bits, lowest, take_past}
+use Rattle.byte_blocks.proofs.Comparing.{swizzled}
+use Rattle.byte_blocks.proofs.Marking.{fails-before_bit}
+use Rattle.properties_text.proofs.LaneTable.{starts, starts-take, each_below, stored, split, first-bits, take_past}
 
 -- ---- the table
 
@@ -132,22 +135,23 @@ least-bits m v long =
 
 -- ---- which characters they are of
 
-latin : (p : ℕ) (v : List ℕ) → mask_l (map is_in_table (all_raised p v)) ≡ 0 → mask_l (map is_beyond v) ≡ 0 → AreOfLatin1 p v
-latin p [] e f = tt
-latin p (b ∷ v) e f =
-    let first = lowest (is_in_table (raised p b)) (mask_l (map is_in_table (all_raised b v))) e in
-    let second = lowest (is_beyond b) (mask_l (map is_beyond v)) f in
-    (leb-false 0xc4 b second.0, first.0, latin b v first.1 second.1)
+length-raised : (p : ℕ) (v : List ℕ) → length (all_raised p v) ≡ length v
+length-raised p [] = refl
+length-raised p (b ∷ v) = ap suc (length-raised b v)
 
-latin-take : (p k : ℕ) (v : List ℕ) → AreOfLatin1 p v → AreOfLatin1 p (take k v)
-latin-take p zero v h = tt
-latin-take p (suc k) [] h = tt
-latin-take p (suc k) (b ∷ v) h = (h.0, h.1, latin-take b k v h.2)
+latin : (p k : ℕ) (v : List ℕ) → k ≤ length v → ((j : ℕ) → j < k → is_in_table (get_or (all_raised p v) j 0) ≡ false)
+    → ((j : ℕ) → j < k → is_beyond (get_or v j 0) ≡ false) → AreOfLatin1 p (take k v)
+latin p zero v le f g = tt
+latin p (suc k) [] le f g = absurd (omega arith)
+latin p (suc k) (b ∷ v) le f g =
+    (leb-false 0xc4 b (g 0 (omega arith)), f 0 (omega arith), latin b k v (omega arith) (λ j lt. f (suc j) (omega arith)) (λ j lt. g (suc j) (omega arith)))
 
-pub latin-first : (v more : List ℕ) (k table beyond : ℕ) → more ≡ all_raised 0 v → table ≡ mask_l (map is_in_table more) → table ≡ 0
-    → beyond ≡ mask_l (map is_beyond v) → beyond ≡ 0 → AreOfLatin1 0 (take k v)
-latin-first v more k table beyond is e none f none-beyond =
-    latin-take 0 k v (latin 0 v (ap (λ l. mask_l (map is_in_table l)) (sym is) ∙ sym e ∙ none) (sym f ∙ none-beyond))
+pub latin-first : (v more : List ℕ) (k table beyond : ℕ) → length v ≡ 16 → k ≤ 16 → more ≡ all_raised 0 v → table ≡ mask_l (map is_in_table more)
+    → k ≤ count_trailing_zeros 64 table → beyond ≡ mask_l (map is_beyond v) → k ≤ count_trailing_zeros 64 beyond → AreOfLatin1 0 (take k v)
+latin-first v more k table beyond long le is e untabled f within =
+    latin 0 k v (omega (arith, long))
+    (λ j lt. ap (λ l. is_in_table (get_or l j 0)) (sym is) ∙ fails-before_bit is_in_table more table k (ap length is ∙ length-raised 0 v ∙ long) e le untabled j lt)
+    (fails-before_bit is_beyond v beyond k long f le within)
 
 -- after a byte that is no first one
 pub raised-own : (p b : ℕ) → p < 0xc0 → raised p b ≡ b
@@ -217,10 +221,6 @@ take-raised : (p k : ℕ) (v : List ℕ) → take k (all_raised p v) ≡ all_rai
 take-raised p zero v = refl
 take-raised p (suc k) [] = refl
 take-raised p (suc k) (b ∷ v) = ap (λ l. raised p b ∷ l) (take-raised b k v)
-
-length-raised : (p : ℕ) (v : List ℕ) → length (all_raised p v) ≡ length v
-length-raised p [] = refl
-length-raised p (b ∷ v) = ap suc (length-raised b v)
 
 -- ---- both halves
 

@@ -143,13 +143,13 @@ first-same text v k few le e =
     ∙ take-take k 16 text few
 
 -- what a block is encoded to
-pub block-encoded : (text out new v : List ℕ) (at k written : ℕ) → IsUtf8 text → 0 < k → k ≤ length text → at ≤ length out → take k v ≡ take k text → AreOfLatin1 0 (take k v)
+pub block-encoded : (text out new v : List ℕ) (at k written : ℕ) → IsUtf8 text → k ≤ length text → at ≤ length out → take k v ≡ take k text → AreOfLatin1 0 (take k v)
     → take (at + written) new ≡ take at out ++ narrowed 0 (take k v)
     → IsCharBoundary text (k - one_lead (get_or text (k - 1) 0)) × EncodesFront (chars text) (drop at (take (at + written) new)) (chars (drop (k - one_lead (get_or text (k - 1) 0)) text))
-block-encoded text out new v at k written u some le room same h e =
+block-encoded text out new v at k written u le room same h e =
     let found = front-of 0 k (chars text) text (scalars-chars text u) (sym (encodes-chars text u)) (omega arith) le (subst (AreOfLatin1 0) same h) in
     let read = k - one_lead (get_or text (k - 1) 0) in
-    let left : drop read text ≡ encode_utf8_all found.rest = ap (λ b. drop (k - one_lead b) text) (behind k some) ∙ found.left in
+    let left : drop read text ≡ encode_utf8_all found.rest = ap (λ n. drop n text) (behind k) ∙ found.left in
     let after : chars (drop read text) ≡ found.rest = ap chars left ∙ chars-encodes found.rest found.are in
     let bytes : drop at (take (at + written) new) ≡ narrowed 0 (take k text) =
     ap (drop at) e ∙ drop_at (take at out) (narrowed 0 (take k v)) at (length-take-le at out room) ∙ ap (narrowed 0) same in (
@@ -157,6 +157,6 @@ block-encoded text out new v at k written u some le room same h e =
       (found.front, found.split ∙ ap (λ l. found.front ++ l) (sym after), found.bytes ∙ ap (map Some) (sym bytes)),
     )
   where
-    behind : (k : ℕ) → 0 < k → get_or text (k - 1) 0 ≡ get_or (0 ∷ text) k 0
-    behind zero l = absurd (omega arith)
-    behind (suc k) l = ap (λ n. get_or text n 0) (let same : suc k - 1 ≡ k = omega arith in same)
+    behind : (k : ℕ) → k - one_lead (get_or text (k - 1) 0) ≡ k - one_lead (get_or (0 ∷ text) k 0)
+    behind zero = omega arith
+    behind (suc k) = ap (λ n. suc k - one_lead (get_or text n 0)) (let same : suc k - 1 ≡ k = omega arith in same)

@@ -3,14 +3,14 @@ use Rattle.std.specs.Prelude.{encode_utf8_all}
 use Rattle.std.specs.Str.{chars, IsUtf8}
 use Rattle.std.proofs.Math.Utf8.{scalars}
 use Rattle.std.proofs.lemmas.Str.{IsUtf8-append, chars-append, chars-encodes}
-use Rattle.std.proofs.Common.{true, ◌≡◌, ℕ, zero, suc, ◌+◌, ◌*◌, ◌/◌, ◌%◌, ◌^◌, ◌<◌, ◌≤◌, cond, leb, List, [], ◌∷◌, ◌++◌, refl, sym, ap, ap₂, subst, ◌∙◌, append_assoc, arith, length, take, drop, get_or, map, replicate, w8, w16, Fits, bit_and}
+use Rattle.std.proofs.Common.{true, ◌≡◌, ℕ, zero, suc, ◌+◌, ◌*◌, ◌/◌, ◌%◌, ◌^◌, ◌<◌, ◌≤◌, cond, leb, List, [], ◌∷◌, ◌++◌, refl, sym, ap, ap₂, subst, ◌∙◌, append-nil, append_assoc, arith, length, take, drop, get_or, map, replicate, w8, w16, Fits, bit_and}
 use Rattle.std.specs.List.{AllByRecursion}
 use Rattle.std.specs.Int.Count.{count_trailing_zeros}
 use Rattle.std.specs.Simd.Lanes.{zip2, Each1, pick_l, mask_l, top, number_l, digits_l}
 use Rattle.std.proofs.lemmas.Nat.{and_mask}
 use Rattle.std.proofs.lemmas.List.{length-append, length-map, length-take-le, map-id, take-take, take_at}
 use Rattle.std.proofs.lemmas.Simd.{mask_l-mod, tops_compared, zip2_splat, zip2_splat_left, pick_l_left, pick_l_whole}
-use Rattle.properties_text.specs.Decoding.{text_of, unit_of, units_of, evens, odds, lows_of, highs_of, utf_16_of, PutsUnits}
+use Rattle.properties_text.specs.Decoding.{text_of, unit_of, units_of, evens, odds, lows_of, highs_of, utf_16_of, PutsLatin1, PutsUnits}
 use Rattle.properties_text.specs.declared.encoding.Encoding.{Encoding}
 use Rattle.properties_text.proofs.AsciiFronts.{unit-step}
 use Rattle.properties_text.specs.declared.encoding.unit_blocks.Written.{Written}
@@ -212,27 +212,44 @@ front-is order (suc n) (suc (suc w)) (a ∷ b ∷ bytes) le long h =
     ∙ ap (λ k. unit_of order a b ∷ (take n (units_of order (take w bytes)) ++ text_of (utf_16_of order) (drop k (a ∷ b ∷ bytes)))) place
 
 -- some of the units of the first w bytes are written
-pub puts-units : (order : ByteOrder) (w : ℕ) (bytes old new : List ℕ) (at : ℕ) (written : Written) → w ≤ length bytes → 2 * written.units ≤ w
-    → AllByRecursion (λ u. u < 0x100) (take written.units (units_of order (take w bytes))) → scalars (take written.units (units_of order (take w bytes))) ≡ true
-    → take written.end new ≡ take at old ++ encode_utf8_all (take written.units (units_of order (take w bytes)))
-    → PutsUnits (utf_16_of order) bytes old new at written
-puts-units order w bytes old new at written long le small are text = record {
+pub puts-units : (order : ByteOrder) (w : ℕ) (bytes old : List ℕ) (at most : ℕ) (new : List ℕ) (written : Written) → w ≤ length bytes → 2 * most ≤ w → at + 2 * most ≤ length old
+    → PutsLatin1 (units_of order (take w bytes)) most old at new written → PutsUnits (utf_16_of order) bytes old at new written
+puts-units order w bytes old at most new written long le room put = record {
+  same_room = put.same_room;
+  room = omega (arith, put.end_is, put.within, put.same_room);
+  within = omega (arith, put.within);
+  after = put.after;
+  end_is = put.end_is;
   front = take written.units (units_of order (take w bytes));
-  scalars = are;
-  text = text;
-  same = front-is order written.units w bytes le long small;
+  scalars = put.scalars;
+  text = put.text;
+  same = front-is order written.units w bytes (omega (arith, put.within)) long put.bytes;
+}
+
+-- where none are written
+pub puts-none : (encoding : Encoding) (bytes run : List ℕ) (at : ℕ) → at ≤ length run → PutsUnits encoding bytes run at run record { units = 0; end = at }
+puts-none encoding bytes run at le = record {
+  same_room = refl;
+  room = le;
+  within = omega arith;
+  after = omega arith;
+  end_is = omega arith;
+  front = [];
+  scalars = refl;
+  text = sym (append-nil (take at run));
+  same = refl;
 }
 
 -- what stands before that place is left as it was
-pub kept-before : (encoding : Encoding) (bytes old new : List ℕ) (at : ℕ) (written : Written) → at ≤ length old → at ≤ written.end
-    → PutsUnits encoding bytes old new at written → take at new ≡ take at old
-kept-before encoding bytes old new at written le after puts =
-    sym (take-take at written.end new after)
+pub kept-before : (encoding : Encoding) (bytes old new : List ℕ) (at : ℕ) (written : Written) → at ≤ length old
+    → PutsUnits encoding bytes old at new written → take at new ≡ take at old
+kept-before encoding bytes old new at written le puts =
+    sym (take-take at written.end new puts.after)
     ∙ ap (take at) puts.text
     ∙ take_at (take at old) (encode_utf8_all puts.front) at (length-take-le at old le)
 
 -- so these characters are taken to a text
-pub decoded-units : (encoding : Encoding) (bytes old new all : List ℕ) (at : ℕ) (written : Written) → IsUtf8 (take at old) → PutsUnits encoding bytes old new at written
+pub decoded-units : (encoding : Encoding) (bytes old new all : List ℕ) (at : ℕ) (written : Written) → IsUtf8 (take at old) → PutsUnits encoding bytes old at new written
     → chars (take at old) ++ text_of encoding bytes ≡ all
     → IsUtf8 (take written.end new) × (chars (take written.end new) ++ text_of encoding (drop (2 * written.units) bytes) ≡ all)
 decoded-units encoding bytes old new all at written u puts joins =

@@ -6,9 +6,9 @@ use Rattle.properties_format.specs.Encoding.{Encoding}
 use Rattle.properties_format.specs.Reading.Encoding.{characters_from}
 use Rattle.properties_format.specs.Reading.Waiting.{awaits_more}
 use Rattle.properties_text.specs.Encoding.{encoding_of}
-use Rattle.properties_text.specs.declared.encoding.decode_iter.CharacterDecoder.{CharacterDecoder}
-use Rattle.properties_text.specs.declared.encoding.decode_iter.Ending.{Ending}
-use Rattle.properties_text.specs.declared.encoding.decode_iter.Ending.TheVariants.{More, End, Fault}
+use Rattle.properties_text.specs.declared.single_lines.decode_iter.CharacterDecoder.{CharacterDecoder}
+use Rattle.properties_text.specs.declared.single_lines.decode_iter.Ending.{Ending}
+use Rattle.properties_text.specs.declared.single_lines.decode_iter.Ending.TheVariants.{More, End, Fault}
 
 -- The bytes read and not decoded: the encoding asked for, or the one in force once the byte order mark is decided; and how the input goes on after them.
 pub record Undecoded : Type 0 where

@@ -1,13 +1,15 @@
 -- What each part of the decoder gives: the byte order mark, the first piece, and text that stands as it is.
 use Rattle.std.specs.Prelude.{◌≡◌, ℕ, ◌≤◌, ◌<◌, ◌+◌, ◌*◌, ◌++◌, Bool, true, false, List, [], ◌∷◌, length, take, drop, encode_utf8_all}
 use Rattle.std.specs.List.{AllByRecursion}
-use Rattle.std.specs.Str.{IsAscii, all_scalars, chars}
+use Rattle.std.specs.Char.{IsScalar, encode_utf8}
+use Rattle.std.specs.Str.{IsAscii, IsUtf8, all_scalars, chars}
 use Rattle.std.specs.declared.borrow.CowStr.{CowStr}
 use Rattle.std.specs.declared.borrow.CowStr.TheVariants.{Borrowed, Owned}
 use Rattle.properties_format.specs.Encoding as format
 use Rattle.properties_format.specs.Pieces.{Piece, characters}
 use Rattle.properties_format.specs.Utf8.{Range, from_to, IsWellFormedText}
 use Rattle.properties_format.specs.Utf16.{low_first, high_first}
+use Rattle.properties_format.specs.Windows1252.{windows_1252_character}
 use Rattle.properties_format.specs.Reading.Encoding.{first_piece, pieces_of}
 use Rattle.properties_format.specs.Reading.Waiting.{awaits_bom, awaits_more}
 use Rattle.properties_text.specs.Encoding.{encoding_of}
@@ -16,9 +18,11 @@ use Rattle.properties_text.specs.declared.encoding.Encoding.TheVariants.{UTF_16L
 use Rattle.properties_text.specs.declared.encoding.byte_order_mark.ByteOrderMark.{ByteOrderMark}
 use Rattle.properties_text.specs.declared.encoding.byte_order_mark.ByteOrderMark.TheVariants.{Present, Absent, Undecided}
 use Rattle.properties_text.specs.declared.encoding.first_piece.FirstPiece.{FirstPiece}
-use Rattle.properties_text.specs.declared.encoding.run.AsciiFront.{AsciiFront}
+use Rattle.properties_text.specs.declared.encoding.decode.AsciiFront.{AsciiFront}
+use Rattle.properties_text.specs.declared.encoding.decode.Decoded.{Decoded}
 use Rattle.properties_text.specs.declared.encoding.unit_blocks.Written.{Written}
 use Rattle.properties_text.specs.declared.encoding.utf_8.ByteRange.{ByteRange}
+use Rattle.properties_text.specs.declared.encoding.windows_1252.ByteText.{ByteText}
 use Rattle.properties_text.specs.declared.encoding.utf_16.ByteOrder.{ByteOrder}
 use Rattle.properties_text.specs.declared.encoding.utf_16.ByteOrder.TheVariants.{LowFirst, HighFirst}
 
@@ -102,8 +106,39 @@ pub record IsAsciiFront (encoding : Encoding) (bytes : List ℕ) (front : AsciiF
   pub same : text_of encoding bytes ≡ front.text ++ text_of encoding front.rest.now
   pub shorter : length front.rest.now + 4 ≤ length bytes
 
+-- The character of a byte of windows-1252, in UTF-8.
+pub record IsTextOfByte (byte : ℕ) (text : ByteText) : Type 0 where
+  pub begins : take text.length text.bytes ≡ encode_utf8 (windows_1252_character byte)
+  pub some : 0 < text.length
+  pub few : text.length ≤ 3
+  pub scalar : IsScalar (windows_1252_character byte)
+
+-- Bytes at the front were decoded, and their text stands in a run, after the text that ended at a place.
+pub record DecodesFront (encoding : Encoding) (bytes old : List ℕ) (start : ℕ) (new : List ℕ) (decoded : Decoded) : Type 0 where
+  pub same_room : length new ≡ length old
+  pub within : decoded.end ≤ length new
+  pub onwards : start ≤ decoded.end
+  pub left : length decoded.rest.now ≤ length bytes
+  pub is_text : IsUtf8 (take decoded.end new)
+  pub text : chars (take decoded.end new) ++ text_of encoding decoded.rest.now ≡ chars (take start old) ++ text_of encoding bytes
+
+-- The first units, no more than so many, are characters of Latin-1, and their text was put into a run from a place on.
+pub record PutsLatin1 (units : List ℕ) (most : ℕ) (old : List ℕ) (at : ℕ) (new : List ℕ) (written : Written) : Type 0 where
+  pub same_room : length new ≡ length old
+  pub within : written.units ≤ most
+  pub after : at ≤ written.end
+  pub end_is : written.end ≤ at + 2 * written.units
+  pub bytes : AllByRecursion (λ u. u < 0x100) (take written.units units)
+  pub scalars : all_scalars (take written.units units) ≡ true
+  pub text : take written.end new ≡ take at old ++ encode_utf8_all (take written.units units)
+
 -- The text of some bytes begins with so many characters, of two bytes each, and these are written from a place on.
-pub record PutsUnits (encoding : Encoding) (bytes old new : List ℕ) (at : ℕ) (written : Written) : Type 0 where
+pub record PutsUnits (encoding : Encoding) (bytes old : List ℕ) (at : ℕ) (new : List ℕ) (written : Written) : Type 0 where
+  pub same_room : length new ≡ length old
+  pub room : written.end ≤ length new
+  pub within : 2 * written.units ≤ length bytes
+  pub after : at ≤ written.end
+  pub end_is : written.end ≤ at + 2 * written.units
   pub front : List ℕ
   pub scalars : all_scalars front ≡ true
   pub text : take written.end new ≡ take at old ++ encode_utf8_all front

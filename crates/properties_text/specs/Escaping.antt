@@ -1,5 +1,5 @@
 -- What a contract sees of escapes.
-use Rattle.std.specs.Prelude.{◌≡◌, ◌<◌, ◌||◌, ◌==◌, ℕ, Bool, true, false, List, [], ◌∷◌, ◌++◌, length, Option, Some, None, Result, Ok, Err}
+use Rattle.std.specs.Prelude.{◌≡◌, ◌<◌, ◌||◌, ◌==◌, ℕ, Bool, true, false, if◌then◌else◌, List, [], ◌∷◌, ◌++◌, length, Option, Some, None, Result, Ok, Err}
 use Rattle.std.specs.Str.{chars}
 use Rattle.std.specs.Cow.{cow_str_bytes}
 use Rattle.std.specs.declared.borrow.CowStr.{CowStr}
@@ -73,6 +73,14 @@ four_of four = record { first = four.first; second = four.second; third = four.t
 abbrev pub StartsWithFour : List ℕ → Option Four → Type 0
 StartsWithFour text None = length text < 4
 StartsWithFour text (Some four) = text ≡ format.four_text (four_of four) ++ chars four.rest.now
+
+-- what a byte counts as a hexadecimal digit, or more than four digits write
+abbrev pub digit_value : ℕ → ℕ
+digit_value b = if format.is_hexadecimal b then format.hexadecimal_value b else 0x10000
+
+-- four bytes of a text, as characters
+abbrev pub four_bytes : ℕ → ℕ → ℕ → ℕ → format.Four
+four_bytes first second third fourth = record { first = first; second = second; third = third; fourth = fourth }
 
 -- What resolving the escapes of a text and appending it to another answers and leaves.
 abbrev pub Appends : List ℕ → List ℕ → Result Unit UnescapeError → List ℕ → Type 0

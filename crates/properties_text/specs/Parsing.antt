@@ -4,8 +4,8 @@ use Rattle.std.specs.Str.{chars, IsCharBoundary}
 use Rattle.properties_format.specs.Text.{backslash, is_blank}
 use Rattle.properties_format.specs.Reading.Split.{ends_key}
 use Rattle.properties_format.specs.Split.{Logical, blank, comment, pair, IsComment, IsPair}
-use Rattle.properties_text.specs.declared.parse.ParsedLine.{ParsedLine}
-use Rattle.properties_text.specs.declared.parse.ParsedLine.TheVariants as line
+use Rattle.properties_text.specs.declared.single_lines.parse.ParsedLine.{ParsedLine}
+use Rattle.properties_text.specs.declared.single_lines.parse.ParsedLine.TheVariants as line
 use Rattle.properties_text.specs.declared.parse.ParsedSpans.{ParsedSpans}
 use Rattle.properties_text.specs.declared.parse.ParsedSpans.TheVariants as spans
 use Rattle.properties_text.specs.declared.parse.Span.{Span}

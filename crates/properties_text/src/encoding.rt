@@ -7,25 +7,22 @@ ghost use Rattle.properties_text.specs.Encoding.{encoding_of};
 mod ascii;
 pub mod byte_order_mark;
 pub mod decode;
-mod decode_iter;
 mod encode;
-mod first_piece;
+pub(crate) mod first_piece;
 mod latin_1;
 mod narrow;
-mod read_ahead;
-mod run;
 mod text_buffer;
 mod unit_blocks;
 mod utf_16;
-mod utf_8;
+pub(crate) mod utf_8;
 mod windows_1252;
 
 pub(crate) use ascii::is_ascii;
-pub use decode_iter::DecodeIter;
+pub(crate) use decode::put_character;
 pub use encode::OutputEncoding;
 pub(crate) use encode::encode_run;
 pub use text_buffer::TextBuffer;
-pub(crate) use windows_1252::byte_of;
+pub(crate) use windows_1252::{byte_of, has_byte};
 
 /// The encodings of properties files, by the names of the WHATWG Encoding Standard.
 #[allow(non_camel_case_types)]

@@ -11,11 +11,16 @@ ghost use Rattle.properties_format.specs.Groups.{ending_backslashes};
 ghost use Rattle.properties_text.specs.declared.escape.UnescapeError.TheVariants.{Memory};
 ghost use Rattle.properties_text.specs.Escaping.{holds_backslash, is_lent, Unescapes, Appends, Resolves, IsUnit, ReadsUnit, four_of, StartsWithFour};
 
-use search::find_backslash;
+use byte_blocks::{Byte, find};
+use memchr::memchr;
 use std::alloc::{AllocError, Global};
 use std::borrow::CowStr;
+use units::put_units;
 
-mod search;
+mod units;
+
+// Up to how many bytes a backslash is searched for here. In more, a search by larger steps pays.
+const SHORT: usize = 128;
 
 /// How escapes are malformed.
 #[derive(Clone, Copy, Debug, PartialEq, Eq)]
@@ -73,13 +78,29 @@ pub fn has_backslash(s: &str) -> bool
     find_backslash(s.as_bytes()).is_some()
 }
 
+// How many bytes of characters are put together at once.
+const RUN: usize = 64;
+
 // Appends the text with its escapes resolved.
 fn push_resolved(text: &mut String, s: &str) -> Result<(), UnescapeError>
     ensures { Appends (chars s.now) (chars (string_bytes text.old)) result (chars (string_bytes text.new)) }
 {
+    let mut run = [0; RUN];
     let mut rest = s;
     while let Some(at) = find_next(rest.as_bytes()) {
         push_part(text, &rest[..at])?;
+        let after = &rest[at..];
+        // Most escapes are four digits, and stand side by side.
+        if is_unicode(after.as_bytes()) {
+            let units = put_units(&mut run, after);
+            if units.end > 0 {
+                // SAFETY: what was put into the run is text.
+                let more = unsafe { str::from_utf8_unchecked(&run[..units.end]) };
+                text.push_str(more)?;
+                rest = units.rest;
+                continue;
+            }
+        }
         let escape = match read_escape(&rest[at + 1..]) {
             Ok(escape) => escape,
             Err(malformed) => return Err(UnescapeError::Malformed(malformed)),
@@ -89,6 +110,12 @@ fn push_resolved(text: &mut String, s: &str) -> Result<(), UnescapeError>
     }
     text.push_str(rest)?;
     Ok(())
+}
+
+// Whether a backslash stands before a `u`.
+#[inline(always)]
+fn is_unicode(escape: &[u8]) -> bool {
+    escape.len() > 1 && escape[1] == b'u'
 }
 
 // Appends a part of a text. Between escapes that stand side by side there is none.
@@ -110,6 +137,17 @@ fn find_next(text: &[u8]) -> Option<usize>
     match text {
         [b'\\', ..] => Some(0),
         _ => find_backslash(text),
+    }
+}
+
+// The place of the first backslash. In a short text it is found without a call.
+#[inline(always)]
+fn find_backslash(text: &[u8]) -> Option<usize>
+    ensures { IsFirstByte (is_byte backslash) text.now result }
+{
+    match text.len() {
+        0..=SHORT => find::<Byte<b'\\'>>(text),
+        _ => memchr(b'\\', text),
     }
 }
 

@@ -9,17 +9,7 @@ ghost use Rattle.properties_format.specs.Reading.Split.{without_trailing_blanks,
 ghost use Rattle.properties_text.specs.Parsing.{is_plain, parsed, bytes_in, spanned, in_characters, IsSpan, AreSpans, AreInPlace};
 
 use crate::characters::{is_blank, is_comment_sign, is_separator};
-use crate::vectors::{has_control, past_blank_bits, special_bits};
-use std::simd::prelude::*;
-
-/// The parts of a line, before their escapes are resolved.
-#[derive(Clone, Copy)]
-pub enum ParsedLine<'a> {
-    /// The text after the comment sign, without the blanks around it.
-    Comment(&'a str),
-    /// The key, and the value with the blanks that end it.
-    KVPair(&'a str, &'a str),
-}
+use byte_blocks::{Blanks, Controls, Either, Except, Specials, find_in_block};
 
 /// Where a part of a line stands, in bytes from the start of the line.
 #[derive(Clone, Copy)]
@@ -33,30 +23,15 @@ pub struct Span {
 /// Where the parts of a line stand.
 #[derive(Clone, Copy)]
 pub enum ParsedSpans {
-    /// As the text of a [`ParsedLine::Comment`].
+    /// The text after the comment sign, without the blanks around it.
     Comment(Span),
-    /// As the key and the value of a [`ParsedLine::KVPair`].
+    /// The key, and the value with the blanks that end it.
     KVPair(Span, Span),
 }
 
-/// The comment or the pair of a line, or `None` where the line is blanks alone.
+/// Where the parts of a line stand, or `None` where the line is blanks alone.
 ///
 /// Line ends are characters like others here.
-///
-/// ```text
-/// if let Some(ParsedLine::KVPair(key, value)) = parse_line(r"a\ key : a\tvalue") {
-///     // The key is `a\ key`, and the value `a\tvalue`: the escapes stand as they did.
-/// }
-/// ```
-pub fn parse_line(line: &str) -> Option<ParsedLine<'_>>
-    ensures slices { IsSplit line.now (parsed result) }
-    ensures meets { IsSplit (chars line.now) (in_characters (parsed result)) }
-{
-    let spans = parse_spans(line)?;
-    Some(spans.cut(line))
-}
-
-/// Where the parts of a line stand, or `None` where the line is blanks alone.
 pub fn parse_spans(line: &str) -> Option<ParsedSpans>
     ensures slices { IsSplit line.now (spanned line.now result) }
     ensures meets { IsSplit (chars line.now) (in_characters (spanned line.now result)) }
@@ -95,19 +70,6 @@ fn trimmed_span(line: &[u8], from: usize) -> Span
     Span { start, end }
 }
 
-impl ParsedSpans {
-    /// The parts of the line in which these spans were found.
-    pub fn cut(self, line: &str) -> ParsedLine<'_>
-        requires { AreSpans line.now (Some self) }
-        ensures { parsed (Some result) ≡ spanned line.now (Some self) }
-    {
-        match self {
-            ParsedSpans::Comment(text) => ParsedLine::Comment(text.cut(line)),
-            ParsedSpans::KVPair(key, value) => ParsedLine::KVPair(key.cut(line), value.cut(line)),
-        }
-    }
-}
-
 impl Span {
     /// The part of the line in which this span was found.
     pub fn cut(self, line: &str) -> &str
@@ -126,9 +88,30 @@ pub fn leading_blanks(text: &[u8]) -> usize
     past_blanks(text, 0)
 }
 
+// How many blanks are passed one by one. Where there are more, there may be many.
+const FEW: usize = 8;
+
 // The place of the first byte from here on that is no blank.
 #[inline(always)]
 fn past_blanks(text: &[u8], from: usize) -> usize
+    requires { from ≤ length text.now }
+    ensures after { from ≤ result }
+    ensures within { result ≤ length text.now }
+    ensures rest { drop result text.now ≡ without_leading_blanks (drop from text.now) }
+{
+    let mut at = from;
+    while is_blank_at(text, at) {
+        at += 1;
+        if at - from >= FEW {
+            return at + count_blanks(&text[at..]);
+        }
+    }
+    at
+}
+
+// The same, one by one.
+#[inline(always)]
+fn past_few_blanks(text: &[u8], from: usize) -> usize
     requires { from ≤ length text.now }
     ensures after { from ≤ result }
     ensures within { result ≤ length text.now }
@@ -141,21 +124,20 @@ fn past_blanks(text: &[u8], from: usize) -> usize
     at
 }
 
-/// How many blanks the text begins with, where they may be many. They are counted by blocks of sixteen.
-pub fn indentation(text: &[u8]) -> usize
+// How many blanks the text begins with, by blocks of sixteen.
+#[inline(never)]
+fn count_blanks(text: &[u8]) -> usize
     ensures within { result ≤ length text.now }
     ensures rest { drop result text.now ≡ without_leading_blanks text.now }
 {
     let mut at = 0;
     while text.len() - at >= 16 {
-        let v = u8x16::from_slice(&text[at..]);
-        let first = past_blank_bits(v).trailing_zeros() as usize;
-        if first < 16 {
+        if let Some(first) = find_in_block::<Except<Blanks>>(text, at) {
             return at + first;
         }
         at += 16;
     }
-    at + leading_blanks(&text[at..])
+    past_few_blanks(text, at)
 }
 
 // Whether a blank stands there.
@@ -196,20 +178,15 @@ fn key_length(text: &[u8]) -> usize
     text.len()
 }
 
-// At least so many bytes at the front neither end a key nor are backslashes: those in blocks of sixteen before a special
-// byte, and before a block with a control character.
+// At least so many bytes at the front neither end a key nor are backslashes: those before a special byte or a control
+// character, as far as there are blocks of sixteen.
 fn plain_front(text: &[u8]) -> usize
     ensures within { result ≤ length text.now }
     ensures plain { All (λ c. is_plain c ≡ true) (take result text.now) }
 {
     let mut at = 0;
     while text.len() - at >= 16 {
-        let v = u8x16::from_slice(&text[at..]);
-        if has_control(v) {
-            break;
-        }
-        let first = special_bits(v).trailing_zeros() as usize;
-        if first < 16 {
+        if let Some(first) = find_in_block::<Either<Controls, Specials>>(text, at) {
             return at + first;
         }
         at += 16;

@@ -11,7 +11,7 @@ ghost use Rattle.properties_text.specs.declared.encoding.encode.OutputEncoding.T
 ghost use Rattle.properties_text.specs.declared.print.Place.TheVariants.{KeyOrValue};
 ghost use Rattle.properties_text.specs.Printing.{all_of_windows_1252, AppendsOnOk, character_bytes, text_bytes, key_bytes, spelt_byte};
 
-use crate::encoding::{OutputEncoding, byte_of, encode_run, is_ascii};
+use crate::encoding::{OutputEncoding, byte_of, encode_run, has_byte, is_ascii};
 use bytes::print_bytes;
 use std::alloc::AllocError;
 
@@ -20,8 +20,8 @@ mod line_buffer;
 
 pub use line_buffer::LineBuffer;
 
-// How many characters are encoded at once.
-const RUN: usize = 64;
+// How many bytes are encoded at once.
+const RUN: usize = 128;
 
 const HEXADECIMAL: [u8; 16] = *b"0123456789abcdef";
 
@@ -132,7 +132,7 @@ fn print_windows_1252(line: &mut LineBuffer, text: &str) -> Result<(), AllocErro
     print_runs(line, text)
 }
 
-// Prints a key or a value in windows-1252: a run of characters that have a byte, one character, and so on.
+// Prints a key or a value in windows-1252: characters that it lacks, characters that have a byte, and so on.
 #[inline(never)]
 fn print_runs(line: &mut LineBuffer, text: &str) -> Result<(), AllocError>
     ensures { let bytes = text_bytes all_of_windows_1252 KeyOrValue (chars text.now) in
@@ -140,18 +140,32 @@ fn print_runs(line: &mut LineBuffer, text: &str) -> Result<(), AllocError>
 {
     let mut run = [0; RUN];
     let mut rest = text;
-    loop {
-        let encoded = encode_run(&mut run, rest);
+    while !rest.is_empty() {
+        let after = print_lacking(line, rest)?;
+        let encoded = encode_run(&mut run, after);
         print_bytes(line, &run[..encoded.length])?;
-        let mut characters = encoded.rest.chars();
-        match characters.next() {
-            None => return Ok(()),
-            Some(character) => {
-                print_in_key_or_value(line, WINDOWS_1252, character)?;
-                rest = print_lacking(line, characters.as_str())?;
-            }
+        if encoded.rest.len() < rest.len() {
+            rest = encoded.rest;
+        } else {
+            rest = print_first(line, encoded.rest)?;
         }
     }
+    Ok(())
+}
+
+// Prints the first character, if there is one, and returns the text after it.
+fn print_first<'a>(line: &mut LineBuffer, text: &'a str) -> Result<&'a str, AllocError>
+    ensures printed { IfOk result (λ rest.
+        line.new ++ text_bytes all_of_windows_1252 KeyOrValue (chars rest.now)
+        ≡ line.old ++ text_bytes all_of_windows_1252 KeyOrValue (chars text.now)) }
+    ensures shorter { IfOk result (λ rest. 0 < length text.now → length rest.now < length text.now) }
+{
+    let mut characters = text.chars();
+    let Some(character) = characters.next() else {
+        return Ok(text);
+    };
+    print_in_key_or_value(line, WINDOWS_1252, character)?;
+    Ok(characters.as_str())
 }
 
 // Prints the characters at the front that windows-1252 lacks, and returns the text after them.
@@ -162,17 +176,19 @@ fn print_lacking<'a>(line: &mut LineBuffer, text: &'a str) -> Result<&'a str, Al
     ensures left { IfOk result (λ rest. length rest.now ≤ length text.now) }
 {
     let mut rest = text;
-    loop {
+    // Most texts go on with a character of Latin-1, which its first byte shows.
+    while !rest.is_empty() && rest.as_bytes()[0] >= 0xc4 {
         let mut characters = rest.chars();
         let Some(character) = characters.next() else {
-            return Ok(rest);
+            break;
         };
-        if character < '\u{100}' || byte_of(character).is_some() {
-            return Ok(rest);
+        if character < '\u{100}' || has_byte(character) {
+            break;
         }
         print_escape(line, character)?;
         rest = characters.as_str();
     }
+    Ok(rest)
 }
 
 // Prints a text, character by character.
@@ -369,6 +385,7 @@ fn print_after_backslash(line: &mut LineBuffer, byte: u8) -> Result<(), AllocErr
 }
 
 // As `\u` and four digits, or as two such escapes of a high and a low surrogate.
+#[inline(always)]
 fn print_escape(line: &mut LineBuffer, character: char) -> Result<(), AllocError>
     ensures { AppendsOnOk line.old (unicode_escape character) result line.new }
 {
@@ -376,11 +393,22 @@ fn print_escape(line: &mut LineBuffer, character: char) -> Result<(), AllocError
     if code < 0x1_0000 {
         return print_unit(line, code);
     }
+    print_surrogates(line, code)
+}
+
+// The two escapes of a character past U+FFFF. They stand apart, since they are rare.
+#[inline(never)]
+fn print_surrogates(line: &mut LineBuffer, code: u32) -> Result<(), AllocError>
+    requires wide { 0x10000 ≤ code }
+    requires scalar { code < 0x110000 }
+    ensures { AppendsOnOk line.old (unicode_escape code) result line.new }
+{
     let above = code - 0x1_0000;
     print_unit(line, 0xd800 + above / 0x400)?;
     print_unit(line, 0xdc00 + above % 0x400)
 }
 
+#[inline(always)]
 fn print_unit(line: &mut LineBuffer, unit: u32) -> Result<(), AllocError>
     ensures { AppendsOnOk line.old (unit_escape unit) result line.new }
 {
@@ -394,6 +422,7 @@ fn print_unit(line: &mut LineBuffer, unit: u32) -> Result<(), AllocError>
     ])
 }
 
+#[inline(always)]
 fn hexadecimal_digit(value: u32) -> u8
     requires { value < 16 }
     ensures { result ≡ digit_char value }

@@ -1,4 +1,4 @@
-//! Rows of examples across the public surface, table by table, each table one test.
+//! Rows of examples of reading, writing and maps, table by table, each table one test.
 //!
 //! The expected values come from the rules of the format, and from the tests of the Rust crate that this is a
 //! port of.
@@ -6,9 +6,6 @@
 
 #[cfg(test)]
 mod ascii;
-pub mod calling;
-#[cfg(test)]
-mod editing;
 #[cfg(test)]
 mod laws;
 #[cfg(test)]

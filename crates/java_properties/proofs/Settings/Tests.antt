@@ -12,7 +12,8 @@ use Rattle.properties_format.specs.Text.{is_blank, is_line_end, is_comment_sign,
 use Rattle.properties_format.specs.Reading.Settings.{holds_no_line_end}
 use Rattle.properties_format.specs.Reading.Settings.{is_blanks, is_good_prefix, is_signed_separator, is_good_separator}
 use Rattle.properties_format.specs.Settings.{IsGoodPrefix, IsGoodSeparator}
-use Rattle.properties_format.proofs.Settings.Tests.{sign_not_blank, separator_not_blank, is_good_prefix-from, is_good_separator-from}
+use Rattle.properties_format.proofs.Split.Unique.{sign-full, separator-full}
+use Rattle.properties_format.proofs.Settings.Tests.{is_good_prefix-from, is_good_separator-from}
 use Rattle.properties_text.proofs.Texts.Characters.{chars-empty}
 
 -- what a test says of the characters is what it says of the first and of the others
@@ -41,7 +42,7 @@ pub prefix_left-line_end : (c : ℕ) (cs : List ℕ) → is_line_end c ≡ true 
 prefix_left-line_end c cs e = ap (λ v. not v && holds_no_line_end cs) e
 
 pub prefix_left-sign : (c : ℕ) (cs : List ℕ) → is_comment_sign c ≡ true → prefix_left false (c ∷ cs) ≡ prefix_left true cs
-prefix_left-sign c cs e = cond-false (is_blank c) _ _ (sign_not_blank c e) ∙ ap (λ v. v && holds_no_line_end cs) e
+prefix_left-sign c cs e = cond-false (is_blank c) _ _ (sign-full c e) ∙ ap (λ v. v && holds_no_line_end cs) e
 
 pub prefix_left-blank : (c : ℕ) (cs : List ℕ) → is_blank c ≡ true → prefix_left false (c ∷ cs) ≡ prefix_left false cs
 prefix_left-blank c cs e = cond-true (is_blank c) _ _ e
@@ -66,7 +67,7 @@ separator_left-end false = refl
 
 pub separator_left-sign : (c : ℕ) (cs : List ℕ) → is_separator c ≡ true → separator_left false (c ∷ cs) ≡ separator_left true cs
 separator_left-sign c cs e =
-    let b = separator_not_blank c e in
+    let b = separator-full c e in
     ap (λ v. (if v then is_signed_separator cs else is_separator c && is_blanks cs) || (v && is_blanks cs)) b
     ∙ ap (λ v. (v && is_blanks cs) || false) e ∙ or-false (is_blanks cs)
 

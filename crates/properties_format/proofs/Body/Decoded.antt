@@ -16,6 +16,7 @@ use Rattle.properties_format.proofs.Cut.Byline.{no_end-undecoded}
 pub decoded-nil : (e : Encoding) → decoded_line e [] ≡ []
 decoded-nil e = ap characters (pieces_of-nil e)
 
+-- bytes without a line end unit hold no CR and no LF
 plain-unit : (e : Encoding) (d : List ℕ) → is_editable e ≡ true → HoldsNoLineEndUnit e d → HoldsNoLineEnd d
 plain-unit windows_1252 d ok h = h
 plain-unit utf_8 d ok h = h

@@ -4,17 +4,13 @@ use Rattle.std.proofs.Common.{append-nil, subst, lit<}
 use Rattle.std.proofs.lemmas.Bool.{cases_Bool}
 use Rattle.properties_format.specs.Text.{line_feed, carriage_return, LineEnding, lf, cr, crlf, line_ending_text}
 use Rattle.properties_format.specs.Encoding.{Encoding}
-use Rattle.properties_format.specs.Reading.Encoding.{pieces_of}
-use Rattle.properties_format.specs.Pieces.{characters}
 use Rattle.properties_format.specs.Lines.{Ended, Lines, end, Line, put_together, BeginsWithNoLoneLf, AreLines}
 use Rattle.properties_format.specs.Reading.Lines.{lines_of}
-use Rattle.properties_format.specs.Cut.{IsDecodedLine}
 use Rattle.properties_format.specs.Groups.{IsWhole, AreWhole, IsUnfinished, last_group}
 use Rattle.properties_format.specs.Reading.Groups.{closes, groups_after, groups_of}
 use Rattle.properties_format.specs.Body.{HeldLine, AreHeld, as_lines, as_groups, held_in, AreGroupsOf, ending_bytes, group_bytes, groups_bytes, last_ending}
 use Rattle.properties_format.specs.Edited.{is_editable}
 use Rattle.properties_format.specs.Reading.Body.{held_of, held_lines_of, held_groups_after, held_groups_of}
-use Rattle.properties_format.proofs.Encodings.Pieces.{pieces_of-meets, pieces_of-only}
 use Rattle.properties_format.proofs.Lines.Only.{lines_of-together}
 use Rattle.properties_format.proofs.Groups.Steps.{groups_after-close, groups_after-leave}
 use Rattle.properties_format.proofs.Groups.Meets.{groups_of-meets}
@@ -22,25 +18,22 @@ use Rattle.properties_format.proofs.Groups.Only.{groups_of-only}
 use Rattle.properties_format.specs.Reading.Cut.{cut_of, decoded_line}
 use Rattle.properties_format.proofs.Cut.Meets.{cut_of-meets}
 use Rattle.properties_format.proofs.Cut.Only.{cut_of-only}
+use Rattle.properties_format.proofs.Cut.Byline.{decoded_line-meets, decoded_line-only}
 use Rattle.properties_format.proofs.Body.Decoded.{IsCut-lines}
 use Rattle.properties_format.proofs.Edited.Told.{ended_lines, line_texts_in, line_texts, IsFront}
 
 -- ---- the lines that a body holds
 
-decoded-is : (e : Encoding) (d : List ℕ) → IsDecodedLine e d (decoded_line e d)
-decoded-is e d = (pieces_of e d, pieces_of-meets e d, refl)
-
-decoded-only : (e : Encoding) (d x : List ℕ) → IsDecodedLine e d x → x ≡ decoded_line e d
-decoded-only e d x (ps, h, s) = s ∙ ap characters (pieces_of-only e d ps h)
-
+-- what is computed are the lines of bytes in order, each decoded by itself
 pub held_of-meets : (e : Encoding) (ls : List Ended) (last : List ℕ) → AreHeld e ls last (held_of e ls last)
-held_of-meets e [] last = (decoded_line e last, decoded-is e last, refl)
-held_of-meets e (l ∷ ls) last = (decoded_line e l.text, held_of e ls last, decoded-is e l.text, refl, held_of-meets e ls last)
+held_of-meets e [] last = (decoded_line e last, decoded_line-meets e last, refl)
+held_of-meets e (l ∷ ls) last = (decoded_line e l.text, held_of e ls last, decoded_line-meets e l.text, refl, held_of-meets e ls last)
 
+-- and no others are
 held_of-only : (e : Encoding) (ls : List Ended) (last : List ℕ) (held : List HeldLine) → AreHeld e ls last held → held ≡ held_of e ls last
-held_of-only e [] last held (x, h, s) = s ∙ ap (λ v. record { bytes = last; text = v; ending = None } ∷ []) (decoded-only e last x h)
+held_of-only e [] last held (x, h, s) = s ∙ ap (λ v. record { bytes = last; text = v; ending = None } ∷ []) (decoded_line-only e last x h)
 held_of-only e (l ∷ ls) last held (x, rest, h, s, k) =
-    s ∙ ap₂ (λ v w. record { bytes = l.text; text = v; ending = Some l.by } ∷ w) (decoded-only e l.text x h) (held_of-only e ls last rest k)
+    s ∙ ap₂ (λ v w. record { bytes = l.text; text = v; ending = Some l.by } ∷ w) (decoded_line-only e l.text x h) (held_of-only e ls last rest k)
 
 -- ---- their groups
 
@@ -109,6 +102,7 @@ split-same (a ∷ g) (b ∷ h) x y t s =
     let m = split-same g h x y q r in
     (ap₂ (λ v w. v ∷ w) p m.0, m.1)
 
+-- groups with the same texts and the same lines are the same
 groups-same : (gs hs : List (List HeldLine)) → as_groups gs ≡ as_groups hs → held_in gs ≡ held_in hs → gs ≡ hs
 groups-same [] [] t s = refl
 groups-same [] (h ∷ hs) t s = absurd (cc)
@@ -149,6 +143,7 @@ AreFit [] = Unit {0}
 AreFit (g ∷ []) = IsLastFit g
 AreFit (g ∷ h ∷ gs) = IsWhole (as_lines g) × AreFit (h ∷ gs)
 
+-- all groups but the last are whole, where the texts are whole groups and perhaps a last one that ends open
 fit : (gs : List (List HeldLine)) (whole : List (List Line)) (u : List Line) → as_groups gs ≡ whole ++ last_group u end → AreWhole whole → IsUnfinished u
     → AreFit gs
 fit [] whole u t h k = tt
@@ -169,6 +164,7 @@ abbrev pub held_ended : Encoding → List Ended → List HeldLine
 held_ended e [] = []
 held_ended e (l ∷ ls) = record { bytes = l.text; text = decoded_line e l.text; ending = Some l.by } ∷ held_ended e ls
 
+-- where two lists of lines are empty together, the second is empty
 none-right : (x y : List HeldLine) → x ++ y ≡ [] → y ≡ []
 none-right [] y h = h
 none-right (a ∷ x) y h = absurd (cc)
@@ -181,6 +177,7 @@ record IsCutOff (e : Encoding) (g rest : List HeldLine) (ls : List Ended) (last 
   group : g ≡ held_ended e front
   others : rest ≡ held_of e back last
 
+-- lines in front of some others are cut off so
 cut-off : (e : Encoding) (g rest : List HeldLine) (ls : List Ended) (last : List ℕ) → rest ≢ [] → g ++ rest ≡ held_of e ls last → IsCutOff e g rest ls last
 cut-off e [] rest ls last some h = record { front = []; back = ls; all = refl; group = refl; others = h }
 cut-off e (a ∷ g) rest [] last some h = let q : g ++ rest ≡ [] = cc in absurd (some (none-right g rest q))
@@ -190,6 +187,7 @@ cut-off e (a ∷ g) rest (l ∷ ls) last some h =
     let m = cut-off e g rest ls last some q in
     record { front = l ∷ m.front; back = m.back; all = ap (λ v. l ∷ v) {y = m.front ++ m.back} m.all; group = ap₂ (λ v w. v ∷ w) p m.group; others = m.others }
 
+-- the first of ended lines are lines, with an empty last one
 lines-front : (ls ms : List Ended) (last : List ℕ) → AreLines (ls ++ ms) last → AreLines ls []
 lines-front [] ms last h = tt
 lines-front (l ∷ ls) ms last h = (h.0, (λ k. lone ls (h.1 k)), lines-front ls ms last h.2)
@@ -198,31 +196,38 @@ lines-front (l ∷ ls) ms last h = (h.0, (λ k. lone ls (h.1 k)), lines-front ls
     lone [] h = tt
     lone (l ∷ ls) h = h
 
+-- and so are those after them, with the last one
 lines-back : (ls ms : List Ended) (last : List ℕ) → AreLines (ls ++ ms) last → AreLines ms last
 lines-back [] ms last h = h
 lines-back (l ∷ ls) ms last h = lines-back ls ms last h.2
 
+-- the bytes of ended lines are the lines and their ends put together
 pub ended-bytes : (e : Encoding) (ls : List Ended) → group_bytes (held_ended e ls) ≡ put_together ls []
 ended-bytes e [] = refl
 ended-bytes e (l ∷ ls) = ap (λ v. l.text ++ (line_ending_text l.by ++ v)) (ended-bytes e ls)
 
+-- the texts of ended lines, each decoded by itself
 ended-texts : (e : Encoding) (ls : List Ended) → ended_lines e ls ≡ as_lines (held_ended e ls)
 ended-texts e [] = refl
 ended-texts e (l ∷ ls) = ap (λ v. record { number = 0; text = decoded_line e l.text } ∷ v) (ended-texts e ls)
 
+-- the bytes of all lines of a body are the lines and their ends put together
 pub held-bytes : (e : Encoding) (ls : List Ended) (last : List ℕ) → group_bytes (held_of e ls last) ≡ put_together ls last
 held-bytes e [] last = append-nil last
 held-bytes e (l ∷ ls) last = ap (λ v. l.text ++ (line_ending_text l.by ++ v)) (held-bytes e ls last)
 
+-- the texts of all lines of a body, each decoded by itself
 held-texts : (e : Encoding) (ls : List Ended) (last : List ℕ) → line_texts_in e (record { ended = ls; last = last }) ≡ as_lines (held_of e ls last)
 held-texts e [] last = refl
 held-texts e (l ∷ ls) last = ap (λ v. record { number = 0; text = decoded_line e l.text } ∷ v) (held-texts e ls last)
 
+-- the last of all lines has no ending
 held-last : (e : Encoding) (ls : List Ended) (last : List ℕ) → last_ending (held_of e ls last) ≡ None
 held-last e [] last = refl
 held-last e (l ∷ []) last = refl
 held-last e (l ∷ m ∷ ls) last = held-last e (m ∷ ls) last
 
+-- and the last of ended lines has one
 ended-last : (e : Encoding) (l : Ended) (ls : List Ended) → (by : LineEnding) × (last_ending (held_ended e (l ∷ ls)) ≡ Some by)
 ended-last e l [] = (l.by, refl)
 ended-last e l (m ∷ ls) = ended-last e m ls
@@ -231,6 +236,7 @@ ended-last e l (m ∷ ls) = ended-last e m ls
 abbrev pub HasAscii : List ℕ → Type 0
 HasAscii x = (u : List ℕ) × (c : ℕ) × (v : List ℕ) × (x ≡ u ++ c ∷ v) × (c < 0x80)
 
+-- bytes with a line ending among them are such
 line-ascii : (text : List ℕ) (by : LineEnding) (y : List ℕ) → HasAscii (text ++ (line_ending_text by ++ y))
 line-ascii text lf y = (text, line_feed, y, refl, lit< tt)
 line-ascii text cr y = (text, carriage_return, y, refl, lit< tt)
@@ -263,6 +269,7 @@ AreHeldGroups e [] = ⊥
 AreHeldGroups e (g ∷ []) = IsHeldLast e g
 AreHeldGroups e (g ∷ h ∷ gs) = IsHeldFront e g × AreHeldGroups e (h ∷ gs)
 
+-- ended lines of a text that are one whole group are such
 front-of : (e : Encoding) (ls : List Ended) → AreLines ls [] → IsWhole (as_lines (held_ended e ls)) → IsHeldFront e (held_ended e ls)
 front-of e [] h k = absurd k
 front-of e (l ∷ ls) h k =
@@ -279,6 +286,7 @@ front-of e (l ∷ ls) h k =
       are_lines = h;
     }
 
+-- and all lines of a text are such a last group, where they are whole or end open
 last-of : (e : Encoding) (ls : List Ended) (last : List ℕ) → AreLines ls last → IsLastFit (held_of e ls last) → IsHeldLast e (held_of e ls last)
 unfolding line_texts
 last-of e ls last h k =
@@ -291,12 +299,14 @@ last-of e ls last h k =
       are_lines = h;
     }
 
+-- groups of which all but the last are whole, one at least, have lines
 fit-some : (h : List HeldLine) (gs : List (List HeldLine)) → AreFit (h ∷ gs) → held_in (h ∷ gs) ≢ []
 fit-some [] [] (inl k) q = k
 fit-some [] [] (inr k) q = k
 fit-some [] (i ∷ gs) k q = k.0
 fit-some (a ∷ h) gs k q = cc
 
+-- groups that have all lines of a text are such, where all but the last are whole
 groups-fit : (e : Encoding) (gs : List (List HeldLine)) (ls : List Ended) (last : List ℕ) → AreLines ls last → held_in gs ≡ held_of e ls last → AreFit gs
     → AreHeldGroups e gs
 groups-fit e [] [] last h s k = absurd (cc)
@@ -333,6 +343,7 @@ groups_bytes-append [] hs = refl
 groups_bytes-append (g ∷ gs) hs =
     ap (λ v. group_bytes g ++ v) (groups_bytes-append gs hs) ∙ sym (append_assoc (group_bytes g) (groups_bytes gs) (groups_bytes hs))
 
+-- the bytes of groups are those of their lines
 groups-bytes : (gs : List (List HeldLine)) → groups_bytes gs ≡ group_bytes (held_in gs)
 groups-bytes [] = refl
 groups-bytes (g ∷ gs) = ap (λ v. group_bytes g ++ v) (groups-bytes gs) ∙ sym (group_bytes-append g (held_in gs))

@@ -20,10 +20,12 @@ abbrev numbered_from : ℕ → List HeldLine → List Line
 numbered_from n [] = []
 numbered_from n (h ∷ hs) = record { number = n; text = h.text } ∷ numbered_from (n + 1) hs
 
+-- the decoded lines after n line ends are the lines of the body, numbered from n + 1 on
 numbered-held : (e : Encoding) (n : ℕ) (ls : List Ended) (last : List ℕ) → numbered n (decoded_ended e ls) (decoded_line e last) end ≡ numbered_from (n + 1) (held_of e ls last)
 numbered-held e n [] last = refl
 numbered-held e n (l ∷ ls) last = ap (λ v. record { number = n + 1; text = decoded_line e l.text } ∷ v) (numbered-held e (n + 1) ls last)
 
+-- one line more has the next number
 numbered-push : (n : ℕ) (p : List HeldLine) (h : HeldLine) → numbered_from n (p ++ h ∷ []) ≡ numbered_from n p ++ record { number = n + length p; text = h.text } ∷ []
 numbered-push n [] h = ap (λ m. record { number = m; text = h.text } ∷ []) (zero-right n)
   where
@@ -33,22 +35,27 @@ numbered-push n (g ∷ p) h =
     ap (λ v. record { number = n; text = g.text } ∷ v)
     (numbered-push (n + 1) p h ∙ ap (λ m. numbered_from (n + 1) p ++ record { number = m; text = h.text } ∷ []) (one-more n (length p)))
 
+-- whether a line closes a group doesn't hang on the numbers
 closes-numbered : (n m : ℕ) (p : List HeldLine) (h : HeldLine) → closes (numbered_from n p) (record { number = m; text = h.text }) ≡ closes (as_lines p) (record { number = 0; text = h.text })
 closes-numbered n m [] h = refl
 closes-numbered n m (g ∷ p) h = refl
 
+-- nor does what lines add
 joined_after-numbered : (n : ℕ) (hs : List HeldLine) → joined_after (numbered_from n hs) ≡ joined_after (as_lines hs)
 joined_after-numbered n [] = refl
 joined_after-numbered n (h ∷ hs) = rw (joined_after-numbered (n + 1) hs) refl
 
+-- nor what a group is put together to
 joined-numbered : (n : ℕ) (g : List HeldLine) → joined (numbered_from n g) ≡ joined (as_lines g)
 joined-numbered n [] = refl
 joined-numbered n (h ∷ hs) = rw (joined_after-numbered (n + 1) hs) refl
 
+-- a group that is numbered from n on has the number n
 first-numbered : (n : ℕ) (p : List HeldLine) (h : HeldLine) → first_number (numbered_from n (p ++ h ∷ [])) ≡ n
 first-numbered n [] h = refl
 first-numbered n (g ∷ p) h = refl
 
+-- one line more counts one
 length-push : (p : List HeldLine) (h : HeldLine) → length (p ++ h ∷ []) ≡ length p + 1
 length-push [] h = refl
 length-push (g ∷ p) h = let e = length-push p h in omega arith

@@ -17,12 +17,14 @@ use Rattle.properties_format.proofs.Body.Numbers.{items_of-groups}
 
 -- ---- entries
 
+-- an outcome before others is what its entry and their entries say, where none is malformed
 followed-told : (number : ℕ) (o : Outcome) (entries : List Entry) (os : List Outcome) → (HoldsNoMalformed entries → os ≡ givens (contents entries))
     → HoldsNoMalformed (followed number o entries) → told_before o os ≡ givens (contents (followed number o entries))
 followed-told number ignored entries os h k = h k
 followed-told number (given content) entries os h k = ap (λ v. given content ∷ v) (h k)
 followed-told number (broken kind) entries os h k = absurd k
 
+-- groups come to what their entries say, where none is malformed
 entries-told : (n : ℕ) (gs : List (List HeldLine)) → HoldsNoMalformed (entries_in n gs) → told_by (as_groups gs) ≡ givens (contents (entries_in n gs))
 entries-told n [] h = refl
 entries-told n (g ∷ gs) h =
@@ -32,6 +34,7 @@ entries-told n (g ∷ gs) h =
 abbrev Say : List Entry → List Content → Type 0
 Say entries cs = HoldsNoMalformed entries × (contents entries ≡ cs)
 
+-- where an outcome before others is contents alone, its entry and their entries say these
 told-followed : (number : ℕ) (o : Outcome) (entries : List Entry) (os : List Outcome) (cs : List Content)
     → ((ds : List Content) → os ≡ givens ds → Say entries ds)
     → told_before o os ≡ givens cs → Say (followed number o entries) cs
@@ -45,6 +48,7 @@ told-followed number (given content) entries os (c ∷ cs) h k =
 told-followed number (broken kind) entries os [] h k = absurd (cc)
 told-followed number (broken kind) entries os (c ∷ cs) h k = absurd (cc)
 
+-- where groups come to contents alone, their entries say these
 told-entries : (n : ℕ) (gs : List (List HeldLine)) (cs : List Content) → told_by (as_groups gs) ≡ givens cs → Say (entries_in n gs) cs
 told-entries n [] [] h = (tt, refl)
 told-entries n [] (c ∷ cs) h = absurd (cc)

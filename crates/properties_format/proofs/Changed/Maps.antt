@@ -9,7 +9,7 @@ use Rattle.properties_format.specs.Reading.Maps.{first_value, value_in}
 use Rattle.properties_format.specs.Edited.{Edit, put, remove}
 use Rattle.properties_format.specs.Changed.{contents, HoldNoPair, IsLastChanged, IsSetIn, IsRemovedIn, IsEditedIn, AreEditedIn, map_edited}
 use Rattle.properties_format.specs.Changed.{map_after}
-use Rattle.properties_format.proofs.Maps.{value_in-meets, map-only}
+use Rattle.properties_format.proofs.Maps.{value_in-meets, map-only, first-assoc, first-none}
 
 -- ---- the value of a key among contents
 
@@ -21,10 +21,7 @@ abbrev value_among : List Content → List ℕ → Option (List ℕ)
 value_among [] key = None
 value_among (c ∷ cs) key = first_value (value_among cs key) (content_value c key)
 
-first-none : (o : Option (List ℕ)) → first_value o None ≡ o
-first-none None = refl
-first-none (Some v) = refl
-
+-- the value of a key in the entries is its value among what they say
 value-contents : (entries : List Entry) (key : List ℕ) → value_in entries key ≡ value_among (contents entries) key
 value-contents [] key = refl
 value-contents (item n (pair k v) ∷ entries) key = ap (λ o. first_value o (content_value (pair k v) key)) (value-contents entries key)
@@ -32,28 +29,29 @@ value-contents (item n (comment text) ∷ entries) key = ap (λ o. first_value o
 value-contents (malformed kind n ∷ entries) key = first-none (value_in entries key) ∙ value-contents entries key
 value-contents (read_fault n ∷ entries) key = first-none (value_in entries key) ∙ value-contents entries key
 
-first-assoc : (a b c : Option (List ℕ)) → first_value (first_value a b) c ≡ first_value a (first_value b c)
-first-assoc None b c = refl
-first-assoc (Some v) b c = refl
-
+-- among contents and then more contents, the value is that of the second, or else that of the first
 value-append : (cs ds : List Content) (key : List ℕ) → value_among (cs ++ ds) key ≡ first_value (value_among ds key) (value_among cs key)
 value-append [] ds key = sym (first-none (value_among ds key))
 value-append (c ∷ cs) ds key =
     ap (λ o. first_value o (content_value c key)) (value-append cs ds key) ∙ first-assoc (value_among ds key) (value_among cs key) (content_value c key)
 
+-- equal keys pass the test
 same-test : (k key : List ℕ) → k ≡ key → bytes_eq k key ≡ true
 same-test k key h = (bytes_eq-Decides k key).1 h
 
-other-test : (k key : List ℕ) → k ≢ key → bytes_eq k key ≡ false
+-- and others don't
+pub other-test : (k key : List ℕ) → k ≢ key → bytes_eq k key ≡ false
 other-test k key h = false_from_ne_true (bytes_eq k key) (λ t. h ((bytes_eq-Decides k key).0 t))
 
 -- a pair with another key does not count
 other-value : (k v key : List ℕ) → k ≢ key → content_value (pair k v) key ≡ None
 other-value k v key h = cond-false (bytes_eq k key) (Some v) None (other-test k key h)
 
+-- a pair gives its key its value
 own-value : (k v : List ℕ) → content_value (pair k v) k ≡ Some v
 own-value k v = cond-true (bytes_eq k k) (Some v) None (same-test k k refl)
 
+-- among contents without a pair with the key it has no value
 no-value : (key : List ℕ) (cs : List Content) → HoldNoPair key cs → value_among cs key ≡ None
 no-value key [] h = refl
 no-value key (comment text ∷ cs) h = ap (λ o. first_value o None) (no-value key cs h)
@@ -65,12 +63,14 @@ not-back k key h s = let t = same-test k key (sym s) in absurd (cc)
 
 -- ---- a key is set
 
+-- a pair with no later one with its key gives the key its value
 set-last : (cs ds : List Content) (key value k : List ℕ) → HoldNoPair key ds → (k ≡ key) → value_among (cs ++ pair key value ∷ ds) k ≡ Some value
 set-last cs ds key value k h s =
     ap (value_among (cs ++ pair key value ∷ ds)) s
     ∙ value-append cs (pair key value ∷ ds) key
     ∙ ap₂ (λ x y. first_value (first_value x y) (value_among cs key)) (no-value key ds h) (own-value key value)
 
+-- and for another key it doesn't count
 set-other : (cs ds : List Content) (key value k : List ℕ) → (key ≢ k)
     → value_among (cs ++ pair key value ∷ ds) k ≡ first_value (value_among ds k) (value_among cs k)
 set-other cs ds key value k h =
@@ -78,6 +78,7 @@ set-other cs ds key value k h =
     ∙ ap (λ y. first_value (first_value (value_among ds k) y) (value_among cs k)) (other-value key value k h)
     ∙ ap (λ y. first_value y (value_among cs k)) (first-none (value_among ds k))
 
+-- where the last pair with a key is changed, each key has its value in the map with that key set
 changed-value : (key value : List ℕ) (old new : List Content) (k : List ℕ) → IsLastChanged key value old new
     → value_among new k ≡ map_edited (put key value) (value_among old) k
 changed-value key value old new k h = elim (cases_Bool (bytes_eq k key)) [
@@ -93,6 +94,7 @@ changed-value key value old new k h = elim (cases_Bool (bytes_eq k key)) [
       ∙ sym (cond-false (bytes_eq k key) (Some value) (value_among old k) t)
 ]
 
+-- and where a new last pair is added
 appended-value : (key value : List ℕ) (old new : List Content) (k : List ℕ) → new ≡ old ++ pair key value ∷ []
     → value_among new k ≡ map_edited (put key value) (value_among old) k
 appended-value key value old new k h = elim (cases_Bool (bytes_eq k key)) [
@@ -104,6 +106,7 @@ appended-value key value old new k h = elim (cases_Bool (bytes_eq k key)) [
       ap (λ v. value_among v k) h ∙ set-other old [] key value k (not-back k key t) ∙ sym (cond-false (bytes_eq k key) (Some value) (value_among old k) t)
 ]
 
+-- so each key has it where a key is set
 set-value : (key value : List ℕ) (old new : List Content) (k : List ℕ) → IsSetIn key value old new
     → value_among new k ≡ map_edited (put key value) (value_among old) k
 set-value key value old new k (inl h) = changed-value key value old new k h
@@ -111,6 +114,7 @@ set-value key value old new k (inr h) = appended-value key value old new k h.1
 
 -- ---- a key is removed
 
+-- a key that is removed has no value
 removed-same : (key : List ℕ) (old new : List Content) → IsRemovedIn key old new → value_among new key ≡ None
 removed-same key [] new h = ap (λ v. value_among v key) h
 removed-same key (comment text ∷ cs) new h = ap (λ v. value_among v key) h.1 ∙ first-none (value_among h.0 key) ∙ removed-same key cs h.0 h.2
@@ -119,6 +123,7 @@ removed-same key (pair k v ∷ cs) new (inr h) =
     ap (λ v. value_among v key) h.2 ∙ ap (first_value (value_among h.1 key)) (other-value k v key h.0) ∙ first-none (value_among h.1 key)
     ∙ removed-same key cs h.1 h.3
 
+-- every other key has the value that it had
 removed-other : (key : List ℕ) (old new : List Content) (k : List ℕ) → key ≢ k → IsRemovedIn key old new → value_among new k ≡ value_among old k
 removed-other key [] new k n h = ap (λ v. value_among v k) h
 removed-other key (comment text ∷ cs) new k n h = ap (λ v. value_among v k) h.1 ∙ ap (λ o. first_value o None) (removed-other key cs h.0 k n h.2)
@@ -127,6 +132,7 @@ removed-other key (pair l v ∷ cs) new k n (inl h) =
 removed-other key (pair l v ∷ cs) new k n (inr h) =
     ap (λ v. value_among v k) h.2 ∙ ap (λ o. first_value o (content_value (pair l v) k)) (removed-other key cs h.1 k n h.3)
 
+-- so each key has its value in the map with that key removed
 removed-value : (key : List ℕ) (old new : List Content) (k : List ℕ) → IsRemovedIn key old new
     → value_among new k ≡ map_edited (remove key) (value_among old) k
 removed-value key old new k h = elim (cases_Bool (bytes_eq k key)) [
@@ -136,6 +142,7 @@ removed-value key old new k h = elim (cases_Bool (bytes_eq k key)) [
 
 -- ---- edits in turn
 
+-- after an edit each key has its value in the edited map
 edited-value : (edit : Edit) (old new : List Content) (k : List ℕ) → IsEditedIn edit old new → value_among new k ≡ map_edited edit (value_among old) k
 edited-value (put key value) old new k h = set-value key value old new k h
 edited-value (remove key) old new k h = removed-value key old new k h
@@ -145,10 +152,12 @@ change-same : (edit : Edit) (a b : List ℕ → Option (List ℕ)) → ((k : Lis
 change-same (put key value) a b h k = ap (λ o. if bytes_eq k key then Some value else o) (h k)
 change-same (remove key) a b h k = ap (λ o. if bytes_eq k key then None else o) (h k)
 
+-- and changes in turn of such maps
 changes-same : (edits : List Edit) (a b : List ℕ → Option (List ℕ)) → ((k : List ℕ) → a k ≡ b k) → (k : List ℕ) → map_after edits a k ≡ map_after edits b k
 changes-same [] a b h k = h k
 changes-same (edit ∷ edits) a b h k = changes-same edits (map_edited edit a) (map_edited edit b) (change-same edit a b h) k
 
+-- after edits in turn each key has its value in the map after them
 edits-value : (edits : List Edit) (old new : List Content) (k : List ℕ) → AreEditedIn edits old new → value_among new k ≡ map_after edits (value_among old) k
 edits-value [] old new k h = ap (λ v. value_among v k) h
 edits-value (edit ∷ edits) old new k h =

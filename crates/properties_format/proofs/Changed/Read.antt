@@ -1,18 +1,15 @@
 -- What is promised of an editor's result, where it has one.
-use Rattle.std.proofs.Common.{◌≡◌, ℕ, true, List, [], ◌∷◌, All, subst, sym, refl, Option}
+use Rattle.std.proofs.Common.{◌≡◌, ℕ, true, List, All, subst, sym, Option}
 use Rattle.properties_format.specs.Text.{scalar}
 use Rattle.properties_format.specs.Encoding.{Encoding, byte_order_mark}
 use Rattle.properties_format.specs.Lines.{end}
-use Rattle.properties_format.specs.Escapes.{Malformed}
-use Rattle.properties_format.specs.Entries.{Content, Entry, item, malformed, read_fault}
-use Rattle.properties_format.specs.Reading.Items.{items_of}
+use Rattle.properties_format.specs.Entries.{Content, Entry}
 use Rattle.properties_format.specs.Maps.{IsMap}
 use Rattle.properties_format.specs.Edited.{Edit, put, remove, edited, is_editable, HoldsNoMalformed, ItemsAre, IsSetKeyResult, IsRemoveKeyResult}
-use Rattle.properties_format.specs.Edited.{EditResult, unsupported, unreadable, IsFirstMalformed, IsEditResult, IsEdited, IsScalarEdit}
 use Rattle.properties_format.specs.Edited.{IsEditAllResult, AreScalarEdits}
 use Rattle.properties_format.specs.Changed.{contents, IsSetIn, IsRemovedIn, AreEditedIn, map_edited, map_after, ReadsAfter}
 use Rattle.properties_format.proofs.Items.Unique.{items_of-only}
-use Rattle.properties_format.proofs.Changed.Laws.{IsReadable, says, IsReadTo, key_set-says, key_removed-says, edit-says, edits-say}
+use Rattle.properties_format.proofs.Changed.Laws.{IsReadable, says, IsReadTo, key_set-says, key_removed-says, edits-say}
 use Rattle.properties_format.proofs.Changed.Maps.{map-edited, map-after}
 
 -- a source that is edited is readable
@@ -50,30 +47,3 @@ pub edit_all-reads : (e : Encoding) (source : List ℕ) (edits : List Edit) (res
     → ReadsAfter (AreEditedIn edits) (map_after edits) e source result
 edit_all-reads e source edits result k h =
     reads-after e source result (AreEditedIn edits) (map_after edits) (edits-say e source edits result (readable e source h.0 h.1) k h.2) (map-after edits)
-
--- ---- edits in turn, one by one
-
-no-first : (kind : Malformed) (n : ℕ) (entries : List Entry) → HoldsNoMalformed entries → IsFirstMalformed kind n entries → ⊥
-no-first kind n [] h k = k
-no-first kind n (item m content ∷ entries) h k = no-first kind n entries h k
-no-first kind n (malformed other m ∷ entries) h k = h
-no-first kind n (read_fault m ∷ entries) h k = no-first kind n entries h k
-
--- a readable source is edited
-readable-edited : (e : Encoding) (source : List ℕ) (Makes : List ℕ → Type 0) (r : EditResult) → IsReadable e source → IsEditResult e source Makes r
-    → (result : List ℕ) × (r ≡ edited result)
-readable-edited e source Makes (edited result) h k = (result, refl)
-readable-edited e source Makes unsupported h k = let a = h.editable in absurd (cc)
-readable-edited e source Makes (unreadable kind n) h k =
-    absurd (no-first kind n (items_of e source end) h.no_fault (subst (IsFirstMalformed kind n) (items_of-only e source end k.1.0 k.1.1) k.1.2))
-
--- What an edit made can be edited again.
-pub edited-again : (e : Encoding) (source : List ℕ) (edit : Edit) (next : List ℕ) (Makes : List ℕ → Type 0) (r : EditResult) → IsScalarEdit edit
-    → IsEditResult e source (IsEdited e source edit) (edited next) → IsEditResult e next Makes r → (result : List ℕ) × (r ≡ edited result)
-edited-again e source edit next Makes r k h m =
-    readable-edited e next Makes r (edit-says e source edit next (readable e source h.0 h.1) k h.2).readable m
-
--- So an edit and then others are edits in turn.
-pub edit_all-step : (e : Encoding) (source : List ℕ) (edit : Edit) (edits : List Edit) (next result : List ℕ)
-    → IsEditResult e source (IsEdited e source edit) (edited next) → IsEditAllResult e next edits (edited result) → IsEditAllResult e source (edit ∷ edits) (edited result)
-edit_all-step e source edit edits next result h k = (h.0, h.1, (next, h.2, k.2))

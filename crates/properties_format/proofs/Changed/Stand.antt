@@ -21,6 +21,7 @@ stand-all : (gs : List (List HeldLine)) (y : List ℕ) → StandIn gs (groups_by
 stand-all [] y = tt
 stand-all (g ∷ gs) y = ([], groups_bytes gs ++ y, append_assoc (group_bytes g) (groups_bytes gs) y, stand-all gs y)
 
+-- all groups, and no other bytes
 stand-alone : (gs : List (List HeldLine)) → StandIn gs (groups_bytes gs)
 stand-alone [] = tt
 stand-alone (g ∷ gs) = ([], groups_bytes gs, refl, stand-alone gs)
@@ -47,6 +48,7 @@ key_set-keeps e source key value result h = elim h.edited [
   )
 ]
 
+-- in what is left without a key, the groups that are no pair with it stand in order
 others-stand : (key : List ℕ) (gs : List (List HeldLine)) (rest : List ℕ) → IsWithout key gs rest
     → (others : List (List HeldLine)) × AreOthers key gs others × StandIn others rest
 others-stand key [] rest h = ([], refl, tt)

@@ -1,8 +1,8 @@
 -- Splitting commutes with decoding: lines that are sought among undecoded bytes, and decoded one by one, are the lines of the decoded text.
-use Rattle.std.proofs.Common.{◌≡◌, ℕ, suc, length, ◌<◌, ◌⊎◌, ◌==◌, eqb-true, true, List, [], ◌∷◌, ◌++◌, refl, ap, ap₂, sym, ◌∙◌, subst, inl, inr, lit<, append_assoc}
+use Rattle.std.proofs.Common.{◌≡◌, ℕ, ◌<◌, ◌⊎◌, ◌==◌, eqb-true, true, List, [], ◌∷◌, ◌++◌, refl, ap, ap₂, sym, ◌∙◌, subst, inl, inr, lit<, append_assoc}
 use Rattle.std.proofs.lemmas.Bool.{cases_Bool, or_cases}
 use Rattle.properties_format.specs.Text.{line_feed, carriage_return, is_line_end, LineEnding, lf, cr, crlf, line_ending_text}
-use Rattle.properties_format.specs.Lines.{Ended, Lines, put_together, HoldsNoLineEnd, BeginsWithNoLoneLf, AreLines, IsLines, line_ends}
+use Rattle.properties_format.specs.Lines.{Ended, Lines, put_together, HoldsNoLineEnd, BeginsWithNoLoneLf, AreLines, IsLines}
 use Rattle.properties_format.specs.Pieces.{characters}
 use Rattle.properties_format.specs.Encoding.{Encoding, IsAligned, IsDecoded, ascii_bytes, byte_order_mark}
 use Rattle.properties_format.specs.Cut.{HoldsNoLineEndUnit, line_ending_bytes, bytes_together, AreCut, IsCut, IsDecodedLine, AreDecodedLines, IsByline}
@@ -31,6 +31,7 @@ decoded-line e text crlf y a =
     ∙ characters-cut_ascii e carriage_return text (ascii_bytes e line_feed ++ y) (lit< tt) a
     ∙ ap (λ v. decoded_line e text ++ carriage_return ∷ characters v) (pieces_of-ascii e line_feed y (lit< tt))
 
+-- lines of bytes that are put together are decoded to their texts, put together
 decoded-together : (e : Encoding) (ls : List Ended) (last : List ℕ) → AreCut e ls last
     → decoded_line e (bytes_together e ls last) ≡ put_together (decoded_ended e ls) (decoded_line e last)
 decoded-together e [] last h = refl
@@ -40,6 +41,7 @@ decoded-together e (l ∷ ls) last h =
 
 -- ---- Its lines.
 
+-- a text holds no CR and no LF, or it is what stands before one, that one, and what stands after it
 first-end : (x : List ℕ) → HoldsNoLineEnd x ⊎ ((t : List ℕ) × (c : ℕ) × (s : List ℕ) × (is_line_end c ≡ true) × (x ≡ t ++ c ∷ s))
 first-end [] = inl tt
 first-end (c ∷ x) = elim (cases_Bool (is_line_end c)) [
@@ -68,10 +70,12 @@ pub nothing-decoded : (e : Encoding) (d : List ℕ) → decoded_line e d ≡ [] 
 nothing-decoded e [] h = refl
 nothing-decoded e (b ∷ d) h = let k = ap characters (pieces_of-step e b d) in absurd (cc)
 
+-- where the first line of bytes is no lone LF, the first decoded line is none either
 no_lone-decoded : (e : Encoding) (ls : List Ended) → BeginsWithNoLoneLf ls → BeginsWithNoLoneLf (decoded_ended e ls)
 no_lone-decoded e [] h = tt
 no_lone-decoded e (l ∷ ls) h = λ k. h (nothing-decoded e l.text k.0, k.1)
 
+-- lines of bytes, decoded one by one, are lines of a text
 lines-decoded : (e : Encoding) (ls : List Ended) (last : List ℕ) → AreCut e ls last → AreLines (decoded_ended e ls) (decoded_line e last)
 lines-decoded e [] last h = no_end-decoded e last h
 lines-decoded e (l ∷ ls) last h = (no_end-decoded e l.text h.0, (λ k. no_lone-decoded e ls (h.2 k)), lines-decoded e ls last h.3)
@@ -87,14 +91,7 @@ decoded_lines-meets e d lines h = record {
 pub decoded_lines-cut : (e : Encoding) (d : List ℕ) → decoded_lines e (cut_of e d) ≡ lines_of (decoded_line e d)
 decoded_lines-cut e d = lines_of-only (decoded_line e d) (decoded_lines e (cut_of e d)) (decoded_lines-meets e d (cut_of e d) (cut_of-meets e d))
 
--- there are as many line ends among the bytes as in their text
-ended-length : (e : Encoding) (ls : List Ended) → length (decoded_ended e ls) ≡ length ls
-ended-length e [] = refl
-ended-length e (l ∷ ls) = ap suc (ended-length e ls)
-
-pub line_ends-cut : (e : Encoding) (d : List ℕ) → line_ends (cut_of e d) ≡ line_ends (lines_of (decoded_line e d))
-line_ends-cut e d = sym (ended-length e (cut_of e d).ended) ∙ ap line_ends (decoded_lines-cut e d)
-
+-- where no decoded line is ended, the lines of bytes, put together, hold no line end unit
 no_ended : (e : Encoding) (ls : List Ended) (last : List ℕ) → decoded_ended e ls ≡ [] → AreCut e ls last → HoldsNoLineEndUnit e (bytes_together e ls last)
 no_ended e [] last h k = k
 no_ended e (l ∷ ls) last h k = absurd (cc)
@@ -108,21 +105,26 @@ no_end-undecoded e d h =
 
 -- ---- Splitting commutes with decoding.
 
+-- the lines that are cut first and decoded one by one are the lines of the decoded text
 pub byline-lines : (e : Encoding) (b : List ℕ) → byline_of e b ≡ lines_of (decoded_of e b)
 byline-lines e b = decoded_lines-cut (byte_order_mark e b).encoding (byte_order_mark e b).body
 
 -- ---- What is computed by line, and nothing else is.
 
-decoded_line-meets : (e : Encoding) (d : List ℕ) → IsDecodedLine e d (decoded_line e d)
+-- the bytes of a line are decoded to the computed text
+pub decoded_line-meets : (e : Encoding) (d : List ℕ) → IsDecodedLine e d (decoded_line e d)
 decoded_line-meets e d = (pieces_of e d, pieces_of-meets e d, refl)
 
-decoded_line-only : (e : Encoding) (d x : List ℕ) → IsDecodedLine e d x → x ≡ decoded_line e d
+-- and to no other
+pub decoded_line-only : (e : Encoding) (d x : List ℕ) → IsDecodedLine e d x → x ≡ decoded_line e d
 decoded_line-only e d x (ps, h, s) = s ∙ ap characters (pieces_of-only e d ps h)
 
+-- ended lines of bytes are decoded, one by one, to the computed lines
 decoded_ended-meets : (e : Encoding) (ls : List Ended) → AreDecodedLines e ls (decoded_ended e ls)
 decoded_ended-meets e [] = tt
 decoded_ended-meets e (l ∷ ls) = (decoded_line-meets e l.text, refl, decoded_ended-meets e ls)
 
+-- and to no others
 decoded_ended-only : (e : Encoding) (ls ts : List Ended) → AreDecodedLines e ls ts → ts ≡ decoded_ended e ls
 decoded_ended-only e [] [] h = refl
 decoded_ended-only e [] (t ∷ ts) h = absurd h
@@ -132,6 +134,7 @@ decoded_ended-only e (l ∷ ls) (t ∷ ts) h =
     ap₂ (λ v w. let s : Ended = record { text = v; by = w } in s) (decoded_line-only e l.text t.text h.0) (sym h.1) in
     ap₂ (λ v vs. v ∷ vs) p (decoded_ended-only e ls ts h.2)
 
+-- what is computed by line are the lines of the input's bytes, each decoded by itself
 pub byline_of-meets : (e : Encoding) (b : List ℕ) → IsByline e b (byline_of e b)
 byline_of-meets e b =
     let m = byte_order_mark e b in
@@ -143,6 +146,7 @@ byline_of-meets e b =
       last = decoded_line-meets m.encoding c.last;
     }
 
+-- and the input has no others
 pub byline_of-only : (e : Encoding) (b : List ℕ) (lines : Lines) → IsByline e b lines → lines ≡ byline_of e b
 byline_of-only e b lines h =
     let m = byte_order_mark e b in

@@ -74,6 +74,7 @@ cr-meets-line e [] cr ls last d h = cr-apart e (record { text = []; by = cr } �
 cr-meets-line e [] crlf ls last d h = cr-apart e (record { text = []; by = crlf } ∷ ls) last d (λ p. absurd (cc)) h
 cr-meets-line e (c ∷ cs) by ls last d h = cr-apart e (record { text = c ∷ cs; by = by } ∷ ls) last d (λ p. absurd (cc)) h
 
+-- a CR before any lines, or before none
 cr-meets : (e : Encoding) (ended : List Ended) (last d : List ℕ) → IsCut e d (record { ended = ended; last = last })
     → IsCut e (ascii_bytes e carriage_return ++ d) (record { ended = cr_before ended; last = last })
 cr-meets e [] last d h = cr-apart e [] last d tt h
@@ -108,26 +109,31 @@ unit-meets e unit a b lines d t h = elim (cases_Bool (is_line_end (unit a b))) [
   | inr k ↦ rw (unit-plain (unit a b) a b lines k) (two-meets e unit a b lines.ended lines.last d t k h)
 ]
 
+-- where units are of two bytes, what is computed are lines of the bytes
 of-two-meets : (e : Encoding) (unit : ℕ → ℕ → ℕ) (d : List ℕ) → IsOfTwo e unit → IsCut e d (cut_of_two unit d)
 of-two-meets e unit [] t = record { bytes = refl; are_cut = t.none [] tt }
 of-two-meets e unit (a ∷ []) t = record { bytes = refl; are_cut = t.none (a ∷ []) tt }
 of-two-meets e unit (a ∷ b ∷ d) t = unit-meets e unit a b (cut_of_two unit d) d t (of-two-meets e unit d t)
 
+-- two bytes that are an ASCII character, low byte first, are its bytes in UTF-16LE
 low-ascii : (c a b : ℕ) → c < 0x80 → low_first a b ≡ c → a ∷ b ∷ [] ≡ ascii_bytes utf_16le c
 low-ascii c a b l h =
     let p : a ≡ c = omega arith in
     let q : b ≡ 0 = omega arith in
     ap₂ (λ v w. v ∷ w ∷ []) p q
 
+-- and high byte first, its bytes in UTF-16BE
 high-ascii : (c a b : ℕ) → c < 0x80 → high_first a b ≡ c → a ∷ b ∷ [] ≡ ascii_bytes utf_16be c
 high-ascii c a b l h =
     let p : a ≡ 0 = omega arith in
     let q : b ≡ c = omega arith in
     ap₂ (λ v w. v ∷ w ∷ []) p q
 
+-- in UTF-16LE units are two bytes, low byte first, and a CR or an LF is one of them
 le-two : IsOfTwo utf_16le low_first
 le-two = record { none = λ d h. h; units = λ d h. h; whole = λ d h. h; even = λ d h. h; ascii = low-ascii }
 
+-- and so in UTF-16BE, high byte first
 be-two : IsOfTwo utf_16be high_first
 be-two = record { none = λ d h. h; units = λ d h. h; whole = λ d h. h; even = λ d h. h; ascii = high-ascii }
 

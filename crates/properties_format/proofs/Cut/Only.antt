@@ -22,14 +22,17 @@ ending-windows_1252 lf = refl
 ending-windows_1252 cr = refl
 ending-windows_1252 crlf = refl
 
+-- and so in UTF-8
 pub ending-utf_8 : (by : LineEnding) → line_ending_bytes utf_8 by ≡ line_ending_text by
 ending-utf_8 lf = refl
 ending-utf_8 cr = refl
 ending-utf_8 crlf = refl
 
+-- in UTF-16LE the bytes of a CR or an LF in front are read as one unit, low byte first
 le-ends : ReadsEnds utf_16le low_first
 le-ends = record { lf_first = λ y. refl; cr_first = λ y. refl }
 
+-- and in UTF-16BE, high byte first
 be-ends : ReadsEnds utf_16be high_first
 be-ends = record { lf_first = λ y. refl; cr_first = λ y. refl }
 

@@ -1,8 +1,8 @@
 -- How the lines of undecoded bytes are found from the front: a line and its end, and then the lines of what follows.
-use Rattle.std.proofs.Common.{◌≡◌, ℕ, false, List, [], ◌∷◌, ◌++◌, refl, ap, sym, ◌∙◌, append_assoc}
-use Rattle.properties_format.specs.Text.{line_feed, carriage_return, LineEnding, lf, cr, crlf}
+use Rattle.std.proofs.Common.{◌≡◌, ℕ, false, List, [], ◌∷◌, ◌++◌, refl, ap, sym, ◌∙◌}
+use Rattle.properties_format.specs.Text.{line_feed, LineEnding, lf, cr, crlf}
 use Rattle.properties_format.specs.Lines.{Ended, Lines, BeginsWithNoLoneLf}
-use Rattle.properties_format.specs.Encoding.{Encoding, IsAligned, ascii_bytes}
+use Rattle.properties_format.specs.Encoding.{Encoding, IsAligned}
 use Rattle.properties_format.specs.Cut.{units, HoldsNoLineEndUnit, line_ending_bytes, bytes_together}
 use Rattle.properties_format.specs.Reading.Lines.{begins_with_lf}
 use Rattle.properties_format.specs.Reading.Cut.{cut_of}
@@ -26,6 +26,7 @@ no_lone e (l ∷ ls) last h = of_line l.text l.by (bytes_together e ls last) h
     of_line [] crlf y h = λ p. absurd (cc p.1)
     of_line (c ∷ text) by y h = λ p. absurd (cc p.0)
 
+-- and so none is the first of the computed lines
 pub cut_of-no_lone : (e : Encoding) (y : List ℕ) → begins_with_lf (units e y) ≡ false → BeginsWithNoLoneLf (cut_of e y).ended
 cut_of-no_lone e y h = no_lone e (cut_of e y).ended (cut_of e y).last (sym (ap (λ v. begins_with_lf (units e v)) (cut_of-meets e y).bytes) ∙ h)
 
@@ -33,20 +34,3 @@ cut_of-no_lone e y h = no_lone e (cut_of e y).ended (cut_of e y).last (sym (ap (
 pub cut_of-line : (e : Encoding) (text : List ℕ) (by : LineEnding) (y : List ℕ) → HoldsNoLineEndUnit e text → IsAligned e text
     → (by ≡ cr → begins_with_lf (units e y) ≡ false) → cut_of e (text ++ (line_ending_bytes e by ++ y)) ≡ line_in_front text by (cut_of e y)
 cut_of-line e text by y h a k = cut_of-before e text by y (cut_of e y).ended (cut_of e y).last h a (λ q. cut_of-no_lone e y (k q)) refl
-
--- an LF ends a line
-pub cut_of-lf : (e : Encoding) (text y : List ℕ) → HoldsNoLineEndUnit e text → IsAligned e text
-    → cut_of e (text ++ (ascii_bytes e line_feed ++ y)) ≡ line_in_front text lf (cut_of e y)
-cut_of-lf e text y h a = cut_of-line e text lf y h a (λ k. absurd (cc))
-
--- a CR ends a line
-pub cut_of-cr : (e : Encoding) (text y : List ℕ) → HoldsNoLineEndUnit e text → IsAligned e text → begins_with_lf (units e y) ≡ false
-    → cut_of e (text ++ (ascii_bytes e carriage_return ++ y)) ≡ line_in_front text cr (cut_of e y)
-cut_of-cr e text y h a k = cut_of-line e text cr y h a (λ q. k)
-
--- a CR and an LF end a line together
-pub cut_of-crlf : (e : Encoding) (text y : List ℕ) → HoldsNoLineEndUnit e text → IsAligned e text
-    → cut_of e (text ++ (ascii_bytes e carriage_return ++ (ascii_bytes e line_feed ++ y))) ≡ line_in_front text crlf (cut_of e y)
-cut_of-crlf e text y h a =
-    ap (λ v. cut_of e (text ++ v)) (sym (append_assoc (ascii_bytes e carriage_return) (ascii_bytes e line_feed) y))
-    ∙ cut_of-line e text crlf y h a (λ k. absurd (cc))

@@ -14,6 +14,7 @@ pub record ReadsEnds (e : Encoding) (unit : ℕ → ℕ → ℕ) : Type 0 where
   pub lf_first : (y : List ℕ) → cut_of_two unit (ascii_bytes e line_feed ++ y) ≡ before line_feed (cut_of_two unit y)
   pub cr_first : (y : List ℕ) → cut_of_two unit (ascii_bytes e carriage_return ++ y) ≡ before carriage_return (cut_of_two unit y)
 
+-- a unit that is no CR and no LF is two bytes of the first line
 pub unit-plain : (u a b : ℕ) (lines : Lines) → is_line_end u ≡ false → unit_before u a b lines ≡ two_before a b lines
 unit-plain u a b lines h = cond-false (is_line_end u) (before u lines) (two_before a b lines) h
 

@@ -1,6 +1,6 @@
 -- The units of bytes put together, and bytes no unit of which is a CR or an LF.
-use Rattle.std.proofs.Common.{◌≡◌, ℕ, zero, suc, ◌%◌, ◌<◌, ◌≤◌, ◌==◌, ◌&&◌, true, false, List, [], ◌∷◌, ◌++◌, length, take, get_or, refl, ap, ◌∙◌, subst, inl, inr, arith}
-use Rattle.std.proofs.lemmas.Bool.{or_from, and_right, ne_eqb, eqb-false, false_from_ne_true}
+use Rattle.std.proofs.Common.{◌≡◌, ℕ, ◌%◌, ◌<◌, ◌≤◌, ◌==◌, ◌&&◌, true, false, List, [], ◌∷◌, ◌++◌, length, refl, ap, ◌∙◌, subst, inl, inr, arith}
+use Rattle.std.proofs.lemmas.Bool.{or_from, and_right, ne_eqb, eqb-false}
 use Rattle.std.proofs.lemmas.Bool.Decides.{eqb_tells}
 use Rattle.properties_format.specs.Text.{line_feed, carriage_return, is_line_end}
 use Rattle.properties_format.specs.Lines.{HoldsNoLineEnd}
@@ -17,6 +17,7 @@ units-ascii utf_8 c y = refl
 units-ascii utf_16le c y = let k : low_first c 0 ≡ c = omega arith in ap (λ v. v ∷ units_of_two low_first y) k
 units-ascii utf_16be c y = let k : high_first 0 c ≡ c = omega arith in ap (λ v. v ∷ units_of_two high_first y) k
 
+-- the units of an even number of bytes and then of what follows, where units are of two bytes
 two-append : (unit : ℕ → ℕ → ℕ) (x y : List ℕ) → length x % 2 ≡ 0 → units_of_two unit (x ++ y) ≡ units_of_two unit x ++ units_of_two unit y
 two-append unit [] y h = refl
 two-append unit (a ∷ []) y h = absurd (omega arith)
@@ -44,6 +45,7 @@ no_end_unit-append e x y a h k = rw (units-append e x y a) (plain-append (units 
 pub no_end_unit-left : (e : Encoding) (x y : List ℕ) → IsAligned e x → HoldsNoLineEndUnit e (x ++ y) → HoldsNoLineEndUnit e x
 no_end_unit-left e x y a h = plain-left (units e x) (units e y) (rw (units-append e x y a) at h)
 
+-- where the whole holds none, what follows whole units holds none
 pub no_end_unit-right : (e : Encoding) (x y : List ℕ) → IsAligned e x → HoldsNoLineEndUnit e (x ++ y) → HoldsNoLineEndUnit e y
 no_end_unit-right e x y a h = plain-right (units e x) (units e y) (rw (units-append e x y a) at h)
 
@@ -56,6 +58,7 @@ no_end_unit-at e c x y h a k =
 
 -- ---- Line ends sought among the bytes.
 
+-- a unit of 80 hexadecimal or more is no CR and no LF
 above-byte : (u : ℕ) → 0x80 ≤ u → is_line_end u ≡ false
 above-byte u h = or_from (u == line_feed) (u == carriage_return) (ne_eqb u line_feed (λ k. omega arith)) (ne_eqb u carriage_return (λ k. omega arith))
 
@@ -66,17 +69,20 @@ low_first-line_end a b = elim (eqb_tells b 0) [
   | inr k ↦ rw k.0 (above-byte (low_first a b) (let m = eqb-false b 0 k.0 in omega arith))
 ]
 
+-- the same where the high byte comes first
 pub high_first-line_end : (a b : ℕ) → is_line_end (high_first a b) ≡ (a == 0 && is_line_end b)
 high_first-line_end a b = elim (eqb_tells a 0) [
   | inl k ↦ rw k.1 (let e : high_first 0 b ≡ b = omega arith in ap is_line_end e)
   | inr k ↦ rw k.0 (above-byte (high_first a b) (let m = eqb-false a 0 k.0 in omega arith))
 ]
 
+-- where no byte is a CR or an LF, no unit of two bytes is one, low byte first
 no_low : (d : List ℕ) → HoldsNoLineEnd d → HoldsNoLineEnd (units_of_two low_first d)
 no_low [] h = tt
 no_low (a ∷ []) h = tt
 no_low (a ∷ b ∷ d) h = (low_first-line_end a b ∙ and_right (b == 0) (is_line_end a) h.0, no_low d h.1.1)
 
+-- nor high byte first
 no_high : (d : List ℕ) → HoldsNoLineEnd d → HoldsNoLineEnd (units_of_two high_first d)
 no_high [] h = tt
 no_high (a ∷ []) h = tt
@@ -88,20 +94,6 @@ no_end-no_unit windows_1252 d h = h
 no_end-no_unit utf_8 d h = h
 no_end-no_unit utf_16le d h = no_low d h
 no_end-no_unit utf_16be d h = no_high d h
-
--- no byte at any index is a CR or an LF
-pub no_end-each : (d : List ℕ) → ((k : ℕ) → k < length d → is_line_end (get_or d k 0) ≡ true → ⊥) → HoldsNoLineEnd d
-no_end-each [] h = tt
-no_end-each (c ∷ d) h = (false_from_ne_true (is_line_end c) (h 0 (omega arith)), no_end-each d (λ k l. h (suc k) (omega arith)))
-
--- no byte below an index is
-pub no_end-front : (d : List ℕ) (i : ℕ) → ((k : ℕ) → k < i → k < length d → is_line_end (get_or d k 0) ≡ true → ⊥) → HoldsNoLineEnd (take i d)
-no_end-front [] zero h = tt
-no_end-front [] (suc i) h = tt
-no_end-front (c ∷ d) zero h = tt
-no_end-front (c ∷ d) (suc i) h =
-    let first = false_from_ne_true (is_line_end c) (h 0 (omega arith) (omega arith)) in
-    (first, no_end-front d i (λ k l m. h (suc k) (omega arith) (omega arith)))
 
 -- whether an LF comes first is decided by the first whole unit, whatever follows
 pub lf_first-append : (e : Encoding) (x y : List ℕ) → 0 < length (units e x) → begins_with_lf (units e (x ++ y)) ≡ begins_with_lf (units e x)

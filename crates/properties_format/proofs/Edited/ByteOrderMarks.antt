@@ -40,6 +40,7 @@ has_bom e source ok = elim (cases_Bool (begins_with utf_8_bom source)) [
   ]
 ]
 
+-- a list that begins with another is that one and the rest
 begins-drop : (m b : List ℕ) → begins_with m b ≡ true → b ≡ m ++ drop (length m) b
 begins-drop [] b h = refl
 begins-drop (m ∷ ms) [] h = absurd (cc)
@@ -101,6 +102,7 @@ pair-parts e first key value =
     encoded_text-append e (spelt_key e false first key) (equals_sign ∷ spelt_text e false in_key_or_value value)
     ∙ ap (λ o. encoded_text e (spelt_key e false first key) ++ (unwrap_or o [] ++ encoded_text e (spelt_text e false in_key_or_value value))) (encoded-ascii e equals_sign (lit< tt))
 
+-- a printed pair holds an ASCII byte
 pub pair-ascii : (e : Encoding) (first : Bool) (key value : List ℕ) → HasAscii (pair_bytes e first key value)
 pair-ascii e first key value =
     (encoded_text e (spelt_key e false first key), equals_sign, encoded_text e (spelt_text e false in_key_or_value value), pair-parts e first key value, lit< tt)
@@ -130,6 +132,7 @@ first-ascii : (e : Encoding) (g : List HeldLine) (gs : List (List HeldLine)) (h 
 first-ascii e g [] h hs k = k.0.ascii
 first-ascii e g (i ∷ gs) h hs k = k.0.ascii
 
+-- Where a pair is replaced, a body that began like no byte order mark begins like none.
 replaced-unmarked : (e : Encoding) (gs : List (List HeldLine)) (key value body : List ℕ) → AreHeldGroups e gs → begins_like_bom (groups_bytes gs) ≡ false
     → IsReplaced e gs key value body
     → begins_like_bom body ≡ false
@@ -165,6 +168,7 @@ parting-cases source g = elim (cases_Bool (is_empty_line g)) [
   ]
 ]
 
+-- And so where a pair is appended.
 appended-unmarked : (e : Encoding) (source : List ℕ) (gs : List (List HeldLine)) (key value body : List ℕ) → AreHeldGroups e gs
     → begins_like_bom (groups_bytes gs) ≡ false
     → IsAppended e source gs key value body → begins_like_bom body ≡ false
@@ -219,6 +223,7 @@ key_set-in_force e source key value result ok h =
 
 -- ---- a key is removed
 
+-- with the LF that guards it, the rest of a source without a byte order mark begins like none
 guarding_lf-unmarked : (source rest : List ℕ) → begins_like_bom source ≡ false → begins_like_bom (guarding_lf source rest ++ rest) ≡ false
 guarding_lf-unmarked source rest n = elim (cases_Bool (begins_like_bom rest)) [ inl h ↦ rw (n, h) refl | inr h ↦ rw (n, h) h ]
 

@@ -39,6 +39,7 @@ outcome g = outcome_of (joined (as_lines g))
 
 -- ---- outcomes in order
 
+-- an outcome before outcomes in two parts
 told_before-append : (o : Outcome) (xs ys : List Outcome) → told_before o (xs ++ ys) ≡ told_before o xs ++ ys
 told_before-append ignored xs ys = refl
 told_before-append (given content) xs ys = refl
@@ -65,6 +66,7 @@ told-fronts e (g ∷ gs) d h =
     ∙ ap (told_before (outcome g)) (told-fronts e gs d h.1)
     ∙ told_before-append (outcome g) (told_by (as_groups gs)) (told e d)
 
+-- lines that are a whole group, or one that ends open, have that one group at the end
 fit-group : (x : List Line) → IsWhole x ⊎ EndsOpen x → groups_of x end ≡ x ∷ []
 fit-group [] (inl h) = absurd h
 fit-group [] (inr h) = absurd h
@@ -82,6 +84,7 @@ told-groups e (g ∷ []) h = ap (told e) (append-nil (group_bytes g)) ∙ told-l
 told-groups e (g ∷ i ∷ gs) h =
     told-front e (group_bytes g) (groups_bytes (i ∷ gs)) (as_lines g) h.0.front ∙ ap (told_before (outcome g)) (told-groups e (i ∷ gs) h.1)
 
+-- what groups and then more groups come to
 told_by-append : (gs hs : List (List HeldLine)) → told_by (as_groups (gs ++ hs)) ≡ told_by (as_groups gs) ++ told_by (as_groups hs)
 told_by-append [] hs = refl
 told_by-append (g ∷ gs) hs =
@@ -89,6 +92,7 @@ told_by-append (g ∷ gs) hs =
 
 -- ---- contents in order
 
+-- contents and then more contents, as outcomes
 givens-append : (cs ds : List Content) → givens (cs ++ ds) ≡ givens cs ++ givens ds
 givens-append [] ds = refl
 givens-append (c ∷ cs) ds = ap (λ v. given c ∷ v) (givens-append cs ds)
@@ -101,6 +105,7 @@ record AreParted (xs ys : List Outcome) (cs : List Content) : Type 0 where
   front_told : xs ≡ givens front
   back_told : ys ≡ givens back
 
+-- where outcomes in two parts are contents alone, they are told so
 givens-parted : (xs ys : List Outcome) (cs : List Content) → xs ++ ys ≡ givens cs → AreParted xs ys cs
 givens-parted [] ys cs h = record { front = []; back = cs; whole = refl; front_told = refl; back_told = h }
 givens-parted (x ∷ xs) ys [] h = absurd (cc)
@@ -110,12 +115,15 @@ givens-parted (x ∷ xs) ys (c ∷ cs) h =
     let m = givens-parted xs ys cs q in
     record { front = c ∷ m.front; back = m.back; whole = ap (λ v. c ∷ v) {y = m.front ++ m.back} m.whole; front_told = ap₂ (λ v w. v ∷ w) p m.front_told; back_told = m.back_told }
 
+-- a group with the key comes to a pair with it
 key-outcome : (key : List ℕ) (g : List HeldLine) → HasKey key g → (old : List ℕ) × (outcome g ≡ given (pair key old))
 key-outcome key g (old, h) = (old, sym (outcome_of-only (joined (as_lines g)) (given (pair key old)) h))
 
+-- and a group without it to none
 other-outcome : (key : List ℕ) (g : List HeldLine) → ¬ (HasKey key g) → (v : List ℕ) → outcome g ≡ given (pair key v) → ⊥
 other-outcome key g h v s = h (v, rw s at (outcome_of-meets (joined (as_lines g))))
 
+-- an outcome that is no pair with the key, before others that hold none
 hold-step : (key : List ℕ) (o : Outcome) (os : List Outcome) (cs : List Content) → ((v : List ℕ) → o ≡ given (pair key v) → ⊥)
     → ((ds : List Content) → os ≡ givens ds → HoldNoPair key ds)
     → told_before o os ≡ givens cs → HoldNoPair key cs
@@ -197,6 +205,7 @@ pub ends-right : (x y : List ℕ) → ends_in_cr y ≡ true → ends_in_cr (x ++
 ends-right x [] h = absurd (cc)
 ends-right x (c ∷ y) h = ends_in_cr-append x c y ∙ h
 
+-- the texts of ended lines and then of more
 ended_lines-append : (e : Encoding) (ls ms : List Ended) → ended_lines e (ls ++ ms) ≡ ended_lines e ls ++ ended_lines e ms
 ended_lines-append e [] ms = refl
 ended_lines-append e (l ∷ ls) ms = ap (λ v. record { number = 0; text = decoded_line e l.text } ∷ v) (ended_lines-append e ls ms)
@@ -223,14 +232,17 @@ endings-added x by h k =
 
 -- ---- which last groups are left open
 
+-- where all lines but the last are open, the last one is not
 last-closed : (h : HeldLine) (hs : List HeldLine) → EndsClosed (record { number = 0; text = h.text }) (as_lines hs) → is_last_open (h ∷ hs) ≡ false
 last-closed h [] k = k
 last-closed h (i ∷ hs) k = last-closed i hs k.1
 
+-- and where all are open, it is
 last-open : (h : HeldLine) (hs : List HeldLine) → AreOpen (as_lines (h ∷ hs)) → is_last_open (h ∷ hs) ≡ true
 last-open h [] k = k.0
 last-open h (i ∷ hs) k = last-open i hs k.1
 
+-- a last group that isn't left open is whole
 pub fit-closed : (g : List HeldLine) → IsLastFit g → is_left_open g ≡ false → IsWhole (as_lines g)
 fit-closed g (inl h) k = h
 fit-closed [] (inr h) k = absurd h
@@ -238,6 +250,7 @@ fit-closed (h ∷ hs) (inr u) k =
     let a : is_left_open (h ∷ hs) ≡ true = and_from (not (is_comment_line h.text)) (is_last_open (h ∷ hs)) (ap not u.0) (last-open h hs u.1) in
     absurd (cc)
 
+-- and one that is left open begins with no comment line and ends open
 pub fit-open : (g : List HeldLine) → IsLastFit g → is_left_open g ≡ true → EndsOpen (as_lines g)
 fit-open g (inr h) k = h
 fit-open [] (inl h) k = absurd h
@@ -271,19 +284,23 @@ record IsAdded (x source : List ℕ) : Type 0 where
   two : PartsNoEnd x (line_ending_text by ++ line_ending_text by)
   no_lf : by ≡ cr → begins_with_lf (line_ending_text by) ≡ false
 
+-- so it is where the source ends in a CR if these bytes do
 is-added : (x source : List ℕ) → EndsAlike x source → IsAdded x source
 is-added x source h = elim (cases_Bool (ends_in_cr source)) [
   | inl k ↦ record { by = cr; same = rw k refl; one = λ q. refl; two = λ q. refl; no_lf = λ q. refl }
   | inr k ↦ record { by = lf; same = rw k refl; one = λ q. absurd (cc (h q, k)); two = λ q. absurd (cc (h q, k)); no_lf = λ q. absurd (cc) }
 ]
 
+-- nothing parts a pair from an empty line
 parting-none : (source : List ℕ) (g : List HeldLine) → is_empty_line g ≡ true → parting source g ≡ []
 parting-none source g h = rw h refl
 
+-- two line endings part it from a group that is left open
 parting-two : (source : List ℕ) (g : List HeldLine) → is_empty_line g ≡ false → is_left_open g ≡ true
     → parting source g ≡ added_ending source ++ added_ending source
 parting-two source g h k = rw (h, k) refl
 
+-- and one from any other group
 parting-one : (source : List ℕ) (g : List HeldLine) → is_empty_line g ≡ false → is_left_open g ≡ false → parting source g ≡ added_ending source
 parting-one source g h k = rw (h, k) refl
 
@@ -327,6 +344,7 @@ two-front e source g h k a =
       whole = (closed-by_empty (as_lines g) (fit-open g h.fits k)).0;
     }
 
+-- no bytes are one empty line
 empty-texts : (e : Encoding) → line_texts e [] ≡ record { number = 0; text = [] } ∷ []
 unfolding line_texts
 empty-texts e = ap (λ v. record { number = 0; text = v } ∷ []) (decoded-nil e)
@@ -423,10 +441,12 @@ left-out key value os left (pair k v ∷ cs) h rest =
     let m = rest cs q in
     (m.0, inl (p, m.1), m.2)
 
+-- of no contents none are left
 nothing-left : (key : List ℕ) (cs : List Content) → [] ≡ givens cs → IsLeft key cs []
 nothing-left key [] h = ([], refl, refl)
 nothing-left key (c ∷ cs) h = absurd (cc)
 
+-- the groups without the key come to what is left of the contents
 left-told : (e : Encoding) (key : List ℕ) (gs : List (List HeldLine)) (rest : List ℕ) (old : List Content) → AreHeldGroups e gs → IsWithout key gs rest
     → told_by (as_groups gs) ≡ givens old
     → IsLeft key old (told e rest)

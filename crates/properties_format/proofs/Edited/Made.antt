@@ -18,6 +18,7 @@ use Rattle.properties_format.proofs.Body.Groups.{held_groups_of-meets, held_grou
 
 -- ---- which groups have the key
 
+-- an outcome that passes the test is a pair with the key
 pair-with : (key : List ℕ) (o : Outcome) → is_pair_with key o ≡ true → (value : List ℕ) × (o ≡ given (pair key value))
 pair-with key ignored h = absurd (cc)
 pair-with key (given (comment text)) h = absurd (cc)
@@ -35,10 +36,11 @@ pub HasKey-test : (key : List ℕ) (g : List HeldLine) → HasKey key g → has_
 HasKey-test key g (value, h) =
     ap (is_pair_with key) (sym (outcome_of-only (joined (as_lines g)) (given (pair key value)) h)) ∙ (bytes_eq-Decides key key).1 refl
 
--- and one that does not has another
+-- and one that doesn't pass it has another key, or none
 pub has_key-false : (key : List ℕ) (g : List HeldLine) → has_key key g ≡ false → ¬ (HasKey key g)
 has_key-false key g h = λ k. let m = HasKey-test key g k in absurd (cc)
 
+-- and one without the key doesn't pass it
 pub no_key-test : (key : List ℕ) (g : List HeldLine) → ¬ (HasKey key g) → has_key key g ≡ false
 no_key-test key g h = false_from_ne_true (has_key key g) (λ k. h (has_key-true key g k))
 
@@ -54,16 +56,19 @@ abbrev pub IsPlace : List ℕ → List (List HeldLine) → Option KeyPlace → T
 IsPlace key gs None = NoneHasKey key gs
 IsPlace key gs (Some p) = IsLastPlace key gs p
 
+-- where no later group has the key, the place is that of this group, if it has it
 place-here : (key : List ℕ) (g : List HeldLine) (gs : List (List HeldLine)) (b : Bool) → has_key key g ≡ b → NoneHasKey key gs
     → IsPlace key (g ∷ gs) (place_after key g gs None)
 place-here key g gs true e h = rw e (record { division = refl; has = has_key-true key g e; no_later = h })
 place-here key g gs false e h = rw e (has_key-false key g e, h)
 
+-- with one more group in front, what is computed is the place of the last one with the key
 place-meets : (key : List ℕ) (g : List HeldLine) (gs : List (List HeldLine)) (o : Option KeyPlace) → IsPlace key gs o
     → IsPlace key (g ∷ gs) (place_after key g gs o)
 place-meets key g gs None h = place-here key g gs (has_key key g) refl h
 place-meets key g gs (Some p) h = record { division = ap (λ v. g ∷ v) h.division; has = h.has; no_later = h.no_later }
 
+-- what is computed is the place of the last group with the key
 pub last_place-meets : (key : List ℕ) (gs : List (List HeldLine)) → IsPlace key gs (last_place key gs)
 last_place-meets key [] = tt
 last_place-meets key (g ∷ gs) = place-meets key g gs (last_place key gs) (last_place-meets key gs)
@@ -85,12 +90,14 @@ last_place-some key (f ∷ before) g after h k = ap (place_after key f (before +
 
 -- ---- a key is set
 
+-- the last pair with the key is replaced at its place, or a pair is appended where there is none
 set-meets : (e : Encoding) (source key value : List ℕ) (gs : List (List HeldLine)) (o : Option KeyPlace) → IsPlace key gs o
     → IsReplaced e gs key value (set_at e source gs key value o) ⊎ IsAppended e source gs key value (set_at e source gs key value o)
 set-meets e source key value gs None h = inr (record { no_pair = h; bytes = refl })
 set-meets e source key value gs (Some p) h =
     inl (record { before = p.before; group = p.group; after = p.after; division = h.division; has_key = h.has; no_later = h.no_later; bytes = refl })
 
+-- and what replaces or appends a pair is what is computed
 set-only : (e : Encoding) (source key value : List ℕ) (gs : List (List HeldLine)) (body : List ℕ)
     → IsReplaced e gs key value body ⊎ IsAppended e source gs key value body
     → body ≡ set_at e source gs key value (last_place key gs)
@@ -121,6 +128,7 @@ key_set-only e source key value result h =
 
 -- ---- a key is removed
 
+-- one more group in front, with the key or without it
 without-step : (key : List ℕ) (g : List HeldLine) (gs : List (List HeldLine)) (b : Bool) → has_key key g ≡ b → IsWithout key gs (without key gs)
     → IsWithout key (g ∷ gs) (without key (g ∷ gs))
 without-step key g gs true e h = rw e (inl (has_key-true key g e, h))

@@ -18,13 +18,12 @@ use Rattle.properties_format.specs.Writing.{pair_call}
 use Rattle.properties_format.specs.Edited.{is_editable, pair_bytes}
 use Rattle.properties_format.proofs.Lines.Only.{lines_of-plain}
 use Rattle.properties_format.proofs.Lines.Steps.{lines_of-line}
-use Rattle.properties_format.proofs.Groups.Joined.{joined-comment_line, joined-closed}
 use Rattle.properties_format.proofs.Groups.Logical.{StandsAlone}
 use Rattle.properties_format.proofs.Groups.Only.{groups_of-before}
 use Rattle.properties_format.proofs.Printing.Characters.{AreEncodable}
 use Rattle.properties_format.proofs.ReadBack.Texts.{texts-spelt}
 use Rattle.properties_format.proofs.ReadBack.Pairs.{IsReadAs, key-spelt, pair-read}
-use Rattle.properties_format.proofs.ReadBack.Lines.{wrote_text}
+use Rattle.properties_format.proofs.ReadBack.Lines.{wrote_text, joined-alone}
 use Rattle.properties_format.proofs.ReadBack.Bytes.{AreWritable, text-decoded, wrote_text-writable}
 use Rattle.properties_format.proofs.ReadBack.Law.{default_settings-good}
 use Rattle.properties_format.specs.Reading.Cut.{decoded_line}
@@ -35,26 +34,26 @@ use Rattle.properties_format.proofs.Edited.Told.{told_before, ended_lines, line_
 abbrev pub pair_text : Encoding → Bool → List ℕ → List ℕ → List ℕ
 pair_text e first key value = spelt_key e false first key ++ (equals_sign ∷ spelt_text e false in_key_or_value value)
 
-by_recursion : (x : List ℕ) → All scalar x → AllByRecursion scalar x
-by_recursion x h = recursion_from_All scalar x h
-
 -- its text is read as the pair
 pair-read_as : (e : Encoding) (first : Bool) (key value : List ℕ) → All scalar key → All scalar value
     → IsReadAs (pair_text e first key value) (pair key value)
 pair-read_as e first key value h k =
-    pair-read (spelt_key e false first key) (spelt_text e false in_key_or_value value) (equals_sign ∷ []) key value (key-spelt e false first key (by_recursion key h))
-    (texts-spelt e false value (by_recursion value k)) default_settings-good.separator (λ q. refl)
+    pair-read (spelt_key e false first key) (spelt_text e false in_key_or_value value) (equals_sign ∷ []) key value (key-spelt e false first key (recursion_from_All scalar key h))
+    (texts-spelt e false value (recursion_from_All scalar value k)) default_settings-good.separator (λ q. refl)
 
 -- ---- its bytes are decoded to its text
 
+-- the front of a text of scalars is of scalars
 scalars-left : (x y : List ℕ) → AllByRecursion scalar (x ++ y) → AllByRecursion scalar x
 scalars-left [] y h = tt
 scalars-left (c ∷ x) y h = (h.0, scalars-left x y h.1)
 
+-- the front of a text that can be encoded can be encoded
 encodable-left : (e : Encoding) (x y : List ℕ) → AreEncodable e (x ++ y) → AreEncodable e x
 encodable-left e [] y h = tt
 encodable-left e (c ∷ x) y h = (h.0, encodable-left e x y h.1)
 
+-- and so is the front of a text that can be written
 writable-left : (e : Encoding) (x y : List ℕ) → AreWritable e (x ++ y) → AreWritable e x
 writable-left e x y h = record { scalars = scalars-left x y h.scalars; encodable = encodable-left e x y h.encodable }
 
@@ -68,6 +67,7 @@ line-text e n (c ∷ key) value =
     append-nil (printed_text e default_settings (n == 0) (pair (c ∷ key) value))
     ∙ sym (append_assoc (spelt_key e false (n == 0) (c ∷ key)) (equals_sign ∷ spelt_text e false in_key_or_value value) (line_feed ∷ []))
 
+-- the characters of a printed pair can be written
 pair-writable : (e : Encoding) (first : Bool) (key value : List ℕ) → All scalar key → All scalar value → AreWritable e (pair_text e first key value)
 pair-writable e true key value h k =
     writable-left e (pair_text e true key value) (line_feed ∷ [])
@@ -76,6 +76,7 @@ pair-writable e false key value h k =
     writable-left e (pair_text e false key value) (line_feed ∷ [])
     (subst (AreWritable e) (line-text e 1 key value) (wrote_text-writable e default_settings 1 (pair_call key value ∷ []) default_settings-good ((h, k), tt)))
 
+-- an encoding that is edited is one that a writer writes
 editable-own : (e : Encoding) → is_editable e ≡ true → output_encoding e ≡ e
 editable-own windows_1252 h = refl
 editable-own utf_8 h = refl
@@ -92,37 +93,39 @@ pair-decoded e first key value ok h k =
 
 -- ---- it is a group
 
+-- a line that stands alone is a whole group
 alone-whole : (l : Line) → StandsAlone l.text → IsWhole (l ∷ [])
 alone-whole l (inl h) = inl (h, refl)
 alone-whole l (inr h) = elim (cases_Bool (is_comment_line l.text)) [ inl k ↦ inl (k, refl) | inr k ↦ inr (k, h) ]
-
-alone-joined : (l : Line) → StandsAlone l.text → joined (l ∷ []) ≡ l.text
-alone-joined l (inl h) = joined-comment_line l [] h
-alone-joined l (inr h) = joined-closed l h
 
 -- the line of the printed pair
 abbrev pub pair_line : Encoding → Bool → List ℕ → List ℕ → Line
 pair_line e first key value = record { number = 0; text = pair_text e first key value }
 
+-- it is a whole group
 pub pair-whole : (e : Encoding) (first : Bool) (key value : List ℕ) → All scalar key → All scalar value → IsWhole (pair_line e first key value ∷ [])
 pair-whole e first key value h k = alone-whole (pair_line e first key value) (pair-read_as e first key value h k).alone
 
+-- it comes to the pair
 pub pair-outcome : (e : Encoding) (first : Bool) (key value : List ℕ) → All scalar key → All scalar value
     → outcome_of (joined (pair_line e first key value ∷ [])) ≡ given (pair key value)
 pair-outcome e first key value h k =
-    let r = pair-read_as e first key value h k in ap outcome_of (alone-joined (pair_line e first key value) r.alone) ∙ r.outcome
+    let r = pair-read_as e first key value h k in ap outcome_of (joined-alone (pair_line e first key value) r.alone) ∙ r.outcome
 
+-- its bytes hold no CR and no LF
 pub pair-plain : (e : Encoding) (first : Bool) (key value : List ℕ) → is_editable e ≡ true → All scalar key → All scalar value
     → HoldsNoLineEnd (pair_bytes e first key value)
 pair-plain e first key value ok h k =
     plain-bytes e (pair_bytes e first key value) ok (subst HoldsNoLineEnd (sym (pair-decoded e first key value ok h k)) (pair-read_as e first key value h k).plain)
 
+-- with a line ending after them they are one line
 pair-lines : (e : Encoding) (first : Bool) (key value : List ℕ) (by : LineEnding) → is_editable e ≡ true → All scalar key → All scalar value
     → lines_of (pair_bytes e first key value ++ line_ending_text by) ≡ record { ended = record { text = pair_bytes e first key value; by = by } ∷ []; last = [] }
 pair-lines e first key value by ok h k =
     ap (λ v. lines_of (pair_bytes e first key value ++ v)) (sym (append-nil (line_ending_text by)))
     ∙ lines_of-line (pair_bytes e first key value) by [] (pair-plain e first key value ok h k) (λ q. refl)
 
+-- which is one whole group
 pair-front : (e : Encoding) (first : Bool) (key value : List ℕ) (by : LineEnding) → is_editable e ≡ true → All scalar key → All scalar value
     → IsFront e (pair_bytes e first key value ++ line_ending_text by) (pair_line e first key value ∷ [])
 pair-front e first key value by ok h k =
@@ -143,6 +146,7 @@ told-pair e first key value by d ok h k =
     ∙ told-front e (pair_bytes e first key value ++ line_ending_text by) d (pair_line e first key value ∷ []) (pair-front e first key value by ok h k)
     ∙ ap (λ v. told_before v (told e d)) (pair-outcome e first key value h k)
 
+-- and without one they are one line too
 pair-texts : (e : Encoding) (first : Bool) (key value : List ℕ) → is_editable e ≡ true → All scalar key → All scalar value
     → line_texts e (pair_bytes e first key value) ≡ pair_line e first key value ∷ []
 unfolding line_texts

@@ -16,10 +16,12 @@ use Rattle.properties_format.proofs.Edited.Made.{key_set-meets, key_set-only, ke
 
 -- ---- edits in turn
 
+-- what is computed is the source after the edit
 edit_made-meets : (e : Encoding) (source : List ℕ) (edit : Edit) → IsEdited e source edit (edit_made e source edit)
 edit_made-meets e source (put key value) = key_set-meets e source key value
 edit_made-meets e source (remove key) = key_removed-meets e source key
 
+-- a source after the edit is what is computed
 edit_made-only : (e : Encoding) (source : List ℕ) (edit : Edit) (result : List ℕ) → IsEdited e source edit result → result ≡ edit_made e source edit
 edit_made-only e source (put key value) result h = key_set-only e source key value result h
 edit_made-only e source (remove key) result h = key_removed-only e source key result h
@@ -44,28 +46,33 @@ IsBy entries made (edited result) = HoldsNoMalformed entries × (result ≡ made
 IsBy entries made unsupported = ⊥
 IsBy entries made (unreadable kind n) = IsFirstMalformed kind n entries
 
+-- an item in front changes nothing
 by-item : (n : ℕ) (content : Content) (entries : List Entry) (made : List ℕ) (r : EditResult) → IsBy entries made r → IsBy (item n content ∷ entries) made r
 by-item n content entries made (edited result) h = h
 by-item n content entries made unsupported h = h
 by-item n content entries made (unreadable kind m) h = h
 
+-- nor does a failed read
 by-fault : (n : ℕ) (entries : List Entry) (made : List ℕ) (r : EditResult) → IsBy entries made r → IsBy (read_fault n ∷ entries) made r
 by-fault n entries made (edited result) h = h
 by-fault n entries made unsupported h = h
 by-fault n entries made (unreadable kind m) h = h
 
+-- what is computed is what the items say
 result_by-meets : (entries : List Entry) (made : List ℕ) → IsBy entries made (result_by entries made)
 result_by-meets [] made = (tt, refl)
 result_by-meets (item n content ∷ entries) made = by-item n content entries made (result_by entries made) (result_by-meets entries made)
 result_by-meets (malformed kind n ∷ entries) made = (refl, refl)
 result_by-meets (read_fault n ∷ entries) made = by-fault n entries made (result_by entries made) (result_by-meets entries made)
 
+-- where no item is malformed the result is these bytes
 pub result_by-edited : (entries : List Entry) (made : List ℕ) → HoldsNoMalformed entries → result_by entries made ≡ edited made
 result_by-edited [] made h = refl
 result_by-edited (item n content ∷ entries) made h = result_by-edited entries made h
 result_by-edited (malformed kind n ∷ entries) made h = absurd h
 result_by-edited (read_fault n ∷ entries) made h = result_by-edited entries made h
 
+-- and else it is the first malformed one
 result_by-unreadable : (entries : List Entry) (made : List ℕ) (kind : Malformed) (n : ℕ) → IsFirstMalformed kind n entries
     → result_by entries made ≡ unreadable kind n
 result_by-unreadable [] made kind n h = absurd h
@@ -82,6 +89,7 @@ result-editable e source made ok = cond-true (is_editable (byte_order_mark e sou
 result-unsupported : (e : Encoding) (source made : List ℕ) → is_editable (byte_order_mark e source).encoding ≡ false → result_of e source made ≡ unsupported
 result-unsupported e source made h = cond-false (is_editable (byte_order_mark e source).encoding) (result_by (items_of e source end) made) unsupported h
 
+-- in an encoding that is edited, what the items say of bytes that the edit makes is a result of it
 by-result : (e : Encoding) (source made : List ℕ) (Makes : List ℕ → Type 0) (r : EditResult) → is_editable (byte_order_mark e source).encoding ≡ true
     → Makes made
     → IsBy (items_of e source end) made r → IsEditResult e source Makes r
@@ -98,6 +106,7 @@ result_of-meets e source made Makes m = elim (cases_Bool (is_editable (byte_orde
   | inr h ↦ subst (IsEditResult e source Makes) (sym (result-unsupported e source made h)) h
 ]
 
+-- and there is no other, where the edit makes no other bytes
 result_of-only : (e : Encoding) (source made : List ℕ) (Makes : List ℕ → Type 0) (r : EditResult) → ((result : List ℕ) → Makes result → result ≡ made)
     → IsEditResult e source Makes r → r ≡ result_of e source made
 result_of-only e source made Makes (edited result) one (ok, items, h) =

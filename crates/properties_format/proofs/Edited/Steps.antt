@@ -9,14 +9,13 @@ use Rattle.properties_format.specs.Reading.Lines.{begins_with_lf}
 use Rattle.properties_format.specs.Cut.{units, HoldsNoLineEndUnit, line_ending_bytes}
 use Rattle.properties_format.specs.Reading.Cut.{decoded_line}
 use Rattle.properties_format.specs.Groups.{is_open, is_comment_line, joined}
-use Rattle.properties_format.specs.Escapes.{Malformed}
 use Rattle.properties_format.specs.Items.{Outcome, ignored, given, broken}
 use Rattle.properties_format.specs.Reading.Items.{outcome_of, followed}
 use Rattle.properties_format.specs.Entries.{pair, Entry}
 use Rattle.properties_format.specs.Settings.{default_settings}
 use Rattle.properties_format.specs.Printing.{in_key_or_value, spelt_text, encoded_text, spelt_key, printed}
 use Rattle.properties_format.specs.Body.{HeldLine, HasKey, group_bytes, as_lines, held_in, last_ending}
-use Rattle.properties_format.specs.Edited.{pair_bytes, final_group, is_last_open, is_left_open, is_empty_line, unreadable}
+use Rattle.properties_format.specs.Edited.{pair_bytes, final_group, is_last_open, is_left_open, is_empty_line}
 use Rattle.properties_format.specs.Reading.Body.{held_of, held_lines_of, has_key, entries_in}
 use Rattle.properties_format.specs.Reading.Edited.{KeyPlace, place_after, last_place, without, IsSound, AreSound, result_by}
 use Rattle.properties_format.proofs.Cut.Steps.{cut_of-line}
@@ -44,6 +43,7 @@ abbrev pub with_after : List HeldLine → Option KeyPlace → Option KeyPlace
 with_after g None = None
 with_after g (Some p) = Some record { before = p.before; group = p.group; after = p.after ++ g ∷ [] }
 
+-- one more group in front and one more after can be added in either order
 with_after-front : (key : List ℕ) (f g : List HeldLine) (gs : List (List HeldLine)) (o : Option KeyPlace)
     → place_after key f (gs ++ g ∷ []) (with_after g o) ≡ with_after g (place_after key f gs o)
 with_after-front key f g gs (Some p) = refl
@@ -104,10 +104,6 @@ pub result-sound : (n : ℕ) (o : Outcome) (entries : List Entry) (made : List �
 result-sound n ignored entries made h = refl
 result-sound n (given content) entries made h = refl
 result-sound n (broken kind) entries made h = absurd h
-
--- one that is gives the first fault
-pub result-broken : (n : ℕ) (kind : Malformed) (entries : List Entry) (made : List ℕ) → result_by (followed n (broken kind) entries) made ≡ unreadable kind n
-result-broken n kind entries made = refl
 
 -- after groups that are not malformed, the first fault is that of the groups after them
 pub result-after : (n : ℕ) (gs hs : List (List HeldLine)) (made : List ℕ) → AreSound gs

@@ -56,19 +56,23 @@ line_texts e d = line_texts_in e (lines_of d)
 unfoldable pub told : Encoding → List ℕ → List Outcome
 told e d = told_by (groups_of (line_texts e d) end)
 
+-- lines and then more lines, each decoded by itself
 decoded_each-append : (e : Encoding) (ls ms : List Line) → decoded_each e (ls ++ ms) ≡ decoded_each e ls ++ decoded_each e ms
 decoded_each-append e [] ms = refl
 decoded_each-append e (l ∷ ls) ms = ap (λ v. record { number = 0; text = decoded_line e l.text } ∷ v) (decoded_each-append e ls ms)
 
+-- where more may come, the numbered lines are the ended ones
 decoded-more : (e : Encoding) (n : ℕ) (ls : List Ended) (last : List ℕ) → decoded_each e (numbered n ls last more) ≡ ended_lines e ls
 decoded-more e n [] last = refl
 decoded-more e n (l ∷ ls) last = ap (λ v. record { number = 0; text = decoded_line e l.text } ∷ v) (decoded-more e (n + 1) ls last)
 
+-- and at the end the last one too
 decoded-end : (e : Encoding) (n : ℕ) (ls : List Ended) (last : List ℕ)
     → decoded_each e (numbered n ls last end) ≡ line_texts_in e (record { ended = ls; last = last })
 decoded-end e n [] last = refl
 decoded-end e n (l ∷ ls) last = ap (λ v. record { number = 0; text = decoded_line e l.text } ∷ v) (decoded-end e (n + 1) ls last)
 
+-- the lines to come of some bytes have the texts of those bytes' lines
 line_texts-numbered : (e : Encoding) (n : ℕ) (d : List ℕ) → decoded_each e (lines_to_come n false [] d end) ≡ line_texts e d
 unfolding line_texts
 line_texts-numbered e n d = decoded-end e n (lines_of d).ended (lines_of d).last
@@ -92,6 +96,7 @@ pub record IsFront (e : Encoding) (x : List ℕ) (g : List Line) : Type 0 where
   pub texts : ended_lines e (lines_of x).ended ≡ g
   pub whole : IsWhole g
 
+-- such bytes in front: their group comes first, and then what comes, less an LF that belongs to a CR
 front-told : (e : Encoding) (x d : List ℕ) (g : List Line) → IsFront e x g
     → told e (x ++ d) ≡ told_before (outcome_of (joined g)) (told e (rest_of_end (ends_in_cr x) d))
 unfolding told
@@ -101,13 +106,11 @@ front-told e x d g h =
 
 -- ---- empty lines
 
-empty_line : Line
-empty_line = record { number = 0; text = [] }
-
 -- an empty line comes to nothing
 pub outcome-empty : outcome_of [] ≡ ignored
 outcome-empty = ap split_outcome (split_of-blank [] tt)
 
+-- an LF is an empty line, and a whole group
 lf-front : (e : Encoding) → IsFront e (line_feed ∷ []) (record { number = 0; text = [] } ∷ [])
 lf-front e = record { ended = refl; texts = ap (λ v. record { number = 0; text = v } ∷ []) (decoded-nil e); whole = inr (refl, refl) }
 
@@ -115,6 +118,7 @@ lf-front e = record { ended = refl; texts = ap (λ v. record { number = 0; text 
 pub told-lf : (e : Encoding) (d : List ℕ) → told e (line_feed ∷ d) ≡ told e d
 told-lf e d = front-told e (line_feed ∷ []) d (record { number = 0; text = [] } ∷ []) (lf-front e) ∙ ap (λ v. told_before v (told e d)) outcome-empty
 
+-- so it doesn't matter whether one is left out
 told-rest : (e : Encoding) (b : Bool) (d : List ℕ) → told e (rest_of_end b d) ≡ told e d
 told-rest e false d = refl
 told-rest e true [] = refl

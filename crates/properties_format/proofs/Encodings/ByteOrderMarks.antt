@@ -14,6 +14,7 @@ use Rattle.properties_format.proofs.Encodings.Characters.{pieces_of-scalar}
 abbrev pub followed : InForce → List ℕ → InForce
 followed m d = record { encoding = m.encoding; body = m.body ++ d }
 
+-- where bytes are no beginning of a longer mark, those after them don't decide whether they begin with it
 begins-append : (m b d : List ℕ) → begins_longer b m ≡ false → begins_with m (b ++ d) ≡ begins_with m b
 begins-append [] b d h = refl
 begins-append (m ∷ ms) [] d h = absurd (cc)
@@ -24,11 +25,13 @@ begins-append (m ∷ ms) (x ∷ b) d h = elim (cases_Bool (m == x)) [
   | inr k ↦ and_left (m == x) (begins_with ms (b ++ d)) k ∙ sym (and_left (m == x) (begins_with ms b) k)
 ]
 
+-- bytes that begin with a mark are as many as it has, at least
 begins-length : (m b : List ℕ) → begins_with m b ≡ true → length m ≤ length b
 begins-length [] b h = omega arith
 begins-length (m ∷ ms) [] h = absurd (cc)
 begins-length (m ∷ ms) (x ∷ b) h = let k = begins-length ms b (and_parts (m == x) (begins_with ms b) h).1 in omega arith
 
+-- bytes that are as many as a mark has are no beginning of a longer one
 not-longer : (b m : List ℕ) → length m ≤ length b → begins_longer b m ≡ false
 not-longer b [] h = refl
 not-longer [] (m ∷ ms) h = absurd (omega arith)
@@ -66,16 +69,6 @@ byte_order_mark-none e b h =
     let l = or_parts (begins_with utf_16be_bom b) (begins_with utf_16le_bom b) k.1 in
     rw (k.0, l.0, l.1) refl
 
--- a byte order mark in front
-pub byte_order_mark-utf_8 : (e : Encoding) (d : List ℕ) → byte_order_mark e (utf_8_bom ++ d) ≡ record { encoding = utf_8; body = d }
-byte_order_mark-utf_8 e d = refl
-
-pub byte_order_mark-utf_16be : (e : Encoding) (d : List ℕ) → byte_order_mark e (utf_16be_bom ++ d) ≡ record { encoding = utf_16be; body = d }
-byte_order_mark-utf_16be e d = refl
-
-pub byte_order_mark-utf_16le : (e : Encoding) (d : List ℕ) → byte_order_mark e (utf_16le_bom ++ d) ≡ record { encoding = utf_16le; body = d }
-byte_order_mark-utf_16le e d = refl
-
 -- the body is an end of the bytes
 body-drop : (e : Encoding) (b : List ℕ) → (n : ℕ) × ((byte_order_mark e b).body ≡ drop n b)
 body-drop e b = elim (cases_Bool (begins_with utf_8_bom b)) [
@@ -89,6 +82,7 @@ body-drop e b = elim (cases_Bool (begins_with utf_8_bom b)) [
   ]
 ]
 
+-- where the input is of bytes, so is its body
 pub byte_order_mark-bytes : (e : Encoding) (b : List ℕ) → All byte b → All byte (byte_order_mark e b).body
 byte_order_mark-bytes e b h = let d = body-drop e b in rw d.1 (All-drop byte d.0 b h)
 

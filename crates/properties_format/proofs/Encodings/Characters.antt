@@ -1,9 +1,10 @@
 -- The characters of pieces: each is a scalar value, an ASCII character has its own bytes, and what is encoded is a piece.
-use Rattle.std.proofs.Common.{◌≡◌, ℕ, ◌+◌, ◌-◌, ◌*◌, ◌<◌, true, false, nat_lt, nat_le, List, [], ◌∷◌, ◌++◌, Option, Some, None, All, refl, sym, ap, ap₂, ◌∙◌, inl, inr, arith, ltb-true, ltb-false, leb-false}
+use Rattle.std.proofs.Common.{◌≡◌, ℕ, ◌+◌, ◌-◌, ◌*◌, ◌<◌, true, false, nat_lt, nat_le, List, [], ◌∷◌, ◌++◌, Option, Some, None, All, refl, sym, ap, ap₂, ◌∙◌, inl, inr, arith, ltb-false, leb-false}
 use Rattle.std.specs.Char.{encode_utf8}
 use Rattle.std.specs.List.{AllByRecursion}
 use Rattle.std.proofs.lemmas.List.Elements.{recursion_from_All, All-nil, All-cons}
-use Rattle.std.proofs.lemmas.Bool.{and_parts, and_cases, and_left, lt-leb}
+use Rattle.std.proofs.lemmas.Bool.{and_cases, and_left, lt-leb}
+use Rattle.std.proofs.lemmas.Bool.Decides.{nat_tests}
 use Rattle.std.proofs.lemmas.Option.{none-some, same_Some}
 use Rattle.properties_format.specs.Text.{byte, scalar, replacement}
 use Rattle.properties_format.specs.Pieces.{Piece, piece, characters}
@@ -13,24 +14,27 @@ use Rattle.properties_format.specs.Surrogates.{is_high, is_low, pair_character}
 use Rattle.properties_format.specs.Utf16.{low_first, high_first, IsUtf16Piece, pair, plain, low_alone, high_alone, high_last, byte_last, both_last}
 use Rattle.properties_format.specs.Encoding.{Encoding, windows_1252, utf_8, utf_16le, utf_16be, output_encoding, one_byte, encoded, IsPiece, IsPieces, ascii_bytes}
 use Rattle.properties_format.specs.Reading.Encoding.{pieces_of}
-use Rattle.properties_format.proofs.Encodings.Windows1252.{windows_1252_character-byte, windows_1252-scalar, windows_1252-ascii, windows_1252_character-ascii, windows_1252_byte-ascii}
-use Rattle.properties_format.proofs.Encodings.Utf8Characters.{encode-says, encode-ascii}
+use Rattle.properties_format.proofs.Encodings.Windows1252.{windows_1252_character-byte, windows_1252-scalar, windows_1252-ascii, windows_1252_character-ascii}
+use Rattle.properties_format.proofs.Encodings.Utf8Characters.{encode-one, encode-says}
 use Rattle.properties_format.proofs.Encodings.Utf8Sequences.{sequence-scalar, sequence-ascii}
 use Rattle.properties_format.proofs.Encodings.Pieces.{pieces_of-meets, pieces_of-piece}
 
 -- ---- What is encoded is a piece of its character.
 
+-- in windows-1252 the byte that a character is encoded to is a piece of it
 windows_1252-encoded : (c : ℕ) (bs y : List ℕ) (o : Option ℕ) → windows_1252_byte c ≡ o → one_byte o ≡ Some bs → IsPiece windows_1252 (piece bs c) y
 windows_1252-encoded c bs y None e h = absurd (none-some bs h)
 windows_1252-encoded c bs y (Some b) e h =
     (b, ap₂ piece (sym (same_Some (b ∷ []) bs h)) (sym (windows_1252_character-byte c b e).0))
 
+-- and so are the bytes of a scalar value in UTF-8
 utf_8-encoded : (c : ℕ) (bs y : List ℕ) → scalar c → ◌≡◌ {A = Option (List ℕ)} (Some (encode_utf8 c)) (Some bs) → IsPiece utf_8 (piece bs c) y
 utf_8-encoded c bs y h e =
     let s = same_Some (encode_utf8 c) bs e in
     let k = encode-says c h in
     rw (← s) (whole k.0 k.1)
 
+-- a scalar value is encoded to a piece of it, in the encoding that is written, whatever follows
 pub encoded-piece : (e : Encoding) (c : ℕ) (bs y : List ℕ) → scalar c → encoded e c ≡ Some bs → IsPiece (output_encoding e) (piece bs c) y
 encoded-piece windows_1252 c bs y h k = windows_1252-encoded c bs y (windows_1252_byte c) refl k
 encoded-piece utf_8 c bs y h k = utf_8-encoded c bs y h k
@@ -42,39 +46,21 @@ pub pieces_of-encoded : (e : Encoding) (c : ℕ) (bs y : List ℕ) → scalar c 
     → pieces_of (output_encoding e) (bs ++ y) ≡ piece bs c ∷ pieces_of (output_encoding e) y
 pieces_of-encoded e c bs y h k = pieces_of-piece (output_encoding e) (piece bs c) y (encoded-piece e c bs y h k)
 
--- an output encoding is its own, and encodes as the one asked for does
-pub output_encoding-twice : (e : Encoding) → output_encoding (output_encoding e) ≡ output_encoding e
-output_encoding-twice windows_1252 = refl
-output_encoding-twice utf_8 = refl
-output_encoding-twice utf_16le = refl
-output_encoding-twice utf_16be = refl
-
-pub encoded-output : (e : Encoding) (c : ℕ) → encoded (output_encoding e) c ≡ encoded e c
-encoded-output windows_1252 c = refl
-encoded-output utf_8 c = refl
-encoded-output utf_16le c = refl
-encoded-output utf_16be c = refl
-
 -- ---- An ASCII character.
 
--- it is encoded as one byte
-pub encoded-ascii : (e : Encoding) (c : ℕ) → c < 0x80 → encoded e c ≡ Some (c ∷ [])
-encoded-ascii windows_1252 c h = ap one_byte (windows_1252_byte-ascii c h)
-encoded-ascii utf_8 c h = ap Some (encode-ascii c h)
-encoded-ascii utf_16le c h = ap Some (encode-ascii c h)
-encoded-ascii utf_16be c h = ap Some (encode-ascii c h)
-
+-- a unit below 80 hexadecimal is no surrogate
 not-surrogate : (u : ℕ) → u < 0x80 → (is_high u ≡ false) × (is_low u ≡ false)
 not-surrogate u h =
     (and_left (nat_le 0xd800 u) (nat_lt u 0xdc00) (lt-leb 0xd800 u (omega arith)), and_left (nat_le 0xdc00 u) (nat_lt u 0xe000) (lt-leb 0xdc00 u (omega arith)))
 
+-- and so no low one
 pub ascii-not_low : (u : ℕ) → u < 0x80 → is_low u ≡ false
 ascii-not_low u h = (not-surrogate u h).1
 
 -- its bytes are a piece of it, whatever follows
 pub ascii-piece : (e : Encoding) (c : ℕ) (y : List ℕ) → c < 0x80 → IsPiece e (piece (ascii_bytes e c) c) y
 ascii-piece windows_1252 c y h = (c, ap (λ v. piece (c ∷ []) v) (sym (windows_1252_character-ascii c h)))
-ascii-piece utf_8 c y h = encoded-piece utf_8 c (c ∷ []) y (inl (omega arith)) (ap Some (encode-ascii c h))
+ascii-piece utf_8 c y h = encoded-piece utf_8 c (c ∷ []) y (inl (omega arith)) (ap Some (encode-one c h))
 ascii-piece utf_16le c y h =
     let e : c ≡ low_first c 0 = omega arith in
     let k = not-surrogate (low_first c 0) (omega arith) in
@@ -84,6 +70,7 @@ ascii-piece utf_16be c y h =
     let k = not-surrogate (high_first 0 c) (omega arith) in
     plain 0 c (ap (λ v. piece (0 ∷ c ∷ []) v) e) k.0 k.1
 
+-- its bytes in front are the first piece, whatever follows
 pub pieces_of-ascii : (e : Encoding) (c : ℕ) (y : List ℕ) → c < 0x80 → pieces_of e (ascii_bytes e c ++ y) ≡ piece (ascii_bytes e c) c ∷ pieces_of e y
 pieces_of-ascii e c y h = pieces_of-piece e (piece (ascii_bytes e c) c) y (ascii-piece e c y h)
 
@@ -105,18 +92,21 @@ utf_16-ascii unit bytes f p rest (high_last a b e h s) l = let q : p.character �
 utf_16-ascii unit bytes f p rest (byte_last a e s) l = let q : p.character ≡ replacement = ap (λ v. v.character) e in absurd (omega arith)
 utf_16-ascii unit bytes f p rest (both_last a b c e h s) l = let q : p.character ≡ replacement = ap (λ v. v.character) e in absurd (omega arith)
 
+-- a unit below 80 hexadecimal, low byte first, is that byte and a 0
 low-bytes : (a b : ℕ) → low_first a b < 0x80 → a ∷ b ∷ [] ≡ low_first a b ∷ 0 ∷ []
 low-bytes a b h =
     let e : a ≡ b * 0x100 + a = omega arith in
     let k : b ≡ 0 = omega arith in
     ap₂ (λ v w. v ∷ w ∷ []) e k
 
+-- and high byte first, a 0 and that byte
 high-bytes : (a b : ℕ) → high_first a b < 0x80 → a ∷ b ∷ [] ≡ 0 ∷ high_first a b ∷ []
 high-bytes a b h =
     let e : b ≡ a * 0x100 + b = omega arith in
     let k : a ≡ 0 = omega arith in
     ap₂ (λ v w. v ∷ w ∷ []) k e
 
+-- in each encoding, a piece of it has its bytes
 pub piece-ascii : (e : Encoding) (p : Piece) (rest : List ℕ) → IsPiece e p rest → p.character < 0x80 → p.bytes ≡ ascii_bytes e p.character
 piece-ascii windows_1252 p rest (b, e) l =
     let q : p.character ≡ windows_1252_character b = ap (λ v. v.character) e in
@@ -128,9 +118,11 @@ piece-ascii utf_16be p rest h l = utf_16-ascii high_first (λ c. 0 ∷ c ∷ [])
 
 -- ---- Each character is a scalar value.
 
+-- U+FFFD is one
 replacement-scalar : scalar replacement
 replacement-scalar = inr (omega arith, omega arith)
 
+-- a unit of two bytes that is no surrogate is one
 unit-scalar : (u : ℕ) → u < 0x1_0000 → is_high u ≡ false → is_low u ≡ false → scalar u
 unit-scalar u l h k = elim (and_cases (nat_le 0xd800 u) (nat_lt u 0xdc00) h) [
   | inl a ↦ let m : u < 0xd800 = leb-false 0xd800 u a in inl m
@@ -140,21 +132,21 @@ unit-scalar u l h k = elim (and_cases (nat_le 0xd800 u) (nat_lt u 0xdc00) h) [
   ]
 ]
 
-pair-scalar : (u v : ℕ) → is_high u ≡ true → is_low v ≡ true → scalar (pair_character u v)
-pair-scalar u v h k =
-    let a : u < 0xdc00 = ltb-true u 0xdc00 (and_parts (nat_le 0xd800 u) (nat_lt u 0xdc00) h).1 in
-    let b : v < 0xe000 = ltb-true v 0xe000 (and_parts (nat_le 0xdc00 v) (nat_lt v 0xe000) k).1 in
-    inr (omega arith, omega arith)
+-- and so is the character of a high surrogate and a low one
+pub pair-scalar : (u v : ℕ) → is_high u ≡ true → is_low v ≡ true → scalar (pair_character u v)
+pair-scalar u v h k = grind (arith, nat_tests)
 
 -- the character of a piece, along an equation of the piece
 character-at : (p : Piece) (bytes : List ℕ) (c : ℕ) → p ≡ piece bytes c → scalar c → scalar p.character
 character-at p bytes c e h = rw e h
 
+-- the character of a piece of UTF-8
 utf_8-scalar : (p : Piece) (rest : List ℕ) → IsUtf8Piece p rest → scalar p.character
 utf_8-scalar p rest (whole h e) = rw e (sequence-scalar p.bytes h)
 utf_8-scalar p rest (stray b e h) = character-at p (b ∷ []) replacement e replacement-scalar
 utf_8-scalar p rest (broken b bs e h k) = character-at p (b ∷ bs) replacement e replacement-scalar
 
+-- the character of a piece of UTF-16 that is of bytes
 utf_16-scalar : (unit : ℕ → ℕ → ℕ) → ((a b : ℕ) → byte a → byte b → unit a b < 0x1_0000)
     → (p : Piece) (rest : List ℕ) → IsUtf16Piece unit p rest → AllByRecursion byte p.bytes → scalar p.character
 utf_16-scalar unit f p rest (pair a b c d e h k) l = character-at p (a ∷ b ∷ c ∷ d ∷ []) (pair_character (unit a b) (unit c d)) e (pair-scalar (unit a b) (unit c d) h k)
@@ -167,25 +159,30 @@ utf_16-scalar unit f p rest (high_last a b e h s) l = character-at p (a ∷ b �
 utf_16-scalar unit f p rest (byte_last a e s) l = character-at p (a ∷ []) replacement e replacement-scalar
 utf_16-scalar unit f p rest (both_last a b c e h s) l = character-at p (a ∷ b ∷ c ∷ []) replacement e replacement-scalar
 
+-- in each encoding, the character of a piece that is of bytes
 pub piece-scalar : (e : Encoding) (p : Piece) (rest : List ℕ) → IsPiece e p rest → AllByRecursion byte p.bytes → scalar p.character
 piece-scalar windows_1252 p rest (b, e) l = let m = rw e at l in character-at p (b ∷ []) (windows_1252_character b) e (windows_1252-scalar b m.0)
 piece-scalar utf_8 p rest h l = utf_8-scalar p rest h
 piece-scalar utf_16le p rest h l = utf_16-scalar low_first (λ a b i j. omega arith) p rest h l
 piece-scalar utf_16be p rest h l = utf_16-scalar high_first (λ a b i j. omega arith) p rest h l
 
+-- the front of bytes is of bytes
 front-bytes : (xs ys : List ℕ) → AllByRecursion byte (xs ++ ys) → AllByRecursion byte xs
 front-bytes [] ys h = tt
 front-bytes (x ∷ xs) ys h = (h.0, front-bytes xs ys h.1)
 
+-- and so is the rest
 back-bytes : (xs ys : List ℕ) → AllByRecursion byte (xs ++ ys) → AllByRecursion byte ys
 back-bytes [] ys h = h
 back-bytes (x ∷ xs) ys h = back-bytes xs ys h.1
 
+-- the characters of all pieces of bytes
 pieces-scalar : (e : Encoding) (d : List ℕ) (ps : List Piece) → IsPieces e d ps → AllByRecursion byte d → All scalar (characters ps)
 pieces-scalar e d [] h l = All-nil scalar
 pieces-scalar e d (p ∷ ps) (rest, s, h, k) l =
     let m : AllByRecursion byte (p.bytes ++ rest) = rw s at l in
     All-cons scalar p.character (characters ps) (piece-scalar e p rest h (front-bytes p.bytes rest m)) (pieces-scalar e rest ps k (back-bytes p.bytes rest m))
 
+-- and so those of the pieces that are read
 pub pieces_of-scalar : (e : Encoding) (d : List ℕ) → All byte d → All scalar (characters (pieces_of e d))
 pieces_of-scalar e d h = pieces-scalar e d (pieces_of e d) (pieces_of-meets e d) (recursion_from_All byte d h)

@@ -3,7 +3,7 @@ use Rattle.std.proofs.Common.{◌≡◌, ℕ, ◌+◌, ◌<◌, List, [], ◌∷
 use Rattle.properties_format.specs.Pieces.{Piece, piece, characters}
 use Rattle.properties_format.specs.Encoding.{Encoding, IsPiece, IsPieces, IsAligned, ascii_bytes}
 use Rattle.properties_format.specs.Reading.Encoding.{pieces_of}
-use Rattle.properties_format.proofs.Encodings.Pieces.{piece-length, pieces_of-meets, pieces_of-only, pieces_of-piece}
+use Rattle.properties_format.proofs.Encodings.Pieces.{piece-length, pieces_of-meets, pieces_of-only}
 use Rattle.properties_format.proofs.Encodings.Characters.{pieces_of-ascii, piece-ascii}
 use Rattle.properties_format.proofs.Encodings.PieceEnds.{piece-more, piece-less, piece-aligned, piece-anew, aligned-nil, aligned-append, aligned-back, BeginsAnew, ascii-anew}
 
@@ -21,6 +21,7 @@ pieces-length e d p ps (rest, s, h, k) =
     let l = piece-length e p rest h in
     let m : length d ≡ length (p.bytes ++ rest) = ap length s in omega arith
 
+-- where the last piece stands before the bytes after, pieces and then theirs are the pieces of both
 pub pieces-append : (e : Encoding) (x y : List ℕ) (ps qs : List Piece) → IsPieces e x ps → LastStands e ps y → IsPieces e y qs → IsPieces e (x ++ y) (ps ++ qs)
 pieces-append e x y [] qs h l k = rw h k
 pieces-append e x y (p ∷ []) qs (rest, s, h, m) l k =
@@ -44,14 +45,9 @@ last-anew e x y (p ∷ q ∷ ps) h a (rest, s, m, t) =
     let b = piece-aligned e p rest (pieces-length e rest q ps t) m in
     last-anew e rest y (q ∷ ps) h (aligned-back e p.bytes rest b (rw s at a)) t
 
+-- the pieces of whole units and then those of bytes that begin anew
 pub pieces_of-anew : (e : Encoding) (x y : List ℕ) → IsAligned e x → BeginsAnew e y → pieces_of e (x ++ y) ≡ pieces_of e x ++ pieces_of e y
 pieces_of-anew e x y a h = pieces_of-append e x y (last-anew e x y (pieces_of e x) h a (pieces_of-meets e x))
-
--- ---- The first piece.
-
--- a first piece with a byte after it is the first whatever follows
-pub pieces_of-first : (e : Encoding) (p : Piece) (rest y : List ℕ) → 0 < length rest → IsPiece e p rest → pieces_of e (p.bytes ++ (rest ++ y)) ≡ p ∷ pieces_of e (rest ++ y)
-pieces_of-first e p rest y l h = pieces_of-piece e p (rest ++ y) (piece-more e p rest y l h)
 
 -- ---- A cut before any piece.
 
@@ -65,6 +61,7 @@ pub record IsCut (e : Encoding) (d x y : List ℕ) (ps qs : List Piece) : Type 0
 abbrev pub Cut : Encoding → List ℕ → List Piece → List Piece → Type 0
 Cut e d ps qs = (x : List ℕ) × (y : List ℕ) × IsCut e d x y ps qs
 
+-- one more piece in front of a cut
 cut-more : (e : Encoding) (d rest x y : List ℕ) (p q : Piece) (ps qs : List Piece) → d ≡ p.bytes ++ rest → IsPiece e p rest → IsCut e rest x y ps (q ∷ qs)
     → IsCut e d (p.bytes ++ x) y (p ∷ ps) (q ∷ qs)
 cut-more e d rest x y p q ps qs s h c =
@@ -88,6 +85,7 @@ pieces-cut e d (p ∷ ps) q qs (rest, s, h, k) =
 
 -- ---- A cut at an ASCII character, as at a line end.
 
+-- the characters of pieces and then of more pieces
 pub characters-append : (ps qs : List Piece) → characters (ps ++ qs) ≡ characters ps ++ characters qs
 characters-append [] qs = refl
 characters-append (p ∷ ps) qs = ap (λ v. p.character ∷ v) (characters-append ps qs)
@@ -98,6 +96,7 @@ pub pieces_of-cut_ascii : (e : Encoding) (c : ℕ) (x y : List ℕ) → c < 0x80
 pieces_of-cut_ascii e c x y h a =
     pieces_of-anew e x (ascii_bytes e c ++ y) a (ascii-anew e c y h) ∙ ap (λ v. pieces_of e x ++ v) (pieces_of-ascii e c y h)
 
+-- And so the characters before it and those after it.
 pub characters-cut_ascii : (e : Encoding) (c : ℕ) (x y : List ℕ) → c < 0x80 → IsAligned e x
     → characters (pieces_of e (x ++ (ascii_bytes e c ++ y))) ≡ characters (pieces_of e x) ++ c ∷ characters (pieces_of e y)
 characters-cut_ascii e c x y h a =
@@ -107,6 +106,7 @@ characters-cut_ascii e c x y h a =
 abbrev Place : List Piece → List ℕ → ℕ → List ℕ → Type 0
 Place ps t c s = (qs : List Piece) × (p : Piece) × (rs : List Piece) × (ps ≡ qs ++ p ∷ rs) × (characters qs ≡ t) × (p.character ≡ c) × (characters rs ≡ s)
 
+-- a character among those of pieces is the character of one of them
 place-of : (ps : List Piece) (t : List ℕ) (c : ℕ) (s : List ℕ) → characters ps ≡ t ++ c ∷ s → Place ps t c s
 place-of [] [] c s h = absurd (cc)
 place-of [] (b ∷ t) c s h = absurd (cc)

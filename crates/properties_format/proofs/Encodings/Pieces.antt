@@ -11,12 +11,14 @@ use Rattle.properties_format.proofs.Encodings.Utf16.{utf_16-meets, utf_16-read}
 
 -- ---- The first piece.
 
+-- what is read is a piece at the front of the bytes
 pub first-meets : (e : Encoding) (b : ℕ) (d : List ℕ) → Meets (IsPiece e) (first_piece e b d) (b ∷ d)
 first-meets windows_1252 b d = (d, refl, (b, refl))
 first-meets utf_8 b d = utf_8-meets b d
 first-meets utf_16le b d = utf_16-meets low_first b d
 first-meets utf_16be b d = utf_16-meets high_first b d
 
+-- and a piece at the front is what is read
 pub piece-read : (e : Encoding) (p : Piece) (rest : List ℕ) → IsPiece e p rest → IsRead (first_piece e) p rest
 piece-read windows_1252 p rest (b, e) = rw e (record { byte = b; others = []; bytes = refl; reads = refl })
 piece-read utf_8 p rest h = utf_8-read p rest h
@@ -43,6 +45,7 @@ piece-length e p rest h =
     let m : length (r.others ++ rest) ≡ length r.others + length rest = length-append r.others rest in
     omega arith
 
+-- the pieces of no more than n bytes are those that are read, at most n
 within-only : (e : Encoding) (n : ℕ) (d : List ℕ) (ps : List Piece) → length d ≤ n → IsPieces e d ps → pieces_within e n d ≡ ps
 within-only e n d [] l h = ap (pieces_within e n) h
 within-only e zero d (p ∷ ps) l (rest, s, h, k) =
@@ -55,6 +58,7 @@ within-only e (suc n) d (p ∷ ps) l (rest, s, h, k) =
     let t : length rest ≤ n = omega arith in
     ap (pieces_within e (suc n)) s ∙ read-piece e n p rest h ∙ ap (λ v. p ∷ v) (within-only e n rest ps t k)
 
+-- and those that are read are the pieces of the bytes
 within-meets : (e : Encoding) (n : ℕ) (d : List ℕ) → length d ≤ n → IsPieces e d (pieces_within e n d)
 within-meets e n [] l = refl
 within-meets e zero (b ∷ d) l = absurd (omega arith)
@@ -72,6 +76,7 @@ pub pieces_of-meets : (e : Encoding) (d : List ℕ) → IsPieces e d (pieces_of 
 unfolding pieces_of
 pieces_of-meets e d = within-meets e (length d) d (omega arith)
 
+-- Pieces of some bytes are those that are read.
 pub pieces_of-only : (e : Encoding) (d : List ℕ) (ps : List Piece) → IsPieces e d ps → ps ≡ pieces_of e d
 unfolding pieces_of
 pieces_of-only e d ps h = sym (within-only e (length d) d ps (omega arith) h)
@@ -80,6 +85,7 @@ pieces_of-only e d ps h = sym (within-only e (length d) d ps (omega arith) h)
 pub decoded_of-meets : (e : Encoding) (b : List ℕ) → IsDecoded e b (decoded_of e b)
 decoded_of-meets e b = (pieces_of (byte_order_mark e b).encoding (byte_order_mark e b).body, pieces_of-meets (byte_order_mark e b).encoding (byte_order_mark e b).body, refl)
 
+-- A text that some bytes are decoded to is the one that is read.
 pub decoded_of-only : (e : Encoding) (b x : List ℕ) → IsDecoded e b x → x ≡ decoded_of e b
 decoded_of-only e b x (ps, h, s) = s ∙ ap characters (pieces_of-only (byte_order_mark e b).encoding (byte_order_mark e b).body ps h)
 

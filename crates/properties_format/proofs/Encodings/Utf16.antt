@@ -8,16 +8,11 @@ use Rattle.properties_format.specs.Utf16.{IsUtf16Piece, pair, plain, low_alone, 
 use Rattle.properties_format.specs.Reading.Utf16.{high_piece, first_utf_16_piece}
 use Rattle.properties_format.proofs.Encodings.FirstPieces.{Meets, IsRead}
 
+-- a low surrogate is no high one
 pub low-not_high : (u : ℕ) → is_low u ≡ true → is_high u ≡ false
 low-not_high u h =
     let k = and_parts (nat_le 0xdc00 u) (nat_lt u 0xe000) h in
     and_right (nat_le 0xd800 u) (nat_lt u 0xdc00) (le-ltb u 0xdc00 (leb-true 0xdc00 u k.0))
-
-pub high-not_low : (u : ℕ) → is_high u ≡ true → is_low u ≡ false
-high-not_low u h = elim (cases_Bool (is_low u)) [
-  | inl k ↦ absurd (let e = low-not_high u k in cc)
-  | inr k ↦ k
-]
 
 module _ (unit : ℕ → ℕ → ℕ) where
   -- ---- What is read, from the kinds of the units.
@@ -63,9 +58,6 @@ module _ (unit : ℕ → ℕ → ℕ) where
   ]
 
   -- ---- A piece is what is read.
-
-  read-at : (p q : Piece) (rest : List ℕ) → q ≡ p → IsRead (first_utf_16_piece unit) p rest → IsRead (first_utf_16_piece unit) q rest
-  read-at p q rest e h = rw e h
 
   pub utf_16-read : (p : Piece) (rest : List ℕ) → IsUtf16Piece unit p rest → IsRead (first_utf_16_piece unit) p rest
   utf_16-read p rest (pair a b c d e h k) = rw e (record { byte = a; others = b ∷ c ∷ d ∷ []; bytes = refl; reads = read-high a b (c ∷ d ∷ rest) h ∙ read-pair a b c d rest k })

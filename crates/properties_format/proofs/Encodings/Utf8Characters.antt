@@ -10,14 +10,17 @@ use Rattle.properties_format.specs.Utf8.{tail, IsIn, IsWellFormed, sequence_char
 abbrev pub next : ℕ → ℕ
 next c = 128 + c % 64
 
+-- below U+0080 as one byte
 pub encode-one : (c : ℕ) → c < 0x80 → encode_utf8 c ≡ c ∷ []
 unfolding encode_utf8
 encode-one c h = cond-true (nat_lt c 0x80) _ _ (lt-ltb c 0x80 h)
 
+-- from U+0080 to U+07FF as two
 pub encode-two : (c : ℕ) → 0x80 ≤ c → c < 0x800 → encode_utf8 c ≡ (192 + c / 64) ∷ next c ∷ []
 unfolding encode_utf8
 encode-two c l h = cond-false (nat_lt c 0x80) _ _ (le-ltb c 0x80 l) ∙ cond-true (nat_lt c 0x800) _ _ (lt-ltb c 0x800 h)
 
+-- from U+0800 to U+FFFF as three
 pub encode-three : (c : ℕ) → 0x800 ≤ c → c < 0x1_0000 → encode_utf8 c ≡ (224 + c / 4096) ∷ next (c / 64) ∷ next c ∷ []
 unfolding encode_utf8
 encode-three c l h =
@@ -25,6 +28,7 @@ encode-three c l h =
     ∙ cond-false (nat_lt c 0x800) _ _ (le-ltb c 0x800 l)
     ∙ cond-true (nat_lt c 0x1_0000) _ _ (lt-ltb c 0x1_0000 h)
 
+-- and from U+10000 on as four
 pub encode-four : (c : ℕ) → 0x1_0000 ≤ c → encode_utf8 c ≡ (240 + c / 262144) ∷ next (c / 4096) ∷ next (c / 64) ∷ next c ∷ []
 unfolding encode_utf8
 encode-four c l =
@@ -40,22 +44,28 @@ Says bs c = IsWellFormed bs × (c ≡ sequence_character bs)
 next-in : (c : ℕ) → IsIn tail (next c)
 next-in c = (omega arith, omega arith)
 
+-- one byte below 80 hexadecimal is the sequence of the character of its number
 says-one : (c : ℕ) → c < 0x80 → Says (c ∷ []) c
 says-one c h = (inl ((omega arith, omega arith), tt), omega arith)
 
+-- two bytes that a character below U+0800 is encoded as stand for it
 two-character : (c : ℕ) → c < 0x800 → c ≡ (192 + c / 64) % 2 ^ 5 * 2 ^ 6 + next c % 2 ^ 6
 two-character c h = omega arith
 
+-- from U+0080 on they are its sequence
 says-two : (c : ℕ) → 0x80 ≤ c → c < 0x800 → Says ((192 + c / 64) ∷ next c ∷ []) c
 says-two c l h = (inr (inl ((omega arith, omega arith), (next-in c, tt))), two-character c h)
 
+-- three bytes that a character below U+10000 is encoded as stand for it
 three-character : (c : ℕ) → c < 0x1_0000 → c ≡ ((224 + c / 4096) % 2 ^ 4 * 2 ^ 6 + next (c / 64) % 2 ^ 6) * 2 ^ 6 + next c % 2 ^ 6
 three-character c h = omega arith
 
+-- and so do four bytes for any character
 four-character : (c : ℕ) → c < 0x11_0000
     → c ≡ (((240 + c / 262144) % 2 ^ 3 * 2 ^ 6 + next (c / 4096) % 2 ^ 6) * 2 ^ 6 + next (c / 64) % 2 ^ 6) * 2 ^ 6 + next c % 2 ^ 6
 four-character c h = omega arith
 
+-- the three bytes of a scalar value from U+0800 to U+FFFF are well-formed
 three-fits : (c : ℕ) → 0x800 ≤ c → c < 0xd800 ⊎ ((0xe000 ≤ c) × (c < 0x1_0000)) → IsWellFormed ((224 + c / 4096) ∷ next (c / 64) ∷ next c ∷ [])
 three-fits c l (inr h) = inr (inr (inr (inr (inr (inl ((omega arith, omega arith), (next-in (c / 64), (next-in c, tt))))))))
 three-fits c l (inl h) = elim (cases_lt c 0x1000) [
@@ -66,6 +76,7 @@ three-fits c l (inl h) = elim (cases_lt c 0x1000) [
   ]
 ]
 
+-- and so are the four of one from U+10000 on
 four-fits : (c : ℕ) → 0x1_0000 ≤ c → c < 0x11_0000 → IsWellFormed ((240 + c / 262144) ∷ next (c / 4096) ∷ next (c / 64) ∷ next c ∷ [])
 four-fits c l h = elim (cases_lt c 0x4_0000) [
   | inl k ↦ inr (inr (inr (inr (inr (inr (inl ((omega arith, omega arith), ((omega arith, omega arith), (next-in (c / 64), (next-in c, tt))))))))))
@@ -75,6 +86,7 @@ four-fits c l h = elim (cases_lt c 0x4_0000) [
   ]
 ]
 
+-- from U+0800 on, the bytes of a scalar value are its sequence
 says-long : (c : ℕ) → 0x800 ≤ c → scalar c → Says (encode_utf8 c) c
 says-long c l h = elim (cases_lt c 0x1_0000) [
   | inl k ↦ rw (encode-three c l k) (three-fits c l (low k h), three-character c k)
@@ -98,6 +110,3 @@ encode-says c h = elim (cases_lt c 0x80) [
     | inr m ↦ says-long c m h
   ]
 ]
-
-pub encode-ascii : (c : ℕ) → c < 0x80 → encode_utf8 c ≡ c ∷ []
-encode-ascii c h = encode-one c h

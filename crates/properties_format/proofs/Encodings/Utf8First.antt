@@ -41,9 +41,11 @@ pub record IsWholeFirst (b : ℕ) (d : List ℕ) (n : ℕ) : Type 0 where
   pub is_scalar : scalar (sequence_character (b ∷ take n d))
   pub decided : awaits_byte (ranges_after well_formed_rows b) d ≡ false
 
+-- where as many bytes fit as a row has, they fit that row
 fitted-row : (rs : List Range) (d : List ℕ) → length (fitting rs d) ≡ length rs → FitsRow rs (fitting rs d)
 fitted-row rs d h = elim ((fitting-fits rs d).2) [ inl k ↦ k | inr k ↦ absurd (let l = k.0 in omega arith) ]
 
+-- the first piece is such where n bytes fit, as many as the row has after its first
 pub first_utf_8_piece-whole : (b : ℕ) (rs : List Range) (d : List ℕ) (n : ℕ)
     → ranges_after well_formed_rows b ≡ Some rs → n ≡ length (fitting rs d) → n ≡ length rs → IsWholeFirst b d n
 first_utf_8_piece-whole b rs d n e h k =
@@ -65,6 +67,7 @@ pub record IsBrokenFirst (b : ℕ) (d : List ℕ) (n : ℕ) : Type 0 where
   pub bytes : length (first_utf_8_piece b d).bytes ≡ suc n
   pub waits : awaits_byte (ranges_after well_formed_rows b) d ≡ (n == length d)
 
+-- and such where n bytes fit, and the row has another number
 pub first_utf_8_piece-broken : (b : ℕ) (rs : List Range) (d : List ℕ) (n : ℕ)
     → ranges_after well_formed_rows b ≡ Some rs → n ≡ length (fitting rs d) → n ≢ length rs → IsBrokenFirst b d n
 first_utf_8_piece-broken b rs d n e h k =

@@ -12,25 +12,31 @@ Inverts bs = encode_utf8 (sequence_character bs) ≡ bs
 two-bytes : (a b c d : ℕ) → a ≡ c → b ≡ d → a ∷ b ∷ [] ≡ c ∷ d ∷ []
 two-bytes a b c d e f = cc
 
+-- of three bytes
 three-bytes : (a b c d e f : ℕ) → a ≡ d → b ≡ e → c ≡ f → a ∷ b ∷ c ∷ [] ≡ d ∷ e ∷ f ∷ []
 three-bytes a b c d e f h k l = cc
 
+-- and of four
 four-bytes : (a b c d e f g h : ℕ) → a ≡ e → b ≡ f → c ≡ g → d ≡ h → a ∷ b ∷ c ∷ d ∷ [] ≡ e ∷ f ∷ g ∷ h ∷ []
 four-bytes a b c d e f g h i j k l = cc
 
+-- encoding gives a sequence of one byte back
 invert-one : (a : ℕ) → a ≤ 0x7f → Inverts (a ∷ [])
 invert-one a h = let e : a % 2 ^ 7 ≡ a = omega arith in encode-one (a % 2 ^ 7) (omega arith) ∙ ap (λ v. v ∷ []) e
 
+-- and one of two bytes
 invert-two : (a b : ℕ) → 0xc2 ≤ a → a ≤ 0xdf → IsIn tail b → Inverts (a ∷ b ∷ [])
 invert-two a b h k l =
     let c : ℕ = sequence_character (a ∷ b ∷ []) in
     encode-two c (omega arith) (omega arith) ∙ two-bytes (192 + c / 64) (next c) a b (omega arith) (omega arith)
 
+-- and one of three, where it stands for a character from U+0800 on
 invert-three : (a b c : ℕ) → 0xe0 ≤ a → a ≤ 0xef → IsIn tail b → IsIn tail c → 0x800 ≤ sequence_character (a ∷ b ∷ c ∷ []) → Inverts (a ∷ b ∷ c ∷ [])
 invert-three a b c h k l m n =
     let u : ℕ = sequence_character (a ∷ b ∷ c ∷ []) in
     encode-three u n (omega arith) ∙ three-bytes (224 + u / 4096) (next (u / 64)) (next u) a b c (omega arith) (omega arith) (omega arith)
 
+-- and one of four, where it stands for a character from U+10000 on
 invert-four : (a b c d : ℕ) → 0xf0 ≤ a → a ≤ 0xf4 → IsIn tail b → IsIn tail c → IsIn tail d → 0x1_0000 ≤ sequence_character (a ∷ b ∷ c ∷ d ∷ []) → Inverts (a ∷ b ∷ c ∷ d ∷ [])
 invert-four a b c d h k l m n o =
     let u : ℕ = sequence_character (a ∷ b ∷ c ∷ d ∷ []) in

@@ -11,17 +11,20 @@ use Rattle.properties_format.proofs.Encodings.FirstPieces.{Meets, IsRead}
 
 -- ---- To begin a sequence is to fit the front of the row of the first byte.
 
+-- bytes that begin a sequence fit the front of the row of the first one
 pub begins-front : (b : ℕ) (bs : List ℕ) → Begins (b ∷ bs) → (rs : List Range) × (ranges_after well_formed_rows b ≡ Some rs) × FitsFront rs bs
 begins-front b bs h =
     let r = sequence-row b (bs ++ h.0) h.1 in
     (r.0, r.1, front-of_row r.0 bs h.0 r.2)
 
+-- and bytes that fit it begin one
 pub front-begins : (b : ℕ) (bs : List ℕ) (rs : List Range) → ranges_after well_formed_rows b ≡ Some rs → FitsFront rs bs → Begins (b ∷ bs)
 front-begins b bs rs e h =
     let r = row-sequence b rs e in
     let m = row-of_front rs bs r.0 h in
     (m.0, r.1 (bs ++ m.0) m.1)
 
+-- where the row is known, bytes that begin a sequence fit the front of that row
 front-of-begins : (b : ℕ) (bs : List ℕ) (rs : List Range) → ranges_after well_formed_rows b ≡ Some rs → Begins (b ∷ bs) → FitsFront rs bs
 front-of-begins b bs rs e h =
     let f = begins-front b bs h in
@@ -30,14 +33,17 @@ front-of-begins b bs rs e h =
 
 -- ---- What is read is a piece.
 
+-- where the next byte doesn't fit the row, it breaks the sequence
 breaks-next : (b : ℕ) (bs rest : List ℕ) (rs : List Range) → ranges_after well_formed_rows b ≡ Some rs → Breaks rs bs rest → NextBreaks (b ∷ bs) rest
 breaks-next b bs [] rs e h = tt
 breaks-next b bs (next ∷ rest) rs e h = λ k. h (front-of-begins b (bs ++ next ∷ []) rs e k)
 
+-- and where it breaks the sequence, it doesn't fit
 next-breaks : (b : ℕ) (bs rest : List ℕ) (rs : List Range) → ranges_after well_formed_rows b ≡ Some rs → NextBreaks (b ∷ bs) rest → Breaks rs bs rest
 next-breaks b bs [] rs e h = tt
 next-breaks b bs (next ∷ rest) rs e h = λ k. h (front-begins b (bs ++ next ∷ []) rs e k)
 
+-- a byte with a row, and those after it that fit, are a piece at the front
 fitted-meets : (b : ℕ) (d bs : List ℕ) (rs : List Range) → ranges_after well_formed_rows b ≡ Some rs → Fitted rs d bs → Meets IsUtf8Piece (utf_8_piece b bs (length rs)) (b ∷ d)
 fitted-meets b d bs rs e (rest, s, inl k) =
     (rest, ap (λ v. b ∷ v) s, whole ((row-sequence b rs e).1 bs k) (cond-true (length bs == length rs) (sequence_character (b ∷ bs)) replacement (eq-eqb (length bs) (length rs) (length-row rs bs k))))
@@ -50,15 +56,18 @@ fitted-meets b d bs rs e (rest, s, inr k) =
           (l.0, l.1, (row-sequence b rs e).1 (bs ++ l.0 ∷ l.1) l.2) (breaks-next b bs rest rs e k.2),
     )
 
+-- and so is what is read, whether or not the byte has a row
 meets-by : (b : ℕ) (d : List ℕ) (o : Option (List Range)) → ranges_after well_formed_rows b ≡ o → Meets IsUtf8Piece (utf_8_piece_by o b d) (b ∷ d)
 meets-by b d None e = (d, refl, stray b refl (λ k. let f = begins-front b [] k in none-some f.0 (sym e ∙ f.1)))
 meets-by b d (Some rs) e = fitted-meets b d (fitting rs d) rs e (fitting-fits rs d)
 
+-- what is read is a piece at the front of the bytes
 pub utf_8-meets : (b : ℕ) (d : List ℕ) → Meets IsUtf8Piece (first_utf_8_piece b d) (b ∷ d)
 utf_8-meets b d = meets-by b d (ranges_after well_formed_rows b) refl
 
 -- ---- A piece is what is read.
 
+-- a well-formed sequence is read
 whole-read : (bytes : List ℕ) (c : ℕ) (rest : List ℕ) → IsWellFormed bytes → c ≡ sequence_character bytes → IsRead first_utf_8_piece (piece bytes c) rest
 whole-read [] c rest h e = absurd (sequence-nonempty h)
 whole-read (b ∷ bs) c rest h e =
@@ -73,6 +82,7 @@ whole-read (b ∷ bs) c rest h e =
           ∙ ap (λ v. piece (b ∷ bs) v) (cond-true (length bs == length r.0) (sequence_character (b ∷ bs)) replacement t ∙ sym e);
     }
 
+-- a byte that begins none is read
 stray-read : (b : ℕ) (rest : List ℕ) → ¬ Begins (b ∷ []) → IsRead first_utf_8_piece (piece (b ∷ []) replacement) rest
 stray-read b rest h = record { byte = b; others = []; bytes = refl; reads = ap (λ v. utf_8_piece_by v b rest) (none (ranges_after well_formed_rows b) refl) }
   where
@@ -80,6 +90,7 @@ stray-read b rest h = record { byte = b; others = []; bytes = refl; reads = ap (
     none None e = e
     none (Some rs) e = absurd (h (front-begins b [] rs e tt))
 
+-- and so are bytes that begin a longer one, which the rest doesn't go on with
 broken-read : (b : ℕ) (bs rest : List ℕ) → BeginsLonger (b ∷ bs) → NextBreaks (b ∷ bs) rest → IsRead first_utf_8_piece (piece (b ∷ bs) replacement) rest
 broken-read b bs rest h k =
     let r = sequence-row b (bs ++ h.0 ∷ h.1) h.2 in
@@ -95,9 +106,11 @@ broken-read b bs rest h k =
           ∙ ap (λ v. piece (b ∷ bs) v) (cond-false (length bs == length r.0) (sequence_character (b ∷ bs)) replacement t);
     }
 
+-- an equal piece is read too
 read-at : (p q : Piece) (rest : List ℕ) → q ≡ p → IsRead first_utf_8_piece p rest → IsRead first_utf_8_piece q rest
 read-at p q rest e h = rw e h
 
+-- each piece is what is read
 pub utf_8-read : (p : Piece) (rest : List ℕ) → IsUtf8Piece p rest → IsRead first_utf_8_piece p rest
 utf_8-read p rest (whole h e) = whole-read p.bytes p.character rest h e
 utf_8-read p rest (stray b e h) = read-at (piece (b ∷ []) replacement) p rest e (stray-read b rest h)

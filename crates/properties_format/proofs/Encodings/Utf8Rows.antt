@@ -5,12 +5,15 @@ use Rattle.std.proofs.lemmas.Option.{none-some, same_Some}
 use Rattle.properties_format.specs.Utf8.{Range, well_formed_rows, tail, IsIn, FitsRow, FitsSome}
 use Rattle.properties_format.specs.Reading.Utf8.{is_in, ranges_after, fitting}
 
+-- a byte that passes the test is in the range
 pub in-range : (r : Range) (b : ℕ) → is_in r b ≡ true → IsIn r b
 in-range r b h = let k = and_parts (nat_le r.least b) (nat_le b r.most) h in (leb-true r.least b k.0, leb-true b r.most k.1)
 
+-- a byte in the range passes it
 pub is_in-true : (r : Range) (b : ℕ) → IsIn r b → is_in r b ≡ true
 is_in-true r b h = and_from (nat_le r.least b) (nat_le b r.most) (le-leb r.least b h.0) (le-leb b r.most h.1)
 
+-- and any other doesn't
 pub is_in-false : (r : Range) (b : ℕ) → (IsIn r b → ⊥) → is_in r b ≡ false
 is_in-false r b h = false_from_ne_true (is_in r b) (λ k. h (in-range r b k))
 
@@ -31,17 +34,20 @@ abbrev pub are_filled : List Range → Bool
 are_filled [] = true
 are_filled (r ∷ rs) = nat_le r.least r.most && are_filled rs
 
+-- the front of bytes that fit a row fits a beginning of it
 pub front-of_row : (rs : List Range) (bs more : List ℕ) → FitsRow rs (bs ++ more) → FitsFront rs bs
 front-of_row rs [] more h = tt
 front-of_row [] (b ∷ bs) more h = h
 front-of_row (r ∷ rs) (b ∷ bs) more h = (h.0, front-of_row rs bs more h.1)
 
+-- bytes that fit a row are as many as its ranges
 pub length-row : (rs : List Range) (bs : List ℕ) → FitsRow rs bs → length bs ≡ length rs
 length-row [] [] h = refl
 length-row [] (b ∷ bs) h = absurd h
 length-row (r ∷ rs) [] h = absurd h
 length-row (r ∷ rs) (b ∷ bs) h = ap suc (length-row rs bs h.1)
 
+-- bytes that fit a row together with more are fewer than its ranges
 pub shorter-than_row : (rs : List Range) (bs : List ℕ) (next : ℕ) (more : List ℕ) → FitsRow rs (bs ++ next ∷ more) → length bs < length rs
 shorter-than_row [] [] next more h = absurd h
 shorter-than_row [] (b ∷ bs) next more h = absurd h
@@ -79,26 +85,25 @@ longer-of_front (r ∷ rs) (b ∷ bs) filled h short =
 
 -- ---- The bytes at the front that fit.
 
+-- bytes that fit the row are those at the front that fit, whatever follows
 pub fitting-row : (rs : List Range) (bs rest : List ℕ) → FitsRow rs bs → fitting rs (bs ++ rest) ≡ bs
 fitting-row [] [] rest h = refl
 fitting-row [] (b ∷ bs) rest h = absurd h
 fitting-row (r ∷ rs) [] rest h = absurd h
 fitting-row (r ∷ rs) (b ∷ bs) rest h = rw (is_in-true r b h.0) (ap (λ v. b ∷ v) (fitting-row rs bs rest h.1))
 
--- none fit where there are none
-pub fitting-nil : (rs : List Range) → fitting rs [] ≡ []
-fitting-nil [] = refl
-fitting-nil (r ∷ rs) = refl
-
+-- none fit where the first byte doesn't
 fitting-none : (rs : List Range) (rest : List ℕ) → Breaks rs [] rest → fitting rs rest ≡ []
 fitting-none [] rest h = refl
 fitting-none (r ∷ rs) [] h = refl
 fitting-none (r ∷ rs) (b ∷ rest) h = cond-false (is_in r b) (b ∷ fitting rs rest) [] (is_in-false r b (λ k. h (k, tt)))
 
+-- where the next byte doesn't fit after some bytes, it doesn't without the first of them and its range
 breaks-tail : (r : Range) (rs : List Range) (b : ℕ) (bs rest : List ℕ) → IsIn r b → Breaks (r ∷ rs) (b ∷ bs) rest → Breaks rs bs rest
 breaks-tail r rs b bs [] h k = tt
 breaks-tail r rs b bs (next ∷ rest) h k = λ m. k (h, m)
 
+-- bytes that fit a beginning, before one that doesn't, are those at the front that fit
 pub fitting-broken : (rs : List Range) (bs rest : List ℕ) → FitsFront rs bs → Breaks rs bs rest → fitting rs (bs ++ rest) ≡ bs
 fitting-broken rs [] rest h k = fitting-none rs rest k
 fitting-broken [] (b ∷ bs) rest h k = absurd h
@@ -109,6 +114,7 @@ fitting-broken (r ∷ rs) (b ∷ bs) rest h k =
 abbrev pub Fitted : List Range → List ℕ → List ℕ → Type 0
 Fitted rs d bs = (rest : List ℕ) × (d ≡ bs ++ rest) × (FitsRow rs bs ⊎ ((length bs < length rs) × FitsFront rs bs × Breaks rs bs rest))
 
+-- one more byte in front, and one more range
 fitted-more : (r : Range) (rs : List Range) (b : ℕ) (d bs : List ℕ) → IsIn r b → Fitted rs d bs → Fitted (r ∷ rs) (b ∷ d) (b ∷ bs)
 fitted-more r rs b d bs h (rest, e, inl k) = (rest, ap (λ v. b ∷ v) e, inl (h, k))
 fitted-more r rs b d bs h (rest, e, inr k) = (rest, ap (λ v. b ∷ v) e, inr (omega arith, (h, k.1), breaks-on rest k.2))
@@ -117,6 +123,7 @@ fitted-more r rs b d bs h (rest, e, inr k) = (rest, ap (λ v. b ∷ v) e, inr (o
     breaks-on [] m = tt
     breaks-on (next ∷ rest) m = λ q. m q.1
 
+-- what is found are the bytes that fit
 pub fitting-fits : (rs : List Range) (d : List ℕ) → Fitted rs d (fitting rs d)
 fitting-fits [] d = (d, refl, inl tt)
 fitting-fits (r ∷ rs) [] = ([], refl, inr (omega arith, tt, tt))
@@ -139,6 +146,7 @@ record Apart (low : ℕ) (r : Range) (rs : List Range) (more : List (List Range)
   filled : are_filled rs ≡ true
   others : are_apart (suc r.most) more ≡ true
 
+-- what the test says of the first row and of the others
 apart-parts : (low : ℕ) (r : Range) (rs : List Range) (more : List (List Range)) → are_apart low ((r ∷ rs) ∷ more) ≡ true → Apart low r rs more
 apart-parts low r rs more h =
     let k = and_parts (nat_le low r.least && nat_le r.least r.most) (are_filled rs && are_apart (suc r.most) more) h in
@@ -146,6 +154,7 @@ apart-parts low r rs more h =
     let m = and_parts (are_filled rs) (are_apart (suc r.most) more) k.1 in
     record { low_least = leb-true low r.least l.0; least_most = leb-true r.least r.most l.1; filled = m.0; others = m.1 }
 
+-- a sequence begins with no byte below those of the rows
 above : (low : ℕ) (table : List (List Range)) (b : ℕ) (bs : List ℕ) → are_apart low table ≡ true → FitsSome table (b ∷ bs) → low ≤ b
 above low [] b bs h k = absurd k
 above low ([] ∷ more) b bs h k = absurd (cc)
@@ -182,12 +191,15 @@ row-fits low ((r ∷ qs) ∷ more) b rs h k = elim (cases_Bool (is_in r b)) [
       (f.0, λ bs q. inr (f.1 bs q))
 ]
 
+-- a well-formed sequence is in the row of its first byte
 pub sequence-row : (b : ℕ) (bs : List ℕ) → FitsSome well_formed_rows (b ∷ bs) → (rs : List Range) × (ranges_after well_formed_rows b ≡ Some rs) × FitsRow rs bs
 sequence-row b bs h = row-of 0 well_formed_rows b bs refl h
 
+-- bytes that fit that row make a well-formed sequence with it, and none of its ranges is empty
 pub row-sequence : (b : ℕ) (rs : List Range) → ranges_after well_formed_rows b ≡ Some rs → (are_filled rs ≡ true) × ((bs : List ℕ) → FitsRow rs bs → FitsSome well_formed_rows (b ∷ bs))
 row-sequence b rs h = row-fits 0 well_formed_rows b rs refl h
 
+-- where each row has a first byte, an empty list fits none
 no-empty : (low : ℕ) (table : List (List Range)) → are_apart low table ≡ true → FitsSome table [] → ⊥
 no-empty low [] h k = k
 no-empty low ([] ∷ more) h k = cc
@@ -205,6 +217,7 @@ each_row test [] = true
 each_row test ([] ∷ more) = each_row test more
 each_row test ((r ∷ rs) ∷ more) = test rs && each_row test more
 
+-- where the test passes each row, it passes the ranges in the row of a first byte
 row-passes : (test : List Range → Bool) (table : List (List Range)) (b : ℕ) (rs : List Range) → each_row test table ≡ true → ranges_after table b ≡ Some rs → test rs ≡ true
 row-passes test [] b rs h k = absurd (none-some rs k)
 row-passes test ([] ∷ more) b rs h k = row-passes test more b rs h k
@@ -220,6 +233,7 @@ abbrev are_tails : List Range → Bool
 are_tails [] = true
 are_tails (r ∷ rs) = (nat_le 0x80 r.least && nat_le r.most 0xbf) && are_tails rs
 
+-- where each range is in that of tail bytes, a byte that fits is a tail byte
 front-tail : (rs : List Range) (bs : List ℕ) (c : ℕ) → are_tails rs ≡ true → FitsFront rs (bs ++ c ∷ []) → IsIn tail c
 front-tail [] [] c t h = absurd h
 front-tail [] (b ∷ bs) c t h = absurd h

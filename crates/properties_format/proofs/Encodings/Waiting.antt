@@ -1,5 +1,5 @@
 -- Bytes that don't wait for more decide their first piece.
-use Rattle.std.proofs.Common.{◌≡◌, ℕ, ◌<◌, ◌≤◌, ◌&&◌, true, false, List, [], ◌∷◌, ◌++◌, length, drop, Option, Some, None, refl, sym, ap, ◌∙◌, inl, inr, arith, append_assoc, length-append}
+use Rattle.std.proofs.Common.{◌≡◌, ℕ, ◌<◌, ◌≤◌, ◌&&◌, true, false, List, [], ◌∷◌, ◌++◌, length, drop, Option, Some, None, refl, sym, ap, ◌∙◌, inl, inr, arith, append_assoc}
 use Rattle.std.proofs.Math.Seq.{drop-append_seam}
 use Rattle.std.proofs.lemmas.Bool.{cases_Bool, cond-false, and_parts}
 use Rattle.properties_format.specs.Pieces.{Piece, characters}
@@ -12,8 +12,9 @@ use Rattle.properties_format.specs.Encoding.{Encoding, windows_1252, utf_8, utf_
 use Rattle.properties_format.specs.Reading.Encoding.{first_piece, pieces_of}
 use Rattle.properties_format.specs.Reading.Waiting.{fits_short, awaits_byte, awaits_unit, awaits_more}
 use Rattle.properties_format.proofs.Encodings.Utf8Rows.{row-short}
-use Rattle.properties_format.proofs.Encodings.Pieces.{first-meets, piece-length, pieces_of-piece}
+use Rattle.properties_format.proofs.Encodings.Pieces.{first-meets, pieces_of-piece}
 
+-- where bytes don't wait, those after them don't change which ones fit the ranges
 fitting-more : (rs : List Range) (d y : List ℕ) → fits_short rs d ≡ false → fitting rs (d ++ y) ≡ fitting rs d
 fitting-more [] d y h = refl
 fitting-more (r ∷ rs) [] y h = absurd (cc)
@@ -24,14 +25,17 @@ fitting-more (r ∷ rs) (b ∷ d) y h = elim (cases_Bool (is_in r b)) [
   | inr k ↦ rw k refl
 ]
 
+-- what comes after bytes that don't wait leaves their first piece, in UTF-8
 utf_8-decided : (o : Option (List Range)) (b : ℕ) (d y : List ℕ) → awaits_byte o d ≡ false → utf_8_piece_by o b (d ++ y) ≡ utf_8_piece_by o b d
 utf_8-decided None b d y h = refl
 utf_8-decided (Some rs) b d y h = ap (λ v. utf_8_piece b v (length rs)) (fitting-more rs d y h)
 
+-- in UTF-16 what comes after a whole unit leaves its piece, where the unit is no high surrogate
 not-high : (unit : ℕ → ℕ → ℕ) (a b : ℕ) (d y : List ℕ) → is_high (unit a b) ≡ false → first_utf_16_piece unit a (b ∷ d ++ y) ≡ first_utf_16_piece unit a (b ∷ d)
 not-high unit a b d y h =
     cond-false (is_high (unit a b)) (high_piece unit a b (d ++ y)) _ h ∙ sym (cond-false (is_high (unit a b)) (high_piece unit a b d) _ h)
 
+-- and so does what comes after bytes that don't wait
 utf_16-decided : (unit : ℕ → ℕ → ℕ) (a : ℕ) (d y : List ℕ) → awaits_unit unit a d ≡ false → first_utf_16_piece unit a (d ++ y) ≡ first_utf_16_piece unit a d
 utf_16-decided unit a [] y h = absurd (cc)
 utf_16-decided unit a (b ∷ []) y h = not-high unit a b [] y h
@@ -55,28 +59,6 @@ pieces_of-step e b d =
     let r : drop (length p.bytes) (b ∷ d) ≡ m.0 = ap (drop (length p.bytes)) m.1 ∙ drop-append_seam p.bytes m.0 in
     ap (pieces_of e) m.1 ∙ pieces_of-piece e p m.0 m.2 ∙ ap (λ v. p ∷ pieces_of e v) (sym r)
 
--- the first piece is of the bytes at the front
-pub first_piece-front : (e : Encoding) (b : ℕ) (d : List ℕ) → (first_piece e b d).bytes ++ drop (length (first_piece e b d).bytes) (b ∷ d) ≡ b ∷ d
-first_piece-front e b d =
-    let p : Piece = first_piece e b d in
-    let m = first-meets e b d in
-    ap (λ v. p.bytes ++ drop (length p.bytes) v) m.1 ∙ ap (λ v. p.bytes ++ v) (drop-append_seam p.bytes m.0) ∙ sym m.1
-
--- it has a byte, and no more than there are
-pub first_piece-some : (e : Encoding) (b : ℕ) (d : List ℕ) → 0 < length (first_piece e b d).bytes
-first_piece-some e b d =
-    let m = first-meets e b d in
-    let l = piece-length e (first_piece e b d) m.0 m.2 in
-    let k = length-append (first_piece e b d).bytes m.0 in
-    omega arith
-
-pub first_piece-within : (e : Encoding) (b : ℕ) (d : List ℕ) → length (first_piece e b d).bytes ≤ length (b ∷ d)
-first_piece-within e b d =
-    let m = first-meets e b d in
-    let l : length (b ∷ d) ≡ length ((first_piece e b d).bytes ++ m.0) = ap length m.1 in
-    let k = length-append (first_piece e b d).bytes m.0 in
-    omega arith
-
 -- the characters of some bytes are that of the first piece, and those of what is after it
 pub characters-step : (e : Encoding) (b : ℕ) (d : List ℕ)
     → characters (pieces_of e (b ∷ d)) ≡ (first_piece e b d).character ∷ characters (pieces_of e (drop (length (first_piece e b d).bytes) (b ∷ d)))
@@ -98,23 +80,27 @@ pieces_of-decided e b d y h =
 
 -- ---- Three bytes at most wait.
 
+-- bytes that wait for more of the ranges are fewer than these
 short-fits : (rs : List Range) (d : List ℕ) → fits_short rs d ≡ true → length d < length rs
 short-fits [] d h = absurd (cc)
 short-fits (r ∷ rs) [] h = omega arith
 short-fits (r ∷ rs) (b ∷ d) h = let k = short-fits rs d (and_parts (is_in r b) (fits_short rs d) h).1 in omega arith
 
+-- in UTF-8 two at most after the first
 utf_8-short : (b : ℕ) (d : List ℕ) (o : Option (List Range)) → ranges_after well_formed_rows b ≡ o → awaits_byte o d ≡ true → length d < 3
 utf_8-short b d None e h = absurd (cc)
 utf_8-short b d (Some rs) e h =
     let k = row-short b rs e in
     let l = short-fits rs d h in omega arith
 
+-- and in UTF-16
 utf_16-short : (unit : ℕ → ℕ → ℕ) (a : ℕ) (d : List ℕ) → awaits_unit unit a d ≡ true → length d < 3
 utf_16-short unit a [] h = omega arith
 utf_16-short unit a (b ∷ []) h = omega arith
 utf_16-short unit a (b ∷ c ∷ []) h = omega arith
 utf_16-short unit a (b ∷ c ∷ d ∷ more) h = absurd (cc)
 
+-- in each encoding three at most
 pub awaits_more-short : (e : Encoding) (b : ℕ) (d : List ℕ) → awaits_more e b d ≡ true → length (b ∷ d) ≤ 3
 awaits_more-short windows_1252 b d h = absurd (cc)
 awaits_more-short utf_8 b d h = utf_8-short b d (ranges_after well_formed_rows b) refl h

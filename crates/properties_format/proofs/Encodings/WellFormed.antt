@@ -1,5 +1,5 @@
 -- Bytes that are well-formed UTF-8 are the text of their pieces as they stand.
-use Rattle.std.proofs.Common.{◌≡◌, ℕ, ◌<◌, true, List, [], ◌∷◌, ◌++◌, refl, sym, ap, ap₂, ◌∙◌, subst, inl, inr, append_assoc, arith}
+use Rattle.std.proofs.Common.{◌≡◌, ℕ, ◌<◌, true, List, [], ◌∷◌, ◌++◌, refl, sym, ap, ap₂, ◌∙◌, inl, inr, append_assoc, arith}
 use Rattle.std.proofs.lemmas.Bool.Decides.{nat_tests}
 use Rattle.std.specs.Char.{IsScalar, encode_utf8}
 use Rattle.std.specs.Str.{IsUtf8, IsAscii, chars, all_scalars, encode_utf8_all}
@@ -10,20 +10,20 @@ use Rattle.std.proofs.lemmas.Str.Ascii.{All-from_ascii}
 use Rattle.std.proofs.lemmas.List.Elements.{recursion_from_All}
 use Rattle.std.specs.List.{AllByRecursion}
 use Rattle.properties_format.specs.Text.{scalar}
-use Rattle.properties_format.specs.Pieces.{Piece, piece, characters}
-use Rattle.properties_format.specs.Utf8.{IsWellFormed, AreSequences, IsWellFormedText, sequence_character, whole}
-use Rattle.properties_format.specs.Encoding.{windows_1252, utf_8, IsPieces}
+use Rattle.properties_format.specs.Pieces.{characters}
+use Rattle.properties_format.specs.Utf8.{AreSequences, IsWellFormedText, sequence_character}
+use Rattle.properties_format.specs.Encoding.{windows_1252, utf_8}
 use Rattle.properties_format.specs.Reading.Encoding.{pieces_of}
-use Rattle.properties_format.proofs.Encodings.Pieces.{pieces_of-meets, pieces_of-only}
 use Rattle.properties_format.proofs.Encodings.Utf8Sequences.{sequence-scalar}
 use Rattle.properties_format.proofs.Encodings.Utf8Inverse.{encode-sequence}
 use Rattle.properties_format.proofs.Encodings.Utf8Characters.{encode-says}
 use Rattle.properties_format.proofs.Encodings.Characters.{pieces_of-encoded, pieces_of-ascii}
 
--- a scalar value is the code of a `char`
+-- the code of a `char` is a scalar value
 pub scalar-from_char : (c : ℕ) → IsScalar c → scalar c
 scalar-from_char c h = std_utf8.scalar_cases c h
 
+-- and the other way round
 pub char-from_scalar : (c : ℕ) → scalar c → IsScalar c
 char-from_scalar c (inl h) = std_utf8.low_scalar c h
 char-from_scalar c (inr h) = grind (arith, nat_tests)
@@ -37,6 +37,7 @@ sequences-utf8 d (bs ∷ more) (rest, s, h, k) =
     let scalars = and_from (std_utf8.scalar c) (all_scalars u.0) (char-from_scalar c (sequence-scalar bs h)) u.1.0 in
     (c ∷ u.0, (scalars, ap₂ (λ v w. v ++ w) (encode-sequence bs h) u.1.1 ∙ sym s))
 
+-- so well-formed bytes are UTF-8
 pub IsUtf8-from_well_formed : (d : List ℕ) → IsWellFormedText d → IsUtf8 d
 IsUtf8-from_well_formed d (sequences, h) = sequences-utf8 d sequences h
 
@@ -48,9 +49,11 @@ utf8-sequences d (c ∷ cs) h e =
     let w = utf8-sequences (encode_utf8_all cs) cs p.1 refl in
     (encode_utf8 c ∷ w.0, (encode_utf8_all cs, sym e, (encode-says c (scalar-from_char c p.0)).0, w.1))
 
+-- so bytes that are UTF-8 are well-formed
 pub well_formed-from_IsUtf8 : (d : List ℕ) → IsUtf8 d → IsWellFormedText d
 well_formed-from_IsUtf8 d (cs, h) = utf8-sequences d cs h.0 h.1
 
+-- characters that are encoded in front are decoded to themselves, whatever follows
 encoded-front : (cs y : List ℕ) → all_scalars cs ≡ true → characters (pieces_of utf_8 (encode_utf8_all cs ++ y)) ≡ cs ++ characters (pieces_of utf_8 y)
 encoded-front [] y h = refl
 encoded-front (c ∷ cs) y h =
@@ -66,35 +69,9 @@ characters-text x y (cs, h) =
     ∙ encoded-front cs y h.0
     ∙ ap (λ v. v ++ characters (pieces_of utf_8 y)) (sym (chars-encodes cs h.0) ∙ ap chars h.1)
 
--- ---- Well-formed bytes are those whose pieces are all whole sequences.
-
--- each piece is a well-formed sequence, and not a broken one
-abbrev pub AreWhole : List Piece → Type 0
-AreWhole [] = Unit {0}
-AreWhole (p ∷ ps) = IsWellFormed p.bytes × AreWhole ps
-
-sequences-pieces : (d : List ℕ) (sequences : List (List ℕ)) → AreSequences d sequences → (ps : List Piece) × IsPieces utf_8 d ps × AreWhole ps
-sequences-pieces d [] h = ([], h, tt)
-sequences-pieces d (bs ∷ more) (rest, s, h, k) =
-    let q = sequences-pieces rest more k in
-    (piece bs (sequence_character bs) ∷ q.0, (rest, s, whole h refl, q.1), (h, q.2))
-
-pieces-sequences : (d : List ℕ) (ps : List Piece) → IsPieces utf_8 d ps → AreWhole ps → IsWellFormedText d
-pieces-sequences d [] h w = ([], h)
-pieces-sequences d (p ∷ ps) (rest, s, h, k) w =
-    let q = pieces-sequences rest ps k w.1 in
-    (p.bytes ∷ q.0, (rest, s, w.0, q.1))
-
-pub well_formed-pieces : (d : List ℕ) → IsWellFormedText d → AreWhole (pieces_of utf_8 d)
-well_formed-pieces d (sequences, h) =
-    let q = sequences-pieces d sequences h in
-    subst AreWhole (pieces_of-only utf_8 d q.0 q.1) q.2
-
-pub pieces-well_formed : (d : List ℕ) → AreWhole (pieces_of utf_8 d) → IsWellFormedText d
-pieces-well_formed d w = pieces-sequences d (pieces_of utf_8 d) (pieces_of-meets utf_8 d) w
-
 -- ---- ASCII, which windows-1252 and UTF-8 have in common.
 
+-- bytes of ASCII in front are decoded to themselves, whatever follows
 ascii-front : (x y : List ℕ) → AllByRecursion (λ b. b < 0x80) x → characters (pieces_of windows_1252 (x ++ y)) ≡ x ++ characters (pieces_of windows_1252 y)
 ascii-front [] y h = refl
 ascii-front (b ∷ x) y h = ap characters (pieces_of-ascii windows_1252 b (x ++ y) h.0) ∙ ap (λ v. b ∷ v) (ascii-front x y h.1)

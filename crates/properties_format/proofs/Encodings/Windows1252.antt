@@ -9,6 +9,7 @@ abbrev is_some_of : Option ℕ → ℕ → Bool
 is_some_of None k = false
 is_some_of (Some x) k = x == k
 
+-- what passes the test is that number
 same-some : (o : Option ℕ) (k : ℕ) → is_some_of o k ≡ true → o ≡ Some k
 same-some None k h = cc
 same-some (Some x) k h = ap Some (eqb-true x k h)
@@ -17,10 +18,6 @@ same-some (Some x) k h = ap Some (eqb-true x k h)
 pub windows_1252_byte-character : (b : ℕ) → byte b → windows_1252_byte (windows_1252_character b) ≡ Some b
 windows_1252_byte-character b h =
     same-some (windows_1252_byte (windows_1252_character b)) b (agree_below_at (λ k. is_some_of (windows_1252_byte (windows_1252_character k)) k) (λ k. true) 0x100 b refl h)
-
--- the characters of two bytes are distinct
-pub windows_1252_character-same : (a b : ℕ) → byte a → byte b → windows_1252_character a ≡ windows_1252_character b → a ≡ b
-windows_1252_character-same a b h k e = same_Some a b (sym (windows_1252_byte-character a h) ∙ ap windows_1252_byte e ∙ windows_1252_byte-character b k)
 
 -- a place that is found has the character
 place-found : (n : ℕ) (xs : List ℕ) (c b : ℕ) → place_from n xs c ≡ Some b → (n ≤ b) × (b < n + length xs) × ((k : ℕ) → n + k ≡ b → slice_index xs k ≡ c)
@@ -60,10 +57,6 @@ windows_1252_character-byte c b h = elim (cases_Bool (nat_lt c 0x100 && not (is_
       )
 ]
 
--- a character that has no byte is none of a byte's
-pub windows_1252_byte-none : (c : ℕ) → windows_1252_byte c ≡ None → (b : ℕ) → byte b → windows_1252_character b ≡ c → ⊥
-windows_1252_byte-none c h b k e = none-some b (sym h ∙ ap windows_1252_byte (sym e) ∙ windows_1252_byte-character b k)
-
 -- a byte's character is a scalar value
 pub windows_1252-scalar : (b : ℕ) → byte b → scalar (windows_1252_character b)
 windows_1252-scalar b h =
@@ -87,5 +80,6 @@ windows_1252-ascii b h = elim (cases_Bool (is_in_table b)) [
 pub windows_1252_character-ascii : (c : ℕ) → c < 0x80 → windows_1252_character c ≡ c
 windows_1252_character-ascii c h = cond-false (is_in_table c) _ c (and_left (nat_le 0x80 c) (nat_lt c 0xa0) (lt-leb 0x80 c h))
 
+-- and has the byte of its own number
 pub windows_1252_byte-ascii : (c : ℕ) → c < 0x80 → windows_1252_byte c ≡ Some c
 windows_1252_byte-ascii c h = ap windows_1252_byte (sym (windows_1252_character-ascii c h)) ∙ windows_1252_byte-character c (omega arith)

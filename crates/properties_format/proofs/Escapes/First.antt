@@ -10,18 +10,23 @@ abbrev pub spelling_of : List ℕ → Option Spelling
 spelling_of [] = None
 spelling_of (c ∷ cs) = first_spelling c cs
 
+-- a unit that is no surrogate is no high one
 high-surrogate : (n : ℕ) → is_surrogate n ≡ false → is_high n ≡ false
 high-surrogate n e = (or_parts (is_high n) (is_low n) e).0
 
+-- and no low one
 low-surrogate : (n : ℕ) → is_surrogate n ≡ false → is_low n ≡ false
 low-surrogate n e = (or_parts (is_high n) (is_low n) e).1
 
+-- four digits of no surrogate are one escape
 digits-unicode : (d : Four) (rest : List ℕ) → are_hexadecimal d ≡ true → is_surrogate (code_unit d) ≡ false → with_digits d rest ≡ Some (unicode d)
 digits-unicode d rest h k = rw h (rw (high-surrogate (code_unit d) k) (rw (low-surrogate (code_unit d) k) refl))
 
+-- after those of a high surrogate, the escape of a low one is looked for
 digits-high : (d : Four) (rest : List ℕ) → are_hexadecimal d ≡ true → is_high (code_unit d) ≡ true → with_digits d rest ≡ with_low d rest
 digits-high d rest h k = rw h (rw k refl)
 
+-- and where it stands there, the two are found
 low-low : (high low : Four) (rest : List ℕ) → are_hexadecimal low ≡ true → is_low (code_unit low) ≡ true
     → with_low high (backslash ∷ letter_u ∷ four_text low ++ rest) ≡ Some (surrogates high low)
 low-low high low rest h k = rw h (rw k refl)
@@ -55,9 +60,11 @@ abbrev pub IsFound : List ℕ → Option Spelling → Type 0
 IsFound x None = IsEscape x
 IsFound x (Some p) = IsFirst x p
 
+-- where no spelling is found at a `\u`, a `\u` begins the text
 escape-found : (after : List ℕ) → IsFound (backslash ∷ letter_u ∷ after) None
 escape-found after = record { after = after; whole = refl }
 
+-- what passes the test of a low surrogate's escape is a `\u` and the digits of one
 low-parts : (x y : ℕ) (low : Four) → ((x == backslash && y == letter_u) && (are_hexadecimal low && is_low (code_unit low))) ≡ true
     → (x ≡ backslash) × (y ≡ letter_u) × (are_hexadecimal low ≡ true) × (is_low (code_unit low) ≡ true)
 low-parts x y low e =
@@ -66,6 +73,7 @@ low-parts x y low e =
     let r = and_parts (are_hexadecimal low) (is_low (code_unit low)) p.1 in
     (eqb-true x backslash q.0, eqb-true y letter_u q.1, r.0, r.1)
 
+-- what is found at the digits of a high surrogate is there, or else a `\u` is
 low-found : (high : Four) (rest : List ℕ) → are_hexadecimal high ≡ true → is_high (code_unit high) ≡ true
     → IsFound (backslash ∷ letter_u ∷ four_text high ++ rest) (with_low high rest)
 low-found high (x ∷ y ∷ a ∷ b ∷ c ∷ d ∷ rest) h k =
@@ -81,6 +89,7 @@ low-found high (x ∷ y ∷ a ∷ b ∷ c ∷ d ∷ rest) h k =
     ]
 low-found high rest h k = escape-found (four_text high ++ rest)
 
+-- so is what is found at any four characters after a `\u`
 digits-found : (d : Four) (rest : List ℕ) → IsFound (backslash ∷ letter_u ∷ four_text d ++ rest) (with_digits d rest)
 digits-found d rest = elim (cases_Bool (are_hexadecimal d)) [
   | inl e ↦ rw e (elim (cases_Bool (is_high (code_unit d))) [
@@ -93,10 +102,12 @@ digits-found d rest = elim (cases_Bool (are_hexadecimal d)) [
   | inr e ↦ rw e (escape-found (four_text d ++ rest))
 ]
 
+-- what is found after a `\u`
 u-found : (after : List ℕ) → IsFound (backslash ∷ letter_u ∷ after) (after_u after)
 u-found (a ∷ b ∷ c ∷ d ∷ rest) = digits-found record { first = a; second = b; third = c; fourth = d } rest
 u-found after = escape-found after
 
+-- what is found after a backslash
 backslash-found : (cs : List ℕ) → IsFound (backslash ∷ cs) (after_backslash cs)
 backslash-found [] = record { rest = []; whole = refl; is_spelling = refl }
 backslash-found (c ∷ cs) = elim (cases_Bool (c == letter_u)) [
@@ -104,6 +115,7 @@ backslash-found (c ∷ cs) = elim (cases_Bool (c == letter_u)) [
   | inr e ↦ rw e (record { rest = cs; whole = refl; is_spelling = e })
 ]
 
+-- and what is found at any character
 pub first_spelling-found : (c : ℕ) (cs : List ℕ) → IsFound (c ∷ cs) (first_spelling c cs)
 first_spelling-found c cs = elim (cases_Bool (c == backslash)) [
   | inl e ↦ rw e (rw (eqb-true c backslash e) (backslash-found cs))

@@ -1,23 +1,28 @@
 -- How the meaning of a text goes on from what stands in front of it.
-use Rattle.std.proofs.Common.{◌≡◌, ℕ, ◌==◌, ◌<◌, length, true, false, List, [], ◌∷◌, ◌++◌, map, None, refl, ap, sym, ◌∙◌, append_assoc, append-nil, arith}
+use Rattle.std.proofs.Common.{◌≡◌, ℕ, ◌==◌, ◌<◌, length, true, false, List, [], ◌∷◌, ◌++◌, map, None, refl, ap, ◌∙◌, append-nil, arith}
 use Rattle.properties_format.specs.Text.{backslash}
-use Rattle.properties_format.specs.Escapes.{letter_u, escaped_character, Four, four_text, are_hexadecimal, code_unit, is_high, is_low, is_surrogate, pair_character, Spelling, itself, escaped, unicode, surrogates, last, spelling_text, spelt_character, IsSpelling, spelt_before, AreSpellings, not_enough_digits, not_hex, invalid_character, malformed_by, means, breaks}
-use Rattle.properties_format.specs.Reading.Escapes.{with_low, after_u, in_front, meaning_of}
+use Rattle.properties_format.specs.Escapes.{letter_u, escaped_character, Four, four_text, are_hexadecimal, code_unit, is_high, is_low, is_surrogate, pair_character, Spelling, itself, escaped, unicode, surrogates, last, spelt_character, IsSpelling, spelt_before, AreSpellings, not_enough_digits, not_hex, invalid_character, malformed_by, means, breaks}
+use Rattle.properties_format.specs.Reading.Escapes.{with_low, after_u, in_front, text_in_front, meaning_of}
+use Rattle.properties_format.specs.Writing.{HoldsNoBackslash}
 use Rattle.properties_format.proofs.Escapes.First.{spelling_of-none}
-use Rattle.properties_format.proofs.Escapes.Unique.{text_in_front, text_in_front-means, meaning_of-empty, meaning_of-spelling, meaning_of-spellings, meaning_of-fault}
+use Rattle.properties_format.proofs.Escapes.Unique.{text_in_front-means, meaning_of-empty, meaning_of-spelling, meaning_of-spellings, meaning_of-fault}
 
 -- ---- a spelling in front
 
+-- a character that is no backslash
 pub meaning_of-itself : (c : ℕ) (rest : List ℕ) → (c == backslash) ≡ false → meaning_of (c ∷ rest) ≡ in_front c (meaning_of rest)
 meaning_of-itself c rest h = meaning_of-spelling (itself c) rest h
 
+-- a backslash and a character other than u
 pub meaning_of-escaped : (c : ℕ) (rest : List ℕ) → (c == letter_u) ≡ false → meaning_of (backslash ∷ c ∷ rest) ≡ in_front (escaped_character c) (meaning_of rest)
 meaning_of-escaped c rest h = meaning_of-spelling (escaped c) rest h
 
+-- a `\u` escape of no surrogate
 pub meaning_of-unicode : (d : Four) (rest : List ℕ) → are_hexadecimal d ≡ true → is_surrogate (code_unit d) ≡ false
     → meaning_of (backslash ∷ letter_u ∷ four_text d ++ rest) ≡ in_front (code_unit d) (meaning_of rest)
 meaning_of-unicode d rest h k = meaning_of-spelling (unicode d) rest (h, k)
 
+-- two `\u` escapes, of a high surrogate and of a low one
 pub meaning_of-surrogates : (high low : Four) (rest : List ℕ) → are_hexadecimal high ≡ true → is_high (code_unit high) ≡ true
     → are_hexadecimal low ≡ true → is_low (code_unit low) ≡ true
     → meaning_of (backslash ∷ letter_u ∷ four_text high ++ (backslash ∷ letter_u ∷ four_text low ++ rest)) ≡ in_front (pair_character (code_unit high) (code_unit low)) (meaning_of rest)
@@ -29,16 +34,13 @@ meaning_of-last = meaning_of-spelling last [] refl ∙ ap (in_front 0) meaning_o
 
 -- ---- a text without a backslash means itself
 
--- no backslash stands in the text
-abbrev pub HasNoBackslash : List ℕ → Type 0
-HasNoBackslash [] = Unit {0}
-HasNoBackslash (c ∷ cs) = ((c == backslash) ≡ false) × HasNoBackslash cs
-
-pub meaning_of-plain_front : (x rest : List ℕ) → HasNoBackslash x → meaning_of (x ++ rest) ≡ text_in_front x (meaning_of rest)
+-- such a text in front of any text
+pub meaning_of-plain_front : (x rest : List ℕ) → HoldsNoBackslash x → meaning_of (x ++ rest) ≡ text_in_front x (meaning_of rest)
 meaning_of-plain_front [] rest h = refl
 meaning_of-plain_front (c ∷ x) rest h = meaning_of-itself c (x ++ rest) h.0 ∙ ap (in_front c) (meaning_of-plain_front x rest h.1)
 
-pub meaning_of-plain : (x : List ℕ) → HasNoBackslash x → meaning_of x ≡ means x
+-- such a text alone
+pub meaning_of-plain : (x : List ℕ) → HoldsNoBackslash x → meaning_of x ≡ means x
 meaning_of-plain [] h = meaning_of-empty
 meaning_of-plain (c ∷ x) h = meaning_of-itself c x h.0 ∙ ap (in_front c) (meaning_of-plain x h.1)
 
@@ -56,6 +58,7 @@ abbrev pub AreWhole : List Spelling → Type 0
 AreWhole [] = Unit {0}
 AreWhole (p ∷ ps) = IsWhole p × AreWhole ps
 
+-- a whole spelling may stand before any text
 pub IsWhole-spelling : (p : Spelling) (rest : List ℕ) → IsWhole p → IsSpelling p rest
 IsWhole-spelling (itself c) rest h = h
 IsWhole-spelling (escaped c) rest h = h
@@ -63,6 +66,7 @@ IsWhole-spelling (unicode d) rest h = h
 IsWhole-spelling (surrogates high low) rest h = h
 IsWhole-spelling last rest h = absurd h
 
+-- and so may whole spellings in order
 pub AreWhole-spellings : (ps : List Spelling) (rest : List ℕ) → AreWhole ps → AreSpellings ps rest
 AreWhole-spellings [] rest h = tt
 AreWhole-spellings (p ∷ ps) rest h = (IsWhole-spelling p (spelt_before ps rest) h.0, AreWhole-spellings ps rest h.1)
@@ -78,33 +82,6 @@ meaning_of-all ps h =
     ∙ ap (text_in_front (map spelt_character ps)) meaning_of-empty
     ∙ text_in_front-means (map spelt_character ps) []
     ∙ ap means (append-nil (map spelt_character ps))
-
--- ---- spellings put together
-
-pub spelt_before-front : (ps : List Spelling) (rest : List ℕ) → spelt_before ps rest ≡ spelt_before ps [] ++ rest
-spelt_before-front [] rest = refl
-spelt_before-front (p ∷ ps) rest = ap (λ v. spelling_text p ++ v) (spelt_before-front ps rest) ∙ sym (append_assoc (spelling_text p) (spelt_before ps []) rest)
-
-pub spelt_before-append : (ps qs : List Spelling) (rest : List ℕ) → spelt_before (ps ++ qs) rest ≡ spelt_before ps (spelt_before qs rest)
-spelt_before-append [] qs rest = refl
-spelt_before-append (p ∷ ps) qs rest = ap (λ v. spelling_text p ++ v) (spelt_before-append ps qs rest)
-
-pub AreWhole-append : (ps qs : List Spelling) → AreWhole ps → AreWhole qs → AreWhole (ps ++ qs)
-AreWhole-append [] qs h k = k
-AreWhole-append (p ∷ ps) qs h k = (h.0, AreWhole-append ps qs h.1 k)
-
--- characters that spell themselves
-pub spelt_before-itself : (x rest : List ℕ) → spelt_before (map itself x) rest ≡ x ++ rest
-spelt_before-itself [] rest = refl
-spelt_before-itself (c ∷ x) rest = ap (λ v. c ∷ v) (spelt_before-itself x rest)
-
-pub characters-itself : (x : List ℕ) → map spelt_character (map itself x) ≡ x
-characters-itself [] = refl
-characters-itself (c ∷ x) = ap (λ v. c ∷ v) (characters-itself x)
-
-pub AreWhole-itself : (x : List ℕ) → HasNoBackslash x → AreWhole (map itself x)
-AreWhole-itself [] h = tt
-AreWhole-itself (c ∷ x) h = (h.0, AreWhole-itself x h.1)
 
 -- ---- a `\u` that begins no spelling
 

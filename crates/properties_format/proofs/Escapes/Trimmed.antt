@@ -26,6 +26,7 @@ abbrev past : List Spelling → List Spelling
 past [] = []
 past (p ∷ ps) = if is_blank (spelt_character p) then past ps else p ∷ ps
 
+-- a spelling in front, unless it is one of a blank with nothing after it
 unless_last : Spelling → List Spelling → List Spelling
 unless_last p [] = if is_blank (spelt_character p) then [] else p ∷ []
 unless_last p (q ∷ qs) = p ∷ q ∷ qs
@@ -37,6 +38,7 @@ before (p ∷ ps) = unless_last p (before ps)
 
 -- ---- the character that a blank's spelling begins with
 
+-- the spelling of a blank is that blank alone
 blank-text : (p : Spelling) → KeepsBlanks p → is_blank (spelt_character p) ≡ true → spelling_text p ≡ spelt_character p ∷ []
 blank-text (itself c) k b = refl
 blank-text (escaped c) k b = absurd (both_ways _ (sym k.at_front) b)
@@ -44,6 +46,7 @@ blank-text (unicode d) k b = absurd (both_ways _ (sym k.at_front) b)
 blank-text (surrogates high low) k b = absurd (both_ways _ (sym k.at_front) b)
 blank-text last k b = absurd (both_ways _ (sym k.at_front) b)
 
+-- a spelling in front of a text has a first character
 text-some : (p : Spelling) (y : List ℕ) → (c : ℕ) × (cs : List ℕ) × (spelling_text p ++ y ≡ c ∷ cs)
 text-some (itself c) y = (_, _, refl)
 text-some (escaped c) y = (_, _, refl)
@@ -53,6 +56,7 @@ text-some last y = (_, _, refl)
 
 -- ---- at the front
 
+-- whether a spelling begins with a blank doesn't hang on what follows
 begins-text : (p : Spelling) (y : List ℕ) → begins is_blank (spelling_text p ++ y) ≡ begins is_blank (spelling_text p)
 begins-text (itself c) y = refl
 begins-text (escaped c) y = refl
@@ -60,6 +64,7 @@ begins-text (unicode d) y = refl
 begins-text (surrogates high low) y = refl
 begins-text last y = refl
 
+-- the text without its leading blanks is that of the spellings without theirs
 without_leading_blanks-text : (ps : List Spelling) → AllKeepBlanks ps → without_leading_blanks (spelt_before ps []) ≡ spelt_before (past ps) []
 without_leading_blanks-text [] k = refl
 without_leading_blanks-text (p ∷ ps) k = elim (cases_Bool (is_blank (spelt_character p))) [
@@ -67,6 +72,7 @@ without_leading_blanks-text (p ∷ ps) k = elim (cases_Bool (is_blank (spelt_cha
   | inr b ↦ rw b (without_leading_blanks-full (spelling_text p ++ spelt_before ps []) (begins-text p (spelt_before ps []) ∙ k.0.at_front ∙ b))
 ]
 
+-- and the characters without leading blanks are those of the spellings
 without_leading_blanks-characters : (ps : List Spelling) → without_leading_blanks (map spelt_character ps) ≡ map spelt_character (past ps)
 without_leading_blanks-characters [] = refl
 without_leading_blanks-characters (p ∷ ps) = elim (cases_Bool (is_blank (spelt_character p))) [
@@ -74,6 +80,7 @@ without_leading_blanks-characters (p ∷ ps) = elim (cases_Bool (is_blank (spelt
   | inr b ↦ rw b refl
 ]
 
+-- they are whole where all were
 past-whole : (ps : List Spelling) → AreWhole ps → AreWhole (past ps)
 past-whole [] h = tt
 past-whole (p ∷ ps) h = elim (cases_Bool (is_blank (spelt_character p))) [
@@ -81,6 +88,7 @@ past-whole (p ∷ ps) h = elim (cases_Bool (is_blank (spelt_character p))) [
   | inr b ↦ rw b h
 ]
 
+-- and keep blanks where all did
 past-keep : (ps : List Spelling) → AllKeepBlanks ps → AllKeepBlanks (past ps)
 past-keep [] h = tt
 past-keep (p ∷ ps) h = elim (cases_Bool (is_blank (spelt_character p))) [
@@ -90,6 +98,7 @@ past-keep (p ∷ ps) h = elim (cases_Bool (is_blank (spelt_character p))) [
 
 -- ---- at the end
 
+-- a character that is no blank stays in front
 full-last : (c : ℕ) (y : List ℕ) → is_blank c ≡ false → unless_last_blank c y ≡ c ∷ y
 full-last c [] b = rw b refl
 full-last c (d ∷ y) b = refl
@@ -99,6 +108,7 @@ without_trailing_blanks-front : (c : ℕ) (t y : List ℕ) → ends is_blank (c 
 without_trailing_blanks-front c [] y e = full-last c (without_trailing_blanks y) e
 without_trailing_blanks-front c (d ∷ t) y e = ap (unless_last_blank c) (without_trailing_blanks-front d t y e)
 
+-- and so does a spelling that ends with no blank
 without_trailing_blanks-spelling : (p : Spelling) (y : List ℕ) → ends is_blank (spelling_text p) ≡ false → without_trailing_blanks (spelling_text p ++ y) ≡ spelling_text p ++ without_trailing_blanks y
 without_trailing_blanks-spelling (itself c) y e = without_trailing_blanks-front c [] y e
 without_trailing_blanks-spelling (escaped c) y e = without_trailing_blanks-front _ (c ∷ []) y e
@@ -106,6 +116,7 @@ without_trailing_blanks-spelling (unicode d) y e = without_trailing_blanks-front
 without_trailing_blanks-spelling (surrogates high low) y e = without_trailing_blanks-front _ (spelling_tail (surrogates high low)) y e
 without_trailing_blanks-spelling last y e = without_trailing_blanks-front _ [] y e
 
+-- among spellings, one of no blank stays in front
 full-unless : (p : Spelling) (qs : List Spelling) → is_blank (spelt_character p) ≡ false → unless_last p qs ≡ p ∷ qs
 unfolding unless_last
 full-unless p [] b = rw b refl
@@ -121,6 +132,7 @@ blank-front p (q ∷ qs) k b = go (spelling_text q ++ spelt_before qs []) (text-
     go : (x : List ℕ) → (c : ℕ) × (cs : List ℕ) × (x ≡ c ∷ cs) → unless_last_blank (spelt_character p) x ≡ spelling_text p ++ x
     go x (c, cs, e) = rw (e, blank-text p k b) refl
 
+-- the text without its trailing blanks is that of the spellings without theirs
 without_trailing_blanks-text : (ps : List Spelling) → AllKeepBlanks ps → without_trailing_blanks (spelt_before ps []) ≡ spelt_before (before ps) []
 without_trailing_blanks-text [] k = refl
 without_trailing_blanks-text (p ∷ ps) k = elim (cases_Bool (is_blank (spelt_character p))) [
@@ -132,26 +144,31 @@ without_trailing_blanks-text (p ∷ ps) k = elim (cases_Bool (is_blank (spelt_ch
       ∙ ap (λ v. spelt_before v []) (sym (full-unless p (before ps) b))
 ]
 
+-- a character in front stays where its spelling does
 unless-characters : (p : Spelling) (qs : List Spelling) → unless_last_blank (spelt_character p) (map spelt_character qs) ≡ map spelt_character (unless_last p qs)
 unfolding unless_last
 unless-characters p [] = elim (cases_Bool (is_blank (spelt_character p))) [ inl b ↦ rw b refl | inr b ↦ rw b refl ]
 unless-characters p (q ∷ qs) = refl
 
+-- and the characters without trailing blanks are those of the spellings
 without_trailing_blanks-characters : (ps : List Spelling) → without_trailing_blanks (map spelt_character ps) ≡ map spelt_character (before ps)
 without_trailing_blanks-characters [] = refl
 without_trailing_blanks-characters (p ∷ ps) = ap (unless_last_blank (spelt_character p)) (without_trailing_blanks-characters ps) ∙ unless-characters p (before ps)
 
+-- with one in front or without it, spellings are whole where all were
 unless-whole : (p : Spelling) (qs : List Spelling) → AreWhole (p ∷ qs) → AreWhole (unless_last p qs)
 unfolding unless_last
 unless-whole p [] h = elim (cases_Bool (is_blank (spelt_character p))) [ inl b ↦ rw b tt | inr b ↦ rw b h ]
 unless-whole p (q ∷ qs) h = h
 
+-- so are those without trailing blanks
 before-whole : (ps : List Spelling) → AreWhole ps → AreWhole (before ps)
 before-whole [] h = tt
 before-whole (p ∷ ps) h = unless-whole p (before ps) (h.0, before-whole ps h.1)
 
 -- ---- at both ends
 
+-- The text of whole spellings that keep blanks means, without the blanks at its ends, their characters without those.
 pub meaning_of-trimmed : (ps : List Spelling) → AreWhole ps → AllKeepBlanks ps → meaning_of (trimmed (spelt_before ps [])) ≡ means (trimmed (map spelt_character ps))
 meaning_of-trimmed ps h k =
     let e : trimmed (spelt_before ps []) ≡ spelt_before (before (past ps)) [] = ap without_trailing_blanks (without_leading_blanks-text ps k) ∙ without_trailing_blanks-text (past ps) (past-keep ps k) in
@@ -160,28 +177,25 @@ meaning_of-trimmed ps h k =
 
 -- ---- which spellings keep blanks
 
+-- a character that is spelt as itself
 pub KeepsBlanks-itself : (c : ℕ) → KeepsBlanks (itself c)
 KeepsBlanks-itself c = record { at_front = refl; at_end = refl }
 
+-- a backslash and a character, where neither it nor what the two stand for is a blank
 pub KeepsBlanks-escaped : (c : ℕ) → is_blank c ≡ false → is_blank (escaped_character c) ≡ false → KeepsBlanks (escaped c)
 KeepsBlanks-escaped c e f = record { at_front = sym f; at_end = e ∙ sym f }
 
+-- the last of four digits is no blank
 fourth-full : (d : Four) → are_hexadecimal d ≡ true → is_blank d.fourth ≡ false
 fourth-full d h =
     let p = and_parts (is_hexadecimal d.first && is_hexadecimal d.second) (is_hexadecimal d.third && is_hexadecimal d.fourth) h in
     let q = and_parts (is_hexadecimal d.third) (is_hexadecimal d.fourth) p.1 in
     (hexadecimal-plain d.fourth q.1).1
 
+-- a `\u` escape of no blank
 pub KeepsBlanks-unicode : (d : Four) → are_hexadecimal d ≡ true → is_blank (code_unit d) ≡ false → KeepsBlanks (unicode d)
 KeepsBlanks-unicode d h f = record { at_front = sym f; at_end = fourth-full d h ∙ sym f }
 
+-- two `\u` escapes of surrogates
 pub KeepsBlanks-surrogates : (high low : Four) → are_hexadecimal low ≡ true → is_blank (pair_character (code_unit high) (code_unit low)) ≡ false → KeepsBlanks (surrogates high low)
 KeepsBlanks-surrogates high low h f = record { at_front = sym f; at_end = fourth-full low h ∙ sym f }
-
-pub AllKeepBlanks-append : (ps qs : List Spelling) → AllKeepBlanks ps → AllKeepBlanks qs → AllKeepBlanks (ps ++ qs)
-AllKeepBlanks-append [] qs h k = k
-AllKeepBlanks-append (p ∷ ps) qs h k = (h.0, AllKeepBlanks-append ps qs h.1 k)
-
-pub AllKeepBlanks-itself : (x : List ℕ) → AllKeepBlanks (map itself x)
-AllKeepBlanks-itself [] = tt
-AllKeepBlanks-itself (c ∷ x) = (KeepsBlanks-itself c, AllKeepBlanks-itself x)

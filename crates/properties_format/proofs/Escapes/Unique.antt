@@ -2,7 +2,7 @@
 use Rattle.std.proofs.Common.{◌≡◌, ℕ, pred, length, List, [], ◌∷◌, ◌++◌, map, Option, Some, None, refl, ap, sym, ◌∙◌, subst, append-nil}
 use Rattle.properties_format.specs.Text.{backslash}
 use Rattle.properties_format.specs.Escapes.{letter_u, Malformed, four_text, Spelling, itself, escaped, unicode, surrogates, last, spelling_text, spelt_character, IsSpelling, spelt_before, AreSpellings, Means, NoSpelling, malformed_by, Breaks, Meaning, means, breaks, IsMeaning}
-use Rattle.properties_format.specs.Reading.Escapes.{first_spelling, in_front, fault_of, meaning_past, meaning_of}
+use Rattle.properties_format.specs.Reading.Escapes.{first_spelling, in_front, text_in_front, fault_of, meaning_past, meaning_of}
 use Rattle.properties_format.proofs.Escapes.First.{spelling_of, spelling_of-only, spelling_of-none, IsFound, first_spelling-found}
 
 -- the text of a spelling after its first character
@@ -15,16 +15,14 @@ spelling_tail last = []
 
 -- ---- one step of the reading
 
+-- where a spelling is found, its character stands in front of what the rest comes to
 past-spelling : (c : ℕ) (cs : List ℕ) (p : Spelling) → first_spelling c cs ≡ Some p
     → meaning_past (c ∷ cs) 0 ≡ in_front (spelt_character p) (meaning_past cs (pred (length (spelling_text p))))
 past-spelling c cs p e = rw (e, meaning_past) refl
 
+-- where none is found, the text breaks
 past-none : (c : ℕ) (cs : List ℕ) → first_spelling c cs ≡ None → meaning_past (c ∷ cs) 0 ≡ breaks (fault_of cs)
 past-none c cs e = rw (e, meaning_past) refl
-
-past-text : (t rest : List ℕ) → meaning_past (t ++ rest) (length t) ≡ meaning_past rest 0
-past-text [] rest = refl
-past-text (c ∷ t) rest = past-text t rest
 
 -- a spelling in front, where the reading has found it
 past-front : (p : Spelling) (rest : List ℕ) → spelling_of (spelling_text p ++ rest) ≡ Some p
@@ -41,14 +39,11 @@ unfolding meaning_of
 meaning_of-spelling p rest h = past-front p rest (spelling_of-only p rest h)
 
 -- a text in front of a meaning
-abbrev pub text_in_front : List ℕ → Meaning → Meaning
-text_in_front [] m = m
-text_in_front (c ∷ cs) m = in_front c (text_in_front cs m)
-
 pub text_in_front-means : (x y : List ℕ) → text_in_front x (means y) ≡ means (x ++ y)
 text_in_front-means [] y = refl
 text_in_front-means (c ∷ x) y = ap (in_front c) (text_in_front-means x y)
 
+-- and of a way to break, which it leaves as it is
 pub text_in_front-breaks : (x : List ℕ) (kind : Malformed) → text_in_front x (breaks kind) ≡ breaks kind
 text_in_front-breaks [] kind = refl
 text_in_front-breaks (c ∷ x) kind = ap (in_front c) (text_in_front-breaks x kind)
@@ -59,12 +54,14 @@ pub meaning_of-spellings : (ps : List Spelling) (rest : List ℕ) → AreSpellin
 meaning_of-spellings [] rest h = refl
 meaning_of-spellings (p ∷ ps) rest h = meaning_of-spelling p (spelt_before ps rest) h.0 ∙ ap (in_front (spelt_character p)) (meaning_of-spellings ps rest h.1)
 
+-- an empty text means an empty one
 pub meaning_of-empty : meaning_of [] ≡ means []
 unfolding meaning_of
 meaning_of-empty = refl
 
 -- ---- what a text comes to, is read
 
+-- what a text means is read
 pub means-only : (text meant : List ℕ) → Means text meant → means meant ≡ meaning_of text
 means-only text meant m = sym (
     ap meaning_of m.whole
@@ -73,6 +70,7 @@ means-only text meant m = sym (
     ∙ text_in_front-means (map spelt_character m.spellings) []
     ∙ ap means (append-nil (map spelt_character m.spellings) ∙ sym m.characters))
 
+-- where no spelling begins a text, none is found
 none-found : (c : ℕ) (cs : List ℕ) (o : Option Spelling) → NoSpelling (c ∷ cs) → IsFound (c ∷ cs) o → o ≡ None
 none-found c cs None n f = refl
 none-found c cs (Some p) n f = absurd (n p f.rest f.whole f.is_spelling)
@@ -83,6 +81,7 @@ unfolding meaning_of
 meaning_of-fault after n =
     past-none backslash (letter_u ∷ after) (none-found backslash (letter_u ∷ after) (first_spelling backslash (letter_u ∷ after)) n (first_spelling-found backslash (letter_u ∷ after)))
 
+-- and so is the way in which it breaks
 pub breaks-only : (text : List ℕ) (kind : Malformed) → Breaks text kind → breaks kind ≡ meaning_of text
 breaks-only text kind b = sym (
     ap meaning_of b.whole
@@ -91,16 +90,14 @@ breaks-only text kind b = sym (
     ∙ text_in_front-breaks (map spelt_character b.spellings) (malformed_by b.after)
     ∙ ap breaks (sym b.fault))
 
+-- what a text comes to is what is read
 pub meaning_of-only : (text : List ℕ) (m : Meaning) → IsMeaning text m → m ≡ meaning_of text
 meaning_of-only text (means meant) h = means-only text meant h
 meaning_of-only text (breaks kind) h = breaks-only text kind h
 
--- no text both means something and breaks
-pub means-breaks : (text meant : List ℕ) (kind : Malformed) → Means text meant → Breaks text kind → ⊥
-means-breaks text meant kind m b = let e = means-only text meant m in let f = breaks-only text kind b in absurd (cc)
-
 -- ---- what is read, the text comes to
 
+-- a spelling in front of a text puts its character in front of what the text comes to
 front-meets : (p : Spelling) (x rest : List ℕ) (m : Meaning) → x ≡ spelling_text p ++ rest → IsSpelling p rest → IsMeaning rest m → IsMeaning x (in_front (spelt_character p) m)
 front-meets p x rest (means meant) e h k = record {
   spellings = p ∷ k.spellings;
@@ -117,6 +114,7 @@ front-meets p x rest (breaks kind) e h k = record {
   fault = k.fault;
 }
 
+-- after its first character, a text goes on with the rest of its first spelling
 after-front : (p : Spelling) (c : ℕ) (cs rest : List ℕ) → c ∷ cs ≡ spelling_text p ++ rest → cs ≡ spelling_tail p ++ rest
 after-front (itself d) c cs rest e = cc
 after-front (escaped d) c cs rest e = cc
@@ -124,6 +122,7 @@ after-front (unicode d) c cs rest e = cc
 after-front (surrogates high low) c cs rest e = cc
 after-front last c cs rest e = cc
 
+-- which is one character shorter than the spelling
 length-tail : (p : Spelling) → length (spelling_tail p) ≡ pred (length (spelling_text p))
 length-tail (itself c) = refl
 length-tail (escaped c) = refl
@@ -155,6 +154,7 @@ past-meets (c ∷ cs) (d ∷ skipped) rest e = past-meets cs skipped rest (cc)
 past-meets (c ∷ cs) [] rest e =
     subst (λ v. IsMeaning v (meaning_past (c ∷ cs) 0)) e (next-meets c cs (first_spelling c cs) refl (first_spelling-found c cs) (λ t r. past-meets cs t r))
 
+-- what is read is what the text comes to
 pub meaning_of-meets : (text : List ℕ) → IsMeaning text (meaning_of text)
 unfolding meaning_of
 meaning_of-meets text = past-meets text [] text refl

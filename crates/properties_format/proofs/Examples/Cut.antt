@@ -22,27 +22,35 @@ of_none = refl
 windows_1252-crlf : cut_of windows_1252 (0xe9 ∷ 0x0d ∷ 0x0a ∷ 0x80 ∷ []) ≡ lines (ended (0xe9 ∷ []) crlf ∷ []) (0x80 ∷ [])
 windows_1252-crlf = refl
 
+-- in windows-1252 a CR and then CR LF are two
 windows_1252-cr_crlf : cut_of windows_1252 (0x0d ∷ 0x0d ∷ 0x0a ∷ []) ≡ lines (ended [] cr ∷ ended [] crlf ∷ []) []
 windows_1252-cr_crlf = refl
 
+-- in UTF-8 CR LF is one
 utf_8-crlf : cut_of utf_8 (0x61 ∷ 0x0d ∷ 0x0a ∷ 0x62 ∷ []) ≡ lines (ended (0x61 ∷ []) crlf ∷ []) (0x62 ∷ [])
 utf_8-crlf = refl
 
+-- and a CR and then CR LF are two
 utf_8-cr_crlf : cut_of utf_8 (0x0d ∷ 0x0d ∷ 0x0a ∷ []) ≡ lines (ended [] cr ∷ ended [] crlf ∷ []) []
 utf_8-cr_crlf = refl
 
+-- and so are an LF and then a CR
 utf_8-lf_cr : cut_of utf_8 (0x0a ∷ 0x0d ∷ []) ≡ lines (ended [] lf ∷ ended [] cr ∷ []) []
 utf_8-lf_cr = refl
 
+-- in UTF-16LE CR LF is one, of four bytes
 utf_16le-crlf : cut_of utf_16le (0x61 ∷ 0x00 ∷ 0x0d ∷ 0x00 ∷ 0x0a ∷ 0x00 ∷ 0x62 ∷ 0x00 ∷ []) ≡ lines (ended (0x61 ∷ 0x00 ∷ []) crlf ∷ []) (0x62 ∷ 0x00 ∷ [])
 utf_16le-crlf = refl
 
+-- and a CR and then CR LF are two
 utf_16le-cr_crlf : cut_of utf_16le (0x0d ∷ 0x00 ∷ 0x0d ∷ 0x00 ∷ 0x0a ∷ 0x00 ∷ []) ≡ lines (ended [] cr ∷ ended [] crlf ∷ []) []
 utf_16le-cr_crlf = refl
 
+-- in UTF-16BE CR LF is one
 utf_16be-crlf : cut_of utf_16be (0x00 ∷ 0x61 ∷ 0x00 ∷ 0x0d ∷ 0x00 ∷ 0x0a ∷ 0x00 ∷ 0x62 ∷ []) ≡ lines (ended (0x00 ∷ 0x61 ∷ []) crlf ∷ []) (0x00 ∷ 0x62 ∷ [])
 utf_16be-crlf = refl
 
+-- and a CR and then CR LF are two
 utf_16be-cr_crlf : cut_of utf_16be (0x00 ∷ 0x0d ∷ 0x00 ∷ 0x0d ∷ 0x00 ∷ 0x0a ∷ []) ≡ lines (ended [] cr ∷ ended [] crlf ∷ []) []
 utf_16be-cr_crlf = refl
 
@@ -50,6 +58,7 @@ utf_16be-cr_crlf = refl
 utf_16le-odd : cut_of utf_16le (0x0a ∷ 0x00 ∷ 0x0a ∷ []) ≡ lines (ended [] lf ∷ []) (0x0a ∷ [])
 utf_16le-odd = refl
 
+-- and so in UTF-16BE, where the odd byte is 00
 utf_16be-odd : cut_of utf_16be (0x00 ∷ 0x0d ∷ 0x00 ∷ []) ≡ lines (ended [] cr ∷ []) (0x00 ∷ [])
 utf_16be-odd = refl
 
@@ -57,6 +66,7 @@ utf_16be-odd = refl
 utf_16be-crossed : cut_of utf_16be (0x61 ∷ 0x00 ∷ 0x0a ∷ 0x00 ∷ []) ≡ lines [] (0x61 ∷ 0x00 ∷ 0x0a ∷ 0x00 ∷ [])
 utf_16be-crossed = refl
 
+-- in UTF-16LE the units 0A00 and 0D00 end none
 utf_16le-crossed : cut_of utf_16le (0x00 ∷ 0x0a ∷ 0x00 ∷ 0x0d ∷ []) ≡ lines [] (0x00 ∷ 0x0a ∷ 0x00 ∷ 0x0d ∷ [])
 utf_16le-crossed = refl
 
@@ -103,6 +113,7 @@ utf_8-commutes : lines_of (decoded_of utf_8 (0x61 ∷ 0x3d ∷ 0xf0 ∷ 0x9f ∷
 unfolding pieces_of
 utf_8-commutes = refl
 
+-- and so in UTF-16LE, which the byte order mark says
 utf_16le-commutes : lines_of (decoded_of utf_8 (0xff ∷ 0xfe ∷ 0x00 ∷ 0x0d ∷ 0x00 ∷ 0x0a ∷ 0x0d ∷ 0x00 ∷ 0x0a ∷ 0x00 ∷ 0x62 ∷ 0x00 ∷ []))
     ≡ lines (ended (0x0d00 ∷ 0x0a00 ∷ []) crlf ∷ []) (0x62 ∷ [])
 unfolding pieces_of

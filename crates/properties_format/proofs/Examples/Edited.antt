@@ -19,10 +19,12 @@ append : set_key_result windows_1252 (codes "a=1") (codes "b") (codes "2") ≡ e
 unfolding items_of pieces_of split_of meaning_of held_groups_of
 append = refl
 
+-- a CR at the end of the source is one, so none comes before the pair
 append_after_a_carriage_return : set_key_result windows_1252 (codes "a=1\r") (codes "b") (codes "2") ≡ edited (codes "a=1\rb=2\n")
 unfolding items_of pieces_of split_of meaning_of held_groups_of
 append_after_a_carriage_return = refl
 
+-- a last line of blanks is no empty one, and takes a line ending
 append_after_blanks : set_key_result windows_1252 (codes "a=1\n ") (codes "b") (codes "2") ≡ edited (codes "a=1\n \nb=2\n")
 unfolding items_of pieces_of split_of meaning_of held_groups_of
 append_after_blanks = refl
@@ -42,6 +44,7 @@ append_after_an_open_line : set_key_result windows_1252 (codes "a\\") (codes "b"
 unfolding items_of pieces_of split_of meaning_of held_groups_of
 append_after_an_open_line = refl
 
+-- and one that is a backslash alone
 append_after_a_backslash : set_key_result windows_1252 (codes "\\") (codes "b") (codes "2") ≡ edited (codes "\\\n\nb=2\n")
 unfolding items_of pieces_of split_of meaning_of held_groups_of
 append_after_a_backslash = refl
@@ -56,14 +59,17 @@ append_after_a_joined_comment : set_key_result windows_1252 (codes "\\\n#b\\") (
 unfolding items_of pieces_of split_of meaning_of held_groups_of
 append_after_a_joined_comment = refl
 
+-- so the comment and the pair are read from it
 append_after_a_joined_comment_read : items_of windows_1252 (codes "\\\n#b\\\n\nc=d\n") end ≡ item 1 (comment (codes "b")) ∷ item 4 (pair (codes "c") (codes "d")) ∷ []
 unfolding items_of pieces_of split_of meaning_of held_groups_of
 append_after_a_joined_comment_read = refl
 
+-- a pair with an empty key begins with its separator
 append_an_empty_key : set_key_result windows_1252 (codes "#c") [] (codes "v") ≡ edited (codes "#c\n=v\n")
 unfolding items_of pieces_of split_of meaning_of held_groups_of
 append_an_empty_key = refl
 
+-- in an empty source nothing comes before the pair
 append_to_nothing : set_key_result windows_1252 [] (codes "b") (codes "c") ≡ edited (codes "b=c\n")
 unfolding items_of pieces_of split_of meaning_of held_groups_of
 append_to_nothing = refl
@@ -78,10 +84,12 @@ replace : set_key_result windows_1252 (codes "a=1\na=2") (codes "a") (codes "3")
 unfolding items_of pieces_of split_of meaning_of held_groups_of
 replace = refl
 
+-- a group of two lines gives way whole, with the line ending between them
 replace_a_join : set_key_result windows_1252 (codes "a\\\n") (codes "a") (codes "3") ≡ edited (codes "a=3")
 unfolding items_of pieces_of split_of meaning_of held_groups_of
 replace_a_join = refl
 
+-- where another pair stands after it, the CR between them stays
 replace_the_first : set_key_result windows_1252 (codes "a=1\rb=2") (codes "a") (codes "3") ≡ edited (codes "a=3\rb=2")
 unfolding items_of pieces_of split_of meaning_of held_groups_of
 replace_the_first = refl
@@ -91,6 +99,7 @@ replace_a_longer_join : set_key_result windows_1252 (codes "a\\\nb\r\nc") (codes
 unfolding items_of pieces_of split_of meaning_of held_groups_of
 replace_a_longer_join = refl
 
+-- after the byte order mark of UTF-8 the new value is in UTF-8
 replace_after_a_mark : set_key_result windows_1252 (0xef ∷ 0xbb ∷ 0xbf ∷ 0x61 ∷ 0x3d ∷ 0x31 ∷ 0x0d ∷ 0x0a ∷ []) (codes "a") (codes "é") ≡ edited (0xef ∷ 0xbb ∷ 0xbf ∷ 0x61 ∷ 0x3d ∷ 0xc3 ∷ 0xa9 ∷ 0x0d ∷ 0x0a ∷ [])
 unfolding items_of pieces_of split_of meaning_of held_groups_of encode_utf8
 replace_after_a_mark = refl
@@ -100,6 +109,7 @@ append_a_mark_like_key : set_key_result windows_1252 [] (codes "þÿ") (codes "x
 unfolding items_of pieces_of split_of meaning_of held_groups_of
 append_a_mark_like_key = refl
 
+-- where such a key is replaced at the front, it is escaped again
 replace_a_mark_like_key : set_key_result windows_1252 (codes "\\u00feÿ=1\n") (codes "þÿ") (codes "2") ≡ edited (codes "\\u00feÿ=2\n")
 unfolding items_of pieces_of split_of meaning_of held_groups_of
 replace_a_mark_like_key = refl
@@ -124,6 +134,7 @@ remove_nothing : remove_key_result windows_1252 (codes "a=1\n#c") (codes "z") �
 unfolding items_of pieces_of split_of meaning_of held_groups_of
 remove_nothing = refl
 
+-- two pairs go, the second with an escape in its key, and the join between them stays
 remove_two : remove_key_result windows_1252 (codes "a=1\rx=y\\\nz\n\\u0061=2") (codes "a") ≡ edited (codes "x=y\\\nz\n")
 unfolding items_of pieces_of split_of meaning_of held_groups_of
 remove_two = refl
@@ -133,10 +144,12 @@ remove_between : remove_key_result windows_1252 (codes "x=1\ra=2\n\ny=3") (codes
 unfolding items_of pieces_of split_of meaning_of held_groups_of
 remove_between = refl
 
+-- a group of two lines goes whole
 remove_a_join : remove_key_result windows_1252 (codes "a\\\nb\r\nc") (codes "ab") ≡ edited (codes "c")
 unfolding items_of pieces_of split_of meaning_of held_groups_of
 remove_a_join = refl
 
+-- where the source is that pair alone, nothing is left
 remove_all : remove_key_result windows_1252 (codes "a") (codes "a") ≡ edited []
 unfolding items_of pieces_of split_of meaning_of held_groups_of
 remove_all = refl
@@ -151,6 +164,7 @@ remove_before_a_second_mark : remove_key_result windows_1252 (codes "ï»¿a\nï
 unfolding items_of pieces_of split_of meaning_of held_groups_of encode_utf8
 remove_before_a_second_mark = refl
 
+-- nor where the rest begins like a byte order mark of UTF-16
 remove_before_another_mark : remove_key_result windows_1252 (codes "ï»¿a\nþÿ") (codes "a") ≡ edited (codes "ï»¿þÿ")
 unfolding items_of pieces_of split_of meaning_of held_groups_of encode_utf8
 remove_before_another_mark = refl
@@ -170,6 +184,7 @@ no_utf_16 : remove_key_result utf_16be [] (codes "a") ≡ unsupported
 unfolding items_of pieces_of split_of meaning_of held_groups_of
 no_utf_16 = refl
 
+-- nor what its byte order mark says is UTF-16
 no_utf_16_by_its_mark : set_key_result windows_1252 (0xff ∷ 0xfe ∷ 0x61 ∷ 0x00 ∷ []) (codes "a") (codes "b") ≡ unsupported
 unfolding items_of pieces_of split_of meaning_of held_groups_of
 no_utf_16_by_its_mark = refl
@@ -189,18 +204,22 @@ edits_in_turn : edit_all_result windows_1252 (codes "a=1\nb=2") (put (codes "a")
 unfolding items_of pieces_of split_of meaning_of held_groups_of
 edits_in_turn = refl
 
+-- a key that is put and then removed leaves nothing
 put_and_removed : edit_all_result windows_1252 [] (put (codes "a") (codes "1") ∷ remove (codes "a") ∷ []) ≡ edited []
 unfolding items_of pieces_of split_of meaning_of held_groups_of
 put_and_removed = refl
 
+-- no edits leave the source as it is
 no_edits : edit_all_result windows_1252 (codes "a=1") [] ≡ edited (codes "a=1")
 unfolding items_of pieces_of split_of meaning_of held_groups_of
 no_edits = refl
 
+-- UTF-16 is refused even without edits
 no_edits_of_utf_16 : edit_all_result utf_16le [] [] ≡ unsupported
 unfolding items_of pieces_of split_of meaning_of held_groups_of
 no_edits_of_utf_16 = refl
 
+-- and a malformed escape is named even without edits
 no_edits_of_a_fault : edit_all_result windows_1252 (codes "\\u1") [] ≡ unreadable not_enough_digits 1
 unfolding items_of pieces_of split_of meaning_of held_groups_of
 no_edits_of_a_fault = refl

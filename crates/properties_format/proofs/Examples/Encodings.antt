@@ -14,6 +14,7 @@ four-bytes : decoded_of utf_8 (0xf0 ∷ 0x9f ∷ 0x90 ∷ 0x9e ∷ []) ≡ 0x1_f
 unfolding pieces_of
 four-bytes = refl
 
+-- its first three bytes are one U+FFFD
 cut-sequence : decoded_of utf_8 (0xf0 ∷ 0x9f ∷ 0x90 ∷ []) ≡ 0xfffd ∷ []
 unfolding pieces_of
 cut-sequence = refl
@@ -23,14 +24,17 @@ surrogate-bytes : decoded_of utf_8 (0xed ∷ 0xa0 ∷ 0x80 ∷ []) ≡ 0xfffd �
 unfolding pieces_of
 surrogate-bytes = refl
 
+-- a second byte that doesn't go on with the first one is another U+FFFD, and what follows is read
 broken-second : decoded_of utf_8 (0xf0 ∷ 0x80 ∷ 0x41 ∷ []) ≡ 0xfffd ∷ 0xfffd ∷ 0x41 ∷ []
 unfolding pieces_of
 broken-second = refl
 
+-- each byte of an overlong sequence is U+FFFD
 overlong : decoded_of utf_8 (0xc0 ∷ 0xaf ∷ []) ≡ 0xfffd ∷ 0xfffd ∷ []
 unfolding pieces_of
 overlong = refl
 
+-- the byte that breaks a sequence off begins the next one
 read-afresh : decoded_of utf_8 (0xe3 ∷ 0x81 ∷ 0xe3 ∷ 0x81 ∷ 0x82 ∷ []) ≡ 0xfffd ∷ 0x3042 ∷ []
 unfolding pieces_of
 read-afresh = refl
@@ -40,22 +44,27 @@ pair-of-units : decoded_of utf_16be (0xd8 ∷ 0x3d ∷ 0xdc ∷ 0x1e ∷ []) ≡
 unfolding pieces_of
 pair-of-units = refl
 
+-- a low surrogate with no high one before it is U+FFFD
 low-unit-alone : decoded_of utf_16be (0xdc ∷ 0x1e ∷ 0x00 ∷ 0x41 ∷ []) ≡ 0xfffd ∷ 0x41 ∷ []
 unfolding pieces_of
 low-unit-alone = refl
 
+-- a high surrogate before another is U+FFFD, and the other makes a pair
 high-unit-alone : decoded_of utf_16be (0xd8 ∷ 0x3d ∷ 0xd8 ∷ 0x3d ∷ 0xdc ∷ 0x1e ∷ []) ≡ 0xfffd ∷ 0x1_f41e ∷ []
 unfolding pieces_of
 high-unit-alone = refl
 
+-- an odd byte at the end is U+FFFD
 odd-byte : decoded_of utf_16le (0x41 ∷ []) ≡ 0xfffd ∷ []
 unfolding pieces_of
 odd-byte = refl
 
+-- a high surrogate and an odd byte at the end are one U+FFFD
 high-unit-and-byte : decoded_of utf_16le (0x3d ∷ 0xd8 ∷ 0x61 ∷ []) ≡ 0xfffd ∷ []
 unfolding pieces_of
 high-unit-and-byte = refl
 
+-- the bytes 0A 0A are the one character U+0A0A
 aligned-unit : decoded_of utf_16le (0x61 ∷ 0x00 ∷ 0x3d ∷ 0x00 ∷ 0x0a ∷ 0x0a ∷ []) ≡ 0x61 ∷ 0x3d ∷ 0x0a0a ∷ []
 unfolding pieces_of
 aligned-unit = refl
@@ -65,22 +74,27 @@ second-byte_order_mark : decoded_of utf_8 (0xef ∷ 0xbb ∷ 0xbf ∷ 0xef ∷ 0
 unfolding pieces_of
 second-byte_order_mark = refl
 
+-- that of UTF-8 overrules UTF-16LE
 byte_order_mark-of-utf_8 : decoded_of utf_16le (0xef ∷ 0xbb ∷ 0xbf ∷ 0x61 ∷ []) ≡ 0x61 ∷ []
 unfolding pieces_of
 byte_order_mark-of-utf_8 = refl
 
+-- that of UTF-16LE overrules UTF-8
 byte_order_mark-of-utf_16le : decoded_of utf_8 (0xff ∷ 0xfe ∷ 0x61 ∷ 0x00 ∷ []) ≡ 0x61 ∷ []
 unfolding pieces_of
 byte_order_mark-of-utf_16le = refl
 
+-- that of UTF-16BE overrules windows-1252
 byte_order_mark-of-utf_16be : decoded_of windows_1252 (0xfe ∷ 0xff ∷ 0x00 ∷ 0x61 ∷ []) ≡ 0x61 ∷ []
 unfolding pieces_of
 byte_order_mark-of-utf_16be = refl
 
+-- FE alone is none, and in UTF-8 it is U+FFFD
 lone-byte_order_mark-byte : decoded_of utf_8 (0xfe ∷ []) ≡ 0xfffd ∷ []
 unfolding pieces_of
 lone-byte_order_mark-byte = refl
 
+-- EF and BB alone are none, and in windows-1252 two characters
 cut-byte_order_mark : decoded_of windows_1252 (0xef ∷ 0xbb ∷ []) ≡ 0xef ∷ 0xbb ∷ []
 unfolding pieces_of
 cut-byte_order_mark = refl
@@ -89,12 +103,15 @@ cut-byte_order_mark = refl
 euro : encoded windows_1252 0x20ac ≡ Some (0x80 ∷ [])
 euro = refl
 
+-- windows-1252 has no byte for U+0080
 no-byte : encoded windows_1252 0x80 ≡ None
 no-byte = refl
 
+-- nor for a character past U+FFFF
 no-byte-either : encoded windows_1252 0x1_f41e ≡ None
 no-byte-either = refl
 
+-- asked for UTF-16LE, a character is encoded in UTF-8
 e-acute : encoded utf_16le 0xe9 ≡ Some (0xc3 ∷ 0xa9 ∷ [])
 unfolding encode_utf8
 e-acute = refl

@@ -36,6 +36,7 @@ rows =
     ∷ (backslash ∷ 0x1_f41e ∷ [], means (0x1_f41e ∷ []))
     ∷ []
 
+-- each text comes to what stands beside it
 each : map (λ r. meaning_of r.0) rows ≡ map (λ r. r.1) rows
 unfolding meaning_of
 each = refl
@@ -77,6 +78,7 @@ lines =
     ∷ (codes "!t\t", means (codes "t") ∷ [])
     ∷ []
 
+-- the texts of each line come to what stands beside it
 each_line : map (λ r. meanings (split_of r.0)) lines ≡ map (λ r. r.1) lines
 unfolding split_of meaning_of
 each_line = refl

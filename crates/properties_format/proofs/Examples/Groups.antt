@@ -37,124 +37,163 @@ bee = 0x1f41e ∷ []
 
 -- ---- how many backslashes a text ends in
 
+-- an empty text ends in none
 backslashes_1 : ending_backslashes ([]) ≡ 0
 backslashes_1 = refl
 
+-- nor does another character
 backslashes_2 : ending_backslashes (codes "x") ≡ 0
 backslashes_2 = refl
 
+-- nor do two of them
 backslashes_3 : ending_backslashes (codes "xx") ≡ 0
 backslashes_3 = refl
 
+-- a backslash before another character doesn't count
 backslashes_4 : ending_backslashes (codes "\\x") ≡ 0
 backslashes_4 = refl
 
+-- three other characters end in none
 backslashes_5 : ending_backslashes (codes "xxx") ≡ 0
 backslashes_5 = refl
 
+-- a backslash before two others doesn't count
 backslashes_6 : ending_backslashes (codes "\\xx") ≡ 0
 backslashes_6 = refl
 
+-- nor does one between two others
 backslashes_7 : ending_backslashes (codes "x\\x") ≡ 0
 backslashes_7 = refl
 
+-- nor do two before another
 backslashes_8 : ending_backslashes (codes "\\\\x") ≡ 0
 backslashes_8 = refl
 
+-- a character past U+FFFF ends in none
 backslashes_9 : ending_backslashes (codes "x" ++ bee) ≡ 0
 backslashes_9 = refl
 
+-- nor does a backslash before one count
 backslashes_10 : ending_backslashes (codes "\\" ++ bee) ≡ 0
 backslashes_10 = refl
 
+-- a character past U+FFFF and another end in none
 backslashes_11 : ending_backslashes (bee ++ codes "x") ≡ 0
 backslashes_11 = refl
 
+-- a backslash alone is one
 backslashes_12 : ending_backslashes (codes "\\") ≡ 1
 backslashes_12 = refl
 
+-- and so is one after another character
 backslashes_13 : ending_backslashes (codes "x\\") ≡ 1
 backslashes_13 = refl
 
+-- and after two others
 backslashes_14 : ending_backslashes (codes "xx\\") ≡ 1
 backslashes_14 = refl
 
+-- of two with another between them the last counts
 backslashes_15 : ending_backslashes (codes "\\x\\") ≡ 1
 backslashes_15 = refl
 
+-- one after a character past U+FFFF counts
 backslashes_16 : ending_backslashes (bee ++ codes "\\") ≡ 1
 backslashes_16 = refl
 
+-- two alone are two
 backslashes_17 : ending_backslashes (codes "\\\\") ≡ 2
 backslashes_17 = refl
 
+-- and so are two after another character
 backslashes_18 : ending_backslashes (codes "x\\\\") ≡ 2
 backslashes_18 = refl
 
+-- three alone are three
 backslashes_19 : ending_backslashes (codes "\\\\\\") ≡ 3
 backslashes_19 = refl
 
 -- ---- joins of natural lines
 
+-- no lines make none
 join_none : join ([]) ≡ []
 join_none = refl
 
+-- a line that is not open stands as it is
 join_one : join ((codes "foo") ∷ []) ≡ line 1 (codes "foo") ∷ []
 join_one = refl
 
+-- and so do two of them
 join_two : join ((codes "foo") ∷ (codes "bar") ∷ []) ≡ line 1 (codes "foo") ∷ line 2 (codes "bar") ∷ []
 join_two = refl
 
+-- an open line and the next one make one line
 join_open : join ((codes "foo\\") ∷ (codes "bar") ∷ []) ≡ line 1 (codes "foobar") ∷ []
 join_open = refl
 
+-- and the next one loses its leading blanks
 join_open_blank : join ((codes "foo\\") ∷ (codes " bar") ∷ []) ≡ line 1 (codes "foobar") ∷ []
 join_open_blank = refl
 
+-- a line that ends in two backslashes is not open
 join_even : join ((codes "foo\\\\") ∷ (codes "bar") ∷ []) ≡ line 1 (codes "foo\\\\") ∷ line 2 (codes "bar") ∷ []
 join_even = refl
 
+-- one that ends in three is, and two of them stay
 join_three : join ((codes "foo\\\\\\") ∷ (codes "bar") ∷ []) ≡ line 1 (codes "foo\\\\bar") ∷ []
 join_three = refl
 
+-- a comment line is joined to nothing, and the line after it keeps its blanks
 join_comment : join ((codes "#foo\\") ∷ (codes " bar") ∷ []) ≡ line 1 (codes "#foo\\") ∷ line 2 (codes " bar") ∷ []
 join_comment = refl
 
-join_mark_later : join ((codes "foo\\") ∷ (codes "# bar") ∷ []) ≡ line 1 (codes "foo# bar") ∷ []
-join_mark_later = refl
+-- a comment line after an open line is joined to it
+join_sign_later : join ((codes "foo\\") ∷ (codes "# bar") ∷ []) ≡ line 1 (codes "foo# bar") ∷ []
+join_sign_later = refl
 
+-- an open last line loses its backslash
 join_open_last : join ((codes "foo\\") ∷ []) ≡ line 1 (codes "foo") ∷ []
 join_open_last = refl
 
+-- lines with characters past ASCII are joined too
 join_past_ascii : join ((bee ++ codes "\\") ∷ (bee) ∷ []) ≡ line 1 (bee ++ bee) ∷ []
 join_past_ascii = refl
 
+-- and lose their leading blanks
 join_past_ascii_blank : join ((bee ++ codes "\\") ∷ (codes " " ++ bee) ∷ []) ≡ line 1 (bee ++ bee) ∷ []
 join_past_ascii_blank = refl
 
 -- ---- logical lines of texts
 
+-- joined lines, comment lines and a blank one, each with the number of its first line
 joins_and_comments : read (codes "a=b" ++ eol ++ codes "c=d\\" ++ eol ++ codes "e=f" ++ eol ++ codes "g=h" ++ return ++ codes "#comment1" ++ return ++ eol ++ codes "#comment2\\" ++ eol ++ codes "i=j\\" ++ eol ++ codes "#comment3" ++ eol ++ codes " " ++ eol ++ codes "#comment4") end ≡ line 1 (codes "a=b") ∷ line 2 (codes "c=de=f") ∷ line 4 (codes "g=h") ∷ line 5 (codes "#comment1") ∷ line 6 (codes "#comment2\\") ∷ line 7 (codes "i=j#comment3") ∷ line 9 (codes " ") ∷ line 10 (codes "#comment4") ∷ []
 joins_and_comments = refl
 
+-- of three backslashes at the end of a line two stay
 odd_backslashes : read (codes "x=\\\\\\" ++ eol ++ codes "ty") end ≡ line 1 (codes "x=\\\\ty") ∷ []
 odd_backslashes = refl
 
+-- an open line at the end loses its backslash
 open_at_the_end : read (codes "a\\") end ≡ line 1 (codes "a") ∷ []
 open_at_the_end = refl
 
+-- a backslash alone is an empty logical line
 open_at_the_end_alone : read (codes "\\") end ≡ line 1 ([]) ∷ []
 open_at_the_end_alone = refl
 
-open_before_a_mark : read (codes "\\" ++ eol ++ codes "#b") end ≡ line 1 (codes "#b") ∷ []
-open_before_a_mark = refl
+-- joined to a backslash alone, a comment line stays what it is
+open_before_a_sign : read (codes "\\" ++ eol ++ codes "#b") end ≡ line 1 (codes "#b") ∷ []
+open_before_a_sign = refl
 
+-- an open line and an empty one are one, and the next is line 3
 open_before_an_empty_line : read (codes "a\\" ++ eol ++ eol ++ codes "b") end ≡ line 1 (codes "a") ∷ line 3 (codes "b") ∷ []
 open_before_an_empty_line = refl
 
+-- the leading blanks of a joined line are left out, and its trailing ones stay
 blanks_of_the_next_line : read (codes "a = b\\" ++ eol ++ codes "  c, d ") end ≡ line 1 (codes "a = bc, d ") ∷ []
 blanks_of_the_next_line = refl
 
+-- an empty text is one empty line
 of_nothing : read ([]) end ≡ line 1 ([]) ∷ []
 of_nothing = refl
 
@@ -164,55 +203,72 @@ no_blank_past_ascii = refl
 
 -- ---- what a fault or an unfinished text leaves out
 
+-- at a fault a line that nothing ends is left out
 last_line_fault : read (codes "a=1" ++ return ++ codes "b") fault ≡ line 1 (codes "a=1") ∷ []
 last_line_fault = refl
 
+-- and where more may come
 last_line_more : read (codes "a=1" ++ return ++ codes "b") more ≡ line 1 (codes "a=1") ∷ []
 last_line_more = refl
 
+-- and with it the open lines before it
 join_of_it_fault : read (codes "a\\" ++ eol ++ codes "b\\" ++ eol ++ codes "c") fault ≡ []
 join_of_it_fault = refl
 
+-- where more may come, too
 join_of_it_more : read (codes "a\\" ++ eol ++ codes "b\\" ++ eol ++ codes "c") more ≡ []
 join_of_it_more = refl
 
+-- a join that is closed stays, and so does a comment line that ends in a backslash
 join_and_comment_fault : read (codes "a\\" ++ eol ++ codes "b" ++ eol ++ codes "#c\\" ++ eol ++ codes "x") fault ≡ line 1 (codes "ab") ∷ line 3 (codes "#c\\") ∷ []
 join_and_comment_fault = refl
 
+-- where more may come, too
 join_and_comment_more : read (codes "a\\" ++ eol ++ codes "b" ++ eol ++ codes "#c\\" ++ eol ++ codes "x") more ≡ line 1 (codes "ab") ∷ line 3 (codes "#c\\") ∷ []
 join_and_comment_more = refl
 
-open_mark_later_fault : read (codes "a" ++ eol ++ codes "b\\" ++ eol ++ codes "#c\\" ++ eol) fault ≡ line 1 (codes "a") ∷ []
-open_mark_later_fault = refl
+-- but a comment line that is joined to an open line leaves it open, and both are left out
+open_sign_later_fault : read (codes "a" ++ eol ++ codes "b\\" ++ eol ++ codes "#c\\" ++ eol) fault ≡ line 1 (codes "a") ∷ []
+open_sign_later_fault = refl
 
-open_mark_later_more : read (codes "a" ++ eol ++ codes "b\\" ++ eol ++ codes "#c\\" ++ eol) more ≡ line 1 (codes "a") ∷ []
-open_mark_later_more = refl
+-- where more may come, too
+open_sign_later_more : read (codes "a" ++ eol ++ codes "b\\" ++ eol ++ codes "#c\\" ++ eol) more ≡ line 1 (codes "a") ∷ []
+open_sign_later_more = refl
 
 -- ---- the line that a fault names
 
+-- before any byte, line 1
 fault_at_once : fault_line ([]) ≡ 1
 fault_at_once = refl
 
+-- after an LF, line 2
 fault_after_lf : fault_line (eol) ≡ 2
 fault_after_lf = refl
 
+-- after a CR, line 2
 fault_after_cr : fault_line (return) ≡ 2
 fault_after_cr = refl
 
+-- after a CR and an LF, line 2 as well
 fault_after_crlf : fault_line (return ++ eol) ≡ 2
 fault_after_crlf = refl
 
+-- inside the first line, line 1
 fault_in_a_line : fault_line (codes "\\uxxxx") ≡ 1
 fault_in_a_line = refl
 
+-- inside the second one, line 2
 fault_in_the_second_line : fault_line (eol ++ codes "\\uxxxx") ≡ 2
 fault_in_the_second_line = refl
 
+-- after a join of two lines and inside the next one, line 3
 fault_in_the_third_line : fault_line (codes "a\\" ++ eol ++ codes "b" ++ eol ++ codes "\\uxxxx") ≡ 3
 fault_in_the_third_line = refl
 
+-- after a line that a CR ends, line 2
 fault_after_a_line : fault_line (codes "a=1" ++ return) ≡ 2
 fault_after_a_line = refl
 
+-- after an open line, the next one, line 2
 fault_inside_a_join : fault_line (codes "a\\" ++ eol) ≡ 2
 fault_inside_a_join = refl

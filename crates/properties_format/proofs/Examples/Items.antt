@@ -21,6 +21,7 @@ joins : items_of windows_1252 (codes "a=b\nc=d\\\ne=f\ng=h\r#comment1\r\n#commen
 unfolding items_of pieces_of split_of meaning_of
 joins = refl
 
+-- a joined line loses the blanks at its front alone
 blanks_after_a_join : items_of windows_1252 (codes "a = b\\\n  c, d ") end ≡ item 1 (pair (codes "a") (codes "bc, d ")) ∷ []
 unfolding items_of pieces_of split_of meaning_of
 blanks_after_a_join = refl
@@ -30,6 +31,7 @@ three_backslashes : items_of windows_1252 (codes "x=\\\\\\\nty") end ≡ item 1 
 unfolding items_of pieces_of split_of meaning_of
 three_backslashes = refl
 
+-- after two the next line is a pair by itself
 two_backslashes : items_of windows_1252 (codes "x=\\\\\nty") end ≡ item 1 (pair (codes "x") (codes "\\")) ∷ item 2 (pair (codes "ty") []) ∷ []
 unfolding items_of pieces_of split_of meaning_of
 two_backslashes = refl
@@ -39,6 +41,7 @@ open_at_the_end : items_of windows_1252 (codes "a\\") end ≡ item 1 (pair (code
 unfolding items_of pieces_of split_of meaning_of
 open_at_the_end = refl
 
+-- and one that is a backslash alone gives nothing
 only_a_backslash : items_of windows_1252 (codes "\\") end ≡ []
 unfolding items_of pieces_of split_of meaning_of
 only_a_backslash = refl
@@ -48,6 +51,7 @@ comment_from_a_join : items_of windows_1252 (codes "\\\n#b") end ≡ item 1 (com
 unfolding items_of pieces_of split_of meaning_of
 comment_from_a_join = refl
 
+-- an empty line that is joined adds nothing, and is counted
 join_with_an_empty_line : items_of windows_1252 (codes "a\\\n\nb") end ≡ item 1 (pair (codes "a") []) ∷ item 3 (pair (codes "b") []) ∷ []
 unfolding items_of pieces_of split_of meaning_of
 join_with_an_empty_line = refl
@@ -57,6 +61,7 @@ no_break_space : items_of windows_1252 (codes "a=\\\n\u{a0}b") end ≡ item 1 (p
 unfolding items_of pieces_of split_of meaning_of
 no_break_space = refl
 
+-- a backslash before the blanks at the end of a comment stands last, and is U+0000
 comment_with_a_blank_behind : items_of windows_1252 (codes "#a\\ ") end ≡ item 1 (comment (codes "a\0")) ∷ []
 unfolding items_of pieces_of split_of meaning_of
 comment_with_a_blank_behind = refl
@@ -66,10 +71,12 @@ cut_sequence : items_of utf_8 (0x6b ∷ 0x3d ∷ 0xe3 ∷ 0x81 ∷ 0x0a ∷ 0x78
 unfolding items_of pieces_of split_of meaning_of
 cut_sequence = refl
 
+-- a CR and an LF are one line ending
 carriage_return_and_line_feed : items_of windows_1252 (codes "a=1\r\nb=2") end ≡ item 1 (pair (codes "a") (codes "1")) ∷ item 2 (pair (codes "b") (codes "2")) ∷ []
 unfolding items_of pieces_of split_of meaning_of
 carriage_return_and_line_feed = refl
 
+-- characters past ASCII in UTF-8
 past_ascii : items_of utf_8 (encode_utf8_all (codes "a=日本語\nb=Français")) end ≡ item 1 (pair (codes "a") (codes "日本語")) ∷ item 2 (pair (codes "b") (codes "Français")) ∷ []
 unfolding items_of pieces_of split_of meaning_of encode_utf8
 past_ascii = refl
@@ -79,22 +86,27 @@ unpaired_units : items_of windows_1252 (0xff ∷ 0xfe ∷ 0x61 ∷ 0x00 ∷ 0x3d
 unfolding items_of pieces_of split_of meaning_of
 unpaired_units = refl
 
+-- a high surrogate and an odd byte at the end are one U+FFFD
 unit_and_odd_byte : items_of windows_1252 (0xff ∷ 0xfe ∷ 0x3d ∷ 0xd8 ∷ 0x61 ∷ []) end ≡ item 1 (pair (codes "�") []) ∷ []
 unfolding items_of pieces_of split_of meaning_of
 unit_and_odd_byte = refl
 
+-- the bytes 0A 0A are U+0A0A and no line ending
 aligned_units : items_of windows_1252 (0xff ∷ 0xfe ∷ 0x61 ∷ 0x00 ∷ 0x3d ∷ 0x00 ∷ 0x0a ∷ 0x0a ∷ []) end ≡ item 1 (pair (codes "a") (codes "ਊ")) ∷ []
 unfolding items_of pieces_of split_of meaning_of
 aligned_units = refl
 
+-- UTF-16BE, by its byte order mark
 high_byte_first : items_of windows_1252 (0xfe ∷ 0xff ∷ 0x00 ∷ 0x61 ∷ 0x00 ∷ 0x3d ∷ 0x00 ∷ 0x62 ∷ []) end ≡ item 1 (pair (codes "a") (codes "b")) ∷ []
 unfolding items_of pieces_of split_of meaning_of
 high_byte_first = refl
 
+-- a byte order mark of the encoding that is asked for is dropped too
 low_byte_first : items_of utf_16le (0xff ∷ 0xfe ∷ 0x61 ∷ 0x00 ∷ 0x3d ∷ 0x00 ∷ 0xe9 ∷ 0x00 ∷ []) end ≡ item 1 (pair (codes "a") (codes "é")) ∷ []
 unfolding items_of pieces_of split_of meaning_of
 low_byte_first = refl
 
+-- the first two bytes of that of UTF-8 are characters of windows-1252
 half_a_mark : items_of windows_1252 (0xef ∷ 0xbb ∷ []) end ≡ item 1 (pair (codes "ï»") []) ∷ []
 unfolding items_of pieces_of split_of meaning_of
 half_a_mark = refl
@@ -104,30 +116,37 @@ surrogate_escapes : items_of windows_1252 (codes "\\ud83d\\udc1e=\\u0001") end �
 unfolding items_of pieces_of split_of meaning_of
 surrogate_escapes = refl
 
+-- a high surrogate by itself is malformed
 lone_surrogate : items_of windows_1252 (codes "\\ud83d=x") end ≡ malformed invalid_character 1 ∷ []
 unfolding items_of pieces_of split_of meaning_of
 lone_surrogate = refl
 
+-- a plus sign is no digit
 signed_digits : items_of windows_1252 (codes "\\u+041=x") end ≡ malformed not_hex 1 ∷ []
 unfolding items_of pieces_of split_of meaning_of
 signed_digits = refl
 
+-- two digits are not enough
 two_digits : items_of windows_1252 (codes "\\u12=x") end ≡ malformed not_enough_digits 1 ∷ []
 unfolding items_of pieces_of split_of meaning_of
 two_digits = refl
 
+-- malformed escapes in a joined line have the number of the first
 first_number_of_a_join : items_of windows_1252 (codes "a=\\\nb=\\u12") end ≡ malformed not_enough_digits 1 ∷ []
 unfolding items_of pieces_of split_of meaning_of
 first_number_of_a_join = refl
 
+-- where both are malformed, the key's come first
 key_before_value : items_of windows_1252 (codes "\\u1=\\uxxxx") end ≡ malformed not_enough_digits 1 ∷ []
 unfolding items_of pieces_of split_of meaning_of
 key_before_value = refl
 
+-- the items before malformed escapes are given
 items_before_a_fault : items_of windows_1252 (codes "#a\n\\uzzzz") end ≡ item 1 (comment (codes "a")) ∷ malformed not_hex 2 ∷ []
 unfolding items_of pieces_of split_of meaning_of
 items_before_a_fault = refl
 
+-- an escaped comment sign is a character of a value or of a key
 escaped_signs : items_of windows_1252 (codes "a=\\#b\n\\!a=b\na=b") end ≡ item 1 (pair (codes "a") (codes "#b")) ∷ item 2 (pair (codes "!a") (codes "b")) ∷ item 3 (pair (codes "a") (codes "b")) ∷ []
 unfolding items_of pieces_of split_of meaning_of
 escaped_signs = refl
@@ -137,18 +156,22 @@ colon_and_equals : items_of windows_1252 (codes "a:=b") end ≡ item 1 (pair (co
 unfolding items_of pieces_of split_of meaning_of
 colon_and_equals = refl
 
+-- a blank parts them, and then a colon is of the value
 blank_and_colon : items_of windows_1252 (codes "a b:c") end ≡ item 1 (pair (codes "a") (codes "b:c")) ∷ []
 unfolding items_of pieces_of split_of meaning_of
 blank_and_colon = refl
 
+-- blanks around the separator and in front are left out, and those at the end stay
 blanks_around : items_of windows_1252 (codes " a = b ") end ≡ item 1 (pair (codes "a") (codes "b ")) ∷ []
 unfolding items_of pieces_of split_of meaning_of
 blanks_around = refl
 
+-- a separator alone has an empty key and an empty value
 nothing_around : items_of windows_1252 (codes "=") end ≡ item 1 (pair [] []) ∷ []
 unfolding items_of pieces_of split_of meaning_of
 nothing_around = refl
 
+-- an escaped separator is of the key
 escaped_equals : items_of windows_1252 (codes "\\=x") end ≡ item 1 (pair (codes "=x") []) ∷ []
 unfolding items_of pieces_of split_of meaning_of
 escaped_equals = refl
@@ -158,10 +181,12 @@ stored : items_of windows_1252 (codes "#c\n#Thu Jan 01 00:00:00 UTC 1970\nk=\\u0
 unfolding items_of pieces_of split_of meaning_of
 stored = refl
 
+-- `\users` in a comment that it stored is malformed
 stored_path : items_of windows_1252 (codes "#C:\\users") end ≡ malformed not_hex 1 ∷ []
 unfolding items_of pieces_of split_of meaning_of
 stored_path = refl
 
+-- and so is a low surrogate after a high one whose backslash is escaped
 stored_backslash : items_of windows_1252 (codes "#\\\\uD83D\\uDC1E") end ≡ malformed invalid_character 1 ∷ []
 unfolding items_of pieces_of split_of meaning_of
 stored_backslash = refl
@@ -171,6 +196,7 @@ a_comment_and_two_pairs : items_of windows_1252 (codes "# x\nb = 2\na") end ≡ 
 unfolding items_of pieces_of split_of meaning_of
 a_comment_and_two_pairs = refl
 
+-- a pair, and then malformed escapes on line 2
 fault_behind_a_pair : items_of windows_1252 (codes "a=1\nk=\\u12") end ≡ item 1 (pair (codes "a") (codes "1")) ∷ malformed not_enough_digits 2 ∷ []
 unfolding items_of pieces_of split_of meaning_of
 fault_behind_a_pair = refl
@@ -180,38 +206,47 @@ fault_at_once : items_of windows_1252 [] fault ≡ read_fault 1 ∷ []
 unfolding items_of pieces_of split_of meaning_of
 fault_at_once = refl
 
+-- after an LF it names line 2
 fault_after_line_feed : items_of windows_1252 (codes "\n") fault ≡ read_fault 2 ∷ []
 unfolding items_of pieces_of split_of meaning_of
 fault_after_line_feed = refl
 
+-- and so after a CR
 fault_after_carriage_return : items_of windows_1252 (codes "\r") fault ≡ read_fault 2 ∷ []
 unfolding items_of pieces_of split_of meaning_of
 fault_after_carriage_return = refl
 
+-- and after a CR and an LF
 fault_after_both : items_of windows_1252 (codes "\r\n") fault ≡ read_fault 2 ∷ []
 unfolding items_of pieces_of split_of meaning_of
 fault_after_both = refl
 
+-- the line that it cuts is not looked at, and malformed escapes there are not told
 fault_in_a_line : items_of windows_1252 (codes "\\uxxxx") fault ≡ read_fault 1 ∷ []
 unfolding items_of pieces_of split_of meaning_of
 fault_in_a_line = refl
 
+-- which they are where the input ends
 end_in_its_place : items_of windows_1252 (codes "\\uxxxx") end ≡ malformed not_hex 1 ∷ []
 unfolding items_of pieces_of split_of meaning_of
 end_in_its_place = refl
 
+-- and so where the second line is cut
 fault_in_the_second_line : items_of windows_1252 (codes "\n\\uxxxx") fault ≡ read_fault 2 ∷ []
 unfolding items_of pieces_of split_of meaning_of
 fault_in_the_second_line = refl
 
+-- a join before it gives its item
 fault_after_a_join : items_of windows_1252 (codes "a\\\nb\n\\uxxxx") fault ≡ item 1 (pair (codes "ab") []) ∷ read_fault 3 ∷ []
 unfolding items_of pieces_of split_of meaning_of
 fault_after_a_join = refl
 
+-- a join that it cuts gives none
 fault_in_a_join : items_of windows_1252 (codes "a\\\n") fault ≡ read_fault 2 ∷ []
 unfolding items_of pieces_of split_of meaning_of
 fault_in_a_join = refl
 
+-- a line that a CR ended gives its item
 line_before_a_fault : items_of windows_1252 (codes "a=1\r") fault ≡ item 1 (pair (codes "a") (codes "1")) ∷ read_fault 2 ∷ []
 unfolding items_of pieces_of split_of meaning_of
 line_before_a_fault = refl

@@ -25,6 +25,7 @@ lf_after_cr : items_to_come (going windows_1252 [] 1 true) (codes "\n\na") end �
 unfolding items_to_come pieces_of split_of meaning_of
 lf_after_cr = refl
 
+-- and after an LF it is another end
 lf_after_lf : items_to_come (going windows_1252 [] 1 false) (codes "\n\na") end ≡ item 4 (pair (codes "a") []) ∷ []
 unfolding items_to_come pieces_of split_of meaning_of
 lf_after_lf = refl
@@ -34,6 +35,7 @@ half_an_lf : items_to_come (going utf_16le (0x0a ∷ []) 1 true) (0x00 ∷ 0x61 
 unfolding items_to_come pieces_of split_of meaning_of
 half_an_lf = refl
 
+-- and what comes may make another unit of it
 half_no_lf : items_to_come (going utf_16le (0x0a ∷ []) 1 true) (0x0a ∷ []) end ≡ item 2 (pair (codes "ਊ") []) ∷ []
 unfolding items_to_come pieces_of split_of meaning_of
 half_no_lf = refl
@@ -54,6 +56,7 @@ fault_in_a_join : items_to_come (going windows_1252 (codes "a\\\n") 6 false) (co
 unfolding items_to_come pieces_of split_of meaning_of
 fault_in_a_join = refl
 
+-- and where more may come, such a line gives nothing yet
 more_in_a_join : items_to_come (going windows_1252 (codes "a\\\n") 6 false) (codes "b") more ≡ []
 unfolding items_to_come pieces_of split_of meaning_of
 more_in_a_join = refl

@@ -12,27 +12,33 @@ line n text = record { number = n; text = text }
 abbrev read : List ℕ → List Line
 read x = numbered_lines (lines_of x) end
 
+-- an empty text is one empty line
 of_none : read [] ≡ line 1 [] ∷ []
 of_none = refl
 
+-- a space is one line
 of_space : read (codes " ") ≡ line 1 (codes " ") ∷ []
 of_space = refl
 
+-- a space and any line ending are that line and an empty one
 of_space_ended : (t : LineEnding) → read (codes " " ++ line_ending_text t) ≡ line 1 (codes " ") ∷ line 2 [] ∷ []
 of_space_ended lf = refl
 of_space_ended cr = refl
 of_space_ended crlf = refl
 
+-- any line ending between two spaces parts them into two lines
 of_spaces : (t : LineEnding) → read (codes " " ++ (line_ending_text t ++ codes " ")) ≡ line 1 (codes " ") ∷ line 2 (codes " ") ∷ []
 of_spaces lf = refl
 of_spaces cr = refl
 of_spaces crlf = refl
 
+-- any line ending alone stands between two empty lines
 of_end : (t : LineEnding) → read (line_ending_text t) ≡ line 1 [] ∷ line 2 [] ∷ []
 of_end lf = refl
 of_end cr = refl
 of_end crlf = refl
 
+-- any line ending before a space ends an empty line
 of_end_space : (t : LineEnding) → read (line_ending_text t ++ codes " ") ≡ line 1 [] ∷ line 2 (codes " ") ∷ []
 of_end_space lf = refl
 of_end_space cr = refl
@@ -42,6 +48,7 @@ of_end_space crlf = refl
 of_cr_crlf : lines_of (13 ∷ 13 ∷ 10 ∷ []) ≡ record { ended = record { text = []; by = cr } ∷ record { text = []; by = crlf } ∷ []; last = [] }
 of_cr_crlf = refl
 
+-- in which the LF ends the first line, and the CR the second
 of_lf_cr : lines_of (10 ∷ 13 ∷ []) ≡ record { ended = record { text = []; by = lf } ∷ record { text = []; by = cr } ∷ []; last = [] }
 of_lf_cr = refl
 

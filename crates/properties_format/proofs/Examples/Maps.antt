@@ -16,14 +16,17 @@ last_value : value_in (items_of windows_1252 (codes "a=1\na=2") end) (codes "a")
 unfolding items_of pieces_of split_of meaning_of
 last_value = refl
 
+-- a key that no pair has is not in it
 no_value : value_in (items_of windows_1252 (codes "a=1\na=2") end) (codes "b") ≡ None
 unfolding items_of pieces_of split_of meaning_of
 no_value = refl
 
+-- a comment that looks like a pair is none
 comments_aside : value_in (items_of windows_1252 (codes "#a=1\nb=2\n#b=3") end) (codes "b") ≡ Some (codes "2")
 unfolding items_of pieces_of split_of meaning_of
 comments_aside = refl
 
+-- pairs after malformed escapes don't count
 before_a_fault : value_in (items_of windows_1252 (codes "a=1\na=\\u1\na=3") end) (codes "a") ≡ Some (codes "1")
 unfolding items_of pieces_of split_of meaning_of
 before_a_fault = refl

@@ -40,10 +40,12 @@ high-and-byte : pieces_of utf_16be (0xd8 ∷ 0x3d ∷ 0xdc ∷ []) ≡ piece (0x
 unfolding pieces_of
 high-and-byte = refl
 
+-- and so is a high unit alone
 high-at-end : pieces_of utf_16be (0xd8 ∷ 0x3d ∷ []) ≡ piece (0xd8 ∷ 0x3d ∷ []) 0xfffd ∷ []
 unfolding pieces_of
 high-at-end = refl
 
+-- no bytes are decoded to an empty text
 no-bytes : decoded_of utf_16be [] ≡ []
 unfolding pieces_of
 no-bytes = refl
@@ -53,14 +55,18 @@ with_bom : decoded_of windows_1252 (0xff ∷ 0xfe ∷ 0x61 ∷ 0x00 ∷ 0x3d ∷
 unfolding pieces_of
 with_bom = refl
 
+-- FE and FE are no byte order mark, and stay
 unmarked : byte_order_mark utf_16le (0xfe ∷ 0xfe ∷ []) ≡ record { encoding = utf_16le; body = 0xfe ∷ 0xfe ∷ [] }
 unmarked = refl
 
+-- after a byte order mark alone the body is empty
 byte_order_mark-alone : byte_order_mark windows_1252 (0xef ∷ 0xbb ∷ 0xbf ∷ []) ≡ record { encoding = utf_8; body = [] }
 byte_order_mark-alone = refl
 
+-- bytes that begin with FE FF begin like one
 like-byte_order_mark : begins_like_bom (0xfe ∷ 0xff ∷ 0x3d ∷ []) ≡ true
 like-byte_order_mark = refl
 
+-- and EF BB alone don't
 not-like-byte_order_mark : begins_like_bom (0xef ∷ 0xbb ∷ []) ≡ false
 not-like-byte_order_mark = refl

@@ -4,6 +4,7 @@ use Rattle.properties_format.specs.Text.{form_feed}
 use Rattle.properties_format.specs.Split.{Logical, blank, comment, pair}
 use Rattle.properties_format.specs.Reading.Split.{split_of}
 
+-- U+1F41E
 bug : List ℕ
 bug = 0x1_f41e ∷ []
 
@@ -45,6 +46,7 @@ rows =
     ∷ (codes "a\nb\rc=d\n", pair (codes "a\nb\rc") (codes "d\n"))
     ∷ []
 
+-- each line is what stands beside it
 each : map (λ r. split_of r.0) rows ≡ map (λ r. r.1) rows
 unfolding split_of bug
 each = refl

@@ -23,30 +23,37 @@ a_pair : WritesAndReads windows_1252 (pair_call (codes "a") (codes "b") ∷ []) 
 unfolding items_of pieces_of split_of meaning_of
 a_pair = (refl, refl, refl)
 
+-- an empty key and an empty value, around the separator
 empty_texts : WritesAndReads windows_1252 (pair_call [] [] ∷ []) (codes "=\n") (item 1 (pair [] []) ∷ [])
 unfolding items_of pieces_of split_of meaning_of
 empty_texts = (refl, refl, refl)
 
-marks : WritesAndReads windows_1252 (pair_call (codes "!") (codes "#") ∷ []) (codes "\\!=\\#\n") (item 1 (pair (codes "!") (codes "#")) ∷ [])
+-- comment signs take a backslash
+signs : WritesAndReads windows_1252 (pair_call (codes "!") (codes "#") ∷ []) (codes "\\!=\\#\n") (item 1 (pair (codes "!") (codes "#")) ∷ [])
 unfolding items_of pieces_of split_of meaning_of
-marks = (refl, refl, refl)
+signs = (refl, refl, refl)
 
+-- spaces and separators take a backslash
 separators : WritesAndReads windows_1252 (pair_call (codes " :=") (codes " :=") ∷ []) (codes "\\ \\:\\==\\ \\:\\=\n") (item 1 (pair (codes " :=") (codes " :=")) ∷ [])
 unfolding items_of pieces_of split_of meaning_of
 separators = (refl, refl, refl)
 
+-- a character past U+FFFF is two escapes in windows-1252, and U+0001 is one
 past_the_encoding : WritesAndReads windows_1252 (pair_call (codes "🐞") (codes "\u{1}") ∷ []) (codes "\\ud83d\\udc1e=\\u0001\n") (item 1 (pair (codes "🐞") (codes "\u{1}")) ∷ [])
 unfolding items_of pieces_of split_of meaning_of
 past_the_encoding = (refl, refl, refl)
 
+-- in the key as in the value
 past_the_encoding_twice : WritesAndReads windows_1252 (pair_call (codes "🐞") (codes "🐞") ∷ []) (codes "\\ud83d\\udc1e=\\ud83d\\udc1e\n") (item 1 (pair (codes "🐞") (codes "🐞")) ∷ [])
 unfolding items_of pieces_of split_of meaning_of
 past_the_encoding_twice = (refl, refl, refl)
 
+-- U+000B is escaped, and so is U+0085, which windows-1252 lacks; U+007F and `€` have a byte
 controls : WritesAndReads windows_1252 (pair_call (codes "\u{b}\u{7f}") (codes "€\u{85}") ∷ []) (codes "\\u000b\u{7f}=\u{80}\\u0085\n") (item 1 (pair (codes "\u{b}\u{7f}") (codes "€\u{85}")) ∷ [])
 unfolding items_of pieces_of split_of meaning_of
 controls = (refl, refl, refl)
 
+-- tab, LF, form feed and CR are a backslash and a letter, and a backslash is two
 letters : WritesAndReads windows_1252 (pair_call (codes "\t\n") (codes "\u{c}\r\\") ∷ []) (codes "\\t\\n=\\f\\r\\\\\n") (item 1 (pair (codes "\t\n") (codes "\u{c}\r\\")) ∷ [])
 unfolding items_of pieces_of split_of meaning_of
 letters = (refl, refl, refl)
@@ -56,22 +63,27 @@ bom_like_key : WritesAndReads windows_1252 (pair_call (codes "þÿ") (codes "x")
 unfolding items_of pieces_of split_of meaning_of
 bom_like_key = (refl, refl, refl)
 
+-- one that begins with `ÿþ` begins like that of UTF-16LE
 bom_like_key_low_byte_first : WritesAndReads windows_1252 (pair_call (codes "ÿþa") (codes "x") ∷ []) (codes "\\u00ffþa=x\n") (item 1 (pair (codes "ÿþa") (codes "x")) ∷ [])
 unfolding items_of pieces_of split_of meaning_of
 bom_like_key_low_byte_first = (refl, refl, refl)
 
+-- and one that begins with `ï»¿` like that of UTF-8
 bom_like_key_of_three : WritesAndReads windows_1252 (pair_call (codes "ï»¿") (codes "x") ∷ []) (codes "\\u00ef»¿=x\n") (item 1 (pair (codes "ï»¿") (codes "x")) ∷ [])
 unfolding items_of pieces_of split_of meaning_of
 bom_like_key_of_three = (refl, refl, refl)
 
+-- with its first two characters alone a key begins like none
 no_bom_like_key : WritesAndReads windows_1252 (pair_call (codes "ï»") (codes "x") ∷ []) (codes "ï»=x\n") (item 1 (pair (codes "ï»") (codes "x")) ∷ [])
 unfolding items_of pieces_of split_of meaning_of
 no_bom_like_key = (refl, refl, refl)
 
+-- in UTF-8 it is U+FEFF that is escaped
 bom_like_key_in_utf_8 : WritesAndReads utf_8 (pair_call (codes "\u{feff}") [] ∷ []) (codes "\\ufeff=\n") (item 1 (pair (codes "\u{feff}") []) ∷ [])
 unfolding items_of pieces_of split_of meaning_of encode_utf8
 bom_like_key_in_utf_8 = (refl, refl, refl)
 
+-- after a comment such a key is not on the first line, and stands as it is
 bom_like_key_after_a_comment : WritesAndReads windows_1252 (comment_call (codes "c") ∷ pair_call (codes "þÿ") (codes "x") ∷ []) (codes "# c\nþÿ=x\n") (item 1 (comment (codes "c")) ∷ item 2 (pair (codes "þÿ") (codes "x")) ∷ [])
 unfolding items_of pieces_of split_of meaning_of
 bom_like_key_after_a_comment = (refl, refl, refl)
@@ -81,18 +93,22 @@ utf_8_pairs : WritesAndReads utf_8 (pair_call [] [] ∷ pair_call (codes "a") (c
 unfolding items_of pieces_of split_of meaning_of encode_utf8
 utf_8_pairs = (refl, refl, refl)
 
+-- a character past U+FFFF is four bytes, and not escaped
 utf_8_past_ascii : WritesAndReads utf_8 (pair_call (codes "🐞") (codes "🐞") ∷ []) (0xf0 ∷ 0x9f ∷ 0x90 ∷ 0x9e ∷ 0x3d ∷ 0xf0 ∷ 0x9f ∷ 0x90 ∷ 0x9e ∷ 0x0a ∷ []) (item 1 (pair (codes "🐞") (codes "🐞")) ∷ [])
 unfolding items_of pieces_of split_of meaning_of encode_utf8
 utf_8_past_ascii = (refl, refl, refl)
 
+-- asked for UTF-16LE, a writer writes UTF-8
 utf_16_asked : WritesAndReads (output_encoding utf_16le) (pair_call (codes "é") (codes "日") ∷ []) (0xc3 ∷ 0xa9 ∷ 0x3d ∷ 0xe6 ∷ 0x97 ∷ 0xa5 ∷ 0x0a ∷ []) (item 1 (pair (codes "é") (codes "日")) ∷ [])
 unfolding items_of pieces_of split_of meaning_of encode_utf8
 utf_16_asked = (refl, refl, refl)
 
+-- where an ASCII character is one byte
 utf_8_beside_ascii : WritesAndReads (output_encoding utf_16le) (pair_call (codes "a") (codes "é") ∷ []) (0x61 ∷ 0x3d ∷ 0xc3 ∷ 0xa9 ∷ 0x0a ∷ []) (item 1 (pair (codes "a") (codes "é")) ∷ [])
 unfolding items_of pieces_of split_of meaning_of encode_utf8
 utf_8_beside_ascii = (refl, refl, refl)
 
+-- pairs stand in the order of their calls
 pairs_alone : WritesAndReads windows_1252 (pair_call (codes "b") (codes "2") ∷ pair_call (codes "a") [] ∷ []) (codes "b=2\na=\n") (item 1 (pair (codes "b") (codes "2")) ∷ item 2 (pair (codes "a") []) ∷ [])
 unfolding items_of pieces_of split_of meaning_of
 pairs_alone = (refl, refl, refl)
@@ -102,30 +118,37 @@ empty_comment : WritesAndReads windows_1252 (comment_call [] ∷ []) (codes "# \
 unfolding items_of pieces_of split_of meaning_of
 empty_comment = (refl, refl, refl)
 
+-- the text stands after the prefix
 a_comment : WritesAndReads windows_1252 (comment_call (codes "a") ∷ []) (codes "# a\n") (item 1 (comment (codes "a")) ∷ [])
 unfolding items_of pieces_of split_of meaning_of
 a_comment = (refl, refl, refl)
 
+-- blanks at its front are written, and not read back
 comment_with_blanks : WritesAndReads windows_1252 (comment_call (codes " :=") ∷ []) (codes "#  :=\n") (item 1 (comment (codes ":=")) ∷ [])
 unfolding items_of pieces_of split_of meaning_of
 comment_with_blanks = (refl, refl, refl)
 
+-- a character that windows-1252 lacks is escaped
 comment_past_the_encoding : WritesAndReads windows_1252 (comment_call (codes "🐞") ∷ []) (codes "# \\ud83d\\udc1e\n") (item 1 (comment (codes "🐞")) ∷ [])
 unfolding items_of pieces_of split_of meaning_of
 comment_past_the_encoding = (refl, refl, refl)
 
+-- CR, LF and backslash are escaped, and the tail of the prefix is read back before the text
 comment_escapes : WritesAndReads windows_1252 (prefix_call (codes "#x") ∷ comment_call (codes "a\r\nb\\ ") ∷ []) (codes "#xa\\r\\nb\\\\ \n") (item 1 (comment (codes "xa\r\nb\\")) ∷ [])
 unfolding items_of pieces_of split_of meaning_of
 comment_escapes = (refl, refl, refl)
 
+-- a prefix with a space before its sign
 prefix_with_blanks : WritesAndReads windows_1252 (prefix_call (codes " !") ∷ comment_call (codes " :=") ∷ []) (codes " ! :=\n") (item 1 (comment (codes ":=")) ∷ [])
 unfolding items_of pieces_of split_of meaning_of
 prefix_with_blanks = (refl, refl, refl)
 
+-- a prefix that is set holds for each comment after it
 prefix_twice : WritesAndReads windows_1252 (prefix_call (codes " !") ∷ comment_call [] ∷ comment_call (codes "a") ∷ []) (codes " !\n !a\n") (item 1 (comment []) ∷ item 2 (comment (codes "a")) ∷ [])
 unfolding items_of pieces_of split_of meaning_of
 prefix_twice = (refl, refl, refl)
 
+-- and doesn't change how a text is escaped
 prefix_past_the_encoding : WritesAndReads windows_1252 (prefix_call (codes " !") ∷ comment_call (codes "🐞") ∷ []) (codes " !\\ud83d\\udc1e\n") (item 1 (comment (codes "🐞")) ∷ [])
 unfolding items_of pieces_of split_of meaning_of
 prefix_past_the_encoding = (refl, refl, refl)
@@ -135,50 +158,62 @@ blank_and_colon : WritesAndReads windows_1252 (separator_call (codes " :") ∷ p
 unfolding items_of pieces_of split_of meaning_of
 blank_and_colon = (refl, refl, refl)
 
+-- a form feed between key and value
 form_feed : WritesAndReads windows_1252 (separator_call (codes "\u{c}") ∷ pair_call (codes "x") (codes "y") ∷ []) (codes "x\u{c}y\n") (item 1 (pair (codes "x") (codes "y")) ∷ [])
 unfolding items_of pieces_of split_of meaning_of
 form_feed = (refl, refl, refl)
 
+-- a colon
 colon : WritesAndReads windows_1252 (separator_call (codes ":") ∷ pair_call (codes "x") (codes "y") ∷ []) (codes "x:y\n") (item 1 (pair (codes "x") (codes "y")) ∷ [])
 unfolding items_of pieces_of split_of meaning_of
 colon = (refl, refl, refl)
 
+-- a space
 one_space : WritesAndReads windows_1252 (separator_call (codes " ") ∷ pair_call (codes "x") (codes "y") ∷ []) (codes "x y\n") (item 1 (pair (codes "x") (codes "y")) ∷ [])
 unfolding items_of pieces_of split_of meaning_of
 one_space = (refl, refl, refl)
 
+-- a colon and a space
 colon_and_space : WritesAndReads windows_1252 (separator_call (codes ": ") ∷ pair_call (codes "x") (codes "y") ∷ []) (codes "x: y\n") (item 1 (pair (codes "x") (codes "y")) ∷ [])
 unfolding items_of pieces_of split_of meaning_of
 colon_and_space = (refl, refl, refl)
 
+-- a space and `=`
 space_and_equals : WritesAndReads windows_1252 (separator_call (codes " =") ∷ pair_call (codes "x") (codes "y") ∷ []) (codes "x =y\n") (item 1 (pair (codes "x") (codes "y")) ∷ [])
 unfolding items_of pieces_of split_of meaning_of
 space_and_equals = (refl, refl, refl)
 
+-- `=` and a space
 equals_and_space : WritesAndReads windows_1252 (separator_call (codes "= ") ∷ pair_call (codes "x") (codes "y") ∷ []) (codes "x= y\n") (item 1 (pair (codes "x") (codes "y")) ∷ [])
 unfolding items_of pieces_of split_of meaning_of
 equals_and_space = (refl, refl, refl)
 
+-- a tab
 a_tab : WritesAndReads windows_1252 (separator_call (codes "\t") ∷ pair_call (codes "x") (codes "y") ∷ []) (codes "x\ty\n") (item 1 (pair (codes "x") (codes "y")) ∷ [])
 unfolding items_of pieces_of split_of meaning_of
 a_tab = (refl, refl, refl)
 
+-- `:=` is refused, and `=` stays
 bad_separator : WritesAndReads windows_1252 (separator_call (codes ":=") ∷ pair_call (codes "x") (codes "y") ∷ []) (codes "x=y\n") (item 1 (pair (codes "x") (codes "y")) ∷ [])
 unfolding items_of pieces_of split_of meaning_of
 bad_separator = (refl, refl, refl)
 
+-- lines that a CR ends
 carriage_returns : WritesAndReads windows_1252 (ending_call cr ∷ comment_call (codes "foo") ∷ pair_call (codes "x") (codes "y") ∷ []) (codes "# foo\rx=y\r") (item 1 (comment (codes "foo")) ∷ item 2 (pair (codes "x") (codes "y")) ∷ [])
 unfolding items_of pieces_of split_of meaning_of
 carriage_returns = (refl, refl, refl)
 
+-- lines that a CR and an LF end
 both_line_ends : WritesAndReads windows_1252 (ending_call crlf ∷ comment_call (codes "foo") ∷ pair_call (codes "x") (codes "y") ∷ []) (codes "# foo\r\nx=y\r\n") (item 1 (comment (codes "foo")) ∷ item 2 (pair (codes "x") (codes "y")) ∷ [])
 unfolding items_of pieces_of split_of meaning_of
 both_line_ends = (refl, refl, refl)
 
+-- lines that an LF ends
 line_feeds : WritesAndReads windows_1252 (ending_call lf ∷ comment_call (codes "foo") ∷ pair_call (codes "x") (codes "y") ∷ []) (codes "# foo\nx=y\n") (item 1 (comment (codes "foo")) ∷ item 2 (pair (codes "x") (codes "y")) ∷ [])
 unfolding items_of pieces_of split_of meaning_of
 line_feeds = (refl, refl, refl)
 
+-- each line is ended by what is set at that moment
 line_endings : WritesAndReads windows_1252 (ending_call cr ∷ pair_call (codes "a") (codes "b") ∷ ending_call crlf ∷ comment_call (codes "c") ∷ []) (codes "a=b\r# c\r\n") (item 1 (pair (codes "a") (codes "b")) ∷ item 2 (comment (codes "c")) ∷ [])
 unfolding items_of pieces_of split_of meaning_of
 line_endings = (refl, refl, refl)
@@ -188,6 +223,7 @@ empty_key : WritesAndReads windows_1252 (separator_call (codes " ") ∷ pair_cal
 unfolding items_of pieces_of split_of meaning_of
 empty_key = (refl, refl, refl)
 
+-- that pair alone is refused
 empty_key_answers : answers default_settings (separator_call (codes " ") ∷ pair_call [] (codes "v") ∷ pair_call (codes "a") [] ∷ []) ≡ true ∷ false ∷ true ∷ []
 empty_key_answers = refl
 
@@ -196,6 +232,7 @@ refused_calls : WritesAndReads windows_1252 (separator_call (codes " ") ∷ pair
 unfolding items_of pieces_of split_of meaning_of
 refused_calls = (refl, refl, refl)
 
+-- the pair without a key and the bad separator are refused
 refused_calls_answers : answers default_settings (separator_call (codes " ") ∷ pair_call [] (codes "v") ∷ separator_call (codes "x") ∷ pair_call (codes "a") (codes "b") ∷ []) ≡ true ∷ false ∷ false ∷ true ∷ []
 refused_calls_answers = refl
 
@@ -204,6 +241,7 @@ all_calls : WritesAndReads windows_1252 (prefix_call (codes "!") ∷ comment_cal
 unfolding items_of pieces_of split_of meaning_of
 all_calls = (refl, refl, refl)
 
+-- each of them is accepted
 all_calls_answers : answers default_settings (prefix_call (codes "!") ∷ comment_call (codes "t\t") ∷ ending_call cr ∷ flush_call ∷ pair_call (codes "k") [] ∷ []) ≡ true ∷ true ∷ true ∷ true ∷ true ∷ []
 all_calls_answers = refl
 
@@ -217,37 +255,46 @@ ascii_only_in_utf_8 : WritesAndReads utf_8 (ascii_only_call true ∷ pair_call (
 unfolding items_of pieces_of split_of meaning_of encode_utf8
 ascii_only_in_utf_8 = (refl, refl, refl)
 
+-- the bytes are the same in windows-1252
 ascii_only_in_windows_1252 : WritesAndReads windows_1252 (ascii_only_call true ∷ pair_call (codes "é") (codes "🐞") ∷ []) (codes "\\u00e9=\\ud83d\\udc1e\n") (item 1 (pair (codes "é") (codes "🐞")) ∷ [])
 unfolding items_of pieces_of split_of meaning_of
 ascii_only_in_windows_1252 = (refl, refl, refl)
 
+-- turned off again, it escapes nothing that the encoding has
 ascii_only_and_not : WritesAndReads windows_1252 (ascii_only_call true ∷ comment_call (codes "é") ∷ ascii_only_call false ∷ comment_call (codes "é") ∷ []) (codes "# \\u00e9\n# é\n") (item 1 (comment (codes "é")) ∷ item 2 (comment (codes "é")) ∷ [])
 unfolding items_of pieces_of split_of meaning_of
 ascii_only_and_not = (refl, refl, refl)
 
+-- to turn it on or off is accepted
 ascii_only_answers : answers default_settings (ascii_only_call true ∷ comment_call (codes "é") ∷ ascii_only_call false ∷ comment_call (codes "é") ∷ []) ≡ true ∷ true ∷ true ∷ true ∷ []
 ascii_only_answers = refl
 
+-- U+007F stands as itself, and U+0080 is escaped
 last_of_ascii : WritesAndReads windows_1252 (ascii_only_call true ∷ pair_call (codes "\u{7f}") (codes "\u{80}") ∷ []) (codes "\u{7f}=\\u0080\n") (item 1 (pair (codes "\u{7f}") (codes "\u{80}")) ∷ [])
 unfolding items_of pieces_of split_of meaning_of
 last_of_ascii = (refl, refl, refl)
 
+-- the prefix is escaped too
 ascii_only_prefix : WritesAndReads windows_1252 (ascii_only_call true ∷ prefix_call (codes "#é") ∷ comment_call (codes "1") ∷ []) (codes "#\\u00e91\n") (item 1 (comment (codes "é1")) ∷ [])
 unfolding items_of pieces_of split_of meaning_of
 ascii_only_prefix = (refl, refl, refl)
 
+-- a first key U+FEFF is escaped, as it is with ASCII alone off
 ascii_only_bom_like_key : WritesAndReads utf_8 (ascii_only_call true ∷ pair_call (codes "\u{feff}") [] ∷ []) (codes "\\ufeff=\n") (item 1 (pair (codes "\u{feff}") []) ∷ [])
 unfolding items_of pieces_of split_of meaning_of encode_utf8
 ascii_only_bom_like_key = (refl, refl, refl)
 
+-- both characters of a first key `þÿ` are escaped, and not the first alone
 ascii_only_bom_like_bytes : WritesAndReads windows_1252 (ascii_only_call true ∷ pair_call (codes "þÿ") (codes "x") ∷ []) (codes "\\u00fe\\u00ff=x\n") (item 1 (pair (codes "þÿ") (codes "x")) ∷ [])
 unfolding items_of pieces_of split_of meaning_of
 ascii_only_bom_like_bytes = (refl, refl, refl)
 
+-- asked for UTF-16LE, too, all bytes are ASCII
 ascii_only_units : WritesAndReads (output_encoding utf_16le) (ascii_only_call true ∷ pair_call (codes "a") (codes "é") ∷ []) (codes "a=\\u00e9\n") (item 1 (pair (codes "a") (codes "é")) ∷ [])
 unfolding items_of pieces_of split_of meaning_of encode_utf8
 ascii_only_units = (refl, refl, refl)
 
+-- a character below U+10000 is one escape
 ascii_only_ideograph : WritesAndReads utf_8 (ascii_only_call true ∷ pair_call (codes "k") (codes "日") ∷ []) (codes "k=\\u65e5\n") (item 1 (pair (codes "k") (codes "日")) ∷ [])
 unfolding items_of pieces_of split_of meaning_of encode_utf8
 ascii_only_ideograph = (refl, refl, refl)

@@ -3,16 +3,10 @@ use Rattle.std.proofs.Common.{◌≡◌, ℕ, true, false, List, [], ◌∷◌, 
 use Rattle.std.proofs.lemmas.Bool.{cases_Bool}
 use Rattle.properties_format.specs.Text.{is_blank, is_comment_sign, without_leading_blanks}
 use Rattle.properties_format.specs.Lines.{Line}
-use Rattle.properties_format.specs.Groups.{is_open, is_comment_line, without_open_backslash, joined_after, joined, first_number}
+use Rattle.properties_format.specs.Groups.{is_open, is_comment_line, without_open_backslash, joined_after, joined}
 use Rattle.properties_format.proofs.Groups.Open.{without_open_backslash-closed}
 
 -- ---- what begins a line
-
-pub without_leading_blanks-blank : (c : ℕ) (x : List ℕ) → is_blank c ≡ true → without_leading_blanks (c ∷ x) ≡ without_leading_blanks x
-without_leading_blanks-blank c x h = rw h refl
-
-pub without_leading_blanks-other : (c : ℕ) (x : List ℕ) → is_blank c ≡ false → without_leading_blanks (c ∷ x) ≡ c ∷ x
-without_leading_blanks-other c x h = rw h refl
 
 -- a blank at the front does not matter
 pub is_comment_line-blank : (c : ℕ) (x : List ℕ) → is_blank c ≡ true → is_comment_line (c ∷ x) ≡ is_comment_line x
@@ -28,6 +22,7 @@ is_comment_line-other c x h = rw h refl
 pub joined-comment_line : (l : Line) (ls : List Line) → is_comment_line l.text ≡ true → joined (l ∷ ls) ≡ l.text
 joined-comment_line l ls h = rw h refl
 
+-- a group that begins with no comment line: its first line less its open backslash, and what the others add
 pub joined-unmarked : (l : Line) (ls : List Line) → is_comment_line l.text ≡ false → joined (l ∷ ls) ≡ without_open_backslash l.text ++ joined_after ls
 joined-unmarked l ls h = rw h refl
 
@@ -42,6 +37,7 @@ joined-closed l h = elim (cases_Bool (is_comment_line l.text)) [
   | inr k ↦ joined-one l k ∙ without_open_backslash-closed l.text h
 ]
 
+-- what lines and then more lines add is what the first add and then what the second add
 pub joined_after-append : (ls ms : List Line) → joined_after (ls ++ ms) ≡ joined_after ls ++ joined_after ms
 joined_after-append [] ms = refl
 joined_after-append (l ∷ ls) ms =
@@ -56,7 +52,3 @@ joined-push l ls m h =
     ∙ ap (λ v. without_open_backslash l.text ++ v) (joined_after-append ls (m ∷ []) ∙ ap (λ v. joined_after ls ++ v) (append-nil (without_open_backslash (without_leading_blanks m.text))))
     ∙ sym (append_assoc (without_open_backslash l.text) (joined_after ls) (without_open_backslash (without_leading_blanks m.text)))
     ∙ ap (λ v. v ++ without_open_backslash (without_leading_blanks m.text)) (sym (joined-unmarked l ls h))
-
--- a line more leaves the group its number
-pub first_number-append : (l : Line) (ls ms : List Line) → first_number (l ∷ ls ++ ms) ≡ l.number
-first_number-append l ls ms = refl

@@ -2,14 +2,13 @@
 use Rattle.std.proofs.Common.{◌≡◌, ℕ, ◌+◌, ◌⊎◌, true, false, List, [], ◌∷◌, ◌++◌, refl, ap, sym, ◌∙◌, inl, inr}
 use Rattle.std.proofs.lemmas.Bool.{cases_Bool}
 use Rattle.properties_format.specs.Text.{LineEnding, cr, line_ending_text}
-use Rattle.properties_format.specs.Lines.{HoldsNoLineEnd, Line, InputEnd, end, fault, more, line_ends, numbered_lines}
-use Rattle.properties_format.specs.Reading.Lines.{lines_of, begins_with_lf, ends_in_cr, lines_to_come}
-use Rattle.properties_format.specs.Groups.{is_open, is_comment_line, without_open_backslash, joined, first_number, addition}
-use Rattle.properties_format.specs.Reading.Groups.{groups_after, groups_of, open_after}
+use Rattle.properties_format.specs.Lines.{HoldsNoLineEnd, Line, InputEnd, end, fault, more}
+use Rattle.properties_format.specs.Reading.Lines.{begins_with_lf, lines_to_come}
+use Rattle.properties_format.specs.Groups.{is_open, is_comment_line, without_open_backslash, joined, addition}
+use Rattle.properties_format.specs.Reading.Groups.{groups_after, groups_of}
 use Rattle.properties_format.specs.Reading.Logical.{logical, logical_lines, joins_after}
 use Rattle.properties_format.proofs.Lines.Steps.{lines_to_come-line}
 use Rattle.properties_format.proofs.Groups.Steps.{groups_of-comment_line, groups_of-closed, groups_of-open, groups_after-closed, groups_after-open}
-use Rattle.properties_format.proofs.Groups.Append.{groups-stay}
 use Rattle.properties_format.proofs.Groups.Joined.{joined-comment_line, joined-one, joined-closed, joined-push}
 
 -- a line more where lines are joined
@@ -17,6 +16,7 @@ pub joins_after-open : (number : ℕ) (text : List ℕ) (l : Line) (ls : List Li
     → joins_after number text (l ∷ ls) e ≡ joins_after number (text ++ addition l.text) ls e
 joins_after-open number text l ls e h = rw (h, joins_after) refl
 
+-- a line that is not open finishes the join
 pub joins_after-closed : (number : ℕ) (text : List ℕ) (l : Line) (ls : List Line) (e : InputEnd) → is_open l.text ≡ false
     → joins_after number text (l ∷ ls) e ≡ record { number = number; text = text ++ addition l.text } ∷ logical_lines ls e
 joins_after-closed number text l ls e h = rw (h, joins_after) refl
@@ -55,22 +55,6 @@ pub logical_lines-open : (l : Line) (ls : List Line) (e : InputEnd) → is_comme
 logical_lines-open l ls e h k =
     ap logical (groups_of-open l ls e h k) ∙ logical-after l [] ls e h ∙ ap (λ v. joins_after l.number v ls e) (joined-one l h)
 
--- ---- lines one after the other
-
-logical-append : (gs hs : List (List Line)) → logical (gs ++ hs) ≡ logical gs ++ logical hs
-logical-append [] hs = refl
-logical-append (g ∷ gs) hs = ap (λ v. record { number = first_number g; text = joined g } ∷ v) (logical-append gs hs)
-
--- The logical lines of a text to which more may come are the first ones of every text that it begins, whatever its ending.
-pub logical_lines-stay : (x y : List ℕ) (e : InputEnd)
-    → logical_lines (numbered_lines (lines_of (x ++ y)) e) e
-    ≡ logical_lines (numbered_lines (lines_of x) more) more
-    ++ logical (groups_after (open_after [] (numbered_lines (lines_of x) more)) (lines_to_come (line_ends (lines_of x)) (ends_in_cr x) (lines_of x).last y e) e)
-logical_lines-stay x y e =
-    let gs = groups_of (numbered_lines (lines_of x) more) more in
-    let hs = groups_after (open_after [] (numbered_lines (lines_of x) more)) (lines_to_come (line_ends (lines_of x)) (ends_in_cr x) (lines_of x).last y e) e in
-    ap logical (groups-stay x y e) ∙ logical-append gs hs
-
 -- ---- a line of a text that no other is joined to
 
 -- such a line is a comment line, or not open
@@ -87,14 +71,3 @@ groups-line n text by y e h k (inl m) =
 groups-line n text by y e h k (inr m) =
     ap (λ v. groups_of v e) (lines_to_come-line n [] text by y e tt h k)
     ∙ groups_of-closed (record { number = n + 1; text = text }) (lines_to_come (n + 1) false [] y e) e m
-
--- and a logical line
-pub logical-line : (n : ℕ) (text : List ℕ) (by : LineEnding) (y : List ℕ) (e : InputEnd) → HoldsNoLineEnd text → (by ≡ cr → begins_with_lf y ≡ false) → StandsAlone text
-    → logical_lines (lines_to_come n false [] (text ++ (line_ending_text by ++ y)) e) e
-    ≡ record { number = n + 1; text = text } ∷ logical_lines (lines_to_come (n + 1) false [] y e) e
-logical-line n text by y e h k (inl m) =
-    ap (λ v. logical_lines v e) (lines_to_come-line n [] text by y e tt h k)
-    ∙ logical_lines-comment_line (record { number = n + 1; text = text }) (lines_to_come (n + 1) false [] y e) e m
-logical-line n text by y e h k (inr m) =
-    ap (λ v. logical_lines v e) (lines_to_come-line n [] text by y e tt h k)
-    ∙ logical_lines-closed (record { number = n + 1; text = text }) (lines_to_come (n + 1) false [] y e) e m

@@ -12,10 +12,12 @@ ends-closed : (m : Line) (ms : List Line) (l : Line) → AreOpen (m ∷ ms) → 
 ends-closed m [] l h k = (h.0, k)
 ends-closed m (o ∷ ms) l h k = (h.0, ends-closed o ms l h.1 k)
 
+-- open lines and then one more
 are-open : (ms : List Line) (l : Line) → AreOpen ms → is_open l.text ≡ true → AreOpen (ms ++ l ∷ [])
 are-open [] l h k = (k, tt)
 are-open (m ∷ ms) l h k = (h.0, are-open ms l h.1 k)
 
+-- a line that closes the group that it begins is a whole group
 one-whole : (l : Line) → closes [] l ≡ true → IsWhole (l ∷ [])
 one-whole l h = elim (cases_Bool (is_comment_line l.text)) [
   | inl k ↦ inl (k, refl)

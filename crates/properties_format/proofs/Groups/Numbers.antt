@@ -11,12 +11,14 @@ abbrev pub AscendAbove : ℕ → List ℕ → Type 0
 AscendAbove n [] = Unit {0}
 AscendAbove n (m ∷ ms) = (n < m) × AscendAbove m ms
 
+-- a last group of lines that are numbered after n has a number above m, where m is n at most
 last-ascends : (n m : ℕ) (p : List Line) (e : InputEnd) → m ≤ n → AreNumbered n p → AscendAbove m (map first_number (last_group p e))
 last-ascends n m [] e h k = tt
 last-ascends n m (l ∷ ls) end h k = (omega (arith, k.0), tt)
 last-ascends n m (l ∷ ls) fault h k = tt
 last-ascends n m (l ∷ ls) more h k = tt
 
+-- the numbers of whole groups and of a last one ascend, where their lines are numbered after n
 ascend : (n m : ℕ) (gs : List (List Line)) (p : List Line) (e : InputEnd) → m ≤ n → AreWhole gs → AreNumbered n (lines_in gs ++ p)
     → AscendAbove m (map first_number (gs ++ last_group p e))
 ascend n m [] p e h are k = last-ascends n m p e h k

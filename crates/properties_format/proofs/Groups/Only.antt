@@ -14,6 +14,7 @@ after-whole m ms l (n ∷ ns) rest e h =
     ∙ after-whole m (ms ++ l ∷ []) n ns rest e h.1
     ∙ ap (λ v. (m ∷ v) ∷ groups_of rest e) (append_assoc ms (l ∷ []) (n ∷ ns))
 
+-- a whole group that begins with no comment line, in front of lines, is in front of their groups
 begins-whole : (l : Line) (ls rest : List Line) (e : InputEnd) → is_comment_line l.text ≡ false → EndsClosed l ls
     → groups_of (l ∷ ls ++ rest) e ≡ (l ∷ ls) ∷ groups_of rest e
 begins-whole l [] rest e k h = groups_of-closed l rest e h
@@ -25,6 +26,7 @@ groups_of-before [] ls e h = absurd h
 groups_of-before (l ∷ ms) ls e (inl h) = rw h.1 (groups_of-comment_line l ls e h.0)
 groups_of-before (l ∷ ms) ls e (inr h) = begins-whole l ms ls e h.0 h.1
 
+-- open lines after an open group are of that group, which is the last one
 after-open : (m : Line) (ms ls : List Line) (e : InputEnd) → AreOpen ls → groups_after (m ∷ ms) ls e ≡ last_group (m ∷ ms ++ ls) e
 after-open m ms [] e h = ap (λ v. last_group (m ∷ v) e) (sym (append-nil ms))
 after-open m ms (l ∷ ls) e h =
@@ -37,6 +39,7 @@ pub groups_of-unfinished : (ls : List Line) (e : InputEnd) → IsUnfinished ls �
 groups_of-unfinished [] e h = refl
 groups_of-unfinished (l ∷ ls) e h = groups_of-open l ls e h.0 h.1.0 ∙ after-open l [] ls e h.1.1
 
+-- the lines of whole groups and then of an unfinished one have those groups
 groups_of-together : (gs : List (List Line)) (rest : List Line) (e : InputEnd) → AreWhole gs → IsUnfinished rest
     → groups_of (lines_in gs ++ rest) e ≡ gs ++ last_group rest e
 groups_of-together [] rest e h k = groups_of-unfinished rest e k

@@ -1,22 +1,24 @@
 -- How many backslashes a text ends in, and which lines are open.
-use Rattle.std.proofs.Common.{◌≡◌, ℕ, zero, suc, ◌+◌, ◌==◌, ◌⊎◌, Bool, true, false, List, [], ◌∷◌, ◌++◌, refl, ap, sym, ◌∙◌, inl, inr, append_assoc, append-nil, add-zero, zero-add, add-one, arith}
-use Rattle.std.specs.Prelude.{reverse, replicate, not, ◌%◌, if◌then◌else◌}
-use Rattle.std.proofs.lemmas.Bool.{cases_Bool}
+use Rattle.std.proofs.Common.{◌≡◌, ℕ, suc, ◌==◌, ◌⊎◌, Bool, true, false, List, [], ◌∷◌, ◌++◌, refl, ap, sym, ◌∙◌, inl, inr, append_assoc, arith}
+use Rattle.std.specs.Prelude.{reverse, not, ◌%◌, if◌then◌else◌}
 use Rattle.std.proofs.lemmas.Bool.Decides.{eqb_tells}
-use Rattle.std.proofs.lemmas.List.{reverse-append, reverse-reverse, replicate_more}
-use Rattle.properties_format.specs.Text.{backslash, is_blank, without_leading_blanks}
-use Rattle.properties_format.specs.Groups.{leading_backslashes, ending_backslashes, is_open, without_last, without_open_backslash, addition}
+use Rattle.std.proofs.lemmas.List.{reverse-append}
+use Rattle.properties_format.specs.Text.{backslash, is_blank}
+use Rattle.properties_format.specs.Groups.{leading_backslashes, ending_backslashes, is_open, without_last, without_open_backslash}
 
 -- one character more at the end
 pub ending_backslashes-push : (x : List ℕ) (c : ℕ) → ending_backslashes (x ++ c ∷ []) ≡ (if c == backslash then suc (ending_backslashes x) else 0)
 ending_backslashes-push x c = ap leading_backslashes (reverse-append x (c ∷ []))
 
+-- a backslash at the end is one more
 pub ending_backslashes-more : (x : List ℕ) → ending_backslashes (x ++ backslash ∷ []) ≡ suc (ending_backslashes x)
 ending_backslashes-more x = ending_backslashes-push x backslash
 
+-- and after any other character there is none
 pub ending_backslashes-none : (x : List ℕ) (c : ℕ) → (c == backslash) ≡ false → ending_backslashes (x ++ c ∷ []) ≡ 0
 ending_backslashes-none x c h = ending_backslashes-push x c ∙ rw h refl
 
+-- what stands from a character on that is no backslash doesn't count for those at the front
 leading-other : (a b : List ℕ) (c : ℕ) → (c == backslash) ≡ false → leading_backslashes (a ++ c ∷ b) ≡ leading_backslashes a
 leading-other [] b c h = rw h refl
 leading-other (d ∷ a) b c h = rw (leading-other a b c h) refl
@@ -27,47 +29,9 @@ ending_backslashes-after x c y h =
     ap leading_backslashes (reverse-append x (c ∷ y) ∙ ap (λ v. v ++ reverse x) (reverse-append (c ∷ []) y) ∙ append_assoc (reverse y) (c ∷ []) (reverse x))
     ∙ leading-other (reverse y) (reverse x) c h
 
-run-after : (x : List ℕ) (m n : ℕ) → ending_backslashes x ≡ m → ending_backslashes (x ++ replicate n backslash) ≡ m + n
-run-after x m zero h = ap ending_backslashes (append-nil x) ∙ h ∙ sym (add-zero m)
-run-after x m (suc n) h =
-    ap ending_backslashes (sym (append_assoc x (backslash ∷ []) (replicate n backslash)))
-    ∙ run-after (x ++ backslash ∷ []) (suc m) n (ending_backslashes-more x ∙ ap suc h)
-    ∙ move m n
-  where
-    move : (m n : ℕ) → suc m + n ≡ m + suc n
-    move m n = omega arith
-
--- after a part that ends in no backslash, the backslashes are those that the text ends in
-pub ending_backslashes-run : (x : List ℕ) (n : ℕ) → ending_backslashes x ≡ 0 → ending_backslashes (x ++ replicate n backslash) ≡ n
-ending_backslashes-run x n h = run-after x 0 n h ∙ zero-add n
-
-leading-split : (y : List ℕ) → (r : List ℕ) × (y ≡ replicate (leading_backslashes y) backslash ++ r) × (leading_backslashes r ≡ 0)
-leading-split [] = ([], refl, refl)
-leading-split (c ∷ y) = elim (eqb_tells c backslash) [
-  | inl k ↦ let s = leading-split y in rw k.1 (s.0, ap (λ v. backslash ∷ v) s.1, s.2)
-  | inr k ↦ (c ∷ y, rw k.0 refl, rw k.0 refl)
-]
-
-reverse-run : (n : ℕ) → reverse (replicate n backslash) ≡ replicate n backslash
-reverse-run zero = refl
-reverse-run (suc n) =
-    reverse-append (backslash ∷ []) (replicate n backslash)
-    ∙ ap (λ v. v ++ backslash ∷ []) (reverse-run n)
-    ∙ replicate_more n backslash
-    ∙ ap (λ v. replicate v backslash) (add-one n)
-
--- every text is such a part and the backslashes that it ends in
-pub ending_backslashes-split : (x : List ℕ) → (p : List ℕ) × (x ≡ p ++ replicate (ending_backslashes x) backslash) × (ending_backslashes p ≡ 0)
-ending_backslashes-split x =
-    let s = leading-split (reverse x) in
-    let n = ending_backslashes x in (
-      reverse s.0,
-      sym (reverse-reverse x) ∙ ap reverse s.1 ∙ reverse-append (replicate n backslash) s.0 ∙ ap (λ v. reverse s.0 ++ v) (reverse-run n),
-      ap leading_backslashes (reverse-reverse s.0) ∙ s.2,
-    )
-
 -- ---- open lines
 
+-- a number is odd exactly where the one before it is not
 odd-next : (n : ℕ) → (suc n % 2 == 1) ≡ not (n % 2 == 1)
 odd-next n = elim (eqb_tells (n % 2) 1) [
   | inl k ↦ let f : suc n % 2 ≡ 0 = omega (arith, k.1) in rw (k.1, f) refl
@@ -104,16 +68,9 @@ blank-other c h = elim (eqb_tells c backslash) [
   | inr k ↦ k.0
 ]
 
--- the blanks at the front do not matter
-pub is_open-blanks : (x : List ℕ) → is_open (without_leading_blanks x) ≡ is_open x
-is_open-blanks [] = refl
-is_open-blanks (c ∷ x) = elim (cases_Bool (is_blank c)) [
-  | inl k ↦ rw k (is_open-blanks x ∙ sym (is_open-after [] c x (blank-other c k)))
-  | inr k ↦ rw k refl
-]
-
 -- ---- the last character
 
+-- a text with one character more, less its last character, is that text
 pub without_last-push : (x : List ℕ) (c : ℕ) → without_last (x ++ c ∷ []) ≡ x
 without_last-push [] c = refl
 without_last-push (d ∷ []) c = refl
@@ -139,17 +96,6 @@ open-ends x h = elim (last_character x) [
   ]
 ]
 
--- a line less its open backslash is not open
+-- a line that is not open stays as it is
 pub without_open_backslash-closed : (x : List ℕ) → is_open x ≡ false → without_open_backslash x ≡ x
 without_open_backslash-closed x h = rw h refl
-
-pub without_open_backslash-open : (x : List ℕ) → is_open (x ++ backslash ∷ []) ≡ true → without_open_backslash (x ++ backslash ∷ []) ≡ x
-without_open_backslash-open x h = rw h (without_last-push x backslash)
-
--- ---- what a line adds
-
-pub addition-closed : (x : List ℕ) → is_open x ≡ false → addition x ≡ without_leading_blanks x
-addition-closed x h = without_open_backslash-closed (without_leading_blanks x) (is_open-blanks x ∙ h)
-
-pub addition-open : (x : List ℕ) → is_open x ≡ true → addition x ≡ without_last (without_leading_blanks x)
-addition-open x h = let e : is_open (without_leading_blanks x) ≡ true = is_open-blanks x ∙ h in rw e refl

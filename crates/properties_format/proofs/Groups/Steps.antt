@@ -1,7 +1,7 @@
 -- How the groups go on with the next line, where a group begins and where one is open.
 use Rattle.std.proofs.Common.{◌≡◌, Bool, true, false, List, [], ◌∷◌, ◌++◌, refl}
 use Rattle.std.specs.Prelude.{◌||◌}
-use Rattle.properties_format.specs.Lines.{Line, InputEnd, end, fault, more}
+use Rattle.properties_format.specs.Lines.{Line, InputEnd, more}
 use Rattle.properties_format.specs.Groups.{is_open, is_comment_line}
 use Rattle.properties_format.specs.Reading.Groups.{closes, groups_after, groups_of, open_after}
 
@@ -15,9 +15,11 @@ pub groups_after-leave : (p : List Line) (l : Line) (ls : List Line) (e : InputE
     → groups_after p (l ∷ ls) e ≡ groups_after (p ++ l ∷ []) ls e
 groups_after-leave p l ls e h = rw (h, groups_after) refl
 
+-- after a line that closes its group none is open
 pub open_after-close : (p : List Line) (l : Line) (ls : List Line) → closes p l ≡ true → open_after p (l ∷ ls) ≡ open_after [] ls
 open_after-close p l ls h = rw (h, open_after) refl
 
+-- after one that leaves it open, the group is open with that line
 pub open_after-leave : (p : List Line) (l : Line) (ls : List Line) → closes p l ≡ false → open_after p (l ∷ ls) ≡ open_after (p ++ l ∷ []) ls
 open_after-leave p l ls h = rw (h, open_after) refl
 
@@ -73,16 +75,7 @@ groups_after-open m ms l ls e h = groups_after-leave (m ∷ ms) l ls e (closes-g
 
 -- ---- no line comes
 
--- at the end an open group is the last one
-pub groups_after-end : (m : Line) (ms : List Line) → groups_after (m ∷ ms) [] end ≡ (m ∷ ms) ∷ []
-groups_after-end m ms = refl
-
--- at a fault it is lost
-pub groups_after-fault : (p : List Line) → groups_after p [] fault ≡ []
-groups_after-fault [] = refl
-groups_after-fault (m ∷ ms) = refl
-
--- and where more may come it is no group yet
+-- where more may come, an open group is no group yet
 pub groups_after-more : (p : List Line) → groups_after p [] more ≡ []
 groups_after-more [] = refl
 groups_after-more (m ∷ ms) = refl

@@ -15,6 +15,7 @@ outcome-blank x h = ap split_outcome h
 pub outcome-comment : (x raw text : List ℕ) → split_of x ≡ Logical.comment raw → meaning_of raw ≡ means text → outcome_of x ≡ given (comment text)
 outcome-comment x raw text h k = ap split_outcome h ∙ ap comment_outcome k
 
+-- and one whose escapes are malformed to that
 pub outcome-comment_broken : (x raw : List ℕ) (kind : Malformed) → split_of x ≡ Logical.comment raw → meaning_of raw ≡ breaks kind
     → outcome_of x ≡ broken kind
 outcome-comment_broken x raw kind h k = ap split_outcome h ∙ ap comment_outcome k
@@ -25,10 +26,12 @@ pub outcome-pair : (x raw_key raw_value key value : List ℕ) → split_of x ≡
     → outcome_of x ≡ given (pair key value)
 outcome-pair x rk rv key value h k m = ap split_outcome h ∙ ap (λ v. pair_outcome v (meaning_of rv)) k ∙ ap (pair_outcome (means key)) m
 
+-- a pair whose key's escapes are malformed comes to that
 pub outcome-key_broken : (x raw_key raw_value : List ℕ) (kind : Malformed) → split_of x ≡ Logical.pair raw_key raw_value → meaning_of raw_key ≡ breaks kind
     → outcome_of x ≡ broken kind
 outcome-key_broken x rk rv kind h k = ap split_outcome h ∙ ap (λ v. pair_outcome v (meaning_of rv)) k
 
+-- and so does one whose key means a text and whose value's escapes are malformed
 pub outcome-value_broken : (x raw_key raw_value key : List ℕ) (kind : Malformed) → split_of x ≡ Logical.pair raw_key raw_value
     → meaning_of raw_key ≡ means key → meaning_of raw_value ≡ breaks kind
     → outcome_of x ≡ broken kind

@@ -1,5 +1,5 @@
 -- What comes, said by divisions and computed: the two are one.
-use Rattle.std.proofs.Common.{◌≡◌, ℕ, ◌+◌, true, false, List, [], ◌∷◌, ◌++◌, refl, ap, sym, ◌∙◌, inl, inr}
+use Rattle.std.proofs.Common.{◌≡◌, ℕ, ◌+◌, false, List, ◌∷◌, ◌++◌, refl, ap, sym, ◌∙◌, inl, inr}
 use Rattle.std.proofs.lemmas.Bool.{cases_Bool}
 use Rattle.properties_format.specs.Pieces.{Piece, characters}
 use Rattle.properties_format.specs.Reading.Encoding.{pieces_of}
@@ -13,6 +13,7 @@ use Rattle.properties_format.proofs.Encodings.Pieces.{pieces_of-meets, pieces_of
 use Rattle.properties_format.proofs.Lines.Meets.{lines_of-meets}
 use Rattle.properties_format.proofs.Lines.Only.{lines_of-only}
 use Rattle.properties_format.proofs.ItemsToCome.Unique.{rest_of_end-meets, rest_of_end-only, items_to_come-meets, items_to_come-only}
+use Rattle.properties_format.proofs.ItemsToCome.Lines.{natural-done}
 
 -- ---- items
 
@@ -24,20 +25,19 @@ are_to_come {s} {d} {ending} h = rw (← h) (items_to_come-meets s d ending)
 pub to_come_are : {s : ReaderState} {d : List ℕ} {ending : InputEnd} {entries : List Entry} → IsItemsToCome s d ending entries → items_to_come s d ending ≡ entries
 to_come_are {s} {d} {ending} {entries} h = sym (items_to_come-only s d ending entries h)
 
+-- an entry that reading these bytes gives comes first of them
 pub comes_first : {old new : ReaderState} {bytes : List ℕ} {entry : Entry} → ReadsEntry old bytes entry new → ComesFirst old bytes entry new
 comes_first {entry = entry} h = record {
   others = λ d ending entries k. are_to_come (h.items d ending ∙ ap (λ v. entry ∷ v) (to_come_are k));
 }
 
+-- and one that comes first of them is given by reading them
 pub first_comes : {old new : ReaderState} {bytes : List ℕ} {entry : Entry} → ComesFirst old bytes entry new → ReadsEntry old bytes entry new
 first_comes {new = new} h = record { items = λ d ending. to_come_are (h.others d ending (items_to_come new d ending) (items_to_come-meets new d ending)) }
 
 -- ---- natural lines
 
-natural-done : (s : ReaderState) (d : List ℕ) (ending : InputEnd) → s.is_done ≡ true → (natural_to_come s d ending ≡ []) × (last_to_come s d ending ≡ [])
-unfolding natural_to_come last_to_come
-natural-done s d ending h = (rw h refl, rw h refl)
-
+-- before the end for good there come the lines of the text to come, numbered on, and then what the ending adds
 natural-going : (s : ReaderState) (d : List ℕ) (ending : InputEnd) → s.is_done ≡ false
     → (natural_to_come s d ending ≡ numbered s.passed (lines_of (text_to_come s d)).ended (lines_of (text_to_come s d)).last ending)
     × (last_to_come s d ending ≡ last_entries (s.passed + line_ends (lines_of (text_to_come s d))) ending)
@@ -80,6 +80,7 @@ natural_to_come-only s d ending lines last (inr h) =
       k.are_last ∙ ap (λ (v : Lines). last_entries (s.passed + line_ends v) ending) all ∙ sym going.1,
     )
 
+-- lines that reading these bytes gives come first of them
 pub lines_come_first : {old new : ReaderState} {bytes : List ℕ} {lines : List Line} → ReadsLines old bytes lines new → LinesComeFirst old bytes lines new
 lines_come_first {old} {new} {bytes} {lines} h = record {
   others = λ d ending further last k.
@@ -88,6 +89,7 @@ lines_come_first {old} {new} {bytes} {lines} h = record {
       rw (same.0, same.1, ← gives.natural, ← gives.last) (natural_to_come-meets old (bytes ++ d) ending);
 }
 
+-- and lines that come first of them are given by reading them
 pub first_lines_come : {old new : ReaderState} {bytes : List ℕ} {lines : List Line} → LinesComeFirst old bytes lines new → ReadsLines old bytes lines new
 first_lines_come {old} {new} {bytes} {lines} h = record {
   gives = λ d ending.

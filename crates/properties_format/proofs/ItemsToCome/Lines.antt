@@ -1,18 +1,18 @@
 -- The natural lines to come, step by step: bytes are read, the byte order mark is decided, an LF is passed over, a line is taken, the input ends.
-use Rattle.std.proofs.Common.{◌≡◌, ◌==◌, ℕ, ◌+◌, ◌<◌, Bool, true, false, List, [], ◌∷◌, ◌++◌, length, refl, subst, ap, ap₂, sym, ◌∙◌, inl, inr}
+use Rattle.std.proofs.Common.{◌≡◌, ◌==◌, ℕ, ◌+◌, ◌<◌, Bool, true, false, List, [], ◌∷◌, ◌++◌, length, refl, ap, ap₂, sym, ◌∙◌, inl, inr}
 use Rattle.std.proofs.Common.{append_assoc, append-nil, eqb-true, add-zero}
 use Rattle.std.specs.Prelude.{if◌then◌else◌}
 use Rattle.std.proofs.lemmas.Bool.{cases_Bool, or_cases}
 use Rattle.properties_format.specs.Text.{line_feed, carriage_return, is_line_end, LineEnding, lf}
 use Rattle.properties_format.specs.Pieces.{characters}
-use Rattle.properties_format.specs.Encoding.{Encoding, InForce, ascii_bytes, byte_order_mark}
-use Rattle.properties_format.specs.Reading.Encoding.{decoded_of, pieces_of}
+use Rattle.properties_format.specs.Encoding.{InForce, ascii_bytes, byte_order_mark}
+use Rattle.properties_format.specs.Reading.Encoding.{pieces_of}
 use Rattle.properties_format.specs.Reading.Waiting.{awaits_bom}
 use Rattle.properties_format.specs.Reading.Cut.{decoded_line}
-use Rattle.properties_format.specs.Lines.{numbered_lines, Lines, HoldsNoLineEnd, InputEnd, end, fault, more, Line, line_ends, numbered}
+use Rattle.properties_format.specs.Lines.{Lines, HoldsNoLineEnd, InputEnd, end, fault, more, Line, line_ends, numbered}
 use Rattle.properties_format.specs.Reading.Lines.{begins_with_lf, rest_of_end, lines_of}
 use Rattle.properties_format.specs.Items.{Entry, read_fault, last_entries}
-use Rattle.properties_format.specs.ItemsToCome.{start, ReaderState, in_force}
+use Rattle.properties_format.specs.ItemsToCome.{ReaderState, in_force}
 use Rattle.properties_format.specs.Reading.ItemsToCome.{text_to_come, natural_to_come, last_to_come}
 use Rattle.properties_format.specs.Reading.ReaderSteps.{Gives, after_read, after_decided, after_passed, after_line, next_line, HoldsLine, HoldsNoEnd}
 use Rattle.properties_format.proofs.Encodings.ByteOrderMarks.{byte_order_mark-append, followed}
@@ -21,6 +21,7 @@ use Rattle.properties_format.proofs.Lines.Only.{lines_of-plain}
 use Rattle.properties_format.proofs.Lines.Plain.{one-more, plain-no_lf, without_leading_lf-none}
 use Rattle.properties_format.proofs.Cut.Units.{lf_first-append}
 use Rattle.properties_format.proofs.Cut.Byline.{no_end-decoded}
+use Rattle.properties_format.proofs.Cut.Steps.{line_in_front}
 use Rattle.properties_format.proofs.Cut.ToCome.{decoded-end, decoded-lf_first, decoded-no_lf}
 use Rattle.properties_format.specs.Cut.{units}
 use Rattle.properties_format.proofs.Lines.Steps.{lines_of-line, lines_of-cr, cr_end}
@@ -67,10 +68,6 @@ gives-read s r d ending =
     let of : List ℕ → InForce = λ b. if s.is_decided then record { encoding = s.encoding; body = b } else byte_order_mark s.encoding b in
     gives-text s (after_read s r) (r ++ d) d ending refl refl (ap (λ v. text_of s.after_cr (of v)) e)
 
--- The same where nothing comes after them.
-pub gives-read_last : (s : ReaderState) (r : List ℕ) (ending : InputEnd) → Gives s r [] (after_read s r) [] ending
-gives-read_last s r ending = subst (λ v. Gives s v [] (after_read s r) [] ending) (append-nil r) (gives-read s r [] ending)
-
 -- Held bytes that wait for no more decide the byte order mark.
 pub gives-decided : (s : ReaderState) (d : List ℕ) (ending : InputEnd) → s.is_decided ≡ false → awaits_bom s.held ≡ false
     → Gives s d [] (after_decided s) d ending
@@ -99,6 +96,7 @@ gives-passed_lf s rest d ending h k m =
     let g : text_to_come s d ≡ decoded_line s.encoding (rest ++ d) = text-decided s d h ∙ ap₂ rest_of_end k f in
     gives-text s (after_passed s rest) d d ending refl refl (g ∙ sym (text-decided (after_passed s rest) d h))
 
+-- where no LF comes first, none is left out
 rest_of_end-none : (after_cr : Bool) (x : List ℕ) → begins_with_lf x ≡ false → rest_of_end after_cr x ≡ x
 rest_of_end-none true x h = without_leading_lf-none x h
 rest_of_end-none false x h = refl
@@ -123,14 +121,10 @@ gives-passed_last s ending h m = gives-passed s [] ending h (ap (λ v. begins_wi
 
 -- ---- a line
 
--- lines with one more in front
-abbrev pub line_before : List ℕ → LineEnding → Lines → Lines
-line_before text by lines = record { ended = record { text = text; by = by } ∷ lines.ended; last = lines.last }
-
 -- a line and the character that ends it, before any text
 pub lines_of-ended : (text : List ℕ) (c : ℕ) (y : List ℕ) → HoldsNoLineEnd text → is_line_end c ≡ true
     → (by : LineEnding)
-    × (lines_of (text ++ c ∷ y) ≡ line_before text by (lines_of (rest_of_end (c == carriage_return) y)))
+    × (lines_of (text ++ c ∷ y) ≡ line_in_front text by (lines_of (rest_of_end (c == carriage_return) y)))
 lines_of-ended text c y h k = elim (or_cases (c == line_feed) (c == carriage_return) k) [
   | inl e ↦ rw (eqb-true c line_feed e) (lf, lines_of-line text lf y h (λ e. absurd (cc)))
   | inr e ↦ rw (eqb-true c carriage_return e) (cr_end y, lines_of-cr text y h)
@@ -139,7 +133,7 @@ lines_of-ended text c y h k = elim (or_cases (c == line_feed) (c == carriage_ret
 -- where the first line of the text to come is known
 gives-lines : (s t : ReaderState) (d : List ℕ) (ending : InputEnd) (text : List ℕ) (by : LineEnding) → s.is_done ≡ false → t.is_done ≡ false
     → t.passed ≡ s.passed + 1
-    → lines_of (text_to_come s d) ≡ line_before text by (lines_of (text_to_come t d))
+    → lines_of (text_to_come s d) ≡ line_in_front text by (lines_of (text_to_come t d))
     → Gives s d (record { number = s.passed + 1; text = text } ∷ []) t d ending
 unfolding natural_to_come last_to_come
 gives-lines s t d ending text by h k m e = rw (h, k, m) (record {
@@ -165,7 +159,7 @@ line-plain s l c rest d ending h plain =
     ∙ decoded-end s.encoding c l (rest ++ d) h.ends h.aligned in
     let g : rest_of_end (c == carriage_return) y ≡ text_to_come t d = sym (text-decided t d h.decided) in
     let k = lines_of-ended text c y plain h.ends in
-    gives-lines s t d ending text k.0 h.going h.going refl (ap lines_of f ∙ k.1 ∙ ap (λ v. line_before text k.0 (lines_of v)) g)
+    gives-lines s t d ending text k.0 h.going h.going refl (ap lines_of f ∙ k.1 ∙ ap (λ v. line_in_front text k.0 (lines_of v)) g)
 
 -- A line among the held bytes comes next, and then what comes of the rest.
 pub gives-line : (s : ReaderState) (l : List ℕ) (c : ℕ) (rest d : List ℕ) (ending : InputEnd) → HoldsLine s l c rest
@@ -217,12 +211,7 @@ natural-more s h = at-last s more h (no_end-decoded s.encoding s.held h.none)
 
 -- ---- all natural lines
 
--- At the start the natural lines to come are the numbered lines of the decoded text.
-pub natural-start : (e : Encoding) (d : List ℕ) (ending : InputEnd) → natural_to_come (start e) d ending ≡ numbered_lines (lines_of (decoded_of e d)) ending
-unfolding natural_to_come
-natural-start e d ending = refl
-
--- They are numbered on from the line ends that were passed, without a gap.
+-- The natural lines to come are numbered on from the line ends that were passed, without a gap.
 pub natural-in_order : (s : ReaderState) (d : List ℕ) (ending : InputEnd) → AreNumbered s.passed (natural_to_come s d ending)
 unfolding natural_to_come
 natural-in_order s d ending = elim (cases_Bool s.is_done) [

@@ -9,6 +9,7 @@ use Rattle.properties_format.specs.Reading.ItemsToCome.{text_to_come, items_to_c
 use Rattle.properties_format.proofs.Items.Numbers.{lines-ascend}
 use Rattle.properties_format.proofs.ItemsToCome.Unique.{items_to_come-only}
 
+-- the numbers of the computed ones strictly ascend, above the line ends that were passed
 pub items_to_come-ascend : (s : ReaderState) (d : List ℕ) (ending : InputEnd) → NumbersAscend s.passed (items_to_come s d ending)
 unfolding items_to_come
 items_to_come-ascend s d ending = elim (cases_Bool s.is_done) [

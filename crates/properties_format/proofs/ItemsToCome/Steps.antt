@@ -1,22 +1,19 @@
--- Steps of a reader one after the other: natural lines to logical lines, and these to entries.
-use Rattle.std.proofs.Common.{◌≡◌, ℕ, true, false, List, [], ◌∷◌, ◌++◌, length, ◌<◌, Option, Some, None, refl, ap, sym, ◌∙◌, subst, append_assoc, append-nil}
+-- Steps of a reader one after the other: natural lines to logical lines.
+use Rattle.std.proofs.Common.{◌≡◌, ℕ, true, false, List, [], ◌∷◌, ◌++◌, length, ◌<◌, Some, None, refl, ap, sym, ◌∙◌, subst, append_assoc}
 use Rattle.properties_format.specs.Text.{line_feed}
 use Rattle.properties_format.specs.Encoding.{ascii_bytes}
 use Rattle.properties_format.specs.Cut.{units}
 use Rattle.properties_format.specs.Reading.Lines.{begins_with_lf}
 use Rattle.properties_format.specs.Reading.Waiting.{awaits_bom}
 use Rattle.properties_format.specs.Lines.{InputEnd, Line}
-use Rattle.properties_format.specs.Groups.{is_open, is_comment_line, without_open_backslash, addition}
-use Rattle.properties_format.specs.Escapes.{Malformed}
-use Rattle.properties_format.specs.Items.{Content, Entry, item, malformed, ignored, given, broken}
+use Rattle.properties_format.specs.Groups.{is_open, is_comment_line, without_open_backslash}
+use Rattle.properties_format.specs.Items.{Entry}
 use Rattle.properties_format.specs.Reading.Items.{outcome_of, followed}
 use Rattle.properties_format.specs.ItemsToCome.{ReaderState}
 use Rattle.properties_format.specs.Reading.ItemsToCome.{items_to_come, entries_pending}
-use Rattle.properties_format.specs.Reading.ReaderSteps.{Gives, after_read, after_decided, after_passed, HoldsLine, next_line, after_line, ReadsLines, ReadsOn, ReadsLogical, ReadsEntry}
-use Rattle.properties_format.proofs.Items.Outcomes.{followed-ignored, followed-given, followed-broken}
-use Rattle.properties_format.proofs.ItemsToCome.Unique.{items_to_come-done}
-use Rattle.properties_format.proofs.ItemsToCome.Lines.{gives-read, gives-decided, gives-decided_last, gives-passed_lf, gives-passed_none, gives-line}
-use Rattle.properties_format.proofs.ItemsToCome.Entries.{items_to_come-pending, gives-on, pending-same, pending-comment_line, pending-closed, pending-open, joining-open, joining-closed}
+use Rattle.properties_format.specs.Reading.ReaderSteps.{Gives, after_read, after_decided, after_passed, HoldsLine, next_line, after_line, ReadsLines, ReadsOn, ReadsLogical}
+use Rattle.properties_format.proofs.ItemsToCome.Lines.{gives-read, gives-decided, gives-passed_lf, gives-passed_none, gives-line}
+use Rattle.properties_format.proofs.ItemsToCome.Entries.{items_to_come-pending, gives-on, pending-comment_line, pending-closed, pending-open}
 
 -- ---- natural lines
 
@@ -66,22 +63,11 @@ regroup : (s : ReaderState) (r q d : List ℕ) (ending : InputEnd) (entries : Li
     → items_to_come s ((r ++ q) ++ d) ending ≡ entries
 regroup s r q d ending entries h = ap (λ v. items_to_come s v ending) (append_assoc r q d) ∙ h
 
--- a step that gives no line leaves the join as it is
-pub on-same : {s t u : ReaderState} {r q : List ℕ} {pending : Option Line} → ReadsOn s r pending t → ReadsLines t q [] u → ReadsOn s (r ++ q) pending u
-on-same {s} {t} {u} {r} {q} {pending} h k =
-    record { items = λ d ending. regroup s r q d ending _ (h.items (q ++ d) ending ∙ pending-same pending (k.gives d ending)) }
-
 -- an open line that is no comment line begins a join
 pub on-open : {s t u : ReaderState} {r q : List ℕ} {l : Line} → ReadsOn s r None t → ReadsLines t q (l ∷ []) u → is_comment_line l.text ≡ false
     → is_open l.text ≡ true
     → ReadsOn s (r ++ q) (Some (record { number = l.number; text = without_open_backslash l.text })) u
 on-open {s} {t} {u} {r} {q} h k m o = record { items = λ d ending. regroup s r q d ending _ (h.items (q ++ d) ending ∙ pending-open (k.gives d ending) m o) }
-
--- each open line after it is one more of the join
-pub on-more : {s t u : ReaderState} {r q : List ℕ} {join l : Line} → ReadsOn s r (Some join) t → ReadsLines t q (l ∷ []) u → is_open l.text ≡ true
-    → ReadsOn s (r ++ q) (Some (record { number = join.number; text = join.text ++ addition l.text })) u
-on-more {s} {t} {u} {r} {q} {join} h k o =
-    record { items = λ d ending. regroup s r q d ending _ (h.items (q ++ d) ending ∙ joining-open join (k.gives d ending) o) }
 
 -- ---- logical lines
 
@@ -107,48 +93,3 @@ logical-closed {s} {t} {u} {r} {q} {l} h k o =
       items = λ d ending. regroup s r q d ending _
           (h.items (q ++ d) ending ∙ pending-closed (k.gives d ending) o ∙ none-open l.number l.text u d ending);
     }
-
--- where a join is open, a line that is not open is its last
-pub logical-joined : {s t u : ReaderState} {r q : List ℕ} {join l : Line} → ReadsOn s r (Some join) t → ReadsLines t q (l ∷ []) u → is_open l.text ≡ false
-    → ReadsLogical s (r ++ q) (record { number = join.number; text = join.text ++ addition l.text }) u
-logical-joined {s} {t} {u} {r} {q} {join} {l} h k o =
-    record {
-      items = λ d ending. regroup s r q d ending _
-          (h.items (q ++ d) ending ∙ joining-closed join (k.gives d ending) o ∙ none-open join.number (join.text ++ addition l.text) u d ending);
-    }
-
--- ---- entries
-
--- a logical line that comes to nothing is passed over
-pub on-ignored : {s t : ReaderState} {r : List ℕ} {line : Line} → ReadsLogical s r line t → outcome_of line.text ≡ ignored → ReadsOn s r None t
-on-ignored {s} {t} {r} {line} h k =
-    record { items = λ d ending. h.items d ending ∙ followed-ignored line.number line.text (items_to_come t d ending) k ∙ items_to_come-pending t d ending }
-
--- a content is an item
-pub entry-given : {s t : ReaderState} {r : List ℕ} {line : Line} {content : Content} → ReadsLogical s r line t → outcome_of line.text ≡ given content
-    → ReadsEntry s r (item line.number content) t
-entry-given {s} {t} {r} {line} {content} h k =
-    record { items = λ d ending. h.items d ending ∙ followed-given line.number line.text content (items_to_come t d ending) k }
-
--- malformed escapes are an entry, and the reader is done
-pub entry-broken : {s t : ReaderState} {r : List ℕ} {line : Line} {kind : Malformed} → ReadsLogical s r line t → outcome_of line.text ≡ broken kind
-    → (done : ReaderState) → done.is_done ≡ true → ReadsEntry s r (malformed kind line.number) done
-entry-broken {s} {t} {r} {line} {kind} h k done m =
-    record {
-      items = λ d ending.
-          h.items d ending
-          ∙ followed-broken line.number line.text kind (items_to_come t d ending) k
-          ∙ ap (λ v. malformed kind line.number ∷ v) (sym (items_to_come-done done d ending m));
-    }
-
--- ---- nothing comes
-
--- what comes where nothing follows the bytes that were read
-pub on-last : {s t : ReaderState} {r : List ℕ} {pending : Option Line} → ReadsOn s r pending t → (ending : InputEnd)
-    → items_to_come s r ending ≡ entries_pending pending t [] ending
-on-last {s} {t} {r} {pending} h ending = ap (λ v. items_to_come s v ending) (sym (append-nil r)) ∙ h.items [] ending
-
--- and where the reader must first decide whether a byte order mark is at the front
-pub on-last_decided : {s t : ReaderState} {r : List ℕ} {pending : Option Line} → ReadsOn s r pending t → t.is_decided ≡ false → (ending : InputEnd)
-    → items_to_come s r ending ≡ entries_pending pending (after_decided t) [] ending
-on-last_decided {s} {t} {r} {pending} h k ending = on-last h ending ∙ pending-same pending (gives-decided_last t ending k)

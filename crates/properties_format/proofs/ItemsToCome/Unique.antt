@@ -31,6 +31,7 @@ rest_of_end-meets true (c ∷ cs) = elim (eqb_tells c line_feed) [
   | inr k ↦ rw k.0 (inr (refl, (λ y h. let e : (c == line_feed) ≡ true = cc in cc)))
 ]
 
+-- and no other text is
 pub rest_of_end-only : (after_cr : Bool) (x text : List ℕ) → IsAfterEnd after_cr x text → text ≡ rest_of_end after_cr x
 rest_of_end-only false x text h = sym h
 rest_of_end-only true x text (inl h) = ap without_leading_lf (sym h)
@@ -42,6 +43,7 @@ rest_of_end-only true (c ∷ cs) text (inr h) = elim (eqb_tells c line_feed) [
 
 -- ---- the items to come
 
+-- what is computed are the entries of what is held and what comes
 further-meets : (s : ReaderState) (d : List ℕ) (ending : InputEnd)
     → AreFurtherEntries s d ending (further_entries s.passed (lines_of (text_to_come s d)) ending)
 further-meets s d ending =
@@ -60,6 +62,7 @@ further-meets s d ending =
       are_entries = entries_of-meets (s.passed + line_ends lines) ending (groups_of numbers ending);
     }
 
+-- and there are no others
 further-only : (s : ReaderState) (d : List ℕ) (ending : InputEnd) (entries : List Entry) → AreFurtherEntries s d ending entries
     → entries ≡ further_entries s.passed (lines_of (text_to_come s d)) ending
 further-only s d ending entries h =
@@ -76,6 +79,7 @@ pub items_to_come-done : (s : ReaderState) (d : List ℕ) (ending : InputEnd) �
 unfolding items_to_come
 items_to_come-done s d ending h = rw h refl
 
+-- and before it they are the entries of what is held and what comes
 items_to_come-going : (s : ReaderState) (d : List ℕ) (ending : InputEnd) → s.is_done ≡ false
     → items_to_come s d ending ≡ further_entries s.passed (lines_of (text_to_come s d)) ending
 unfolding items_to_come
@@ -108,6 +112,7 @@ pub to_come-is_items : (e : Encoding) (d : List ℕ) (ending : InputEnd) (entrie
     → IsItems e d ending entries
 to_come-is_items e d ending entries h = rw (items_to_come-only (start e) d ending entries h, items_to_come-start e d ending) (items_of-meets e d ending)
 
+-- And the items of the input are what comes of a reader at its start.
 pub items-are_to_come : (e : Encoding) (d : List ℕ) (ending : InputEnd) (entries : List Entry) → IsItems e d ending entries
     → IsItemsToCome (start e) d ending entries
 items-are_to_come e d ending entries h = rw (items_of-only e d ending entries h, ← items_to_come-start e d ending) (items_to_come-meets (start e) d ending)

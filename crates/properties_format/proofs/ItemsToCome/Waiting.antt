@@ -18,36 +18,42 @@ use Rattle.properties_format.proofs.Encodings.ByteOrderMarks.{awaits_bom-long}
 abbrev pub IsPlainFront : Encoding → List ℕ → Type 0
 IsPlainFront e b = (byte_order_mark e b ≡ record { encoding = e; body = b }) × HoldsNoLineEndUnit e b
 
+-- so it is of no bytes
 front-none : (e : Encoding) → IsPlainFront e []
 front-none windows_1252 = (refl, tt)
 front-none utf_8 = (refl, tt)
 front-none utf_16le = (refl, tt)
 front-none utf_16be = (refl, tt)
 
+-- of the byte EF alone
 front-ef : (e : Encoding) → IsPlainFront e (0xef ∷ [])
 front-ef windows_1252 = (refl, (refl, tt))
 front-ef utf_8 = (refl, (refl, tt))
 front-ef utf_16le = (refl, tt)
 front-ef utf_16be = (refl, tt)
 
+-- of the byte FE alone
 front-fe : (e : Encoding) → IsPlainFront e (0xfe ∷ [])
 front-fe windows_1252 = (refl, (refl, tt))
 front-fe utf_8 = (refl, (refl, tt))
 front-fe utf_16le = (refl, tt)
 front-fe utf_16be = (refl, tt)
 
+-- of the byte FF alone
 front-ff : (e : Encoding) → IsPlainFront e (0xff ∷ [])
 front-ff windows_1252 = (refl, (refl, tt))
 front-ff utf_8 = (refl, (refl, tt))
 front-ff utf_16le = (refl, tt)
 front-ff utf_16be = (refl, tt)
 
+-- of the bytes EF and BB
 front-ef_bb : (e : Encoding) → IsPlainFront e (0xef ∷ 0xbb ∷ [])
 front-ef_bb windows_1252 = (refl, (refl, (refl, tt)))
 front-ef_bb utf_8 = (refl, (refl, (refl, tt)))
 front-ef_bb utf_16le = (refl, (refl, tt))
 front-ef_bb utf_16be = (refl, (refl, tt))
 
+-- of one byte that waits for a byte order mark
 front-one : (e : Encoding) (b : ℕ) → awaits_bom (b ∷ []) ≡ true → IsPlainFront e (b ∷ [])
 front-one e b h = elim (eqb_tells 0xef b) [
   | inl k ↦ rw (← k.1) (front-ef e)
@@ -60,10 +66,12 @@ front-one e b h = elim (eqb_tells 0xef b) [
   ]
 ]
 
+-- a test and a false one don't both hold
 and-false : (b : Bool) → (b && false) ≡ false
 and-false true = refl
 and-false false = refl
 
+-- and of two bytes that wait for one
 front-two : (e : Encoding) (b c : ℕ) → awaits_bom (b ∷ c ∷ []) ≡ true → IsPlainFront e (b ∷ c ∷ [])
 front-two e b c h = elim (eqb_tells 0xef b) [
   | inl k ↦ elim (eqb_tells 0xbb c) [
@@ -107,6 +115,7 @@ low-unit a b = elim (eqb_tells line_feed a) [
   | inr k ↦ rw k.0 (sym (ne_eqb (low_first a b) line_feed (λ e. let n = eqb-false line_feed a k.0 in omega arith)))
 ]
 
+-- and where the high byte comes first
 high-unit : (a b : ℕ) → (0 == a && (line_feed == b && true)) ≡ (high_first a b == line_feed)
 high-unit a b = elim (eqb_tells 0 a) [
   | inl k ↦ elim (eqb_tells line_feed b) [

@@ -1,9 +1,8 @@
 -- The lines of two texts together: where the second one comes after the first, the lines that the first ends stay.
-use Rattle.std.proofs.Common.{◌≡◌, ℕ, ◌+◌, ◌==◌, false, List, [], ◌∷◌, ◌++◌, length, refl, ap, sym, ◌∙◌, append_assoc, add-zero, Bool, true, inl, inr}
-use Rattle.std.proofs.lemmas.Bool.{cases_Bool}
+use Rattle.std.proofs.Common.{◌≡◌, ℕ, ◌+◌, ◌==◌, false, List, [], ◌∷◌, ◌++◌, length, refl, ap, sym, ◌∙◌, add-zero}
 use Rattle.properties_format.specs.Text.{line_feed, carriage_return, LineEnding, lf, cr, crlf, line_ending_text}
 use Rattle.properties_format.specs.Lines.{Ended, put_together, HoldsNoLineEnd, BeginsWithNoLoneLf, AreLines, InputEnd, more, line_ends, numbered}
-use Rattle.properties_format.specs.Reading.Lines.{begins_with_lf, ends_in_cr, lines_of, lines_to_come, rest_of_end}
+use Rattle.properties_format.specs.Reading.Lines.{begins_with_lf, ends_in_cr, lines_of, lines_to_come}
 use Rattle.properties_format.proofs.Lines.Meets.{lines_of-meets}
 use Rattle.properties_format.proofs.Lines.Plain.{one-more, regroup, plain-no_cr, no_lf_first, ends_in_cr-append, ends-after, ends-lf, ends-crlf}
 use Rattle.properties_format.proofs.Lines.Steps.{lines_to_come-cr, lines_to_come-line}
@@ -15,6 +14,7 @@ Goes : List Ended → List ℕ → Type 0
 Goes ls last = (n : ℕ) (y : List ℕ) (e : InputEnd)
     → lines_to_come n false [] (put_together ls last ++ y) e ≡ numbered n ls last more ++ lines_to_come (n + length ls) (ends_in_cr (put_together ls last)) last y e
 
+-- a last line without a line end
 goes-last : (last : List ℕ) → HoldsNoLineEnd last → Goes [] last
 unfolding Goes
 goes-last last h n y e = rw (plain-no_cr last h, add-zero n) refl
@@ -60,12 +60,14 @@ goes-cr-rest text (l ∷ ls) last h are none goes = of_line l.text l.by refl
     of_line [] cr e = goes-cr-on text (l ∷ ls) last carriage_return (put_together ls last) (ap (λ v. put_together (v ∷ ls) last) e) (rw e at k) h goes
     of_line [] crlf e = goes-cr-on text (l ∷ ls) last carriage_return (line_feed ∷ put_together ls last) (ap (λ v. put_together (v ∷ ls) last) e) (rw e at k) h goes
 
+-- any line with its end, in front of such lines
 goes-any : (text : List ℕ) (by : LineEnding) (ls : List Ended) (last : List ℕ) → HoldsNoLineEnd text → (by ≡ cr → BeginsWithNoLoneLf ls) → AreLines ls last → Goes ls last
     → Goes (record { text = text; by = by } ∷ ls) last
 goes-any text lf ls last h k are goes = goes-line text lf ls last h (λ y e. absurd (cc)) (ends-lf text (put_together ls last)) goes
 goes-any text cr ls last h k are goes = goes-cr-rest text ls last h are (k refl) goes
 goes-any text crlf ls last h k are goes = goes-line text crlf ls last h (λ y e. absurd (cc)) (ends-crlf text (put_together ls last)) goes
 
+-- all lines of a text are such
 goes : (ls : List Ended) (last : List ℕ) → AreLines ls last → Goes ls last
 goes [] last h = goes-last last h
 goes (l ∷ ls) last h = goes-any l.text l.by ls last h.0 h.1 h.2 (goes ls last h.2)
@@ -80,17 +82,3 @@ lines_to_come-append n x y e =
     ap (λ v. lines_to_come n false [] (v ++ y) e) m.text
     ∙ goes (lines_of x).ended (lines_of x).last m.are_lines n y e
     ∙ ap (λ v. lines_to_come n false [] x more ++ lines_to_come (n + line_ends (lines_of x)) (ends_in_cr v) (lines_of x).last y e) (sym m.text)
-
-rest-append : (after_cr : Bool) (c : ℕ) (x y : List ℕ) → rest_of_end after_cr (c ∷ x ++ y) ≡ rest_of_end after_cr (c ∷ x) ++ y
-rest-append false c x y = refl
-rest-append true c x y = elim (cases_Bool (c == line_feed)) [ inl k ↦ rw k refl | inr k ↦ rw k refl ]
-
--- The same anywhere in a text: what a part gives, and where the reading then stands.
-pub lines_to_come-part : (n : ℕ) (after_cr : Bool) (held : List ℕ) (c : ℕ) (x y : List ℕ) (e : InputEnd)
-    → let z = held ++ rest_of_end after_cr (c ∷ x) in
-    lines_to_come n after_cr held (c ∷ x ++ y) e
-    ≡ lines_to_come n after_cr held (c ∷ x) more ++ lines_to_come (n + line_ends (lines_of z)) (ends_in_cr z) (lines_of z).last y e
-lines_to_come-part n after_cr held c x y e =
-    ap (λ v. lines_to_come n false held v e) (rest-append after_cr c x y)
-    ∙ ap (λ v. lines_to_come n false [] v e) (sym (append_assoc held (rest_of_end after_cr (c ∷ x)) y))
-    ∙ lines_to_come-append n (held ++ rest_of_end after_cr (c ∷ x)) y e

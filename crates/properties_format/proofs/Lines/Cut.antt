@@ -1,17 +1,17 @@
 -- Where a text may be cut: the lines of the two parts are the lines of the whole, save that no CR and LF may be parted.
-use Rattle.std.proofs.Common.{◌≡◌, ℕ, suc, ◌+◌, true, false, List, [], ◌∷◌, ◌++◌, length, refl, ap, sym, ◌∙◌, length-append}
+use Rattle.std.proofs.Common.{◌≡◌, ℕ, true, false, List, [], ◌∷◌, ◌++◌, refl, ap, ◌∙◌}
 use Rattle.properties_format.specs.Text.{carriage_return, LineEnding, lf, cr, crlf, line_ending_text}
-use Rattle.properties_format.specs.Lines.{Ended, Lines, put_together, AreLines, more, line_ends, numbered}
-use Rattle.properties_format.specs.Reading.Lines.{begins_with_lf, ends_in_cr, lines_of, rest_of_end}
+use Rattle.properties_format.specs.Lines.{Ended, Lines, put_together, AreLines}
+use Rattle.properties_format.specs.Reading.Lines.{begins_with_lf, ends_in_cr, lines_of}
 use Rattle.properties_format.proofs.Lines.Meets.{lines_of-meets}
 use Rattle.properties_format.proofs.Lines.Plain.{no_lf_first, ends_in_cr-append, ends-after, regroup}
 use Rattle.properties_format.proofs.Lines.Steps.{lines_of-line}
-use Rattle.properties_format.proofs.Lines.Append.{lines_to_come-append}
 
 -- no CR at the end of the first is parted from an LF at the front of the second
 abbrev pub PartsNoEnd : List ℕ → List ℕ → Type 0
 PartsNoEnd x y = ends_in_cr x ≡ true → begins_with_lf y ≡ false
 
+-- where a cut parts no CR from an LF, it parts none either without the first line and its end
 after-line : (text : List ℕ) (by : LineEnding) (x y : List ℕ) → (by ≡ cr → begins_with_lf x ≡ false) → PartsNoEnd (text ++ (line_ending_text by ++ x)) y
     → (by ≡ cr → begins_with_lf (x ++ y) ≡ false) × PartsNoEnd x y
 after-line text lf [] y h k = ((λ e. absurd (cc)), (λ e. absurd (cc)))
@@ -23,6 +23,7 @@ after-line text by (c ∷ x) y h k = (h, (λ e. k (ends-after text by c x ∙ e)
 abbrev pub lines_on : List Ended → Lines → Lines
 lines_on ls lines = record { ended = ls ++ lines.ended; last = lines.last }
 
+-- the lines of a text and of what comes after it: its ended ones, and then those of its last line and what comes
 of-lines : (ls : List Ended) (last y : List ℕ) → AreLines ls last → PartsNoEnd (put_together ls last) y
     → lines_of (put_together ls last ++ y) ≡ lines_on ls (lines_of (last ++ y))
 of-lines [] last y h k = refl
@@ -38,25 +39,3 @@ lines_of-append x y h =
     let m = lines_of-meets x in
     let k : PartsNoEnd (put_together (lines_of x).ended (lines_of x).last) y = λ e. h (ap ends_in_cr m.text ∙ e) in
     ap (λ v. lines_of (v ++ y)) m.text ∙ of-lines (lines_of x).ended (lines_of x).last y m.are_lines k
-
--- where the first part ends in a line end, the lines of the parts stand one after the other
-pub lines_of-cut : (x y : List ℕ) → (lines_of x).last ≡ [] → PartsNoEnd x y → lines_of (x ++ y) ≡ lines_on (lines_of x).ended (lines_of y)
-lines_of-cut x y e h = lines_of-append x y h ∙ ap (λ v. lines_on (lines_of x).ended (lines_of (v ++ y))) e
-
--- ---- counts
-
-length-numbered : (n : ℕ) (ls : List Ended) (last : List ℕ) → length (numbered n ls last more) ≡ length ls
-length-numbered n [] last = refl
-length-numbered n (l ∷ ls) last = ap suc (length-numbered (n + 1) ls last)
-
--- the number of line ends of a whole
-pub line_ends-append : (x y : List ℕ)
-    → line_ends (lines_of (x ++ y)) ≡ line_ends (lines_of x) + line_ends (lines_of ((lines_of x).last ++ rest_of_end (ends_in_cr x) y))
-line_ends-append x y =
-    let z = lines_of (x ++ y) in
-    let n = line_ends (lines_of x) in
-    let w = lines_of ((lines_of x).last ++ rest_of_end (ends_in_cr x) y) in
-    sym (length-numbered 0 z.ended z.last)
-    ∙ ap length (lines_to_come-append 0 x y more)
-    ∙ length-append (numbered 0 (lines_of x).ended (lines_of x).last more) (numbered (0 + n) w.ended w.last more)
-    ∙ rw (length-numbered 0 (lines_of x).ended (lines_of x).last, length-numbered (0 + n) w.ended w.last) refl

@@ -13,6 +13,7 @@ before-plain c lines h =
     let f : (c == carriage_return) ≡ false = (or_parts (c == line_feed) (c == carriage_return) h).1 in
     rw e (rw f refl)
 
+-- an LF before any lines
 lf-meets : (x : List ℕ) (lines : Lines) → IsLines x lines → IsLines (line_feed ∷ x) (record lines { ended = end_before lf lines.ended })
 lf-meets x lines h = record { text = ap (λ v. line_feed ∷ v) h.text; are_lines = (tt, (λ k. absurd (cc)), h.are_lines) }
 
@@ -25,16 +26,19 @@ cr-meets-line [] cr ls last x h = record { text = ap (λ v. carriage_return ∷ 
 cr-meets-line [] crlf ls last x h = record { text = ap (λ v. carriage_return ∷ v) h.text; are_lines = (tt, (λ k p. absurd (cc)), h.are_lines) }
 cr-meets-line (c ∷ cs) by ls last x h = record { text = ap (λ v. carriage_return ∷ v) h.text; are_lines = (tt, (λ k p. absurd (cc)), h.are_lines) }
 
+-- a CR before any lines, or before none
 cr-meets : (ended : List Ended) (last x : List ℕ) → IsLines x (record { ended = ended; last = last })
     → IsLines (carriage_return ∷ x) (record { ended = cr_before ended; last = last })
 cr-meets [] last x h = record { text = ap (λ v. carriage_return ∷ v) h.text; are_lines = (tt, (λ k. tt), h.are_lines) }
 cr-meets (l ∷ ls) last x h = cr-meets-line l.text l.by ls last x h
 
+-- any other character before any lines
 character-meets : (c : ℕ) (ended : List Ended) (last x : List ℕ) → is_line_end c ≡ false → IsLines x (record { ended = ended; last = last })
     → IsLines (c ∷ x) (character_before c ended last)
 character-meets c [] last x e h = record { text = ap (λ v. c ∷ v) h.text; are_lines = (e, h.are_lines) }
 character-meets c (l ∷ ls) last x e h = record { text = ap (λ v. c ∷ v) h.text; are_lines = ((e, h.are_lines.0), h.are_lines.1, h.are_lines.2) }
 
+-- each character before any lines
 before-meets : (c : ℕ) (x : List ℕ) (lines : Lines) → IsLines x lines → IsLines (c ∷ x) (before c lines)
 before-meets c x lines h = elim (eqb_tells c line_feed) [
   | inl k ↦ rw k.1 (lf-meets x lines h)

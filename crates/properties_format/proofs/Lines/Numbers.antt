@@ -10,12 +10,14 @@ abbrev pub AreNumbered : ℕ → List Line → Type 0
 AreNumbered n [] = Unit {0}
 AreNumbered n (l ∷ ls) = (l.number ≡ n + 1) × AreNumbered (n + 1) ls
 
+-- lines after n line ends are numbered so
 pub numbered-in_order : (n : ℕ) (ls : List Ended) (last : List ℕ) (e : InputEnd) → AreNumbered n (numbered n ls last e)
 numbered-in_order n [] last end = (refl, tt)
 numbered-in_order n [] last fault = tt
 numbered-in_order n [] last more = tt
 numbered-in_order n (l ∷ ls) last e = (refl, numbered-in_order (n + 1) ls last e)
 
+-- and so are the lines to come
 pub lines_to_come-in_order : (n : ℕ) (after_cr : Bool) (held y : List ℕ) (e : InputEnd) → AreNumbered n (lines_to_come n after_cr held y e)
 lines_to_come-in_order n after_cr held y e = let lines = lines_of (held ++ rest_of_end after_cr y) in numbered-in_order n lines.ended lines.last e
 
@@ -23,17 +25,6 @@ lines_to_come-in_order n after_cr held y e = let lines = lines_of (held ++ rest_
 pub in_order-right : (n : ℕ) (ls ms : List Line) → AreNumbered n (ls ++ ms) → AreNumbered (n + length ls) ms
 in_order-right n [] ms h = rw (add-zero n) h
 in_order-right n (l ∷ ls) ms h = rw (one-more n (length ls)) at (in_order-right (n + 1) ls ms h.1)
-
--- at the end there is one line more than at a fault, and it has the number after those of all line ends
-pub numbered-end : (n : ℕ) (ls : List Ended) (last : List ℕ)
-    → numbered n ls last end ≡ numbered n ls last more ++ record { number = n + length ls + 1; text = last } ∷ []
-numbered-end n [] last = rw (add-zero n) refl
-numbered-end n (l ∷ ls) last = ap (λ v. record { number = n + 1; text = l.text } ∷ v) (numbered-end (n + 1) ls last) ∙ rw (one-more n (length ls)) refl
-
--- a fault and what is not known yet leave out the same line
-pub numbered-fault : (n : ℕ) (ls : List Ended) (last : List ℕ) → numbered n ls last fault ≡ numbered n ls last more
-numbered-fault n [] last = refl
-numbered-fault n (l ∷ ls) last = ap (λ v. record { number = n + 1; text = l.text } ∷ v) (numbered-fault (n + 1) ls last)
 
 -- The lines that a text ends are lines of every text that it begins, with their numbers; the others come after them.
 pub numbered_lines-append : (x y : List ℕ) (e : InputEnd)

@@ -10,6 +10,7 @@ pub lines_of-plain : (l : List ℕ) → HoldsNoLineEnd l → lines_of l ≡ reco
 lines_of-plain [] h = refl
 lines_of-plain (c ∷ l) h = ap (before c) (lines_of-plain l h.1) ∙ before-plain c (record { ended = []; last = l }) h.0
 
+-- before a line that is no lone LF, a CR ends an empty line
 cr-before-line : (text : List ℕ) (by : LineEnding) (ls : List Ended) → ¬ ((text ≡ []) × (by ≡ lf))
     → cr_before (record { text = text; by = by } ∷ ls) ≡ end_before cr (record { text = text; by = by } ∷ ls)
 cr-before-line [] lf ls h = absurd (h (refl, refl))

@@ -6,14 +6,17 @@ use Rattle.properties_format.specs.Lines.{Ended, put_together, HoldsNoLineEnd, B
 use Rattle.properties_format.specs.Reading.Lines.{begins_with_lf, ends_in_cr, without_leading_lf, lines_of}
 use Rattle.properties_format.proofs.Lines.Meets.{lines_of-meets}
 
+-- a text without a line end and then another have none together
 pub plain-append : (x y : List ℕ) → HoldsNoLineEnd x → HoldsNoLineEnd y → HoldsNoLineEnd (x ++ y)
 plain-append [] y h k = k
 plain-append (c ∷ x) y h k = (h.0, plain-append x y h.1 k)
 
+-- a text without a line end has none in its front
 pub plain-left : (x y : List ℕ) → HoldsNoLineEnd (x ++ y) → HoldsNoLineEnd x
 plain-left [] y h = tt
 plain-left (c ∷ x) y h = (h.0, plain-left x y h.1)
 
+-- and none in the rest
 pub plain-right : (x y : List ℕ) → HoldsNoLineEnd (x ++ y) → HoldsNoLineEnd y
 plain-right [] y h = h
 plain-right (c ∷ x) y h = plain-right x y h.1
@@ -59,6 +62,7 @@ no_lf_first (l ∷ ls) last h k = of_line l.text l.by (put_together ls last) h.0
     of_line [] crlf y h k = refl
     of_line (c ∷ text) by y h k = plain-no_lf (c ∷ text) h
 
+-- so it is of the lines of a text
 pub lines_of-no_lone_lf : (y : List ℕ) → begins_with_lf y ≡ false → BeginsWithNoLoneLf (lines_of y).ended
 lines_of-no_lone_lf y h = no_lone_lf (lines_of y).ended (lines_of y).last (sym (ap begins_with_lf (lines_of-meets y).text) ∙ h)
 
@@ -79,6 +83,7 @@ ends_in_cr-meets [] h = absurd (cc)
 ends_in_cr-meets (c ∷ []) h = ([], ap (λ v. v ∷ []) (eqb-true c carriage_return h))
 ends_in_cr-meets (c ∷ d ∷ ds) h = let k : EndsInCr (d ∷ ds) = ends_in_cr-meets (d ∷ ds) h in (c ∷ k.0, ap (λ v. c ∷ v) k.1)
 
+-- it is true of each of them
 pub ends_in_cr-only : (x : List ℕ) → EndsInCr x → ends_in_cr x ≡ true
 ends_in_cr-only x h = ap ends_in_cr h.1 ∙ ends_in_cr-append h.0 carriage_return []
 
@@ -93,14 +98,17 @@ pub ends-lf : (text : List ℕ) (x : List ℕ) → ends_in_cr (text ++ line_feed
 ends-lf text [] = ends_in_cr-append text line_feed []
 ends-lf text (c ∷ x) = ends_in_cr-append text line_feed (c ∷ x)
 
+-- and neither is a CR LF
 pub ends-crlf : (text : List ℕ) (x : List ℕ) → ends_in_cr (text ++ carriage_return ∷ line_feed ∷ x) ≡ ends_in_cr x
 ends-crlf text [] = ends_in_cr-append text carriage_return (line_feed ∷ [])
 ends-crlf text (c ∷ x) = ends_in_cr-append text carriage_return (line_feed ∷ c ∷ x)
 
 -- ---- steps in sums and texts
 
+-- one more than n, and m more, are n and one more than m
 pub one-more : (n m : ℕ) → n + 1 + m ≡ n + suc m
 one-more n m = omega arith
 
+-- a line, its end and what comes after them, before more, are the line and its end before all of it
 pub regroup : (text : List ℕ) (by : LineEnding) (whole y : List ℕ) → (text ++ (line_ending_text by ++ whole)) ++ y ≡ text ++ (line_ending_text by ++ (whole ++ y))
 regroup text by whole y = append_assoc text (line_ending_text by ++ whole) y ∙ ap (λ v. text ++ v) (append_assoc (line_ending_text by) whole y)

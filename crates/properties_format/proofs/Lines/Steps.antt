@@ -1,10 +1,9 @@
 -- How the lines go on with the next line end or the next character.
-use Rattle.std.proofs.Common.{◌≡◌, ℕ, ◌+◌, ◌==◌, Bool, true, false, List, [], ◌∷◌, ◌++◌, refl, ap, sym, ◌∙◌, inl, inr, append_assoc, append-nil}
+use Rattle.std.proofs.Common.{◌≡◌, ℕ, ◌+◌, Bool, true, false, List, [], ◌∷◌, ◌++◌, refl, ap, sym, ◌∙◌, inl, inr, append_assoc, append-nil}
 use Rattle.std.specs.Prelude.{if◌then◌else◌}
-use Rattle.std.proofs.lemmas.Bool.{or_parts}
 use Rattle.std.proofs.lemmas.Bool.Decides.{eqb_tells}
-use Rattle.properties_format.specs.Text.{line_feed, carriage_return, is_line_end, LineEnding, lf, cr, crlf, line_ending_text}
-use Rattle.properties_format.specs.Lines.{Lines, HoldsNoLineEnd, Line, InputEnd, end, fault, more, numbered, numbered_lines}
+use Rattle.properties_format.specs.Text.{line_feed, carriage_return, LineEnding, cr, crlf, line_ending_text}
+use Rattle.properties_format.specs.Lines.{Lines, HoldsNoLineEnd, Line, InputEnd, end, numbered}
 use Rattle.properties_format.specs.Reading.Lines.{begins_with_lf, without_leading_lf, lines_of, lines_to_come}
 use Rattle.properties_format.proofs.Lines.Only.{lines_of-plain, lines_of-before}
 use Rattle.properties_format.proofs.Lines.Plain.{plain-append, lines_of-no_lone_lf, without_leading_lf-none}
@@ -30,10 +29,6 @@ lines_of-cr text (c ∷ y) h = elim (eqb_tells c line_feed) [
 
 -- ---- the numbered lines to come
 
--- of a whole text
-pub lines_to_come-start : (x : List ℕ) (e : InputEnd) → numbered_lines (lines_of x) e ≡ lines_to_come 0 false [] x e
-lines_to_come-start x e = refl
-
 -- nothing comes
 after-nothing : (n : ℕ) (after_cr : Bool) (held : List ℕ) (e : InputEnd) → HoldsNoLineEnd held → lines_to_come n after_cr held [] e ≡ numbered n [] held e
 after-nothing n true held e h = let g : Lines → List Line = λ v. numbered n v.ended v.last e in ap (λ v. g (lines_of v)) (append-nil held) ∙ ap g (lines_of-plain held h)
@@ -44,41 +39,17 @@ pub lines_to_come-end : (n : ℕ) (after_cr : Bool) (held : List ℕ) → HoldsN
     → lines_to_come n after_cr held [] end ≡ record { number = n + 1; text = held } ∷ []
 lines_to_come-end n after_cr held h = after-nothing n after_cr held end h
 
--- at a fault it is lost
-pub lines_to_come-fault : (n : ℕ) (after_cr : Bool) (held : List ℕ) → HoldsNoLineEnd held → lines_to_come n after_cr held [] fault ≡ []
-lines_to_come-fault n after_cr held h = after-nothing n after_cr held fault h
-
--- where more may come it is no line yet
-pub lines_to_come-more : (n : ℕ) (after_cr : Bool) (held : List ℕ) → HoldsNoLineEnd held → lines_to_come n after_cr held [] more ≡ []
-lines_to_come-more n after_cr held h = after-nothing n after_cr held more h
-
--- an LF after a CR is of that CR's end
-pub lines_to_come-skip : (n : ℕ) (held y : List ℕ) (e : InputEnd) → lines_to_come n true held (line_feed ∷ y) e ≡ lines_to_come n false held y e
-lines_to_come-skip n held y e = refl
-
 -- where no LF comes first, a CR before it does not matter
 pub lines_to_come-no_lf : (n : ℕ) (after_cr : Bool) (held y : List ℕ) (e : InputEnd) → begins_with_lf y ≡ false
     → lines_to_come n after_cr held y e ≡ lines_to_come n false held y e
 lines_to_come-no_lf n true held y e h = ap (λ v. lines_to_come n false held v e) (without_leading_lf-none y h)
 lines_to_come-no_lf n false held y e h = refl
 
--- any other character is of the line that is held
-pub lines_to_come-character : (n : ℕ) (after_cr : Bool) (held : List ℕ) (c : ℕ) (y : List ℕ) (e : InputEnd) → is_line_end c ≡ false
-    → lines_to_come n after_cr held (c ∷ y) e ≡ lines_to_come n false (held ++ c ∷ []) y e
-lines_to_come-character n after_cr held c y e h =
-    lines_to_come-no_lf n after_cr held (c ∷ y) e (or_parts (c == line_feed) (c == carriage_return) h).0
-    ∙ ap (λ v. lines_to_come n false [] v e) (sym (append_assoc held (c ∷ []) y))
-
 -- characters may be held or come
 pub lines_to_come-held : (n : ℕ) (held x y : List ℕ) (e : InputEnd) → lines_to_come n false held (x ++ y) e ≡ lines_to_come n false (held ++ x) y e
 lines_to_come-held n held x y e = ap (λ v. lines_to_come n false [] v e) (sym (append_assoc held x y))
 
--- an LF ends the line that is held
-pub lines_to_come-lf : (n : ℕ) (held y : List ℕ) (e : InputEnd) → HoldsNoLineEnd held
-    → lines_to_come n false held (line_feed ∷ y) e ≡ record { number = n + 1; text = held } ∷ lines_to_come (n + 1) false [] y e
-lines_to_come-lf n held y e h = ap (λ v. let w : Lines = v in numbered n w.ended w.last e) (lines_of-line held lf y h (λ k. absurd (cc)))
-
--- a CR ends it, and an LF after the CR is of the same end
+-- a CR ends the line that is held, and an LF after the CR is of the same end
 pub lines_to_come-cr : (n : ℕ) (after_cr : Bool) (held y : List ℕ) (e : InputEnd) → HoldsNoLineEnd held
     → lines_to_come n after_cr held (carriage_return ∷ y) e ≡ record { number = n + 1; text = held } ∷ lines_to_come (n + 1) true [] y e
 lines_to_come-cr n after_cr held y e h =

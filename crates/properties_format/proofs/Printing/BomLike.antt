@@ -11,7 +11,7 @@ use Rattle.properties_format.specs.Windows1252.{windows_1252_byte, windows_1252_
 use Rattle.properties_format.specs.Encoding.{Encoding, windows_1252, utf_8, encoded, one_byte, begins_with, begins_like_bom, utf_8_bom, utf_16be_bom, utf_16le_bom}
 use Rattle.properties_format.specs.Printing.{in_key_or_value, unit_escape, high_surrogate, low_surrogate, unicode_escape, literal, is_special, letter_escape, has_letter, spelt, spelt_text, encoded_text, is_bom_like}
 use Rattle.properties_format.proofs.Encodings.Windows1252.{windows_1252_character-byte}
-use Rattle.properties_format.proofs.Printing.Characters.{encoded_text-append}
+use Rattle.properties_format.proofs.Printing.Characters.{encoded_text-append, below-scalar}
 
 -- ---- a character in a key is escaped, or stands as itself
 
@@ -22,6 +22,7 @@ IsEscape x = (rest : List ℕ) × (x ≡ backslash ∷ rest)
 abbrev pub IsEscapedOrItself : Encoding → ℕ → List ℕ → Type 0
 IsEscapedOrItself e c x = IsEscape x ⊎ ((x ≡ c ∷ []) × (is_some (encoded e c) ≡ true))
 
+-- `\u` escapes begin with a backslash
 pub unicode-is_escape : (c : ℕ) → IsEscape (unicode_escape c)
 unicode-is_escape c = elim (cases_Bool (nat_lt c 0x1_0000)) [
   | inl e ↦ (_, cond-true (nat_lt c 0x1_0000) (unit_escape c) (unit_escape (high_surrogate c) ++ unit_escape (low_surrogate c)) e)
@@ -33,24 +34,28 @@ same-cases : (e : Encoding) (c : ℕ) (x y : List ℕ) → x ≡ y → IsEscaped
 same-cases e c x y p (inl k) = inl (k.0, p ∙ k.1)
 same-cases e c x y p (inr k) = inr (p ∙ k.0, k.1)
 
+-- a character that stands as itself where it may, and is escaped elsewhere
 literal-cases : (e : Encoding) (c : ℕ) → IsEscapedOrItself e c (literal e false c)
 literal-cases e c = elim (cases_Bool (is_some (encoded e c))) [
   | inl k ↦ inr (cond-true (is_some (encoded e c)) (c ∷ []) (unicode_escape c) k, k)
   | inr k ↦ same-cases e c (literal e false c) (unicode_escape c) (cond-false (is_some (encoded e c)) (c ∷ []) (unicode_escape c) k) (inl (unicode-is_escape c))
 ]
 
+-- or that is escaped below a space
 control-cases : (e : Encoding) (c : ℕ) → IsEscapedOrItself e c (cond (nat_lt c space) (unicode_escape c) (literal e false c))
 control-cases e c = elim (cases_Bool (nat_lt c space)) [
   | inl k ↦ same-cases e c _ (unicode_escape c) (cond-true (nat_lt c space) (unicode_escape c) (literal e false c) k) (inl (unicode-is_escape c))
   | inr k ↦ same-cases e c _ (literal e false c) (cond-false (nat_lt c space) (unicode_escape c) (literal e false c) k) (literal-cases e c)
 ]
 
+-- or that is escaped by a letter
 letter-cases : (e : Encoding) (c : ℕ) → IsEscapedOrItself e c (cond (has_letter c) (letter_escape c) (cond (nat_lt c space) (unicode_escape c) (literal e false c)))
 letter-cases e c = elim (cases_Bool (has_letter c)) [
   | inl k ↦ inl (_, cond-true (has_letter c) (letter_escape c) (cond (nat_lt c space) (unicode_escape c) (literal e false c)) k)
   | inr k ↦ same-cases e c _ _ (cond-false (has_letter c) (letter_escape c) (cond (nat_lt c space) (unicode_escape c) (literal e false c)) k) (control-cases e c)
 ]
 
+-- what is printed for a character in a key is an escape, or the character itself
 pub spelt-cases : (e : Encoding) (c : ℕ) → IsEscapedOrItself e c (spelt e false in_key_or_value c)
 spelt-cases e c =
     let rest = cond (has_letter c) (letter_escape c) (cond (nat_lt c space) (unicode_escape c) (literal e false c)) in
@@ -86,6 +91,7 @@ other-byte m c ms None y raw other e some = cc
 other-byte m c ms (Some b) y raw other e some =
     and_left (m == b) (begins_with ms y) (ne_eqb m b (λ k. other (sym raw.character ∙ ap windows_1252_character k ∙ (windows_1252_character-byte c b e).0)))
 
+-- so the bytes of a key with another first character don't begin with m
 other-front : (m c : ℕ) (ms cs : List ℕ) → IsRaw m → m ≢ c → IsEscapedOrItself windows_1252 c (spelt windows_1252 false in_key_or_value c)
     → begins_with (m ∷ ms) (bytes_of (c ∷ cs)) ≡ false
 other-front m c ms cs raw other (inl k) =
@@ -93,6 +99,7 @@ other-front m c ms cs raw other (inl k) =
 other-front m c ms cs raw other (inr k) =
     ap (begins_with (m ∷ ms)) (bytes-cons c cs (c ∷ []) k.0) ∙ other-byte m c ms (windows_1252_byte c) (bytes_of cs) raw other refl k.1
 
+-- where it is the first character, the others decide
 same-front : (m : ℕ) (ms cs : List ℕ) → IsRaw m → begins_with (m ∷ ms) (bytes_of (m ∷ cs)) ≡ ((m == m) && begins_with ms (bytes_of cs))
 same-front m ms cs raw =
     ap (begins_with (m ∷ ms)) (bytes-cons m cs (m ∷ []) raw.itself ∙ ap (λ o. (unwrap_or o [] ++ []) ++ bytes_of cs) raw.byte)
@@ -106,18 +113,23 @@ key-begins (m ∷ ms) (c ∷ cs) raw = elim (eqb_tells m c) [
   | inr k ↦ other-front m c ms cs raw.0 k.1 (spelt-cases windows_1252 c) ∙ sym (and_left (m == c) (begins_with ms cs) k.0)
 ]
 
+-- U+00EF is such
 raw-ef : IsRaw 0xef
 raw-ef = record { itself = refl; byte = refl; character = refl; no_escape = refl }
 
+-- U+00BB
 raw-bb : IsRaw 0xbb
 raw-bb = record { itself = refl; byte = refl; character = refl; no_escape = refl }
 
+-- U+00BF
 raw-bf : IsRaw 0xbf
 raw-bf = record { itself = refl; byte = refl; character = refl; no_escape = refl }
 
+-- U+00FE
 raw-fe : IsRaw 0xfe
 raw-fe = record { itself = refl; byte = refl; character = refl; no_escape = refl }
 
+-- and U+00FF
 raw-ff : IsRaw 0xff
 raw-ff = record { itself = refl; byte = refl; character = refl; no_escape = refl }
 
@@ -133,6 +145,7 @@ is_bom_like-windows_1252 key =
 abbrev utf_8_bytes_of : List ℕ → List ℕ
 utf_8_bytes_of key = encoded_text utf_8 (spelt_text utf_8 false in_key_or_value key)
 
+-- the bytes of a key by those of its first character
 utf_8_bytes-cons : (c : ℕ) (cs x : List ℕ) → spelt utf_8 false in_key_or_value c ≡ x → utf_8_bytes_of (c ∷ cs) ≡ encoded_text utf_8 x ++ utf_8_bytes_of cs
 utf_8_bytes-cons c cs x e = encoded_text-append utf_8 (spelt utf_8 false in_key_or_value c) (spelt_text utf_8 false in_key_or_value cs) ∙ ap (λ v. encoded_text utf_8 v ++ utf_8_bytes_of cs) e
 
@@ -145,6 +158,7 @@ begins-rest (m ∷ ms) (b ∷ d) h =
     let r = begins-rest ms d p.1 in
     (r.0, ap (λ v. v ∷ d) (sym (eqb-true m b p.0)) ∙ ap (λ v. m ∷ v) r.1)
 
+-- U+FEFF is encoded as the byte order mark of UTF-8
 feff-bytes : encode_utf8 0xfeff ≡ utf_8_bom
 unfolding encode_utf8
 feff-bytes = refl
@@ -167,6 +181,7 @@ first-byte c h = elim (cases_Bool (nat_lt c 128)) [
   ]
 ]
 
+-- so the bytes of a character don't begin with a number from FE on
 not-first : (m : ℕ) (ms : List ℕ) (c : ℕ) (y : List ℕ) → 0xfe ≤ m → c < 0x11_0000 → begins_with (m ∷ ms) (encode_utf8 c ++ y) ≡ false
 not-first m ms c y k h =
     let (b, bs, e, below) = first-byte c h in
@@ -183,21 +198,16 @@ utf_8-itself c y h =
     either (inl k) = rw (← k.1, feff-bytes)
     either (inr k) = ap (λ b. b || false) (false_from_ne_true (begins_with utf_8_bom (encode_utf8 c ++ y)) (λ t. k.1 (sym (byte_order_mark-of_feff c y t)))) ∙ sym (and_left (0xfeff == c) true k.0)
 
--- U+FEFF is not escaped
-feff-itself : spelt utf_8 false in_key_or_value 0xfeff ≡ 0xfeff ∷ []
-feff-itself = refl
-
+-- a character that is escaped is not U+FEFF, which stands as itself
 not-feff : (c : ℕ) (rest : List ℕ) → spelt utf_8 false in_key_or_value c ≡ backslash ∷ rest → 0xfeff ≡ c → ⊥
 not-feff c rest e q = let k : ◌≡◌ {A = ℕ} 0x5c 0xfeff = ap (λ v. get_or v 0 0) (sym e ∙ ap (spelt utf_8 false in_key_or_value) (sym q)) in omega arith
 
+-- a key that isn't empty begins like a byte order mark exactly where its first character is U+FEFF
 utf_8-cons : (c : ℕ) (cs : List ℕ) → c < 0x11_0000 → IsEscapedOrItself utf_8 c (spelt utf_8 false in_key_or_value c) → is_bom_like utf_8 false (c ∷ cs) ≡ ((0xfeff == c) && true)
 unfolding encode_utf8
 utf_8-cons c cs h (inl k) = ap begins_like_bom (utf_8_bytes-cons c cs (backslash ∷ k.0) k.1) ∙ sym (and_left (0xfeff == c) true (ne_eqb 0xfeff c (not-feff c k.0 k.1)))
 utf_8-cons c cs h (inr k) =
     ap begins_like_bom (utf_8_bytes-cons c cs (c ∷ []) k.0 ∙ append_assoc (encode_utf8 c) [] (utf_8_bytes_of cs)) ∙ utf_8-itself c (utf_8_bytes_of cs) h
-
-below-scalar : (c : ℕ) → scalar c → c < 0x11_0000
-below-scalar c h = omega arith
 
 -- Under UTF-8 the keys that begin like a byte order mark are those that begin with U+FEFF.
 pub is_bom_like-utf_8 : (key : List ℕ) → All scalar key → is_bom_like utf_8 false key ≡ begins_with (0xfeff ∷ []) key

@@ -15,13 +15,13 @@ use Rattle.properties_format.specs.Entries.{comment}
 use Rattle.properties_format.specs.Reading.Items.{comment_outcome, split_outcome}
 use Rattle.properties_format.specs.Settings.{IsGoodPrefix}
 use Rattle.properties_format.specs.Printing.{in_comment, in_prefix, unicode_escape, may_stand, literal, spelt, spelt_text}
-use Rattle.properties_format.specs.Writing.{tail_of}
+use Rattle.properties_format.specs.Writing.{tail_of, HoldsNoBackslash}
 use Rattle.properties_format.proofs.Lines.Plain.{plain-append}
 use Rattle.properties_format.proofs.Groups.Joined.{is_comment_line-blank, is_comment_line-other}
-use Rattle.properties_format.proofs.Split.Unique.{split_of-comment}
-use Rattle.properties_format.proofs.Escapes.Laws.{HasNoBackslash, IsWhole, AreWhole}
+use Rattle.properties_format.proofs.Split.Unique.{split_of-comment, sign-full}
+use Rattle.properties_format.proofs.Escapes.Laws.{IsWhole, AreWhole}
 use Rattle.properties_format.proofs.Escapes.Trimmed.{AllKeepBlanks, meaning_of-trimmed}
-use Rattle.properties_format.proofs.Settings.Tests.{sign_not_blank, tail_of-good}
+use Rattle.properties_format.proofs.Settings.Tests.{tail_of-good}
 use Rattle.properties_format.proofs.Printing.Characters.{may_stand-ascii, blank-ascii}
 use Rattle.properties_format.proofs.ReadBack.Spellings.{IsSafe, IsPlainlySpelt, literal-plainly, in_comment-spelt}
 use Rattle.properties_format.proofs.ReadBack.Texts.{safe-whole, safe-plain}
@@ -38,14 +38,17 @@ record ArePlainlySpelt (x y : List ℕ) : Type 0 where
 
 -- ---- one character in front
 
+-- a spelling that is safe, or a character as itself, is whole
 plainly-whole : (c : ℕ) (p : Spelling) → IsSafe p ⊎ ((p ≡ itself c) × ((c == backslash) ≡ false) × (is_line_end c ≡ false)) → IsWhole p
 plainly-whole c p (inl h) = safe-whole p h
 plainly-whole c p (inr h) = subst IsWhole (sym h.0) h.1
 
+-- and holds no line end
 plainly-plain : (c : ℕ) (p : Spelling) → IsSafe p ⊎ ((p ≡ itself c) × ((c == backslash) ≡ false) × (is_line_end c ≡ false)) → HoldsNoLineEnd (spelling_text p)
 plainly-plain c p (inl h) = safe-plain p h
 plainly-plain c p (inr h) = subst (λ v. HoldsNoLineEnd (spelling_text v)) (sym h.0) (h.2, tt)
 
+-- a character that is plainly spelt in front of such a text
 plainly-cons : (x y : List ℕ) (c : ℕ) (cs : List ℕ) → IsPlainlySpelt x c → ArePlainlySpelt y cs → ArePlainlySpelt (x ++ y) (c ∷ cs)
 plainly-cons x y c cs s t =
     record {
@@ -59,14 +62,17 @@ plainly-cons x y c cs s t =
 
 -- ---- the text of a comment, and the tail of a prefix before it
 
+-- what is printed for the text of a comment is such
 comment-plainly : (e : Encoding) (only : Bool) (x : List ℕ) → AllByRecursion scalar x → ArePlainlySpelt (spelt_text e only in_comment x) x
 comment-plainly e only [] h = record { spellings = []; text = refl; characters = refl; whole = tt; keep = tt; plain = tt }
 comment-plainly e only (c ∷ x) h = plainly-cons (spelt e only in_comment c) (spelt_text e only in_comment x) c x (in_comment-spelt e only c h.0) (comment-plainly e only x h.1)
 
+-- and so is an equal text
 same-plainly : (x y z : List ℕ) → x ≡ y → ArePlainlySpelt y z → ArePlainlySpelt x z
 same-plainly x y z e s = subst (λ v. ArePlainlySpelt v z) (sym e) s
 
-tail-plainly : (e : Encoding) (only : Bool) (tail y cs : List ℕ) → AllByRecursion scalar tail → HasNoBackslash tail → HoldsNoLineEnd tail → ArePlainlySpelt y cs → ArePlainlySpelt (spelt_text e only in_prefix tail ++ y) (tail ++ cs)
+-- and the tail of a prefix, which holds no backslash, in front of such a text
+tail-plainly : (e : Encoding) (only : Bool) (tail y cs : List ℕ) → AllByRecursion scalar tail → HoldsNoBackslash tail → HoldsNoLineEnd tail → ArePlainlySpelt y cs → ArePlainlySpelt (spelt_text e only in_prefix tail ++ y) (tail ++ cs)
 tail-plainly e only [] y cs h b p s = s
 tail-plainly e only (c ∷ tail) y cs h b p s =
     same-plainly _ (literal e only c ++ (spelt_text e only in_prefix tail ++ y)) (c ∷ tail ++ cs) (append_assoc (literal e only c) (spelt_text e only in_prefix tail) y)
@@ -74,32 +80,39 @@ tail-plainly e only (c ∷ tail) y cs h b p s =
 
 -- ---- the prefix
 
+-- an ASCII character stands as itself
 literal-ascii : (e : Encoding) (only : Bool) (c : ℕ) → c < 0x80 → literal e only c ≡ c ∷ []
 literal-ascii e only c h = cond-true (may_stand e only c) (c ∷ []) (unicode_escape c) (may_stand-ascii e only c h)
 
+-- a comment sign is ASCII, and no line end
 pub sign-ascii : (c : ℕ) → is_comment_sign c ≡ true → (c < 0x80) × (is_line_end c ≡ false)
 sign-ascii c h = elim (or_cases (c == 0x23) (c == 0x21) h) [ inl e ↦ rw (eqb-true c 0x23 e) (lit< tt, refl) | inr e ↦ rw (eqb-true c 0x21 e) (lit< tt, refl) ]
 
+-- the blanks and the comment sign of a prefix are printed as they are
 pub prefix-spelt : (e : Encoding) (only : Bool) (indent : List ℕ) (sign : ℕ) (tail : List ℕ) → AreBlanks indent → is_comment_sign sign ≡ true
     → spelt_text e only in_prefix (indent ++ (sign ∷ tail)) ≡ indent ++ (sign ∷ spelt_text e only in_prefix tail)
 prefix-spelt e only [] sign tail b m = ap (λ v. v ++ spelt_text e only in_prefix tail) (literal-ascii e only sign (sign-ascii sign m).0)
 prefix-spelt e only (c ∷ indent) sign tail b m =
     ap (λ v. v ++ spelt_text e only in_prefix (indent ++ (sign ∷ tail))) (literal-ascii e only c (blank-ascii c b.0)) ∙ ap (λ v. c ∷ v) (prefix-spelt e only indent sign tail b.1 m)
 
+-- the rest of a text of scalars is of scalars
 scalar-right : (x y : List ℕ) → AllByRecursion scalar (x ++ y) → AllByRecursion scalar y
 scalar-right [] y h = h
 scalar-right (c ∷ x) y h = scalar-right x y h.1
 
-slashes-right : (x y : List ℕ) → HasNoBackslash (x ++ y) → HasNoBackslash y
+-- the rest of a text without a backslash has none
+slashes-right : (x y : List ℕ) → HoldsNoBackslash (x ++ y) → HoldsNoBackslash y
 slashes-right [] y h = h
 slashes-right (c ∷ x) y h = slashes-right x y h.1
 
 -- ---- the line of a comment
 
+-- blanks and then a comment sign begin a comment line
 comment_line-after : (indent : List ℕ) (sign : ℕ) (rest : List ℕ) → AreBlanks indent → is_comment_sign sign ≡ true → is_comment_line (indent ++ (sign ∷ rest)) ≡ true
-comment_line-after [] sign rest b m = is_comment_line-other sign rest (sign_not_blank sign m) ∙ m
+comment_line-after [] sign rest b m = is_comment_line-other sign rest (sign-full sign m) ∙ m
 comment_line-after (c ∷ indent) sign rest b m = is_comment_line-blank c (indent ++ (sign ∷ rest)) b.0 ∙ comment_line-after indent sign rest b.1 m
 
+-- blanks, a comment sign and such a text are read as the comment that it spells, without the blanks at its ends
 comment-at : (indent : List ℕ) (sign : ℕ) (rest content : List ℕ) → AreBlanks indent → is_comment_sign sign ≡ true → ArePlainlySpelt rest content
     → IsReadAs (indent ++ (sign ∷ rest)) (comment (trimmed content))
 comment-at indent sign rest content b m s =
@@ -113,13 +126,13 @@ comment-at indent sign rest content b m s =
     }
 
 -- A comment under a good prefix without a backslash.
-pub comment-read : (e : Encoding) (only : Bool) (prefix text : List ℕ) → IsGoodPrefix prefix → HasNoBackslash prefix → AllByRecursion scalar prefix → AllByRecursion scalar text
+pub comment-read : (e : Encoding) (only : Bool) (prefix text : List ℕ) → IsGoodPrefix prefix → HoldsNoBackslash prefix → AllByRecursion scalar prefix → AllByRecursion scalar text
     → IsReadAs (spelt_text e only in_prefix prefix ++ spelt_text e only in_comment text) (comment (trimmed (tail_of prefix ++ text)))
 comment-read e only prefix text g b h k =
     let front = g.indent ++ (g.sign ∷ []) in
     let split : prefix ≡ front ++ g.tail = g.division ∙ sym (append_assoc g.indent (g.sign ∷ []) g.tail) in
     let scalars = scalar-right front g.tail (subst (AllByRecursion scalar) split h) in
-    let slashes = slashes-right front g.tail (subst HasNoBackslash split b) in
+    let slashes = slashes-right front g.tail (subst HoldsNoBackslash split b) in
     let rest = spelt_text e only in_prefix g.tail ++ spelt_text e only in_comment text in
     let read = comment-at g.indent g.sign rest (g.tail ++ text) g.indented g.signed
     (tail-plainly e only g.tail (spelt_text e only in_comment text) text scalars slashes g.one_line (comment-plainly e only text k)) in

@@ -1,7 +1,6 @@
 -- What a list of calls prints is read line by line, as one item a line.
 use Rattle.std.proofs.Common.{◌≡◌, ◌≢◌, ℕ, ◌+◌, ◌==◌, ◌&&◌, not, Bool, true, false, if◌then◌else◌, List, [], ◌∷◌, ◌++◌, refl, ap, sym, ◌∙◌, inl, inr, append_assoc, ap₂, subst}
 use Rattle.std.specs.Prelude.{All, Option, Some, None}
-use Rattle.std.specs.List.{AllByRecursion}
 use Rattle.std.proofs.lemmas.List.Elements.{recursion_from_All}
 use Rattle.std.proofs.lemmas.Bool.{not-true}
 use Rattle.properties_format.specs.Text.{scalar, LineEnding, line_ending_text}
@@ -15,13 +14,12 @@ use Rattle.properties_format.specs.Reading.Items.{split_outcome, outcome_of, fol
 use Rattle.properties_format.specs.Settings.{Settings}
 use Rattle.properties_format.specs.Reading.Settings.{is_blanks, is_good_prefix, is_good_separator}
 use Rattle.properties_format.specs.Printing.{in_key_or_value, in_comment, in_prefix, spelt_text, spelt_key, encoded_text, printed_text}
-use Rattle.properties_format.specs.Writing.{Call, comment_call, pair_call, prefix_call, separator_call, ending_call, flush_call, ascii_only_call, is_empty, settings_after_call, settings_after, written_line, lines_with, line_bytes, wrote, content_read_back, item_read_back, items_read_back, HoldsNoBackslash, ArePrefixesClean, IsOfScalars, AreOfScalars, AreGoodSettings}
+use Rattle.properties_format.specs.Writing.{Call, comment_call, pair_call, prefix_call, separator_call, ending_call, flush_call, ascii_only_call, is_empty, settings_after_call, written_line, lines_with, line_bytes, wrote, content_read_back, item_read_back, items_read_back, HoldsNoBackslash, ArePrefixesClean, IsOfScalars, AreOfScalars, AreGoodSettings}
 use Rattle.properties_format.proofs.Lines.Plain.{plain-no_lf}
 use Rattle.properties_format.proofs.Lines.Steps.{lines_to_come-end}
 use Rattle.properties_format.proofs.Groups.Joined.{joined-comment_line, joined-closed}
 use Rattle.properties_format.proofs.Groups.Logical.{StandsAlone, groups-line}
 use Rattle.properties_format.proofs.Split.Unique.{split_of-blank}
-use Rattle.properties_format.proofs.Escapes.Laws.{HasNoBackslash}
 use Rattle.properties_format.proofs.Settings.Tests.{IsGoodPrefix-from_test, IsGoodSeparator-from_test}
 use Rattle.properties_format.proofs.Printing.Characters.{encoded_text-append}
 use Rattle.properties_format.proofs.ReadBack.Texts.{texts-spelt}
@@ -39,10 +37,12 @@ abbrev pub wrote_text : Encoding → Settings → ℕ → List Call → List ℕ
 wrote_text e s n [] = []
 wrote_text e s n (call ∷ calls) = line_text e s n (written_line s call) ++ wrote_text e (settings_after_call s call) (lines_with n (written_line s call)) calls
 
+-- the bytes of a line are those of its characters
 line-bytes : (e : Encoding) (s : Settings) (n : ℕ) (o : Option Content) → line_bytes e s n o ≡ encoded_text e (line_text e s n o)
 line-bytes e s n None = refl
 line-bytes e s n (Some line) = refl
 
+-- and so are those of all lines
 pub wrote-text : (e : Encoding) (s : Settings) (n : ℕ) (calls : List Call) → wrote e s n calls ≡ encoded_text e (wrote_text e s n calls)
 wrote-text e s n [] = refl
 wrote-text e s n (call ∷ calls) =
@@ -58,22 +58,17 @@ pub record IsLineReadAs (by : LineEnding) (x : List ℕ) (content : Content) : T
   pub whole : x ≡ text ++ line_ending_text by
   pub read : IsReadAs text content
 
-by_recursion : (x : List ℕ) → All scalar x → AllByRecursion scalar x
-by_recursion x h = recursion_from_All scalar x h
-
-no_backslash : (x : List ℕ) → HoldsNoBackslash x → HasNoBackslash x
-no_backslash [] h = tt
-no_backslash (c ∷ x) h = (h.0, no_backslash x h.1)
-
+-- a comment, under good settings and a prefix without a backslash
 pub comment-line : (e : Encoding) (s : Settings) (first : Bool) (text : List ℕ) → AreGoodSettings s → HoldsNoBackslash s.comment_prefix → All scalar text
     → IsLineReadAs s.line_ending (printed_text e s first (comment text)) (content_read_back s (comment text))
 comment-line e s first text g b h =
     record {
       text = spelt_text e s.ascii_only in_prefix s.comment_prefix ++ spelt_text e s.ascii_only in_comment text;
       whole = sym (append_assoc (spelt_text e s.ascii_only in_prefix s.comment_prefix) (spelt_text e s.ascii_only in_comment text) (line_ending_text s.line_ending));
-      read = comment-read e s.ascii_only s.comment_prefix text g.prefix (no_backslash s.comment_prefix b) (by_recursion s.comment_prefix g.scalars) (by_recursion text h);
+      read = comment-read e s.ascii_only s.comment_prefix text g.prefix b (recursion_from_All scalar s.comment_prefix g.scalars) (recursion_from_All scalar text h);
     }
 
+-- a pair, under good settings and a separator that is not blanks alone where the key is empty
 pub pair-line : (e : Encoding) (s : Settings) (first : Bool) (key value : List ℕ) → AreGoodSettings s → (key ≡ [] → is_blanks s.kv_separator ≡ false) → All scalar key → All scalar value
     → IsLineReadAs s.line_ending (printed_text e s first (pair key value)) (pair key value)
 pair-line e s first key value g some h k =
@@ -82,7 +77,7 @@ pair-line e s first key value g some h k =
     record {
       text = front ++ (s.kv_separator ++ back);
       whole = ap (λ v. front ++ v) (sym (append_assoc s.kv_separator back (line_ending_text s.line_ending))) ∙ sym (append_assoc front (s.kv_separator ++ back) (line_ending_text s.line_ending));
-      read = pair-read front back s.kv_separator key value (key-spelt e s.ascii_only first key (by_recursion key h)) (texts-spelt e s.ascii_only value (by_recursion value k)) g.separator some;
+      read = pair-read front back s.kv_separator key value (key-spelt e s.ascii_only first key (recursion_from_All scalar key h)) (texts-spelt e s.ascii_only value (recursion_from_All scalar value k)) g.separator some;
     }
 
 -- ---- all lines
@@ -92,14 +87,17 @@ pub record IsTextReadAs (m n : ℕ) (x : List ℕ) (entries : List Entry) : Type
   pub read : entries_of m end (groups_of (lines_to_come n false [] x end) end) ≡ entries
   pub no_lf : begins_with_lf x ≡ false
 
-joined-alone : (l : Line) → StandsAlone l.text → joined (l ∷ []) ≡ l.text
+-- a line that stands alone is its own logical line
+pub joined-alone : (l : Line) → StandsAlone l.text → joined (l ∷ []) ≡ l.text
 joined-alone l (inl m) = joined-comment_line l [] m
 joined-alone l (inr m) = joined-closed l m
 
+-- a text that is not empty and holds no line end begins with no LF, whatever follows
 front-no_lf : (x y : List ℕ) → x ≢ [] → HoldsNoLineEnd x → begins_with_lf (x ++ y) ≡ false
 front-no_lf [] y some h = absurd (some refl)
 front-no_lf (c ∷ x) y some h = plain-no_lf (c ∷ x) h
 
+-- a line with its end gives its item, and then come the entries of what follows
 line-read : (m n : ℕ) (by : LineEnding) (text y : List ℕ) (content : Content) (entries : List Entry) → IsReadAs text content → IsTextReadAs m (n + 1) y entries
     → entries_of m end (groups_of (lines_to_come n false [] (text ++ (line_ending_text by ++ y)) end) end) ≡ item (n + 1) content ∷ entries
 line-read m n by text y content entries r t =
@@ -107,6 +105,7 @@ line-read m n by text y content entries r t =
     ap (λ v. entries_of m end v) (groups-line n text by y end r.plain (λ _. t.no_lf) r.alone)
     ∙ ap₂ (λ o v. followed (n + 1) o v) (ap outcome_of (joined-alone l r.alone) ∙ r.outcome) t.read
 
+-- one line in front of such a text
 line-then : (m n : ℕ) (by : LineEnding) (x y : List ℕ) (content : Content) (entries : List Entry) → IsLineReadAs by x content → IsTextReadAs m (n + 1) y entries
     → IsTextReadAs m n (x ++ y) (item (n + 1) content ∷ entries)
 line-then m n by x y content entries l t =
@@ -116,6 +115,7 @@ line-then m n by x y content entries l t =
       no_lf = ap begins_with_lf same ∙ front-no_lf l.text (line_ending_text by ++ y) l.read.some l.read.plain;
     }
 
+-- where nothing is written, nothing is read
 nothing-read : (m n : ℕ) → IsTextReadAs m n [] []
 nothing-read m n =
     record {
@@ -125,14 +125,17 @@ nothing-read m n =
 
 -- ---- settings stay good
 
+-- where a good prefix is set
 prefix-good : (s : Settings) (prefix : List ℕ) (b : Bool) → is_good_prefix prefix ≡ b → AreGoodSettings s → All scalar prefix → AreGoodSettings (if b then record s { comment_prefix = prefix } else s)
 prefix-good s prefix true e g h = record { prefix = IsGoodPrefix-from_test prefix e; scalars = h; separator = g.separator }
 prefix-good s prefix false e g h = g
 
+-- where a good separator is set
 separator-good : (s : Settings) (separator : List ℕ) (b : Bool) → is_good_separator separator ≡ b → AreGoodSettings s → AreGoodSettings (if b then record s { kv_separator = separator } else s)
 separator-good s separator true e g = record { prefix = g.prefix; scalars = g.scalars; separator = IsGoodSeparator-from_test separator e }
 separator-good s separator false e g = g
 
+-- after a call
 pub settings_after_call-good : (s : Settings) (call : Call) → AreGoodSettings s → IsOfScalars call → AreGoodSettings (settings_after_call s call)
 settings_after_call-good s (comment_call text) g h = g
 settings_after_call-good s (pair_call key value) g h = g
@@ -141,10 +144,6 @@ settings_after_call-good s (separator_call separator) g h = separator-good s sep
 settings_after_call-good s (ending_call line_ending) g h = record { prefix = g.prefix; scalars = g.scalars; separator = g.separator }
 settings_after_call-good s flush_call g h = g
 settings_after_call-good s (ascii_only_call on) g h = record { prefix = g.prefix; scalars = g.scalars; separator = g.separator }
-
-pub settings_after-good : (s : Settings) (calls : List Call) → AreGoodSettings s → AreOfScalars calls → AreGoodSettings (settings_after s calls)
-settings_after-good s [] g h = g
-settings_after-good s (call ∷ calls) g h = settings_after-good (settings_after_call s call) calls (settings_after_call-good s call g h.0) h.1
 
 -- ---- calls
 
@@ -159,6 +158,7 @@ pair-step e m s n key value calls true accepted g h k rest o same =
     (pair-line e s (n == 0) key value g some h k) (rest (n + 1)))
 pair-step e m s n key value calls false refused g h k rest o same = rw same (rest n)
 
+-- What calls write is read as the items that they told.
 pub text-read : (e : Encoding) (m : ℕ) (s : Settings) (n : ℕ) (calls : List Call) → AreGoodSettings s → ArePrefixesClean s calls → AreOfScalars calls
     → IsTextReadAs m n (wrote_text e s n calls) (items_read_back s n calls)
 text-read e m s n [] g c h = nothing-read m n

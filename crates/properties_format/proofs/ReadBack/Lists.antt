@@ -30,6 +30,7 @@ pub calls_of-clean : (s : Settings) (ps : List Pair) → ArePrefixesClean s (cal
 calls_of-clean s [] = tt
 calls_of-clean s (p ∷ ps) = calls_of-clean s ps
 
+-- the calls that write pairs of scalars are of scalars
 pub calls_of-scalars : (ps : List Pair) → ArePairsOfScalars ps → AreOfScalars (calls_of ps)
 calls_of-scalars [] h = tt
 calls_of-scalars (p ∷ ps) h = (h.0, calls_of-scalars ps h.1)

@@ -1,14 +1,14 @@
 -- What is printed for a character is a spelling of that character.
-use Rattle.std.proofs.Common.{◌≡◌, ◌⊎◌, ℕ, ◌<◌, ◌≤◌, ◌==◌, ◌||◌, true, false, cond, List, [], ◌∷◌, ◌++◌, refl, sym, ◌∙◌, inl, inr, arith, lit<, eqb-true, ltb-true, ltb-false, le-leb, lt-ltb, le-ltb, subst, ap₂}
+use Rattle.std.proofs.Common.{◌≡◌, ◌⊎◌, ℕ, ◌<◌, ◌≤◌, ◌==◌, ◌||◌, true, false, cond, List, [], ◌∷◌, ◌++◌, refl, sym, ◌∙◌, inl, inr, arith, lit<, eqb-true, ltb-true, ltb-false, le-ltb, subst, ap₂}
 use Rattle.std.specs.Prelude.{Bool, nat_lt, nat_le}
-use Rattle.std.proofs.lemmas.Bool.{cases_Bool, cond-true, cond-false, and_from, and_left, and_right, or_from, or_cases, or_parts, lt-leb}
+use Rattle.std.proofs.lemmas.Bool.{cases_Bool, cond-true, cond-false, and_left, and_right, or_from, or_cases, or_parts, lt-leb}
 use Rattle.properties_format.specs.Text.{scalar, tab, line_feed, form_feed, carriage_return, space, backslash, is_blank, is_line_end, is_comment_sign, is_separator}
 use Rattle.properties_format.specs.Encoding.{Encoding}
 use Rattle.properties_format.specs.Escapes.{letter_u, escaped_character, are_hexadecimal, code_unit, is_high, is_low, is_surrogate, pair_character, Spelling, itself, escaped, unicode, surrogates, last, spelling_text, spelt_character, IsSpelling}
 use Rattle.properties_format.specs.Printing.{in_key_or_value, in_comment, unit_escape, high_surrogate, low_surrogate, unicode_escape, may_stand, literal, is_special, letter_escape, has_letter, spelt}
-use Rattle.properties_format.proofs.Escapes.Digits.{unit_digits, unit_digits-hexadecimal, unit_digits-unit, high_of, low_of, pair_character-surrogates}
+use Rattle.properties_format.proofs.Escapes.Digits.{unit_digits, unit_digits-hexadecimal, unit_digits-unit, high_surrogate-high, low_surrogate-low, pair_character-surrogates}
 use Rattle.properties_format.proofs.Escapes.Trimmed.{KeepsBlanks, KeepsBlanks-itself, KeepsBlanks-escaped, KeepsBlanks-unicode, KeepsBlanks-surrogates}
-use Rattle.properties_format.proofs.Printing.Characters.{may_stand-ascii}
+use Rattle.properties_format.proofs.Printing.Characters.{may_stand-ascii, below-scalar}
 
 -- a spelling that may stand in a key or a value
 abbrev pub IsSafe : Spelling → Type 0
@@ -35,13 +35,11 @@ pub record IsPlainlySpelt (x : List ℕ) (c : ℕ) : Type 0 where
 
 -- ---- `\u` escapes
 
+-- a scalar is no surrogate
 scalar-no_surrogate : (c : ℕ) → scalar c → is_surrogate c ≡ false
 scalar-no_surrogate c (inl h) = or_from (is_high c) (is_low c) (and_left (nat_le 0xd800 c) (nat_lt c 0xdc00) (lt-leb 0xd800 c h)) (and_left (nat_le 0xdc00 c) (nat_lt c 0xe000) (lt-leb 0xdc00 c (omega arith)))
 scalar-no_surrogate c (inr h) =
     or_from (is_high c) (is_low c) (and_right (nat_le 0xd800 c) (nat_lt c 0xdc00) (le-ltb c 0xdc00 (omega (arith, h)))) (and_right (nat_le 0xdc00 c) (nat_lt c 0xe000) (le-ltb c 0xe000 h.0))
-
-below-end : (c : ℕ) → scalar c → c < 0x11_0000
-below-end c h = omega arith
 
 abbrev unit-spelt : (c : ℕ) → scalar c → c < 0x1_0000 → IsSafelySpelt (unit_escape c) c
 unit-spelt c h k =
@@ -52,47 +50,49 @@ unit-spelt c h k =
       safe = (unit_digits-hexadecimal c, subst (λ v. is_surrogate v ≡ false) (sym (unit_digits-unit c k)) (scalar-no_surrogate c h));
     }
 
+-- one escape keeps blanks, where it is of none
 unit-keeps : (c : ℕ) → c < 0x1_0000 → is_blank c ≡ false → KeepsBlanks (unicode (unit_digits c))
 unit-keeps c k b = KeepsBlanks-unicode (unit_digits c) (unit_digits-hexadecimal c) (subst (λ v. is_blank v ≡ false) (sym (unit_digits-unit c k)) b)
 
-high-unit : (c : ℕ) → c < 0x11_0000 → code_unit (unit_digits (high_of c)) ≡ high_of c
-high-unit c h = unit_digits-unit (high_of c) (omega arith)
+-- the first four digits write the high surrogate
+high-unit : (c : ℕ) → c < 0x11_0000 → code_unit (unit_digits (high_surrogate c)) ≡ high_surrogate c
+high-unit c h = unit_digits-unit (high_surrogate c) (omega arith)
 
-low-unit : (c : ℕ) → code_unit (unit_digits (low_of c)) ≡ low_of c
-low-unit c = unit_digits-unit (low_of c) (omega arith)
+-- and the second four the low one
+low-unit : (c : ℕ) → code_unit (unit_digits (low_surrogate c)) ≡ low_surrogate c
+low-unit c = unit_digits-unit (low_surrogate c) (omega arith)
 
-is_high-high : (c : ℕ) → c < 0x11_0000 → is_high (high_of c) ≡ true
-is_high-high c h = and_from (nat_le 0xd800 (high_of c)) (nat_lt (high_of c) 0xdc00) (le-leb 0xd800 (high_of c) (omega arith)) (lt-ltb (high_of c) 0xdc00 (omega arith))
-
-is_low-low : (c : ℕ) → is_low (low_of c) ≡ true
-is_low-low c = and_from (nat_le 0xdc00 (low_of c)) (nat_lt (low_of c) 0xe000) (le-leb 0xdc00 (low_of c) (omega arith)) (lt-ltb (low_of c) 0xe000 (omega arith))
-
-pair-is : (c : ℕ) → scalar c → 0x1_0000 ≤ c → pair_character (code_unit (unit_digits (high_of c))) (code_unit (unit_digits (low_of c))) ≡ c
-pair-is c h k = ap₂ pair_character (high-unit c (below-end c h)) (low-unit c) ∙ pair_character-surrogates c k
+-- the two make the character
+pair-is : (c : ℕ) → scalar c → 0x1_0000 ≤ c → pair_character (code_unit (unit_digits (high_surrogate c))) (code_unit (unit_digits (low_surrogate c))) ≡ c
+pair-is c h k = ap₂ pair_character (high-unit c (below-scalar c h)) (low-unit c) ∙ pair_character-surrogates c k
 
 abbrev pair-spelt : (c : ℕ) → scalar c → 0x1_0000 ≤ c → IsSafelySpelt (unit_escape (high_surrogate c) ++ unit_escape (low_surrogate c)) c
 pair-spelt c h k =
     record {
-      spelling = surrogates (unit_digits (high_of c)) (unit_digits (low_of c));
+      spelling = surrogates (unit_digits (high_surrogate c)) (unit_digits (low_surrogate c));
       text = refl;
       character = pair-is c h k;
       safe = (
-        unit_digits-hexadecimal (high_of c),
-        subst (λ v. is_high v ≡ true) (sym (high-unit c (below-end c h))) (is_high-high c (below-end c h)),
-        unit_digits-hexadecimal (low_of c),
-        subst (λ v. is_low v ≡ true) (sym (low-unit c)) (is_low-low c),
+        unit_digits-hexadecimal (high_surrogate c),
+        subst (λ v. is_high v ≡ true) (sym (high-unit c (below-scalar c h))) (high_surrogate-high c (below-scalar c h)),
+        unit_digits-hexadecimal (low_surrogate c),
+        subst (λ v. is_low v ≡ true) (sym (low-unit c)) (low_surrogate-low c),
       );
     }
 
-pair-keeps : (c : ℕ) → scalar c → 0x1_0000 ≤ c → is_blank c ≡ false → KeepsBlanks (surrogates (unit_digits (high_of c)) (unit_digits (low_of c)))
-pair-keeps c h k b = KeepsBlanks-surrogates (unit_digits (high_of c)) (unit_digits (low_of c)) (unit_digits-hexadecimal (low_of c)) (subst (λ v. is_blank v ≡ false) (sym (pair-is c h k)) b)
+-- two escapes keep blanks, where they are of none
+pair-keeps : (c : ℕ) → scalar c → 0x1_0000 ≤ c → is_blank c ≡ false → KeepsBlanks (surrogates (unit_digits (high_surrogate c)) (unit_digits (low_surrogate c)))
+pair-keeps c h k b = KeepsBlanks-surrogates (unit_digits (high_surrogate c)) (unit_digits (low_surrogate c)) (unit_digits-hexadecimal (low_surrogate c)) (subst (λ v. is_blank v ≡ false) (sym (pair-is c h k)) b)
 
+-- an equal text is a safe spelling too
 same-spelt : (x y : List ℕ) (c : ℕ) → x ≡ y → IsSafelySpelt y c → IsSafelySpelt x c
 same-spelt x y c e s = record { spelling = s.spelling; text = e ∙ s.text; character = s.character; safe = s.safe }
 
+-- and a plain one
 same-plainly : (x y : List ℕ) (c : ℕ) → x ≡ y → IsPlainlySpelt y c → IsPlainlySpelt x c
 same-plainly x y c e s = record { spelling = s.spelling; text = e ∙ s.text; character = s.character; safe = s.safe; keeps = s.keeps }
 
+-- `\u` escapes spell a scalar safely
 pub unicode-spelt : (c : ℕ) → scalar c → IsSafelySpelt (unicode_escape c) c
 unicode-spelt c h =
     let whole = unit_escape c in
@@ -102,6 +102,7 @@ unicode-spelt c h =
       | inr k ↦ same-spelt (unicode_escape c) two c (cond-false (nat_lt c 0x1_0000) whole two k) (pair-spelt c h (ltb-false c 0x1_0000 k))
     ]
 
+-- and plainly, where it is no blank
 pub unicode-plainly : (c : ℕ) → scalar c → is_blank c ≡ false → IsPlainlySpelt (unicode_escape c) c
 unicode-plainly c h b =
     let whole = unit_escape c in
@@ -114,17 +115,20 @@ unicode-plainly c h b =
       | inr k ↦
           let s = pair-spelt c h (ltb-false c 0x1_0000 k) in
           same-plainly (unicode_escape c) two c (cond-false (nat_lt c 0x1_0000) whole two k)
-          (record { spelling = surrogates (unit_digits (high_of c)) (unit_digits (low_of c)); text = refl; character = s.character; safe = inl s.safe; keeps = pair-keeps c h (ltb-false c 0x1_0000 k) b })
+          (record { spelling = surrogates (unit_digits (high_surrogate c)) (unit_digits (low_surrogate c)); text = refl; character = s.character; safe = inl s.safe; keeps = pair-keeps c h (ltb-false c 0x1_0000 k) b })
     ]
 
 -- ---- characters as they stand, and escapes with a backslash alone
 
+-- a backslash and a character other than u, no line end, spell safely what they stand for
 escape-spelt : (c d : ℕ) → (d == letter_u) ≡ false → is_line_end d ≡ false → escaped_character d ≡ c → IsSafelySpelt (backslash ∷ d ∷ []) c
 escape-spelt c d u l e = record { spelling = escaped d; text = refl; character = e; safe = (u, l) }
 
+-- what spells one character spells an equal one
 at-character : (c d : ℕ) (x : ℕ → List ℕ) → (c == d) ≡ true → IsSafelySpelt (x d) d → IsSafelySpelt (x c) c
 at-character c d x e s = rw (eqb-true c d e) s
 
+-- a backslash and a character that takes one spell it safely
 special-spelt : (c : ℕ) → is_special c ≡ true → IsSafelySpelt (backslash ∷ c ∷ []) c
 special-spelt c h = elim (or_cases (c == backslash) (c == space || (is_separator c || is_comment_sign c)) h) [
   | inl e ↦ at-character c backslash (λ v. backslash ∷ v ∷ []) e (escape-spelt backslash backslash refl refl refl)
@@ -143,6 +147,7 @@ special-spelt c h = elim (or_cases (c == backslash) (c == space || (is_separator
   ]
 ]
 
+-- and so do a backslash and its letter
 letter-spelt : (c : ℕ) → has_letter c ≡ true → IsSafelySpelt (letter_escape c) c
 letter-spelt c h = elim (or_cases (c == tab || c == line_feed) (c == form_feed || c == carriage_return) h) [
   | inl h ↦ elim (or_cases (c == tab) (c == line_feed) h) [
@@ -162,9 +167,11 @@ record IsOrdinary (c : ℕ) : Type 0 where
   special : is_special c ≡ false
   letter : has_letter c ≡ false
 
+-- a character that is no space, no tab and no form feed is no blank
 blank-cases : (c : ℕ) → (c == space) ≡ false → (c == tab) ≡ false → (c == form_feed) ≡ false → is_blank c ≡ false
 blank-cases c a b d = or_from (c == space) (c == tab || c == form_feed) a (or_from (c == tab) (c == form_feed) b d)
 
+-- such a character spells itself safely
 itself-spelt : (c : ℕ) → IsOrdinary c → IsSafelySpelt (c ∷ []) c
 itself-spelt c o =
     let a = or_parts (c == backslash) (c == space || (is_separator c || is_comment_sign c)) o.special in
@@ -180,12 +187,14 @@ itself-spelt c o =
       safe = (a.0, blank-cases c b.0 g.0 i.0, d.0, d.1, or_from (c == line_feed) (c == carriage_return) g.1 i.1);
     }
 
+-- and so it does as itself where it may stand, or else escaped
 literal-spelt : (e : Encoding) (only : Bool) (c : ℕ) → scalar c → IsOrdinary c → IsSafelySpelt (literal e only c) c
 literal-spelt e only c h o = elim (cases_Bool (may_stand e only c)) [
   | inl k ↦ same-spelt (literal e only c) (c ∷ []) c (cond-true (may_stand e only c) (c ∷ []) (unicode_escape c) k) (itself-spelt c o)
   | inr k ↦ same-spelt (literal e only c) (unicode_escape c) c (cond-false (may_stand e only c) (c ∷ []) (unicode_escape c) k) (unicode-spelt c h)
 ]
 
+-- What is printed for a character in a key or a value spells it safely.
 pub in_key_or_value-spelt : (e : Encoding) (only : Bool) (c : ℕ) → scalar c → IsSafelySpelt (spelt e only in_key_or_value c) c
 in_key_or_value-spelt e only c h =
     let last_two = cond (nat_lt c space) (unicode_escape c) (literal e only c) in
@@ -205,9 +214,11 @@ in_key_or_value-spelt e only c h =
 
 -- ---- comments and prefixes
 
+-- a backslash and a character, neither a blank themselves nor spelling one, spell plainly
 escape-plainly : (c d : ℕ) → (d == letter_u) ≡ false → is_line_end d ≡ false → escaped_character d ≡ c → is_blank d ≡ false → is_blank (escaped_character d) ≡ false → IsPlainlySpelt (backslash ∷ d ∷ []) c
 escape-plainly c d u l e b f = record { spelling = escaped d; text = refl; character = e; safe = inl (u, l); keeps = KeepsBlanks-escaped d b f }
 
+-- what plainly spells one character spells an equal one
 at-character_plainly : (c d : ℕ) (x : ℕ → List ℕ) → (c == d) ≡ true → IsPlainlySpelt (x d) d → IsPlainlySpelt (x c) c
 at-character_plainly c d x e s = rw (eqb-true c d e) s
 
@@ -221,9 +232,11 @@ blank-stands e only c h = elim (or_cases (c == space) (c == tab || c == form_fee
   ]
 ]
 
+-- so a character that may not stand is no blank
 escaped-full : (e : Encoding) (only : Bool) (c : ℕ) → may_stand e only c ≡ false → is_blank c ≡ false
 escaped-full e only c h = elim (cases_Bool (is_blank c)) [ inl b ↦ (let k = blank-stands e only c b in cc) | inr b ↦ b ]
 
+-- as itself where it may stand, or else escaped, a character that is no backslash and no line end is plainly spelt
 pub literal-plainly : (e : Encoding) (only : Bool) (c : ℕ) → scalar c → (c == backslash) ≡ false → is_line_end c ≡ false → IsPlainlySpelt (literal e only c) c
 literal-plainly e only c h b l = elim (cases_Bool (may_stand e only c)) [
   | inl k ↦ same-plainly (literal e only c) (c ∷ []) c (cond-true (may_stand e only c) (c ∷ []) (unicode_escape c) k)
@@ -231,6 +244,7 @@ literal-plainly e only c h b l = elim (cases_Bool (may_stand e only c)) [
   | inr k ↦ same-plainly (literal e only c) (unicode_escape c) c (cond-false (may_stand e only c) (c ∷ []) (unicode_escape c) k) (unicode-plainly c h (escaped-full e only c k))
 ]
 
+-- What is printed for a character in a comment spells it plainly.
 pub in_comment-spelt : (e : Encoding) (only : Bool) (c : ℕ) → scalar c → IsPlainlySpelt (spelt e only in_comment c) c
 in_comment-spelt e only c h =
     let rest = cond (c == line_feed || c == carriage_return) (letter_escape c) (literal e only c) in

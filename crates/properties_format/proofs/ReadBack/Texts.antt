@@ -34,12 +34,14 @@ pub spelt-cons : (x y : List ℕ) (c : ℕ) (cs : List ℕ) → IsSafelySpelt x 
 spelt-cons x y c cs s t =
     record { spellings = s.spelling ∷ t.spellings; text = ap₂ (λ v w. v ++ w) s.text t.text; characters = ap₂ (λ v w. v ∷ w) s.character t.characters; safe = (s.safe, t.safe) }
 
+-- what is printed for a key or a value is safely spelt
 pub texts-spelt : (e : Encoding) (only : Bool) (x : List ℕ) → AllByRecursion scalar x → AreSafelySpelt (spelt_text e only in_key_or_value x) x
 texts-spelt e only [] h = record { spellings = []; text = refl; characters = refl; safe = tt }
 texts-spelt e only (c ∷ x) h = spelt-cons (spelt e only in_key_or_value c) (spelt_text e only in_key_or_value x) c x (in_key_or_value-spelt e only c h.0) (texts-spelt e only x h.1)
 
 -- ---- what they mean
 
+-- a safe spelling is whole
 pub safe-whole : (p : Spelling) → IsSafe p → IsWhole p
 safe-whole (itself c) h = h.0
 safe-whole (escaped c) h = h.0
@@ -47,18 +49,22 @@ safe-whole (unicode d) h = h
 safe-whole (surrogates high low) h = h
 safe-whole last h = h
 
+-- and so are safe spellings
 are_safe-whole : (ps : List Spelling) → AreSafe ps → AreWhole ps
 are_safe-whole [] h = tt
 are_safe-whole (p ∷ ps) h = (safe-whole p h.0, are_safe-whole ps h.1)
 
+-- a text that is safely spelt means what it spells
 pub spelt-means : (x y : List ℕ) → AreSafelySpelt x y → meaning_of x ≡ means y
 spelt-means x y s = ap meaning_of s.text ∙ meaning_of-all s.spellings (are_safe-whole s.spellings s.safe) ∙ ap means s.characters
 
 -- ---- no line end
 
+-- a hexadecimal digit is no line end
 digit-plain : (c : ℕ) → is_hexadecimal c ≡ true → is_line_end c ≡ false
 digit-plain c h = grind (arith, nat_tests)
 
+-- each of four hexadecimal digits is one
 four-digits : (d : Four) → are_hexadecimal d ≡ true → (is_hexadecimal d.first ≡ true) × (is_hexadecimal d.second ≡ true) × (is_hexadecimal d.third ≡ true) × (is_hexadecimal d.fourth ≡ true)
 four-digits d h =
     let p = and_parts (is_hexadecimal d.first && is_hexadecimal d.second) (is_hexadecimal d.third && is_hexadecimal d.fourth) h in
@@ -66,9 +72,11 @@ four-digits d h =
     let r = and_parts (is_hexadecimal d.third) (is_hexadecimal d.fourth) p.1 in
     (q.0, q.1, r.0, r.1)
 
+-- a `\u` escape holds no line end
 unit-plain : (d : Four) → are_hexadecimal d ≡ true → HoldsNoLineEnd (backslash ∷ letter_u ∷ four_text d)
 unit-plain d h = let f = four-digits d h in (refl, (refl, (digit-plain d.first f.0, (digit-plain d.second f.1, (digit-plain d.third f.2, (digit-plain d.fourth f.3, tt))))))
 
+-- a safe spelling holds none
 pub safe-plain : (p : Spelling) → IsSafe p → HoldsNoLineEnd (spelling_text p)
 safe-plain (itself c) h = (h.4, tt)
 safe-plain (escaped c) h = (refl, (h.1, tt))
@@ -76,10 +84,12 @@ safe-plain (unicode d) h = unit-plain d h.0
 safe-plain (surrogates high low) h = plain-append (backslash ∷ letter_u ∷ four_text high) (backslash ∷ letter_u ∷ four_text low) (unit-plain high h.0) (unit-plain low h.2)
 safe-plain last h = absurd h
 
+-- and safe spellings hold none
 are_safe-plain : (ps : List Spelling) → AreSafe ps → HoldsNoLineEnd (spelt_before ps [])
 are_safe-plain [] h = tt
 are_safe-plain (p ∷ ps) h = plain-append (spelling_text p) (spelt_before ps []) (safe-plain p h.0) (are_safe-plain ps h.1)
 
+-- nor does a text that is safely spelt
 pub spelt-plain : (x y : List ℕ) → AreSafelySpelt x y → HoldsNoLineEnd x
 spelt-plain x y s = rw s.text (are_safe-plain s.spellings s.safe)
 
@@ -89,11 +99,13 @@ spelt-plain x y s = rw s.text (are_safe-plain s.spellings s.safe)
 other-closed : (x y : List ℕ) (c : ℕ) → (c == backslash) ≡ false → is_open (x ++ (y ++ c ∷ [])) ≡ false
 other-closed x y c h = ap is_open (sym (append_assoc x y (c ∷ []))) ∙ is_open-other (x ++ y) c h
 
+-- nor is one that ends in a `\u` escape
 unit-closed : (x y : List ℕ) (d : Four) → are_hexadecimal d ≡ true → is_open (x ++ (y ++ (backslash ∷ letter_u ∷ four_text d))) ≡ false
 unit-closed x y d h =
     ap (λ v. is_open (x ++ v)) (sym (append_assoc y (backslash ∷ letter_u ∷ d.first ∷ d.second ∷ d.third ∷ []) (d.fourth ∷ [])))
     ∙ other-closed x (y ++ (backslash ∷ letter_u ∷ d.first ∷ d.second ∷ d.third ∷ [])) d.fourth (hexadecimal-plain d.fourth (four-digits d h).3).0
 
+-- after a text that is not open, nor is one that ends in a safe spelling
 safe-closed : (p : Spelling) (x : List ℕ) → IsSafe p → is_open x ≡ false → is_open (x ++ spelling_text p) ≡ false
 safe-closed (itself c) x h o = is_open-other x c h.0
 safe-closed (escaped c) x h o = elim (cases_Bool (c == backslash)) [
@@ -104,16 +116,19 @@ safe-closed (unicode d) x h o = unit-closed x [] d h.0
 safe-closed (surrogates high low) x h o = unit-closed x (backslash ∷ letter_u ∷ four_text high) low h.2
 safe-closed last x h o = absurd h
 
+-- nor in safe spellings
 are_safe-closed : (ps : List Spelling) (x : List ℕ) → AreSafe ps → is_open x ≡ false → is_open (x ++ spelt_before ps []) ≡ false
 are_safe-closed [] x h o = ap is_open (append-nil x) ∙ o
 are_safe-closed (p ∷ ps) x h o =
     ap is_open (sym (append_assoc x (spelling_text p) (spelt_before ps []))) ∙ are_safe-closed ps (x ++ spelling_text p) h.1 (safe-closed p x h.0 o)
 
+-- so a text that is safely spelt is not open
 pub spelt-closed : (x y : List ℕ) → AreSafelySpelt x y → is_open x ≡ false
 spelt-closed x y s = ap is_open s.text ∙ are_safe-closed s.spellings [] s.safe refl
 
 -- ---- a key, and how it begins
 
+-- a safe spelling in front of a key
 safe-key : (p : Spelling) (y rest : List ℕ) → IsSafe p → IsKey y rest → IsKey (spelling_text p ++ y) rest
 safe-key (itself c) y rest h k = IsKey-plain c y rest h.0 h.1 h.2 k
 safe-key (escaped c) y rest h k = IsKey-escaped c y rest k
@@ -121,6 +136,7 @@ safe-key (unicode d) y rest h k = IsKey-unicode d y rest h.0 k
 safe-key (surrogates high low) y rest h k = IsKey-unicode high (backslash ∷ letter_u ∷ four_text low ++ y) rest h.0 (IsKey-unicode low y rest h.2 k)
 safe-key last y rest h k = absurd h
 
+-- so safe spellings are a key, whatever follows
 pub are_safe-key : (ps : List Spelling) (rest : List ℕ) → AreSafe ps → IsKey (spelt_before ps []) rest
 are_safe-key [] rest h = IsKey-nil rest
 are_safe-key (p ∷ ps) rest h = safe-key p (spelt_before ps []) rest h.0 (are_safe-key ps rest h.1)
@@ -129,15 +145,17 @@ are_safe-key (p ∷ ps) rest h = safe-key p (spelt_before ps []) rest h.0 (are_s
 pub record BeginsFull (x : List ℕ) : Type 0 where
   pub no_blank : begins is_blank x ≡ false
   pub no_separator : begins is_separator x ≡ false
-  pub no_bom : begins is_comment_sign x ≡ false
+  pub no_sign : begins is_comment_sign x ≡ false
 
+-- a text with a safe spelling in front is such
 pub safe-begins : (p : Spelling) (y : List ℕ) → IsSafe p → BeginsFull (spelling_text p ++ y)
-safe-begins (itself c) y h = record { no_blank = h.1; no_separator = h.2; no_bom = h.3 }
-safe-begins (escaped c) y h = record { no_blank = refl; no_separator = refl; no_bom = refl }
-safe-begins (unicode d) y h = record { no_blank = refl; no_separator = refl; no_bom = refl }
-safe-begins (surrogates high low) y h = record { no_blank = refl; no_separator = refl; no_bom = refl }
+safe-begins (itself c) y h = record { no_blank = h.1; no_separator = h.2; no_sign = h.3 }
+safe-begins (escaped c) y h = record { no_blank = refl; no_separator = refl; no_sign = refl }
+safe-begins (unicode d) y h = record { no_blank = refl; no_separator = refl; no_sign = refl }
+safe-begins (surrogates high low) y h = record { no_blank = refl; no_separator = refl; no_sign = refl }
 safe-begins last y h = absurd h
 
+-- and so are safe spellings
 pub are_safe-begin : (ps : List Spelling) → AreSafe ps → BeginsFull (spelt_before ps [])
-are_safe-begin [] h = record { no_blank = refl; no_separator = refl; no_bom = refl }
+are_safe-begin [] h = record { no_blank = refl; no_separator = refl; no_sign = refl }
 are_safe-begin (p ∷ ps) h = safe-begins p (spelt_before ps []) h.0

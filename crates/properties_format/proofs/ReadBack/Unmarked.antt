@@ -23,6 +23,7 @@ abbrev HasNot : ℕ → List ℕ → Type 0
 HasNot c [] = Unit {0}
 HasNot c (m ∷ ms) = ((m == c) ≡ false) × HasNot c ms
 
+-- a number above 80 hexadecimal is no ASCII one
 no-ascii : (m c : ℕ) → c < 0x80 → 0x80 < m → (m == c) ≡ false
 no-ascii m c h k = ne_eqb m c (λ q. absurd (omega arith))
 
@@ -59,10 +60,12 @@ IsUnmarked e x = begins_like_bom (encoded_text e x) ≡ false
 pub front-unmarked : (e : Encoding) (x : List ℕ) (c : ℕ) (y : List ℕ) → x ≡ c ∷ y → c < 0x80 → IsUnmarked e x
 front-unmarked e x c y same h = ap (λ v. begins_like_bom (encoded_text e v)) same ∙ text-cut e [] c y h
 
+-- blanks and a comment sign begin with an ASCII character
 indent-front : (indent : List ℕ) (sign : ℕ) (rest : List ℕ) → AreBlanks indent → is_comment_sign sign ≡ true → (c : ℕ) × (y : List ℕ) × (indent ++ (sign ∷ rest) ≡ c ∷ y) × (c < 0x80)
 indent-front [] sign rest b m = (sign, rest, refl, (sign-ascii sign m).0)
 indent-front (c ∷ indent) sign rest b m = (c, indent ++ (sign ∷ rest), refl, blank-ascii c b.0)
 
+-- a comment on the first line, with what comes after its prefix
 comment-unmarked : (e : Encoding) (only : Bool) (prefix rest : List ℕ) → IsGoodPrefix prefix → IsUnmarked e (spelt_text e only in_prefix prefix ++ rest)
 comment-unmarked e only prefix rest g =
     let (c, y, same, h) = indent-front g.indent g.sign (spelt_text e only in_prefix g.tail) g.indented g.signed in
@@ -74,12 +77,14 @@ separator-front : (sep : List ℕ) → IsGoodSeparator sep → (c : ℕ) × (y :
 separator-front [] g = absurd (separator-some [] g refl)
 separator-front (c ∷ y) g = (c, y, refl, (good_separator-ascii (c ∷ y) g).0)
 
+-- a key with its first character escaped, with what comes after it
 with_first_escaped-unmarked : (e : Encoding) (only : Bool) (key rest : List ℕ) → is_bom_like e only key ≡ true → IsUnmarked e (with_first_escaped e only key ++ rest)
 with_first_escaped-unmarked e only [] rest h = cc
 with_first_escaped-unmarked e only (c ∷ cs) rest h =
     let (y, same) = unicode-is_escape c in
     front-unmarked e (with_first_escaped e only (c ∷ cs) ++ rest) backslash ((y ++ spelt_text e only in_key_or_value cs) ++ rest) (ap (λ v. (v ++ spelt_text e only in_key_or_value cs) ++ rest) same) (lit< tt)
 
+-- a key that begins like no byte order mark, with what comes after its separator
 plain-unmarked : (e : Encoding) (only : Bool) (key sep rest : List ℕ) → IsGoodSeparator sep → is_bom_like e only key ≡ false → IsUnmarked e (spelt_text e only in_key_or_value key ++ (sep ++ rest))
 plain-unmarked e only key sep rest g h =
     let (c, y, same, k) = separator-front sep g in
@@ -93,6 +98,7 @@ pair-unmarked e only key sep rest g = elim (cases_Bool (is_bom_like e only key))
   | inr h ↦ ap (λ v. begins_like_bom (encoded_text e (v ++ (sep ++ rest)))) (cond-false (is_bom_like e only key) (with_first_escaped e only key) (spelt_text e only in_key_or_value key) h) ∙ plain-unmarked e only key sep rest g h
 ]
 
+-- a printed first line, with what comes after it
 printed-unmarked : (e : Encoding) (s : Settings) (line : Content) (rest : List ℕ) → AreGoodSettings s → IsUnmarked e (printed_text e s true line ++ rest)
 printed-unmarked e s (comment text) rest g =
     ap (λ v. begins_like_bom (encoded_text e v)) (append_assoc (spelt_text e s.ascii_only in_prefix s.comment_prefix) _ rest) ∙ comment-unmarked e s.ascii_only s.comment_prefix _ g.prefix
@@ -102,11 +108,13 @@ printed-unmarked e s (pair key value) rest g =
 
 -- ---- all lines
 
+-- a pair, where it is accepted and where it is not, with what comes after it
 pair-step : (e : Encoding) (s : Settings) (key value : List ℕ) (calls : List Call) (b : Bool) → AreGoodSettings s → IsUnmarked e (wrote_text e s 0 calls)
     → IsUnmarked e (line_text e s 0 (if b then Some (pair key value) else None) ++ wrote_text e s (lines_with 0 (if b then Some (pair key value) else None)) calls)
 pair-step e s key value calls true g h = printed-unmarked e s (pair key value) (wrote_text e s 1 calls) g
 pair-step e s key value calls false g h = h
 
+-- What calls write, with no line before them, begins like no byte order mark.
 pub wrote_text-unmarked : (e : Encoding) (s : Settings) (calls : List Call) → AreGoodSettings s → AreOfScalars calls → begins_like_bom (encoded_text e (wrote_text e s 0 calls)) ≡ false
 wrote_text-unmarked e s [] g h = refl
 wrote_text-unmarked e s (comment_call text ∷ calls) g h = printed-unmarked e s (comment text) (wrote_text e s 1 calls) g

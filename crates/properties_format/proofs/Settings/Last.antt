@@ -55,6 +55,7 @@ ascii_only_of (ascii_only_call on) = Some on
 
 -- ---- after one call
 
+-- a prefix is set where it is accepted, and every other setting stays
 after-prefix : (s : Settings) (prefix : List ℕ) (b : Bool)
     → ((if b then record s { comment_prefix = prefix } else s).comment_prefix ≡ unwrap_or (if b then Some prefix else None) s.comment_prefix)
     × ((if b then record s { comment_prefix = prefix } else s).kv_separator ≡ s.kv_separator)
@@ -63,6 +64,7 @@ after-prefix : (s : Settings) (prefix : List ℕ) (b : Bool)
 after-prefix s prefix true = (refl, refl, refl, refl)
 after-prefix s prefix false = (refl, refl, refl, refl)
 
+-- and so a separator
 after-separator : (s : Settings) (separator : List ℕ) (b : Bool)
     → ((if b then record s { kv_separator = separator } else s).kv_separator ≡ unwrap_or (if b then Some separator else None) s.kv_separator)
     × ((if b then record s { kv_separator = separator } else s).comment_prefix ≡ s.comment_prefix)
@@ -71,6 +73,7 @@ after-separator : (s : Settings) (separator : List ℕ) (b : Bool)
 after-separator s separator true = (refl, refl, refl, refl)
 after-separator s separator false = (refl, refl, refl, refl)
 
+-- the prefix after a call is the one that it sets, or else the one before it
 prefix-after_call : (s : Settings) (call : Call) → (settings_after_call s call).comment_prefix ≡ unwrap_or (prefix_of call) s.comment_prefix
 prefix-after_call s (comment_call text) = refl
 prefix-after_call s (pair_call key value) = refl
@@ -80,6 +83,7 @@ prefix-after_call s (ending_call line_ending) = refl
 prefix-after_call s flush_call = refl
 prefix-after_call s (ascii_only_call on) = refl
 
+-- and so the separator
 separator-after_call : (s : Settings) (call : Call) → (settings_after_call s call).kv_separator ≡ unwrap_or (separator_of call) s.kv_separator
 separator-after_call s (comment_call text) = refl
 separator-after_call s (pair_call key value) = refl
@@ -89,6 +93,7 @@ separator-after_call s (ending_call line_ending) = refl
 separator-after_call s flush_call = refl
 separator-after_call s (ascii_only_call on) = refl
 
+-- and the line ending
 ending-after_call : (s : Settings) (call : Call) → (settings_after_call s call).line_ending ≡ unwrap_or (ending_of call) s.line_ending
 ending-after_call s (comment_call text) = refl
 ending-after_call s (pair_call key value) = refl
@@ -98,6 +103,7 @@ ending-after_call s (ending_call line_ending) = refl
 ending-after_call s flush_call = refl
 ending-after_call s (ascii_only_call on) = refl
 
+-- and whether ASCII alone is on
 pub ascii_only-after_call : (s : Settings) (call : Call) → (settings_after_call s call).ascii_only ≡ unwrap_or (ascii_only_of call) s.ascii_only
 ascii_only-after_call s (comment_call text) = refl
 ascii_only-after_call s (pair_call key value) = refl
@@ -109,10 +115,12 @@ ascii_only-after_call s (ascii_only_call on) = refl
 
 -- ---- after a list of calls
 
+-- the later of two values where there is one, or else the one at the start
 unwrap-later : {A : Type 0} (o p : Option A) (x : A) → unwrap_or p (unwrap_or o x) ≡ unwrap_or (later o p) x
 unwrap-later o None x = refl
 unwrap-later o (Some y) x = refl
 
+-- The prefix is the last one that was accepted, or else the one at the start.
 pub prefix-after : (s : Settings) (calls : List Call) → (settings_after s calls).comment_prefix ≡ unwrap_or (last_given prefix_of calls) s.comment_prefix
 prefix-after s [] = refl
 prefix-after s (call ∷ calls) =
@@ -120,6 +128,7 @@ prefix-after s (call ∷ calls) =
     ∙ ap (unwrap_or (last_given prefix_of calls)) (prefix-after_call s call)
     ∙ unwrap-later (prefix_of call) (last_given prefix_of calls) s.comment_prefix
 
+-- And so is the separator.
 pub separator-after : (s : Settings) (calls : List Call) → (settings_after s calls).kv_separator ≡ unwrap_or (last_given separator_of calls) s.kv_separator
 separator-after s [] = refl
 separator-after s (call ∷ calls) =
@@ -127,6 +136,7 @@ separator-after s (call ∷ calls) =
     ∙ ap (unwrap_or (last_given separator_of calls)) (separator-after_call s call)
     ∙ unwrap-later (separator_of call) (last_given separator_of calls) s.kv_separator
 
+-- The line ending is the last one that was set, or else the one at the start.
 pub ending-after : (s : Settings) (calls : List Call) → (settings_after s calls).line_ending ≡ unwrap_or (last_given ending_of calls) s.line_ending
 ending-after s [] = refl
 ending-after s (call ∷ calls) =
@@ -134,6 +144,7 @@ ending-after s (call ∷ calls) =
     ∙ ap (unwrap_or (last_given ending_of calls)) (ending-after_call s call)
     ∙ unwrap-later (ending_of call) (last_given ending_of calls) s.line_ending
 
+-- And so is whether ASCII alone is on.
 pub ascii_only-after : (s : Settings) (calls : List Call) → (settings_after s calls).ascii_only ≡ unwrap_or (last_given ascii_only_of calls) s.ascii_only
 ascii_only-after s [] = refl
 ascii_only-after s (call ∷ calls) =

@@ -7,12 +7,15 @@ use Rattle.properties_format.proofs.Slots.Places.{NoSlotHas}
 
 -- ---- cells that are left
 
+-- a cell that is left has its slot among those that are left
 pub live-alive : (c : Cell) (cs : List Cell) → c.alive ≡ true → live (c ∷ cs) ≡ c.slot ∷ live cs
 live-alive c cs k = rw k refl
 
+-- a cell that is not left has none among them
 pub live-dead : (c : Cell) (cs : List Cell) → c.alive ≡ false → live (c ∷ cs) ≡ live cs
 live-dead c cs k = rw k refl
 
+-- the slots that are left of cells and then of more cells
 pub live-append : (xs ys : List Cell) → live (xs ++ ys) ≡ live xs ++ live ys
 live-append [] ys = refl
 live-append (x ∷ xs) ys = elim (cases_Bool x.alive) [
@@ -32,6 +35,7 @@ pub record IsCellAt (cells : List Cell) (i : ℕ) (d : Cell) : Type 0 where
   pub division : cells ≡ before ++ get_or cells i d ∷ after
   pub number : length before ≡ i
 
+-- cells are those before a place, the cell there, and those after it
 pub cell-at : (cells : List Cell) (i : ℕ) (d : Cell) → i < length cells → IsCellAt cells i d
 cell-at [] i d h = absurd (omega arith)
 cell-at (c ∷ cs) zero d h = record { before = []; after = cs; division = refl; number = refl }
@@ -42,12 +46,15 @@ cell-at (c ∷ cs) (suc i) d h =
 
 -- ---- places
 
+-- a cell in front that is left and has the key is the first place
 pub places-has : (key : List ℕ) (n : ℕ) (c : Cell) (cs : List Cell) → cell_has key c ≡ true → places_from key n (c ∷ cs) ≡ n ∷ places_from key (n + 1) cs
 places-has key n c cs k = rw k refl
 
+-- any other cell in front is no place
 pub places-other : (key : List ℕ) (n : ℕ) (c : Cell) (cs : List Cell) → cell_has key c ≡ false → places_from key n (c ∷ cs) ≡ places_from key (n + 1) cs
 places-other key n c cs k = rw k refl
 
+-- the places in cells and then in more cells, which are numbered on
 pub places-append : (key : List ℕ) (n : ℕ) (xs ys : List Cell) → places_from key n (xs ++ ys) ≡ places_from key n xs ++ places_from key (n + length xs) ys
 places-append key n [] ys = let s : n ≡ n + 0 = omega arith in ap (λ m. places_from key m ys) s
 places-append key n (x ∷ xs) ys =
@@ -86,6 +93,7 @@ pub record IsLastCell (key : List ℕ) (n : ℕ) (cells : List Cell) (stack : Li
   pub has : slot_has key cell.slot ≡ true
   pub no_later : NoSlotHas key (live after)
 
+-- where the first cell is a place, the last place is the last of the others, or the first cell's where they have none
 last-here : (key : List ℕ) (n : ℕ) (c : Cell) (cs : List Cell) (stack : List ℕ) (i : ℕ) → cell_has key c ≡ true
     → n ∷ places_from key (n + 1) cs ≡ stack ++ i ∷ []
     → ((rest : List ℕ) → places_from key (n + 1) cs ≡ rest ++ i ∷ [] → IsLastCell key (n + 1) cs rest i)
@@ -119,6 +127,7 @@ last-here key n c cs (j ∷ stack) i k s rec =
       no_later = m.no_later;
     }
 
+-- a list with one more number is not empty
 no-push : (stack : List ℕ) (i : ℕ) → [] ≡ stack ++ i ∷ [] → ⊥
 no-push [] i k = cc
 no-push (j ∷ stack) i k = cc

@@ -9,14 +9,14 @@ use Rattle.properties_format.specs.Body.{HeldLine, AreGroupsOf, ending_bytes, gr
 use Rattle.properties_format.specs.Edited.{IsKeySet, bom_of, IsKeyRemoved, is_empty_line, is_left_open, final_group, is_editable, Edit, put, remove, IsScalarEdit, AreScalarEdits}
 use Rattle.properties_format.specs.Reading.Body.{held_groups_of}
 use Rattle.properties_format.specs.Reading.Edited.{without, edit_made, edits_made, result_of, edit_all_result}
-use Rattle.properties_format.specs.Reading.Slots.{slots_bytes, slot_list, Slots, Closing, left_out, ended_by, closed_by, unended_bytes, safe_ending, closing_of, slots_of, slots_edited, slots_after_edits, source_slots, slots_made}
+use Rattle.properties_format.specs.Reading.Slots.{slots_bytes, slot_list, Slots, Closing, left_out, ended_by, closed_by, unended_bytes, safe_ending, slots_of, slots_edited, slots_after_edits, slots_made}
 use Rattle.properties_format.proofs.Body.Groups.{held_groups_of-meets, held-body}
 use Rattle.properties_format.proofs.Edited.Made.{key_set-only, without-meets, key_removed-only}
 use Rattle.properties_format.proofs.Edited.ByteOrderMarks.{has_bom, source-whole, key_set-in_force, key_removed-in_force}
 use Rattle.properties_format.proofs.Slots.Lines.{bytes-unended, ending-of}
 use Rattle.properties_format.proofs.Slots.Merged.{AreInTurn, in-turn, merged, merged-groups}
 use Rattle.properties_format.proofs.Slots.Removed.{removed}
-use Rattle.properties_format.proofs.Slots.Put.{put-in, ends-last}
+use Rattle.properties_format.proofs.Slots.Put.{put-in}
 
 -- ---- the byte order mark
 
@@ -74,6 +74,7 @@ record AreOf (e : Encoding) (source : List ℕ) (gs : List (List HeldLine)) : Ty
   bytes : groups_bytes gs ≡ (byte_order_mark e source).body
   in_turn : AreInTurn (byte_order_mark e source).encoding gs
 
+-- such groups, where each CR takes the LF alone after it, are the groups of the body
 groups-of : (e : Encoding) (source : List ℕ) (gs : List (List HeldLine)) → is_editable (byte_order_mark e source).encoding ≡ true → AreOf e source gs
     → AreGroupsOf (byte_order_mark e source).encoding (byte_order_mark e source).body (merged gs)
 groups-of e source gs ok a =
@@ -87,6 +88,7 @@ record IsStep (e : Encoding) (source : List ℕ) (edit : Edit) (gs : List (List 
   in_force : byte_order_mark e (bom_of source ++ groups_bytes groups) ≡ record { encoding = (byte_order_mark e source).encoding; body = groups_bytes groups }
   slots : slots_of groups ≡ slots_edited (byte_order_mark e source).encoding (begins_like_bom source) edit (slots_of gs)
 
+-- an edit whose texts are of scalar values has such groups
 step : (e : Encoding) (source : List ℕ) (edit : Edit) (gs : List (List HeldLine)) → is_editable (byte_order_mark e source).encoding ≡ true
     → IsScalarEdit edit → AreOf e source gs → IsStep e source edit gs
 step e source (put key value) gs ok k a =
@@ -131,6 +133,7 @@ pub record AreReached (e : Encoding) (source : List ℕ) (edits : List Edit) (gs
   pub whole : edits_made e source edits ≡ bom_of source ++ groups_bytes groups
   pub slots : slots_of groups ≡ slots_after_edits (byte_order_mark e source).encoding (begins_like_bom source) edits (slots_of gs)
 
+-- edits whose texts are of scalar values have such groups, from any groups in turn on
 reach : (e : Encoding) (source : List ℕ) (edits : List Edit) (gs : List (List HeldLine)) → is_editable (byte_order_mark e source).encoding ≡ true
     → AreScalarEdits edits → AreOf e source gs → AreReached e source edits gs
 reach e source [] gs ok k a =
@@ -151,6 +154,7 @@ reach e source (edit ∷ edits) gs ok k a =
       slots = n.slots ∙ ap₂ (λ u v. slots_after_edits u v edits (slots_of m.groups)) same bom.1 ∙ ap (slots_after_edits f marked edits) m.slots;
     }
 
+-- and so from the groups of the source on
 pub reached : (e : Encoding) (source : List ℕ) (edits : List Edit) → is_editable (byte_order_mark e source).encoding ≡ true → AreScalarEdits edits
     → AreReached e source edits (held_groups_of (byte_order_mark e source).encoding (byte_order_mark e source).body)
 reached e source edits ok k =
@@ -185,23 +189,6 @@ slots_after-push e marked (other ∷ edits) edit s = slots_after-push e marked e
 -- what becomes of a last group after which a pair comes, with this ending
 abbrev pub closing_by : LineEnding → List HeldLine → Closing
 closing_by by g = if is_empty_line g then left_out else (if is_left_open g then closed_by by else ended_by by)
-
--- The ending that closes the last slot of a source is a CR where the source ends in one.
-pub source-closing : (e : Encoding) (source : List ℕ) → is_editable (byte_order_mark e source).encoding ≡ true
-    → let f : InForce = byte_order_mark e source in
-    (source_slots e source).closing ≡ closing_by (safe_ending source) (final_group (held_groups_of f.encoding f.body))
-source-closing e source ok =
-    let f = byte_order_mark e source in
-    let gs = held_groups_of f.encoding f.body in
-    let h = held_groups_of-meets f.encoding f.body in
-    of-group (final_group gs)
-    (λ x. sym ((ends-last f.encoding gs (in-turn f.encoding f.body gs ok h) x).1) ∙ ap ends_in_cr (held-body f.encoding f.body gs ok h) ∙ sym (ends-body e source ok))
-  where
-    of-group : (g : List HeldLine) → (is_empty_line g ≡ false → ends_in_cr (group_bytes g) ≡ ends_in_cr source) → closing_of g ≡ closing_by (safe_ending source) g
-    of-group g s = elim (cases_Bool (is_empty_line g)) [
-      | inl x ↦ rw x refl
-      | inr x ↦ let t = s x in rw (x, t) refl
-    ]
 
 -- the last of these groups has no line ending
 turn-final : (e : Encoding) (gs : List (List HeldLine)) → AreInTurn e gs → last_ending (final_group gs) ≡ None

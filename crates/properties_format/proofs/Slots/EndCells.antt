@@ -17,6 +17,7 @@ pub record IsLastAt (cells : List Cell) (i : ℕ) (d : Cell) : Type 0 where
   pub number : length before ≡ i
   pub alive : (get_or cells i d).alive ≡ true
 
+-- where the last cell is left, the cells are those before it and the one at the last place
 pub last-at : (cells : List Cell) (i : ℕ) (d : Cell) → EndsAlive cells → i + 1 ≡ length cells → IsLastAt cells i d
 last-at cells i d a h =
     let m = cell-at cells i d (omega arith) in of-after m.before (get_or cells i d) m.after m.division m.number refl
@@ -48,11 +49,13 @@ final-live cells i d a h =
     push (x ∷ []) s = refl
     push (x ∷ y ∷ xs) s = push (y ∷ xs) s
 
+-- what becomes of the last slot changes no other
 closed-push : (c : Closing) (xs : List Slot) (s : Slot) → closed_slots c (xs ++ s ∷ []) ≡ xs ++ closed_slot c s
 closed-push c [] s = refl
 closed-push c (x ∷ []) s = refl
 closed-push c (x ∷ y ∷ xs) s = ap (λ v. x ∷ v) (closed-push c (y ∷ xs) s)
 
+-- what a closed cell leaves is its slot, closed
 closed-live : (closing : Closing) (c : Cell) → c.alive ≡ true → live (closed_cell closing c ∷ []) ≡ closed_slot closing c.slot
 closed-live left_out c k = refl
 closed-live (ended_by by) c k = rw k refl
@@ -87,6 +90,7 @@ put-end e key value cells closing i d a h n =
     ∙ ap (λ v. record { list = v; closing = left_out })
     (sym (live-append kept (record { slot = pair_slot e (is_first (live kept)) key value (Some lf); alive = true } ∷ record { slot = empty_slot None; alive = true } ∷ [])))
 
+-- a closed cell has the key where it had it, if one that is left out is no pair
 closed-has : (key : List ℕ) (closing : Closing) (c : Cell) → (closing ≡ left_out → c.slot.key ≡ None) → cell_has key (closed_cell closing c) ≡ cell_has key c
 closed-has key left_out c n = of-key c.slot.key c.alive (n refl)
   where

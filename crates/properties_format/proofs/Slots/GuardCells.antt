@@ -90,15 +90,18 @@ abbrev pub AreLonesKeyless : List Slot → Type 0
 AreLonesKeyless [] = Unit {0}
 AreLonesKeyless (s ∷ ss) = (is_lf_alone s ≡ true → s.key ≡ None) × AreLonesKeyless ss
 
+-- so it is where no LF alone is a pair and the last slot has no ending
 pub well_ended-lones : (ss : List Slot) → AreWellEnded ss → AreLonesKeyless ss
 well_ended-lones [] a = absurd a
 well_ended-lones (s ∷ []) a = ((λ k. let m = by_lf-is s.ending (and_parts (is_by_lf s.ending) (is_empty s.bytes) k).0 in absurd (cc)), tt)
 well_ended-lones (s ∷ t ∷ ss) a = (a.0, well_ended-lones (t ∷ ss) a.1)
 
+-- where it is so of slots, it is so of each of two parts of them
 lones-parts : (xs ys : List Slot) → AreLonesKeyless (xs ++ ys) → AreLonesKeyless xs × AreLonesKeyless ys
 lones-parts [] ys a = (tt, a)
 lones-parts (x ∷ xs) ys a = let m = lones-parts xs ys a.1 in ((a.0, m.0), m.1)
 
+-- and where it is so of two parts, it is so of both together
 lones-append : (xs ys : List Slot) → AreLonesKeyless xs → AreLonesKeyless ys → AreLonesKeyless (xs ++ ys)
 lones-append [] ys a b = b
 lones-append (x ∷ xs) ys a b = (a.0, lones-append xs ys a.1 b)

@@ -12,6 +12,7 @@ kept-other : (key : List ℕ) (s : Slot) (ss : List Slot) → slot_has key s ≡
 kept-other key s [] k = rw k refl
 kept-other key s (t ∷ ss) k = rw k refl
 
+-- slots with other keys stay, and then what is kept of the others
 pub kept-pass : (key : List ℕ) (xs ys : List Slot) → NoSlotHas key xs → slots_kept key (xs ++ ys) ≡ xs ++ slots_kept key ys
 kept-pass key [] ys n = refl
 kept-pass key (x ∷ xs) ys n = kept-other key x (xs ++ ys) n.0 ∙ ap (λ v. x ∷ v) (kept-pass key xs ys n.1)
@@ -56,10 +57,12 @@ not-last s t a j =
     let l = by_lf-is t.ending n.0 in
     cc
 
+-- a slot with another key stays in front of what is left
 ended-front : (key : List ℕ) (b : Bool) (s : Slot) (ss : List Slot) → slot_has key s ≡ false → ended_kept key b (s ∷ ss) ≡ s ∷ ended_kept key b ss
 ended-front key true s ss k = ap (λ v. v ++ empty_slot None ∷ []) (kept-other key s ss k)
 ended-front key false s ss k = kept-other key s ss k
 
+-- where the same slots are kept, the same are left
 ended-same : (key : List ℕ) (b : Bool) (xs ys : List Slot) → slots_kept key xs ≡ slots_kept key ys → ended_kept key b xs ≡ ended_kept key b ys
 ended-same key true xs ys k = ap (λ v. v ++ empty_slot None ∷ []) k
 ended-same key false xs ys k = k

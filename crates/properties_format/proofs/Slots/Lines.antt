@@ -45,6 +45,7 @@ pub first-none : (x y : List ℕ) → begins_with_lf x ≡ false → (x ≡ [] �
 first-none [] y h k = k refl
 first-none (c ∷ x) y h k = h
 
+-- a text that holds a line ending is not empty
 ended-some : (x : List ℕ) (by : LineEnding) (z : List ℕ) → x ++ (line_ending_text by ++ z) ≡ [] → ⊥
 ended-some [] lf z k = cc
 ended-some [] cr z k = cc
@@ -86,6 +87,7 @@ lines-last e (h ∷ i ∷ hs) ok (p, s, (own, t, n), a) =
 
 -- ---- the last ending
 
+-- the bytes of a group are those up to its last line ending, and that ending
 pub bytes-unended : (g : List HeldLine) → group_bytes g ≡ unended_bytes g ++ ending_bytes (last_ending g)
 bytes-unended [] = refl
 bytes-unended (h ∷ []) = ap (λ v. h.bytes ++ v) (append-nil (ending_bytes h.ending))
@@ -96,11 +98,13 @@ bytes-unended (h ∷ i ∷ hs) =
     ∙ ap (λ v. h.bytes ++ v) (sym (append_assoc (ending_bytes h.ending) x y))
     ∙ sym (append_assoc h.bytes (ending_bytes h.ending ++ x) y)
 
+-- lines of which the last has this ending are a group that ends in it
 pub ending-of : (e : Encoding) (o : Option LineEnding) (g : List HeldLine) → AreLinesBy e o g → last_ending g ≡ o
 ending-of e o [] a = absurd a
 ending-of e o (h ∷ []) a = a.2
 ending-of e o (h ∷ i ∷ hs) a = ending-of e o (i ∷ hs) a.3
 
+-- and their bytes are those up to it, and its own
 pub bytes-of : (e : Encoding) (o : Option LineEnding) (g : List HeldLine) → AreLinesBy e o g → group_bytes g ≡ unended_bytes g ++ ending_bytes o
 bytes-of e o g a = bytes-unended g ∙ ap (λ v. unended_bytes g ++ ending_bytes v) (ending-of e o g a)
 
@@ -117,22 +121,26 @@ with_ending o [] = []
 with_ending o (h ∷ []) = record { bytes = h.bytes; text = h.text; ending = o } ∷ []
 with_ending o (h ∷ i ∷ hs) = h ∷ with_ending o (i ∷ hs)
 
+-- it has the same texts
 pub texts-with : (o : Option LineEnding) (g : List HeldLine) → as_lines (with_ending o g) ≡ as_lines g
 texts-with o [] = refl
 texts-with o (h ∷ []) = refl
 texts-with o (h ∷ i ∷ hs) = ap (λ v. record { number = 0; text = h.text } ∷ v) (texts-with o (i ∷ hs))
 
+-- its last ending is that one
 pub ending-with : (o : Option LineEnding) (h : HeldLine) (hs : List HeldLine) → last_ending (with_ending o (h ∷ hs)) ≡ o
 ending-with o h [] = refl
 ending-with o h (i ∷ []) = refl
 ending-with o h (i ∷ j ∷ hs) = ending-with o i (j ∷ hs)
 
+-- the bytes up to the last ending are the same
 pub unended-with : (o : Option LineEnding) (g : List HeldLine) → unended_bytes (with_ending o g) ≡ unended_bytes g
 unended-with o [] = refl
 unended-with o (h ∷ []) = refl
 unended-with o (h ∷ i ∷ []) = refl
 unended-with o (h ∷ i ∷ j ∷ hs) = ap (λ v. h.bytes ++ (ending_bytes h.ending ++ v)) (unended-with o (i ∷ j ∷ hs))
 
+-- its bytes are those, and then those of the new ending
 pub bytes-with : (o : Option LineEnding) (h : HeldLine) (hs : List HeldLine)
     → group_bytes (with_ending o (h ∷ hs)) ≡ unended_bytes (h ∷ hs) ++ ending_bytes o
 bytes-with o h hs = bytes-unended (with_ending o (h ∷ hs)) ∙ ap₂ (λ v w. v ++ ending_bytes w) (unended-with o (h ∷ hs)) (ending-with o h hs)

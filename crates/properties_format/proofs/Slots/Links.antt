@@ -5,9 +5,11 @@ use Rattle.std.proofs.lemmas.Bool.Decides.{eqb_tells}
 use Rattle.std.proofs.lemmas.List.{get_or-set_same, get_or-set_other, get_or_append_left, length-append, length-set, get_or_at}
 use Rattle.properties_format.specs.Reading.Cells.{Cell, dead, AreDeadBetween, AreLinks}
 
+-- equal cells are both left, or neither is
 alive-same : (a b : Cell) → a ≡ b → a.alive ≡ b.alive
 alive-same a b s = ap (λ v. let w : Cell = v in w.alive) s
 
+-- where another cell takes a place, none between two is left still, if it is not left or not between them
 between-set : (cells : List Cell) (m i j : ℕ) (n d : Cell) → m < length cells → AreDeadBetween cells i j d → (i < m → m < j → n.alive ≡ false)
     → AreDeadBetween (set cells m n) i j d
 between-set cells m i j n d h a f k l r = elim (eqb_tells k m) [

@@ -38,12 +38,14 @@ AreInTurn e (g ∷ h ∷ gs) = IsEndedGroup e g × AreInTurn e (h ∷ gs)
 
 -- ---- the groups of a body are such
 
+-- lines that are all ended are lines of which the last has an ending
 ended-lines : (e : Encoding) (l : Ended) (ls : List Ended) → AreLines (l ∷ ls) [] → (by : LineEnding) × AreLinesBy e (Some by) (held_ended e (l ∷ ls))
 ended-lines e l [] h = (l.by, (h.0, refl, refl))
 ended-lines e l (m ∷ ls) h =
     let n = ended-lines e m ls h.2 in
     (n.0, (h.0, refl, (l.by, refl, (λ q. ap begins_with_lf (ended-bytes e (m ∷ ls)) ∙ no_lf_first (m ∷ ls) [] h.2 (h.1 q))), n.1))
 
+-- the lines of a text are lines of which the last has none
 last-lines : (e : Encoding) (ls : List Ended) (last : List ℕ) → AreLines ls last → AreLinesBy e None (held_of e ls last)
 last-lines e [] last h = (h, refl, refl)
 last-lines e (l ∷ []) last h =
@@ -51,6 +53,7 @@ last-lines e (l ∷ []) last h =
 last-lines e (l ∷ m ∷ ls) last h =
     (h.0, refl, (l.by, refl, (λ q. ap begins_with_lf (held-bytes e (m ∷ ls) last) ∙ no_lf_first (m ∷ ls) last h.2 (h.1 q))), last-lines e (m ∷ ls) last h.2)
 
+-- a group with others after it is a whole one that has an ending
 ended-group : (e : Encoding) (g : List HeldLine) → IsHeldFront e g → IsEndedGroup e g
 ended-group e g h = of-lines h.lines h.held h.are_lines
   where
@@ -59,9 +62,11 @@ ended-group e g h = of-lines h.lines h.held h.are_lines
     of-lines (l ∷ ls) s a =
         let n = ended-lines e l ls a in (n.0, subst (AreLinesBy e (Some n.0)) (sym s) n.1, h.front.whole)
 
+-- the last group of a body has none, and is whole or ends open
 last-group : (e : Encoding) (g : List HeldLine) → IsHeldLast e g → IsLastGroup e g
 last-group e g h = (subst (AreLinesBy e None) (sym h.held) (last-lines e h.lines.ended h.lines.last h.are_lines), h.fits)
 
+-- groups of a body, one by one, stand in turn
 held-turn : (e : Encoding) (gs : List (List HeldLine)) → AreHeldGroups e gs → AreInTurn e gs
 held-turn e [] h = absurd h
 held-turn e (g ∷ []) h = last-group e g h
@@ -79,26 +84,31 @@ merged [] = []
 merged (g ∷ []) = g ∷ []
 merged (g ∷ h ∷ gs) = if are_one_ending (slot_of g) (slot_of h) then with_ending (Some crlf) g ∷ merged gs else g ∷ merged (h ∷ gs)
 
+-- a group that ends in a CR takes the LF alone after it, and ends in CR LF
 pub merged-one : (g h : List HeldLine) (gs : List (List HeldLine)) → are_one_ending (slot_of g) (slot_of h) ≡ true
     → merged (g ∷ h ∷ gs) ≡ with_ending (Some crlf) g ∷ merged gs
 merged-one g h gs k = rw k refl
 
+-- any other group in front stays as it is
 pub merged-two : (g h : List HeldLine) (gs : List (List HeldLine)) → are_one_ending (slot_of g) (slot_of h) ≡ false
     → merged (g ∷ h ∷ gs) ≡ g ∷ merged (h ∷ gs)
 merged-two g h gs k = rw k refl
 
+-- an ending that is told to be an LF is one
 pub by_lf-is : (o : Option LineEnding) → is_by_lf o ≡ true → o ≡ Some lf
 by_lf-is None k = absurd (cc)
 by_lf-is (Some lf) k = refl
 by_lf-is (Some cr) k = absurd (cc)
 by_lf-is (Some crlf) k = absurd (cc)
 
+-- and one that is told to be a CR is a CR
 pub by_cr-is : (o : Option LineEnding) → is_by_cr o ≡ true → o ≡ Some cr
 by_cr-is None k = absurd (cc)
 by_cr-is (Some lf) k = absurd (cc)
 by_cr-is (Some cr) k = refl
 by_cr-is (Some crlf) k = absurd (cc)
 
+-- a text that is told to be empty has no characters
 pub empty-is : (x : List ℕ) → is_empty x ≡ true → x ≡ []
 empty-is [] k = refl
 empty-is (c ∷ x) k = absurd (cc)
@@ -109,6 +119,7 @@ pub record IsOneEnding (g h : List HeldLine) : Type 0 where
   pub by_lf : last_ending h ≡ Some lf
   pub empty : unended_bytes h ≡ []
 
+-- two groups are so where their slots are told to be of one line ending
 pub one-ending : (g h : List HeldLine) → are_one_ending (slot_of g) (slot_of h) ≡ true → IsOneEnding g h
 one-ending g h k =
     let m = and_parts (is_by_cr (last_ending g)) (is_by_lf (last_ending h) && is_empty (unended_bytes h)) k in
@@ -138,7 +149,7 @@ merged-bytes (g ∷ h ∷ gs) = elim (cases_Bool (are_one_ending (slot_of g) (sl
 
 -- ---- which groups begin with an LF
 
--- the first line of more is not empty
+-- the first line of several is open
 fit-open_line : (h i : HeldLine) (hs : List HeldLine) → IsLastFit (h ∷ i ∷ hs) → is_open h.text ≡ true
 fit-open_line h i hs (inl (inl w)) = absurd (cc (w.1))
 fit-open_line h i hs (inl (inr w)) = w.1.0
@@ -187,6 +198,7 @@ pub after-lf : (e : Encoding) (h : List HeldLine) (gs : List (List HeldLine)) �
 after-lf e h [] a s = let t = ending-of e None h a.0 in absurd (cc)
 after-lf e h (i ∷ gs) a s = a.1
 
+-- the lines of the bytes of groups in turn are theirs, with each CR and the LF alone after it made one ending
 merged-lines : (e : Encoding) (gs : List (List HeldLine)) → is_editable e ≡ true → AreInTurn e gs → held_lines_of e (groups_bytes gs) ≡ held_in (merged gs)
 merged-lines e [] ok a = absurd a
 merged-lines e (g ∷ []) ok a = ap (held_lines_of e) (append-nil (group_bytes g)) ∙ lines-last e g ok a.0 ∙ sym (append-nil g)
@@ -203,10 +215,12 @@ merged-lines e (g ∷ h ∷ gs) ok ((by, a, w), r) = elim (cases_Bool (are_one_e
       ∙ ap held_in (sym (merged-two g h gs k))
 ]
 
+-- a whole group in front of groups of which all but the last are whole
 fit-before : (g : List HeldLine) (gs : List (List HeldLine)) → IsWhole (as_lines g) → AreFit gs → AreFit (g ∷ gs)
 fit-before g [] w f = inl w
 fit-before g (h ∷ gs) w f = (w, f)
 
+-- with such endings made one, all groups in turn but the last are whole
 merged-fit : (e : Encoding) (gs : List (List HeldLine)) → AreInTurn e gs → AreFit (merged gs)
 merged-fit e [] a = absurd a
 merged-fit e (g ∷ []) a = a.1
@@ -218,6 +232,7 @@ merged-fit e (g ∷ h ∷ gs) ((by, a, w), r) = elim (cases_Bool (are_one_ending
   | inr k ↦ subst AreFit (sym (merged-two g h gs k)) (fit-before g (merged (h ∷ gs)) w (merged-fit e (h ∷ gs) r))
 ]
 
+-- groups of which all but the last are whole, and the last whole or ending open, are the groups of their lines
 fit-groups : (gs : List (List HeldLine)) → AreFit gs → IsGroups (as_lines (held_in gs)) end (as_groups gs)
 fit-groups [] f = record { whole = []; unfinished = []; are_lines = refl; are_whole = tt; is_unfinished = tt; are_groups = refl }
 fit-groups (g ∷ []) (inl w) = record {
@@ -265,9 +280,11 @@ merged-groups e gs ok a =
 pub key-with : (key : List ℕ) (o : Option LineEnding) (g : List HeldLine) → HasKey key g → HasKey key (with_ending o g)
 key-with key o g (value, h) = (value, subst (λ v. IsOutcome (joined v) (given (pair key value))) (sym (texts-with o g)) h)
 
+-- and which have not, under any last ending
 no_key-with : (key : List ℕ) (o : Option LineEnding) (g : List HeldLine) → ¬ (HasKey key g) → ¬ (HasKey key (with_ending o g))
 no_key-with key o g n (value, h) = n (value, subst (λ v. IsOutcome (joined v) (given (pair key value))) (texts-with o g) h)
 
+-- where no group has the key, none has it once endings are made one
 pub merged-none : (key : List ℕ) (gs : List (List HeldLine)) → NoneHasKey key gs → NoneHasKey key (merged gs)
 merged-none key [] n = tt
 merged-none key (g ∷ []) n = n
@@ -281,6 +298,7 @@ pub final-next : (g : List HeldLine) (gs : List (List HeldLine)) → gs ≢ [] �
 final-next g [] n = absurd (n refl)
 final-next g (h ∷ gs) n = refl
 
+-- where there is a group, there is one once endings are made one
 merged-some : (gs : List (List HeldLine)) → gs ≢ [] → merged gs ≢ []
 merged-some [] n = n
 merged-some (g ∷ []) n = n
@@ -289,10 +307,12 @@ merged-some (g ∷ h ∷ gs) n = elim (cases_Bool (are_one_ending (slot_of g) (s
   | inr k ↦ let s = merged-two g h gs k in λ q. cc
 ]
 
+-- groups in turn are one at least
 pub turn-some : (e : Encoding) (gs : List (List HeldLine)) → AreInTurn e gs → gs ≢ []
 turn-some e [] a q = a
 turn-some e (g ∷ gs) a q = cc
 
+-- once endings are made one, the last group is the same
 pub merged-final : (e : Encoding) (gs : List (List HeldLine)) → AreInTurn e gs → final_group (merged gs) ≡ final_group gs
 merged-final e [] a = absurd a
 merged-final e (g ∷ []) a = refl

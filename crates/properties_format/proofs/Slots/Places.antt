@@ -13,10 +13,12 @@ abbrev pub NoSlotHas : List ℕ → List Slot → Type 0
 NoSlotHas key [] = Unit {0}
 NoSlotHas key (s ∷ ss) = (slot_has key s ≡ false) × NoSlotHas key ss
 
+-- where no slot has the key, there is no last one with it
 pub last_slot-none : (key : List ℕ) (ss : List Slot) → NoSlotHas key ss → last_slot key ss ≡ None
 last_slot-none key [] n = refl
 last_slot-none key (s ∷ ss) n = let k = n.0 in ap (slot_after key s ss) (last_slot-none key ss n.1) ∙ rw k refl
 
+-- a slot that has the key, with none after it that has it, is the last one
 pub last_slot-some : (key : List ℕ) (before : List Slot) (s : Slot) (after : List Slot) → slot_has key s ≡ true → NoSlotHas key after
     → last_slot key (before ++ s ∷ after) ≡ Some (record { before = before; slot = s; after = after })
 last_slot-some key [] s after k n = ap (slot_after key s after) (last_slot-none key after n) ∙ rw k refl

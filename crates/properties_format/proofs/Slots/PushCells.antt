@@ -15,6 +15,7 @@ pub slot_list-push : (gs : List (List HeldLine)) (g : List HeldLine) → slot_li
 slot_list-push [] g = refl
 slot_list-push (f ∷ gs) g = ap (λ v. slot_of f ∷ v) (slot_list-push gs g)
 
+-- one more cell that is left is one more slot
 pub live-push : (cells : List Cell) (s : Slot) → live (cells ++ record { slot = s; alive = true } ∷ []) ≡ live cells ++ s ∷ []
 live-push cells s = live-append cells (record { slot = s; alive = true } ∷ [])
 
@@ -26,11 +27,13 @@ places-push key cells s =
     places-append key 0 cells (record { slot = s; alive = true } ∷ [])
     ∙ ap (λ p. places key cells ++ (if slot_has key s then p ∷ [] else [])) n
 
+-- the last cell is then left
 pub ends-push : (cells : List Cell) (s : Slot) → EndsAlive (cells ++ record { slot = s; alive = true } ∷ [])
 ends-push cells s = ends-after cells (record { slot = s; alive = true } ∷ []) refl
 
 -- ---- the bytes
 
+-- the bytes of slots and then of more slots
 pub slots_bytes-append : (xs ys : List Slot) → slots_bytes (xs ++ ys) ≡ slots_bytes xs ++ slots_bytes ys
 slots_bytes-append [] ys = refl
 slots_bytes-append (x ∷ xs) ys =

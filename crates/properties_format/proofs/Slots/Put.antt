@@ -19,7 +19,7 @@ use Rattle.properties_format.proofs.Edited.Contents.{fit-closed, fit-open, close
 use Rattle.properties_format.proofs.Edited.Steps.{last_ending-push}
 use Rattle.properties_format.proofs.Edited.Made.{HasKey-test, no_key-test, IsPlace, last_place-meets}
 use Rattle.properties_format.proofs.Slots.Lines.{AreLinesBy, lines-some, ending-of, bytes-of, bytes-unended, unended-some, with_ending, texts-with, ending-with, unended-with, bytes-with, lines-with, lines-append}
-use Rattle.properties_format.proofs.Slots.Merged.{IsEndedGroup, IsLastGroup, AreInTurn, merged, merged-one, merged-two, empty-is, one-ending, merged-bytes, key-with, merged-none, merged-final}
+use Rattle.properties_format.proofs.Slots.Merged.{IsEndedGroup, AreInTurn, merged, merged-one, merged-two, empty-is, one-ending, merged-bytes, key-with, merged-none, merged-final}
 use Rattle.properties_format.proofs.Slots.Places.{NoSlotHas, last_slot-none, last_slot-some}
 use Rattle.properties_format.proofs.Slots.Removed.{slot-has, empty_group, empty-lines, empty-whole, empty-slot, turn-before, lf-no_key}
 
@@ -29,19 +29,23 @@ use Rattle.properties_format.proofs.Slots.Removed.{slot-has, empty_group, empty-
 abbrev pair_group : Encoding → Bool → List ℕ → List ℕ → Option LineEnding → List HeldLine
 pair_group e first key value ending = record { bytes = pair_bytes e first key value; text = pair_text e first key value; ending = ending } ∷ []
 
+-- it is one line with its text and this ending
 pair-lines : (e : Encoding) (first : Bool) (key value : List ℕ) (o : Option LineEnding) → is_editable e ≡ true → All scalar key → All scalar value
     → AreLinesBy e o (pair_group e first key value o)
 pair-lines e first key value o ok k v = (pair-plain e first key value ok k v, sym (pair-decoded e first key value ok k v), refl)
 
+-- its slot is that of the printed pair
 pair-slot : (e : Encoding) (first : Bool) (key value : List ℕ) (o : Option LineEnding) → All scalar key → All scalar value
     → slot_of (pair_group e first key value o) ≡ pair_slot e first key value o
 pair-slot e first key value o k v =
     ap (λ w. record { bytes = pair_bytes e first key value; ending = o; key = key_told w }) (pair-outcome e first key value k v)
 
+-- a text that has characters is told not to be empty
 some-empty : (x : List ℕ) → x ≢ [] → is_empty x ≡ false
 some-empty [] n = absurd (n refl)
 some-empty (c ∷ x) n = refl
 
+-- a printed pair has bytes
 pub pair-some : (e : Encoding) (first : Bool) (key value : List ℕ) → pair_bytes e first key value ≢ []
 pair-some e first key value = let a = pair-ascii e first key value in some (pair_bytes e first key value) a.0 a.1 a.2 a.3
   where
@@ -69,10 +73,12 @@ abbrev AreEnded : Encoding → List (List HeldLine) → Type 0
 AreEnded e [] = Unit {0}
 AreEnded e (g ∷ gs) = IsEndedGroup e g × AreEnded e gs
 
+-- groups that have endings, in front of groups in turn, stand in turn with them
 ended-turn : (e : Encoding) (gs hs : List (List HeldLine)) → AreEnded e gs → AreInTurn e hs → AreInTurn e (gs ++ hs)
 ended-turn e [] hs a b = b
 ended-turn e (g ∷ gs) hs a b = turn-before e g (gs ++ hs) a.0 (ended-turn e gs hs a.1 b)
 
+-- of groups in turn those before one have endings, and from that one on they stand in turn
 turn-split : (e : Encoding) (before : List (List HeldLine)) (g : List HeldLine) (after : List (List HeldLine)) → AreInTurn e (before ++ g ∷ after)
     → AreEnded e before × AreInTurn e (g ∷ after)
 turn-split e [] g after a = (tt, a)
@@ -88,10 +94,12 @@ ended-first e (g ∷ gs) ((by, a, w), r) = some (group_bytes g) (lines-some e by
     some [] n = absurd (n refl)
     some (c ∷ x) n = refl
 
+-- the slots of groups and then of more groups
 slot_list-append : (gs hs : List (List HeldLine)) → slot_list (gs ++ hs) ≡ slot_list gs ++ slot_list hs
 slot_list-append [] hs = refl
 slot_list-append (g ∷ gs) hs = ap (λ v. slot_of g ∷ v) (slot_list-append gs hs)
 
+-- groups in front don't change which is the last
 final-after : (gs : List (List HeldLine)) (g : List HeldLine) (hs : List (List HeldLine)) → final_group (gs ++ g ∷ hs) ≡ final_group (g ∷ hs)
 final-after [] g hs = refl
 final-after (f ∷ []) g hs = refl
@@ -99,6 +107,7 @@ final-after (f ∷ i ∷ gs) g hs = final-after (i ∷ gs) g hs
 
 -- ---- the last slot with a key
 
+-- where no group has the key, no slot has it
 none-slots : (key : List ℕ) (gs : List (List HeldLine)) → NoneHasKey key gs → NoSlotHas key (slot_list gs)
 none-slots key [] n = tt
 none-slots key (g ∷ gs) n = (slot-has key g ∙ no_key-test key g n.0, none-slots key gs n.1)
@@ -147,6 +156,7 @@ record IsMergedAt (key : List ℕ) (g : List HeldLine) (after : List (List HeldL
   none : NoneHasKey key after → NoneHasKey key rest
   bytes : ending_bytes (last_ending group) ++ groups_bytes rest ≡ ending_bytes (last_ending g) ++ groups_bytes after
 
+-- every group, with what comes after it, comes to such a group and rest
 merged-at : (key : List ℕ) (g : List HeldLine) (after : List (List HeldLine)) → IsMergedAt key g after
 merged-at key g [] = record { group = g; rest = []; is = refl; has = λ h. h; none = λ n. n; bytes = refl }
 merged-at key g (h ∷ after) = elim (cases_Bool (are_one_ending (slot_of g) (slot_of h))) [
@@ -184,6 +194,7 @@ pub record ArePut (e : Encoding) (source key value : List ℕ) (gs : List (List 
   pub edited : IsReplaced e (merged gs) key value (groups_bytes groups) ⊎ IsAppended e source (merged gs) key value (groups_bytes groups)
   pub slots : slots_of groups ≡ slots_put_at e key value (slots_of gs) (last_slot key (slot_list gs))
 
+-- the printed pair takes the place of the last group in turn that has the key
 replaced : (e : Encoding) (source key value : List ℕ) (before : List (List HeldLine)) (g : List HeldLine) (after : List (List HeldLine))
     → is_editable e ≡ true → All scalar key → All scalar value → AreInTurn e (before ++ g ∷ after) → HasKey key g → NoneHasKey key after
     → ArePut e source key value (before ++ g ∷ after)
@@ -253,12 +264,6 @@ replaced e source key value before g after ok k v a has no_later = record {
 
 -- ---- a pair is appended
 
--- the last group of groups in turn
-last-of : (e : Encoding) (gs : List (List HeldLine)) → AreInTurn e gs → IsLastGroup e (final_group gs)
-last-of e [] a = absurd a
-last-of e (g ∷ []) a = a
-last-of e (g ∷ h ∷ gs) a = last-of e (h ∷ gs) a.1
-
 -- the bytes end as the last group does, where that is no empty line
 pub ends-last : (e : Encoding) (gs : List (List HeldLine)) → AreInTurn e gs → is_empty_line (final_group gs) ≡ false
     → (groups_bytes gs ≢ []) × (ends_in_cr (groups_bytes gs) ≡ ends_in_cr (group_bytes (final_group gs)))
@@ -289,6 +294,7 @@ ends-last e (g ∷ h ∷ gs) (a, r) n =
 slot-same : (s t : Slot) → s.bytes ≡ t.bytes → s.ending ≡ t.ending → s.key ≡ t.key → s ≡ t
 slot-same s t p q r = ap₂ (λ u v. record { bytes = u; ending = v; key = s.key }) p q ∙ ap (λ v. record { bytes = t.bytes; ending = t.ending; key = v }) r
 
+-- one more line at the end: up to its ending, the bytes are those of the group and of that line
 unended-push : (g : List HeldLine) (l : HeldLine) → g ≢ [] → unended_bytes (g ++ l ∷ []) ≡ group_bytes g ++ l.bytes
 unended-push [] l n = absurd (n refl)
 unended-push (h ∷ []) l n = sym (append_assoc h.bytes (ending_bytes h.ending) l.bytes) ∙ ap (λ v. (h.bytes ++ v) ++ l.bytes) (sym (append-nil (ending_bytes h.ending)))
@@ -311,6 +317,7 @@ bytes-ended e by [] a = absurd a
 bytes-ended e by (h ∷ hs) a =
     bytes-with (Some by) h hs ∙ ap (λ v. v ++ line_ending_text by) (sym (bytes-of e None (h ∷ hs) a ∙ append-nil (unended_bytes (h ∷ hs))))
 
+-- the slot has that ending, and the same bytes and key
 slot-ended : (e : Encoding) (by : LineEnding) (g : List HeldLine) → AreLinesBy e None g
     → slot_of (with_ending (Some by) g) ≡ record { bytes = unended_bytes g; ending = Some by; key = (slot_of g).key }
 slot-ended e by [] a = absurd a
@@ -318,6 +325,7 @@ slot-ended e by (h ∷ hs) a =
     slot-same (slot_of (with_ending (Some by) (h ∷ hs))) (record { bytes = unended_bytes (h ∷ hs); ending = Some by; key = (slot_of (h ∷ hs)).key })
     (unended-with (Some by) (h ∷ hs)) (ending-with (Some by) h hs) (ap (λ v. key_told (outcome_of (joined v))) (texts-with (Some by) (h ∷ hs)))
 
+-- a group with another last ending has lines still
 with-some : (o : Option LineEnding) (h : HeldLine) (hs : List HeldLine) → with_ending o (h ∷ hs) ≢ []
 with-some o h [] q = cc
 with-some o h (i ∷ hs) q = cc
@@ -337,6 +345,7 @@ slot-closed e by (h ∷ hs) a u =
     (ap (λ v. outcome_of (joined v)) (as_lines-append w (l ∷ []) ∙ ap (λ v. v ++ record { number = 0; text = [] } ∷ []) (texts-with (Some by) (h ∷ hs)))
     ∙ ap outcome_of (closed-by_empty (as_lines (h ∷ hs)) u).1))
 
+-- a last group alone is closed, or left out where it is empty, if the ending that is added is safe after it
 close-last : (e : Encoding) (source : List ℕ) (g : List HeldLine) → AreLinesBy e None g → IsLastFit g
     → (is_empty_line g ≡ false → added_ending source ≡ line_ending_text (safe_ending (group_bytes g)))
     → AreClosed e source (g ∷ [])
@@ -398,6 +407,7 @@ close-last e source g a f same = elim (cases_Bool (is_empty_line g)) [
     one : is_empty_line g ≡ false → is_left_open g ≡ false → parting source g ≡ added_ending source
     one x y = rw (x, y) refl
 
+-- and so are groups in turn
 close : (e : Encoding) (source : List ℕ) (gs : List (List HeldLine)) → AreInTurn e gs
     → (is_empty_line (final_group gs) ≡ false → added_ending source ≡ line_ending_text (safe_ending (group_bytes (final_group gs))))
     → AreClosed e source gs
@@ -412,6 +422,7 @@ close e source (g ∷ h ∷ gs) (a, r) same =
       slots = ap (λ v. slot_of g ∷ v) m.slots;
     }
 
+-- a key that no group in turn has comes after all of them
 appended : (e : Encoding) (source key value : List ℕ) (gs : List (List HeldLine)) → is_editable e ≡ true → All scalar key → All scalar value
     → ends_in_cr source ≡ ends_in_cr (groups_bytes gs)
     → AreInTurn e gs → NoneHasKey key gs → ArePut e source key value gs

@@ -13,17 +13,20 @@ use Rattle.properties_format.proofs.Slots.Cells.{live-alive, live-dead, live-app
 
 -- ---- where the last cell is left
 
+-- where the last of the cells is left, so is the last of those from a place on
 pub ends-back : (before : List Cell) (c : Cell) (after : List Cell) → EndsAlive (before ++ c ∷ after) → EndsAlive (c ∷ after)
 ends-back [] c after a = a
 ends-back (b ∷ []) c after a = a
 ends-back (b ∷ d ∷ before) c after a = ends-back (d ∷ before) c after a
 
+-- and so it is with any cells in front
 pub ends-after : (xs ys : List Cell) → EndsAlive ys → EndsAlive (xs ++ ys)
 ends-after [] ys a = a
 ends-after (x ∷ []) [] a = absurd a
 ends-after (x ∷ []) (y ∷ ys) a = a
 ends-after (x ∷ z ∷ xs) ys a = ends-after (z ∷ xs) ys a
 
+-- where the last cell is left, a slot is left
 ends-live : (cells : List Cell) → EndsAlive cells → is_first (live cells) ≡ false
 ends-live [] a = absurd a
 ends-live (c ∷ []) a = rw a refl
@@ -32,10 +35,12 @@ ends-live (c ∷ d ∷ cs) a = elim (cases_Bool c.alive) [
   | inr k ↦ ap is_first (live-dead c (d ∷ cs) k) ∙ ends-live (d ∷ cs) a
 ]
 
+-- the last cell is left where a cell that is left takes the place of the first one
 ends-replaced : (c n : Cell) (after : List Cell) → n.alive ≡ true → EndsAlive (c ∷ after) → EndsAlive (n ∷ after)
 ends-replaced c n [] k a = k
 ends-replaced c n (d ∷ after) k a = a
 
+-- the last cell is left where the one at the last place is
 pub ends-at : (cells : List Cell) (i : ℕ) (d : Cell) → i + 1 ≡ length cells → (get_or cells i d).alive ≡ true → EndsAlive cells
 ends-at [] i d h k = absurd (omega arith)
 ends-at (c ∷ []) zero d h k = k
@@ -50,6 +55,7 @@ ends-set cells i n h k a =
     subst EndsAlive (sym (ap (λ v. set v i n) m.division ∙ set_at m.before (get_or cells i n) m.after n i m.number))
     (ends-after m.before (n ∷ m.after) (ends-replaced (get_or cells i n) n m.after k (ends-back m.before (get_or cells i n) m.after (subst EndsAlive m.division a))))
 
+-- the cells after a place are those after its cell
 pub drop-next : (before : List Cell) (c : Cell) (after : List Cell) (i : ℕ) → length before ≡ i → drop (i + 1) (before ++ c ∷ after) ≡ after
 drop-next before c after i s =
     let size = length-append before (c ∷ []) in
@@ -60,6 +66,7 @@ drop-next before c after i s =
 pub none-after : (cells : List Cell) (i : ℕ) → i + 1 ≡ length cells → live (drop (i + 1) cells) ≡ []
 none-after cells i s = ap (λ n. live (drop n cells)) s ∙ ap live (sym (ap (drop (length cells)) (append-nil cells)) ∙ drop_at cells [] (length cells) refl)
 
+-- and a slot comes after any other cell, where the last one is left
 pub some-after : (cells : List Cell) (i : ℕ) (d : Cell) → EndsAlive cells → i + 1 < length cells → is_first (live (drop (i + 1) cells)) ≡ false
 some-after cells i d a h =
     let m = cell-at cells i d (omega arith) in
@@ -114,6 +121,7 @@ pub record IsPlaced (key : List ℕ) (cells : List Cell) (i : ℕ) (d : Cell) : 
   pub alive : (get_or cells i d).alive ≡ true
   pub has : slot_has key (get_or cells i d).slot ≡ true
 
+-- the last place with a key is within the cells, left, and has the key
 pub placed : (key : List ℕ) (cells : List Cell) (stack : List ℕ) (i : ℕ) (d : Cell) → places key cells ≡ stack ++ i ∷ [] → IsPlaced key cells i d
 placed key cells stack i d s =
     let m = last-cell key 0 cells stack i s in

@@ -1,7 +1,7 @@
 -- A key removed from slots in one array: its places are left out one after the other, each with the LF of its line ending.
-use Rattle.std.proofs.Common.{◌≡◌, ◌<◌, ℕ, ◌+◌, ◌-◌, suc, zero, ◌&&◌, Bool, true, false, List, [], ◌∷◌, ◌++◌, length, get_or, set, drop, Option, Some, None, refl, ap, ap₂, sym, ◌∙◌, inl, inr, arith}
+use Rattle.std.proofs.Common.{◌≡◌, ◌<◌, ℕ, ◌+◌, ◌-◌, suc, zero, ◌&&◌, true, false, List, [], ◌∷◌, ◌++◌, length, get_or, set, drop, Option, Some, None, refl, ap, ap₂, sym, ◌∙◌, inl, inr, arith}
 use Rattle.std.specs.Prelude.{bytes_eq}
-use Rattle.std.proofs.lemmas.Bool.{cases_Bool, and_parts}
+use Rattle.std.proofs.lemmas.Bool.{cases_Bool, and_parts, and_right}
 use Rattle.std.proofs.lemmas.List.{set_at, get_or_at, length-append, get_or-drop, length-drop}
 use Rattle.std.proofs.lemmas.Slice.Eq.{bytes_eq-Decides}
 use Rattle.properties_format.specs.Reading.Slots.{Slot, slot_has, is_by_cr, is_lf_alone}
@@ -58,6 +58,7 @@ pub record IsFirstPlaced (key : List ℕ) (cells : List Cell) (i : ℕ) (stack :
   pub has : slot_has key (get_or cells i d).slot ≡ true
   pub rest : places key (set cells i (dead (get_or cells i d))) ≡ stack
 
+-- the first place with a key is within the cells, left, and has the key; without it the others are the places
 pub first-placed : (key : List ℕ) (cells : List Cell) (i : ℕ) (stack : List ℕ) (d : Cell) → places key cells ≡ i ∷ stack → IsFirstPlaced key cells i stack d
 first-placed key cells i stack d s =
     let m = first-cell key 0 cells i stack s in
@@ -86,23 +87,19 @@ other-key key k s h n = of-key s.key h
     of-key None h = refl
     of-key (Some l) h = ap (λ v. bytes_eq v k) ((bytes_eq-Decides l key).0 h) ∙ n
 
-and-false : (b : Bool) {c : Bool} → c ≡ false → (b && c) ≡ false
-and-false true k = k
-and-false false k = refl
-
 -- The places of other keys stay.
 pub kill-others : (key k : List ℕ) (cells : List Cell) (i : ℕ) (d : Cell) → i < length cells → slot_has key (get_or cells i d).slot ≡ true
     → bytes_eq key k ≡ false
     → places k (set cells i (dead (get_or cells i d))) ≡ places k cells
 kill-others key k cells i d h has n =
-    places-set k cells i (dead (get_or cells i d)) d h (sym (and-false (get_or cells i d).alive (other-key key k (get_or cells i d).slot has n)))
+    places-set k cells i (dead (get_or cells i d)) d h (sym (and_right (get_or cells i d).alive _ (other-key key k (get_or cells i d).slot has n)))
 
 -- So do all places where a cell that has no key is left out.
 pub kill-no_key : (k : List ℕ) (cells : List Cell) (i : ℕ) (d : Cell) → i < length cells → (get_or cells i d).slot.key ≡ None
     → places k (set cells i (dead (get_or cells i d))) ≡ places k cells
 kill-no_key k cells i d h n =
     let s : slot_has k (get_or cells i d).slot ≡ false = rw (n, slot_has) refl in
-    places-set k cells i (dead (get_or cells i d)) d h (sym (and-false (get_or cells i d).alive s))
+    places-set k cells i (dead (get_or cells i d)) d h (sym (and_right (get_or cells i d).alive _ s))
 
 -- ---- what comes next
 
@@ -114,6 +111,7 @@ pub record IsNext (xs : List Cell) (m : ℕ) (d : Cell) : Type 0 where
   pub are_dead : AreDead deads
   pub number : length deads ≡ m
 
+-- cells of which none before a place is left are such
 pub next : (xs : List Cell) (m : ℕ) (d : Cell) → m < length xs → ((k : ℕ) → k < m → (get_or xs k d).alive ≡ false) → IsNext xs m d
 next [] m d h a = absurd (omega arith)
 next (x ∷ xs) zero d h a = record { deads = []; rest = xs; division = refl; are_dead = tt; number = refl }
@@ -128,11 +126,13 @@ next (x ∷ xs) (suc m) d h a =
       number = omega arith;
     }
 
+-- so are the cells after one place up to another, where none between the two is left
 pub next-cell : (cells : List Cell) (i j : ℕ) (d : Cell) → i < j → j < length cells → AreDeadBetween cells i j d → IsNext (drop (i + 1) cells) (j - (i + 1)) d
 next-cell cells i j d h l a =
     let size = length-drop (i + 1) cells in
     next (drop (i + 1) cells) (j - (i + 1)) d (omega arith) (λ k n. ap (λ v. let w : Cell = v in w.alive) (get_or-drop (i + 1) cells k d) ∙ a (i + 1 + k) (omega arith) (omega arith))
 
+-- a cell after a place, counted from behind it, is the same cell
 pub same-cell : (cells : List Cell) (i j : ℕ) (d : Cell) → i < j → get_or (drop (i + 1) cells) (j - (i + 1)) d ≡ get_or cells j d
 same-cell cells i j d h = let s : i + 1 + (j - (i + 1)) ≡ j = omega arith in get_or-drop (i + 1) cells (j - (i + 1)) d ∙ ap (λ n. get_or cells n d) s
 

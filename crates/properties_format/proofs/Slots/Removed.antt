@@ -35,12 +35,15 @@ slot-has key g = of-outcome (outcome_of (joined (as_lines g)))
 abbrev pub empty_group : Option LineEnding → List HeldLine
 empty_group ending = record { bytes = []; text = []; ending = ending } ∷ []
 
+-- it is one line without bytes and with this ending
 pub empty-lines : (e : Encoding) (o : Option LineEnding) → AreLinesBy e o (empty_group o)
 empty-lines e o = (tt, sym (decoded-nil e), refl)
 
+-- it is a whole group
 pub empty-whole : (o : Option LineEnding) → IsWhole (as_lines (empty_group o))
 empty-whole o = inr (refl, refl)
 
+-- its slot is an empty one
 pub empty-slot : (o : Option LineEnding) → slot_of (empty_group o) ≡ empty_slot o
 empty-slot o = ap (λ v. record { bytes = []; ending = o; key = key_told v }) outcome-empty
 
@@ -59,12 +62,15 @@ lf-no_key e key o (h ∷ []) a k =
     ∙ ap (is_pair_with key) outcome-empty
 lf-no_key e key o (h ∷ i ∷ hs) a k = let m = unended-some e o (h ∷ i ∷ hs) a k in absurd (cc)
 
+-- a group with the key is left out
 without-has : (key : List ℕ) (g : List HeldLine) (gs : List (List HeldLine)) → has_key key g ≡ true → without key (g ∷ gs) ≡ without key gs
 without-has key g gs k = rw k refl
 
+-- any other stays
 without-other : (key : List ℕ) (g : List HeldLine) (gs : List (List HeldLine)) → has_key key g ≡ false → without key (g ∷ gs) ≡ group_bytes g ++ without key gs
 without-other key g gs k = rw k refl
 
+-- a group with another last ending has the key where it had it
 has-with : (key : List ℕ) (o : Option LineEnding) (g : List HeldLine) → has_key key (with_ending o g) ≡ has_key key g
 has-with key o g = ap (λ v. is_pair_with key (outcome_of (joined v))) (texts-with o g)
 
@@ -81,6 +87,7 @@ after-alone e key h (i ∷ gs) ((by, a, w), r) s k =
 abbrev closing_left : List ℕ → List (List HeldLine) → Closing
 closing_left key gs = if last_has key (slot_list gs) then left_out else closing_of (final_group gs)
 
+-- a group in front of others doesn't change what becomes of the last slot
 closing-next : (key : List ℕ) (g : List HeldLine) (gs : List (List HeldLine)) → gs ≢ [] → closing_left key (g ∷ gs) ≡ closing_left key gs
 closing-next key g [] n = absurd (n refl)
 closing-next key g (h ∷ gs) n = refl
@@ -93,6 +100,7 @@ record AreLeft (e : Encoding) (key : List ℕ) (gs : List (List HeldLine)) : Typ
   slots : slot_list groups ≡ slots_without key (slot_list gs)
   closing : closing_of (final_group groups) ≡ closing_left key gs
 
+-- of groups in turn such groups are left
 left : (e : Encoding) (key : List ℕ) (gs : List (List HeldLine)) → AreInTurn e gs → AreLeft e key gs
 left e key [] a = absurd a
 left e key (g ∷ []) a = elim (cases_Bool (has_key key g)) [
@@ -174,6 +182,7 @@ record AreGuarded (e : Encoding) (source : List ℕ) (gs : List (List HeldLine))
   slots : slot_list groups ≡ slots_guarded (begins_like_bom source) (slot_list gs)
   final : final_group groups ≡ final_group gs
 
+-- groups in turn, and before them the LF that guards their front, where one does
 guard : (e : Encoding) (source : List ℕ) (gs : List (List HeldLine)) → AreInTurn e gs → AreGuarded e source gs
 guard e source [] a = absurd a
 guard e source (g ∷ gs) a =
@@ -201,6 +210,7 @@ pub record AreRemoved (e : Encoding) (source key : List ℕ) (gs : List (List He
   pub bytes : groups_bytes groups ≡ guarding_lf source (without key (merged gs)) ++ without key (merged gs)
   pub slots : slots_of groups ≡ slots_edited e (begins_like_bom source) (remove key) (slots_of gs)
 
+-- A key removed from groups in turn leaves such groups.
 pub removed : (e : Encoding) (source key : List ℕ) (gs : List (List HeldLine)) → AreInTurn e gs → AreRemoved e source key gs
 removed e source key gs a =
     let m = left e key gs a in

@@ -1,7 +1,7 @@
 -- A key is removed from slots in one array, place by place: what holds before each place, and what at the end.
-use Rattle.std.proofs.Common.{◌≡◌, ◌<◌, ℕ, ◌+◌, ◌&&◌, true, false, List, [], ◌∷◌, ◌++◌, length, get_or, set, drop, Bool, Some, None, refl, ap, sym, ◌∙◌, inl, inr, arith, subst}
+use Rattle.std.proofs.Common.{◌≡◌, ◌<◌, ℕ, ◌+◌, ◌&&◌, true, false, List, [], ◌∷◌, ◌++◌, length, get_or, set, drop, Some, None, refl, ap, sym, ◌∙◌, inl, inr, arith, subst}
 use Rattle.std.specs.Prelude.{bytes_eq}
-use Rattle.std.proofs.lemmas.Bool.{and_parts}
+use Rattle.std.proofs.lemmas.Bool.{and_parts, and_right}
 use Rattle.std.proofs.lemmas.Bool.Decides.{eqb_tells}
 use Rattle.std.proofs.lemmas.List.{get_or-set_same, get_or-set_other, length-set, drop-set-lt}
 use Rattle.properties_format.specs.Text.{lf}
@@ -33,6 +33,7 @@ pub record IsRemoving (key : List ℕ) (start now : List Cell) (todo : List ℕ)
   pub unended : (i : ℕ) → i + 1 ≡ length start → (get_or start i d).slot.ending ≡ None
   pub last : (i : ℕ) → i + 1 ≡ length start → IsLastSame key (get_or start i d) (get_or now i d)
 
+-- the last of well ended slots has no ending
 well_ended-last : (xs : List Slot) (s : Slot) → AreWellEnded (xs ++ s ∷ []) → s.ending ≡ None
 well_ended-last [] s a = a
 well_ended-last (x ∷ []) s a = a.1
@@ -90,10 +91,6 @@ removing-plain key start now i todo d r n =
       last = λ j h. last-kill key start now j i d m.inside (λ s. m.has) (r.last j h);
     }
 
-and-false : (b : Bool) {c : Bool} → c ≡ false → (b && c) ≡ false
-and-false true k = k
-and-false false k = refl
-
 -- So it is where the pair does not end in a CR,
 pub removing-other : (key : List ℕ) (start now : List Cell) (i : ℕ) (todo : List ℕ) (d : Cell) → IsRemoving key start now (i ∷ todo) d
     → is_by_cr (get_or now i d).slot.ending ≡ false
@@ -107,7 +104,7 @@ removing-end key start now i todo d r a =
     let left : List Cell = set now i (dead (get_or now i d)) in
     let s : drop (i + 1) left ≡ drop (i + 1) now = drop-set-lt (i + 1) now i (dead (get_or now i d)) (omega arith) in
     removing-plain key start now i todo d r
-    (and-false (is_by_cr (get_or now i d).slot.ending) (ap (λ v. begins_with_lf_alone (live v)) (sym s) ∙ next-none left i d a))
+    (and_right (is_by_cr (get_or now i d).slot.ending) _ (ap (λ v. begins_with_lf_alone (live v)) (sym s) ∙ next-none left i d a))
 
 -- and where the next cell that is left is of another line ending.
 pub removing-apart : (key : List ℕ) (start now : List Cell) (i j : ℕ) (todo : List ℕ) (d : Cell) → IsRemoving key start now (i ∷ todo) d

@@ -23,6 +23,7 @@ empty-key e o (h ∷ []) a k =
     ap (λ v. key_told (outcome_of (joined (record { number = 0; text = v } ∷ [])))) (a.1 ∙ ap (decoded_line e) k ∙ decoded-nil e) ∙ ap key_told outcome-empty
 empty-key e o (h ∷ i ∷ hs) a k = let m = unended-some e o (h ∷ i ∷ hs) a k in absurd (cc)
 
+-- of groups in turn no LF alone is a pair, and the last slot has no ending
 turn-well_ended : (e : Encoding) (gs : List (List HeldLine)) → AreInTurn e gs → AreWellEnded (slot_list gs)
 turn-well_ended e [] a = absurd a
 turn-well_ended e (g ∷ []) a = ending-of e None g a.0
@@ -31,6 +32,7 @@ turn-well_ended e (g ∷ h ∷ gs) ((by, a, w), r) = (
   turn-well_ended e (h ∷ gs) r,
 )
 
+-- and where the last one is left out before a new pair, it is no pair itself
 turn-left_out : (e : Encoding) (gs : List (List HeldLine)) → AreInTurn e gs → closing_of (final_group gs) ≡ left_out → (final_slot (slot_list gs)).key ≡ None
 turn-left_out e [] a k = absurd a
 turn-left_out e (g ∷ []) a k = elim (cases_Bool (is_empty_line g)) [

@@ -1,5 +1,5 @@
 -- Blanks at the front and at the end of a text, and the text without them.
-use Rattle.std.proofs.Common.{◌≡◌, ◌≢◌, ℕ, Bool, false, List, [], ◌∷◌, ◌++◌, refl, ap, sym, ◌∙◌, inl, inr, append-nil}
+use Rattle.std.proofs.Common.{◌≡◌, ℕ, Bool, false, List, [], ◌∷◌, ◌++◌, refl, ap, sym, ◌∙◌, inl, inr}
 use Rattle.std.proofs.lemmas.Bool.{cases_Bool, both_ways}
 use Rattle.properties_format.specs.Text.{is_blank, without_leading_blanks}
 use Rattle.properties_format.specs.Split.{AreBlanks, begins, ends, IsTrimmed}
@@ -10,26 +10,19 @@ pub no_blanks : (h : List ℕ) → AreBlanks h → begins is_blank h ≡ false �
 no_blanks [] b e = refl
 no_blanks (c ∷ h) b e = absurd (both_ways (is_blank c) e b.0)
 
--- what the front of a text begins with, the text begins with
-pub begins-append : (kind : ℕ → Bool) (x y : List ℕ) → x ≢ [] → begins kind (x ++ y) ≡ begins kind x
-begins-append kind [] y h = absurd (h refl)
-begins-append kind (c ∷ x) y h = refl
-
 -- where a text begins with no such character, its front doesn't either
 pub begins-front : (kind : ℕ → Bool) (x y : List ℕ) → begins kind (x ++ y) ≡ false → begins kind x ≡ false
 begins-front kind [] y e = refl
 begins-front kind (c ∷ x) y e = e
 
-pub AreBlanks-append : (x y : List ℕ) → AreBlanks x → AreBlanks y → AreBlanks (x ++ y)
-AreBlanks-append [] y h k = k
-AreBlanks-append (c ∷ x) y h k = (h.0, AreBlanks-append x y h.1 k)
-
 -- ---- at the front
 
+-- a text that begins with no blank stays
 pub without_leading_blanks-full : (y : List ℕ) → begins is_blank y ≡ false → without_leading_blanks y ≡ y
 without_leading_blanks-full [] e = refl
 without_leading_blanks-full (c ∷ y) e = rw e refl
 
+-- blanks in front of a text are taken off, with those that it begins with
 pub without_leading_blanks-append : (h y : List ℕ) → AreBlanks h → without_leading_blanks (h ++ y) ≡ without_leading_blanks y
 without_leading_blanks-append [] y b = refl
 without_leading_blanks-append (c ∷ h) y b = rw b.0 (without_leading_blanks-append h y b.1)
@@ -38,6 +31,7 @@ without_leading_blanks-append (c ∷ h) y b = rw b.0 (without_leading_blanks-app
 pub without_leading_blanks-only : (h y : List ℕ) → AreBlanks h → begins is_blank y ≡ false → without_leading_blanks (h ++ y) ≡ y
 without_leading_blanks-only h y b e = without_leading_blanks-append h y b ∙ without_leading_blanks-full y e
 
+-- of blanks alone nothing is left
 pub without_leading_blanks-blanks : (h : List ℕ) → AreBlanks h → without_leading_blanks h ≡ []
 without_leading_blanks-blanks [] b = refl
 without_leading_blanks-blanks (c ∷ h) b = rw b.0 (without_leading_blanks-blanks h b.1)
@@ -49,6 +43,7 @@ pub record IsPast (x y : List ℕ) : Type 0 where
   pub before_blank : AreBlanks before
   pub begins_full : begins is_blank y ≡ false
 
+-- what is left of a text without its leading blanks is such
 pub without_leading_blanks-meets : (x : List ℕ) → IsPast x (without_leading_blanks x)
 without_leading_blanks-meets [] = record { before = []; whole = refl; before_blank = tt; begins_full = refl }
 without_leading_blanks-meets (c ∷ x) = elim (cases_Bool (is_blank c)) [
@@ -58,6 +53,7 @@ without_leading_blanks-meets (c ∷ x) = elim (cases_Bool (is_blank c)) [
 
 -- ---- at the end
 
+-- of blanks alone nothing is left
 pub without_trailing_blanks-blanks : (h : List ℕ) → AreBlanks h → without_trailing_blanks h ≡ []
 without_trailing_blanks-blanks [] b = refl
 without_trailing_blanks-blanks (c ∷ h) b = ap (unless_last_blank c) (without_trailing_blanks-blanks h b.1) ∙ rw b.0 refl
@@ -75,6 +71,7 @@ pub record IsBefore (x y : List ℕ) : Type 0 where
   pub after_blank : AreBlanks after
   pub ends_full : ends is_blank y ≡ false
 
+-- a character in front stays, unless it is a blank with nothing left after it
 before-step : (c : ℕ) (x y : List ℕ) → IsBefore x y → IsBefore (c ∷ x) (unless_last_blank c y)
 before-step c x [] r = elim (cases_Bool (is_blank c)) [
   | inl e ↦ rw e (record { after = c ∷ r.after; whole = ap (λ v. c ∷ v) r.whole; after_blank = (e, r.after_blank); ends_full = refl })
@@ -82,6 +79,7 @@ before-step c x [] r = elim (cases_Bool (is_blank c)) [
 ]
 before-step c x (d ∷ y) r = record { after = r.after; whole = ap (λ v. c ∷ v) r.whole; after_blank = r.after_blank; ends_full = r.ends_full }
 
+-- what is left of a text without its trailing blanks is such
 pub without_trailing_blanks-meets : (x : List ℕ) → IsBefore x (without_trailing_blanks x)
 without_trailing_blanks-meets [] = record { after = []; whole = refl; after_blank = tt; ends_full = refl }
 without_trailing_blanks-meets (c ∷ x) = before-step c x (without_trailing_blanks x) (without_trailing_blanks-meets x)
@@ -93,6 +91,7 @@ empty_last : (x y after : List ℕ) → x ≡ y ++ after → AreBlanks after →
 empty_last x [] after e b f k = no_blanks after b (rw (← e) f)
 empty_last x (c ∷ y) after e b f k = absurd (cc)
 
+-- what is computed is the core of the text
 pub trimmed-meets : (x : List ℕ) → IsTrimmed x (trimmed x)
 trimmed-meets x = whole (without_leading_blanks x) (without_leading_blanks-meets x) (without_trailing_blanks-meets (without_leading_blanks x))
   where
@@ -108,16 +107,14 @@ trimmed-meets x = whole (without_leading_blanks x) (without_leading_blanks-meets
       empty_last = empty_last y (without_trailing_blanks y) b.after b.whole b.after_blank p.begins_full;
     }
 
+-- a core begins with no blank, also with what comes after it, where an empty one has nothing after it
 core-begins : (core after : List ℕ) → begins is_blank core ≡ false → (core ≡ [] → after ≡ []) → begins is_blank (core ++ after) ≡ false
 core-begins [] after e k = rw (k refl) refl
 core-begins (c ∷ core) after e k = e
 
+-- a core of the text is what is computed
 pub trimmed-only : (x core : List ℕ) → IsTrimmed x core → core ≡ trimmed x
 trimmed-only x core t = sym (
     ap trimmed t.whole
     ∙ ap without_trailing_blanks (without_leading_blanks-only t.before (core ++ t.after) t.before_blank (core-begins core t.after t.begins_full t.empty_last))
     ∙ without_trailing_blanks-only core t.after t.after_blank t.ends_full)
-
--- a text that neither begins nor ends with a blank is its own core
-pub trimmed-full : (x : List ℕ) → begins is_blank x ≡ false → ends is_blank x ≡ false → trimmed x ≡ x
-trimmed-full x e f = ap without_trailing_blanks (without_leading_blanks-full x e) ∙ (ap without_trailing_blanks (sym (append-nil x)) ∙ without_trailing_blanks-only x [] tt f)

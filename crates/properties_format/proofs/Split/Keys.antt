@@ -19,9 +19,11 @@ abbrev pub ends_here : List ℕ → Bool
 ends_here [] = true
 ends_here (c ∷ cs) = ends_key c
 
+-- a character that is no blank and no separator ends no key
 ends_key-plain : (c : ℕ) → is_blank c ≡ false → is_separator c ≡ false → ends_key c ≡ false
 ends_key-plain c b s = rw b s
 
+-- and a character that ends no key is neither
 plain-parts : (c : ℕ) → ends_key c ≡ false → (is_blank c ≡ false) × (is_separator c ≡ false)
 plain-parts c e = elim (cases_Bool (is_blank c)) [
   | inl b ↦ absurd (both_ways (ends_key c) e (rw b refl))
@@ -35,6 +37,7 @@ ends_key-backslash c e = elim (cases_Bool (c == backslash)) [
   | inr b ↦ b
 ]
 
+-- where a key ends at once, nothing is cut off
 pub cut_key-ends : (rest : List ℕ) → ends_here rest ≡ true → cut_key rest false ≡ record { key = []; rest = rest }
 cut_key-ends [] e = refl
 cut_key-ends (c ∷ rest) e = rw (ends_key-backslash c e) (rw e refl)
@@ -68,6 +71,7 @@ pub record IsCut (x : List ℕ) (cut : Cut) : Type 0 where
   pub is_key : IsKey cut.key cut.rest
   pub ends_it : ends_here cut.rest ≡ true
 
+-- where a key ends at once, an empty key is cut off
 nothing-cut : (rest : List ℕ) → ends_here rest ≡ true → IsCut rest (record { key = []; rest = rest })
 nothing-cut rest e = record { whole = refl; is_key = record { units = []; whole = refl; each = tt }; ends_it = e }
 
@@ -88,6 +92,7 @@ IsCutAfter : Bool → List ℕ → Type 0
 IsCutAfter true x = IsCut (backslash ∷ x) (with_front backslash (cut_key x true))
 IsCutAfter false x = IsCut x (cut_key x false)
 
+-- each text is cut so, whether or not a backslash stands before it
 cut-after : (x : List ℕ) (is_escaped : Bool) → IsCutAfter is_escaped x
 unfolding IsCutAfter
 cut-after [] true = unit-cut last [] (record { key = []; rest = [] }) refl (nothing-cut [] refl)
@@ -101,6 +106,7 @@ cut-after (c ∷ x) false = elim (cases_Bool (c == backslash)) [
   ])
 ]
 
+-- what is computed is the key that the text begins with, and what ends it
 pub cut_key-meets : (x : List ℕ) → IsCut x (cut_key x false)
 unfolding IsCutAfter
 cut_key-meets x = cut-after x false

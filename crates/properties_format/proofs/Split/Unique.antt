@@ -16,20 +16,25 @@ separator-full c e = elim (cases_Bool (is_blank c)) [
   | inr b ↦ b
 ]
 
+-- a blank ends a key
 ends_key-blank : (c : ℕ) → is_blank c ≡ true → ends_key c ≡ true
 ends_key-blank c b = rw b refl
 
+-- and so does a separator
 ends_key-separator : (c : ℕ) → is_separator c ≡ true → ends_key c ≡ true
 ends_key-separator c s = rw (separator-full c s) s
 
+-- a text that begins with no separator has none to pass over
 past_separator-full : (y : List ℕ) → begins is_separator y ≡ false → past_separator y ≡ y
 past_separator-full [] e = refl
 past_separator-full (c ∷ y) e = rw e refl
 
+-- a key ends where blanks come, one at least
 blanks-end : (between value : List ℕ) → between ≢ [] → AreBlanks between → ends_here (between ++ value) ≡ true
 blanks-end [] value h b = absurd (h refl)
 blanks-end (c ∷ between) value h b = ends_key-blank c b.0
 
+-- and where a separator comes, with blanks before it or none
 sign-end : (before : List ℕ) (sign : ℕ) (rest : List ℕ) → AreBlanks before → is_separator sign ≡ true → ends_here (before ++ (sign ∷ rest)) ≡ true
 sign-end [] sign rest b s = ends_key-separator sign s
 sign-end (c ∷ before) sign rest b s = ends_key-blank c b.0
@@ -73,11 +78,13 @@ after-step rest before (c ∷ y) e b f k = elim (cases_Bool (is_separator c)) [
   | inr s ↦ rw s (record { between = before; whole = e; is_between = blanks (not-here before c y (rw e at k) f s) b f s })
 ]
 
+-- what comes after a key is what stands between and the value that is read
 after-meets : (rest : List ℕ) → ends_here rest ≡ true → IsBehind rest (past_separator (without_leading_blanks rest))
 after-meets rest k = let p : IsPast rest (without_leading_blanks rest) = without_leading_blanks-meets rest in after-step rest p.before (without_leading_blanks rest) p.whole p.before_blank p.begins_full k
 
 -- ---- what is read is what the line is
 
+-- blanks, and then a text that is not empty and begins with no blank and no comment sign, are the pair that is read
 full-pair : (line indent x : List ℕ) → line ≡ indent ++ x → AreBlanks indent → x ≢ [] → begins is_blank x ≡ false → begins is_comment_sign x ≡ false
     → IsSplit line (pair_of (cut_key x false))
 full-pair line indent x e b h f m = whole (cut_key x false) (cut_key-meets x)
@@ -98,6 +105,7 @@ full-pair line indent x e b h f m = whole (cut_key x false) (cut_key-meets x)
           is_between = r.is_between;
         }
 
+-- blanks, and then a text that begins with no blank, are what is read of that text
 full-meets : (line indent x : List ℕ) → line ≡ indent ++ x → AreBlanks indent → begins is_blank x ≡ false → IsSplit line (split_full x)
 full-meets line indent [] e b f = rw (e, append-nil indent) b
 full-meets line indent (c ∷ x) e b f = elim (cases_Bool (is_comment_sign c)) [
@@ -105,6 +113,7 @@ full-meets line indent (c ∷ x) e b f = elim (cases_Bool (is_comment_sign c)) [
   | inr m ↦ rw m (full-pair line indent (c ∷ x) e b (λ q. absurd (cc)) f m)
 ]
 
+-- a line is what is computed
 pub split_of-meets : (line : List ℕ) → IsSplit line (split_of line)
 unfolding split_of
 split_of-meets line = let p : IsPast line (without_leading_blanks line) = without_leading_blanks-meets line in full-meets line p.before (without_leading_blanks line) p.whole p.before_blank p.begins_full
@@ -129,6 +138,7 @@ pub split_of-comment : (indent : List ℕ) (sign : ℕ) (rest : List ℕ) → Ar
 unfolding split_of
 split_of-comment indent sign rest b m = ap split_full (without_leading_blanks-only indent (sign ∷ rest) b (sign-full sign m)) ∙ rw m refl
 
+-- a text that is not empty and begins with no comment sign is read as a pair
 split_full-pair : (x : List ℕ) → x ≢ [] → begins is_comment_sign x ≡ false → split_full x ≡ pair_of (cut_key x false)
 split_full-pair [] h m = absurd (h refl)
 split_full-pair (c ∷ x) h m = rw m refl
@@ -144,6 +154,7 @@ split_of-pair indent key between value b h f m k w =
     ∙ ap pair_of (cut_key-only key (between ++ value) k (between-ends between value w))
     ∙ ap (pair key) (between-value between value w)
 
+-- and it is nothing else
 pub split_of-only : (line : List ℕ) (what : Logical) → IsSplit line what → what ≡ split_of line
 split_of-only line blank h = sym (split_of-blank line h)
 split_of-only line (comment text) h =

@@ -15,6 +15,7 @@ abbrev pub held_of : Encoding → List Ended → List ℕ → List HeldLine
 held_of e [] last = record { bytes = last; text = decoded_line e last; ending = None } ∷ []
 held_of e (l ∷ ls) last = record { bytes = l.text; text = decoded_line e l.text; ending = Some l.by } ∷ held_of e ls last
 
+-- the lines that a body holds
 abbrev pub held_lines_of : Encoding → List ℕ → List HeldLine
 held_lines_of e body = held_of e (cut_of e body).ended (cut_of e body).last
 
@@ -43,6 +44,7 @@ is_pair_with key (given (comment text)) = false
 is_pair_with key (given (pair k v)) = bytes_eq k key
 is_pair_with key (broken kind) = false
 
+-- whether the group is a pair with the key
 abbrev pub has_key : List ℕ → List HeldLine → Bool
 has_key key group = is_pair_with key (outcome_of (joined (as_lines group)))
 

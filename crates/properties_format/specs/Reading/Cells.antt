@@ -4,6 +4,7 @@ use Rattle.properties_format.specs.Body.{ending_bytes}
 use Rattle.properties_format.specs.Text.{line_ending_text}
 use Rattle.properties_format.specs.Reading.Slots.{Slot, Closing, left_out, ended_by, closed_by, slot_has, are_one_ending}
 
+-- a slot, and whether it is left
 pub record Cell : Type 0 where
   pub slot : Slot
   pub alive : Bool

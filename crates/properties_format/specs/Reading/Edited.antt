@@ -44,6 +44,7 @@ key_set_in f source key value =
     let groups = held_groups_of f.encoding f.body in
     bom_of source ++ set_at f.encoding source groups key value (last_place key groups)
 
+-- the same, by the encoding that was asked for
 abbrev pub key_set : Encoding → List ℕ → List ℕ → List ℕ → List ℕ
 key_set e source key value = key_set_in (byte_order_mark e source) source key value
 
@@ -58,15 +59,18 @@ without key (g ∷ gs) = if has_key key g then without key gs else group_bytes g
 abbrev pub key_removed_in : InForce → List ℕ → List ℕ → List ℕ
 key_removed_in f source key = let rest = without key (held_groups_of f.encoding f.body) in bom_of source ++ (guarding_lf source rest ++ rest)
 
+-- the same, by the encoding that was asked for
 abbrev pub key_removed : Encoding → List ℕ → List ℕ → List ℕ
 key_removed e source key = key_removed_in (byte_order_mark e source) source key
 
 -- ---- edits in turn
 
+-- the source after this edit
 abbrev pub edit_made : Encoding → List ℕ → Edit → List ℕ
 edit_made e source (put key value) = key_set e source key value
 edit_made e source (remove key) = key_removed e source key
 
+-- the source after these edits, each made to what the one before it gave
 abbrev pub edits_made : Encoding → List ℕ → List Edit → List ℕ
 edits_made e source [] = source
 edits_made e source (edit ∷ edits) = edits_made e (edit_made e source edit) edits
@@ -79,6 +83,7 @@ IsSound ignored = Unit {0}
 IsSound (given content) = Unit {0}
 IsSound (broken kind) = ⊥
 
+-- none of the groups is malformed
 abbrev pub AreSound : List (List HeldLine) → Type 0
 AreSound [] = Unit {0}
 AreSound (g ∷ gs) = IsSound (outcome_of (joined (as_lines g))) × AreSound gs
@@ -90,14 +95,18 @@ result_by (item n content ∷ entries) result = result_by entries result
 result_by (malformed kind n ∷ entries) result = unreadable kind n
 result_by (read_fault n ∷ entries) result = result_by entries result
 
+-- the result of an edit that makes these bytes of the source: whether the encoding can be edited comes first
 abbrev pub result_of : Encoding → List ℕ → List ℕ → EditResult
 result_of e source result = if is_editable (byte_order_mark e source).encoding then result_by (items_of e source end) result else unsupported
 
+-- the result of setting a key
 abbrev pub set_key_result : Encoding → List ℕ → List ℕ → List ℕ → EditResult
 set_key_result e source key value = result_of e source (key_set e source key value)
 
+-- the result of removing a key
 abbrev pub remove_key_result : Encoding → List ℕ → List ℕ → EditResult
 remove_key_result e source key = result_of e source (key_removed e source key)
 
+-- the result of a list of edits
 abbrev pub edit_all_result : Encoding → List ℕ → List Edit → EditResult
 edit_all_result e source edits = result_of e source (edits_made e source edits)

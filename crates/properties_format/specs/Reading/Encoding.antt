@@ -21,9 +21,11 @@ pieces_within e n [] = []
 pieces_within e zero (b ∷ d) = []
 pieces_within e (suc n) (b ∷ d) = let p = first_piece e b d in p ∷ pieces_within e n (drop (length p.bytes) (b ∷ d))
 
+-- the pieces of some bytes, of which there are at most as many as bytes
 unfoldable pub pieces_of : Encoding → List ℕ → List Piece
 pieces_of e d = pieces_within e (length d) d
 
+-- the text of an input: the characters of its body in the encoding in force
 abbrev pub decoded_of : Encoding → List ℕ → List ℕ
 decoded_of e b = characters (pieces_of (byte_order_mark e b).encoding (byte_order_mark e b).body)
 

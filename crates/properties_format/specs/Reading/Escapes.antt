@@ -37,6 +37,11 @@ abbrev pub in_front : ℕ → Meaning → Meaning
 in_front c (means x) = means (c ∷ x)
 in_front c (breaks kind) = breaks kind
 
+-- a text in front of it
+abbrev pub text_in_front : List ℕ → Meaning → Meaning
+text_in_front [] m = m
+text_in_front (c ∷ cs) m = in_front c (text_in_front cs m)
+
 -- what is wrong with a text that begins with a `\u` and no spelling
 abbrev pub fault_of : List ℕ → Malformed
 fault_of [] = not_enough_digits

@@ -30,6 +30,7 @@ split_outcome Logical.blank = ignored
 split_outcome (Logical.comment raw) = comment_outcome (meaning_of raw)
 split_outcome (Logical.pair raw_key raw_value) = pair_outcome (meaning_of raw_key) (meaning_of raw_value)
 
+-- what a logical line comes to
 abbrev pub outcome_of : List ℕ → Outcome
 outcome_of x = split_outcome (split_of x)
 

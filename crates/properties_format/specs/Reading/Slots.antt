@@ -20,6 +20,7 @@ pub record Slot : Type 0 where
   pub ending : Option LineEnding
   pub key : Option (List ℕ)
 
+-- the bytes of the slots with their endings, in order
 abbrev pub slots_bytes : List Slot → List ℕ
 slots_bytes [] = []
 slots_bytes (s ∷ ss) = (s.bytes ++ ending_bytes s.ending) ++ slots_bytes ss
@@ -50,9 +51,11 @@ key_told (given (comment text)) = None
 key_told (given (pair key value)) = Some key
 key_told (broken kind) = None
 
+-- the slot of a group
 abbrev pub slot_of : List HeldLine → Slot
 slot_of g = record { bytes = unended_bytes g; ending = last_ending g; key = key_told (outcome_of (joined (as_lines g))) }
 
+-- the slots of the groups, in order
 abbrev pub slot_list : List (List HeldLine) → List Slot
 slot_list [] = []
 slot_list (g ∷ gs) = slot_of g ∷ slot_list gs
@@ -61,11 +64,13 @@ slot_list (g ∷ gs) = slot_of g ∷ slot_list gs
 abbrev pub safe_ending : List ℕ → LineEnding
 safe_ending bytes = if ends_in_cr bytes then cr else lf
 
+-- what becomes of the slot of a last group where a pair is put after it
 abbrev pub closing_of : List HeldLine → Closing
 closing_of g =
     if is_empty_line g then left_out
     else (if is_left_open g then closed_by (safe_ending (group_bytes g)) else ended_by (safe_ending (group_bytes g)))
 
+-- the slots of the groups of a body
 abbrev pub slots_of : List (List HeldLine) → Slots
 slots_of gs = record { list = slot_list gs; closing = closing_of (final_group gs) }
 
@@ -86,6 +91,7 @@ pub record SlotPlace : Type 0 where
   pub slot : Slot
   pub after : List Slot
 
+-- the place with one more slot before it; and where there is none, this slot if it is a pair with the key
 abbrev pub slot_after : List ℕ → Slot → List Slot → Option SlotPlace → Option SlotPlace
 slot_after key s ss (Some p) = Some record { before = s ∷ p.before; slot = p.slot; after = p.after }
 slot_after key s ss None = if slot_has key s then Some record { before = []; slot = s; after = ss } else None
@@ -108,6 +114,7 @@ closed_slot left_out s = []
 closed_slot (ended_by by) s = record { bytes = s.bytes; ending = Some by; key = s.key } ∷ []
 closed_slot (closed_by by) s = record { bytes = s.bytes ++ line_ending_text by; ending = Some by; key = s.key } ∷ []
 
+-- the slots before a pair that is put after them
 abbrev pub closed_slots : Closing → List Slot → List Slot
 closed_slots c [] = []
 closed_slots c (s ∷ []) = closed_slot c s
@@ -173,6 +180,7 @@ slots_edited e marked (put key value) s = slots_put_at e key value s (last_slot 
 slots_edited e marked (remove key) s =
     record { list = slots_guarded marked (slots_without key s.list); closing = if last_has key s.list then left_out else s.closing }
 
+-- the slots after these edits, each made to what the one before it left
 abbrev pub slots_after_edits : Encoding → Bool → List Edit → Slots → Slots
 slots_after_edits e marked [] s = s
 slots_after_edits e marked (edit ∷ edits) s = slots_after_edits e marked edits (slots_edited e marked edit s)

@@ -4,6 +4,7 @@ use Rattle.properties_format.specs.Pieces.{Piece, piece}
 use Rattle.properties_format.specs.Text.{replacement}
 use Rattle.properties_format.specs.Utf8.{Range, well_formed_rows, sequence_character}
 
+-- whether the byte is in the range
 abbrev pub is_in : Range → ℕ → Bool
 is_in r b = nat_le r.least b && nat_le b r.most
 
@@ -23,6 +24,7 @@ fitting (r ∷ rs) (b ∷ d) = if is_in r b then b ∷ fitting rs d else []
 abbrev pub utf_8_piece : ℕ → List ℕ → ℕ → Piece
 utf_8_piece b bs asked = piece (b ∷ bs) (if length bs == asked then sequence_character (b ∷ bs) else replacement)
 
+-- the first piece, by the ranges that the row of the first byte has after it; a byte of no row is a piece alone
 abbrev pub utf_8_piece_by : Option (List Range) → ℕ → List ℕ → Piece
 utf_8_piece_by None b d = piece (b ∷ []) replacement
 utf_8_piece_by (Some rs) b d = utf_8_piece b (fitting rs d) (length rs)

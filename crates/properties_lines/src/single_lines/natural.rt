@@ -13,7 +13,7 @@ use crate::error::LineError;
 use crate::finder::LineFinder;
 use counted_io::CountedRead;
 use properties_text::encoding::Encoding;
-use properties_text::encoding::decode::decode_line;
+use properties_text::single_lines::decode::decode_line;
 use std::alloc::{AllocError, Global};
 use std::borrow::CowStr;
 use std::marker::Model;

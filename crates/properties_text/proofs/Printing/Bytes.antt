@@ -250,22 +250,22 @@ spelt-front text bs rest h =
     ∙ encoded_text-append windows_1252 (spelt_text windows_1252 false in_key_or_value h.0) (spelt_text windows_1252 false in_key_or_value rest)
     ∙ ap (λ v. v ++ text_bytes all_of_windows_1252 KeyOrValue rest) (bytes-spelt h.0 bs h.2)
 
--- a run is the rest of a text
-pub run-last : (line new whole text bs : List ℕ) → line ++ text_bytes all_of_windows_1252 KeyOrValue text ≡ whole → EncodesFront text bs [] → new ≡ line ++ spelt_bytes bs
-    → new ≡ whole
-run-last line new whole text bs held h e =
-    e ∙ ap (λ v. line ++ v) (sym (append-nil (spelt_bytes bs)) ∙ sym (spelt-front text bs [] h)) ∙ held
+-- a run at the front of a text
+pub run-front : (line new whole text bs rest : List ℕ) → line ++ text_bytes all_of_windows_1252 KeyOrValue text ≡ whole → EncodesFront text bs rest
+    → new ≡ line ++ spelt_bytes bs → new ++ text_bytes all_of_windows_1252 KeyOrValue rest ≡ whole
+run-front line new whole text bs rest held h e =
+    ap (λ v. v ++ text_bytes all_of_windows_1252 KeyOrValue rest) e
+    ∙ append_assoc line (spelt_bytes bs) (text_bytes all_of_windows_1252 KeyOrValue rest)
+    ∙ ap (λ v. line ++ v) (sym (spelt-front text bs rest h))
+    ∙ held
 
--- a run, and a character after it
-pub run-more : (line new last whole text bs rest : List ℕ) (c : ℕ) → line ++ text_bytes all_of_windows_1252 KeyOrValue text ≡ whole → EncodesFront text bs (c ∷ rest)
-    → new ≡ line ++ spelt_bytes bs → last ≡ new ++ encoded_text windows_1252 (spelt windows_1252 false in_key_or_value c)
-    → last ++ text_bytes all_of_windows_1252 KeyOrValue rest ≡ whole
-run-more line new last whole text bs rest c held h e f =
-    ap (λ v. v ++ text_bytes all_of_windows_1252 KeyOrValue rest) (f ∙ ap (λ v. v ++ encoded_text windows_1252 (spelt windows_1252 false in_key_or_value c)) e)
-    ∙ append_assoc (line ++ spelt_bytes bs) (encoded_text windows_1252 (spelt windows_1252 false in_key_or_value c)) (text_bytes all_of_windows_1252 KeyOrValue rest)
-    ∙ append_assoc line (spelt_bytes bs) (encoded_text windows_1252 (spelt windows_1252 false in_key_or_value c) ++ text_bytes all_of_windows_1252 KeyOrValue rest)
-    ∙ ap (λ v. line ++ (spelt_bytes bs ++ v)) (sym (encoded_text-append windows_1252 (spelt windows_1252 false in_key_or_value c) (spelt_text windows_1252 false in_key_or_value rest)))
-    ∙ ap (λ v. line ++ v) (sym (spelt-front text bs (c ∷ rest) h))
+-- one character at the front
+pub one-more : (line new whole rest : List ℕ) (c : ℕ) → line ++ text_bytes all_of_windows_1252 KeyOrValue (c ∷ rest) ≡ whole
+    → new ≡ line ++ encoded_text windows_1252 (spelt windows_1252 false in_key_or_value c) → new ++ text_bytes all_of_windows_1252 KeyOrValue rest ≡ whole
+one-more line new whole rest c held e =
+    ap (λ v. v ++ text_bytes all_of_windows_1252 KeyOrValue rest) e
+    ∙ append_assoc line (encoded_text windows_1252 (spelt windows_1252 false in_key_or_value c)) (text_bytes all_of_windows_1252 KeyOrValue rest)
+    ∙ ap (λ v. line ++ v) (sym (encoded_text-append windows_1252 (spelt windows_1252 false in_key_or_value c) (spelt_text windows_1252 false in_key_or_value rest)))
     ∙ held
 
 -- what windows-1252 lacks is escaped
@@ -285,8 +285,4 @@ lacked-spelt c h e =
 
 pub lacked-more : (line new whole rest : List ℕ) (c : ℕ) → line ++ text_bytes all_of_windows_1252 KeyOrValue (c ∷ rest) ≡ whole → 0x80 ≤ c
     → is_some (windows_1252_byte c) ≡ false → new ≡ line ++ unicode_escape c → new ++ text_bytes all_of_windows_1252 KeyOrValue rest ≡ whole
-lacked-more line new whole rest c held h e f =
-    ap (λ v. v ++ text_bytes all_of_windows_1252 KeyOrValue rest) (f ∙ ap (λ v. line ++ v) (sym (lacked-spelt c h e)))
-    ∙ append_assoc line (encoded_text windows_1252 (spelt windows_1252 false in_key_or_value c)) (text_bytes all_of_windows_1252 KeyOrValue rest)
-    ∙ ap (λ v. line ++ v) (sym (encoded_text-append windows_1252 (spelt windows_1252 false in_key_or_value c) (spelt_text windows_1252 false in_key_or_value rest)))
-    ∙ held
+lacked-more line new whole rest c held h e f = one-more line new whole rest c held (f ∙ ap (λ v. line ++ v) (sym (lacked-spelt c h e)))

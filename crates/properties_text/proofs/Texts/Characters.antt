@@ -84,7 +84,7 @@ chars-empty bs e = ap chars (nil_from_length bs e) ∙ chars-nil
 
 -- ---- ASCII at the front
 
-first_ascii : (b : ℕ) (rest : List ℕ) → b < 128 → IsUtf8 (b ∷ rest) → IsCharacterAnd (b ∷ rest) b rest
+pub first_ascii : (b : ℕ) (rest : List ℕ) → b < 128 → IsUtf8 (b ∷ rest) → IsCharacterAnd (b ∷ rest) b rest
 first_ascii b rest h u = character_and (b ∷ rest) rest b u (ap (λ v. v ++ rest) (sym (encode-one b h)))
 
 -- four bytes of ASCII are four characters

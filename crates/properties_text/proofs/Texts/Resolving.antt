@@ -11,11 +11,12 @@ use Rattle.std.proofs.lemmas.Str.{encodes-chars, chars-append, chars-encodes, Is
 use Rattle.memchr.specs.Find.{IsFirstByte, is_byte}
 use Rattle.properties_format.specs.Text.{backslash}
 use Rattle.properties_format.specs.Escapes.{Malformed, Meaning, means, breaks, Means, Breaks, IsMeaning}
-use Rattle.properties_format.specs.Reading.Escapes.{in_front, meaning_of}
+use Rattle.properties_format.specs.Reading.Escapes.{in_front, text_in_front, meaning_of}
 use Rattle.properties_format.specs.Groups.{ending_backslashes, is_open}
+use Rattle.properties_format.specs.Writing.{HoldsNoBackslash}
 use Rattle.properties_format.proofs.Groups.Open.{ending_backslashes-after}
-use Rattle.properties_format.proofs.Escapes.Laws.{HasNoBackslash, meaning_of-plain_front, meaning_of-plain}
-use Rattle.properties_format.proofs.Escapes.Unique.{text_in_front, text_in_front-means, text_in_front-breaks, breaks-only, meaning_of-meets}
+use Rattle.properties_format.proofs.Escapes.Laws.{meaning_of-plain_front, meaning_of-plain}
+use Rattle.properties_format.proofs.Escapes.Unique.{text_in_front-means, text_in_front-breaks, breaks-only, meaning_of-meets}
 use Rattle.properties_text.specs.Escaping.{holds_backslash, malformed_in, IsRefused}
 use Rattle.properties_text.specs.declared.escape.UnescapeError.{UnescapeError}
 use Rattle.properties_text.specs.declared.escape.UnescapeError.TheVariants as error
@@ -40,7 +41,7 @@ holds-encodes (c ∷ cs) = holds-front c cs (encode c) (encoded c) (holds-encode
 pub holds_backslash-text : (bs : List ℕ) → IsUtf8 bs → holds_backslash (chars bs) ≡ holds_backslash bs
 holds_backslash-text bs u = sym (holds-encodes (chars bs)) ∙ ap holds_backslash (encodes-chars bs u)
 
-pub no_backslash : (cs : List ℕ) → holds_backslash cs ≡ false → HasNoBackslash cs
+pub no_backslash : (cs : List ℕ) → holds_backslash cs ≡ false → HoldsNoBackslash cs
 no_backslash [] h = tt
 no_backslash (c ∷ cs) h = let p = or_parts (c == backslash) (holds_backslash cs) h in (p.0, no_backslash cs p.1)
 
@@ -155,9 +156,17 @@ slice-front bs at = ap (λ n. take n bs) (let k : at - 0 ≡ at = omega arith in
 
 -- ---- what has been resolved so far
 
-text_in_front-append : (xs ys : List ℕ) (m : Meaning) → text_in_front (xs ++ ys) m ≡ text_in_front xs (text_in_front ys m)
+pub text_in_front-append : (xs ys : List ℕ) (m : Meaning) → text_in_front (xs ++ ys) m ≡ text_in_front xs (text_in_front ys m)
 text_in_front-append [] ys m = refl
 text_in_front-append (x ∷ xs) ys m = ap (in_front x) (text_in_front-append xs ys m)
+
+-- a text and more were appended
+pub pushed_text : (text front more grown all : List ℕ) → IsUtf8 text → IsUtf8 front → grown ≡ text ++ front → all ≡ grown ++ more
+    → chars all ≡ chars text ++ (chars front ++ chars more)
+pushed_text text front more grown all u v e f =
+    ap chars (f ∙ ap (λ w. w ++ more) e ∙ append_assoc text front more)
+    ∙ chars-append text (front ++ more) u
+    ∙ ap (λ w. chars text ++ w) (chars-append front more v)
 
 -- a text and a character were appended
 pub pushed : (text front : List ℕ) (c : ℕ) (grown all : List ℕ) → IsUtf8 text → IsUtf8 front → IsScalar c → grown ≡ text ++ front → all ≡ grown ++ encode c
@@ -181,17 +190,23 @@ pub record IsResolvedTo (text before now rest : List ℕ) : Type 0 where
 pub resolved_none : (text before : List ℕ) → IsResolvedTo text before before text
 resolved_none text before = record { done = []; grown = sym (append-nil before); meaning = refl }
 
--- text without a backslash, and an escape
+-- text without a backslash, and escapes that were read together
+pub resolved_many : (text before now rest front after to next cs : List ℕ) → IsResolvedTo text before now rest
+    → meaning_of rest ≡ text_in_front front (meaning_of after) → meaning_of after ≡ text_in_front cs (meaning_of to) → next ≡ now ++ (front ++ cs)
+    → IsResolvedTo text before next to
+resolved_many text before now rest front after to next cs r e f g = record {
+  done = r.done ++ (front ++ cs);
+  grown = g ∙ ap (λ v. v ++ (front ++ cs)) r.grown ∙ append_assoc before r.done (front ++ cs);
+  meaning = r.meaning
+      ∙ ap (text_in_front r.done) (e ∙ ap (text_in_front front) f ∙ sym (text_in_front-append front cs (meaning_of to)))
+      ∙ sym (text_in_front-append r.done (front ++ cs) (meaning_of to));
+}
+
+-- and one escape
 pub resolved_more : (text before now rest front after to next : List ℕ) (c : ℕ) → IsResolvedTo text before now rest
     → meaning_of rest ≡ text_in_front front (meaning_of after) → meaning_of after ≡ in_front c (meaning_of to) → next ≡ now ++ (front ++ c ∷ [])
     → IsResolvedTo text before next to
-resolved_more text before now rest front after to next c r e f g = record {
-  done = r.done ++ (front ++ c ∷ []);
-  grown = g ∙ ap (λ v. v ++ (front ++ c ∷ [])) r.grown ∙ append_assoc before r.done (front ++ c ∷ []);
-  meaning = r.meaning
-      ∙ ap (text_in_front r.done) (e ∙ ap (text_in_front front) f ∙ sym (text_in_front-append front (c ∷ []) (meaning_of to)))
-      ∙ sym (text_in_front-append r.done (front ++ c ∷ []) (meaning_of to));
-}
+resolved_more text before now rest front after to next c r e f g = resolved_many text before now rest front after to next (c ∷ []) r e f g
 
 -- the last of it
 pub resolved_end : (text before now rest next : List ℕ) → IsResolvedTo text before now rest → meaning_of rest ≡ means rest → next ≡ now ++ rest

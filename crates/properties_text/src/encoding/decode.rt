@@ -1,47 +1,19 @@
 //! Bytes to characters.
 
-ghost use Rattle.std.specs.Prelude.{◌≡◌, OnOk, OnErr, ◌≤◌, ◌++◌, ◌↔◌, length, IfOk, IfSome, IsSome};
-ghost use Rattle.std.specs.Str.{chars};
-ghost use Rattle.std.specs.String.{string_bytes};
-ghost use Rattle.std.specs.Cow.{cow_str_bytes};
+ghost use Rattle.std.specs.Prelude.{◌↔◌, IsSome, ◌≡◌, ◌≤◌, ◌<◌, ◌+◌, ◌*◌, ◌%◌, ◌++◌, ◌∷◌, [], length, take, IfSome};
+ghost use Rattle.std.specs.Char.{encode_utf8, IsScalar};
+ghost use Rattle.std.specs.Str.{chars, IsUtf8};
 ghost use Rattle.properties_text.specs.Encoding.{encoding_of};
-ghost use Rattle.properties_text.specs.Decoding.{IsBorrowed, IsText, KeepsText, text_of};
+ghost use Rattle.properties_text.specs.Decoding.{IsText, utf_16_of, AreFour, DecodesFront, IsAsciiFront, PutsUnits};
+ghost use Rattle.properties_text.specs.declared.encoding.Encoding.TheVariants.{WINDOWS_1252};
 
-use super::run::decode_run;
+use super::first_piece::first_piece;
+use super::latin_1::{put_16, table_bits};
+use super::unit_blocks::{Written, put_latin_1, put_sixteen};
+use super::utf_16::ByteOrder;
+use super::windows_1252::text_of_byte;
 use super::{Encoding, utf_8, windows_1252};
-use std::alloc::{AllocError, Global};
-use std::borrow::CowStr;
-
-// How many bytes of text are decoded at once.
-const RUN: usize = 256;
-
-/// The text of some bytes by themselves, as of one line. It is lent where the bytes are that text already, as those of
-/// UTF-16 never are.
-///
-/// What is no character of the encoding is U+FFFD, as often as the WHATWG Encoding Standard says.
-///
-/// ```text
-/// let text = decode_line(alloc, Encoding::WINDOWS_1252, b"caf\xe9")?; // `café`, owned
-/// ```
-#[inline]
-pub fn decode_line(
-    alloc: Global,
-    encoding: Encoding,
-    bytes: &[u8],
-) -> Result<CowStr<'_>, AllocError>
-    ensures text { IfOk result (λ text. chars (cow_str_bytes text) ≡ text_of encoding bytes.now) }
-    ensures lent { IfOk result (λ text. IsBorrowed text ↔ IsText (encoding_of encoding) bytes.now) }
-    ensures same { IfOk result (λ text. IsBorrowed text → cow_str_bytes text ≡ bytes.now) }
-{
-    match as_text(encoding, bytes) {
-        Some(text) => Ok(CowStr::Borrowed(text)),
-        None => {
-            let mut text = String::new(alloc);
-            push_decoded(&mut text, encoding, bytes)?;
-            Ok(CowStr::Owned(text))
-        }
-    }
-}
+use std::simd::prelude::*;
 
 /// The bytes, where they are text as they stand.
 #[inline(always)]
@@ -56,53 +28,325 @@ pub fn as_text(encoding: Encoding, bytes: &[u8]) -> Option<&str>
     }
 }
 
-/// Appends the text of some bytes. Where memory runs out, a beginning of it may have been appended.
-#[inline(never)]
-pub fn push_decoded(text: &mut String, encoding: Encoding, bytes: &[u8]) -> Result<(), AllocError>
-    ensures appended { OnOk result
-        (chars (string_bytes text.new) ≡ chars (string_bytes text.old) ++ text_of encoding bytes.now) }
-    ensures kept { let more = text_of encoding bytes.now in
-        OnErr result (KeepsText (string_bytes text.old) more (string_bytes text.new)) }
+/// What was decoded of some bytes.
+#[derive(Clone, Copy)]
+pub struct Decoded<'a> {
+    /// The place where the text ends.
+    pub end: usize,
+    /// The bytes that are left.
+    pub rest: &'a [u8],
+}
+
+/// Decodes bytes at the front, as far as there is room, and puts their text after the one that ends at `start`.
+#[inline(always)]
+pub fn decode_run<'a>(
+    run: &mut [u8],
+    start: usize,
+    encoding: Encoding,
+    bytes: &'a [u8],
+) -> Decoded<'a>
+    requires room { start + 4 ≤ length run.old }
+    requires is_text { IsUtf8 (take start run.old) }
+    ensures front { DecodesFront encoding bytes.now run.old start run.new result }
+    ensures shorter { 0 < length bytes.now → length result.rest.now < length bytes.now }
 {
-    text.reserve(bytes.len())?;
-    // What stands as text at the front is copied, then a run of characters is decoded, and so on.
-    let mut run = [0; RUN];
+    // A loop for each encoding, so that none asks for it at each character.
+    match encoding {
+        Encoding::WINDOWS_1252 => decode_windows_1252(run, start, bytes),
+        Encoding::UTF_8 => decode_run_of(run, start, Encoding::UTF_8, bytes),
+        Encoding::UTF_16LE => decode_run_of(run, start, Encoding::UTF_16LE, bytes),
+        Encoding::UTF_16BE => decode_run_of(run, start, Encoding::UTF_16BE, bytes),
+    }
+}
+
+// By blocks of sixteen, and what is fewer in the same way as other encodings.
+#[inline(always)]
+fn decode_windows_1252<'a>(run: &mut [u8], start: usize, bytes: &'a [u8]) -> Decoded<'a>
+    requires room { start + 4 ≤ length run.old }
+    requires is_text { IsUtf8 (take start run.old) }
+    ensures front { DecodesFront WINDOWS_1252 bytes.now run.old start run.new result }
+    ensures shorter { 0 < length bytes.now → length result.rest.now < length bytes.now }
+{
+    let front = decode_blocks(run, start, bytes);
+    // Where more blocks come, the next run goes on with them.
+    if front.end > start && front.rest.len() >= 16 {
+        return front;
+    }
+    decode_run_of(run, front.end, Encoding::WINDOWS_1252, front.rest)
+}
+
+// Sixteen bytes of windows-1252 at once, while there are as many, and room.
+#[inline(always)]
+fn decode_blocks<'a>(run: &mut [u8], start: usize, bytes: &'a [u8]) -> Decoded<'a>
+    requires within { start ≤ length run.old }
+    requires is_text { IsUtf8 (take start run.old) }
+    ensures front { DecodesFront WINDOWS_1252 bytes.now run.old start run.new result }
+    ensures shorter { result.end + 4 * length result.rest.now ≤ start + 4 * length bytes.now }
+{
+    let mut at = start;
     let mut rest = bytes;
-    loop {
-        let (front, after) = text_front(encoding, rest);
-        push_text(text, front)?;
-        if after.is_empty() {
-            return Ok(());
+    while rest.len() >= 16 && run.len() - at >= 64 {
+        let v = u8x16::from_slice(rest);
+        // The odd bytes go first, so that whole blocks are left.
+        let odd = (rest.len() - 1) % 16 + 1;
+        if table_bits(v).trailing_zeros() as usize >= odd {
+            at = put_16(run, at, v, odd);
+            rest = &rest[odd..];
+        } else {
+            let each = decode_each(run, at, rest, odd);
+            at = each.end;
+            rest = each.rest;
         }
-        let decoded = decode_run(&mut run, 0, encoding, after);
-        // SAFETY: a run is text.
-        let more = unsafe { str::from_utf8_unchecked(&run[..decoded.end]) };
-        push_text(text, more)?;
-        rest = decoded.rest;
     }
+    Decoded { end: at, rest }
 }
 
-/// Appends a text, or nothing where memory runs out.
-pub fn push_text(text: &mut String, more: &str) -> Result<(), AllocError>
-    ensures appended { OnOk result
-        (chars (string_bytes text.new) ≡ chars (string_bytes text.old) ++ chars more.now) }
-    ensures longer { length (string_bytes text.old) ≤ length (string_bytes text.new) }
-    ensures unchanged { OnErr result (string_bytes text.new ≡ string_bytes text.old) }
+// So many bytes of windows-1252, one by one.
+#[inline(always)]
+fn decode_each<'a>(run: &mut [u8], start: usize, bytes: &'a [u8], count: usize) -> Decoded<'a>
+    requires room { start + 4 * count ≤ length run.old }
+    requires count { count ≤ length bytes.now }
+    requires is_text { IsUtf8 (take start run.old) }
+    ensures front { DecodesFront WINDOWS_1252 bytes.now run.old start run.new result }
+    ensures end { result.end ≤ start + 3 * count }
+    ensures left { length result.rest.now + count ≡ length bytes.now }
 {
-    // Not even a call for nothing: in most encodings no text stands as it is.
-    if more.is_empty() {
-        return Ok(());
+    let mut at = start;
+    let mut rest = bytes;
+    let mut left = count;
+    while left > 0 {
+        let text = text_of_byte(rest[0]);
+        put_four(run, at, text.bytes);
+        at += text.length;
+        rest = &rest[1..];
+        left -= 1;
     }
-    text.push_str(more)
+    Decoded { end: at, rest }
 }
 
-// What stands as text at the front of UTF-8, and what is after it. Other encodings are decoded in runs alone.
-fn text_front(encoding: Encoding, bytes: &[u8]) -> (&str, &[u8])
-    ensures text { text_of encoding bytes.now ≡ chars result.0.now ++ text_of encoding result.1.now }
-    ensures within { length result.1.now ≤ length bytes.now }
+// From front to back, in any encoding.
+#[inline(always)]
+fn decode_run_of<'a>(
+    run: &mut [u8],
+    start: usize,
+    encoding: Encoding,
+    bytes: &'a [u8],
+) -> Decoded<'a>
+    requires within { start ≤ length run.old }
+    requires is_text { IsUtf8 (take start run.old) }
+    ensures front { DecodesFront encoding bytes.now run.old start run.new result }
+    ensures shorter { start + 4 ≤ length run.old → 0 < length bytes.now
+        → length result.rest.now < length bytes.now }
+{
+    let mut at = start;
+    let mut rest = bytes;
+    while let Some((first, others)) = rest.split_first() {
+        if run.len() - at < 4 {
+            return Decoded { end: at, rest };
+        }
+        let written = put_units(run, at, encoding, rest);
+        if written.units > 0 {
+            at = written.end;
+            rest = &rest[2 * written.units..];
+        } else if let Some(front) = ascii_front(encoding, rest) {
+            at = put_four(run, at, front.text);
+            rest = front.rest;
+        } else {
+            let next = first_piece(encoding, *first, others);
+            at = put_character(run, at, next.character);
+            rest = &rest[next.length..];
+        }
+    }
+    Decoded { end: at, rest }
+}
+
+// Writes units at the front from this place on, sixteen at most, as far as they are characters of Latin-1. There are none
+// in other encodings than UTF-16, and where fewer than eight are left, or room for fewer.
+#[inline(always)]
+fn put_units(run: &mut [u8], at: usize, encoding: Encoding, bytes: &[u8]) -> Written
+    requires { at ≤ length run.old }
+    ensures { PutsUnits encoding bytes.now run.old at run.new result }
 {
     match encoding {
-        Encoding::UTF_8 => utf_8::text_front(bytes),
-        Encoding::WINDOWS_1252 | Encoding::UTF_16LE | Encoding::UTF_16BE => ("", bytes),
+        Encoding::WINDOWS_1252 | Encoding::UTF_8 => Written { units: 0, end: at },
+        Encoding::UTF_16LE => put_block(run, at, ByteOrder::LowFirst, bytes),
+        Encoding::UTF_16BE => put_block(run, at, ByteOrder::HighFirst, bytes),
     }
+}
+
+// The same of UTF-16. Where the first unit is no character of Latin-1, the others aren't looked at.
+#[inline(always)]
+fn put_block(run: &mut [u8], at: usize, order: ByteOrder, bytes: &[u8]) -> Written
+    requires { at ≤ length run.old }
+    ensures { PutsUnits (utf_16_of order) bytes.now run.old at run.new result }
+{
+    let room = run.len() - at;
+    if bytes.len() >= 32 && room >= 32 {
+        put_long_block(run, at, order, bytes)
+    } else if bytes.len() >= 16 && room >= 16 {
+        put_short_block(run, at, order, bytes)
+    } else {
+        Written { units: 0, end: at }
+    }
+}
+
+// Sixteen units at most. The odd ones go first, so that whole blocks are left.
+#[inline(always)]
+fn put_long_block(run: &mut [u8], at: usize, order: ByteOrder, bytes: &[u8]) -> Written
+    requires room { at + 32 ≤ length run.old }
+    requires bytes { 32 ≤ length bytes.now }
+    ensures { PutsUnits (utf_16_of order) bytes.now run.old at run.new result }
+{
+    if order.unit(bytes[0], bytes[1]) >= 0x100 {
+        return Written { units: 0, end: at };
+    }
+    let odd = (bytes.len() / 2 - 1) % 16 + 1;
+    let first = u8x16::from_slice(bytes);
+    let second = u8x16::from_slice(&bytes[16..]);
+    put_sixteen(run, at, order, first, second, odd)
+}
+
+// Eight at most.
+#[inline(always)]
+fn put_short_block(run: &mut [u8], at: usize, order: ByteOrder, bytes: &[u8]) -> Written
+    requires room { at + 16 ≤ length run.old }
+    requires bytes { 16 ≤ length bytes.now }
+    ensures { PutsUnits (utf_16_of order) bytes.now run.old at run.new result }
+{
+    if order.unit(bytes[0], bytes[1]) >= 0x100 {
+        return Written { units: 0, end: at };
+    }
+    let odd = (bytes.len() / 2 - 1) % 8 + 1;
+    put_latin_1(run, at, order, u8x16::from_slice(bytes), odd)
+}
+
+// Four characters of ASCII, and the bytes after them.
+#[derive(Clone, Copy)]
+struct AsciiFront<'a> {
+    text: [u8; 4],
+    rest: &'a [u8],
+}
+
+// Four characters of ASCII at the front, if there are four. In UTF-8 it looks for none, since a run begins where text that
+// stands as it is ends.
+#[inline(always)]
+fn ascii_front(encoding: Encoding, bytes: &[u8]) -> Option<AsciiFront<'_>>
+    ensures { IfSome result (IsAsciiFront encoding bytes.now) }
+{
+    match encoding {
+        Encoding::WINDOWS_1252 => ascii_bytes(bytes),
+        Encoding::UTF_8 => None,
+        Encoding::UTF_16LE => ascii_units(ByteOrder::LowFirst, bytes),
+        Encoding::UTF_16BE => ascii_units(ByteOrder::HighFirst, bytes),
+    }
+}
+
+#[inline(always)]
+fn ascii_bytes(bytes: &[u8]) -> Option<AsciiFront<'_>>
+    ensures { IfSome result (IsAsciiFront WINDOWS_1252 bytes.now) }
+{
+    if bytes.len() < 4 {
+        return None;
+    }
+    four_of_ascii(
+        u16::from(bytes[0]),
+        u16::from(bytes[1]),
+        u16::from(bytes[2]),
+        u16::from(bytes[3]),
+        &bytes[4..],
+    )
+}
+
+#[inline(always)]
+fn ascii_units(order: ByteOrder, bytes: &[u8]) -> Option<AsciiFront<'_>>
+    ensures { IfSome result (IsAsciiFront (utf_16_of order) bytes.now) }
+{
+    if bytes.len() < 8 {
+        return None;
+    }
+    four_of_ascii(
+        order.unit(bytes[0], bytes[1]),
+        order.unit(bytes[2], bytes[3]),
+        order.unit(bytes[4], bytes[5]),
+        order.unit(bytes[6], bytes[7]),
+        &bytes[8..],
+    )
+}
+
+// These four units, where all of them are ASCII.
+#[inline(always)]
+fn four_of_ascii(a: u16, b: u16, c: u16, d: u16, rest: &[u8]) -> Option<AsciiFront<'_>>
+    ensures { IfSome result (AreFour a b c d rest.now) }
+{
+    if a < 0x80 && b < 0x80 && c < 0x80 && d < 0x80 {
+        Some(AsciiFront {
+            text: [a as u8, b as u8, c as u8, d as u8],
+            rest,
+        })
+    } else {
+        None
+    }
+}
+
+// Writes four bytes from this place on, and returns the place after them.
+#[inline(always)]
+fn put_four(run: &mut [u8], at: usize, text: [u8; 4]) -> usize
+    requires { at + 4 ≤ length run.old }
+    ensures after { result ≡ at + 4 }
+    ensures same_room { length run.new ≡ length run.old }
+    ensures text { take result run.new ≡ take at run.old ++ text }
+{
+    run[at..at + 4].copy_from_slice(&text);
+    at + 4
+}
+
+/// Writes a character from this place on, and returns the place after it.
+#[inline(always)]
+pub fn put_character(run: &mut [u8], at: usize, character: char) -> usize
+    requires { at + 4 ≤ length run.old }
+    ensures within { result ≤ at + 4 }
+    ensures more { at < result }
+    ensures scalar { IsScalar character }
+    ensures same_room { length run.new ≡ length run.old }
+    ensures text { take result run.new ≡ take at run.old ++ encode_utf8 character }
+{
+    let code = u32::from(character);
+    if code < 0x80 {
+        put(run, at, code)
+    } else if code < 0x800 {
+        let at = put(run, at, 0xc0 + code / 0x40);
+        put_continuation(run, at, code)
+    } else if code < 0x1_0000 {
+        let at = put(run, at, 0xe0 + code / 0x1000);
+        let at = put_continuation(run, at, code / 0x40);
+        put_continuation(run, at, code)
+    } else {
+        let at = put(run, at, 0xf0 + code / 0x4_0000);
+        let at = put_continuation(run, at, code / 0x1000);
+        let at = put_continuation(run, at, code / 0x40);
+        put_continuation(run, at, code)
+    }
+}
+
+// A byte that is not the first of its character: the six low bits.
+#[inline(always)]
+fn put_continuation(run: &mut [u8], at: usize, bits: u32) -> usize
+    requires { at < length run.old }
+    ensures after { result ≡ at + 1 }
+    ensures same_room { length run.new ≡ length run.old }
+    ensures byte { take result run.new ≡ take at run.old ++ (0x80 + bits % 0x40) ∷ [] }
+{
+    put(run, at, 0x80 + bits % 0x40)
+}
+
+#[inline(always)]
+fn put(run: &mut [u8], at: usize, byte: u32) -> usize
+    requires within { at < length run.old }
+    requires byte { byte < 0x100 }
+    ensures after { result ≡ at + 1 }
+    ensures same_room { length run.new ≡ length run.old }
+    ensures byte { take result run.new ≡ take at run.old ++ byte ∷ [] }
+{
+    run[at] = byte as u8;
+    at + 1
 }

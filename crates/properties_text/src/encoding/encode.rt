@@ -7,7 +7,6 @@ ghost use Rattle.properties_text.specs.Encoding.{encoding_of, output_of, Encodes
 ghost use Rattle.properties_text.specs.Latin1.{is_lead};
 
 use super::Encoding;
-use super::ascii::copy_front;
 use super::narrow::put_narrow;
 use super::windows_1252::byte_of;
 use std::simd::prelude::*;
@@ -41,7 +40,7 @@ pub struct Encoded<'a> {
     pub rest: &'a str,
 }
 
-/// Encodes characters at the front in windows-1252, up to one that it lacks, as far as there is room.
+/// Encodes characters at the front in windows-1252, up to one that it lacks, while there is room for sixteen.
 pub fn encode_run<'a>(run: &mut [u8], text: &'a str) -> Encoded<'a>
     ensures within { result.length ≤ length run.new }
     ensures same_room { length run.new ≡ length run.old }
@@ -51,32 +50,30 @@ pub fn encode_run<'a>(run: &mut [u8], text: &'a str) -> Encoded<'a>
 {
     let mut at = 0;
     let mut rest = text;
-    while at < run.len() && !rest.is_empty() {
+    while run.len() - at >= 16 && !rest.is_empty() {
         let block = encode_block(run, at, rest);
-        if block.read > 0 {
-            at += block.written;
-            rest = &rest[block.read..];
+        at += block.written;
+        rest = &rest[block.read..];
+        if block.read >= WHOLE {
             continue;
         }
-        let ascii = copy_front(run, at, rest.as_bytes());
-        if ascii > 0 {
-            at += ascii;
-            rest = &rest[ascii..];
-        } else {
-            let mut characters = rest.chars();
-            let Some(character) = characters.next() else {
-                return Encoded { length: at, rest };
-            };
-            let Some(byte) = byte_of(character) else {
-                return Encoded { length: at, rest };
-            };
-            run[at] = byte;
-            at += 1;
-            rest = characters.as_str();
-        }
+        let mut characters = rest.chars();
+        let Some(character) = characters.next() else {
+            return Encoded { length: at, rest };
+        };
+        let Some(byte) = byte_of(character) else {
+            return Encoded { length: at, rest };
+        };
+        run[at] = byte;
+        at += 1;
+        rest = characters.as_str();
     }
     Encoded { length: at, rest }
 }
+
+// How many bytes of a block are read at least where no character stops it: all sixteen, but for one that begins a
+// character.
+const WHOLE: usize = 15;
 
 // How many bytes of a text were encoded, and to how many.
 #[derive(Clone, Copy)]
@@ -85,44 +82,34 @@ struct Block {
     written: usize,
 }
 
-const NOTHING: Block = Block {
-    read: 0,
-    written: 0,
-};
-
-// Encodes the characters of the first sixteen bytes, where all are of Latin-1 and there is room for sixteen.
+// Encodes the characters of the first sixteen bytes, up to one that isn't of Latin-1.
 #[inline(always)]
 fn encode_block(run: &mut [u8], at: usize, text: &str) -> Block
-    requires room { at ≤ length run.old }
+    requires room { at + 16 ≤ length run.old }
     requires some { 0 < length text.now }
     ensures same_room { length run.new ≡ length run.old }
-    ensures within { at + result.written ≤ length run.new }
+    ensures few { result.written ≤ 16 }
+    ensures fewer { result.written ≤ result.read + 1 }
     ensures before { take at run.new ≡ take at run.old }
     ensures boundary { IsCharBoundary text.now result.read }
     ensures encoded { EncodesFront (chars text.now) (drop at (take (at + result.written) run.new)) (chars (drop result.read text.now)) }
 {
-    if run.len() - at < 16 {
-        return NOTHING;
-    }
     let bytes = text.as_bytes();
     let count = bytes.len().min(16);
-    match put_narrow(run, at, first_16(bytes), count) {
-        None => NOTHING,
-        Some(written) => Block {
-            read: whole_characters(bytes, count),
-            written,
-        },
+    let narrowed = put_narrow(run, at, first_16(bytes), count);
+    Block {
+        read: whole_characters(bytes, narrowed.read),
+        written: narrowed.written,
     }
 }
 
 // So many bytes, or one fewer where the last begins a character.
 #[inline(always)]
 fn whole_characters(bytes: &[u8], count: usize) -> usize
-    requires some { 0 < count }
-    requires within { count ≤ length bytes.now }
+    requires { count ≤ length bytes.now }
     ensures { result ≡ count - (if is_lead (slice_index bytes.now (count - 1)) then 1 else 0) }
 {
-    if bytes[count - 1] >= 0xc0 {
+    if count > 0 && bytes[count - 1] >= 0xc0 {
         count - 1
     } else {
         count

@@ -6,10 +6,9 @@ ghost use Rattle.std.specs.Simd.Lanes.{mask_l};
 ghost use Rattle.properties_format.specs.Windows1252.{is_in_table};
 ghost use Rattle.properties_text.specs.Latin1.{is_past_ascii, lead_byte, last_byte};
 
-use lanes::LANES;
+use crate::lanes::LANES;
+use byte_blocks::{ByteClass, PastAscii};
 use std::simd::prelude::*;
-
-mod lanes;
 
 /// Bit i is set where byte i is from 80 to 9F, which in windows-1252 stand for characters of other numbers.
 #[inline(always)]
@@ -49,7 +48,7 @@ pub fn put_16(run: &mut [u8], at: usize, v: u8x16, kept: usize) -> usize
 pub fn is_ascii(v: u8x16) -> bool
     ensures { (result ≡ true) ↔ IsAscii v }
 {
-    v.simd_ge(u8x16::splat(0x80)).to_bitmask() == 0
+    PastAscii::marks(v).is_clear()
 }
 
 /// The same of eight characters, and up to 16 bytes.

@@ -1,6 +1,6 @@
 // Sixteen bytes of UTF-8 at once, whose characters are of Latin-1.
 
-ghost use Rattle.std.specs.Prelude.{◌≡◌, ◌+◌, ◌-◌, ◌<◌, ◌≤◌, ◌++◌, ◌∷◌, length, take, drop, map, count_ones, IfSome};
+ghost use Rattle.std.specs.Prelude.{◌≡◌, ◌+◌, ◌-◌, ◌<◌, ◌≤◌, ◌++◌, ◌∷◌, length, take, drop, map, count_ones};
 ghost use Rattle.std.specs.Simd.Lanes.{mask_l};
 ghost use Rattle.properties_text.specs.Latin1.{is_lead, is_beyond, all_raised, dropped, narrowed, AreOfLatin1};
 
@@ -10,31 +10,46 @@ use std::simd::prelude::*;
 
 mod lanes;
 
-/// Writes the characters of the first `count` bytes from this place on, one byte each, and returns how many those are,
-/// or nothing where a character is past Latin-1, or one from U+0080 to U+009F. Up to sixteen bytes may be written over.
+/// Bytes of UTF-8 whose characters were written as bytes.
+#[derive(Clone, Copy)]
+pub struct Narrowed {
+    /// How many bytes of UTF-8 they are. The last may be the first of a character that was not written.
+    pub read: usize,
+    /// How many bytes were written.
+    pub written: usize,
+}
+
+/// Writes the characters of the first `count` bytes from this place on, one byte each, as far as they are of Latin-1 and
+/// none from U+0080 to U+009F. Up to sixteen bytes may be written over.
 #[inline(always)]
-pub fn put_narrow(run: &mut [u8], at: usize, v: u8x16, count: usize) -> Option<usize>
+pub fn put_narrow(run: &mut [u8], at: usize, v: u8x16, count: usize) -> Narrowed
     requires room { at + 16 ≤ length run.old }
     requires count { count ≤ 16 }
     ensures same_room { length run.new ≡ length run.old }
-    ensures within { IfSome result (λ written. written ≤ count) }
+    ensures within { result.read ≤ count }
+    ensures fewer { result.written ≤ result.read }
     ensures before { take at run.new ≡ take at run.old }
-    ensures latin_1 { IfSome result (λ written. AreOfLatin1 0 (take count v)) }
-    ensures encoded { IfSome result (λ written. take (at + written) run.new ≡ take at run.old ++ narrowed 0 (take count v)) }
+    ensures latin_1 { AreOfLatin1 0 (take result.read v) }
+    ensures encoded { take (at + result.written) run.new ≡ take at run.old ++ narrowed 0 (take result.read v) }
 {
     if is_ascii(v) {
         v.copy_to_slice(&mut run[at..]);
-        return Some(count);
+        return Narrowed {
+            read: count,
+            written: count,
+        };
     }
     let raised = raised(v);
-    if table_bits(raised) != 0 || beyond_bits(v) != 0 {
-        return None;
-    }
+    let untabled = count.min(table_bits(raised).trailing_zeros() as usize);
+    let read = untabled.min(beyond_bits(v).trailing_zeros() as usize);
     let leads = lead_bits(v);
     let middle = put_8(run, at, raised, leads % 256);
     put_8(run, middle, back(raised), leads / 256);
-    let counted = leads % (1 << count);
-    Some(count - counted.count_ones() as usize)
+    let counted = leads % (1 << read);
+    Narrowed {
+        read,
+        written: read - counted.count_ones() as usize,
+    }
 }
 
 // Each byte, with 0x40 added where it comes after C3, so that a character's last byte is its number.

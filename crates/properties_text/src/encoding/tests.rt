@@ -3,9 +3,11 @@
 ghost use Rattle.std.specs.Prelude.{◌<◌};
 
 use super::byte_order_mark::{ByteOrderMark, byte_order_mark};
-use super::decode::{as_text, decode_line, push_decoded, push_text};
+use super::decode::as_text;
 use super::first_piece::first_piece;
 use super::*;
+use crate::single_lines::DecodeIter;
+use crate::single_lines::decode::{decode_line, push_decoded, push_text};
 use counted_io::{CountedRead, ScriptedReader, Tail};
 use std::alloc::{AllocError, Global};
 use std::borrow::CowStr;
@@ -126,13 +128,10 @@ fn encodes_up_to_what_lacks_a_byte(rt: HostRuntime) {
     let encoded = encode_run(&mut run, "sixteen bytes \u{e9}\u{3042}\u{e9}");
     assert_eq!(rt; &run[..encoded.length], b"sixteen bytes \xe9".as_slice());
     assert_eq!(rt; encoded.rest, "\u{3042}\u{e9}");
-    // And as far as there is room.
+    // And while there is room for sixteen bytes.
     let encoded = encode_run(&mut run, "\u{e9} and more than there is room for");
-    assert_eq!(rt;
-        &run[..encoded.length],
-        b"\xe9 and more than ther".as_slice()
-    );
-    assert_eq!(rt; encoded.rest, "e is room for");
+    assert_eq!(rt; &run[..encoded.length], b"\xe9 and more than".as_slice());
+    assert_eq!(rt; encoded.rest, " there is room for");
     // Characters that go on after a sixteenth byte, and one of the table.
     let mut run = [0; 64];
     let encoded = encode_run(

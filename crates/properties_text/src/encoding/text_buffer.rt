@@ -4,7 +4,7 @@ ghost use Rattle.std.specs.Prelude.{◌≡◌, ◌≤◌, ◌<◌, ◌++◌, Lis
 ghost use Rattle.std.specs.Str.{chars, IsUtf8, IsCharBoundary};
 ghost use Rattle.properties_text.specs.Decoding.{text_of, KeepsText};
 
-use super::run::decode_run;
+use super::decode::decode_run;
 use super::{Encoding, utf_8};
 use crate::room::{append, make_room};
 use std::alloc::{AllocError, Global};

@@ -1,9 +1,7 @@
 // Units of two bytes, eight and sixteen at once.
 
-ghost use Rattle.std.specs.Prelude.{◌≡◌, ◌+◌, ◌*◌, ◌<◌, ◌≤◌, ◌++◌, true, length, take, encode_utf8_all};
-ghost use Rattle.std.specs.List.{AllByRecursion};
-ghost use Rattle.std.specs.Str.{all_scalars};
-ghost use Rattle.properties_text.specs.Decoding.{units_of, lows_of, highs_of};
+ghost use Rattle.std.specs.Prelude.{◌≡◌, ◌+◌, ◌≤◌, ◌++◌, length};
+ghost use Rattle.properties_text.specs.Decoding.{units_of, lows_of, highs_of, PutsLatin1};
 
 use super::latin_1::{put_8, put_16};
 use super::utf_16::ByteOrder;
@@ -23,14 +21,7 @@ pub struct Written {
 pub fn put_latin_1(run: &mut [u8], at: usize, order: ByteOrder, v: u8x16, most: usize) -> Written
     requires room { at + 16 ≤ length run.old }
     requires most { most ≤ 8 }
-    ensures same_room { length run.new ≡ length run.old }
-    ensures within { result.units ≤ most }
-    ensures after { at ≤ result.end }
-    ensures end { result.end ≤ at + 2 * result.units }
-    ensures bytes { AllByRecursion (λ u. u < 0x100) (take result.units (units_of order v)) }
-    ensures scalars { all_scalars (take result.units (units_of order v)) ≡ true }
-    ensures text { let text = encode_utf8_all (take result.units (units_of order v)) in
-        take result.end run.new ≡ take at run.old ++ text }
+    ensures { PutsLatin1 (units_of order v) most run.old at run.new result }
 {
     let units = units(order, v);
     let past = units.simd_ge(u16x8::splat(0x100)).to_bitmask();
@@ -64,14 +55,7 @@ pub fn put_sixteen(
 ) -> Written
     requires room { at + 32 ≤ length run.old }
     requires most { most ≤ 16 }
-    ensures same_room { length run.new ≡ length run.old }
-    ensures within { result.units ≤ most }
-    ensures after { at ≤ result.end }
-    ensures end { result.end ≤ at + 2 * result.units }
-    ensures bytes { AllByRecursion (λ u. u < 0x100) (take result.units (units_of order (a ++ b))) }
-    ensures scalars { all_scalars (take result.units (units_of order (a ++ b))) ≡ true }
-    ensures text { let text = encode_utf8_all (take result.units (units_of order (a ++ b))) in
-        take result.end run.new ≡ take at run.old ++ text }
+    ensures { PutsLatin1 (units_of order (a ++ b)) most run.old at run.new result }
 {
     let halves = split_units(order, a, b);
     let past = halves.highs.simd_ge(u8x16::splat(1)).to_bitmask();

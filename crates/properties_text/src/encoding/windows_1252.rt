@@ -1,10 +1,14 @@
 // One byte a character.
 
-ghost use Rattle.std.specs.Prelude.{◌≡◌, ◌↔◌, IfSome, IsSome};
+ghost use Rattle.std.specs.Prelude.{◌≡◌, ◌↔◌, IfSome, IsSome, is_some};
 ghost use Rattle.std.specs.Str.{IsAscii};
 ghost use Rattle.properties_format.specs.Windows1252.{windows_1252_character, windows_1252_byte};
+ghost use Rattle.properties_text.specs.Decoding.{IsTextOfByte};
 
 use super::ascii::is_ascii;
+use texts::TEXTS;
+
+mod texts;
 
 // The characters of the bytes 80 to 9F.
 const HIGH: [char; 32] = [
@@ -25,6 +29,27 @@ pub fn character_of(byte: u8) -> char
     }
 }
 
+/// The character of a byte in UTF-8: bytes that begin with it, and how many it has.
+#[inline(always)]
+pub fn text_of_byte(byte: u8) -> ByteText
+    ensures { IsTextOfByte byte result }
+{
+    let bytes = TEXTS[usize::from(byte)];
+    ByteText {
+        bytes,
+        length: usize::from(bytes[3]),
+    }
+}
+
+/// The character of a byte in UTF-8.
+#[derive(Clone, Copy)]
+pub struct ByteText {
+    /// Its bytes, and others after them.
+    pub bytes: [u8; 4],
+    /// How many it has.
+    pub length: usize,
+}
+
 /// The bytes, where they are ASCII, which is UTF-8 as it stands.
 #[inline(always)]
 pub fn as_text(bytes: &[u8]) -> Option<&str>
@@ -35,6 +60,17 @@ pub fn as_text(bytes: &[u8]) -> Option<&str>
         Some(unsafe { str::from_utf8_unchecked(bytes) })
     } else {
         None
+    }
+}
+
+/// Whether a character has a byte. Of letters of other scripts that is known without a look at each.
+#[inline(always)]
+pub fn has_byte(character: char) -> bool
+    ensures { result ≡ is_some (windows_1252_byte character) }
+{
+    match character {
+        '\u{2dd}'..='\u{2012}' | '\u{2123}'..=char::MAX => false,
+        _ => byte_of(character).is_some(),
     }
 }
 

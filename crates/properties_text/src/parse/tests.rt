@@ -1,6 +1,7 @@
 // The slices of a line, with their escapes as they stand.
 
 use super::*;
+use crate::single_lines::parse::{ParsedLine, parse_line};
 use std::alloc::{AllocError, Global};
 use std::test::Fail;
 
@@ -84,6 +85,5 @@ fn counts_leading_blanks(rt: HostRuntime) {
     ];
     for (text, wanted) in rows {
         assert_eq!(rt; leading_blanks(text), wanted);
-        assert_eq!(rt; indentation(text), wanted);
     }
 }

@@ -6,12 +6,11 @@ ghost use Rattle.properties_text.specs.Printing.{AppendsOnOk, ArePrinted, spelt_
 use super::line_buffer::LineBuffer;
 use super::print_byte;
 use crate::room::make_room;
-use crate::vectors::{has_control, plain_front};
+use byte_blocks::{ByteClass, Controls, ends};
 use std::alloc::AllocError;
 use std::simd::prelude::*;
 use vectors::{put_16, put_ends};
 
-mod expand;
 mod vectors;
 
 // How many bytes are printed at once.
@@ -176,19 +175,15 @@ fn put_first(out: &mut [u8], bytes: &[u8]) -> Printed
 {
     if bytes.len() >= 16 {
         let v = u8x16::from_slice(bytes);
-        if !has_control(v) {
+        if Controls::marks(v).is_clear() {
             let read = (bytes.len() - 1) % 16 + 1;
             let written = put_16(out, 0, v, read);
             return Printed { read, written };
         }
     } else {
-        let second = bytes.len() - FEW;
-        let v: u8x16 = u8x8::from_slice(bytes).shuffle(
-            u8x8::from_slice(&bytes[second..]),
-            [0, 1, 2, 3, 4, 5, 6, 7, 8, 9, 10, 11, 12, 13, 14, 15],
-        );
-        if !has_control(v) {
-            let written = put_ends(out, v, second);
+        let v = ends(bytes);
+        if Controls::marks(v).is_clear() {
+            let written = put_ends(out, v, bytes.len() - FEW);
             return Printed {
                 read: bytes.len(),
                 written,
@@ -210,16 +205,16 @@ fn put_blocks(out: &mut [u8], bytes: &[u8], so_far: Printed) -> Printed
     let mut read = so_far.read;
     while bytes.len() - read >= 16 {
         let v = u8x16::from_slice(&bytes[read..]);
-        if has_control(v) {
+        if Controls::marks(v).is_clear() {
+            at = put_16(out, at, v, 16);
+            read += 16;
+        } else {
             let past = put_control(out, bytes, Printed { read, written: at });
             at = past.written;
             if past.read == read {
                 break;
             }
             read = past.read;
-        } else {
-            at = put_16(out, at, v, 16);
-            read += 16;
         }
     }
     Printed { read, written: at }
@@ -236,7 +231,7 @@ fn put_control(out: &mut [u8], bytes: &[u8], so_far: Printed) -> Printed
     ensures printed { ArePrinted bytes.now result out.new }
 {
     let v = u8x16::from_slice(&bytes[so_far.read..]);
-    let plain = plain_front(v);
+    let plain = Controls::marks(v).front();
     let at = put_16(out, so_far.written, v, plain);
     let read = so_far.read + plain;
     if read == bytes.len() || backslashes_before(bytes[read]) > 1 {

@@ -7,21 +7,20 @@ use Rattle.properties_text.specs.declared.print.Place.TheVariants.{KeyOrValue}
 use Rattle.properties_text.proofs.Printing.Bytes.{lacked-more}
 use Rattle.properties_text.proofs.print.print_lacking.Goals as goal
 
-pub loop-character-init : goal.loop-character-init
-loop-character-init c = record { utf8 = c.utf8.text; printed = refl; left = omega arith }
+pub loop-characters-init : goal.loop-characters-init
+loop-characters-init c = record { utf8 = c.utf8.text; printed = refl; left = omega arith }
 
-pub loop-character-preserved : goal.loop-character-preserved
-loop-character-preserved c =
-    let rest = c.loop-character.rest.now in
+pub loop-characters-preserved : goal.loop-characters-preserved
+loop-characters-preserved c =
+    let rest = c.loop-characters.rest.now in
     let after = c.next.new.self.rest.now in
-    let line = c.loop-character.line in
-    let held = c.loop-character.invariant in
+    let line = c.loop-characters.line in
+    let held = c.loop-characters.invariant in
     let parts = chars_past_char rest after c.in-Some.character held.utf8 (sym c.chars-characters.ensures.rest ∙ c.in-Some.ensures.steps.0) in
     let P : List ℕ → Type 0 = λ v. line ++ text_bytes all_of_windows_1252 KeyOrValue v ≡ c.args.line.now ++ text_bytes all_of_windows_1252 KeyOrValue (chars c.args.text.now) in
-    let lacked : is_some c.byte_of.result ≡ false = sym c.is_some.ensures ∙ c.if-is_some.false in
     record {
       utf8 = c.as_str-rest.utf8;
       printed = rw c.as_str-rest.ensures (lacked-more line c.print_escape.new.line _ (chars after) c.in-Some.character (subst P parts held.printed) (omega arith)
-          (ap is_some (sym c.byte_of.ensures) ∙ lacked) c.in_ok-print_escape.ensures);
+          (sym c.has_byte.ensures ∙ c.if-has_byte.false) c.in_ok-print_escape.ensures);
       left = search rules;
     }

@@ -7,12 +7,12 @@ use Rattle.properties_text.specs.declared.print.Place.TheVariants.{KeyOrValue}
 use Rattle.properties_text.proofs.print.print_lacking.Given as goal
 
 -- What was printed so far and what the rest is printed to are what the text is printed to.
-abbrev pub invariant-loop-character : goal.invariant-loop-character
-invariant-loop-character l = record {
+abbrev pub invariant-loop-characters : goal.invariant-loop-characters
+invariant-loop-characters l = record {
   utf8 : shadow (Utf8 l.rest);
   printed : l.line ++ text_bytes all_of_windows_1252 KeyOrValue (chars l.rest) ≡ l.fn.line ++ text_bytes all_of_windows_1252 KeyOrValue (chars l.text);
   left : length l.rest ≤ length l.text;
 }
 
-abbrev pub decreases-loop-character : goal.decreases-loop-character
-decreases-loop-character l = length l.rest
+abbrev pub decreases-loop-characters : goal.decreases-loop-characters
+decreases-loop-characters l = length l.rest

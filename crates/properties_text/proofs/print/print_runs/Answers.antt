@@ -1,32 +1,35 @@
-use Rattle.std.proofs.Common.{List, ℕ, ◌++◌, sym, ap, ◌∙◌, take, subst, rules}
+use Rattle.std.proofs.Common.{◌++◌, sym, ap, ◌∙◌, take, append-nil, rules}
 use Rattle.std.specs.Str.{chars}
-use Rattle.std.proofs.lemmas.Str.{chars-nil, chars_past_char}
+use Rattle.std.proofs.lemmas.Str.{chars-nil}
+use Rattle.std.proofs.lemmas.Bool.{eqb-true}
 use Rattle.std.proofs.lemmas.List.{nil_from_length}
-use Rattle.properties_text.specs.Encoding.{EncodesFront}
 use Rattle.properties_text.specs.Printing.{text_bytes, all_of_windows_1252}
 use Rattle.properties_text.specs.declared.print.Place.TheVariants.{KeyOrValue}
-use Rattle.properties_text.proofs.Printing.Bytes.{run-last, run-more}
+use Rattle.properties_text.proofs.Printing.Bytes.{run-front}
 use Rattle.properties_text.proofs.print.print_runs.Goals as goal
 
-pub returns-in-None : goal.returns-in-None
-returns-in-None c =
+pub loop-rest-preserved-then-encoded-rest : goal.loop-rest-preserved-then-encoded-rest
+loop-rest-preserved-then-encoded-rest c =
     let run = c.encode_run-encoded in
-    let bytes = take run.result.length run.new.run in
-    let text = chars c.loop-characters.rest.now in
-    let E : List ℕ → Type 0 = EncodesFront text bytes in
-    let empty = ap chars (sym c.chars-characters.ensures.rest ∙ nil_from_length _ c.in-None.ensures.steps.0.0) ∙ chars-nil in
-    run-last c.loop-characters.line _ _ text bytes c.loop-characters.invariant.1 (subst E empty run.ensures.encoded) c.in_ok-print_bytes.ensures
-
-pub loop-characters-preserved : goal.loop-characters-preserved
-loop-characters-preserved c =
-    let run = c.encode_run-encoded in
-    let bytes = take run.result.length run.new.run in
-    let text = chars c.loop-characters.rest.now in
-    let after = c.next.new.self.rest.now in
-    let parts = chars_past_char run.result.rest.now after c.in-Some.character run.ensures.is_text (sym c.chars-characters.ensures.rest ∙ c.in-Some.ensures.steps.0) in
-    let E : List ℕ → Type 0 = EncodesFront text bytes in
-    let printed = run-more c.loop-characters.line c.print_bytes.new.line c.print_in_key_or_value.new.line _ text bytes (chars after) c.in-Some.character c.loop-characters.invariant.1
-    (subst E parts run.ensures.encoded) c.in_ok-print_bytes.ensures c.in_ok-print_in_key_or_value-in-Some.ensures in (
-      search rules,
-      c.in_ok-rest-in-Some.ensures.printed ∙ ap (λ v. c.print_in_key_or_value.new.line ++ text_bytes all_of_windows_1252 KeyOrValue (chars v)) c.as_str.ensures ∙ printed,
+    let bytes = take run.result.length run.new.run in (
+      run.ensures.is_text,
+      run-front c.print_lacking.new.line c.print_bytes.new.line _ (chars c.in_ok-after.after.now) bytes (chars run.result.rest.now)
+          (c.in_ok-after.ensures.printed ∙ c.loop-rest.invariant.1) run.ensures.encoded c.in_ok-print_bytes.ensures,
     )
+
+pub loop-rest-preserved : goal.loop-rest-preserved
+loop-rest-preserved c =
+    let run = c.encode_run-encoded in
+    let bytes = take run.result.length run.new.run in (
+      search rules,
+      c.in_ok-rest.ensures.printed
+          ∙ run-front c.print_lacking.new.line c.print_bytes.new.line _ (chars c.in_ok-after.after.now) bytes (chars run.result.rest.now)
+          (c.in_ok-after.ensures.printed ∙ c.loop-rest.invariant.1) run.ensures.encoded c.in_ok-print_bytes.ensures,
+    )
+
+pub returns : goal.returns
+returns c =
+    let empty = ap chars (nil_from_length c.loop-rest.rest.now (eqb-true _ _ (sym c.loop-rest-test.ensures))) ∙ chars-nil in
+    sym (append-nil c.loop-rest.line)
+    ∙ ap (λ v. c.loop-rest.line ++ text_bytes all_of_windows_1252 KeyOrValue v) (sym empty)
+    ∙ c.loop-rest.invariant.1

@@ -7,9 +7,9 @@ use Rattle.properties_text.specs.declared.print.Place.TheVariants.{KeyOrValue}
 use Rattle.properties_text.proofs.print.print_runs.Given as goal
 
 -- What was printed so far and what the rest is printed to are what the text is printed to.
-abbrev pub invariant-loop-characters : goal.invariant-loop-characters
-invariant-loop-characters l =
+abbrev pub invariant-loop-rest : goal.invariant-loop-rest
+invariant-loop-rest l =
     shadow (Utf8 l.rest) × (l.line ++ text_bytes all_of_windows_1252 KeyOrValue (chars l.rest) ≡ l.fn.line ++ text_bytes all_of_windows_1252 KeyOrValue (chars l.text))
 
-abbrev pub decreases-loop-characters : goal.decreases-loop-characters
-decreases-loop-characters l = length l.rest
+abbrev pub decreases-loop-rest : goal.decreases-loop-rest
+decreases-loop-rest l = length l.rest

@@ -6,8 +6,8 @@ ghost use Rattle.properties_format.specs.Text.{backslash};
 ghost use Rattle.properties_format.specs.Printing.{is_special};
 ghost use Rattle.properties_text.specs.Printing.{with_backslashes};
 
-use super::expand::EXPAND;
-use crate::vectors::special_bits;
+use crate::lanes::LANES;
+use byte_blocks::{ByteClass, Specials};
 use std::simd::prelude::*;
 
 /// Prints sixteen bytes from this place on, and returns the place after the first `kept` of them.
@@ -19,7 +19,7 @@ pub fn put_16(out: &mut [u8], at: usize, v: u8x16, kept: usize) -> usize
     ensures within { result ≤ at + 2 * kept }
     ensures printed { take result out.new ≡ take at out.old ++ with_backslashes (take kept v) }
 {
-    let bits = special_bits(v);
+    let bits = Specials::marks(v).bits();
     let middle = put_8(out, at, front(v), bits % 256);
     put_8(out, middle, back(v), bits / 256);
     place_after(at, bits, kept)
@@ -34,7 +34,7 @@ pub fn put_ends(out: &mut [u8], v: u8x16, kept: usize) -> usize
     ensures within { result ≤ 2 * (kept + 8) }
     ensures printed { take result out.new ≡ with_backslashes (take kept v ++ drop 8 v) }
 {
-    let bits = special_bits(v);
+    let bits = Specials::marks(v).bits();
     put_8(out, 0, front(v), bits % 256);
     let middle = place_after(0, bits, kept);
     put_8(out, middle, back(v), bits / 256)
@@ -86,7 +86,7 @@ fn put_8(out: &mut [u8], at: usize, pair: u8x16, bits: u64) -> usize
     ensures within { result ≤ at + 16 }
     ensures printed { take result out.new ≡ take at out.old ++ with_backslashes (take 8 pair) }
 {
-    let lanes = u8x16::from_array(EXPAND[bits as usize]);
+    let lanes = u8x16::from_array(LANES[bits as usize]);
     pair.swizzle_dyn(lanes).copy_to_slice(&mut out[at..]);
     at + 8 + bits.count_ones() as usize
 }

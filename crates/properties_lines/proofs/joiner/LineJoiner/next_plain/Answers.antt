@@ -18,8 +18,8 @@ take_plain-requires-clause-held c =
     let P : ReaderState → Type 0 = λ v. IsHeldLine v (record { start = c.in_ok-start.start; end = plain.end }) in
     subst P state (held-line c.self.inside.finder.state c.in_ok-start.start plain c.in_ok-start.ensures one line)
 
-pub take_past_ascii-requires-clause-held : goal.take_past_ascii-requires-clause-held
-take_past_ascii-requires-clause-held c =
+pub take_unescaped-requires-clause-held : goal.take_unescaped-requires-clause-held
+take_unescaped-requires-clause-held c =
     let state = ap (λ v. let w : Joiner = v in w.state) c.self.view_is in
     let plain = c.in_ok-plain.plain in
     let line = subst (λ l. IsPlainLine l plain) c.held_from.ensures c.in_ok-plain.ensures in
@@ -38,8 +38,8 @@ take_plain-requires-clause-plain c =
     let P : ReaderState → Type 0 = λ v. IsTextLine v (take plain.end.at (drop c.in_ok-start.start v.held)) in
     subst P state (text-line c.self.inside.finder.state c.in_ok-start.start plain one line c.if-plain.true)
 
-pub take_past_ascii-requires-clause-unescaped : goal.take_past_ascii-requires-clause-unescaped
-take_past_ascii-requires-clause-unescaped c =
+pub take_unescaped-requires-clause-unescaped : goal.take_unescaped-requires-clause-unescaped
+take_unescaped-requires-clause-unescaped c =
     let state = ap (λ v. let w : Joiner = v in w.state) c.self.view_is in
     let plain = c.in_ok-plain.plain in
     let line = subst (λ l. IsPlainLine l plain) c.held_from.ensures c.in_ok-plain.ensures in

@@ -2,7 +2,8 @@
 
 use crate::single_lines::natural::{NaturalLine, NaturalLines};
 use counted_io::{ScriptedReader, Tail};
-use properties_text::encoding::{DecodeIter, Encoding};
+use properties_text::encoding::Encoding;
+use properties_text::single_lines::DecodeIter;
 use std::alloc::{AllocError, Global};
 use std::process::Abort;
 use std::test::Fail;

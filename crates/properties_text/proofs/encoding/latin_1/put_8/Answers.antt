@@ -1,18 +1,19 @@
 use Rattle.std.proofs.Common.{◌≤◌, arith, refl}
-use Rattle.properties_text.proofs.Latin1.{bits-below, row-below, first-scalars, put_8-is, put_few-is}
-use Rattle.properties_text.proofs.Printing.Vectors.{ones-first}
+use Rattle.properties_text.specs.Latin1.{is_past_ascii}
+use Rattle.properties_text.proofs.LaneTable.{bits-below, row-below, ones-first}
+use Rattle.properties_text.proofs.Latin1.{first-scalars, put_8-is, put_few-is}
 use Rattle.properties_text.proofs.encoding.latin_1.put_8.Goals as goal
 
 pub offset_bounds-bits : goal.offset_bounds-bits
 offset_bounds-bits c =
-    let small = bits-below c.args.v c.past_ascii_bits-bits.result c.fits-v.0 c.past_ascii_bits-bits.ensures in
+    let small = bits-below is_past_ascii c.args.v c.past_ascii_bits-bits.result c.fits-v.0 c.past_ascii_bits-bits.ensures in
     record { fits = omega arith }
 
 pub bounds-bits : goal.bounds-bits
-bounds-bits c = bits-below c.args.v c.past_ascii_bits-bits.result c.fits-v.0 c.past_ascii_bits-bits.ensures
+bounds-bits c = bits-below is_past_ascii c.args.v c.past_ascii_bits-bits.result c.fits-v.0 c.past_ascii_bits-bits.ensures
 
 pub swizzle : goal.swizzle
-swizzle c = row-below c.args.v c.past_ascii_bits-bits.result c.fits-v.0 c.past_ascii_bits-bits.ensures
+swizzle c = row-below is_past_ascii c.args.v c.past_ascii_bits-bits.result c.fits-v.0 c.past_ascii_bits-bits.ensures
 
 pub returns-clause-within : goal.returns-clause-within
 returns-clause-within c =

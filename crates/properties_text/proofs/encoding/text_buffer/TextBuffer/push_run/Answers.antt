@@ -8,8 +8,8 @@ pub returns-clause-text : goal.returns-clause-text
 returns-clause-text c =
     let run = c.decode_run-decoded in
     let room = c.deref_mut.ensures in
-    let bytes = with_items_is c.make_room.new.bytes run.new.run (run.ensures.same_room ∙ room.len) in
+    let bytes = with_items_is c.make_room.new.bytes run.new.run (run.ensures.front.same_room ∙ room.len) in
     let before = ap (take c.self.inside.filled) room.value ∙ c.in_ok-make_room.ensures.same ∙ c.self.view_is in
     ap (λ v. chars (take run.result.end v) ++ text_of c.args.encoding run.result.rest.now) bytes
-    ∙ run.ensures.text
+    ∙ run.ensures.front.text
     ∙ ap (λ v. chars v ++ text_of c.args.encoding c.args.bytes.now) before

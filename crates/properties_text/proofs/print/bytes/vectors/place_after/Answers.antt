@@ -1,5 +1,5 @@
 use Rattle.std.proofs.Common.{arith}
-use Rattle.properties_text.proofs.Printing.Vectors.{ones-first}
+use Rattle.properties_text.proofs.LaneTable.{ones-first}
 use Rattle.properties_text.proofs.print.bytes.vectors.place_after.Goals as goal
 
 pub overflow_add-result-2 : goal.overflow_add-result-2

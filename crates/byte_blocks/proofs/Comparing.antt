@@ -1,0 +1,82 @@
+-- What comparing sixteen bytes with others tells of each.
+use Rattle.std.proofs.Common.{◌≡◌, ◌<◌, ◌≤◌, ◌%◌, ◌^◌, ℕ, Bool, cond, eqb, leb, ltb, List, [], ◌∷◌, length, get_or, map, replicate, bit_and, w8, Fits, refl, sym, ap, ap₂, ◌∙◌, arith}
+use Rattle.std.specs.Simd.Lanes.{zip2, mask_l, top, pick_l, Each1}
+use Rattle.std.proofs.lemmas.Bool.{agree_below_at}
+use Rattle.std.proofs.lemmas.List.{length-map, map-id, ext_get_or, get_or-map}
+use Rattle.std.proofs.lemmas.Nat.{and_mask, and_le_r}
+use Rattle.std.proofs.lemmas.Simd.{bitmask_splat, tops_compared, mask_l-mod, zip2_splat, zip2_splat_left, zip2_of_maps, length-zip2, map-map, swz_l, SwzOk, SwzOk-from_below, Each1-get_or, Each1-all, Each1-zip2, Each2-splat, length-swz_l, get_or-swz_l_below}
+use Rattle.byte_blocks.specs.Classes.{stands_in, is_line_end, is_plain_end, is_blank, is_special}
+use Rattle.byte_blocks.specs.declared.classes.TheConstants.{LINE_ENDS, PLAIN_ENDS, BLANKS, SPECIALS}
+
+-- ---- with one byte
+
+pub equal-bits : (y : ℕ) (block : List ℕ) → length block ≡ 16
+    → mask_l (map (top 7) (zip2 (λ a b. cond (eqb a b) 255 0) block (replicate 16 y))) % 2 ^ 64 ≡ mask_l (map (λ b. eqb b y) block)
+equal-bits y block long = bitmask_splat w8 eqb block 16 y long (omega arith)
+
+pub below-bits : (y : ℕ) (block : List ℕ) → length block ≡ 16
+    → mask_l (map (top 7) (zip2 (λ a b. cond (ltb a b) 255 0) block (replicate 16 y))) % 2 ^ 64 ≡ mask_l (map (λ b. ltb b y) block)
+below-bits y block long = bitmask_splat w8 ltb block 16 y long (omega arith)
+
+pub at_least-bits : (y : ℕ) (block : List ℕ) → length block ≡ 16
+    → mask_l (map (top 7) (zip2 (λ a b. cond (leb a b) 255 0) (replicate 16 y) block)) % 2 ^ 64 ≡ mask_l (map (leb y) block)
+at_least-bits y block long =
+    ap (λ l. mask_l l % 2 ^ 64) (tops_compared w8 leb (replicate 16 y) block ∙ zip2_splat_left leb y 16 block long)
+    ∙ mask_l-mod (map (leb y) block) 64 (omega (arith, length-map block (leb y), long))
+
+-- ---- with the bytes of a table
+
+-- the low four bits of each byte
+abbrev low : List ℕ → List ℕ
+low block = zip2 bit_and block (replicate 16 15)
+
+low-each : (block : List ℕ) → Each1 (λ j. j < 16) (low block)
+low-each block = Each1-zip2 bit_and (λ j. j < 16) block (replicate 16 15) (Each2-splat (λ a b. bit_and a b < 16) block 16 15 (Each1-all (λ a. bit_and a 15 < 16) (λ a. omega (arith, and_le_r a 15)) block))
+
+pub low-below : (block : List ℕ) → length block ≡ 16 → SwzOk w8 16 16 0 (low block)
+low-below block long = SwzOk-from_below w8 16 1 16 0 (low block) refl (omega (arith, length-zip2 bit_and block (replicate 16 15) long)) (low-each block)
+
+-- lanes below 16, swizzled from a vector of 16
+pub swizzled : (xs lanes : List ℕ) → length lanes ≤ 16 → Each1 (λ j. j < 16) lanes → swz_l w8 16 xs 0 lanes ≡ pick_l 0 xs lanes
+swizzled xs lanes le below =
+    ext_get_or 0 (swz_l w8 16 xs 0 lanes) (pick_l 0 xs lanes) (length-swz_l w8 16 xs 0 lanes ∙ sym (length-map lanes (λ k. get_or xs k 0))) (λ m lt.
+    let within : m < length lanes = omega (arith, length-swz_l w8 16 xs 0 lanes) in
+    let small = Each1-get_or (λ j. j < 16) lanes m 0 within below in
+    get_or-swz_l_below w8 16 xs 0 lanes m within small
+    ∙ ap (λ n. get_or xs n 0) (omega arith)
+    ∙ sym (get_or-map (λ k. get_or xs k 0) lanes m 0 0 within))
+
+pub table-bits : (table block : List ℕ) → length block ≡ 16
+    → mask_l (map (top 7) (zip2 (λ a b. cond (eqb a b) 255 0) block (swz_l w8 16 table 0 (low block)))) % 2 ^ 64 ≡ mask_l (map (stands_in table) block)
+table-bits table block long =
+    let near = λ (b : ℕ). get_or table (b % 16) 0 in
+    let nibbles : low block ≡ map (λ b. b % 16) block = zip2_splat bit_and block 16 15 long ∙ masked block in
+    let found : swz_l w8 16 table 0 (low block) ≡ map near block =
+    swizzled table (low block) (omega (arith, length-zip2 bit_and block (replicate 16 15) long)) (low-each block)
+    ∙ ap (map (λ k. get_or table k 0)) nibbles ∙ map-map (λ k. get_or table k 0) (λ b. b % 16) block in
+    ap (λ l. mask_l l % 2 ^ 64)
+    (tops_compared w8 eqb block (swz_l w8 16 table 0 (low block))
+    ∙ zip2_of_maps eqb (λ b. b) near block (sym (map-id block)) found)
+    ∙ mask_l-mod (map (stands_in table) block) 64 (omega (arith, length-map block (stands_in table), long))
+  where
+    masked : (block : List ℕ) → map (λ b. bit_and b 15) block ≡ map (λ b. b % 16) block
+    masked [] = refl
+    masked (b ∷ block) = ap₂ (λ x xs. x ∷ xs) (and_mask b 4) (masked block)
+
+-- ---- which bytes the tables have
+
+each-same : (p q : ℕ → Bool) (block : List ℕ) → ((b : ℕ) → b < 256 → p b ≡ q b) → Each1 (Fits w8) block → map p block ≡ map q block
+each-same p q [] same fits = refl
+each-same p q (b ∷ block) same fits = ap₂ (λ x xs. x ∷ xs) (same b fits.0.fits) (each-same p q block same fits.1)
+
+pub line_ends-table : (block : List ℕ) → Each1 (Fits w8) block → map (stands_in LINE_ENDS) block ≡ map is_line_end block
+line_ends-table block = each-same (stands_in LINE_ENDS) is_line_end block (λ b small. agree_below_at (stands_in LINE_ENDS) is_line_end 256 b refl small)
+
+pub plain_ends-table : (block : List ℕ) → Each1 (Fits w8) block → map (stands_in PLAIN_ENDS) block ≡ map is_plain_end block
+plain_ends-table block = each-same (stands_in PLAIN_ENDS) is_plain_end block (λ b small. agree_below_at (stands_in PLAIN_ENDS) is_plain_end 256 b refl small)
+
+pub blanks-table : (block : List ℕ) → Each1 (Fits w8) block → map (stands_in BLANKS) block ≡ map is_blank block
+blanks-table block = each-same (stands_in BLANKS) is_blank block (λ b small. agree_below_at (stands_in BLANKS) is_blank 256 b refl small)
+
+pub specials-table : (block : List ℕ) → Each1 (Fits w8) block → map (stands_in SPECIALS) block ≡ map is_special block
+specials-table block = each-same (stands_in SPECIALS) is_special block (λ b small. agree_below_at (stands_in SPECIALS) is_special 256 b refl small)

@@ -1,0 +1,30 @@
+-- Which bytes the classes hold.
+use Rattle.std.specs.Prelude.{ℕ, ◌==◌, ◌||◌, ◌%◌, nat_le, nat_lt, Bool, List, get_or}
+
+-- a CR or an LF
+abbrev pub is_line_end : ℕ → Bool
+is_line_end b = b == 0x0a || b == 0x0d
+
+-- a line end or a backslash
+abbrev pub is_plain_end : ℕ → Bool
+is_plain_end b = is_line_end b || b == 0x5c
+
+-- a space, a tab or a form feed
+abbrev pub is_blank : ℕ → Bool
+is_blank b = b == 0x20 || (b == 0x09 || b == 0x0c)
+
+-- a backslash, a space, an equals sign, a colon, a number sign or an exclamation mark
+abbrev pub is_special : ℕ → Bool
+is_special b = b == 0x5c || (b == 0x20 || ((b == 0x3d || b == 0x3a) || (b == 0x23 || b == 0x21)))
+
+-- a byte below the space
+abbrev pub is_control : ℕ → Bool
+is_control b = nat_lt b 0x20
+
+-- a byte of no ASCII character
+abbrev pub is_past_ascii : ℕ → Bool
+is_past_ascii b = nat_le 0x80 b
+
+-- the byte that stands in a table of sixteen at the place of its own low four bits
+abbrev pub stands_in : List ℕ → ℕ → Bool
+stands_in table b = b == get_or table (b % 16) 0

@@ -1,0 +1,17 @@
+-- Marks of bytes, in order: true where a byte is marked.
+use Rattle.std.specs.Prelude.{◌≡◌, ℕ, zero, suc, ◌/◌, ◌%◌, ◌<◌, ◌==◌, Bool, List, [], ◌∷◌, Option, Some, None, length}
+use Rattle.std.specs.List.{position_or_len}
+
+-- the lowest n bits of a number, the lowest first
+unfoldable pub lowest_bits : ℕ → ℕ → List Bool
+lowest_bits zero number = []
+lowest_bits (suc n) number = (number % 2 == 1) ∷ lowest_bits n (number / 2)
+
+-- how many places there are before the first mark, or altogether where there is no mark
+abbrev pub clear_front : List Bool → ℕ
+clear_front marks = position_or_len (λ is_marked. is_marked) marks
+
+-- the place of the first mark, where there is one
+abbrev pub IsFirstMark : List Bool → Option ℕ → Type 0
+IsFirstMark marks None = clear_front marks ≡ length marks
+IsFirstMark marks (Some place) = (clear_front marks ≡ place) × (place < length marks)

@@ -1,0 +1,205 @@
+// Classes of bytes.
+
+ghost use Rattle.std.specs.Prelude.{◌≡◌, ◌==◌, ◌||◌, ℕ, Bool, not, map};
+ghost use Rattle.byte_blocks.specs.Classes.{is_line_end, is_plain_end, is_blank, is_special, is_control, is_past_ascii, stands_in};
+
+use super::marks::Marks;
+use std::marker::PhantomData;
+use std::simd::prelude::*;
+
+/// A class of bytes: a test that sixteen bytes are put to at once.
+pub trait ByteClass {
+    ghost holds: { ℕ → Bool };
+
+    /// The bytes of the block that are of the class.
+    fn marks(block: u8x16) -> Marks
+        ensures { result ≡ map holds block };
+
+    /// Whether a byte is of the class.
+    fn contains(byte: u8) -> bool
+        ensures { result ≡ holds byte };
+}
+
+/// The bytes that stand in the table at the place of their own low four bits.
+///
+/// A class whose bytes differ in these bits is such a table. Where it has no byte at a place, any byte that belongs
+/// elsewhere stands there.
+#[inline(always)]
+pub fn table_marks(block: u8x16, table: [u8; 16]) -> Marks
+    ensures { result ≡ map (stands_in table) block }
+{
+    let low = block & u8x16::splat(15);
+    Marks::from_bits(
+        block
+            .simd_eq(u8x16::from_array(table).swizzle_dyn(low))
+            .to_bitmask(),
+    )
+}
+
+/// One byte.
+pub struct Byte<const BYTE: u8>;
+
+impl<const BYTE: u8> ByteClass for Byte<BYTE> {
+    ghost holds = { λ b. b == BYTE };
+
+    #[inline(always)]
+    fn marks(block: u8x16) -> Marks {
+        Marks::from_bits(block.simd_eq(u8x16::splat(BYTE)).to_bitmask())
+    }
+
+    #[inline(always)]
+    fn contains(byte: u8) -> bool {
+        byte == BYTE
+    }
+}
+
+/// The CR and the LF.
+pub struct LineEnds;
+
+static LINE_ENDS: [u8; 16] = [1, 0, 0, 0, 0, 0, 0, 0, 0, 0, b'\n', 0, 0, b'\r', 0, 0];
+
+impl ByteClass for LineEnds {
+    ghost holds = { is_line_end };
+
+    #[inline(always)]
+    fn marks(block: u8x16) -> Marks {
+        table_marks(block, LINE_ENDS)
+    }
+
+    #[inline(always)]
+    fn contains(byte: u8) -> bool {
+        matches!(byte, b'\n' | b'\r')
+    }
+}
+
+/// The CR, the LF and the backslash.
+pub struct PlainEnds;
+
+static PLAIN_ENDS: [u8; 16] = [1, 0, 0, 0, 0, 0, 0, 0, 0, 0, b'\n', 0, b'\\', b'\r', 0, 0];
+
+impl ByteClass for PlainEnds {
+    ghost holds = { is_plain_end };
+
+    #[inline(always)]
+    fn marks(block: u8x16) -> Marks {
+        table_marks(block, PLAIN_ENDS)
+    }
+
+    #[inline(always)]
+    fn contains(byte: u8) -> bool {
+        matches!(byte, b'\n' | b'\r' | b'\\')
+    }
+}
+
+/// The space, the tab and the form feed.
+pub struct Blanks;
+
+static BLANKS: [u8; 16] = [b' ', 0, 0, 0, 0, 0, 0, 0, 0, b'\t', 0, 0, b'\x0c', 0, 0, 0];
+
+impl ByteClass for Blanks {
+    ghost holds = { is_blank };
+
+    #[inline(always)]
+    fn marks(block: u8x16) -> Marks {
+        table_marks(block, BLANKS)
+    }
+
+    #[inline(always)]
+    fn contains(byte: u8) -> bool {
+        matches!(byte, b' ' | b'\t' | b'\x0c')
+    }
+}
+
+/// The printable characters that have a meaning of their own in a properties file: the space, the signs `!`, `#`, `:` and
+/// `=`, and the backslash.
+pub struct Specials;
+
+static SPECIALS: [u8; 16] = [
+    b' ', b'!', 0, b'#', 0, 0, 0, 0, 0, 0, b':', 0, b'\\', b'=', 0, 0,
+];
+
+impl ByteClass for Specials {
+    ghost holds = { is_special };
+
+    #[inline(always)]
+    fn marks(block: u8x16) -> Marks {
+        table_marks(block, SPECIALS)
+    }
+
+    #[inline(always)]
+    fn contains(byte: u8) -> bool {
+        matches!(byte, b' ' | b'!' | b'#' | b':' | b'=' | b'\\')
+    }
+}
+
+/// The control characters of ASCII but for the last: the bytes below the space.
+pub struct Controls;
+
+impl ByteClass for Controls {
+    ghost holds = { is_control };
+
+    #[inline(always)]
+    fn marks(block: u8x16) -> Marks {
+        Marks::from_bits(block.simd_lt(u8x16::splat(b' ')).to_bitmask())
+    }
+
+    #[inline(always)]
+    fn contains(byte: u8) -> bool {
+        byte < b' '
+    }
+}
+
+/// The bytes that are no ASCII characters.
+pub struct PastAscii;
+
+impl ByteClass for PastAscii {
+    ghost holds = { is_past_ascii };
+
+    #[inline(always)]
+    fn marks(block: u8x16) -> Marks {
+        Marks::from_bits(block.simd_ge(u8x16::splat(0x80)).to_bitmask())
+    }
+
+    #[inline(always)]
+    fn contains(byte: u8) -> bool {
+        byte >= 0x80
+    }
+}
+
+/// The bytes of one class or of the other. Both tests are made of one load.
+pub struct Either<A, B> {
+    of: PhantomData<(A, B)>,
+}
+
+impl<A: ByteClass, B: ByteClass> ByteClass for Either<A, B> {
+    ghost holds = { λ b. A.holds b || B.holds b };
+
+    #[inline(always)]
+    fn marks(block: u8x16) -> Marks {
+        A::marks(block).or(B::marks(block))
+    }
+
+    #[inline(always)]
+    fn contains(byte: u8) -> bool {
+        A::contains(byte) || B::contains(byte)
+    }
+}
+
+/// The bytes that are not of the class.
+pub struct Except<C> {
+    of: PhantomData<C>,
+}
+
+impl<C: ByteClass> ByteClass for Except<C> {
+    ghost holds = { λ b. not (C.holds b) };
+
+    #[inline(always)]
+    fn marks(block: u8x16) -> Marks {
+        C::marks(block).complement()
+    }
+
+    #[inline(always)]
+    fn contains(byte: u8) -> bool {
+        !C::contains(byte)
+    }
+}

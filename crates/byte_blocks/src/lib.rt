@@ -1,0 +1,31 @@
+//! Classes of bytes, sixteen bytes at once: which bytes are of a class, and where the first of them stands.
+//!
+//! A [`ByteClass`] puts a byte to a test, or a block of sixteen. [`Byte`] is the class of one byte; line ends, blanks,
+//! control characters and others have classes of their own; [`Either`] and [`Except`] make classes of others, and a
+//! class of your own is one call of [`table_marks`]. So a reader of CSV finds the end of a field:
+//!
+//! ```text
+//! type FieldEnds = Either<Byte<b','>, LineEnds>;
+//!
+//! let end = find::<FieldEnds>(b"one,two\n"); // Some(3)
+//! ```
+//!
+//! [`find`] searches bytes of any length. A loop that looks at its last bytes singly anyway is faster over
+//! [`find_in_block`], and where two classes are of interest, over the [`Marks`] that each gives for the same block.
+#![tactic(auto)]
+
+mod classes;
+mod marks;
+mod search;
+mod short;
+
+pub use classes::{
+    Blanks, Byte, ByteClass, Controls, Either, Except, LineEnds, PastAscii, PlainEnds, Specials,
+    table_marks,
+};
+pub use marks::Marks;
+pub use search::{find, find_in_block};
+pub use short::ends;
+
+#[cfg(test)]
+mod tests;

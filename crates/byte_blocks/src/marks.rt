@@ -1,0 +1,106 @@
+// The answers of a test of sixteen bytes.
+
+ghost use Rattle.std.specs.Prelude.{◌≡◌, ◌<◌, ◌≤◌, ◌↔◌, ◌||◌, true, not, map};
+ghost use Rattle.std.specs.Simd.Lanes.{mask_l, zip2};
+ghost use Rattle.byte_blocks.specs.Marks.{lowest_bits, clear_front, IsFirstMark};
+
+use std::marker::Model;
+
+/// Sixteen bytes, each of which is marked or isn't.
+#[derive(Clone, Copy)]
+pub struct Marks {
+    bits: u64,
+}
+
+impl Model for Marks {
+    ghost use Rattle.std.proofs.Common.{◌<◌, List, Bool, ap};
+    ghost use Rattle.std.specs.Simd.Lanes.{mask_l};
+    ghost use Rattle.byte_blocks.specs.Marks.{lowest_bits};
+    ghost use Rattle.byte_blocks.specs.Bits.{mask-of_bits};
+
+    ghost Value = { List Bool };
+
+    ghost view = { λ m. lowest_bits 16 m.bits };
+
+    ghost invariant = { λ m. m.bits < 0x1_0000 };
+
+    ghost inverse = { λ l. record { bits = mask_l l } };
+
+    ghost inverse_ok = { λ a small. ap (λ n. record { bits = n }) (mask-of_bits 16 a.bits small) };
+}
+
+impl Marks {
+    /// Byte i is marked where bit i is set.
+    #[inline(always)]
+    pub fn from_bits(bits: u64) -> Self
+        requires { bits < 0x1_0000 }
+        ensures { result ≡ lowest_bits 16 bits }
+    {
+        Marks { bits }
+    }
+
+    /// Bit i is set where byte i is marked.
+    #[inline(always)]
+    pub fn bits(self) -> u64
+        ensures { result ≡ mask_l self }
+    {
+        self.bits
+    }
+
+    /// What either marks.
+    #[inline(always)]
+    pub fn or(self, other: Marks) -> Self
+        ensures { result ≡ zip2 (λ a b. a || b) self other }
+    {
+        Marks {
+            bits: self.bits | other.bits,
+        }
+    }
+
+    /// What isn't marked.
+    #[inline(always)]
+    pub fn complement(self) -> Self
+        ensures { result ≡ map not self }
+    {
+        Marks {
+            bits: 0xffff - self.bits,
+        }
+    }
+
+    /// The place of the first mark.
+    #[inline(always)]
+    pub fn first(self) -> Option<usize>
+        ensures { IsFirstMark self result }
+    {
+        if self.bits == 0 {
+            return None;
+        }
+        Some(self.bits.trailing_zeros() as usize)
+    }
+
+    /// How many bytes stand before the first mark: all sixteen where none is marked.
+    #[inline(always)]
+    pub fn front(self) -> usize
+        ensures value { result ≡ clear_front self }
+        ensures within { result ≤ 16 }
+    {
+        (self.bits.trailing_zeros() as usize).min(16)
+    }
+
+    /// Whether no byte is marked.
+    #[inline(always)]
+    pub fn is_clear(self) -> bool
+        ensures { (result ≡ true) ↔ 16 ≤ clear_front self }
+    {
+        self.bits == 0
+    }
+
+    /// Whether none of the first `count` bytes is marked.
+    #[inline(always)]
+    pub fn is_clear_before(self, count: usize) -> bool
+        requires { count ≤ 16 }
+        ensures { (result ≡ true) ↔ count ≤ clear_front self }
+    {
+        count <= self.bits.trailing_zeros() as usize
+    }
+}

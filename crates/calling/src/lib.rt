@@ -1,0 +1,16 @@
+//! What callers write. docs/CALLING.md shows these texts and explains them.
+#![tactic(auto)]
+
+pub mod catalogue;
+pub mod compare;
+pub mod convert;
+pub mod count;
+pub mod edit;
+pub mod find;
+pub mod greetings;
+pub mod lint;
+pub mod load;
+pub mod lookup;
+pub mod migrate;
+pub mod ordered;
+pub mod settings;

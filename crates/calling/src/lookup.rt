@@ -1,0 +1,56 @@
+// The last value of a key, proved to be the one that the map of the input has.
+
+ghost use Rattle.std.specs.Prelude.{◌≡◌, IfOk};
+ghost use Rattle.std.specs.Option.{option_map};
+ghost use Rattle.std.specs.Str.{chars};
+ghost use Rattle.counted_io.specs.Streams.{IsSameReader};
+ghost use Rattle.java_properties.specs.Maps.{value_at};
+ghost use Rattle.calling.specs.Lookups.{lent_characters, FindsValue};
+
+use counted_io::CountedRead;
+use java_properties::{PropertiesError, read};
+use std::alloc::Global;
+use std::collections::HashMap;
+
+/// The last value of a key in an input in windows-1252, or `None` where no pair has it.
+pub fn lookup<R: CountedRead>(
+    alloc: Global,
+    input: &mut R,
+    key: &str,
+) -> Result<Option<String>, PropertiesError>
+    ensures finds { IfOk result (λ found.
+        FindsValue R.CountedRead input.old (chars key.now) found input.new) }
+    ensures same_reader { IsSameReader R.CountedRead input.old input.new }
+{
+    let map = read(alloc, input)?;
+    match value_of(&map, key) {
+        Some(value) => Ok(Some(String::from_str(alloc, value.as_str())?)),
+        None => Ok(None),
+    }
+}
+
+// What a map has at a key: the lemma says that `get`, which looks for bytes, finds what the map has at their characters.
+#[tactic(auto, using(java_properties::proofs::TextMaps::Values::value_at_text))]
+fn value_of<'a>(map: &'a HashMap<String, String>, key: &str) -> Option<&'a String>
+    ensures { option_map lent_characters result ≡ value_at map.now.entries (chars key.now) }
+{
+    map.get(key)
+}
+
+#[cfg(test)]
+mod tests {
+    use super::*;
+    use std::test::Fail;
+
+    #[test]
+    fn looks_up_the_last_value(rt: HostRuntime) -> Result<(), Fail> {
+        let alloc = rt.alloc();
+        let text = b"caf\\u00e9 = 1\nb = 2\ncaf\xe9 = 3\n";
+        let mut input: &[u8] = text;
+        let found = lookup(alloc, &mut input, "caf\u{e9}")?;
+        assert_eq!(rt; found.as_deref(), Some("3"));
+        let mut input: &[u8] = text;
+        assert!(rt; lookup(alloc, &mut input, "c")?.is_none());
+        Ok(())
+    }
+}

@@ -1,0 +1,20 @@
+use Rattle.std.proofs.Common.{◌≡◌, ◌≤◌, ◌+◌, ◌*◌, ◌++◌, length, take}
+use Rattle.std.specs.Str.{chars, IsUtf8}
+use Rattle.properties_text.specs.Decoding.{text_of}
+use Rattle.properties_text.specs.declared.encoding.Encoding.TheVariants.{WINDOWS_1252}
+use Rattle.properties_text.proofs.encoding.decode.decode_blocks.Given as goal
+
+-- The text so far and the text of the rest are those of all bytes.
+abbrev pub invariant-loop-rest : goal.invariant-loop-rest
+invariant-loop-rest l = record {
+  same_room : length l.run ≡ length l.fn.run;
+  within : l.at ≤ length l.run;
+  onwards : l.start ≤ l.at;
+  left : length l.rest ≤ length l.bytes;
+  shorter : l.at + 4 * length l.rest ≤ l.start + 4 * length l.bytes;
+  is_text : IsUtf8 (take l.at l.run);
+  text : chars (take l.at l.run) ++ text_of WINDOWS_1252 l.rest ≡ chars (take l.start l.fn.run) ++ text_of WINDOWS_1252 l.bytes;
+}
+
+abbrev pub decreases-loop-rest : goal.decreases-loop-rest
+decreases-loop-rest l = length l.rest

@@ -1,0 +1,18 @@
+use Rattle.std.proofs.Common.{◌≡◌, ◌≤◌, ◌+◌, ◌*◌, ◌++◌, length, take}
+use Rattle.std.specs.Str.{chars, IsUtf8}
+use Rattle.properties_text.specs.Decoding.{text_of}
+use Rattle.properties_text.proofs.encoding.decode.decode_run_of.Given as goal
+
+-- The text so far and the text of the rest are those of all bytes.
+abbrev pub invariant-loop-first : goal.invariant-loop-first
+invariant-loop-first l = record {
+  same_room : length l.run ≡ length l.fn.run;
+  within : l.at ≤ length l.run;
+  onwards : l.start ≤ l.at;
+  left : l.at + 4 * length l.rest ≤ l.start + 4 * length l.bytes;
+  is_text : IsUtf8 (take l.at l.run);
+  text : chars (take l.at l.run) ++ text_of l.encoding l.rest ≡ chars (take l.start l.fn.run) ++ text_of l.encoding l.bytes;
+}
+
+abbrev pub decreases-loop-first : goal.decreases-loop-first
+decreases-loop-first l = length l.rest
