@@ -14,7 +14,7 @@ sys.dont_write_bytecode = True
 from wrap import wrapped
 
 TOP = pathlib.Path(__file__).resolve().parent.parent
-CRATES = ["java_properties", "counted_io", "properties_text", "properties_lines"]
+CRATES = ["java_properties", "counted_io", "properties_text", "properties_lines", "byte_blocks"]
 ITEM = re.compile(r"^(    )?pub (const fn|fn|struct|enum|trait|const|mod|use)\b")
 
 
@@ -25,18 +25,30 @@ def files(crate):
     return sorted(found, key=lambda path: path.name != "lib.rt")
 
 
+def uses(path, source):
+    """The names that a file hands on, each with the file of the module that it has them from."""
+    folder = source if path.stem == "lib" else path.with_suffix("")
+    for use in re.findall(r"^pub use ([^;]+);", path.read_text(), re.M):
+        modules, group = re.match(r"((?:\w+::)*)(.*)", use, re.S).groups()
+        top = source if modules.startswith("crate::") else folder
+        of = (top / modules.removeprefix("crate::").replace("::", "/")).with_suffix(".rt")
+        yield from ((name, of) for name in re.findall(r"(\w+)\s*(?:,|\}|$)", group))
+
+
 def exported(crate):
-    """The names that the root of the crate and its public modules hand on, and the files of these modules."""
+    """The names that the root of the crate and its public modules hand on, each with its file, and the files of these modules."""
     source = TOP / "crates" / crate / "src"
     names, pages, left = set(), set(), [source / "lib.rt"]
     while left:
         path = left.pop()
         pages.add(path)
-        text = path.read_text()
-        for group in re.findall(r"^pub use ([^;]+);", text, re.M):
-            names.update(re.findall(r"(\w+)\s*(?:,|\}|$)", group))
+        for name, of in uses(path, source):
+            # A module may hand on what it has from another.
+            while of and of.exists():
+                names.add((name, of))
+                of = dict(uses(of, source)).get(name)
         folder = source if path.stem == "lib" else path.with_suffix("")
-        left += [folder / (module + ".rt") for module in re.findall(r"^pub mod (\w+);", text, re.M)]
+        left += [folder / (module + ".rt") for module in re.findall(r"^pub mod (\w+);", path.read_text(), re.M)]
     return names, pages
 
 
@@ -131,7 +143,7 @@ def entries(crate):
             if public[1]:
                 if inside:
                     methods.setdefault(inside, []).append("    " + signature(lines, at) + ";")
-            elif name in names or path in pages:
+            elif (name, path) in names or path in pages:
                 text = [signature(lines, at)] if public[2].endswith("fn") else fields(lines, at)
                 items[name] = text
     return items, methods, implements

@@ -1,3 +1,6 @@
 pub mod Marking
 pub mod Comparing
 pub mod Searching
+pub mod Rows
+pub mod Spreading
+pub mod Squeezing

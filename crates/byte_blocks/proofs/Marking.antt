@@ -90,6 +90,14 @@ zeros-front number marks view small = elim (zeros number marks view small) [
   | inr h ↦ omega (arith, h.1, h.2)
 ]
 
+-- no more than so many of them
+pub zeros-front_of : (number count : ℕ) (marks : List Bool) → lowest_bits 16 number ≡ marks → number < 0x1_0000 → count ≤ 16
+    → min (count_trailing_zeros 64 number) count ≡ min (clear_front marks) count
+zeros-front_of number count marks view small few = elim (zeros number marks view small) [
+  | inl h ↦ omega (arith, few, h.1, h.2)
+  | inr h ↦ omega (arith, h.1, h.2)
+]
+
 pub zero-is_clear : (number : ℕ) (marks : List Bool) → lowest_bits 16 number ≡ marks → number < 0x1_0000 → (eqb number 0 ≡ true) ↔ (16 ≤ clear_front marks)
 zero-is_clear number marks view small = elim (zeros number marks view small) [
   | inl h ↦ (λ e. omega (arith, h.2), λ all. h.0)
@@ -184,19 +192,13 @@ clear-before test block marks n is le =
     let small : k < n = omega (arith, inside, length-take n block) in
     ap test (get_or-take n block k 0 small) ∙ fails-before test block marks n is le k small)
 
--- And by the number behind the marks.
-pub fails-before_bit : (test : ℕ → Bool) (block : List ℕ) (number n : ℕ) → length block ≡ 16 → number ≡ mask_l (map test block) → n ≤ 16 → n ≤ count_trailing_zeros 64 number
-    → (k : ℕ) → k < n → test (get_or block k 0) ≡ false
-fails-before_bit test block number n long is few le =
-    let view = marks-of_test test block number long is in
-    let small = below-of_test test block number long is in
-    fails-before test block (map test block) n refl ((zeros-clear_before number n (map test block) view small few).0 (le-leb n (count_trailing_zeros 64 number) le))
-
 -- Where none passes, all sixteen stand before it.
 pub clear-all : (test : ℕ → Bool) (block : List ℕ) (marks : List Bool) → length block ≡ 16 → marks ≡ map test block → All (λ b. test b ≡ false) block → 16 ≤ clear_front marks
 clear-all test block marks long is fails =
     let all : position_or_len test block ≡ 16 =
-    position_or_len_is test block 16 0 (omega (arith, long)) (λ k small. All-get_or (λ b. test b ≡ false) block k 0 (omega (arith, small, long)) fails) (λ inside. absurd (omega (arith, inside, long))) in
+    position_or_len_is test block 16 0 (omega (arith, long))
+    (λ k small. All-get_or (λ b. test b ≡ false) block k 0 (omega (arith, small, long)) fails)
+    (λ inside. absurd (omega (arith, inside, long))) in
     omega (arith, all, ap clear_front is ∙ front-map test block)
 
 -- A fact of the bytes up to a block, and of some bytes of it, is a fact of all of these.

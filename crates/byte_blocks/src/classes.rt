@@ -1,6 +1,6 @@
 // Classes of bytes.
 
-ghost use Rattle.std.specs.Prelude.{◌≡◌, ◌==◌, ◌||◌, ℕ, Bool, not, map};
+ghost use Rattle.std.specs.Prelude.{◌≡◌, ◌==◌, ◌||◌, ◌&&◌, ℕ, nat_le, Bool, not, map};
 ghost use Rattle.byte_blocks.specs.Classes.{is_line_end, is_plain_end, is_blank, is_special, is_control, is_past_ascii, stands_in};
 
 use super::marks::Marks;
@@ -50,6 +50,45 @@ impl<const BYTE: u8> ByteClass for Byte<BYTE> {
     #[inline(always)]
     fn contains(byte: u8) -> bool {
         byte == BYTE
+    }
+}
+
+/// The bytes from this one on.
+pub struct AtLeast<const BYTE: u8>;
+
+impl<const BYTE: u8> ByteClass for AtLeast<BYTE> {
+    ghost holds = { λ b. nat_le BYTE b };
+
+    #[inline(always)]
+    fn marks(block: u8x16) -> Marks {
+        Marks::from_bits(block.simd_ge(u8x16::splat(BYTE)).to_bitmask())
+    }
+
+    #[inline(always)]
+    fn contains(byte: u8) -> bool {
+        byte >= BYTE
+    }
+}
+
+/// The bytes from the first of these on, up to the last. There are none where the last comes before the first.
+pub struct Within<const FIRST: u8, const LAST: u8>;
+
+impl<const FIRST: u8, const LAST: u8> ByteClass for Within<FIRST, LAST> {
+    ghost holds = { λ b. nat_le FIRST b && nat_le b LAST };
+
+    // Bytes below the first wrap round, past all others.
+    #[inline(always)]
+    fn marks(block: u8x16) -> Marks {
+        if LAST < FIRST {
+            return Marks::from_bits(0);
+        }
+        let from_first = block - u8x16::splat(FIRST);
+        Marks::from_bits(from_first.simd_le(u8x16::splat(LAST - FIRST)).to_bitmask())
+    }
+
+    #[inline(always)]
+    fn contains(byte: u8) -> bool {
+        FIRST <= byte && byte <= LAST
     }
 }
 
@@ -157,7 +196,7 @@ impl ByteClass for PastAscii {
 
     #[inline(always)]
     fn marks(block: u8x16) -> Marks {
-        Marks::from_bits(block.simd_ge(u8x16::splat(0x80)).to_bitmask())
+        AtLeast::<0x80>::marks(block)
     }
 
     #[inline(always)]

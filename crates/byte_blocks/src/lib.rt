@@ -12,20 +12,27 @@
 //!
 //! [`find`] searches bytes of any length. A loop that looks at its last bytes singly anyway is faster over
 //! [`find_in_block`], and where two classes are of interest, over the [`Marks`] that each gives for the same block.
+//!
+//! [`put_spread`] writes a block with another byte before each that is marked, as a backslash, and [`put_squeezed`]
+//! without those that are marked. Neither has a branch.
 #![tactic(auto)]
 
 mod classes;
 mod marks;
 mod search;
 mod short;
+mod spread;
+mod squeeze;
 
 pub use classes::{
-    Blanks, Byte, ByteClass, Controls, Either, Except, LineEnds, PastAscii, PlainEnds, Specials,
-    table_marks,
+    AtLeast, Blanks, Byte, ByteClass, Controls, Either, Except, LineEnds, PastAscii, PlainEnds,
+    Specials, Within, table_marks,
 };
 pub use marks::Marks;
 pub use search::{find, find_in_block};
 pub use short::ends;
+pub use spread::{put_spread, put_spread_ends, put_spread_half};
+pub use squeeze::put_squeezed;
 
 #[cfg(test)]
 mod tests;

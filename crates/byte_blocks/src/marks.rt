@@ -1,6 +1,6 @@
 // The answers of a test of sixteen bytes.
 
-ghost use Rattle.std.specs.Prelude.{◌≡◌, ◌<◌, ◌≤◌, ◌↔◌, ◌||◌, true, not, map};
+ghost use Rattle.std.specs.Prelude.{◌≡◌, ◌<◌, ◌≤◌, ◌↔◌, ◌||◌, true, not, min, length, map};
 ghost use Rattle.std.specs.Simd.Lanes.{mask_l, zip2};
 ghost use Rattle.byte_blocks.specs.Marks.{lowest_bits, clear_front, IsFirstMark};
 
@@ -42,7 +42,8 @@ impl Marks {
     /// Bit i is set where byte i is marked.
     #[inline(always)]
     pub fn bits(self) -> u64
-        ensures { result ≡ mask_l self }
+        ensures value { result ≡ mask_l self }
+        ensures sixteen { length self ≡ 16 }
     {
         self.bits
     }
@@ -85,6 +86,17 @@ impl Marks {
         ensures within { result ≤ 16 }
     {
         (self.bits.trailing_zeros() as usize).min(16)
+    }
+
+    /// How many of the first `count` bytes stand before the first mark.
+    #[inline(always)]
+    pub fn front_of(self, count: usize) -> usize
+        requires { count ≤ 16 }
+        ensures value { result ≡ min (clear_front self) count }
+        ensures within { result ≤ count }
+        ensures clear { result ≤ clear_front self }
+    {
+        (self.bits.trailing_zeros() as usize).min(count)
     }
 
     /// Whether no byte is marked.

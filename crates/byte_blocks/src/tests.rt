@@ -22,6 +22,9 @@ fn marks_the_bytes_of_each_class(rt: HostRuntime) {
         (marked::<Specials>(TEXT), 0b1011_1000_0000_1100),
         (marked::<Controls>(TEXT), 0b0000_0011_0000_0010),
         (marked::<PastAscii>(TEXT), 0b0000_0000_0111_0000),
+        (marked::<AtLeast<0xac>>(TEXT), 0b0000_0000_0101_0000),
+        (marked::<Within<0x20, 0x3d>>(TEXT), 0b1011_0000_1000_1100),
+        (marked::<Within<0x3d, 0x20>>(TEXT), 0),
         (marked::<FieldEnds>(TEXT), 0b0000_0011_1000_0000),
         (marked::<Except<FieldEnds>>(TEXT), 0b1111_1100_0111_1111),
     ];
@@ -49,6 +52,8 @@ fn tells_single_bytes(rt: HostRuntime) {
     assert_eq!(rt; members::<Specials>(TEXT), 6);
     assert_eq!(rt; members::<Controls>(TEXT), 3);
     assert_eq!(rt; members::<PastAscii>(TEXT), 3);
+    assert_eq!(rt; members::<AtLeast<0xac>>(TEXT), 2);
+    assert_eq!(rt; members::<Within<0x20, 0x3d>>(TEXT), 6);
     assert_eq!(rt; members::<FieldEnds>(TEXT), 3);
     assert_eq!(rt; members::<Except<FieldEnds>>(TEXT), 13);
 }
@@ -67,6 +72,8 @@ fn tells_of_marks(rt: HostRuntime) {
     assert_eq!(rt; marks.bits(), 0b0110_0000);
     assert_eq!(rt; marks.first(), Some(5));
     assert_eq!(rt; marks.front(), 5);
+    assert_eq!(rt; marks.front_of(4), 4);
+    assert_eq!(rt; marks.front_of(9), 5);
     assert!(rt; !marks.is_clear());
     assert!(rt; marks.is_clear_before(5));
     assert!(rt; !marks.is_clear_before(6));
@@ -104,4 +111,36 @@ fn finds_in_one_block(rt: HostRuntime) {
 #[test]
 fn joins_both_ends(rt: HostRuntime) {
     assert_eq!(rt; ends(b"0123456789").to_array(), *b"0123456723456789");
+}
+
+const WORDS: &[u8; 16] = b"a b: c d=e #f g!";
+
+#[test]
+fn puts_bytes_before_those_that_are_marked(rt: HostRuntime) {
+    let block = u8x16::from_array(*WORDS);
+    let marks = Specials::marks(block);
+    let mut out = [b'.'; 40];
+    let end = put_spread(&mut out, 1, block, u8x16::splat(b'\\'), marks, 16);
+    assert_eq!(rt; out[..end], b".a\\ b\\:\\ c\\ d\\=e\\ \\#f\\ g\\!"[..]);
+    let end = put_spread(&mut out, 1, block, block, marks, 9);
+    assert_eq!(rt; out[..end], b".a  b::  c  d=="[..]);
+    let end = put_spread(&mut out, 1, block, block, Marks::from_bits(0), 5);
+    assert_eq!(rt; out[..end], b".a b: "[..]);
+    let end = put_spread_half(&mut out, 1, block, u8x16::splat(b'-'), marks, 4);
+    assert_eq!(rt; out[..end], b".a- b-:"[..]);
+    let both = ends(b"a=b=c=d=e=f=");
+    let marks = Specials::marks(both);
+    let end = put_spread_ends(&mut out, 0, both, u8x16::splat(b'-'), marks, 4);
+    assert_eq!(rt; out[..end], b"a-=b-=c-=d-=e-=f-="[..]);
+}
+
+#[test]
+fn puts_bytes_without_those_that_are_marked(rt: HostRuntime) {
+    let block = u8x16::from_array(*WORDS);
+    let marks = Specials::marks(block);
+    let mut out = [b'.'; 20];
+    let end = put_squeezed(&mut out, 1, block, marks, 16);
+    assert_eq!(rt; out[..end], b".abcdefg"[..]);
+    let end = put_squeezed(&mut out, 4, block, marks, 6);
+    assert_eq!(rt; out[..end], b".abcabc"[..]);
 }

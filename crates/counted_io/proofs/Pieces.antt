@@ -46,7 +46,8 @@ concat-read [] room = refl
 concat-read (p ∷ ps) room = concat-read_first p ps room
 
 -- a buffer holds the bytes that a read took
-pub consumed : (left after : List (List ℕ)) (room n : ℕ) (old new : List ℕ) → n ≡ length (next_bytes left room) → new ≡ overwritten (next_bytes left room) old → after ≡ pieces_after left room → concat left ≡ take n new ++ concat after
+pub consumed : (left after : List (List ℕ)) (room n : ℕ) (old new : List ℕ) → n ≡ length (next_bytes left room) → new
+    ≡ overwritten (next_bytes left room) old → after ≡ pieces_after left room → concat left ≡ take n new ++ concat after
 consumed left after room n old new count buffer pieces =
     rw (count, buffer, pieces, take-append_seam (next_bytes left room) (drop (length (next_bytes left room)) old)) (concat-read left room)
 

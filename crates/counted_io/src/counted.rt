@@ -75,9 +75,11 @@ impl<R: Read> Read for Counted<R> {
 
     fn read(&mut self, buf: &mut [u8]) -> io::Result<usize>
         ensures bound { ReadsAtMost result buf.new }
-        ensures bytes { ReadConsumes (R.remaining (counted_inner self.old)) (R.remaining (counted_inner self.new)) result buf.new }
+        ensures bytes { ReadConsumes (R.remaining (counted_inner self.old))
+            (R.remaining (counted_inner self.new)) result buf.new }
         ensures faults { CountsFault (counted_faults self.old) (counted_faults self.new) result }
-        ensures ended { counted_ended self.new ≡ ended_after_read (counted_ended self.old) result buf.new }
+        ensures ended { counted_ended self.new
+            ≡ ended_after_read (counted_ended self.old) result buf.new }
         ensures flushed { counted_flushed self.new ≡ counted_flushed self.old }
     {
         let has_room = !buf.is_empty();
@@ -106,9 +108,11 @@ impl<R: Read + Drop> CountedRead for Counted<R> {
 
     fn read_counted(&mut self, buf: &mut [u8]) -> io::Result<usize>
         ensures bound { ReadsAtMost result buf.new }
-        ensures bytes { ReadConsumes (R.remaining (counted_inner self.old)) (R.remaining (counted_inner self.new)) result buf.new }
+        ensures bytes { ReadConsumes (R.remaining (counted_inner self.old))
+            (R.remaining (counted_inner self.new)) result buf.new }
         ensures faults { CountsFault (counted_faults self.old) (counted_faults self.new) result }
-        ensures ended { counted_ended self.new ≡ ended_after_read (counted_ended self.old) result buf.new }
+        ensures ended { counted_ended self.new
+            ≡ ended_after_read (counted_ended self.old) result buf.new }
         ensures flushed { counted_flushed self.new ≡ counted_flushed self.old }
     {
         self.read(buf)
@@ -120,9 +124,12 @@ impl<W: Write> Write for Counted<W> {
 
     fn write(&mut self, bytes: &[u8]) -> io::Result<usize>
         ensures bound { WritesAtMost result bytes.now }
-        ensures bytes { WriteAppends (W.contents (counted_inner self.old)) (W.contents (counted_inner self.new)) result bytes.now }
-        ensures faults { CountsWrite (counted_faults self.old) (counted_faults self.new) result bytes.now }
-        ensures flushed { counted_flushed self.new ≡ flushed_after_write (counted_flushed self.old) result }
+        ensures bytes { WriteAppends (W.contents (counted_inner self.old))
+            (W.contents (counted_inner self.new)) result bytes.now }
+        ensures faults { CountsWrite (counted_faults self.old) (counted_faults self.new)
+            result bytes.now }
+        ensures flushed { counted_flushed self.new
+            ≡ flushed_after_write (counted_flushed self.old) result }
         ensures ended { counted_ended self.new ≡ counted_ended self.old }
     {
         match self.inner.write(bytes) {
@@ -144,9 +151,11 @@ impl<W: Write> Write for Counted<W> {
     }
 
     fn flush(&mut self) -> io::Result<()>
-        ensures bytes { Keeps (W.contents (counted_inner self.old)) (W.contents (counted_inner self.new)) }
+        ensures bytes { Keeps (W.contents (counted_inner self.old))
+            (W.contents (counted_inner self.new)) }
         ensures faults { CountsFault (counted_faults self.old) (counted_faults self.new) result }
-        ensures flushed { counted_flushed self.new ≡ flushed_after_flush (counted_flushed self.old) result }
+        ensures flushed { counted_flushed self.new
+            ≡ flushed_after_flush (counted_flushed self.old) result }
         ensures ended { counted_ended self.new ≡ counted_ended self.old }
     {
         match self.inner.flush() {
@@ -169,18 +178,23 @@ impl<W: Write + Drop> CountedWrite for Counted<W> {
 
     fn write_counted(&mut self, bytes: &[u8]) -> io::Result<usize>
         ensures bound { WritesAtMost result bytes.now }
-        ensures bytes { WriteAppends (W.contents (counted_inner self.old)) (W.contents (counted_inner self.new)) result bytes.now }
-        ensures faults { CountsWrite (counted_faults self.old) (counted_faults self.new) result bytes.now }
-        ensures flushed { counted_flushed self.new ≡ flushed_after_write (counted_flushed self.old) result }
+        ensures bytes { WriteAppends (W.contents (counted_inner self.old))
+            (W.contents (counted_inner self.new)) result bytes.now }
+        ensures faults { CountsWrite (counted_faults self.old) (counted_faults self.new)
+            result bytes.now }
+        ensures flushed { counted_flushed self.new
+            ≡ flushed_after_write (counted_flushed self.old) result }
         ensures ended { counted_ended self.new ≡ counted_ended self.old }
     {
         self.write(bytes)
     }
 
     fn flush_counted(&mut self) -> io::Result<()>
-        ensures bytes { Keeps (W.contents (counted_inner self.old)) (W.contents (counted_inner self.new)) }
+        ensures bytes { Keeps (W.contents (counted_inner self.old))
+            (W.contents (counted_inner self.new)) }
         ensures faults { CountsFault (counted_faults self.old) (counted_faults self.new) result }
-        ensures flushed { counted_flushed self.new ≡ flushed_after_flush (counted_flushed self.old) result }
+        ensures flushed { counted_flushed self.new
+            ≡ flushed_after_flush (counted_flushed self.old) result }
         ensures ended { counted_ended self.new ≡ counted_ended self.old }
     {
         self.flush()

@@ -29,7 +29,8 @@ pub trait CountedRead: Read + Drop {
     /// Does what `read` does.
     fn read_counted(&mut self, buf: &mut [u8]) -> io::Result<usize>
         ensures bound { ReadsAtMost result buf.new }
-        ensures bytes { ReadConsumes (Self.remaining self.old) (Self.remaining self.new) result buf.new }
+        ensures bytes { ReadConsumes (Self.remaining self.old) (Self.remaining self.new)
+            result buf.new }
         ensures faults { CountsFault (faults self.old) (faults self.new) result }
         ensures ended { ShowsEnd (at_end self.new) result buf.new }
         ensures gives { read_gives self.old result self.new }

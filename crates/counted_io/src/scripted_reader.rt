@@ -72,7 +72,8 @@ impl ScriptedReader {
     // Goes on to the first piece that has bytes left, and past the last one where none has.
     fn find_piece(&mut self) -> bool
         ensures pieces { pieces_left self.new ≡ pieces_left self.old }
-        ensures same { self.new ≡ record self.old { index = self.new.index; place = self.new.place } }
+        ensures same { self.new ≡ record self.old
+            { index = self.new.index; place = self.new.place } }
         ensures found { IsTrue result → self.new.index < length self.new.pieces.items }
         ensures has_bytes { IsTrue result → HoldsAt (λ piece. self.new.place < length (vec_items piece)) self.new.pieces.items self.new.index }
         ensures none { IsFalse result → pieces_left self.new ≡ [] }
@@ -105,10 +106,13 @@ impl ScriptedReader {
     // Hands over as many bytes of the piece at which it stands as fit.
     fn read_piece(&mut self, buf: &mut [u8]) -> usize
         requires found { self.old.index < length self.old.pieces.items }
-        requires has_bytes { HoldsAt (λ piece. self.old.place < length (vec_items piece)) self.old.pieces.items self.old.index }
+        requires has_bytes { HoldsAt (λ piece. self.old.place < length (vec_items piece))
+            self.old.pieces.items self.old.index }
         ensures count { result ≡ length (next_bytes (pieces_left self.old) (length buf.old)) }
-        ensures buffer { buf.new ≡ overwritten (next_bytes (pieces_left self.old) (length buf.old)) buf.old }
-        ensures pieces { pieces_left self.new ≡ pieces_after (pieces_left self.old) (length buf.old) }
+        ensures buffer { buf.new ≡ overwritten
+            (next_bytes (pieces_left self.old) (length buf.old)) buf.old }
+        ensures pieces { pieces_left self.new
+            ≡ pieces_after (pieces_left self.old) (length buf.old) }
         ensures some { 0 < length buf.old → 0 < result }
         ensures same { self.new ≡ record self.old { place = self.new.place } }
     {
@@ -126,14 +130,19 @@ impl Read for ScriptedReader {
 
     fn read(&mut self, buf: &mut [u8]) -> io::Result<usize>
         ensures bound { ReadsAtMost result buf.new }
-        ensures bytes { ReadConsumes (Some (concat (pieces_left self.old))) (Some (concat (pieces_left self.new))) result buf.new }
-        ensures answer { ReadAnswers (pieces_left self.old) (reader_tail self.old) (length buf.old) result }
-        ensures buffer { buf.new ≡ overwritten (next_bytes (pieces_left self.old) (length buf.old)) buf.old }
-        ensures pieces { pieces_left self.new ≡ pieces_after (pieces_left self.old) (length buf.old) }
+        ensures bytes { ReadConsumes (Some (concat (pieces_left self.old)))
+            (Some (concat (pieces_left self.new))) result buf.new }
+        ensures answer { ReadAnswers (pieces_left self.old) (reader_tail self.old)
+            (length buf.old) result }
+        ensures buffer { buf.new ≡ overwritten
+            (next_bytes (pieces_left self.old) (length buf.old)) buf.old }
+        ensures pieces { pieces_left self.new
+            ≡ pieces_after (pieces_left self.old) (length buf.old) }
         ensures tail { reader_tail self.new ≡ reader_tail self.old }
         ensures reads { reader_reads self.new ≡ one_more (reader_reads self.old) }
         ensures faults { CountsFault (reader_faults self.old) (reader_faults self.new) result }
-        ensures ended { ShowsEnd (is_at_end (pieces_left self.new) (reader_tail self.new)) result buf.new }
+        ensures ended { ShowsEnd (is_at_end (pieces_left self.new) (reader_tail self.new))
+            result buf.new }
     {
         self.reads = self.reads.saturating_add(1);
         if buf.is_empty() {
@@ -155,15 +164,20 @@ impl CountedRead for ScriptedReader {
 
     fn read_counted(&mut self, buf: &mut [u8]) -> io::Result<usize>
         ensures bound { ReadsAtMost result buf.new }
-        ensures bytes { ReadConsumes (Some (concat (pieces_left self.old))) (Some (concat (pieces_left self.new))) result buf.new }
-        ensures answer { ReadAnswers (pieces_left self.old) (reader_tail self.old) (length buf.old) result }
-        ensures buffer { buf.new ≡ overwritten (next_bytes (pieces_left self.old) (length buf.old)) buf.old }
-        ensures pieces { pieces_left self.new ≡ pieces_after (pieces_left self.old) (length buf.old) }
+        ensures bytes { ReadConsumes (Some (concat (pieces_left self.old)))
+            (Some (concat (pieces_left self.new))) result buf.new }
+        ensures answer { ReadAnswers (pieces_left self.old) (reader_tail self.old)
+            (length buf.old) result }
+        ensures buffer { buf.new ≡ overwritten
+            (next_bytes (pieces_left self.old) (length buf.old)) buf.old }
+        ensures pieces { pieces_left self.new
+            ≡ pieces_after (pieces_left self.old) (length buf.old) }
         ensures tail { reader_tail self.new ≡ reader_tail self.old }
         ensures reads { reader_reads self.new ≡ one_more (reader_reads self.old) }
         ensures faults { CountsFault (reader_faults self.old) (reader_faults self.new) result }
         ensures gives { ScriptGives self.old result self.new }
-        ensures ended { ShowsEnd (is_at_end (pieces_left self.new) (reader_tail self.new)) result buf.new }
+        ensures ended { ShowsEnd (is_at_end (pieces_left self.new) (reader_tail self.new))
+            result buf.new }
     {
         self.read(buf)
     }

@@ -43,7 +43,8 @@ impl ScriptedSink {
     /// alone fails as `how` says. The number stays at `usize::MAX`.
     pub fn new(alloc: Global, most: usize, fail_at: Option<usize>, how: SinkFault) -> ScriptedSink
         ensures bytes { sink_bytes result ≡ [] }
-        ensures plan { sink_plan result ≡ record { most = most; fail_at = fail_at; how = how; flush_fault = None } }
+        ensures plan { sink_plan result
+            ≡ record { most = most; fail_at = fail_at; how = how; flush_fault = None } }
         ensures calls { sink_calls result ≡ 0 }
         ensures faults { sink_faults result ≡ 0 }
         ensures flushed { sink_flushed result ≡ false }
@@ -62,7 +63,8 @@ impl ScriptedSink {
 
     /// From now on each flush fails with this kind, or none fails.
     pub fn set_flush_fault(&mut self, flush_fault: Option<io::ErrorKind>)
-        ensures plan { sink_plan self.new ≡ record (sink_plan self.old) { flush_fault = flush_fault } }
+        ensures plan { sink_plan self.new
+            ≡ record (sink_plan self.old) { flush_fault = flush_fault } }
         ensures bytes { sink_bytes self.new ≡ sink_bytes self.old }
         ensures calls { sink_calls self.new ≡ sink_calls self.old }
         ensures faults { sink_faults self.new ≡ sink_faults self.old }
@@ -121,7 +123,8 @@ impl ScriptedSink {
     // Takes as many bytes as it may, or none where memory is refused.
     fn take(&mut self, bytes: &[u8]) -> io::Result<usize>
         ensures answer { TakesMost self.old.most bytes.now result }
-        ensures bytes { WriteAppends (Some (sink_bytes self.old)) (Some (sink_bytes self.new)) result bytes.now }
+        ensures bytes { WriteAppends (Some (sink_bytes self.old)) (Some (sink_bytes self.new))
+            result bytes.now }
         ensures faults { CountsWrite self.old.faults self.new.faults result bytes.now }
         ensures flushed { self.new.flushed ≡ flushed_after_write self.old.flushed result }
         ensures calls { self.new.calls ≡ self.old.calls }
@@ -148,11 +151,14 @@ impl Write for ScriptedSink {
 
     fn write(&mut self, bytes: &[u8]) -> io::Result<usize>
         ensures bound { WritesAtMost result bytes.now }
-        ensures bytes { WriteAppends (Some (sink_bytes self.old)) (Some (sink_bytes self.new)) result bytes.now }
+        ensures bytes { WriteAppends (Some (sink_bytes self.old)) (Some (sink_bytes self.new))
+            result bytes.now }
         ensures answer { WriteAnswers (sink_plan self.old) (sink_calls self.old) bytes.now result }
         ensures calls { sink_calls self.new ≡ one_more (sink_calls self.old) }
-        ensures faults { CountsWrite (sink_faults self.old) (sink_faults self.new) result bytes.now }
-        ensures flushed { sink_flushed self.new ≡ flushed_after_write (sink_flushed self.old) result }
+        ensures faults { CountsWrite (sink_faults self.old) (sink_faults self.new)
+            result bytes.now }
+        ensures flushed { sink_flushed self.new
+            ≡ flushed_after_write (sink_flushed self.old) result }
         ensures plan { sink_plan self.new ≡ sink_plan self.old }
     {
         self.calls = self.calls.saturating_add(1);
@@ -168,7 +174,8 @@ impl Write for ScriptedSink {
         ensures answer { FlushAnswers (sink_plan self.old).flush_fault result }
         ensures calls { sink_calls self.new ≡ sink_calls self.old }
         ensures faults { CountsFault (sink_faults self.old) (sink_faults self.new) result }
-        ensures flushed { sink_flushed self.new ≡ flushed_after_flush (sink_flushed self.old) result }
+        ensures flushed { sink_flushed self.new
+            ≡ flushed_after_flush (sink_flushed self.old) result }
         ensures plan { sink_plan self.new ≡ sink_plan self.old }
     {
         match self.flush_fault {
@@ -195,11 +202,14 @@ impl CountedWrite for ScriptedSink {
 
     fn write_counted(&mut self, bytes: &[u8]) -> io::Result<usize>
         ensures bound { WritesAtMost result bytes.now }
-        ensures bytes { WriteAppends (Some (sink_bytes self.old)) (Some (sink_bytes self.new)) result bytes.now }
+        ensures bytes { WriteAppends (Some (sink_bytes self.old)) (Some (sink_bytes self.new))
+            result bytes.now }
         ensures answer { WriteAnswers (sink_plan self.old) (sink_calls self.old) bytes.now result }
         ensures calls { sink_calls self.new ≡ one_more (sink_calls self.old) }
-        ensures faults { CountsWrite (sink_faults self.old) (sink_faults self.new) result bytes.now }
-        ensures flushed { sink_flushed self.new ≡ flushed_after_write (sink_flushed self.old) result }
+        ensures faults { CountsWrite (sink_faults self.old) (sink_faults self.new)
+            result bytes.now }
+        ensures flushed { sink_flushed self.new
+            ≡ flushed_after_write (sink_flushed self.old) result }
         ensures plan { sink_plan self.new ≡ sink_plan self.old }
     {
         self.write(bytes)
@@ -210,7 +220,8 @@ impl CountedWrite for ScriptedSink {
         ensures answer { FlushAnswers (sink_plan self.old).flush_fault result }
         ensures calls { sink_calls self.new ≡ sink_calls self.old }
         ensures faults { CountsFault (sink_faults self.old) (sink_faults self.new) result }
-        ensures flushed { sink_flushed self.new ≡ flushed_after_flush (sink_flushed self.old) result }
+        ensures flushed { sink_flushed self.new
+            ≡ flushed_after_flush (sink_flushed self.old) result }
         ensures plan { sink_plan self.new ≡ sink_plan self.old }
     {
         self.flush()

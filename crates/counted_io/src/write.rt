@@ -33,7 +33,8 @@ pub trait CountedWrite: Write + Drop {
     /// Does what `write` does.
     fn write_counted(&mut self, bytes: &[u8]) -> io::Result<usize>
         ensures bound { WritesAtMost result bytes.now }
-        ensures bytes { WriteAppends (Self.contents self.old) (Self.contents self.new) result bytes.now }
+        ensures bytes { WriteAppends (Self.contents self.old) (Self.contents self.new)
+            result bytes.now }
         ensures faults { CountsWrite (faults self.old) (faults self.new) result bytes.now }
         ensures flushed { is_flushed self.new ≡ flushed_after_write (is_flushed self.old) result }
         ensures gives { write_gives self.old bytes.now result self.new }

@@ -62,7 +62,9 @@ module _ {W : Type 0} {sink : Sink W} {old middle new : Writing W} (before : Lis
   }
 
 -- the call that failed
-fails-ascii : {W : Type 0} {sink : Sink W} {old middle : Writing W} (new : Writing W) (before : List Call) (call : Call) (others : List Call) (error : PropertiesError) → IsGoodWriter old → HasMade sink old before middle → AreAsciiOnly (before ++ (call ∷ others)) → Fails sink middle call error new → TakesAscii sink old.sink new.sink
+fails-ascii : {W : Type 0} {sink : Sink W} {old middle : Writing W} (new : Writing W) (before : List Call) (call : Call)
+    (others : List Call) (error : PropertiesError) → IsGoodWriter old → HasMade sink old before middle
+    → AreAsciiOnly (before ++ (call ∷ others)) → Fails sink middle call error new → TakesAscii sink old.sink new.sink
 fails-ascii new before (comment_call text) others error good made on f = line-ascii before (comment_call text) others good made on (comment text) error (λ q. absurd (cc)) f
 fails-ascii new before (pair_call key value) others error good made on f = line-ascii before (pair_call key value) others good made on (pair key value) error (λ q. absurd (cc)) f
 fails-ascii new before (prefix_call prefix) others error good made on f = kept-ascii before (prefix_call prefix) others good made on f.same
@@ -72,7 +74,8 @@ fails-ascii new before flush_call others error good made on f = flush-ascii befo
 fails-ascii new before (ascii_only_call mode) others error good made on f = absurd f
 
 -- Whatever running the calls returned.
-pub runs-ascii : {W : Type 0} (sink : Sink W) (old new : Writing W) (calls : List Call) (result : Result (Vec Bool) PropertiesError) → IsGoodWriter old → AreOfScalars calls → RunsCalls sink old calls result new
+pub runs-ascii : {W : Type 0} (sink : Sink W) (old new : Writing W) (calls : List Call) (result : Result (Vec Bool) PropertiesError)
+    → IsGoodWriter old → AreOfScalars calls → RunsCalls sink old calls result new
     → WritesAscii sink old calls result new
 runs-ascii sink old new calls (Ok answers) good scalars runs = λ on. made-ascii good scalars runs.made on
 runs-ascii sink old new calls (Err error) good scalars (inl refused) = λ on. none-ascii refused.same

@@ -44,7 +44,8 @@ pub plain-comment : (line : List ℕ) (number : ℕ) (text : Span) → IsSpan li
     → IsFoundIn line (record { line_number = number; content = found.Comment (record { span = text; resolved = None }) })
 plain-comment line number text is none h =
     let raw = chars (bytes_in line text) in
-    let rest = holds-part (h.indent ++ (h.sign ∷ [])) h.rest [] (none-in (h.whole ∙ ap (λ v. h.indent ++ (h.sign ∷ v)) (sym (append-nil h.rest)) ∙ sym (append_assoc h.indent (h.sign ∷ []) (h.rest ++ []))) none) in
+    let rest = holds-part (h.indent ++ (h.sign ∷ [])) h.rest []
+    (none-in (h.whole ∙ ap (λ v. h.indent ++ (h.sign ∷ v)) (sym (append-nil h.rest)) ∙ sym (append_assoc h.indent (h.sign ∷ []) (h.rest ++ []))) none) in
     record { slices = h; texts = plain-slice line text is (holds-part h.trimmed.before raw h.trimmed.after (none-in h.trimmed.whole rest)) }
 
 pub plain-pair : (line : List ℕ) (number : ℕ) (key value : Span) → IsSpan line key → IsSpan line value → holds_backslash (chars line) ≡ false

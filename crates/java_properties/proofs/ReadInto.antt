@@ -13,7 +13,7 @@ use Rattle.properties_format.specs.Lines.{end}
 use Rattle.java_properties.specs.Line.{content_of}
 use Rattle.java_properties.specs.PropertiesIter.{Reading, Gives, NextGives, entry_of}
 use Rattle.java_properties.specs.ReadLines.{entries_in}
-use Rattle.java_properties.specs.ReadInto.{KeyAndValue, pair_of, pairs_among, GivesLines, IsCalledOn, CallableOnPairs, last_answer, HasReadAll, HasReadFirst, WereToCome, ReadsInto}
+use Rattle.java_properties.specs.ReadInto.{KeyAndValue, pair_in, pairs_among, GivesLines, IsCalledOn, CallableOnPairs, last_answer, HasReadAll, HasReadFirst, WereToCome, ReadsInto}
 use Rattle.java_properties.specs.declared.error.PropertiesError.{PropertiesError}
 use Rattle.java_properties.specs.declared.line.Line.{Line}
 use Rattle.java_properties.specs.declared.line.LineContent.{LineContent}
@@ -95,22 +95,23 @@ pub record HasCalled {R F : Type 0} (reader : Reader R) (step : F → String Glo
   pub called : IsCalledOn step f (pairs_among lines) g
 
 -- the pairs of one line more
-pairs-more : (lines : List Line) (line : Line) → pairs_among (lines ++ (line ∷ [])) ≡ pairs_among lines ++ pair_of (content_of line)
-pairs-more [] line = append-nil (pair_of (content_of line))
-pairs-more (l ∷ lines) line = rw (pairs-more lines line) (sym (append_assoc (pair_of (content_of l)) (pairs_among lines) (pair_of (content_of line))))
+pairs-more : (lines : List Line) (line : Line) → pairs_among (lines ++ (line ∷ [])) ≡ pairs_among lines ++ pair_in (content_of line)
+pairs-more [] line = append-nil (pair_in (content_of line))
+pairs-more (l ∷ lines) line = rw (pairs-more lines line) (sym (append_assoc (pair_in (content_of l)) (pairs_among lines) (pair_in (content_of line))))
 
 module _ {R F : Type 0} {reader : Reader R} {step : F → String Global → String Global → Unit {0} → F → Type 0} {old : Reading R} {f : F} where
   pub called-none : HasCalled reader step old f old f
   called-none = record { lines = []; given = refl; called = refl }
 
-  module _ {it : Reading R} {g : F} (next : Reading R) (line : Line) (content : LineContent) (h : HasCalled reader step old f it g) (is : content ≡ content_of line) (gives : NextGives reader it (Some (Ok line)) next) where
+  module _ {it : Reading R} {g : F} (next : Reading R) (line : Line) (content : LineContent) (h : HasCalled reader step old f it g)
+      (is : content ≡ content_of line) (gives : NextGives reader it (Some (Ok line)) next) where
     given-more : GivesLines reader old (h.lines ++ (line ∷ [])) next
     given-more = FoldsTo-push (λ before (l : Line) after. NextGives reader before (Some (Ok l)) after) old h.lines it line next h.given gives
 
     -- a comment came
     called-same : (text : String Global) → content ≡ Comment text → HasCalled reader step old f next g
     called-same text comment =
-        let none = pairs-more h.lines line ∙ ap (λ c. pairs_among h.lines ++ pair_of c) (sym is ∙ comment) ∙ append-nil (pairs_among h.lines) in
+        let none = pairs-more h.lines line ∙ ap (λ c. pairs_among h.lines ++ pair_in c) (sym is ∙ comment) ∙ append-nil (pairs_among h.lines) in
         let P : List KeyAndValue → Type 0 = λ v. IsCalledOn step f v g in
         record { lines = h.lines ++ (line ∷ []); given = given-more; called = subst P (sym none) h.called }
 
@@ -125,7 +126,7 @@ module _ {R F : Type 0} {reader : Reader R} {step : F → String Global → Stri
     -- a pair came, and the closure was called on it
     pub called-more : (k : F) (key value : String Global) → content ≡ KVPair key value → step g key value tt k → HasCalled reader step old f next k
     called-more k key value pair call =
-        let one = pairs-more h.lines line ∙ ap (λ c. pairs_among h.lines ++ pair_of c) (sym is ∙ pair) in
+        let one = pairs-more h.lines line ∙ ap (λ c. pairs_among h.lines ++ pair_in c) (sym is ∙ pair) in
         let P : List KeyAndValue → Type 0 = λ v. IsCalledOn step f v k in
         let push = FoldsTo-push (λ before (e : KeyAndValue) after. step before e.0 e.1 tt after) f (pairs_among h.lines) g (key, value) k h.called call in
         record { lines = h.lines ++ (line ∷ []); given = given-more; called = subst P (sym one) push }

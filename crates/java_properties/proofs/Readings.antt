@@ -146,5 +146,6 @@ module _ {R : Type 0} {reader : Reader R} where
     is = f.is;
     reading = reading-of e (r ++ f.bytes) fault _ (live-on h.comes g f.bytes fault ∙ ap (λ v. entries ++ v) f.items);
   })
-  collected-error {r = r} h g (inr (inl f)) = inr (record { bytes = r ++ f.bytes; read = read-more h.read f.read; is = inl (f.is, tell-all (all-on (h.passes g) f.passes)); begins = early h g f.bytes })
+  collected-error {r = r} h g (inr (inl f)) =
+      inr (record { bytes = r ++ f.bytes; read = read-more h.read f.read; is = inl (f.is, tell-all (all-on (h.passes g) f.passes)); begins = early h g f.bytes })
   collected-error {r = r} h g (inr (inr f)) = inr (record { bytes = r ++ f.bytes; read = read-more h.read f.read; is = inr f.is; begins = early h g f.bytes })

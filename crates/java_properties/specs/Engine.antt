@@ -12,9 +12,9 @@ use Rattle.java_properties.specs.declared.writer.engine.Content.TheVariants.{Com
 use Rattle.properties_text.specs.declared.print.Repertoire.{Repertoire}
 use Rattle.properties_text.specs.declared.print.Place.TheVariants as place
 
-abbrev pub content_of : Content → format.Content
-content_of (Comment text) = format.comment (chars text.now)
-content_of (KVPair key value) = format.pair (chars key.now) (chars value.now)
+abbrev pub entry_content : Content → format.Content
+entry_content (Comment text) = format.comment (chars text.now)
+entry_content (KVPair key value) = format.pair (chars key.now) (chars value.now)
 
 -- the writer that the engine is, beside its sink
 abbrev pub writing : {W : Type 0} → Engine → W → Writing W

@@ -133,12 +133,12 @@ WritesMap sink a entries old (Err error) new = Refuses kind.Memory old error new
 -- ---- reading what was written
 
 -- a key and its value, as characters
-abbrev pub pair_of : Texts → Pair
-pair_of texts = (chars texts.0, chars texts.1)
+abbrev pub character_pair : Texts → Pair
+character_pair texts = (chars texts.0, chars texts.1)
 
 -- the items of these pairs, one a line from the first line on
 abbrev pub items_for : List Texts → List Entry
-items_for pairs = items_after 0 (map pair_of pairs)
+items_for pairs = items_after 0 (map character_pair pairs)
 
 -- The sink took bytes that are read back, by themselves and in the encoding that was written, as the map's pairs in order,
 -- one a line. They have no other items, so none is malformed. The map of these items is the one that was written: each key

@@ -67,9 +67,6 @@ pub record GivesEntry {R : Type 0} (reader : Reader R) (old : ReaderState) (from
   pub ended : new.is_done ≡ true → reader.at_end to ≡ true
   pub lazy : IsLazyItems old from bytes to
 
-abbrev pub GivesNext : {R : Type 0} → Reader R → ReaderState → R → Line → ReaderState → R → Type 0
-GivesNext reader old from line new to = GivesEntry reader old from (entry_of line) new to
-
 -- No item comes any more: the input ended, or the iterator was at its end and reads nothing.
 pub record GivesNone {R : Type 0} (reader : Reader R) (old : ReaderState) (from : R) (new : ReaderState) (to : R) : Type 0 where
   pub bytes : List ℕ
@@ -121,7 +118,7 @@ GivesError reader old from e to = GivesFault reader old from e to ⊎ (GivesTooM
 -- What the next item is, and what asking for it leaves. After `None` and after an error the iterator is at its end.
 abbrev pub GivesItem : {R : Type 0} → Reader R → ReaderState → R → Option (Result Line PropertiesError) → ReaderState → R → Type 0
 GivesItem reader old from None new to = GivesNone reader old from new to
-GivesItem reader old from (Some (Ok line)) new to = GivesNext reader old from line new to
+GivesItem reader old from (Some (Ok line)) new to = GivesEntry reader old from (entry_of line) new to
 GivesItem reader old from (Some (Err e)) new to =
     (old.is_done ≡ false) × (new.is_done ≡ true) × (GivesMalformed reader old from e to ⊎ GivesError reader old from e to)
 

@@ -20,13 +20,13 @@ abbrev pub KeyAndValue : Type 0
 KeyAndValue = String Global × String Global
 
 -- the pair of a line, where it is one
-abbrev pub pair_of : LineContent → List KeyAndValue
-pair_of (Comment text) = []
-pair_of (KVPair key value) = (key, value) ∷ []
+abbrev pub pair_in : LineContent → List KeyAndValue
+pair_in (Comment text) = []
+pair_in (KVPair key value) = (key, value) ∷ []
 
 -- the pairs among some lines
 abbrev pub pairs_among : List Line → List KeyAndValue
-pairs_among lines = flat_map (λ line. pair_of (content_of line)) lines
+pairs_among lines = flat_map (λ line. pair_in (content_of line)) lines
 
 -- these lines came, each by one call of `next`
 abbrev pub GivesLines : {R : Type 0} → Reader R → Reading R → List Line → Reading R → Type 0

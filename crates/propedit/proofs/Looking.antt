@@ -26,7 +26,8 @@ finds-last reader e from to m key is h = record {
 }
 
 -- A value that was found is printed in UTF-8, which are the bytes of its text.
-pub prints : {R W Z : Type 0} {reader : Reader R} (sink : Sink W) {e : Encoding} {key : List ℕ} {input input' : R} (output output' : W) (printed : Result Unit PropertiesError) (value : String Z) (text : List ℕ)
+pub prints : {R W Z : Type 0} {reader : Reader R} (sink : Sink W) {e : Encoding} {key : List ℕ} {input input' : R} (output output' : W)
+    (printed : Result Unit PropertiesError) (value : String Z) (text : List ℕ)
     → Finds reader e input key (Some (characters value)) input' → text ≡ string_bytes value → PutsAll sink output (text ++ (line_feed ∷ [])) printed output'
     → Prints reader sink e key input output printed input' output'
 prints sink output output' printed value text found is puts = record {

@@ -38,7 +38,8 @@ module _ {W : Type 0} {sink : Sink W} {old : W} where
   })
 
   -- the first part was written, and then the second was put
-  pub puts-second : (front back : List ℕ) {middle : W} (result : Result Unit PropertiesError) (new : W) → HasWritten sink old front middle → PutsAll sink middle back result new → PutsAll sink old (front ++ back) result new
+  pub puts-second : (front back : List ℕ) {middle : W} (result : Result Unit PropertiesError) (new : W) → HasWritten sink old front middle
+      → PutsAll sink middle back result new → PutsAll sink old (front ++ back) result new
   puts-second front back (Ok done) new w h = record { written = written-more w h.written; flushed = h.flushed }
   puts-second front back (Err error) new w h = elim h [
     | inl k ↦ inl (record {

@@ -144,7 +144,8 @@ pub counted-none : (words : List (List ℕ)) → HasCounted words 0 words
 counted-none words = record { done = []; is = refl; length_is = refl }
 
 -- one more
-pub counted-more : (words : List (List ℕ)) (count : ℕ) (rest others : List (List ℕ)) (edit : Edit) → HasCounted words count rest → rest ≡ edit_words edit ++ others → HasCounted words (count + 1) others
+pub counted-more : (words : List (List ℕ)) (count : ℕ) (rest others : List (List ℕ)) (edit : Edit) → HasCounted words count rest → rest
+    ≡ edit_words edit ++ others → HasCounted words (count + 1) others
 counted-more words count rest others edit h next = record {
   done = h.done ++ (edit ∷ []);
   is = edit-more words rest others h.done edit h.is next;

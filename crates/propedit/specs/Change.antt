@@ -8,7 +8,8 @@ use Rattle.java_properties.specs.declared.error.PropertiesError.{PropertiesError
 use Rattle.propedit.specs.Streams.{GivesWhole, FailsInRead, LacksRoom, PutsAll}
 
 -- All edits were made to what the input gave to its end, and writing the result returned this.
-pub record MakesEdits {R W : Type 0} (reader : Reader R) (sink : Sink W) (e : Encoding) (edits : List Edit) (input : R) (output : W) (written : Result Unit PropertiesError) (input' : R) (output' : W) : Type 0 where
+pub record MakesEdits {R W : Type 0} (reader : Reader R) (sink : Sink W) (e : Encoding) (edits : List Edit) (input : R) (output : W)
+    (written : Result Unit PropertiesError) (input' : R) (output' : W) : Type 0 where
   pub source : List ℕ
   pub read : GivesWhole reader input source input'
   pub bytes : List ℕ

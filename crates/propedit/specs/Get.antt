@@ -28,7 +28,8 @@ abbrev pub line_of : List ℕ → List ℕ
 line_of text = encode_utf8_all text ++ (line_feed ∷ [])
 
 -- A value was found, and printing it returned this.
-pub record Prints {R W : Type 0} (reader : Reader R) (sink : Sink W) (e : Encoding) (key : List ℕ) (input : R) (output : W) (printed : Result Unit PropertiesError) (input' : R) (output' : W) : Type 0 where
+pub record Prints {R W : Type 0} (reader : Reader R) (sink : Sink W) (e : Encoding) (key : List ℕ) (input : R) (output : W)
+    (printed : Result Unit PropertiesError) (input' : R) (output' : W) : Type 0 where
   pub value : List ℕ
   pub found : Finds reader e input key (Some value) input'
   pub puts : PutsAll sink output (line_of value) printed output'

@@ -157,7 +157,8 @@ separator-kept s flush_call g = g
 separator-kept s (ascii_only_call mode) g = g
 
 -- and so are the bytes of calls that don't turn it off
-wrote-shared : (e f : Encoding) (s : Settings) (n : ℕ) (calls : List Call) → s.ascii_only ≡ true → AllKeepAsciiOnly calls → IsGoodSeparator s.kv_separator → AreShared f (wrote e s n calls) (wrote f s n calls)
+wrote-shared : (e f : Encoding) (s : Settings) (n : ℕ) (calls : List Call) → s.ascii_only ≡ true → AllKeepAsciiOnly calls
+    → IsGoodSeparator s.kv_separator → AreShared f (wrote e s n calls) (wrote f s n calls)
 wrote-shared e f s n [] on k g = record { ascii = tt; same = refl }
 wrote-shared e f s n (call ∷ calls) on k g =
     let o = written_line s call in
@@ -198,7 +199,8 @@ pub wrote-on_both : (e : Encoding) (s : Settings) (calls : List Call) → s.asci
     → AreItemsInBoth (wrote e s 0 calls) (items_read_back s 0 calls)
 wrote-on_both e s calls on k g c h =
     record {
-      in_windows_1252 = subst (λ b. IsItems windows_1252 b end (items_read_back s 0 calls)) (wrote-shared windows_1252 e s 0 calls on k g.separator).same (IsItems-wrote windows_1252 s calls refl g c h);
+      in_windows_1252 = subst (λ b. IsItems windows_1252 b end (items_read_back s 0 calls))
+          (wrote-shared windows_1252 e s 0 calls on k g.separator).same (IsItems-wrote windows_1252 s calls refl g c h);
       in_utf_8 = subst (λ b. IsItems utf_8 b end (items_read_back s 0 calls)) (wrote-shared utf_8 e s 0 calls on k g.separator).same (IsItems-wrote utf_8 s calls refl g c h);
     }
 

@@ -24,11 +24,14 @@ pub wrote-append : (e : Encoding) (s : Settings) (n : ℕ) (xs ys : List Call) �
 wrote-append e s n [] ys = refl
 wrote-append e s n (x ∷ xs) ys =
     ap (λ v. line_bytes e s n (written_line s x) ++ v) (wrote-append e (settings_after_call s x) (lines_with n (written_line s x)) xs ys)
-    ∙ sym (append_assoc (line_bytes e s n (written_line s x)) (wrote e (settings_after_call s x) (lines_with n (written_line s x)) xs) (wrote e (settings_after (settings_after_call s x) xs) (line_count_after (settings_after_call s x) (lines_with n (written_line s x)) xs) ys))
+    ∙ sym (append_assoc (line_bytes e s n (written_line s x)) (wrote e (settings_after_call s x) (lines_with n (written_line s x)) xs)
+    (wrote e (settings_after (settings_after_call s x) xs) (line_count_after (settings_after_call s x) (lines_with n (written_line s x)) xs) ys))
 
 -- the items that they are to be read back as
 pub items_read_back-append : (s : Settings) (n : ℕ) (xs ys : List Call) → items_read_back s n (xs ++ ys) ≡ items_read_back s n xs ++ items_read_back (settings_after s xs) (line_count_after s n xs) ys
 items_read_back-append s n [] ys = refl
 items_read_back-append s n (x ∷ xs) ys =
     ap (λ v. item_read_back s n (written_line s x) ++ v) (items_read_back-append (settings_after_call s x) (lines_with n (written_line s x)) xs ys)
-    ∙ sym (append_assoc (item_read_back s n (written_line s x)) (items_read_back (settings_after_call s x) (lines_with n (written_line s x)) xs) (items_read_back (settings_after (settings_after_call s x) xs) (line_count_after (settings_after_call s x) (lines_with n (written_line s x)) xs) ys))
+    ∙ sym (append_assoc (item_read_back s n (written_line s x))
+    (items_read_back (settings_after_call s x) (lines_with n (written_line s x)) xs)
+    (items_read_back (settings_after (settings_after_call s x) xs) (line_count_after (settings_after_call s x) (lines_with n (written_line s x)) xs) ys))

@@ -7,7 +7,7 @@ use Rattle.properties_format.specs.Lines.{Line, InputEnd, end, fault}
 use Rattle.properties_format.specs.Groups.{joined, first_number, IsWhole, IsUnfinished, last_group}
 use Rattle.properties_format.specs.Reading.Logical.{logical, logical_lines}
 use Rattle.properties_format.proofs.Groups.Only.{groups_of-before, groups_of-unfinished}
-use Rattle.properties_lines.specs.Joining.{Steps, natural_line, logical_line, natural_lines, GivesLines, GivesThen, EndsGroup, TakesGroup, GivesNext, JoinsUpTo, JoinsAll}
+use Rattle.properties_lines.specs.Joining.{Steps, natural_line, logical_line, natural_lines, GivesLines, GivesThen, EndsGroup, TakesGroup, GivesLogicalLine, JoinsUpTo, JoinsEach}
 use Rattle.properties_lines.specs.declared.error.LineError.{LineError}
 use Rattle.properties_lines.specs.declared.single_lines.natural.NaturalLine.{NaturalLine}
 use Rattle.properties_lines.specs.declared.single_lines.logical.LogicalLine.{LogicalLine}
@@ -81,14 +81,14 @@ module _ {I : Type 0} (steps : Steps I) where
   group-before from line mid given (Some (Err error)) to t whole h (inr k) = inr k
 
   -- after the end there is nothing more
-  only-none : (s : LogicalLines I) (answer : Option (Result LogicalLine LineError)) (to : LogicalLines I) → s.is_done ≡ true → GivesNext steps s answer to
+  only-none : (s : LogicalLines I) (answer : Option (Result LogicalLine LineError)) (to : LogicalLines I) → s.is_done ≡ true → GivesLogicalLine steps s answer to
       → answer ≡ None
   only-none s None to d h = refl
   only-none s (Some answer) to d h = absurd (cc (d, h.0))
 
   nothing-after : (s t to : LogicalLines I) (given : List LogicalLine) (answer : Option (Result LogicalLine LineError)) → s.is_done ≡ true
-      → Yields (GivesNext steps) s (map Ok given) t → GivesNext steps t answer to → (given ≡ []) × (answer ≡ None)
-  nothing-after s t to [] answer d h k = (refl, only-none s answer to d (subst (λ v. GivesNext steps v answer to) (sym h) k))
+      → Yields (GivesLogicalLine steps) s (map Ok given) t → GivesLogicalLine steps t answer to → (given ≡ []) × (answer ≡ None)
+  nothing-after s t to [] answer d h k = (refl, only-none s answer to d (subst (λ v. GivesLogicalLine steps v answer to) (sym h) k))
   nothing-after s t to (line ∷ given) answer d h k = absurd (cc (d, h.1.0))
 
   -- a group that stands open at the end is the last
@@ -103,7 +103,7 @@ module _ {I : Type 0} (steps : Steps I) where
   -- ---- all that is given
 
   -- where no line is given before the end or an error
-  first-end : (s : LogicalLines I) (answer : Option (Result LogicalLine LineError)) (to : LogicalLines I) → s.is_done ≡ false → GivesNext steps s answer to
+  first-end : (s : LogicalLines I) (answer : Option (Result LogicalLine LineError)) (to : LogicalLines I) → s.is_done ≡ false → GivesLogicalLine steps s answer to
       → JoinsUpTo steps s.lines [] answer to.lines
   first-end s None to d (e, inl h) = absurd (cc (d, h.0))
   first-end s None to d (e, inr h) = record { lines = []; drained = (to.lines, (s.lines, refl, h.1)); joins = refl }
@@ -114,7 +114,7 @@ module _ {I : Type 0} (steps : Steps I) where
 
   -- before the others, where the natural lines did not end
   line-first : (s : LogicalLines I) (line : LogicalLine) (mid t to : LogicalLines I) (given : List LogicalLine) (answer : Option (Result LogicalLine LineError))
-      → (mid.is_done ≡ false → JoinsUpTo steps mid.lines given answer to.lines) → Yields (GivesNext steps) mid (map Ok given) t → GivesNext steps t answer to
+      → (mid.is_done ≡ false → JoinsUpTo steps mid.lines given answer to.lines) → Yields (GivesLogicalLine steps) mid (map Ok given) t → GivesLogicalLine steps t answer to
       → (taken : TakesGroup steps s.lines line mid) → EndsGroup steps s.lines (taken.first ∷ taken.others) mid → JoinsUpTo steps s.lines (line ∷ given) answer to.lines
   line-first s line mid t to given answer rest h k taken (inl e) = group-before s.lines line mid given answer to.lines taken e.1 e.2 (rest e.0)
   line-first s line mid t to given answer rest h k taken (inr e) =
@@ -122,7 +122,7 @@ module _ {I : Type 0} (steps : Steps I) where
       rw (p.0, p.1) (group-last s.lines line mid to.lines taken e.1 e.2)
 
   -- Whatever is given is what the natural lines are joined to.
-  pub joins_all : (s : LogicalLines I) → s.is_done ≡ false → JoinsAll steps s
-  joins_all s d [] answer to (t, h, k) = first-end s answer to d (subst (λ v. GivesNext steps v answer to) (sym h) k)
+  pub joins_all : (s : LogicalLines I) → s.is_done ≡ false → JoinsEach steps s
+  joins_all s d [] answer to (t, h, k) = first-end s answer to d (subst (λ v. GivesLogicalLine steps v answer to) (sym h) k)
   joins_all s d (line ∷ given) answer to (t, h, k) =
       line-first s line h.0 t to given answer (λ e. joins_all h.0 e given answer to (t, h.2, k)) h.2 k h.1.1 h.1.1.ends

@@ -32,7 +32,7 @@ use Rattle.properties_lines.specs.declared.error.LineError.TheVariants as why
 use Rattle.properties_lines.specs.declared.search.LineEnd.{LineEnd}
 use Rattle.properties_lines.specs.declared.finder.HeldLine.{HeldLine}
 use Rattle.properties_lines.specs.LineFinder as finder
-use Rattle.properties_lines.specs.LineFinder.{IsLineStart, IsSettled, HoldsNoEndYet, IsAlike, TellsStart, Settles, SettlesLast, Along, IsAtLast, IsReady, HoldsLineEnd, LooksFor, Looks, HasFound, HasEnded, HasBroken, HasNoRoom, Seeks, PassesFirst, IsHeldLine, Finder, TakesHeld, FindsNext, FindsError, IsRefused}
+use Rattle.properties_lines.specs.LineFinder.{IsLineStart, IsSettled, HoldsNoEndYet, IsAlike, TellsStart, SettlesEncoding, SettlesLast, Along, IsAtLast, IsReady, HoldsLineEnd, LooksFor, Looks, HasFound, HasEnded, HasBroken, HasNoRoom, Seeks, PassesFirst, IsHeldLine, Finder, TakesHeld, FindsNext, FindsError, SaysFillError}
 use Rattle.properties_text.specs.declared.encoding.byte_order_mark.ByteOrderMark.{ByteOrderMark}
 use Rattle.properties_text.specs.declared.encoding.byte_order_mark.ByteOrderMark.TheVariants.{Present, Absent, Undecided}
 
@@ -121,7 +121,7 @@ yet-more s g (inl h) = (natural-more s (record { going = g; decided = h.0; none 
 yet-more s g (inr h) = (gives-decided_last s more h.0).natural ∙ (natural-more (after_decided s) (waiting-no_end s g h.1)).0
 
 -- It waits for the byte order mark.
-pub settles-waiting : (s : ReaderState) → s.is_done ≡ false → s.is_decided ≡ false → awaits_bom s.held ≡ true → Settles s false s
+pub settles-waiting : (s : ReaderState) → s.is_done ≡ false → s.is_decided ≡ false → awaits_bom s.held ≡ true → SettlesEncoding s false s
 settles-waiting s g d h = record {
   alike = alike-self s;
   yes = λ e. absurd (cc);
@@ -129,7 +129,7 @@ settles-waiting s g d h = record {
 }
 
 -- The byte order mark is decided, and no line end stands before.
-pub settles-decided : (s : ReaderState) → s.is_decided ≡ false → s.after_cr ≡ false → awaits_bom s.held ≡ false → Settles s true (after_decided s)
+pub settles-decided : (s : ReaderState) → s.is_decided ≡ false → s.after_cr ≡ false → awaits_bom s.held ≡ false → SettlesEncoding s true (after_decided s)
 settles-decided s d a h = record { alike = alike-decided s d h; yes = λ e. record { decided = refl; after_end = a }; no = λ e. absurd (cc) }
 
 -- ---- where nothing more comes
@@ -255,7 +255,7 @@ pub looks-on : {s t : ReaderState} {was settled : Bool} {found : Option LineEnd}
 looks-on {s} h k e = record { alike = rw h (alike-self s); finds = k; progress = (λ y. e ∙ y, λ y. h) }
 
 -- it has just been settled
-pub looks-settled : {s t : ReaderState} {was settled told : Bool} {found : Option LineEnd} {n : ℕ} → Settles s told t → LooksFor found t settled n
+pub looks-settled : {s t : ReaderState} {was settled told : Bool} {found : Option LineEnd} {n : ℕ} → SettlesEncoding s told t → LooksFor found t settled n
     → was ≡ false → settled ≡ true → Looks s was found t settled n
 looks-settled h k w e = record { alike = h.alike; finds = k; progress = (λ y. e, λ y. absurd (cc)) }
 
@@ -405,7 +405,7 @@ module _ {R : Type 0} {reader : Reader R} where
 
   -- none could be read
   pub found-none : {s : ReaderState} (t u : ReaderState) {from to : R} {number : ℕ} {e : LineError} (error : FillError) → Seeks reader s from (Err error) t to → number ≡ s.passed + 1
-      → IsRefused number error e → FindsError reader s from e u to
+      → SaysFillError number error e → FindsError reader s from e u to
   found-none t u (Memory error) h n is = inr (inr (record { room = h; is = is }))
   found-none t u {e = e} (Io error) h n is =
       let k = natural-fault _ h.last.none in

@@ -73,10 +73,10 @@ abbrev pub MayGoOn : {I : Type 0} → (I → Type 0) → (I → Count) → I →
 MayGoOn can left from to = to.is_done ≡ false → can to.lines × IsFinite (left to.lines) × (size (left to.lines) ≤ size (left from))
 
 -- What a call gives. At the end, where it was before or where the natural lines end, there is nothing more.
-abbrev pub GivesNext : {I : Type 0} → Steps I → LogicalLines I → Option (Result LogicalLine LineError) → LogicalLines I → Type 0
-GivesNext steps from None to =
+abbrev pub GivesLogicalLine : {I : Type 0} → Steps I → LogicalLines I → Option (Result LogicalLine LineError) → LogicalLines I → Type 0
+GivesLogicalLine steps from None to =
     (to.is_done ≡ true) × (((from.is_done ≡ true) × (to.lines ≡ from.lines)) ⊎ ((from.is_done ≡ false) × steps from.lines None to.lines))
-GivesNext steps from (Some answer) to = (from.is_done ≡ false) × TakesNext steps from.lines answer to
+GivesLogicalLine steps from (Some answer) to = (from.is_done ≡ false) × TakesNext steps from.lines answer to
 
 -- ---- all that is given
 
@@ -99,7 +99,7 @@ JoinsUpTo steps from given (Some (Ok line)) to = Unit {0}
 JoinsUpTo steps from given (Some (Err error)) to = JoinsToError steps from given error to ⊎ (error ≡ why.Memory)
 
 -- So it is whenever its calls give these lines and then the end, or an error.
-abbrev pub JoinsAll : {I : Type 0} → Steps I → LogicalLines I → Type 0
-JoinsAll {I} steps from =
+abbrev pub JoinsEach : {I : Type 0} → Steps I → LogicalLines I → Type 0
+JoinsEach {I} steps from =
     (given : List LogicalLine) (answer : Option (Result LogicalLine LineError)) (to : LogicalLines I)
-    → YieldsThen (GivesNext steps) from (map Ok given) answer to → JoinsUpTo steps from.lines given answer to.lines
+    → YieldsThen (GivesLogicalLine steps) from (map Ok given) answer to → JoinsUpTo steps from.lines given answer to.lines

@@ -39,7 +39,7 @@ pub record IsAlike (old new : ReaderState) : Type 0 where
   pub done : new.is_done ≡ old.is_done
 
 -- What is held settles it, or gives no line yet.
-pub record Settles (old : ReaderState) (settled : Bool) (new : ReaderState) : Type 0 where
+pub record SettlesEncoding (old : ReaderState) (settled : Bool) (new : ReaderState) : Type 0 where
   pub alike : IsAlike old new
   pub yes : settled ≡ true → IsSettled new
   pub no : settled ≡ false → (new ≡ old) × HoldsNoEndYet new
@@ -227,9 +227,9 @@ pub record FindsNoRoom {R : Type 0} (reader : Reader R) (old : ReaderState) (fro
   pub is : e ≡ why.Memory
 
 -- what is told of a read that could not be made in the line of this number
-abbrev pub IsRefused : ℕ → FillError → LineError → Type 0
-IsRefused number (Memory error) e = e ≡ why.Memory
-IsRefused number (Io error) e = e ≡ why.Io number error
+abbrev pub SaysFillError : ℕ → FillError → LineError → Type 0
+SaysFillError number (Memory error) e = e ≡ why.Memory
+SaysFillError number (Io error) e = e ≡ why.Io number error
 
 -- Why no line was found.
 abbrev pub FindsError : {R : Type 0} → Reader R → ReaderState → R → LineError → ReaderState → R → Type 0

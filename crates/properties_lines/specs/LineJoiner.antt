@@ -40,10 +40,10 @@ pub record FindsNext {R : Type 0} (reader : Reader R) (old : ReaderState) (from 
   pub ended : new.state.is_done ≡ true → reader.at_end to ≡ true
   pub lazy : IsLazy old from bytes to
 
-abbrev pub Finds : {R : Type 0} → Reader R → Joiner → R → Option (Result ℕ LineError) → Joiner → R → Type 0
-Finds reader old from None new to = (old.state.is_done ≡ true) × (new.state ≡ old.state) × (to ≡ from)
-Finds reader old from (Some (Ok number)) new to = FindsNext reader old.state from number new to
-Finds reader old from (Some (Err e)) new to = (old.state.is_done ≡ false) × (new.state.is_done ≡ true) × FindsError reader old.state from e new.state to
+abbrev pub FindsNatural : {R : Type 0} → Reader R → Joiner → R → Option (Result ℕ LineError) → Joiner → R → Type 0
+FindsNatural reader old from None new to = (old.state.is_done ≡ true) × (new.state ≡ old.state) × (to ≡ from)
+FindsNatural reader old from (Some (Ok number)) new to = FindsNext reader old.state from number new to
+FindsNatural reader old from (Some (Err e)) new to = (old.state.is_done ≡ false) × (new.state.is_done ≡ true) × FindsError reader old.state from e new.state to
 
 -- The bytes of a line are its text, which holds no backslash.
 pub record IsTextLine (s : ReaderState) (bytes : List ℕ) : Type 0 where

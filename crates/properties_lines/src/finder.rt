@@ -6,7 +6,7 @@ ghost use Rattle.properties_format.specs.Text.{line_feed};
 ghost use Rattle.properties_format.specs.Encoding.{ascii_bytes};
 ghost use Rattle.properties_format.specs.ItemsToCome.{start};
 ghost use Rattle.properties_text.specs.Encoding.{encoding_of};
-ghost use Rattle.properties_lines.specs.LineFinder.{Finder, Finds, IsHeldLine, IsLineStart, IsRefused, TakesHeld, TellsStart, lines_left, transposed};
+ghost use Rattle.properties_lines.specs.LineFinder.{Finder, Finds, IsHeldLine, IsLineStart, SaysFillError, TakesHeld, TellsStart, lines_left, transposed};
 
 use crate::error::LineError;
 use crate::input::{FillError, InputBuffer};
@@ -254,7 +254,7 @@ fn line_feed_of(encoding: Encoding) -> &'static [u8]
 
 // Why no bytes could be read, in the line of this number.
 fn refusal(number: usize, error: FillError) -> LineError
-    ensures { IsRefused number error result }
+    ensures { SaysFillError number error result }
 {
     match error {
         FillError::Memory(error) => LineError::from(error),

@@ -8,7 +8,7 @@ ghost use Rattle.properties_format.specs.ItemsToCome.{start};
 ghost use Rattle.properties_text.specs.Encoding.{encoding_of};
 ghost use Rattle.properties_lines.specs.LineFinder.{lines_left, IsHeldLine};
 ghost use Rattle.properties_text.specs.Escaping.{holds_backslash};
-ghost use Rattle.properties_lines.specs.LineJoiner.{Joiner, Finds, Joins, JoinsAfter, JoinsOn, JoinsPlain, TakesPlain, IsTextLine};
+ghost use Rattle.properties_lines.specs.LineJoiner.{Joiner, FindsNatural, Joins, JoinsAfter, JoinsOn, JoinsPlain, TakesPlain, IsTextLine};
 
 use crate::error::LineError;
 use crate::finder::{HeldLine, LineFinder};
@@ -175,7 +175,7 @@ impl LineJoiner {
 
     // The next natural line, decoded.
     fn next_natural<R: CountedRead>(&mut self, reader: &mut R) -> Option<Result<usize, LineError>>
-        ensures finds { Finds R.CountedRead self.old reader.old result self.new reader.new }
+        ensures finds { FindsNatural R.CountedRead self.old reader.old result self.new reader.new }
         ensures same_reader { IsSameReader R.CountedRead reader.old reader.new }
         ensures nearer { OnSome result (lines_left self.new.state < lines_left self.old.state) }
     {

@@ -7,8 +7,7 @@ ghost use Rattle.properties_text.specs.Encoding.{encoding_of};
 ghost use Rattle.properties_lines.specs.LineTexts.{KeepsText, AddsLine};
 
 use crate::join::{addition, is_open, without_open_backslash};
-use properties_text::encoding::decode::as_text;
-use properties_text::encoding::{Encoding, TextBuffer};
+use properties_text::encoding::{Encoding, TextBuffer, as_text};
 use std::alloc::AllocError;
 
 /// Puts the text of a line in the place of another, unless its bytes are its text, and says whether it did.

@@ -81,7 +81,8 @@ bytes-front bytes a b c d front long ea eb ec ed are =
     let text = a ∷ b ∷ c ∷ d ∷ [] in
     let whole : bytes ≡ text ++ drop 4 bytes =
     drop_more bytes 0 0 (omega arith)
-    ∙ ap (λ v. get_or bytes 0 0 ∷ v) (drop_more bytes 1 0 (omega arith) ∙ ap (λ v. get_or bytes 1 0 ∷ v) (drop_more bytes 2 0 (omega arith) ∙ ap (λ v. get_or bytes 2 0 ∷ v) (drop_more bytes 3 0 (omega arith))))
+    ∙ ap (λ v. get_or bytes 0 0 ∷ v) (drop_more bytes 1 0 (omega arith) ∙ ap (λ v. get_or bytes 1 0 ∷ v)
+    (drop_more bytes 2 0 (omega arith) ∙ ap (λ v. get_or bytes 2 0 ∷ v) (drop_more bytes 3 0 (omega arith))))
     ∙ rw (ea, eb, ec, ed) refl in
     let is = are-ascii text are.ascii in
     record {

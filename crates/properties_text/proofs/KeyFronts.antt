@@ -9,11 +9,11 @@ use Rattle.byte_blocks.specs.Classes.{is_control}
 use Rattle.properties_format.specs.Text.{space, tab, form_feed, backslash, is_separator, is_comment_sign}
 use Rattle.properties_format.specs.Printing.{is_special}
 use Rattle.properties_format.specs.Reading.Split.{ends_key}
-use Rattle.properties_text.specs.Parsing.{is_plain}
+use Rattle.properties_text.specs.Parsing.{stays_in_key}
 use Rattle.properties_text.proofs.Scanning.{IsCutSoFar, cut-plain}
 
 -- a character that isn't special when it is printed, and is no control character
-plain-one : (c : ℕ) → space ≤ c → is_special c ≡ false → is_plain c ≡ true
+plain-one : (c : ℕ) → space ≤ c → is_special c ≡ false → stays_in_key c ≡ true
 plain-one c h s =
     let first = or_parts (c == backslash) (c == space || (is_separator c || is_comment_sign c)) s in
     let second = or_parts (c == space) (is_separator c || is_comment_sign c) first.1 in
@@ -27,24 +27,24 @@ abbrev pub may_end : ℕ → Bool
 may_end c = is_control c || is_special c
 
 -- before the first such character all are plain
-pub plain-front : (text : List ℕ) (n : ℕ) → Nowhere (Passes may_end text) 0 n → All (λ c. is_plain c ≡ true) (take n text)
+pub plain-front : (text : List ℕ) (n : ℕ) → Nowhere (Passes may_end text) 0 n → All (λ c. stays_in_key c ≡ true) (take n text)
 plain-front text n none =
-    All-from_get_or (λ c. is_plain c ≡ true) (take n text) 0 (λ k inside.
+    All-from_get_or (λ c. stays_in_key c ≡ true) (take n text) 0 (λ k inside.
     let small : k < n = omega (arith, inside, length-take n text) in
     let c = get_or text k 0 in
     let parts = or_parts (is_control c) (is_special c) (false_from_ne_true (may_end c) (none k (omega arith) small)) in
-    ap is_plain (get_or-take n text k 0 small) ∙ plain-one c (ltb-false c space parts.0) parts.1)
+    ap stays_in_key (get_or-take n text k 0 small) ∙ plain-one c (ltb-false c space parts.0) parts.1)
 
 -- Plain characters all belong to the key.
-pub cut-plains : (xs : List ℕ) (i : ℕ) → i ≤ length xs → All (λ c. is_plain c ≡ true) (take i xs) → IsCutSoFar xs i false
+pub cut-plains : (xs : List ℕ) (i : ℕ) → i ≤ length xs → All (λ c. stays_in_key c ≡ true) (take i xs) → IsCutSoFar xs i false
 cut-plains xs i h all = upto i (omega arith)
   where
-    plain : (j : ℕ) → j < i → is_plain (get_or xs j 0) ≡ true
-    plain j k = subst (λ c. is_plain c ≡ true) (get_or-take i xs j 0 k) (All-get_or (λ c. is_plain c ≡ true) (take i xs) j 0 (omega (arith, length-take-le i xs h)) all)
+    plain : (j : ℕ) → j < i → stays_in_key (get_or xs j 0) ≡ true
+    plain j k = subst (λ c. stays_in_key c ≡ true) (get_or-take i xs j 0 k) (All-get_or (λ c. stays_in_key c ≡ true) (take i xs) j 0 (omega (arith, length-take-le i xs h)) all)
 
-    parts : (c : ℕ) → is_plain c ≡ true → ((c == backslash) ≡ false) × (ends_key c ≡ false)
+    parts : (c : ℕ) → stays_in_key c ≡ true → ((c == backslash) ≡ false) × (ends_key c ≡ false)
     parts c p = elim (cases_Bool (c == backslash || ends_key c)) [
-      | inl t ↦ absurd (let no : is_plain c ≡ false = rw t refl in cc)
+      | inl t ↦ absurd (let no : stays_in_key c ≡ false = rw t refl in cc)
       | inr f ↦ or_parts (c == backslash) (ends_key c) f
     ]
 

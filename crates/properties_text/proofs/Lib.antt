@@ -7,7 +7,6 @@ pub mod Printing
 pub mod Texts
 pub mod Scanning
 pub mod Blocks
-pub mod LaneTable
 pub mod KeyFronts
 pub mod BlankFronts
 pub mod AsciiFronts

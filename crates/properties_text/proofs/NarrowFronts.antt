@@ -86,7 +86,8 @@ front-of p (suc k) (c ∷ cs) (b ∷ text) s e l le h =
           left = ap (λ n. drop n (b ∷ text)) (lead-past k b text (omega arith)) ∙ next.left;
         }
 
-    two : Fronts cs → (k : ℕ) (text : List ℕ) → 0x80 ≤ c → c < 0x800 → b ∷ text ≡ encode_utf8_all (c ∷ cs) → suc k ≤ length (b ∷ text) → AreOfLatin1 p (take (suc k) (b ∷ text)) → IsFront p (suc k) (c ∷ cs) (b ∷ text)
+    two : Fronts cs → (k : ℕ) (text : List ℕ) → 0x80 ≤ c → c < 0x800 → b ∷ text ≡ encode_utf8_all (c ∷ cs)
+        → suc k ≤ length (b ∷ text) → AreOfLatin1 p (take (suc k) (b ∷ text)) → IsFront p (suc k) (c ∷ cs) (b ∷ text)
     two more k [] high m e le h = absurd (let whole : b ∷ [] ≡ (192 + c / 64) ∷ (128 + c % 64) ∷ encode_utf8_all cs = e ∙ ap (λ l. l ++ encode_utf8_all cs) (encode-two c high m) in cc)
     two more zero (d ∷ text) high m e le h =
         let whole : b ∷ d ∷ text ≡ (192 + c / 64) ∷ (128 + c % 64) ∷ encode_utf8_all cs = e ∙ ap (λ l. l ++ encode_utf8_all cs) (encode-two c high m) in
@@ -118,7 +119,8 @@ front-of p (suc k) (c ∷ cs) (b ∷ text) s e l le h =
           are = next.are;
           bytes = ap₂ (λ x y. x ∷ y) (byte ∙ ap Some (sym own)) next.bytes
               ∙ ap₂ (λ t u. map Some (cond t [] (raised p b ∷ []) ++ (cond u [] (raised b d ∷ []) ++ narrowed d (take k text)))) (sym lead) (sym none);
-          left = ap (λ n. drop n (b ∷ d ∷ text)) (let far : suc (suc k) - one_lead (get_or (d ∷ text) k 0) ≡ suc (suc (k - one_lead (get_or (d ∷ text) k 0))) = omega (arith, lead-past k d text (omega arith)) in far)
+          left = ap (λ n. drop n (b ∷ d ∷ text)) (let far : suc (suc k) - one_lead (get_or (d ∷ text) k 0)
+              ≡ suc (suc (k - one_lead (get_or (d ∷ text) k 0))) = omega (arith, lead-past k d text (omega arith)) in far)
               ∙ next.left;
         }
 

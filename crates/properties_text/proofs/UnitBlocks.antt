@@ -1,119 +1,23 @@
 -- Units of two bytes, eight and sixteen at once.
 use Rattle.std.specs.Prelude.{encode_utf8_all}
 use Rattle.std.specs.Str.{chars, IsUtf8}
-use Rattle.std.proofs.Math.Utf8.{scalars}
 use Rattle.std.proofs.lemmas.Str.{IsUtf8-append, chars-append, chars-encodes}
-use Rattle.std.proofs.Common.{true, ◌≡◌, ℕ, zero, suc, ◌+◌, ◌*◌, ◌/◌, ◌%◌, ◌^◌, ◌<◌, ◌≤◌, cond, leb, List, [], ◌∷◌, ◌++◌, refl, sym, ap, ap₂, subst, ◌∙◌, append-nil, append_assoc, arith, length, take, drop, get_or, map, replicate, w8, w16, Fits, bit_and}
+use Rattle.std.proofs.Common.{false, ◌≡◌, ℕ, zero, suc, ◌+◌, ◌*◌, ◌<◌, ◌≤◌, nat_le, Bool, List, [], ◌∷◌, ◌++◌, refl, sym, ap, ap₂, subst, ◌∙◌, append-nil, append_assoc, arith, length, take, drop, get_or, map, w8, Fits}
 use Rattle.std.specs.List.{AllByRecursion}
-use Rattle.std.specs.Int.Count.{count_trailing_zeros}
-use Rattle.std.specs.Simd.Lanes.{zip2, Each1, pick_l, mask_l, top, number_l, digits_l}
-use Rattle.std.proofs.lemmas.Nat.{and_mask}
-use Rattle.std.proofs.lemmas.List.{length-append, length-map, length-take-le, map-id, take-take, take_at}
-use Rattle.std.proofs.lemmas.Simd.{mask_l-mod, tops_compared, zip2_splat, zip2_splat_left, pick_l_left, pick_l_whole}
+use Rattle.std.specs.Simd.Lanes.{Each1, pick_l}
+use Rattle.std.proofs.lemmas.Bool.{leb-false}
+use Rattle.std.proofs.lemmas.List.{length-take-le, take-take, take_at}
+use Rattle.std.proofs.lemmas.Simd.{pick_l_whole}
+use Rattle.byte_blocks.specs.Marks.{clear_front}
+use Rattle.byte_blocks.proofs.Marking.{fails-before}
 use Rattle.properties_text.specs.Decoding.{text_of, unit_of, units_of, evens, odds, lows_of, highs_of, utf_16_of, PutsLatin1, PutsUnits}
 use Rattle.properties_text.specs.declared.encoding.Encoding.{Encoding}
 use Rattle.properties_text.proofs.AsciiFronts.{unit-step}
 use Rattle.properties_text.specs.declared.encoding.unit_blocks.Written.{Written}
 use Rattle.properties_text.specs.declared.encoding.utf_16.ByteOrder.{ByteOrder}
 use Rattle.properties_text.specs.declared.encoding.utf_16.ByteOrder.TheVariants.{LowFirst, HighFirst}
-use Rattle.properties_text.proofs.Latin1.{first-below}
 
--- ---- the units of sixteen bytes
-
--- the low byte first
-digits-units : (n : ℕ) (v : List ℕ) → length v ≡ 2 * n → Each1 (Fits w8) v → digits_l (2 ^ 16) n (number_l (2 ^ 8) v) ≡ units_of LowFirst v
-digits-units zero [] e h = refl
-digits-units zero (a ∷ v) e h = absurd (omega arith)
-digits-units (suc n) [] e h = absurd (omega arith)
-digits-units (suc n) (a ∷ []) e h = absurd (omega arith)
-digits-units (suc n) (a ∷ b ∷ v) e h =
-    let low = h.0.fits in
-    let high = h.1.0.fits in
-    let rest = number_l (2 ^ 8) v in
-    let first : (a + 2 ^ 8 * (b + 2 ^ 8 * rest)) % 2 ^ 16 ≡ b * 0x100 + a = omega arith in
-    let others : (a + 2 ^ 8 * (b + 2 ^ 8 * rest)) / 2 ^ 16 ≡ rest = omega arith in
-    ap₂ (λ x y. x ∷ digits_l (2 ^ 16) n y) first others ∙ ap (λ l. (b * 0x100 + a) ∷ l) (digits-units n v (omega arith) h.1.1)
-
-pub low-first : (v : List ℕ) → length v ≡ 16 → Each1 (Fits w8) v → digits_l (2 ^ 16) 8 (number_l (2 ^ 8) v) ≡ units_of LowFirst v
-low-first v long fits = digits-units 8 v (omega arith) fits
-
-length-units : (order : ByteOrder) (n : ℕ) (v : List ℕ) → length v ≡ 2 * n → length (units_of order v) ≡ n
-length-units order zero [] e = refl
-length-units order zero (a ∷ v) e = absurd (omega arith)
-length-units order (suc n) [] e = absurd (omega arith)
-length-units order (suc n) (a ∷ []) e = absurd (omega arith)
-length-units order (suc n) (a ∷ b ∷ v) e = ap suc (length-units order n v (omega arith))
-
-pub eight-units : (order : ByteOrder) (v units : List ℕ) → length v ≡ 16 → units ≡ units_of order v → length units ≡ 8
-eight-units order v units long e = ap length e ∙ length-units order 8 v (omega arith)
-
--- lanes that are picked fit
-get-fits : (v : List ℕ) → Each1 (Fits w8) v → (k : ℕ) → Fits w8 (get_or v k 0)
-get-fits [] h k = record { fits = omega arith }
-get-fits (b ∷ v) h zero = h.0
-get-fits (b ∷ v) h (suc k) = get-fits v h.1 k
-
-picked-fits : (v ks : List ℕ) → Each1 (Fits w8) v → Each1 (Fits w8) (pick_l 0 v ks)
-picked-fits v [] h = tt
-picked-fits v (k ∷ ks) h = (get-fits v h k, picked-fits v ks h)
-
--- each two bytes the other way round
-abbrev swapped : List ℕ
-swapped = 1 ∷ 0 ∷ 3 ∷ 2 ∷ 5 ∷ 4 ∷ 7 ∷ 6 ∷ 9 ∷ 8 ∷ 11 ∷ 10 ∷ 13 ∷ 12 ∷ 15 ∷ 14 ∷ []
-
-pub high-first : (v : List ℕ) → length v ≡ 16 → Each1 (Fits w8) v → digits_l (2 ^ 16) 8 (number_l (2 ^ 8) (pick_l 0 (v ++ v) swapped)) ≡ units_of HighFirst v
-high-first v long fits =
-    ap (λ l. digits_l (2 ^ 16) 8 (number_l (2 ^ 8) l)) (pick_l_left 0 v v 16 swapped long tt)
-    ∙ digits-units 8 (pick_l 0 v swapped) refl (picked-fits v swapped fits)
-    ∙ ap (units_of HighFirst) (pick_l_whole 0 v 16 long)
-
--- ---- those at the front that are characters of Latin-1
-
--- the bits of the others
-abbrev pub past_bits : List ℕ → ℕ
-past_bits units = mask_l (map (top 15) (zip2 (λ a b. cond (leb a b) 65535 0) (replicate 8 0x100) units)) % 2 ^ 64
-
-pub first-bytes : (units all : List ℕ) (n : ℕ) → length units ≡ 8 → units ≡ all → n ≤ count_trailing_zeros 64 (past_bits units) → n ≤ 8
-    → AllByRecursion (λ u. u < 0x100) (take n all)
-first-bytes units all n long e few le =
-    let bits : past_bits units ≡ mask_l (map (leb 0x100) units) =
-    ap (λ l. mask_l l % 2 ^ 64) (tops_compared w16 leb (replicate 8 0x100) units ∙ zip2_splat_left leb 0x100 8 units long)
-    ∙ mask_l-mod (map (leb 0x100) units) 64 (omega (arith, length-map units (leb 0x100))) in
-    subst (λ l. AllByRecursion (λ u. u < 0x100) (take n l)) e (first-below 0x100 units (past_bits units) 8 n long (omega arith) bits few le)
-
--- ---- how they are written
-
--- the low bytes
-low-bytes : (units : List ℕ) (n : ℕ) → AllByRecursion (λ u. u < 0x100) (take n units) → take n (map (λ u. u % 256) units) ≡ take n units
-low-bytes units zero h = refl
-low-bytes [] (suc n) h = refl
-low-bytes (u ∷ units) (suc n) h =
-    let same : u % 256 ≡ u = omega (arith, h.0) in
-    ap₂ (λ x xs. x ∷ xs) same (low-bytes units n h.1)
-
-masked : (units : List ℕ) → length units ≡ 8 → zip2 bit_and units (replicate 8 255) ≡ map (λ u. u % 256) units
-masked units long = zip2_splat bit_and units 8 255 long ∙ each units
-  where
-    each : (units : List ℕ) → map (λ u. bit_and u 255) units ≡ map (λ u. u % 256) units
-    each [] = refl
-    each (u ∷ units) = ap₂ (λ x xs. x ∷ xs) (and_mask u 8) (each units)
-
--- each of them fits a byte
-pub bytes-fit : (units : List ℕ) → length units ≡ 8 → Each1 (Fits w8) (zip2 bit_and units (replicate 8 255))
-bytes-fit units long = subst (Each1 (Fits w8)) (sym (masked units long)) (each units)
-  where
-    each : (units : List ℕ) → Each1 (Fits w8) (map (λ u. u % 256) units)
-    each [] = tt
-    each (u ∷ units) = (record { fits = omega arith }, each units)
-
--- the first of them are those bytes
-pub first-same : (units all : List ℕ) (n : ℕ) → length units ≡ 8 → units ≡ all → AllByRecursion (λ u. u < 0x100) (take n all)
-    → take n (map (λ u. u) (zip2 bit_and units (replicate 8 255))) ≡ take n all
-first-same units all n long e h =
-    let known = subst (λ l. AllByRecursion (λ u. u < 0x100) (take n l)) (sym e) h in
-    ap (take n) (map-id (zip2 bit_and units (replicate 8 255)) ∙ masked units long) ∙ low-bytes units n known ∙ ap (take n) e
-
--- ---- sixteen of them, by their halves
+-- ---- their bytes, the low ones and the high ones
 
 abbrev even_places : List ℕ
 even_places = 0 ∷ 2 ∷ 4 ∷ 6 ∷ 8 ∷ 10 ∷ 12 ∷ 14 ∷ 16 ∷ 18 ∷ 20 ∷ 22 ∷ 24 ∷ 26 ∷ 28 ∷ 30 ∷ []
@@ -121,6 +25,7 @@ even_places = 0 ∷ 2 ∷ 4 ∷ 6 ∷ 8 ∷ 10 ∷ 12 ∷ 14 ∷ 16 ∷ 18 ∷ 2
 abbrev odd_places : List ℕ
 odd_places = 1 ∷ 3 ∷ 5 ∷ 7 ∷ 9 ∷ 11 ∷ 13 ∷ 15 ∷ 17 ∷ 19 ∷ 21 ∷ 23 ∷ 25 ∷ 27 ∷ 29 ∷ 31 ∷ []
 
+-- what the even places pick, and the odd ones
 pub evens-picked : (v : List ℕ) → length v ≡ 32 → pick_l 0 v even_places ≡ evens v
 evens-picked v long = ap evens (pick_l_whole 0 v 32 long)
 
@@ -141,26 +46,11 @@ low-units HighFirst (a ∷ b ∷ v) (suc n) h =
     let same : unit_of HighFirst a b ≡ b = omega (arith, h.0) in
     ap₂ (λ x xs. x ∷ xs) same (low-units HighFirst v n h.1)
 
--- the bits of the high bytes that aren't
-abbrev pub high_bits : List ℕ → ℕ
-high_bits highs = mask_l (map (top 7) (zip2 (λ a b. cond (leb a b) 255 0) (replicate 16 1) highs)) % 2 ^ 64
-
-pub first-zeros : (highs : List ℕ) (n : ℕ) → length highs ≡ 16 → n ≤ count_trailing_zeros 64 (high_bits highs) → n ≤ 16 → AllByRecursion (λ h. h < 1) (take n highs)
-first-zeros highs n long few le =
-    let bits : high_bits highs ≡ mask_l (map (leb 1) highs) =
-    ap (λ l. mask_l l % 2 ^ 64) (tops_compared w8 leb (replicate 16 1) highs ∙ zip2_splat_left leb 1 16 highs long)
-    ∙ mask_l-mod (map (leb 1) highs) 64 (omega (arith, length-map highs (leb 1))) in
-    first-below 1 highs (high_bits highs) 16 n long (omega arith) bits few le
-
-length-evens : (v : List ℕ) → length v ≡ 32 → length (evens v) ≡ 16
-length-evens v long = ap length (sym (evens-picked v long))
-
-length-odds : (v : List ℕ) → length v ≡ 32 → length (odds v) ≡ 16
-length-odds v long = ap length (sym (odds-picked v long))
-
-length-highs : (order : ByteOrder) (v : List ℕ) → length v ≡ 32 → length (highs_of order v) ≡ 16
-length-highs LowFirst = length-odds
-length-highs HighFirst = length-evens
+-- the first n are below a number, where no mark of the others stands among them
+first-below : (least : ℕ) (v : List ℕ) (n : ℕ) → ((k : ℕ) → k < n → nat_le least (get_or v k 0) ≡ false) → AllByRecursion (λ b. b < least) (take n v)
+first-below least v zero h = tt
+first-below least [] (suc n) h = tt
+first-below least (b ∷ v) (suc n) h = (leb-false least b (h 0 (omega arith)), first-below least v n (λ k lt. h (suc k) (omega arith)))
 
 -- the low bytes are below 100
 below-evens : (v : List ℕ) (n : ℕ) → Each1 (Fits w8) v → AllByRecursion (λ u. u < 0x100) (take n (evens v))
@@ -183,17 +73,24 @@ fits-append : (a b : List ℕ) → Each1 (Fits w8) a → Each1 (Fits w8) b → E
 fits-append [] b h k = k
 fits-append (x ∷ a) b h k = (h.0, fits-append a b h.1 k)
 
-module _ (order : ByteOrder) (a b highs : List ℕ) (n : ℕ) (long_a : length a ≡ 16) (long_b : length b ≡ 16) (is : highs ≡ highs_of order (a ++ b))
-    (few : n ≤ count_trailing_zeros 64 (high_bits highs)) (le : n ≤ 16) where
+module _ (order : ByteOrder) (a b highs : List ℕ) (marks : List Bool) (n : ℕ) (is : highs ≡ highs_of order (a ++ b)) (marked : marks ≡ map (nat_le 1) highs)
+    (few : n ≤ clear_front marks) where
   -- the first of them are their low bytes
-  pub sixteen-same : take n (lows_of order (a ++ b)) ≡ take n (units_of order (a ++ b))
-  sixteen-same =
-      let long : length (a ++ b) ≡ 32 = omega (arith, length-append a b) in
-      let zeros = first-zeros highs n (ap length is ∙ length-highs order (a ++ b) long) few le in
+  pub first-same : take n (lows_of order (a ++ b)) ≡ take n (units_of order (a ++ b))
+  first-same =
+      let zeros = first-below 1 highs n (fails-before (nat_le 1) highs marks n marked few) in
       sym (low-units order (a ++ b) n (subst (λ l. AllByRecursion (λ h. h < 1) (take n l)) is zeros))
 
-  pub sixteen-bytes : Each1 (Fits w8) a → Each1 (Fits w8) b → AllByRecursion (λ u. u < 0x100) (take n (units_of order (a ++ b)))
-  sixteen-bytes fits_a fits_b = subst (AllByRecursion (λ u. u < 0x100)) sixteen-same (below-lows order (a ++ b) n (fits-append a b fits_a fits_b))
+  -- and below 100
+  pub first-bytes : Each1 (Fits w8) a → Each1 (Fits w8) b → AllByRecursion (λ u. u < 0x100) (take n (units_of order (a ++ b)))
+  first-bytes fits_a fits_b = subst (AllByRecursion (λ u. u < 0x100)) first-same (below-lows order (a ++ b) n (fits-append a b fits_a fits_b))
+
+-- units of some bytes, whatever comes after these
+pub front-units : (order : ByteOrder) (n : ℕ) (v more : List ℕ) → 2 * n ≤ length v → take n (units_of order (v ++ more)) ≡ take n (units_of order v)
+front-units order zero v more le = refl
+front-units order (suc n) [] more le = absurd (omega arith)
+front-units order (suc n) (a ∷ []) more le = absurd (omega arith)
+front-units order (suc n) (a ∷ b ∷ v) more le = ap (λ l. unit_of order a b ∷ l) (front-units order n v more (omega arith))
 
 -- ---- what they stand for
 

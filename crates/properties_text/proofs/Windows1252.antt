@@ -1,5 +1,5 @@
 -- Bytes of windows-1252 and their characters, one by one.
-use Rattle.std.proofs.Common.{◌≡◌, ℕ, ◌+◌, ◌<◌, ◌≤◌, ◌&&◌, Bool, true, eqb, leb, List, [], ◌∷◌, ◌++◌, map, take, set, get_or, length, append_assoc, ap₂, Some, refl, sym, ap, subst, ◌∙◌, arith}
+use Rattle.std.proofs.Common.{◌≡◌, ℕ, ◌+◌, ◌<◌, ◌&&◌, Bool, true, eqb, leb, List, [], ◌∷◌, ◌++◌, map, take, set, get_or, length, append_assoc, ap₂, Some, refl, sym, ap, subst, ◌∙◌, arith}
 use Rattle.std.specs.Char.{encode_utf8}
 use Rattle.std.proofs.Math.Utf8.{scalar}
 use Rattle.std.proofs.lemmas.Bool.{and_parts, agree_below_at, eqb-true, leb-true}
@@ -9,7 +9,7 @@ use Rattle.properties_format.specs.Windows1252.{windows_1252_byte, windows_1252_
 use Rattle.properties_text.specs.Decoding.{IsTextOfByte}
 use Rattle.properties_text.specs.declared.encoding.windows_1252.ByteText.{ByteText}
 use Rattle.properties_text.specs.declared.encoding.windows_1252.texts.TheConstants.{TEXTS}
-use Rattle.properties_text.proofs.LaneTable.{starts, starts-take}
+use Rattle.byte_blocks.proofs.Rows.{starts, starts-take}
 
 -- one character more at the front of a text
 pub encodes-more : (text run rest more : List ℕ) (at c b : ℕ) → at < length run → EncodesFront text (take at run) rest → rest ≡ c ∷ more → windows_1252_byte c ≡ Some b

@@ -1,12 +1,8 @@
 -- Characters of Latin-1, of one or two bytes in UTF-8.
-use Rattle.std.specs.Prelude.{◌≡◌, ℕ, ◌-◌, ◌/◌, ◌%◌, ◌<◌, ◌++◌, ◌==◌, Bool, false, nat_lt, nat_le, if◌then◌else◌, List, [], ◌∷◌, bit_or}
+use Rattle.std.specs.Prelude.{◌≡◌, ℕ, ◌-◌, ◌<◌, ◌++◌, ◌==◌, Bool, false, nat_lt, nat_le, if◌then◌else◌, List, [], ◌∷◌, bit_or}
 use Rattle.properties_format.specs.Windows1252.{is_in_table}
 
--- whether a character has two bytes
-abbrev pub is_past_ascii : ℕ → Bool
-is_past_ascii c = nat_le 0x80 c
-
--- the first of them, where there are two
+-- the first byte of a character that has two
 abbrev pub lead_byte : ℕ → ℕ
 lead_byte c = if nat_lt c 0xc0 then 0xc2 else 0xc3
 
@@ -36,11 +32,6 @@ all_raised before (b ∷ bs) = raised before b ∷ all_raised b bs
 abbrev pub narrowed : ℕ → List ℕ → List ℕ
 narrowed before [] = []
 narrowed before (b ∷ bs) = (if is_lead b then [] else raised before b ∷ []) ++ narrowed b bs
-
--- elements without those whose bits are set
-abbrev pub dropped : ℕ → List ℕ → List ℕ
-dropped bits [] = []
-dropped bits (x ∷ xs) = (if bits % 2 == 1 then [] else x ∷ []) ++ dropped (bits / 2) xs
 
 -- Of the bytes of a text, after another byte, none is of a character past Latin-1, or of one from U+0080 to U+009F.
 abbrev pub AreOfLatin1 : ℕ → List ℕ → Type 0

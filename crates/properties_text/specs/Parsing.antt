@@ -11,8 +11,8 @@ use Rattle.properties_text.specs.declared.parse.ParsedSpans.TheVariants as spans
 use Rattle.properties_text.specs.declared.parse.Span.{Span}
 
 -- a character of a key that neither ends it nor takes the next one
-abbrev pub is_plain : ℕ → Bool
-is_plain c = not (c == backslash || ends_key c)
+abbrev pub stays_in_key : ℕ → Bool
+stays_in_key c = not (c == backslash || ends_key c)
 
 -- whether a character is no blank
 abbrev pub is_no_blank : ℕ → Bool

@@ -6,7 +6,7 @@ ghost use Rattle.properties_text.specs.Encoding.{encoding_of};
 
 mod ascii;
 pub mod byte_order_mark;
-pub mod decode;
+pub(crate) mod decode;
 mod encode;
 pub(crate) mod first_piece;
 mod latin_1;
@@ -18,6 +18,7 @@ pub(crate) mod utf_8;
 mod windows_1252;
 
 pub(crate) use ascii::is_ascii;
+pub use decode::as_text;
 pub(crate) use decode::put_character;
 pub use encode::OutputEncoding;
 pub(crate) use encode::encode_run;

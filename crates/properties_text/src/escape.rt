@@ -1,6 +1,6 @@
 //! What the escapes of a key, a value or a comment's text stand for.
 
-ghost use Rattle.std.specs.Prelude.{◌≡◌, ◌≤◌, ◌<◌, ◌∷◌, ◌&&◌, ℕ, List, not, length, ◌++◌, IfOk, OnOk, IfSome, Some, None, if◌then◌else◌};
+ghost use Rattle.std.specs.Prelude.{◌≡◌, ◌≤◌, ◌<◌, ◌∷◌, ◌&&◌, ◌==◌, slice_index, ℕ, List, not, length, ◌++◌, IfOk, OnOk, IfSome, Some, None, if◌then◌else◌};
 ghost use Rattle.std.specs.Char.{IsScalar};
 ghost use Rattle.std.specs.Str.{chars};
 ghost use Rattle.std.specs.String.{string_bytes};
@@ -114,7 +114,9 @@ fn push_resolved(text: &mut String, s: &str) -> Result<(), UnescapeError>
 
 // Whether a backslash stands before a `u`.
 #[inline(always)]
-fn is_unicode(escape: &[u8]) -> bool {
+fn is_unicode(escape: &[u8]) -> bool
+    ensures { result ≡ (slice_index escape.now 1 == letter_u) }
+{
     escape.len() > 1 && escape[1] == b'u'
 }
 

@@ -12,8 +12,7 @@
 pub mod characters;
 pub mod encoding;
 pub mod escape;
-mod lanes;
+mod line_buffer;
 pub mod parse;
 pub mod print;
-mod room;
 pub mod single_lines;

@@ -6,7 +6,7 @@ ghost use Rattle.std.specs.Str.{chars};
 ghost use Rattle.properties_format.specs.Text.{is_blank, without_leading_blanks};
 ghost use Rattle.properties_format.specs.Split.{IsSplit};
 ghost use Rattle.properties_format.specs.Reading.Split.{without_trailing_blanks, trimmed, ends_key, cut_key, past_separator};
-ghost use Rattle.properties_text.specs.Parsing.{is_plain, parsed, bytes_in, spanned, in_characters, IsSpan, AreSpans, AreInPlace};
+ghost use Rattle.properties_text.specs.Parsing.{stays_in_key, parsed, bytes_in, spanned, in_characters, IsSpan, AreSpans, AreInPlace};
 
 use crate::characters::{is_blank, is_comment_sign, is_separator};
 use byte_blocks::{Blanks, Controls, Either, Except, Specials, find_in_block};
@@ -88,10 +88,7 @@ pub fn leading_blanks(text: &[u8]) -> usize
     past_blanks(text, 0)
 }
 
-// How many blanks are passed one by one. Where there are more, there may be many.
-const FEW: usize = 8;
-
-// The place of the first byte from here on that is no blank.
+// The place of the first byte from here on that is no blank. Mostly there is no blank, or one, which takes no call.
 #[inline(always)]
 fn past_blanks(text: &[u8], from: usize) -> usize
     requires { from ≤ length text.now }
@@ -99,14 +96,13 @@ fn past_blanks(text: &[u8], from: usize) -> usize
     ensures within { result ≤ length text.now }
     ensures rest { drop result text.now ≡ without_leading_blanks (drop from text.now) }
 {
-    let mut at = from;
-    while is_blank_at(text, at) {
-        at += 1;
-        if at - from >= FEW {
-            return at + count_blanks(&text[at..]);
-        }
+    if !is_blank_at(text, from) {
+        return from;
     }
-    at
+    if !is_blank_at(text, from + 1) {
+        return from + 1;
+    }
+    from + 2 + count_blanks(&text[from + 2..])
 }
 
 // The same, one by one.
@@ -167,7 +163,7 @@ fn key_length(text: &[u8]) -> usize
     ensures key { (cut_key text.now false).key ≡ take result text.now }
     ensures rest { (cut_key text.now false).rest ≡ drop result text.now }
 {
-    let mut at = plain_front(text);
+    let mut at = key_front(text);
     while at < text.len() {
         let byte = text[at];
         if ends_key(byte) {
@@ -180,9 +176,9 @@ fn key_length(text: &[u8]) -> usize
 
 // At least so many bytes at the front neither end a key nor are backslashes: those before a special byte or a control
 // character, as far as there are blocks of sixteen.
-fn plain_front(text: &[u8]) -> usize
+fn key_front(text: &[u8]) -> usize
     ensures within { result ≤ length text.now }
-    ensures plain { All (λ c. is_plain c ≡ true) (take result text.now) }
+    ensures plain { All (λ c. stays_in_key c ≡ true) (take result text.now) }
 {
     let mut at = 0;
     while text.len() - at >= 16 {

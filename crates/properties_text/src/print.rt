@@ -16,9 +16,8 @@ use bytes::print_bytes;
 use std::alloc::AllocError;
 
 mod bytes;
-mod line_buffer;
 
-pub use line_buffer::LineBuffer;
+pub use crate::line_buffer::LineBuffer;
 
 // How many bytes are encoded at once.
 const RUN: usize = 128;
@@ -168,7 +167,8 @@ fn print_first<'a>(line: &mut LineBuffer, text: &'a str) -> Result<&'a str, Allo
     Ok(characters.as_str())
 }
 
-// Prints the characters at the front that windows-1252 lacks, and returns the text after them.
+// Prints the characters at the front that windows-1252 lacks, with single characters between them, and returns the text
+// after them.
 fn print_lacking<'a>(line: &mut LineBuffer, text: &'a str) -> Result<&'a str, AllocError>
     ensures printed { IfOk result (λ rest.
         line.new ++ text_bytes all_of_windows_1252 KeyOrValue (chars rest.now)
@@ -186,9 +186,24 @@ fn print_lacking<'a>(line: &mut LineBuffer, text: &'a str) -> Result<&'a str, Al
             break;
         }
         print_escape(line, character)?;
-        rest = characters.as_str();
+        rest = print_between(line, characters.as_str())?;
     }
     Ok(rest)
+}
+
+// Prints a character of ASCII that stands before one past Latin-1, as the blank between two words, and returns the text
+// after it.
+#[inline(always)]
+fn print_between<'a>(line: &mut LineBuffer, text: &'a str) -> Result<&'a str, AllocError>
+    ensures printed { IfOk result (λ rest.
+        line.new ++ text_bytes all_of_windows_1252 KeyOrValue (chars rest.now)
+        ≡ line.old ++ text_bytes all_of_windows_1252 KeyOrValue (chars text.now)) }
+    ensures left { IfOk result (λ rest. length rest.now ≤ length text.now) }
+{
+    match text.as_bytes() {
+        [between, next, ..] if *between < 0x80 && *next >= 0xc4 => print_first(line, text),
+        _ => Ok(text),
+    }
 }
 
 // Prints a text, character by character.

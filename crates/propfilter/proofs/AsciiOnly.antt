@@ -48,7 +48,8 @@ module _ {W : Type 0} {sink : Sink W} (e : Encoding) (items : List Entry) {old n
   pair-ascii {key = key} {value = value} h = record {
     bytes = pair_lines e true items ++ h.part;
     taken = inr h.faulted;
-    ascii = wrote-on_line (output_encoding e) on refl on-good.separator 0 (pair_calls items) on _ (pair key value) h.part h.begins.others (pairs-keep (pairs_in items)) refl on-good.separator h.begins.whole;
+    ascii = wrote-on_line (output_encoding e) on refl on-good.separator 0 (pair_calls items) on _ (pair key value) h.part h.begins.others
+        (pairs-keep (pairs_in items)) refl on-good.separator h.begins.whole;
   }
 
   refused-ascii : {error : PropertiesError} → RefusesPair sink e true old items error new → TakesAscii sink old new

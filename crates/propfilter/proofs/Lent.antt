@@ -122,7 +122,8 @@ module _ {R W : Type 0} (reader : Reader R) (sink : Sink W) (e : Encoding) (only
   filters-lent (Err error) h = (h.0, record { scalars = h.1.scalars; stops = stops-lent h.0 error h.1.stops })
 
 -- equals stand for equals
-pub filters-same : {R W : Type 0} (reader : Reader R) (sink : Sink W) (result : Result Unit PropertiesError) (e e' : Encoding) (only only' : Bool) (input input' new new' : R) (output output' to to' : W)
+pub filters-same : {R W : Type 0} (reader : Reader R) (sink : Sink W) (result : Result Unit PropertiesError) (e e' : Encoding)
+    (only only' : Bool) (input input' new new' : R) (output output' to to' : W)
     → Filters reader sink e only input output result new to → e ≡ e' → only ≡ only' → input ≡ input' → output ≡ output' → new ≡ new' → to ≡ to'
     → Filters reader sink e' only' input' output' result new' to'
 filters-same reader sink result e e' only only' input input' new new' output output' to to' h a m b c d f = rw (← a, ← m, ← b, ← c, ← d, ← f) h

@@ -31,7 +31,8 @@ lines-back : (e : Encoding) (items : List Entry) → ArePairsOfScalars (pairs_in
 lines-back e items scalars = subst (IsItems (output_encoding e) (pair_lines e false items) end) (lines-read e items scalars) (items_of-meets (output_encoding e) (pair_lines e false items) end)
 
 -- and as nothing else
-lines-only : (e : Encoding) (items : List Entry) → ArePairsOfScalars (pairs_in items) → (others : List Entry) → IsItems (output_encoding e) (pair_lines e false items) end others → others ≡ items_after 0 (pairs_in items)
+lines-only : (e : Encoding) (items : List Entry) → ArePairsOfScalars (pairs_in items) → (others : List Entry)
+    → IsItems (output_encoding e) (pair_lines e false items) end others → others ≡ items_after 0 (pairs_in items)
 lines-only e items scalars others is = items_of-only (output_encoding e) (pair_lines e false items) end others is ∙ lines-read e items scalars
 
 -- and filtering them writes the same

@@ -104,13 +104,15 @@ pub record HasFiltered {R W : Type 0} (reader : Reader R) (sink : Sink W) (e : E
   pub flushed : sink.is_flushed output' ≡ true
 
 -- Reading stopped after these items: at malformed escapes, at a fault, or since memory ran out or the numbers for lines. Their pairs were written, and the sink was flushed, or its flush failed.
-pub record StopsInReading {R W : Type 0} (reader : Reader R) (sink : Sink W) (e : Encoding) (only : Bool) (input : R) (output : W) (items : List Entry) (error : PropertiesError) (input' : R) (output' : W) : Type 0 where
+pub record StopsInReading {R W : Type 0} (reader : Reader R) (sink : Sink W) (e : Encoding) (only : Bool) (input : R) (output : W)
+    (items : List Entry) (error : PropertiesError) (input' : R) (output' : W) : Type 0 where
   pub whole : AreItems items
   pub stops : StopsMalformed reader e input items error input' ⊎ (StopsFailed reader e input items error input' ⊎ StopsEarly reader e input items error input')
   pub written : TakesAndFlushes sink output (pair_lines e only items) output'
 
 -- Writing stopped at a pair, which comes after these items.
-pub record StopsInWriting {R W : Type 0} (reader : Reader R) (sink : Sink W) (e : Encoding) (only : Bool) (input : R) (output : W) (items : List Entry) (error : PropertiesError) (input' : R) (output' : W) : Type 0 where
+pub record StopsInWriting {R W : Type 0} (reader : Reader R) (sink : Sink W) (e : Encoding) (only : Bool) (input : R) (output : W)
+    (items : List Entry) (error : PropertiesError) (input' : R) (output' : W) : Type 0 where
   pub number : ℕ
   pub key : List ℕ
   pub value : List ℕ
@@ -121,13 +123,15 @@ pub record StopsInWriting {R W : Type 0} (reader : Reader R) (sink : Sink W) (e 
   pub fails : FailsInPair sink e only output items key value error output' ⊎ RefusesPair sink e only output items error output'
 
 -- The input was read to its end, these are its items, and their pairs were written, but the flush failed.
-pub record StopsInFlush {R W : Type 0} (reader : Reader R) (sink : Sink W) (e : Encoding) (only : Bool) (input : R) (output : W) (items : List Entry) (error : PropertiesError) (input' : R) (output' : W) : Type 0 where
+pub record StopsInFlush {R W : Type 0} (reader : Reader R) (sink : Sink W) (e : Encoding) (only : Bool) (input : R) (output : W)
+    (items : List Entry) (error : PropertiesError) (input' : R) (output' : W) : Type 0 where
   pub whole : AreItems items
   pub reads : ReadsWhole reader e input items input'
   pub fails : FailsAfterPairs sink e only output items error output'
 
 -- Filtering stopped after these items of the input, of whose pairs the texts are of scalar values.
-pub record StopsAfter {R W : Type 0} (reader : Reader R) (sink : Sink W) (e : Encoding) (only : Bool) (input : R) (output : W) (items : List Entry) (error : PropertiesError) (input' : R) (output' : W) : Type 0 where
+pub record StopsAfter {R W : Type 0} (reader : Reader R) (sink : Sink W) (e : Encoding) (only : Bool) (input : R) (output : W)
+    (items : List Entry) (error : PropertiesError) (input' : R) (output' : W) : Type 0 where
   pub scalars : ArePairsOfScalars (pairs_in items)
   pub stops : StopsInReading reader sink e only input output items error input' output'
       ⊎ (StopsInWriting reader sink e only input output items error input' output' ⊎ StopsInFlush reader sink e only input output items error input' output')

@@ -13,7 +13,7 @@ use Rattle.std.proofs.lemmas.Slice.Eq.{bytes_eq-Decides}
 use Rattle.std.proofs.lemmas.Str.{encodes-chars}
 use lib.Utf8.{encodes}
 use Rattle.properties_format.specs.Laws.{HasNoKey, AreDistinct}
-use Rattle.java_properties.specs.Maps.{pair_of}
+use Rattle.java_properties.specs.Maps.{character_pair}
 
 -- the keys are UTF-8
 abbrev pub AreKeysUtf8 : List (List ℕ × List ℕ) → Type 0
@@ -29,12 +29,12 @@ before-differs x y u v less same =
     absurd (cc)
 
 key-differs : (x : List ℕ) (pairs : List (List ℕ × List ℕ)) → IsUtf8 x → AreKeysUtf8 pairs → AllByRecursion (λ y. slice_cmp nat_cmp x y ≡ Less) (keys_of pairs)
-    → HasNoKey (chars x) (map pair_of pairs)
+    → HasNoKey (chars x) (map character_pair pairs)
 key-differs x [] u h less = tt
 key-differs x (texts ∷ pairs) u h less = ((λ same. before-differs x texts.0 u h.0 less.0 same), key-differs x pairs u h.1 less.1)
 
 -- pairs whose keys ascend strictly have keys of their own
-pub ascending-distinct : (pairs : List (List ℕ × List ℕ)) → AreKeysUtf8 pairs → IsStrictlySortedBy (slice_cmp nat_cmp) (keys_of pairs) → AreDistinct (map pair_of pairs)
+pub ascending-distinct : (pairs : List (List ℕ × List ℕ)) → AreKeysUtf8 pairs → IsStrictlySortedBy (slice_cmp nat_cmp) (keys_of pairs) → AreDistinct (map character_pair pairs)
 unfolding IsStrictlySortedBy
 ascending-distinct [] h up = tt
 ascending-distinct (texts ∷ pairs) h up = (key-differs texts.0 pairs h.0 h.1 up.0, ascending-distinct pairs h.1 up.1)

@@ -27,7 +27,7 @@ use Rattle.properties_format.proofs.Maps.{value_in-meets, value_in-only}
 use Rattle.properties_format.proofs.Laws.{no-pair, value-among}
 use Rattle.properties_format.proofs.ReadBack.Law.{default_settings-good}
 use Rattle.properties_format.proofs.ReadBack.Lists.{items_of-pairs}
-use Rattle.java_properties.specs.Maps.{Entries, Texts, characters, value_at, entry_texts, calls_for, pair_of, items_for, AreInOrder, WritesPairs, WritesMap, MapReadsBack}
+use Rattle.java_properties.specs.Maps.{Entries, Texts, characters, value_at, entry_texts, calls_for, character_pair, items_for, AreInOrder, WritesPairs, WritesMap, MapReadsBack}
 use Rattle.java_properties.specs.declared.error.PropertiesError.{PropertiesError}
 use Rattle.java_properties.proofs.ReadBack.Scalars.{string-scalars}
 use Rattle.java_properties.proofs.ReadBack.Written.{stops-read_back}
@@ -79,7 +79,7 @@ among-more p ps key (Some value) apart h = (p ∷ h.0, h.1, ap (λ v. p ∷ v) h
 
 -- the entries of a map, as characters
 abbrev character_pairs : {Y Z : Type 0} → List (String Y × String Z) → List Pair
-character_pairs entries = map pair_of (map entry_texts entries)
+character_pairs entries = map character_pair (map entry_texts entries)
 
 abbrev value_among : {Y Z : Type 0} → List ℕ → List (String Y × String Z) → Option (List ℕ)
 value_among key entries = option_map characters (lookup (λ k. bytes_eq key (characters k)) entries)
@@ -111,7 +111,7 @@ moved-among xs ys key (Some value) moved h = moved-pair xs ys key value moved h
 -- ---- the pairs of a map
 
 -- their calls
-calls-are : (pairs : List Texts) → calls_for pairs ≡ calls_of (map pair_of pairs)
+calls-are : (pairs : List Texts) → calls_for pairs ≡ calls_of (map character_pair pairs)
 calls-are [] = refl
 calls-are (texts ∷ pairs) = ap (λ v. pair_call (chars texts.0) (chars texts.1) ∷ v) (calls-are pairs)
 
@@ -132,7 +132,7 @@ texts-utf8 : (pairs : List Texts) → AllByRecursion AreTexts pairs → AreKeysU
 texts-utf8 [] h = tt
 texts-utf8 (texts ∷ pairs) h = (h.0.0, texts-utf8 pairs h.1)
 
-texts-scalars : (pairs : List Texts) → AllByRecursion AreTexts pairs → ArePairsOfScalars (map pair_of pairs)
+texts-scalars : (pairs : List Texts) → AllByRecursion AreTexts pairs → ArePairsOfScalars (map character_pair pairs)
 texts-scalars [] h = tt
 texts-scalars (texts ∷ pairs) h = ((h.0.1, h.0.2), texts-scalars pairs h.1)
 
@@ -175,11 +175,11 @@ writes-read_back sink a entries old new (Err error) own (inr h) =
     })
 writes-read_back sink a entries old new (Ok done) own h =
     let xs = map entry_texts entries in
-    let ps = map pair_of h.pairs in
+    let ps = map character_pair h.pairs in
     let bytes = wrote a default_settings 0 (calls_of ps) in
     let texts = map-texts entries h.pairs h.in_order in
     let distinct = ascending-distinct h.pairs (texts-utf8 h.pairs texts) h.in_order.ascend in
-    let moved = IsPermutation-map pair_of xs h.pairs h.in_order.entries in
+    let moved = IsPermutation-map character_pair xs h.pairs h.in_order.entries in
     let told = items_of-pairs a default_settings own default_settings-good ps (pairs-accepted ps) (texts-scalars h.pairs texts) in
     record {
       bytes = bytes;
@@ -189,7 +189,7 @@ writes-read_back sink a entries old new (Ok done) own h =
       items = subst (IsItems a bytes end) told (items_of-meets a bytes end);
       only = λ others is. items_of-only a bytes end others is ∙ told;
       is_map = λ key.
-          let same = among-value_in ps key (value_at entries key) distinct (moved-among (map pair_of xs) ps key (value_at entries key) moved (entries-say key entries)) in
+          let same = among-value_in ps key (value_at entries key) distinct (moved-among (map character_pair xs) ps key (value_at entries key) moved (entries-say key entries)) in
           subst (IsValue (items_for h.pairs) key) (sym same) (value_in-meets (items_for h.pairs) key);
     }
 

@@ -75,9 +75,9 @@ pub(crate) fn find_plain(line_number: usize, line: &str) -> Option<Found>
         return None;
     };
     let content = match spans {
-        ParsedSpans::Comment(text) => FoundContent::Comment(FoundText::plain(text)),
+        ParsedSpans::Comment(text) => FoundContent::Comment(FoundText::verbatim(text)),
         ParsedSpans::KVPair(key, value) => {
-            FoundContent::KVPair(FoundText::plain(key), FoundText::plain(value))
+            FoundContent::KVPair(FoundText::verbatim(key), FoundText::verbatim(value))
         }
     };
     Some(Found {
@@ -118,7 +118,7 @@ fn find_text(alloc: Global, line: &str, span: Span) -> Result<FoundText, Unescap
     ensures { FindsText line.now span result }
 {
     match unescape(alloc, span.cut(line)) {
-        Ok(CowStr::Borrowed(_)) => Ok(FoundText::plain(span)),
+        Ok(CowStr::Borrowed(_)) => Ok(FoundText::verbatim(span)),
         Ok(CowStr::Owned(text)) => Ok(FoundText {
             span,
             resolved: Some(text),
@@ -202,7 +202,7 @@ impl FoundContent {
 
 impl FoundText {
     // A text that holds no escape.
-    fn plain(span: Span) -> FoundText
+    fn verbatim(span: Span) -> FoundText
         ensures { result ≡ record { span = span; resolved = None } }
     {
         FoundText {

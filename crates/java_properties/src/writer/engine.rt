@@ -6,7 +6,7 @@ ghost use Rattle.properties_format.specs.Entries.{comment, pair};
 ghost use Rattle.properties_format.specs.Settings.{default_settings};
 ghost use Rattle.properties_format.specs.Writing.{is_accepted};
 ghost use Rattle.counted_io.specs.Streams.{IsSameSink};
-ghost use Rattle.java_properties.specs.Engine.{content_of, writing, repertoire_of, line_bytes, content_bytes};
+ghost use Rattle.java_properties.specs.Engine.{entry_content, writing, repertoire_of, line_bytes, content_bytes};
 ghost use Rattle.properties_text.specs.Printing.{AppendsOnOk};
 ghost use Rattle.java_properties.specs.PropertiesWriter.{call_of, WritesLine, Flushes};
 
@@ -72,7 +72,7 @@ impl Engine {
         content: Content<'_>,
     ) -> Result<(), PropertiesError>
         ensures writes { let old = writing self.old sink.old in
-            WritesLine W.CountedWrite old (content_of content.entry) result (writing self.new sink.new) }
+            WritesLine W.CountedWrite old (entry_content content.entry) result (writing self.new sink.new) }
         ensures same_sink { IsSameSink W.CountedWrite sink.old sink.new }
     {
         if self.failed {
@@ -111,7 +111,7 @@ impl Engine {
     }
 
     fn accepts(&self, content: Content<'_>) -> bool
-        ensures { result ≡ is_accepted self.now.settings (call_of (content_of content.entry)) }
+        ensures { result ≡ is_accepted self.now.settings (call_of (entry_content content.entry)) }
     {
         match content {
             Content::Comment(_) => true,
@@ -121,7 +121,7 @@ impl Engine {
 
     // The bytes of the line, to be sent.
     fn build(&mut self, content: Content<'_>) -> Result<(), AllocError>
-        ensures printed { let bytes = line_bytes self.old (content_of content.entry) in
+        ensures printed { let bytes = line_bytes self.old (entry_content content.entry) in
             OnOk result (self.new.line ≡ bytes) }
         ensures same { self.new ≡ record self.old { line = self.new.line } }
     {
@@ -131,7 +131,7 @@ impl Engine {
     }
 
     fn print_content(&mut self, content: Content<'_>) -> Result<(), AllocError>
-        ensures printed { let bytes = content_bytes self.old (content_of content.entry) in
+        ensures printed { let bytes = content_bytes self.old (entry_content content.entry) in
             AppendsOnOk self.old.line bytes result self.new.line }
         ensures same { self.new ≡ record self.old { line = self.new.line } }
     {

@@ -50,7 +50,12 @@ four-digits u h = omega arith
 -- they write that unit
 pub unit_digits-unit : (u : ℕ) → u < 0x1_0000 → code_unit (unit_digits u) ≡ u
 unit_digits-unit u h =
-    rw (hexadecimal_value-char (u / 0x1000 % 0x10) (below (u / 0x1000)), hexadecimal_value-char (u / 0x100 % 0x10) (below (u / 0x100)), hexadecimal_value-char (u / 0x10 % 0x10) (below (u / 0x10)), hexadecimal_value-char (u % 0x10) (below u))
+    rw (
+      hexadecimal_value-char (u / 0x1000 % 0x10) (below (u / 0x1000)),
+      hexadecimal_value-char (u / 0x100 % 0x10) (below (u / 0x100)),
+      hexadecimal_value-char (u / 0x10 % 0x10) (below (u / 0x10)),
+      hexadecimal_value-char (u % 0x10) (below u),
+    )
     (four-digits u h)
 
 -- of the two surrogates of a character past U+FFFF, the first is a high one

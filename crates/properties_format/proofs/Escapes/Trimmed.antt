@@ -171,8 +171,10 @@ before-whole (p ∷ ps) h = unless-whole p (before ps) (h.0, before-whole ps h.1
 -- The text of whole spellings that keep blanks means, without the blanks at its ends, their characters without those.
 pub meaning_of-trimmed : (ps : List Spelling) → AreWhole ps → AllKeepBlanks ps → meaning_of (trimmed (spelt_before ps [])) ≡ means (trimmed (map spelt_character ps))
 meaning_of-trimmed ps h k =
-    let e : trimmed (spelt_before ps []) ≡ spelt_before (before (past ps)) [] = ap without_trailing_blanks (without_leading_blanks-text ps k) ∙ without_trailing_blanks-text (past ps) (past-keep ps k) in
-    let f : trimmed (map spelt_character ps) ≡ map spelt_character (before (past ps)) = ap without_trailing_blanks (without_leading_blanks-characters ps) ∙ without_trailing_blanks-characters (past ps) in
+    let e : trimmed (spelt_before ps [])
+    ≡ spelt_before (before (past ps)) [] = ap without_trailing_blanks (without_leading_blanks-text ps k) ∙ without_trailing_blanks-text (past ps) (past-keep ps k) in
+    let f : trimmed (map spelt_character ps)
+    ≡ map spelt_character (before (past ps)) = ap without_trailing_blanks (without_leading_blanks-characters ps) ∙ without_trailing_blanks-characters (past ps) in
     ap meaning_of e ∙ meaning_of-all (before (past ps)) (before-whole (past ps) (past-whole ps h)) ∙ ap means (sym f)
 
 -- ---- which spellings keep blanks

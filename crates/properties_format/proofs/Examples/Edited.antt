@@ -100,7 +100,8 @@ unfolding items_of pieces_of split_of meaning_of held_groups_of
 replace_a_longer_join = refl
 
 -- after the byte order mark of UTF-8 the new value is in UTF-8
-replace_after_a_mark : set_key_result windows_1252 (0xef ∷ 0xbb ∷ 0xbf ∷ 0x61 ∷ 0x3d ∷ 0x31 ∷ 0x0d ∷ 0x0a ∷ []) (codes "a") (codes "é") ≡ edited (0xef ∷ 0xbb ∷ 0xbf ∷ 0x61 ∷ 0x3d ∷ 0xc3 ∷ 0xa9 ∷ 0x0d ∷ 0x0a ∷ [])
+replace_after_a_mark : set_key_result windows_1252 (0xef ∷ 0xbb ∷ 0xbf ∷ 0x61 ∷ 0x3d ∷ 0x31 ∷ 0x0d ∷ 0x0a ∷ []) (codes "a") (codes "é")
+    ≡ edited (0xef ∷ 0xbb ∷ 0xbf ∷ 0x61 ∷ 0x3d ∷ 0xc3 ∷ 0xa9 ∷ 0x0d ∷ 0x0a ∷ [])
 unfolding items_of pieces_of split_of meaning_of held_groups_of encode_utf8
 replace_after_a_mark = refl
 

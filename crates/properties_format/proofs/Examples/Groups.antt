@@ -166,7 +166,11 @@ join_past_ascii_blank = refl
 -- ---- logical lines of texts
 
 -- joined lines, comment lines and a blank one, each with the number of its first line
-joins_and_comments : read (codes "a=b" ++ eol ++ codes "c=d\\" ++ eol ++ codes "e=f" ++ eol ++ codes "g=h" ++ return ++ codes "#comment1" ++ return ++ eol ++ codes "#comment2\\" ++ eol ++ codes "i=j\\" ++ eol ++ codes "#comment3" ++ eol ++ codes " " ++ eol ++ codes "#comment4") end ≡ line 1 (codes "a=b") ∷ line 2 (codes "c=de=f") ∷ line 4 (codes "g=h") ∷ line 5 (codes "#comment1") ∷ line 6 (codes "#comment2\\") ∷ line 7 (codes "i=j#comment3") ∷ line 9 (codes " ") ∷ line 10 (codes "#comment4") ∷ []
+joins_and_comments : read
+    (codes "a=b" ++ eol ++ codes "c=d\\" ++ eol ++ codes "e=f" ++ eol ++ codes "g=h" ++ return ++ codes "#comment1" ++ return ++ eol
+    ++ codes "#comment2\\" ++ eol ++ codes "i=j\\" ++ eol ++ codes "#comment3" ++ eol ++ codes " " ++ eol ++ codes "#comment4") end
+    ≡ line 1 (codes "a=b") ∷ line 2 (codes "c=de=f") ∷ line 4 (codes "g=h") ∷ line 5 (codes "#comment1") ∷ line 6 (codes "#comment2\\") ∷
+    line 7 (codes "i=j#comment3") ∷ line 9 (codes " ") ∷ line 10 (codes "#comment4") ∷ []
 joins_and_comments = refl
 
 -- of three backslashes at the end of a line two stay

@@ -17,7 +17,9 @@ unfolding items_of pieces_of split_of meaning_of
 empty = refl
 
 -- lines are joined, and a comment is not
-joins : items_of windows_1252 (codes "a=b\nc=d\\\ne=f\ng=h\r#comment1\r\n#comment2\\\ni=j\\\n#comment3\n \n#comment4") end ≡ item 1 (pair (codes "a") (codes "b")) ∷ item 2 (pair (codes "c") (codes "de=f")) ∷ item 4 (pair (codes "g") (codes "h")) ∷ item 5 (comment (codes "comment1")) ∷ item 6 (comment (codes "comment2\0")) ∷ item 7 (pair (codes "i") (codes "j#comment3")) ∷ item 10 (comment (codes "comment4")) ∷ []
+joins : items_of windows_1252 (codes "a=b\nc=d\\\ne=f\ng=h\r#comment1\r\n#comment2\\\ni=j\\\n#comment3\n \n#comment4") end
+    ≡ item 1 (pair (codes "a") (codes "b")) ∷ item 2 (pair (codes "c") (codes "de=f")) ∷ item 4 (pair (codes "g") (codes "h")) ∷
+    item 5 (comment (codes "comment1")) ∷ item 6 (comment (codes "comment2\0")) ∷ item 7 (pair (codes "i") (codes "j#comment3")) ∷ item 10 (comment (codes "comment4")) ∷ []
 unfolding items_of pieces_of split_of meaning_of
 joins = refl
 
@@ -177,7 +179,8 @@ unfolding items_of pieces_of split_of meaning_of
 escaped_equals = refl
 
 -- a file that java.util.Properties stored
-stored : items_of windows_1252 (codes "#c\n#Thu Jan 01 00:00:00 UTC 1970\nk=\\u00E9\nm=\\uD83D\\uDC1E\n") end ≡ item 1 (comment (codes "c")) ∷ item 2 (comment (codes "Thu Jan 01 00:00:00 UTC 1970")) ∷ item 3 (pair (codes "k") (codes "é")) ∷ item 4 (pair (codes "m") (codes "🐞")) ∷ []
+stored : items_of windows_1252 (codes "#c\n#Thu Jan 01 00:00:00 UTC 1970\nk=\\u00E9\nm=\\uD83D\\uDC1E\n") end
+    ≡ item 1 (comment (codes "c")) ∷ item 2 (comment (codes "Thu Jan 01 00:00:00 UTC 1970")) ∷ item 3 (pair (codes "k") (codes "é")) ∷ item 4 (pair (codes "m") (codes "🐞")) ∷ []
 unfolding items_of pieces_of split_of meaning_of
 stored = refl
 

@@ -59,7 +59,8 @@ unfolding items_of pieces_of split_of meaning_of
 letters = (refl, refl, refl)
 
 -- a first key that begins like a byte order mark
-bom_like_key : WritesAndReads windows_1252 (pair_call (codes "þÿ") (codes "x") ∷ pair_call (codes "þÿ") (codes "x") ∷ []) (codes "\\u00feÿ=x\nþÿ=x\n") (item 1 (pair (codes "þÿ") (codes "x")) ∷ item 2 (pair (codes "þÿ") (codes "x")) ∷ [])
+bom_like_key : WritesAndReads windows_1252 (pair_call (codes "þÿ") (codes "x") ∷ pair_call (codes "þÿ") (codes "x") ∷ [])
+    (codes "\\u00feÿ=x\nþÿ=x\n") (item 1 (pair (codes "þÿ") (codes "x")) ∷ item 2 (pair (codes "þÿ") (codes "x")) ∷ [])
 unfolding items_of pieces_of split_of meaning_of
 bom_like_key = (refl, refl, refl)
 
@@ -84,12 +85,16 @@ unfolding items_of pieces_of split_of meaning_of encode_utf8
 bom_like_key_in_utf_8 = (refl, refl, refl)
 
 -- after a comment such a key is not on the first line, and stands as it is
-bom_like_key_after_a_comment : WritesAndReads windows_1252 (comment_call (codes "c") ∷ pair_call (codes "þÿ") (codes "x") ∷ []) (codes "# c\nþÿ=x\n") (item 1 (comment (codes "c")) ∷ item 2 (pair (codes "þÿ") (codes "x")) ∷ [])
+bom_like_key_after_a_comment : WritesAndReads windows_1252 (comment_call (codes "c") ∷ pair_call (codes "þÿ") (codes "x") ∷ [])
+    (codes "# c\nþÿ=x\n") (item 1 (comment (codes "c")) ∷ item 2 (pair (codes "þÿ") (codes "x")) ∷ [])
 unfolding items_of pieces_of split_of meaning_of
 bom_like_key_after_a_comment = (refl, refl, refl)
 
 -- UTF-8
-utf_8_pairs : WritesAndReads utf_8 (pair_call [] [] ∷ pair_call (codes "a") (codes "b") ∷ pair_call (codes " :=") (codes " :=") ∷ pair_call (codes "!") (codes "#") ∷ []) (codes "=\na=b\n\\ \\:\\==\\ \\:\\=\n\\!=\\#\n") (item 1 (pair [] []) ∷ item 2 (pair (codes "a") (codes "b")) ∷ item 3 (pair (codes " :=") (codes " :=")) ∷ item 4 (pair (codes "!") (codes "#")) ∷ [])
+utf_8_pairs : WritesAndReads utf_8
+    (pair_call [] [] ∷ pair_call (codes "a") (codes "b") ∷ pair_call (codes " :=") (codes " :=") ∷ pair_call (codes "!") (codes "#") ∷ [])
+    (codes "=\na=b\n\\ \\:\\==\\ \\:\\=\n\\!=\\#\n")
+    (item 1 (pair [] []) ∷ item 2 (pair (codes "a") (codes "b")) ∷ item 3 (pair (codes " :=") (codes " :=")) ∷ item 4 (pair (codes "!") (codes "#")) ∷ [])
 unfolding items_of pieces_of split_of meaning_of encode_utf8
 utf_8_pairs = (refl, refl, refl)
 
@@ -109,7 +114,8 @@ unfolding items_of pieces_of split_of meaning_of encode_utf8
 utf_8_beside_ascii = (refl, refl, refl)
 
 -- pairs stand in the order of their calls
-pairs_alone : WritesAndReads windows_1252 (pair_call (codes "b") (codes "2") ∷ pair_call (codes "a") [] ∷ []) (codes "b=2\na=\n") (item 1 (pair (codes "b") (codes "2")) ∷ item 2 (pair (codes "a") []) ∷ [])
+pairs_alone : WritesAndReads windows_1252 (pair_call (codes "b") (codes "2") ∷ pair_call (codes "a") [] ∷ []) (codes "b=2\na=\n")
+    (item 1 (pair (codes "b") (codes "2")) ∷ item 2 (pair (codes "a") []) ∷ [])
 unfolding items_of pieces_of split_of meaning_of
 pairs_alone = (refl, refl, refl)
 
@@ -199,22 +205,27 @@ unfolding items_of pieces_of split_of meaning_of
 bad_separator = (refl, refl, refl)
 
 -- lines that a CR ends
-carriage_returns : WritesAndReads windows_1252 (ending_call cr ∷ comment_call (codes "foo") ∷ pair_call (codes "x") (codes "y") ∷ []) (codes "# foo\rx=y\r") (item 1 (comment (codes "foo")) ∷ item 2 (pair (codes "x") (codes "y")) ∷ [])
+carriage_returns : WritesAndReads windows_1252 (ending_call cr ∷ comment_call (codes "foo") ∷ pair_call (codes "x") (codes "y") ∷ [])
+    (codes "# foo\rx=y\r") (item 1 (comment (codes "foo")) ∷ item 2 (pair (codes "x") (codes "y")) ∷ [])
 unfolding items_of pieces_of split_of meaning_of
 carriage_returns = (refl, refl, refl)
 
 -- lines that a CR and an LF end
-both_line_ends : WritesAndReads windows_1252 (ending_call crlf ∷ comment_call (codes "foo") ∷ pair_call (codes "x") (codes "y") ∷ []) (codes "# foo\r\nx=y\r\n") (item 1 (comment (codes "foo")) ∷ item 2 (pair (codes "x") (codes "y")) ∷ [])
+both_line_ends : WritesAndReads windows_1252 (ending_call crlf ∷ comment_call (codes "foo") ∷ pair_call (codes "x") (codes "y") ∷ [])
+    (codes "# foo\r\nx=y\r\n") (item 1 (comment (codes "foo")) ∷ item 2 (pair (codes "x") (codes "y")) ∷ [])
 unfolding items_of pieces_of split_of meaning_of
 both_line_ends = (refl, refl, refl)
 
 -- lines that an LF ends
-line_feeds : WritesAndReads windows_1252 (ending_call lf ∷ comment_call (codes "foo") ∷ pair_call (codes "x") (codes "y") ∷ []) (codes "# foo\nx=y\n") (item 1 (comment (codes "foo")) ∷ item 2 (pair (codes "x") (codes "y")) ∷ [])
+line_feeds : WritesAndReads windows_1252 (ending_call lf ∷ comment_call (codes "foo") ∷ pair_call (codes "x") (codes "y") ∷ [])
+    (codes "# foo\nx=y\n") (item 1 (comment (codes "foo")) ∷ item 2 (pair (codes "x") (codes "y")) ∷ [])
 unfolding items_of pieces_of split_of meaning_of
 line_feeds = (refl, refl, refl)
 
 -- each line is ended by what is set at that moment
-line_endings : WritesAndReads windows_1252 (ending_call cr ∷ pair_call (codes "a") (codes "b") ∷ ending_call crlf ∷ comment_call (codes "c") ∷ []) (codes "a=b\r# c\r\n") (item 1 (pair (codes "a") (codes "b")) ∷ item 2 (comment (codes "c")) ∷ [])
+line_endings : WritesAndReads windows_1252
+    (ending_call cr ∷ pair_call (codes "a") (codes "b") ∷ ending_call crlf ∷ comment_call (codes "c") ∷ []) (codes "a=b\r# c\r\n")
+    (item 1 (pair (codes "a") (codes "b")) ∷ item 2 (comment (codes "c")) ∷ [])
 unfolding items_of pieces_of split_of meaning_of
 line_endings = (refl, refl, refl)
 
@@ -228,25 +239,32 @@ empty_key_answers : answers default_settings (separator_call (codes " ") ∷ pai
 empty_key_answers = refl
 
 -- a bad setting is refused, and the one before stays
-refused_calls : WritesAndReads windows_1252 (separator_call (codes " ") ∷ pair_call [] (codes "v") ∷ separator_call (codes "x") ∷ pair_call (codes "a") (codes "b") ∷ []) (codes "a b\n") (item 1 (pair (codes "a") (codes "b")) ∷ [])
+refused_calls : WritesAndReads windows_1252
+    (separator_call (codes " ") ∷ pair_call [] (codes "v") ∷ separator_call (codes "x") ∷ pair_call (codes "a") (codes "b") ∷ [])
+    (codes "a b\n") (item 1 (pair (codes "a") (codes "b")) ∷ [])
 unfolding items_of pieces_of split_of meaning_of
 refused_calls = (refl, refl, refl)
 
 -- the pair without a key and the bad separator are refused
-refused_calls_answers : answers default_settings (separator_call (codes " ") ∷ pair_call [] (codes "v") ∷ separator_call (codes "x") ∷ pair_call (codes "a") (codes "b") ∷ []) ≡ true ∷ false ∷ false ∷ true ∷ []
+refused_calls_answers : answers default_settings
+    (separator_call (codes " ") ∷ pair_call [] (codes "v") ∷ separator_call (codes "x") ∷ pair_call (codes "a") (codes "b") ∷ []) ≡ true ∷ false ∷ false ∷ true ∷ []
 refused_calls_answers = refl
 
 -- all kinds of calls
-all_calls : WritesAndReads windows_1252 (prefix_call (codes "!") ∷ comment_call (codes "t\t") ∷ ending_call cr ∷ flush_call ∷ pair_call (codes "k") [] ∷ []) (codes "!t\t\nk=\r") (item 1 (comment (codes "t")) ∷ item 2 (pair (codes "k") []) ∷ [])
+all_calls : WritesAndReads windows_1252
+    (prefix_call (codes "!") ∷ comment_call (codes "t\t") ∷ ending_call cr ∷ flush_call ∷ pair_call (codes "k") [] ∷ [])
+    (codes "!t\t\nk=\r") (item 1 (comment (codes "t")) ∷ item 2 (pair (codes "k") []) ∷ [])
 unfolding items_of pieces_of split_of meaning_of
 all_calls = (refl, refl, refl)
 
 -- each of them is accepted
-all_calls_answers : answers default_settings (prefix_call (codes "!") ∷ comment_call (codes "t\t") ∷ ending_call cr ∷ flush_call ∷ pair_call (codes "k") [] ∷ []) ≡ true ∷ true ∷ true ∷ true ∷ true ∷ []
+all_calls_answers : answers default_settings
+    (prefix_call (codes "!") ∷ comment_call (codes "t\t") ∷ ending_call cr ∷ flush_call ∷ pair_call (codes "k") [] ∷ []) ≡ true ∷ true ∷ true ∷ true ∷ true ∷ []
 all_calls_answers = refl
 
 -- two pairs, as a map of them is written
-a_map : WritesAndReads windows_1252 (pair_call (codes "a") (codes "1") ∷ pair_call (codes "b") (codes "2") ∷ []) (codes "a=1\nb=2\n") (item 1 (pair (codes "a") (codes "1")) ∷ item 2 (pair (codes "b") (codes "2")) ∷ [])
+a_map : WritesAndReads windows_1252 (pair_call (codes "a") (codes "1") ∷ pair_call (codes "b") (codes "2") ∷ []) (codes "a=1\nb=2\n")
+    (item 1 (pair (codes "a") (codes "1")) ∷ item 2 (pair (codes "b") (codes "2")) ∷ [])
 unfolding items_of pieces_of split_of meaning_of
 a_map = (refl, refl, refl)
 
@@ -261,7 +279,9 @@ unfolding items_of pieces_of split_of meaning_of
 ascii_only_in_windows_1252 = (refl, refl, refl)
 
 -- turned off again, it escapes nothing that the encoding has
-ascii_only_and_not : WritesAndReads windows_1252 (ascii_only_call true ∷ comment_call (codes "é") ∷ ascii_only_call false ∷ comment_call (codes "é") ∷ []) (codes "# \\u00e9\n# é\n") (item 1 (comment (codes "é")) ∷ item 2 (comment (codes "é")) ∷ [])
+ascii_only_and_not : WritesAndReads windows_1252
+    (ascii_only_call true ∷ comment_call (codes "é") ∷ ascii_only_call false ∷ comment_call (codes "é") ∷ []) (codes "# \\u00e9\n# é\n")
+    (item 1 (comment (codes "é")) ∷ item 2 (comment (codes "é")) ∷ [])
 unfolding items_of pieces_of split_of meaning_of
 ascii_only_and_not = (refl, refl, refl)
 

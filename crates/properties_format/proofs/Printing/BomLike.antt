@@ -82,7 +82,9 @@ bytes_of key = encoded_text windows_1252 (spelt_text windows_1252 false in_key_o
 
 -- the bytes of a key by those of its first character
 bytes-cons : (c : ℕ) (cs x : List ℕ) → spelt windows_1252 false in_key_or_value c ≡ x → bytes_of (c ∷ cs) ≡ encoded_text windows_1252 x ++ bytes_of cs
-bytes-cons c cs x e = encoded_text-append windows_1252 (spelt windows_1252 false in_key_or_value c) (spelt_text windows_1252 false in_key_or_value cs) ∙ ap (λ v. encoded_text windows_1252 v ++ bytes_of cs) e
+bytes-cons c cs x e =
+    encoded_text-append windows_1252 (spelt windows_1252 false in_key_or_value c) (spelt_text windows_1252 false in_key_or_value cs)
+    ∙ ap (λ v. encoded_text windows_1252 v ++ bytes_of cs) e
 
 -- another byte than m is in front, where c is another character
 other-byte : (m c : ℕ) (ms : List ℕ) (o : Option ℕ) (y : List ℕ) → IsRaw m → m ≢ c → windows_1252_byte c ≡ o → is_some (one_byte o) ≡ true
@@ -134,7 +136,8 @@ raw-ff : IsRaw 0xff
 raw-ff = record { itself = refl; byte = refl; character = refl; no_escape = refl }
 
 -- Under windows-1252 the keys that begin like a byte order mark are those that begin with U+00EF U+00BB U+00BF, with U+00FE U+00FF, or with U+00FF U+00FE.
-pub is_bom_like-windows_1252 : (key : List ℕ) → is_bom_like windows_1252 false key ≡ (begins_with (0xef ∷ 0xbb ∷ 0xbf ∷ []) key || (begins_with (0xfe ∷ 0xff ∷ []) key || begins_with (0xff ∷ 0xfe ∷ []) key))
+pub is_bom_like-windows_1252 : (key : List ℕ) → is_bom_like windows_1252 false key
+    ≡ (begins_with (0xef ∷ 0xbb ∷ 0xbf ∷ []) key || (begins_with (0xfe ∷ 0xff ∷ []) key || begins_with (0xff ∷ 0xfe ∷ []) key))
 is_bom_like-windows_1252 key =
     ap (λ b. b || (begins_with utf_16be_bom (bytes_of key) || begins_with utf_16le_bom (bytes_of key))) (key-begins utf_8_bom key (raw-ef, (raw-bb, (raw-bf, tt))))
     ∙ ap (λ b. begins_with utf_8_bom key || (b || begins_with utf_16le_bom (bytes_of key))) (key-begins utf_16be_bom key (raw-fe, (raw-ff, tt)))

@@ -23,7 +23,8 @@ encoded_text-append e (c ∷ x) y =
 -- what is printed for a text and then for another
 pub spelt_text-append : (e : Encoding) (only : Bool) (place : Place) (x y : List ℕ) → spelt_text e only place (x ++ y) ≡ spelt_text e only place x ++ spelt_text e only place y
 spelt_text-append e only place [] y = refl
-spelt_text-append e only place (c ∷ x) y = ap (λ v. spelt e only place c ++ v) (spelt_text-append e only place x y) ∙ sym (append_assoc (spelt e only place c) (spelt_text e only place x) (spelt_text e only place y))
+spelt_text-append e only place (c ∷ x) y = ap (λ v. spelt e only place c ++ v) (spelt_text-append e only place x y)
+    ∙ sym (append_assoc (spelt e only place c) (spelt_text e only place x) (spelt_text e only place y))
 
 -- ---- printed lines, by their parts
 
@@ -33,13 +34,15 @@ three-parts e x y z = encoded_text-append e x (y ++ z) ∙ ap (λ v. encoded_tex
 
 -- a comment: the bytes of the prefix, of the text and of the line ending
 pub printed-comment : (e : Encoding) (s : Settings) (first : Bool) (text : List ℕ)
-    → printed e s first (comment text) ≡ encoded_text e (spelt_text e s.ascii_only in_prefix s.comment_prefix) ++ (encoded_text e (spelt_text e s.ascii_only in_comment text) ++ encoded_text e (line_ending_text s.line_ending))
+    → printed e s first (comment text) ≡ encoded_text e (spelt_text e s.ascii_only in_prefix s.comment_prefix)
+    ++ (encoded_text e (spelt_text e s.ascii_only in_comment text) ++ encoded_text e (line_ending_text s.line_ending))
 printed-comment e s first text = three-parts e (spelt_text e s.ascii_only in_prefix s.comment_prefix) (spelt_text e s.ascii_only in_comment text) (line_ending_text s.line_ending)
 
 -- a pair: the bytes of the key, of the separator, of the value and of the line ending
 pub printed-pair : (e : Encoding) (s : Settings) (first : Bool) (key value : List ℕ)
     → printed e s first (pair key value)
-    ≡ encoded_text e (spelt_key e s.ascii_only first key) ++ (encoded_text e s.kv_separator ++ (encoded_text e (spelt_text e s.ascii_only in_key_or_value value) ++ encoded_text e (line_ending_text s.line_ending)))
+    ≡ encoded_text e (spelt_key e s.ascii_only first key)
+    ++ (encoded_text e s.kv_separator ++ (encoded_text e (spelt_text e s.ascii_only in_key_or_value value) ++ encoded_text e (line_ending_text s.line_ending)))
 printed-pair e s first key value =
     encoded_text-append e (spelt_key e s.ascii_only first key) (s.kv_separator ++ (spelt_text e s.ascii_only in_key_or_value value ++ line_ending_text s.line_ending))
     ∙ ap (λ v. encoded_text e (spelt_key e s.ascii_only first key) ++ v) (three-parts e s.kv_separator (spelt_text e s.ascii_only in_key_or_value value) (line_ending_text s.line_ending))
@@ -195,7 +198,8 @@ with_first_escaped-encodable e only (c ∷ cs) =
 -- and any key that is printed
 pub spelt_key-encodable : (e : Encoding) (only : Bool) (first : Bool) (key : List ℕ) → AreEncodable e (spelt_key e only first key)
 spelt_key-encodable e only first key =
-    cond_both (first && is_bom_like e only key) (with_first_escaped e only key) (spelt_text e only in_key_or_value key) (AreEncodable e) (λ k. with_first_escaped-encodable e only key) (λ k. spelt_text-encodable e only in_key_or_value key)
+    cond_both (first && is_bom_like e only key) (with_first_escaped e only key) (spelt_text e only in_key_or_value key) (AreEncodable e)
+    (λ k. with_first_escaped-encodable e only key) (λ k. spelt_text-encodable e only in_key_or_value key)
 
 -- ---- whole lines
 
@@ -224,9 +228,14 @@ good_separator-ascii separator (inr g) = blanks-ascii separator g.blank
 -- a printed line can be encoded, where its separator is good
 pub printed_text-encodable : (e : Encoding) (s : Settings) (first : Bool) (line : Content) → IsGoodSeparator s.kv_separator → AreEncodable e (printed_text e s first line)
 printed_text-encodable e s first (comment text) g =
-    AreEncodable-append e (spelt_text e s.ascii_only in_prefix s.comment_prefix) (spelt_text e s.ascii_only in_comment text ++ line_ending_text s.line_ending) (spelt_text-encodable e s.ascii_only in_prefix s.comment_prefix)
-    (AreEncodable-append e (spelt_text e s.ascii_only in_comment text) (line_ending_text s.line_ending) (spelt_text-encodable e s.ascii_only in_comment text) (AreEncodable-ascii e (line_ending_text s.line_ending) (line_end-ascii s.line_ending)))
+    AreEncodable-append e (spelt_text e s.ascii_only in_prefix s.comment_prefix)
+    (spelt_text e s.ascii_only in_comment text ++ line_ending_text s.line_ending) (spelt_text-encodable e s.ascii_only in_prefix s.comment_prefix)
+    (AreEncodable-append e (spelt_text e s.ascii_only in_comment text) (line_ending_text s.line_ending)
+    (spelt_text-encodable e s.ascii_only in_comment text) (AreEncodable-ascii e (line_ending_text s.line_ending) (line_end-ascii s.line_ending)))
 printed_text-encodable e s first (pair key value) g =
-    AreEncodable-append e (spelt_key e s.ascii_only first key) (s.kv_separator ++ (spelt_text e s.ascii_only in_key_or_value value ++ line_ending_text s.line_ending)) (spelt_key-encodable e s.ascii_only first key)
-    (AreEncodable-append e s.kv_separator (spelt_text e s.ascii_only in_key_or_value value ++ line_ending_text s.line_ending) (AreEncodable-ascii e s.kv_separator (good_separator-ascii s.kv_separator g))
-    (AreEncodable-append e (spelt_text e s.ascii_only in_key_or_value value) (line_ending_text s.line_ending) (spelt_text-encodable e s.ascii_only in_key_or_value value) (AreEncodable-ascii e (line_ending_text s.line_ending) (line_end-ascii s.line_ending))))
+    AreEncodable-append e (spelt_key e s.ascii_only first key)
+    (s.kv_separator ++ (spelt_text e s.ascii_only in_key_or_value value ++ line_ending_text s.line_ending)) (spelt_key-encodable e s.ascii_only first key)
+    (AreEncodable-append e s.kv_separator (spelt_text e s.ascii_only in_key_or_value value ++ line_ending_text s.line_ending)
+    (AreEncodable-ascii e s.kv_separator (good_separator-ascii s.kv_separator g))
+    (AreEncodable-append e (spelt_text e s.ascii_only in_key_or_value value) (line_ending_text s.line_ending)
+    (spelt_text-encodable e s.ascii_only in_key_or_value value) (AreEncodable-ascii e (line_ending_text s.line_ending) (line_end-ascii s.line_ending))))

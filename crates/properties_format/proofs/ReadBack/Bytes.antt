@@ -51,12 +51,15 @@ spelt_text-scalars e only place (c ∷ x) h =
 -- and so is a key with its first character escaped
 with_first_escaped-scalars : (e : Encoding) (only : Bool) (key : List ℕ) → AllByRecursion scalar key → AllByRecursion scalar (with_first_escaped e only key)
 with_first_escaped-scalars e only [] h = tt
-with_first_escaped-scalars e only (c ∷ cs) h = scalars-append (unicode_escape c) (spelt_text e only in_key_or_value cs) (ascii-scalars (unicode_escape c) (unicode_escape-ascii c)) (spelt_text-scalars e only in_key_or_value cs h.1)
+with_first_escaped-scalars e only (c ∷ cs) h =
+    scalars-append (unicode_escape c) (spelt_text e only in_key_or_value cs) (ascii-scalars (unicode_escape c) (unicode_escape-ascii c))
+    (spelt_text-scalars e only in_key_or_value cs h.1)
 
 -- and any key that is printed
 key-scalars : (e : Encoding) (only : Bool) (first : Bool) (key : List ℕ) → AllByRecursion scalar key → AllByRecursion scalar (spelt_key e only first key)
 key-scalars e only first key h =
-    cond_both (first && is_bom_like e only key) (with_first_escaped e only key) (spelt_text e only in_key_or_value key) (AllByRecursion scalar) (λ k. with_first_escaped-scalars e only key h) (λ k. spelt_text-scalars e only in_key_or_value key h)
+    cond_both (first && is_bom_like e only key) (with_first_escaped e only key) (spelt_text e only in_key_or_value key)
+    (AllByRecursion scalar) (λ k. with_first_escaped-scalars e only key h) (λ k. spelt_text-scalars e only in_key_or_value key h)
 
 -- the texts of a line are of scalars
 ContentScalars : Content → Type 0
@@ -67,12 +70,19 @@ ContentScalars (pair key value) = All scalar key × All scalar value
 printed-scalars : (e : Encoding) (s : Settings) (first : Bool) (line : Content) → AreGoodSettings s → ContentScalars line → AllByRecursion scalar (printed_text e s first line)
 unfolding ContentScalars
 printed-scalars e s first (comment text) g h =
-    scalars-append (spelt_text e s.ascii_only in_prefix s.comment_prefix) (spelt_text e s.ascii_only in_comment text ++ line_ending_text s.line_ending) (spelt_text-scalars e s.ascii_only in_prefix s.comment_prefix (recursion_from_All scalar s.comment_prefix g.scalars))
-    (scalars-append (spelt_text e s.ascii_only in_comment text) (line_ending_text s.line_ending) (spelt_text-scalars e s.ascii_only in_comment text (recursion_from_All scalar text h)) (ascii-scalars (line_ending_text s.line_ending) (line_end-ascii s.line_ending)))
+    scalars-append (spelt_text e s.ascii_only in_prefix s.comment_prefix)
+    (spelt_text e s.ascii_only in_comment text ++ line_ending_text s.line_ending)
+    (spelt_text-scalars e s.ascii_only in_prefix s.comment_prefix (recursion_from_All scalar s.comment_prefix g.scalars))
+    (scalars-append (spelt_text e s.ascii_only in_comment text) (line_ending_text s.line_ending)
+    (spelt_text-scalars e s.ascii_only in_comment text (recursion_from_All scalar text h)) (ascii-scalars (line_ending_text s.line_ending) (line_end-ascii s.line_ending)))
 printed-scalars e s first (pair key value) g h =
-    scalars-append (spelt_key e s.ascii_only first key) (s.kv_separator ++ (spelt_text e s.ascii_only in_key_or_value value ++ line_ending_text s.line_ending)) (key-scalars e s.ascii_only first key (recursion_from_All scalar key h.0))
+    scalars-append (spelt_key e s.ascii_only first key)
+    (s.kv_separator ++ (spelt_text e s.ascii_only in_key_or_value value ++ line_ending_text s.line_ending))
+    (key-scalars e s.ascii_only first key (recursion_from_All scalar key h.0))
     (scalars-append s.kv_separator (spelt_text e s.ascii_only in_key_or_value value ++ line_ending_text s.line_ending) (ascii-scalars s.kv_separator (good_separator-ascii s.kv_separator g.separator))
-    (scalars-append (spelt_text e s.ascii_only in_key_or_value value) (line_ending_text s.line_ending) (spelt_text-scalars e s.ascii_only in_key_or_value value (recursion_from_All scalar value h.1)) (ascii-scalars (line_ending_text s.line_ending) (line_end-ascii s.line_ending))))
+    (scalars-append (spelt_text e s.ascii_only in_key_or_value value) (line_ending_text s.line_ending)
+    (spelt_text-scalars e s.ascii_only in_key_or_value value (recursion_from_All scalar value h.1))
+    (ascii-scalars (line_ending_text s.line_ending) (line_end-ascii s.line_ending))))
 
 -- ---- all that is written
 
@@ -90,7 +100,8 @@ line-writable : (e : Encoding) (s : Settings) (n : ℕ) (line : Content) → Are
 line-writable e s n line g h = record { scalars = printed-scalars e s (n == 0) line g h; encodable = printed_text-encodable e s (n == 0) line g.separator }
 
 -- a pair, where it is accepted and where it is not
-pair-writable : (e : Encoding) (s : Settings) (n : ℕ) (key value : List ℕ) (b : Bool) → AreGoodSettings s → All scalar key → All scalar value → AreWritable e (line_text e s n (if b then Some (pair key value) else None))
+pair-writable : (e : Encoding) (s : Settings) (n : ℕ) (key value : List ℕ) (b : Bool) → AreGoodSettings s → All scalar key
+    → All scalar value → AreWritable e (line_text e s n (if b then Some (pair key value) else None))
 unfolding ContentScalars
 pair-writable e s n key value true g h k = line-writable e s n (pair key value) g (h, k)
 pair-writable e s n key value false g h k = record { scalars = tt; encodable = tt }

@@ -72,7 +72,8 @@ same-plainly : (x y z : List ℕ) → x ≡ y → ArePlainlySpelt y z → ArePla
 same-plainly x y z e s = subst (λ v. ArePlainlySpelt v z) (sym e) s
 
 -- and the tail of a prefix, which holds no backslash, in front of such a text
-tail-plainly : (e : Encoding) (only : Bool) (tail y cs : List ℕ) → AllByRecursion scalar tail → HoldsNoBackslash tail → HoldsNoLineEnd tail → ArePlainlySpelt y cs → ArePlainlySpelt (spelt_text e only in_prefix tail ++ y) (tail ++ cs)
+tail-plainly : (e : Encoding) (only : Bool) (tail y cs : List ℕ) → AllByRecursion scalar tail → HoldsNoBackslash tail → HoldsNoLineEnd tail
+    → ArePlainlySpelt y cs → ArePlainlySpelt (spelt_text e only in_prefix tail ++ y) (tail ++ cs)
 tail-plainly e only [] y cs h b p s = s
 tail-plainly e only (c ∷ tail) y cs h b p s =
     same-plainly _ (literal e only c ++ (spelt_text e only in_prefix tail ++ y)) (c ∷ tail ++ cs) (append_assoc (literal e only c) (spelt_text e only in_prefix tail) y)

@@ -77,7 +77,8 @@ pair-line e s first key value g some h k =
     record {
       text = front ++ (s.kv_separator ++ back);
       whole = ap (λ v. front ++ v) (sym (append_assoc s.kv_separator back (line_ending_text s.line_ending))) ∙ sym (append_assoc front (s.kv_separator ++ back) (line_ending_text s.line_ending));
-      read = pair-read front back s.kv_separator key value (key-spelt e s.ascii_only first key (recursion_from_All scalar key h)) (texts-spelt e s.ascii_only value (recursion_from_All scalar value k)) g.separator some;
+      read = pair-read front back s.kv_separator key value (key-spelt e s.ascii_only first key (recursion_from_All scalar key h))
+          (texts-spelt e s.ascii_only value (recursion_from_All scalar value k)) g.separator some;
     }
 
 -- ---- all lines

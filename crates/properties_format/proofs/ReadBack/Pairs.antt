@@ -46,8 +46,10 @@ same-texts x y z e s = record { spellings = s.spellings; text = e ∙ s.text; ch
 -- every key that is printed is safely spelt
 pub key-spelt : (e : Encoding) (only : Bool) (first : Bool) (key : List ℕ) → AllByRecursion scalar key → AreSafelySpelt (spelt_key e only first key) key
 key-spelt e only first key h = elim (cases_Bool (first && is_bom_like e only key)) [
-  | inl k ↦ same-texts _ (with_first_escaped e only key) key (cond-true (first && is_bom_like e only key) (with_first_escaped e only key) (spelt_text e only in_key_or_value key) k) (with_first_escaped-spelt e only key h)
-  | inr k ↦ same-texts _ (spelt_text e only in_key_or_value key) key (cond-false (first && is_bom_like e only key) (with_first_escaped e only key) (spelt_text e only in_key_or_value key) k) (texts-spelt e only key h)
+  | inl k ↦ same-texts _ (with_first_escaped e only key) key
+      (cond-true (first && is_bom_like e only key) (with_first_escaped e only key) (spelt_text e only in_key_or_value key) k) (with_first_escaped-spelt e only key h)
+  | inr k ↦ same-texts _ (spelt_text e only in_key_or_value key) key
+      (cond-false (first && is_bom_like e only key) (with_first_escaped e only key) (spelt_text e only in_key_or_value key) k) (texts-spelt e only key h)
 ]
 
 -- ---- separators

@@ -37,7 +37,8 @@ pub record IsPlainlySpelt (x : List ℕ) (c : ℕ) : Type 0 where
 
 -- a scalar is no surrogate
 scalar-no_surrogate : (c : ℕ) → scalar c → is_surrogate c ≡ false
-scalar-no_surrogate c (inl h) = or_from (is_high c) (is_low c) (and_left (nat_le 0xd800 c) (nat_lt c 0xdc00) (lt-leb 0xd800 c h)) (and_left (nat_le 0xdc00 c) (nat_lt c 0xe000) (lt-leb 0xdc00 c (omega arith)))
+scalar-no_surrogate c (inl h) =
+    or_from (is_high c) (is_low c) (and_left (nat_le 0xd800 c) (nat_lt c 0xdc00) (lt-leb 0xd800 c h)) (and_left (nat_le 0xdc00 c) (nat_lt c 0xe000) (lt-leb 0xdc00 c (omega arith)))
 scalar-no_surrogate c (inr h) =
     or_from (is_high c) (is_low c) (and_right (nat_le 0xd800 c) (nat_lt c 0xdc00) (le-ltb c 0xdc00 (omega (arith, h)))) (and_right (nat_le 0xdc00 c) (nat_lt c 0xe000) (le-ltb c 0xe000 h.0))
 
@@ -82,7 +83,9 @@ pair-spelt c h k =
 
 -- two escapes keep blanks, where they are of none
 pair-keeps : (c : ℕ) → scalar c → 0x1_0000 ≤ c → is_blank c ≡ false → KeepsBlanks (surrogates (unit_digits (high_surrogate c)) (unit_digits (low_surrogate c)))
-pair-keeps c h k b = KeepsBlanks-surrogates (unit_digits (high_surrogate c)) (unit_digits (low_surrogate c)) (unit_digits-hexadecimal (low_surrogate c)) (subst (λ v. is_blank v ≡ false) (sym (pair-is c h k)) b)
+pair-keeps c h k b =
+    KeepsBlanks-surrogates (unit_digits (high_surrogate c)) (unit_digits (low_surrogate c)) (unit_digits-hexadecimal (low_surrogate c))
+    (subst (λ v. is_blank v ≡ false) (sym (pair-is c h k)) b)
 
 -- an equal text is a safe spelling too
 same-spelt : (x y : List ℕ) (c : ℕ) → x ≡ y → IsSafelySpelt y c → IsSafelySpelt x c
@@ -115,7 +118,13 @@ unicode-plainly c h b =
       | inr k ↦
           let s = pair-spelt c h (ltb-false c 0x1_0000 k) in
           same-plainly (unicode_escape c) two c (cond-false (nat_lt c 0x1_0000) whole two k)
-          (record { spelling = surrogates (unit_digits (high_surrogate c)) (unit_digits (low_surrogate c)); text = refl; character = s.character; safe = inl s.safe; keeps = pair-keeps c h (ltb-false c 0x1_0000 k) b })
+          (record {
+            spelling = surrogates (unit_digits (high_surrogate c)) (unit_digits (low_surrogate c));
+            text = refl;
+            character = s.character;
+            safe = inl s.safe;
+            keeps = pair-keeps c h (ltb-false c 0x1_0000 k) b;
+          })
     ]
 
 -- ---- characters as they stand, and escapes with a backslash alone
@@ -215,7 +224,8 @@ in_key_or_value-spelt e only c h =
 -- ---- comments and prefixes
 
 -- a backslash and a character, neither a blank themselves nor spelling one, spell plainly
-escape-plainly : (c d : ℕ) → (d == letter_u) ≡ false → is_line_end d ≡ false → escaped_character d ≡ c → is_blank d ≡ false → is_blank (escaped_character d) ≡ false → IsPlainlySpelt (backslash ∷ d ∷ []) c
+escape-plainly : (c d : ℕ) → (d == letter_u) ≡ false → is_line_end d ≡ false → escaped_character d ≡ c → is_blank d ≡ false
+    → is_blank (escaped_character d) ≡ false → IsPlainlySpelt (backslash ∷ d ∷ []) c
 escape-plainly c d u l e b f = record { spelling = escaped d; text = refl; character = e; safe = inl (u, l); keeps = KeepsBlanks-escaped d b f }
 
 -- what plainly spells one character spells an equal one

@@ -82,7 +82,8 @@ with_first_escaped-unmarked : (e : Encoding) (only : Bool) (key rest : List ℕ)
 with_first_escaped-unmarked e only [] rest h = cc
 with_first_escaped-unmarked e only (c ∷ cs) rest h =
     let (y, same) = unicode-is_escape c in
-    front-unmarked e (with_first_escaped e only (c ∷ cs) ++ rest) backslash ((y ++ spelt_text e only in_key_or_value cs) ++ rest) (ap (λ v. (v ++ spelt_text e only in_key_or_value cs) ++ rest) same) (lit< tt)
+    front-unmarked e (with_first_escaped e only (c ∷ cs) ++ rest) backslash ((y ++ spelt_text e only in_key_or_value cs) ++ rest)
+    (ap (λ v. (v ++ spelt_text e only in_key_or_value cs) ++ rest) same) (lit< tt)
 
 -- a key that begins like no byte order mark, with what comes after its separator
 plain-unmarked : (e : Encoding) (only : Bool) (key sep rest : List ℕ) → IsGoodSeparator sep → is_bom_like e only key ≡ false → IsUnmarked e (spelt_text e only in_key_or_value key ++ (sep ++ rest))
@@ -94,8 +95,10 @@ plain-unmarked e only key sep rest g h =
 pub pair-unmarked : (e : Encoding) (only : Bool) (key sep rest : List ℕ) → IsGoodSeparator sep
     → begins_like_bom (encoded_text e (spelt_key e only true key ++ (sep ++ rest))) ≡ false
 pair-unmarked e only key sep rest g = elim (cases_Bool (is_bom_like e only key)) [
-  | inl h ↦ ap (λ v. begins_like_bom (encoded_text e (v ++ (sep ++ rest)))) (cond-true (is_bom_like e only key) (with_first_escaped e only key) (spelt_text e only in_key_or_value key) h) ∙ with_first_escaped-unmarked e only key (sep ++ rest) h
-  | inr h ↦ ap (λ v. begins_like_bom (encoded_text e (v ++ (sep ++ rest)))) (cond-false (is_bom_like e only key) (with_first_escaped e only key) (spelt_text e only in_key_or_value key) h) ∙ plain-unmarked e only key sep rest g h
+  | inl h ↦ ap (λ v. begins_like_bom (encoded_text e (v ++ (sep ++ rest))))
+      (cond-true (is_bom_like e only key) (with_first_escaped e only key) (spelt_text e only in_key_or_value key) h) ∙ with_first_escaped-unmarked e only key (sep ++ rest) h
+  | inr h ↦ ap (λ v. begins_like_bom (encoded_text e (v ++ (sep ++ rest))))
+      (cond-false (is_bom_like e only key) (with_first_escaped e only key) (spelt_text e only in_key_or_value key) h) ∙ plain-unmarked e only key sep rest g h
 ]
 
 -- a printed first line, with what comes after it
@@ -103,7 +106,8 @@ printed-unmarked : (e : Encoding) (s : Settings) (line : Content) (rest : List �
 printed-unmarked e s (comment text) rest g =
     ap (λ v. begins_like_bom (encoded_text e v)) (append_assoc (spelt_text e s.ascii_only in_prefix s.comment_prefix) _ rest) ∙ comment-unmarked e s.ascii_only s.comment_prefix _ g.prefix
 printed-unmarked e s (pair key value) rest g =
-    ap (λ v. begins_like_bom (encoded_text e v)) (append_assoc (spelt_key e s.ascii_only true key) (s.kv_separator ++ _) rest ∙ ap (λ v. spelt_key e s.ascii_only true key ++ v) (append_assoc s.kv_separator _ rest))
+    ap (λ v. begins_like_bom (encoded_text e v))
+    (append_assoc (spelt_key e s.ascii_only true key) (s.kv_separator ++ _) rest ∙ ap (λ v. spelt_key e s.ascii_only true key ++ v) (append_assoc s.kv_separator _ rest))
     ∙ pair-unmarked e s.ascii_only key s.kv_separator _ g.separator
 
 -- ---- all lines

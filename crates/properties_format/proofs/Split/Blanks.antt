@@ -47,7 +47,8 @@ pub record IsPast (x y : List ℕ) : Type 0 where
 pub without_leading_blanks-meets : (x : List ℕ) → IsPast x (without_leading_blanks x)
 without_leading_blanks-meets [] = record { before = []; whole = refl; before_blank = tt; begins_full = refl }
 without_leading_blanks-meets (c ∷ x) = elim (cases_Bool (is_blank c)) [
-  | inl e ↦ rw e (let r : IsPast x (without_leading_blanks x) = without_leading_blanks-meets x in record { before = c ∷ r.before; whole = ap (λ v. c ∷ v) r.whole; before_blank = (e, r.before_blank); begins_full = r.begins_full })
+  | inl e ↦ rw e (let r : IsPast x (without_leading_blanks x) =
+      without_leading_blanks-meets x in record { before = c ∷ r.before; whole = ap (λ v. c ∷ v) r.whole; before_blank = (e, r.before_blank); begins_full = r.begins_full })
   | inr e ↦ rw e (record { before = []; whole = refl; before_blank = tt; begins_full = e })
 ]
 

@@ -80,7 +80,8 @@ after-step rest before (c ∷ y) e b f k = elim (cases_Bool (is_separator c)) [
 
 -- what comes after a key is what stands between and the value that is read
 after-meets : (rest : List ℕ) → ends_here rest ≡ true → IsBehind rest (past_separator (without_leading_blanks rest))
-after-meets rest k = let p : IsPast rest (without_leading_blanks rest) = without_leading_blanks-meets rest in after-step rest p.before (without_leading_blanks rest) p.whole p.before_blank p.begins_full k
+after-meets rest k = let p : IsPast rest (without_leading_blanks rest) =
+    without_leading_blanks-meets rest in after-step rest p.before (without_leading_blanks rest) p.whole p.before_blank p.begins_full k
 
 -- ---- what is read is what the line is
 
@@ -116,7 +117,8 @@ full-meets line indent (c ∷ x) e b f = elim (cases_Bool (is_comment_sign c)) [
 -- a line is what is computed
 pub split_of-meets : (line : List ℕ) → IsSplit line (split_of line)
 unfolding split_of
-split_of-meets line = let p : IsPast line (without_leading_blanks line) = without_leading_blanks-meets line in full-meets line p.before (without_leading_blanks line) p.whole p.before_blank p.begins_full
+split_of-meets line = let p : IsPast line (without_leading_blanks line) =
+    without_leading_blanks-meets line in full-meets line p.before (without_leading_blanks line) p.whole p.before_blank p.begins_full
 
 -- ---- what the line is, is read
 

@@ -5,7 +5,7 @@ ghost use Rattle.counted_io.specs.Streams.{IsSameReader};
 ghost use Rattle.properties_format.specs.Reading.ReaderSteps.{after_decided, after_passed};
 ghost use Rattle.properties_text.specs.Decoding.{TellsBom};
 ghost use Rattle.properties_lines.specs.InputBuffer.{Fills};
-ghost use Rattle.properties_lines.specs.LineFinder.{Settles, SettlesLast, IsReady, Looks, Seeks};
+ghost use Rattle.properties_lines.specs.LineFinder.{SettlesEncoding, SettlesLast, IsReady, Looks, Seeks};
 
 use super::LineFinder;
 use crate::input::FillError;
@@ -80,7 +80,7 @@ impl LineFinder {
     // Passes an LF of the line end before, or at the start the byte order mark, where the bytes that are held allow it.
     fn settle(&mut self) -> bool
         requires { self.old.state.is_done ≡ false }
-        ensures { Settles self.old.state result self.new.state }
+        ensures { SettlesEncoding self.old.state result self.new.state }
     {
         if !self.is_decided {
             match byte_order_mark(self.held_from(0)) {

@@ -2,7 +2,7 @@
 
 ghost use Rattle.std.specs.Prelude.{◌≡◌, true, false};
 ghost use Rattle.std.specs.Iterator.{count_unless, IsFinite};
-ghost use Rattle.properties_lines.specs.Joining.{GivesNext, JoinsAll, MayGoOn, TakesAfter};
+ghost use Rattle.properties_lines.specs.Joining.{GivesLogicalLine, JoinsEach, MayGoOn, TakesAfter};
 
 use crate::error::LineError;
 use crate::join::{addition, is_comment_line, is_open};
@@ -23,7 +23,7 @@ impl<I: Iterator<Item = Result<NaturalLine, LineError>>> LogicalLines<I> {
     /// Joins these lines. None is asked for yet.
     pub fn new(lines: I) -> LogicalLines<I>
         ensures start { result ≡ record { lines = lines; is_done = false } }
-        ensures joins { JoinsAll I.next_gives result }
+        ensures joins { JoinsEach I.next_gives result }
     {
         LogicalLines {
             lines,
@@ -62,7 +62,7 @@ impl<I: Iterator<Item = Result<NaturalLine, LineError>>> Iterator for LogicalLin
 
     ghost can_next = { λ s. s.is_done ≡ false → I.can_next s.lines × IsFinite (I.remaining s.lines) };
 
-    ghost next_gives = { GivesNext I.next_gives };
+    ghost next_gives = { GivesLogicalLine I.next_gives };
 
     ghost remaining = { λ s. count_unless s.is_done (I.remaining s.lines) };
 

@@ -1,101 +1,45 @@
 -- Bytes that are printed sixteen at once.
-use Rattle.std.proofs.Common.{◌≡◌, ℕ, zero, suc, ◌+◌, ◌-◌, ◌/◌, ◌%◌, ◌^◌, ◌<◌, ◌≤◌, false, cond, List, [], ◌∷◌, ◌++◌, refl, sym, ap, ap₂, ◌∙◌, append_assoc, arith, length, take, drop, map, replicate, w8}
-use Rattle.std.specs.Int.RustNames.{count_ones}
+use Rattle.std.proofs.Common.{◌≡◌, ℕ, zero, suc, ◌+◌, ◌-◌, ◌<◌, ◌≤◌, false, cond, Bool, List, [], ◌∷◌, ◌++◌, refl, sym, ap, ap₂, ◌∙◌, arith, length, take, drop, map, replicate}
 use Rattle.std.specs.List.{All}
-use Rattle.std.specs.Simd.Lanes.{chunk, put_chunk, mask_l}
+use Rattle.std.specs.Simd.Lanes.{chunk}
 use Rattle.std.proofs.lemmas.Bool.{le-ltb, ne_eqb}
-use Rattle.std.proofs.lemmas.List.{map-id, length-append, length-take, length-take-le, take_all, take_at, drop_at, take-take, take-append-le, take-append-drop}
+use Rattle.std.proofs.lemmas.List.{length-take-le, take_all, drop_at, take-take, take-map, drop-map, map-append, take-append-le, take-append-drop}
 use Rattle.std.proofs.lemmas.List.Elements.{All-head, All-tail, All-append, All-take, All-drop}
-use Rattle.std.proofs.lemmas.Simd.{swz_l, splat_is_map}
+use Rattle.std.proofs.lemmas.Simd.{splat_is_map}
 use Rattle.properties_format.specs.Text.{space, backslash}
 use Rattle.properties_format.specs.Printing.{is_special, has_letter}
+use Rattle.byte_blocks.specs.Moving.{spread}
 use Rattle.properties_text.specs.Printing.{spelt_byte, spelt_bytes, with_backslashes}
-use Rattle.properties_text.proofs.LaneTable.{row, split, first-bits, take_past, spread, length-spread, spread-stored}
 use Rattle.properties_text.proofs.Printing.Bytes.{spelt_bytes-append}
 
--- ---- eight bytes
+-- ---- backslashes
 
-backslashes-spread : (bs : List ℕ) → with_backslashes bs ≡ spread is_special (λ b. backslash) (λ b. b) bs
+-- bytes with backslashes are bytes spread
+backslashes-spread : (bs : List ℕ) → with_backslashes bs ≡ spread (map is_special bs) (map (λ b. backslash) bs) bs
 backslashes-spread [] = refl
 backslashes-spread (b ∷ bs) = ap (λ l. cond (is_special b) (backslash ∷ b ∷ []) (b ∷ []) ++ l) (backslashes-spread bs)
 
--- eight lanes with backslashes behind them
-pub put_8-is : (at : ℕ) (out pair : List ℕ) (bits : ℕ) → length pair ≡ 16 → at + 16 ≤ length out → bits ≡ mask_l (map is_special (take 8 pair)) → drop 8 pair ≡ replicate 8 backslash
-    → take (at + 8 + count_ones bits) (put_chunk at out (swz_l w8 16 pair 0 (row bits))) ≡ take at out ++ with_backslashes (take 8 pair)
-put_8-is at out pair bits long room e rest =
-    let bs = take 8 pair in
-    let half : length bs ≡ 8 = length-take-le 8 pair (omega (arith, long)) in
-    let whole : take 8 bs ≡ bs = take_all 8 bs (omega (arith, half)) in
-    let is : pair ≡ map (λ b. b) bs ++ map (λ b. backslash) bs = sym (take-append-drop 8 pair) ∙ ap₂ (λ x y. x ++ y) (sym (map-id bs)) (rest ∙ splat_is_map bs 8 backslash half) in
-    let place : at + 8 + count_ones bits ≡ at + (8 + count_ones (mask_l (map is_special (take 8 bs)))) =
-    omega (arith, ap count_ones (e ∙ ap (λ l. mask_l (map is_special l)) (sym whole))) in
-    spread-stored is_special (λ b. backslash) (λ b. b) at out bs pair bits 8 (at + 8 + count_ones bits) half room (omega arith) e is place
-    ∙ ap (λ l. take at out ++ l) (ap (spread is_special (λ b. backslash) (λ b. b)) whole ∙ sym (backslashes-spread bs))
+-- the first k and the last eight of what is mapped
+joined-map : {Y : Type 0} (f : ℕ → Y) (k : ℕ) (v : List ℕ) → take k (map f v) ++ drop 8 (map f v) ≡ map f (take k v ++ drop 8 v)
+joined-map f k v = ap₂ (λ x y. x ++ y) (take-map f k v) (drop-map f 8 v) ∙ sym (map-append f (take k v) (drop 8 v))
 
--- of sixteen bytes the bits of each half
-pub front-bits : (v half : List ℕ) (bits : ℕ) → length v ≡ 16 → bits ≡ mask_l (map is_special v) → half ≡ take 8 v → bits % 256 ≡ mask_l (map is_special half)
-front-bits v half bits long e h =
-    let parts = split is_special v 8 (omega arith) in
-    let now : bits % 256 ≡ mask_l (map is_special (take 8 v)) = omega (arith, e, parts.0, parts.1) in
-    now ∙ ap (λ l. mask_l (map is_special l)) (sym h)
+module _ (v : List ℕ) (marks : List Bool) (k : ℕ) (long : length v ≡ 16) (are : marks ≡ map is_special v) where
+  -- before those of the first k that are special
+  pub first-spread : spread (take k marks) (take k (replicate 16 backslash)) (take k v) ≡ with_backslashes (take k v)
+  first-spread =
+      ap₂ (λ ms bs. spread (take k ms) (take k bs) (take k v)) are (splat_is_map v 16 backslash long)
+      ∙ ap₂ (λ ms bs. spread ms bs (take k v)) (take-map is_special k v) (take-map (λ b. backslash) k v)
+      ∙ sym (backslashes-spread (take k v))
 
-pub back-bits : (v half : List ℕ) (bits : ℕ) → length v ≡ 16 → bits ≡ mask_l (map is_special v) → half ≡ drop 8 v → bits / 256 ≡ mask_l (map is_special half)
-back-bits v half bits long e h =
-    let parts = split is_special v 8 (omega arith) in
-    let now : bits / 256 ≡ mask_l (map is_special (drop 8 v)) = omega (arith, e, parts.0, parts.1) in
-    now ∙ ap (λ l. mask_l (map is_special l)) (sym h)
+  -- and of the first k and the last eight
+  pub ends-spread : spread (take k marks ++ drop 8 marks) (take k (replicate 16 backslash) ++ drop 8 (replicate 16 backslash)) (take k v ++ drop 8 v)
+      ≡ with_backslashes (take k v ++ drop 8 v)
+  ends-spread =
+      ap₂ (λ ms bs. spread (take k ms ++ drop 8 ms) (take k bs ++ drop 8 bs) (take k v ++ drop 8 v)) are (splat_is_map v 16 backslash long)
+      ∙ ap₂ (λ ms bs. spread ms bs (take k v ++ drop 8 v)) (joined-map is_special k v) (joined-map (λ b. backslash) k v)
+      ∙ sym (backslashes-spread (take k v ++ drop 8 v))
 
 -- ---- what is printed
-
-pub with_backslashes-append : (xs ys : List ℕ) → with_backslashes (xs ++ ys) ≡ with_backslashes xs ++ with_backslashes ys
-with_backslashes-append [] ys = refl
-with_backslashes-append (x ∷ xs) ys =
-    let first = cond (is_special x) (backslash ∷ x ∷ []) (x ∷ []) in
-    ap (λ l. first ++ l) (with_backslashes-append xs ys) ∙ sym (append_assoc first (with_backslashes xs) (with_backslashes ys))
-
--- the first k bytes, and the others
-parts : (k : ℕ) (v : List ℕ) → with_backslashes (take k v) ++ with_backslashes (drop k v) ≡ with_backslashes v
-parts k v = sym (with_backslashes-append (take k v) (drop k v)) ∙ ap with_backslashes (take-append-drop k v)
-
--- the halves, one after another
-pub two-halves : (before v first last : List ℕ) → first ≡ take 8 v → last ≡ drop 8 v → (before ++ with_backslashes first) ++ with_backslashes last ≡ before ++ with_backslashes v
-two-halves before v first last e f =
-    ap₂ (λ x y. (before ++ with_backslashes x) ++ with_backslashes y) e f
-    ∙ append_assoc before (with_backslashes (take 8 v)) (with_backslashes (drop 8 v))
-    ∙ ap (λ l. before ++ l) (parts 8 v)
-
--- how long they are
-length-backslashes : (v : List ℕ) → length (with_backslashes v) ≡ length v + count_ones (mask_l (map is_special v))
-length-backslashes v = ap length (backslashes-spread v) ∙ length-spread is_special (λ b. backslash) (λ b. b) v
-
--- of what is printed the place after the first k
-kept-is : (before new v : List ℕ) (full k m : ℕ) → k ≤ length v → take full new ≡ before ++ with_backslashes v
-    → m ≡ length before + (k + count_ones (mask_l (map is_special (take k v)))) → take m new ≡ before ++ with_backslashes (take k v)
-kept-is before new v full k m le held e =
-    let n = length (with_backslashes (take k v)) in
-    let size : n ≡ k + count_ones (mask_l (map is_special (take k v))) = length-backslashes (take k v) ∙ ap (λ l. l + count_ones (mask_l (map is_special (take k v)))) (length-take-le k v le) in
-    let whole = ap length (parts k v) in
-    let within : m ≤ full = omega (arith, ap length held, length-take full new, length-append before (with_backslashes v), whole, length-append (with_backslashes (take k v)) (with_backslashes (drop k v))) in
-    sym (take-take m full new within)
-    ∙ ap (take m) held
-    ∙ take_past before (with_backslashes v) n m (omega arith)
-    ∙ ap (λ l. before ++ l) (ap (take n) (sym (parts k v)) ∙ take_at (with_backslashes (take k v)) (with_backslashes (drop k v)) n refl)
-
-pub put_16-is : (before new v : List ℕ) (at full k m bits : ℕ) → length v ≡ 16 → k ≤ 16 → length before ≡ at → bits ≡ mask_l (map is_special v) → take full new ≡ before ++ with_backslashes v
-    → m ≡ at + (k + count_ones (bits % 2 ^ k)) → take m new ≡ before ++ with_backslashes (take k v)
-put_16-is before new v at full k m bits long le size e held is =
-    kept-is before new v full k m (omega arith) held
-    (is ∙ ap₂ (λ x y. x + (k + count_ones y)) (sym size) (ap (λ n. n % 2 ^ k) e ∙ first-bits is_special v k (omega arith)))
-
-pub put_ends-is : (new last v first second : List ℕ) (full k m end bits : ℕ) → length v ≡ 16 → k ≤ 8 → bits ≡ mask_l (map is_special v) → first ≡ take 8 v → second ≡ drop 8 v
-    → take full new ≡ with_backslashes first → m ≡ 0 + (k + count_ones (bits % 2 ^ k)) → take end last ≡ take m new ++ with_backslashes second
-    → take end last ≡ with_backslashes (take k v ++ drop 8 v)
-put_ends-is new last v first second full k m end bits long le e f s held is put =
-    let short : take k (take 8 v) ≡ take k v = take-take k 8 v le in
-    let known : bits % 2 ^ k ≡ mask_l (map is_special (take k (take 8 v))) =
-    ap (λ n. n % 2 ^ k) e ∙ first-bits is_special v k (omega arith) ∙ ap (λ l. mask_l (map is_special l)) (sym short) in
-    let front = kept-is [] new (take 8 v) full k m (omega (arith, length-take-le 8 v (omega arith))) (held ∙ ap with_backslashes f) (is ∙ ap (λ n. 0 + (k + count_ones n)) known) in
-    put ∙ ap₂ (λ x y. x ++ y) (front ∙ ap with_backslashes short) (ap with_backslashes s) ∙ sym (with_backslashes-append (take k v) (drop 8 v))
 
 -- where no control character is, nothing else is escaped
 no-letter : (b : ℕ) → space ≤ b → has_letter b ≡ false

@@ -1,5 +1,5 @@
 -- Escapes of four digits, by their bytes.
-use Rattle.std.proofs.Common.{◌≡◌, ℕ, ◌+◌, ◌*◌, ◌<◌, ◌≤◌, ◌==◌, ◌&&◌, if◌then◌else◌, Bool, true, false, List, [], ◌∷◌, ◌++◌, length, take, drop, get_or, refl, sym, ap, ap₂, subst, ◌∙◌, inl, inr, arith}
+use Rattle.std.proofs.Common.{◌≡◌, ℕ, ◌+◌, ◌*◌, ◌<◌, ◌≤◌, ◌==◌, ◌&&◌, if◌then◌else◌, true, false, List, [], ◌∷◌, ◌++◌, length, take, drop, get_or, refl, sym, ap, ap₂, subst, ◌∙◌, inl, inr, arith}
 use Rattle.std.specs.Prelude.{Some, None, nat_le}
 use Rattle.std.specs.Str.{IsUtf8, chars}
 use Rattle.std.proofs.lemmas.Bool.{cases_Bool, cond-true, cond-false, and_parts, and_from, agree_below_at, eqb-true, leb-true}
@@ -7,11 +7,12 @@ use Rattle.std.proofs.lemmas.Bool.Decides.{nat_tests}
 use Rattle.std.proofs.lemmas.Str.{IsUtf8-append, IsUtf8-encode}
 use Rattle.std.specs.Char.{IsScalar, encode_utf8}
 use Rattle.properties_format.specs.Text.{backslash}
-use Rattle.properties_format.specs.Escapes.{letter_u, is_hexadecimal, hexadecimal_value, are_hexadecimal, code_unit, is_surrogate, four_text}
+use Rattle.properties_format.specs.Escapes.{letter_u, is_hexadecimal, hexadecimal_value, are_hexadecimal, code_unit, is_surrogate}
 use Rattle.properties_format.specs.Reading.Escapes.{in_front, text_in_front, meaning_of}
-use Rattle.properties_text.specs.Escaping.{digit_value, four_bytes, IsUnit}
+use Rattle.properties_text.specs.Escaping.{digit_value, four_bytes}
 use Rattle.properties_text.specs.declared.escape.units.TheConstants.{DIGITS}
 use Rattle.properties_text.proofs.Texts.Characters.{first_ascii, four_ascii}
+use Rattle.properties_format.proofs.Escapes.Laws.{meaning_of-plain_front}
 use Rattle.properties_format.proofs.Escapes.Scalars.{code_unit-below}
 use Rattle.properties_text.proofs.TextFronts.{chars-more}
 use Rattle.properties_text.proofs.Texts.Escapes.{value-some, meaning-unit}
@@ -84,6 +85,12 @@ unit-first (x ∷ y ∷ bs) value u h s t e f =
       digit-ascii _ r.1,
       ap meaning_of front ∙ meaning-unit (chars bs) (chars (drop 4 bs)) value (record { digits = four; whole = digits; hexadecimal = is.0; writes = is.1 }) f,
     )
+
+-- a character between two escapes
+pub between-first : (text : List ℕ) → IsUtf8 text → 0 < length text → get_or text 0 0 < 128 → (get_or text 0 0 == backslash) ≡ false
+    → meaning_of (chars text) ≡ in_front (get_or text 0 0) (meaning_of (chars (drop 1 text)))
+between-first [] u l s h = absurd (omega arith)
+between-first (b ∷ bs) u l s h = ap meaning_of (first_ascii b bs s u).characters ∙ meaning_of-plain_front (b ∷ []) (chars bs) (h, tt)
 
 -- ---- several of them
 

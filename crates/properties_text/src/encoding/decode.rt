@@ -8,7 +8,7 @@ ghost use Rattle.properties_text.specs.Decoding.{IsText, utf_16_of, AreFour, Dec
 ghost use Rattle.properties_text.specs.declared.encoding.Encoding.TheVariants.{WINDOWS_1252};
 
 use super::first_piece::first_piece;
-use super::latin_1::{put_16, table_bits};
+use super::latin_1::{put_16, tabled};
 use super::unit_blocks::{Written, put_latin_1, put_sixteen};
 use super::utf_16::ByteOrder;
 use super::windows_1252::text_of_byte;
@@ -89,7 +89,7 @@ fn decode_blocks<'a>(run: &mut [u8], start: usize, bytes: &'a [u8]) -> Decoded<'
         let v = u8x16::from_slice(rest);
         // The odd bytes go first, so that whole blocks are left.
         let odd = (rest.len() - 1) % 16 + 1;
-        if table_bits(v).trailing_zeros() as usize >= odd {
+        if tabled(v).is_clear_before(odd) {
             at = put_16(run, at, v, odd);
             rest = &rest[odd..];
         } else {

@@ -1,14 +1,17 @@
 // Sixteen bytes of UTF-8 at once, whose characters are of Latin-1.
 
-ghost use Rattle.std.specs.Prelude.{◌≡◌, ◌+◌, ◌-◌, ◌<◌, ◌≤◌, ◌++◌, ◌∷◌, length, take, drop, map, count_ones};
-ghost use Rattle.std.specs.Simd.Lanes.{mask_l};
-ghost use Rattle.properties_text.specs.Latin1.{is_lead, is_beyond, all_raised, dropped, narrowed, AreOfLatin1};
+ghost use Rattle.std.specs.Prelude.{◌≡◌, ◌+◌, ◌≤◌, ◌++◌, ◌∷◌, length, take};
+ghost use Rattle.properties_text.specs.Latin1.{all_raised, narrowed, AreOfLatin1};
 
-use super::latin_1::{is_ascii, table_bits};
-use lanes::KEPT;
+use super::latin_1::{is_ascii, tabled};
+use byte_blocks::{AtLeast, ByteClass, put_squeezed};
 use std::simd::prelude::*;
 
-mod lanes;
+// The first bytes of characters past ASCII.
+type Leads = AtLeast<0xc0>;
+
+// The first bytes of characters past Latin-1.
+type Beyond = AtLeast<0xc4>;
 
 /// Bytes of UTF-8 whose characters were written as bytes.
 #[derive(Clone, Copy)]
@@ -40,15 +43,12 @@ pub fn put_narrow(run: &mut [u8], at: usize, v: u8x16, count: usize) -> Narrowed
         };
     }
     let raised = raised(v);
-    let untabled = count.min(table_bits(raised).trailing_zeros() as usize);
-    let read = untabled.min(beyond_bits(v).trailing_zeros() as usize);
-    let leads = lead_bits(v);
-    let middle = put_8(run, at, raised, leads % 256);
-    put_8(run, middle, back(raised), leads / 256);
-    let counted = leads % (1 << read);
+    let untabled = tabled(raised).front_of(count);
+    let read = Beyond::marks(v).front_of(untabled);
+    let end = put_squeezed(run, at, raised, Leads::marks(v), read);
     Narrowed {
         read,
-        written: read - counted.count_ones() as usize,
+        written: end - at,
     }
 }
 
@@ -72,56 +72,4 @@ fn before(v: u8x16) -> u8x16
             0, 16, 17, 18, 19, 20, 21, 22, 23, 24, 25, 26, 27, 28, 29, 30,
         ],
     )
-}
-
-// Bit i is set where byte i is the first of a character past ASCII.
-#[inline(always)]
-fn lead_bits(v: u8x16) -> u64
-    ensures { result ≡ mask_l (map is_lead v) }
-{
-    v.simd_ge(u8x16::splat(0xc0)).to_bitmask()
-}
-
-// Bit i is set where byte i is the first of a character past Latin-1.
-#[inline(always)]
-fn beyond_bits(v: u8x16) -> u64
-    ensures { result ≡ mask_l (map is_beyond v) }
-{
-    v.simd_ge(u8x16::splat(0xc4)).to_bitmask()
-}
-
-// The last eight, at the front.
-#[inline(always)]
-fn back(v: u8x16) -> u8x16
-    ensures { take 8 result ≡ drop 8 v }
-{
-    v.shuffle(
-        v,
-        [8, 9, 10, 11, 12, 13, 14, 15, 8, 9, 10, 11, 12, 13, 14, 15],
-    )
-}
-
-// Writes those of the first eight bytes whose bits are clear, and returns the place after them.
-#[inline(always)]
-fn put_8(run: &mut [u8], at: usize, v: u8x16, bits: u64) -> usize
-    requires room { at + 8 ≤ length run.old }
-    requires bits { bits < 256 }
-    ensures same_room { length run.new ≡ length run.old }
-    ensures place { result ≡ at + (8 - count_ones bits) }
-    ensures written { take result run.new ≡ take at run.old ++ dropped bits (take 8 v) }
-{
-    kept(v, bits)
-        .extract::<0, 8>()
-        .copy_to_slice(&mut run[at..]);
-    at + (8 - bits.count_ones() as usize)
-}
-
-// Those of the first eight bytes whose bits are clear, and others behind them.
-#[inline(always)]
-fn kept(v: u8x16, bits: u64) -> u8x16
-    requires { bits < 256 }
-    ensures long { length result ≡ 16 }
-    ensures front { take (8 - count_ones bits) result ≡ dropped bits (take 8 v) }
-{
-    v.swizzle_dyn(u8x16::from_array(KEPT[bits as usize]))
 }

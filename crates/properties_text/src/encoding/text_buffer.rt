@@ -6,7 +6,7 @@ ghost use Rattle.properties_text.specs.Decoding.{text_of, KeepsText};
 
 use super::decode::decode_run;
 use super::{Encoding, utf_8};
-use crate::room::{append, make_room};
+use crate::line_buffer::{LineBuffer, make_room};
 use std::alloc::{AllocError, Global};
 use std::marker::Model;
 
@@ -23,17 +23,16 @@ const RUN: usize = 256;
 /// ```
 #[derive(Drop)]
 pub struct TextBuffer {
-    // The bytes up to `filled` are the text, and the others are room, so that bytes are decoded in their place.
-    bytes: Vec<u8>,
-    filled: usize,
+    // The bytes of the text, which is decoded in its place.
+    line: LineBuffer,
 }
 
 impl Model for TextBuffer {
     ghost Value = { List ℕ };
 
-    ghost view = { λ s. take s.filled s.bytes.items };
+    ghost view = { λ s. s.line };
 
-    ghost invariant = { λ s. (s.filled ≤ length s.bytes.items) × IsUtf8 (take s.filled s.bytes.items) };
+    ghost invariant = { λ s. IsUtf8 s.line };
 }
 
 impl TextBuffer {
@@ -42,8 +41,7 @@ impl TextBuffer {
         ensures { result ≡ [] }
     {
         TextBuffer {
-            bytes: Vec::new(alloc),
-            filled: 0,
+            line: LineBuffer::new(alloc),
         }
     }
 
@@ -51,7 +49,7 @@ impl TextBuffer {
     pub fn clear(&mut self)
         ensures { self.new ≡ [] }
     {
-        self.filled = 0;
+        self.line.clear();
     }
 
     /// The text.
@@ -59,7 +57,7 @@ impl TextBuffer {
         ensures { result.now ≡ self.now }
     {
         // SAFETY: the bytes that are filled are text.
-        unsafe { str::from_utf8_unchecked(&self.bytes[..self.filled]) }
+        unsafe { str::from_utf8_unchecked(self.line.as_slice()) }
     }
 
     /// Keeps so many bytes of the text, which end at a character's end.
@@ -67,7 +65,7 @@ impl TextBuffer {
         requires { IsCharBoundary self.old length }
         ensures { self.new ≡ take length self.old }
     {
-        self.filled = length;
+        self.line.truncate(length);
     }
 
     /// Appends a text, or nothing where memory runs out.
@@ -77,7 +75,7 @@ impl TextBuffer {
         ensures longer { length self.old ≤ length self.new }
         ensures unchanged { OnErr result (self.new ≡ self.old) }
     {
-        self.filled = append(&mut self.bytes, self.filled, more.as_bytes())?;
+        self.line.extend(more.as_bytes())?;
         Ok(())
     }
 
@@ -128,9 +126,9 @@ impl TextBuffer {
         ensures left { IfOk result (λ rest. length rest.now ≤ length bytes.now) }
         ensures shorter { IfOk result (λ rest. 0 < length bytes.now → length rest.now < length bytes.now) }
     {
-        make_room(&mut self.bytes, self.filled, RUN)?;
-        let decoded = decode_run(&mut self.bytes, self.filled, encoding, bytes);
-        self.filled = decoded.end;
+        make_room(&mut self.line.bytes, self.line.filled, RUN)?;
+        let decoded = decode_run(&mut self.line.bytes, self.line.filled, encoding, bytes);
+        self.line.filled = decoded.end;
         Ok(decoded.rest)
     }
 }

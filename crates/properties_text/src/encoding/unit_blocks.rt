@@ -3,9 +3,13 @@
 ghost use Rattle.std.specs.Prelude.{◌≡◌, ◌+◌, ◌≤◌, ◌++◌, length};
 ghost use Rattle.properties_text.specs.Decoding.{units_of, lows_of, highs_of, PutsLatin1};
 
-use super::latin_1::{put_8, put_16};
+use super::latin_1::{put_16, put_half};
 use super::utf_16::ByteOrder;
+use byte_blocks::{AtLeast, ByteClass};
 use std::simd::prelude::*;
+
+// The high bytes of units that are no characters of Latin-1.
+type PastLatin1 = AtLeast<1>;
 
 /// Units that were written as text.
 #[derive(Clone, Copy)]
@@ -23,24 +27,11 @@ pub fn put_latin_1(run: &mut [u8], at: usize, order: ByteOrder, v: u8x16, most: 
     requires most { most ≤ 8 }
     ensures { PutsLatin1 (units_of order v) most run.old at run.new result }
 {
-    let units = units(order, v);
-    let past = units.simd_ge(u16x8::splat(0x100)).to_bitmask();
-    let count = (past.trailing_zeros() as usize).min(most);
-    let bytes: u8x8 = (units & u16x8::splat(0xff)).cast();
-    let end = put_8(run, at, bytes, count);
+    // Both halves are these units.
+    let halves = split_units(order, v, v);
+    let count = PastLatin1::marks(halves.highs).front_of(most);
+    let end = put_half(run, at, halves.lows, count);
     Written { units: count, end }
-}
-
-#[inline(always)]
-fn units(order: ByteOrder, v: u8x16) -> u16x8
-    ensures { result ≡ units_of order v }
-{
-    match order {
-        ByteOrder::LowFirst => u16x8::from_le_bytes(v),
-        ByteOrder::HighFirst => u16x8::from_le_bytes(v.swizzle([
-            1, 0, 3, 2, 5, 4, 7, 6, 9, 8, 11, 10, 13, 12, 15, 14,
-        ])),
-    }
 }
 
 /// Writes sixteen units as [`put_latin_1`] does eight, and up to 32 bytes.
@@ -58,8 +49,7 @@ pub fn put_sixteen(
     ensures { PutsLatin1 (units_of order (a ++ b)) most run.old at run.new result }
 {
     let halves = split_units(order, a, b);
-    let past = halves.highs.simd_ge(u8x16::splat(1)).to_bitmask();
-    let count = (past.trailing_zeros() as usize).min(most);
+    let count = PastLatin1::marks(halves.highs).front_of(most);
     let end = put_16(run, at, halves.lows, count);
     Written { units: count, end }
 }

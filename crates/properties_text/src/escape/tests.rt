@@ -28,6 +28,10 @@ fn resolves_escapes(rt: HostRuntime) -> Result<(), Fail> {
         (r"\ud83d\udc1e", "\"\u{1f41e}\""),
         (r"x\uDBFF\uDFFFy", "\"x\\u{10ffff}y\""),
         (r"\uD83D\uDC1e\u0041z", "\"\u{1f41e}Az\""),
+        (
+            r"\u0430 \u0431-\u0432  \u0433",
+            "\"\u{430} \u{431}-\u{432}  \u{433}\"",
+        ),
         (r"\U0041", r#""U0041""#),
         (r"\u", "Malformed(NotEnoughDigits)"),
         (r"\u12", "Malformed(NotEnoughDigits)"),

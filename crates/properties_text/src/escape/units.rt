@@ -1,8 +1,9 @@
 // Escapes of four digits that write a character by themselves, by their bytes.
 
-ghost use Rattle.std.specs.Prelude.{◌≡◌, ◌+◌, ◌<◌, ◌≤◌, length, take, IfSome, Some, None, Ok, if◌then◌else◌};
+ghost use Rattle.std.specs.Prelude.{◌≡◌, ◌+◌, ◌<◌, ◌≤◌, ◌==◌, true, false, slice_index, length, take, IfSome, Some, None, Ok, if◌then◌else◌};
 ghost use Rattle.std.specs.Char.{IsScalar};
 ghost use Rattle.std.specs.Str.{IsUtf8, chars};
+ghost use Rattle.properties_format.specs.Text.{backslash};
 ghost use Rattle.properties_format.specs.Escapes.{are_hexadecimal, code_unit};
 ghost use Rattle.properties_format.specs.Reading.Escapes.{meaning_of, text_in_front};
 ghost use Rattle.properties_text.specs.Escaping.{Resolves, digit_value, four_bytes};
@@ -42,8 +43,8 @@ pub struct Units<'a> {
     pub rest: &'a str,
 }
 
-/// Puts what the escapes at the front stand for into the run, up to one that isn't four digits that write a character, as
-/// far as there is room.
+/// Puts what the escapes at the front stand for into the run, with single characters of ASCII between them, up to one
+/// that isn't four digits that write a character, as far as there is room.
 #[inline(always)]
 pub fn put_units<'a>(run: &mut [u8], text: &'a str) -> Units<'a>
     ensures same_room { length run.new ≡ length run.old }
@@ -57,13 +58,47 @@ pub fn put_units<'a>(run: &mut [u8], text: &'a str) -> Units<'a>
     let mut end = 0;
     let mut rest = text;
     while run.len() - end >= 4 {
-        let Some(escape) = first_unit(rest) else {
+        let Some(escape) = first_character(rest) else {
             break;
         };
         end = put_character(run, end, escape.character);
         rest = escape.rest();
     }
     Units { end, rest }
+}
+
+// What the text begins with: an escape of four digits that write a character, or a character between two escapes.
+#[inline(always)]
+fn first_character(text: &str) -> Option<Escape<'_>>
+    ensures meaning { IfSome result (λ escape. Resolves (chars text.now) (Ok escape)) }
+    ensures scalar { IfSome result (λ escape. IsScalar escape.character) }
+    ensures shorter { IfSome result (λ escape. length escape.rest.now < length text.now) }
+{
+    if let Some(escape) = first_unit(text) {
+        return Some(escape);
+    }
+    let bytes = text.as_bytes();
+    if !is_between(bytes) {
+        return None;
+    }
+    Some(Escape {
+        character: char::from(bytes[0]),
+        rest: &text[1..],
+    })
+}
+
+// Whether a character of ASCII stands before a `\u`, as the blank between two words of escapes.
+#[inline(always)]
+fn is_between(bytes: &[u8]) -> bool
+    ensures some { result ≡ true → 0 < length bytes.now }
+    ensures ascii { result ≡ true → slice_index bytes.now 0 < 0x80 }
+    ensures itself { result ≡ true → (slice_index bytes.now 0 == backslash) ≡ false }
+{
+    bytes.len() >= 3
+        && bytes[0] != b'\\'
+        && bytes[0] < 0x80
+        && bytes[1] == b'\\'
+        && bytes[2] == b'u'
 }
 
 // The escape that the text begins with, where it is four digits that write a character.

@@ -3,9 +3,8 @@
 ghost use Rattle.std.specs.Prelude.{◌≡◌, ◌+◌, ◌*◌, ◌<◌, ◌≤◌, ◌++◌, length, take, IfOk, OnOk};
 ghost use Rattle.properties_text.specs.Printing.{AppendsOnOk, ArePrinted, spelt_byte, spelt_bytes, backslashes_before, last_of};
 
-use super::line_buffer::LineBuffer;
 use super::print_byte;
-use crate::room::make_room;
+use crate::line_buffer::{LineBuffer, make_room};
 use byte_blocks::{ByteClass, Controls, ends};
 use std::alloc::AllocError;
 use std::simd::prelude::*;

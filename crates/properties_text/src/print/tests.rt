@@ -24,7 +24,7 @@ fn printed(
 
 #[test]
 fn prints_texts(rt: HostRuntime) -> Result<(), Fail> {
-    let rows: [(Repertoire, Place, &str, &[u8]); 15] = [
+    let rows: [(Repertoire, Place, &str, &[u8]); 16] = [
         (UTF_8, Place::KeyOrValue, "", b"|"),
         (
             UTF_8,
@@ -55,6 +55,12 @@ fn prints_texts(rt: HostRuntime) -> Result<(), Fail> {
             Place::KeyOrValue,
             "\u{e9}\u{20ac}",
             b"|\xe9\x80",
+        ),
+        (
+            WINDOWS_1252,
+            Place::KeyOrValue,
+            "\u{430} \u{431}-\u{20ac}.",
+            b"|\\u0430\\ \\u0431-\x80.",
         ),
         (
             WINDOWS_1252,

@@ -58,7 +58,9 @@ loop-at-preserved-then-units-gt0 c =
       resolved = resolved_many (chars c.args.s.now) _ _ (chars rest) (chars (take at rest)) (chars (drop at rest)) (chars units.result.rest.now) _ (chars more)
           c.loop-at.invariant.resolved s.meaning
           (ap (λ v. meaning_of (chars v)) (sym c.range_from-after.ensures.value) ∙ units.ensures.meaning)
-          (pushed_text text (take at rest) more _ _ (IsUtf8-string_bytes c.loop-at.text) s.front_utf8 grown (c.in_ok-push_str.ensures.bytes ∙ ap (λ v. string_bytes c.push_part.new.text ++ v) c.from_utf8_unchecked-more.ensures));
+          (pushed_text text (take at rest) more _ _ (IsUtf8-string_bytes c.loop-at.text) s.front_utf8 grown
+          (c.in_ok-push_str.ensures.bytes ∙ ap (λ v. string_bytes c.push_part.new.text ++ v)
+          c.from_utf8_unchecked-more.ensures));
     }
 
 pub returns : goal.returns

@@ -8,7 +8,9 @@ pub returns-in-Some-clause-rest : goal.returns-in-Some-clause-rest
 returns-in-Some-clause-rest c =
     let at = c.loop-at.at in
     up-to-first c.args.text.now (at + c.in-Some.first)
-    (first-in_block is_no_blank c.args.text.now 0 at 16 at c.in-Some.first (omega arith) (omega (arith, c.loop-at-test.true, c.loop-at.invariant.within)) (omega arith) c.loop-at.invariant.blank c.in-Some.ensures)
+    (first-in_block is_no_blank c.args.text.now 0 at 16 at c.in-Some.first (omega arith)
+    (omega (arith, c.loop-at-test.true, c.loop-at.invariant.within)) (omega arith) c.loop-at.invariant.blank
+    c.in-Some.ensures)
 
 pub loop-at-preserved : goal.loop-at-preserved
 loop-at-preserved c =

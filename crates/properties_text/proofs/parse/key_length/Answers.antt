@@ -7,8 +7,8 @@ use Rattle.properties_text.proofs.parse.key_length.Goals.{then-byte-eq92, else-b
 
 pub loop-at-init : goal.loop-at-init
 loop-at-init c = record {
-  within = omega (arith, c.plain_front-at.ensures.within);
-  cut = cut-plains c.args.text.now c.plain_front-at.result c.plain_front-at.ensures.within c.plain_front-at.ensures.plain;
+  within = omega (arith, c.key_front-at.ensures.within);
+  cut = cut-plains c.args.text.now c.key_front-at.result c.key_front-at.ensures.within c.key_front-at.ensures.plain;
 }
 
 pub loop-at-preserved : goal.loop-at-preserved

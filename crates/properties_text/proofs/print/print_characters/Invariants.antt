@@ -5,4 +5,5 @@ use Rattle.properties_text.specs.Printing.{place_of}
 use Rattle.properties_text.proofs.print.print_characters.Given as goal
 
 abbrev pub invariant-loop-character : goal.invariant-loop-character
-invariant-loop-character l = l.line ≡ l.initial.line ++ encoded_text (output_of l.repertoire.encoding) (spelt_text (output_of l.repertoire.encoding) l.repertoire.ascii_only (place_of l.place) l.yielded)
+invariant-loop-character l = l.line ≡ l.initial.line ++ encoded_text (output_of l.repertoire.encoding)
+    (spelt_text (output_of l.repertoire.encoding) l.repertoire.ascii_only (place_of l.place) l.yielded)

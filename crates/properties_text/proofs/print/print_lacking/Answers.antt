@@ -1,5 +1,4 @@
-use Rattle.std.proofs.Common.{◌≡◌, ◌++◌, List, ℕ, false, refl, sym, ap, subst, ◌∙◌, arith, rules}
-use Rattle.std.specs.Prelude.{is_some}
+use Rattle.std.proofs.Common.{◌≡◌, ◌++◌, List, ℕ, refl, sym, subst, ◌∙◌, arith, rules}
 use Rattle.std.specs.Str.{chars}
 use Rattle.std.proofs.lemmas.Str.{chars_past_char}
 use Rattle.properties_text.specs.Printing.{text_bytes, all_of_windows_1252}
@@ -18,9 +17,10 @@ loop-characters-preserved c =
     let held = c.loop-characters.invariant in
     let parts = chars_past_char rest after c.in-Some.character held.utf8 (sym c.chars-characters.ensures.rest ∙ c.in-Some.ensures.steps.0) in
     let P : List ℕ → Type 0 = λ v. line ++ text_bytes all_of_windows_1252 KeyOrValue v ≡ c.args.line.now ++ text_bytes all_of_windows_1252 KeyOrValue (chars c.args.text.now) in
+    let more = lacked-more line c.print_escape.new.line _ (chars after) c.in-Some.character (subst P parts held.printed) (omega arith)
+    (sym c.has_byte.ensures ∙ c.if-has_byte.false) c.in_ok-print_escape.ensures in
     record {
-      utf8 = c.as_str-rest.utf8;
-      printed = rw c.as_str-rest.ensures (lacked-more line c.print_escape.new.line _ (chars after) c.in-Some.character (subst P parts held.printed) (omega arith)
-          (sym c.has_byte.ensures ∙ c.if-has_byte.false) c.in_ok-print_escape.ensures);
+      utf8 = search rules;
+      printed = c.in_ok-rest.ensures.printed ∙ rw c.as_str.ensures more;
       left = search rules;
     }

@@ -22,10 +22,10 @@ returns c =
       | in-Comment w ↦
           let meets = rw w.in-Comment.is at c.in-Some.ensures.meets in
           let spans = rw w.in-Comment.is at c.in-Some.ensures.spans in
-          (refl, subst P (sym (w.content-is ∙ ap found.Comment w.plain.ensures)) (plain-comment line number w.in-Comment.text spans c.requires meets))
+          (refl, subst P (sym (w.content-is ∙ ap found.Comment w.verbatim.ensures)) (plain-comment line number w.in-Comment.text spans c.requires meets))
       | in-KVPair w ↦
           let meets = rw w.in-KVPair.is at c.in-Some.ensures.meets in
           let spans = rw w.in-KVPair.is at c.in-Some.ensures.spans in
-          let content = rw (w.plain-in-KVPair.ensures, w.plain-in-KVPair-2.ensures) at w.content-is in
+          let content = rw (w.verbatim-in-KVPair.ensures, w.verbatim-in-KVPair-2.ensures) at w.content-is in
           (refl, subst P (sym content) (plain-pair line number w.in-KVPair.key w.in-KVPair.value spans.0 spans.1 c.requires meets))
     ]

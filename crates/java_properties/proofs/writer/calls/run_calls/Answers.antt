@@ -26,7 +26,8 @@ returns-clause-reads_back g c = λ clean.
 
 pub returns-in_err-accepted-clause-reads_back : goal.returns-in_err-accepted-clause-reads_back
 returns-in_err-accepted-clause-reads_back g c =
-    runs-read_back (sink g.W.Write g.W.CountedWrite) c.args.writer.now _ (calls_in c.args.calls.now) _ c.tell_settings_are_good.ensures (calls-scalars c.args.calls.now) (returns-in_err-accepted-clause-runs g c)
+    runs-read_back (sink g.W.Write g.W.CountedWrite) c.args.writer.now _ (calls_in c.args.calls.now) _ c.tell_settings_are_good.ensures
+    (calls-scalars c.args.calls.now) (returns-in_err-accepted-clause-runs g c)
 
 pub returns-in_err-accepted-clause-ascii : goal.returns-in_err-accepted-clause-ascii
 returns-in_err-accepted-clause-ascii g c =

@@ -1,6 +1,6 @@
 use Rattle.std.proofs.Common.{◌≡◌, ap, sym, ◌∙◌, subst, true, length, ℕ}
 use Rattle.properties_lines.specs.LineSearch.{FindsLineEnd, whole_units}
-use Rattle.properties_lines.specs.LineFinder.{Finder, IsSettled, LooksFor, Settles}
+use Rattle.properties_lines.specs.LineFinder.{Finder, IsSettled, LooksFor, SettlesEncoding}
 use Rattle.properties_lines.proofs.LineFinder.{looks-for, looks-on, looks-settled}
 use Rattle.properties_lines.proofs.finder.LineFinder.look.Goals as goal
 use Rattle.properties_lines.proofs.finder.LineFinder.look.Goals.{then-not-settled, else-not-settled}
@@ -17,8 +17,8 @@ returns c =
     let L : ℕ → Type 0 = LooksFor found t settled in
     elim c.if-not-settled.branch [
       | then-not-settled w ↦
-          let P : Finder → Type 0 = λ v. Settles s w.settle.result v.state in
-          let settles : Settles s w.settle.result t = subst P (sym w.self-is) w.settle.ensures in
+          let P : Finder → Type 0 = λ v. SettlesEncoding s w.settle.result v.state in
+          let settles : SettlesEncoding s w.settle.result t = subst P (sym w.self-is) w.settle.ensures in
           let h = settles.yes (sym w.settled-is ∙ sure) in
           looks-settled settles (subst L (sym count) (looks-for t found settled (settles.alike.done ∙ c.requires.going) sure h finds)) w.if-not-settled.true sure
       | else-not-settled w ↦

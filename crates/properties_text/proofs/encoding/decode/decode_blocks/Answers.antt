@@ -1,13 +1,7 @@
-use Rattle.std.proofs.Common.{◌≡◌, ◌∙◌, ◌≤◌, ◌+◌, ◌-◌, ◌%◌, length, refl, arith}
-use Rattle.std.specs.Str.{IsUtf8, chars}
-use Rattle.std.proofs.lemmas.List.{drop_more, length-drop}
-use Rattle.std.proofs.lemmas.Str.{IsUtf8-append, IsUtf8-encode}
-use Rattle.properties_format.specs.Encoding.{windows_1252}
-use Rattle.properties_format.specs.Windows1252.{windows_1252_character}
-use Rattle.properties_text.specs.Decoding.{text_of}
-use Rattle.properties_text.specs.declared.encoding.Encoding.TheVariants.{WINDOWS_1252}
+use Rattle.std.proofs.Common.{◌∙◌, ◌≤◌, ◌+◌, ◌-◌, ◌%◌, length, refl, arith}
+use Rattle.std.proofs.lemmas.List.{length-drop}
 use Rattle.properties_text.proofs.Latin1.{not-in_table, decoded-front}
-use Rattle.properties_text.proofs.TextFronts.{decoded-one, taken-rest}
+use Rattle.properties_text.proofs.TextFronts.{taken-rest}
 use Rattle.properties_text.proofs.encoding.decode.decode_blocks.Goals as goal
 
 pub loop-rest-init : goal.loop-rest-init
@@ -21,14 +15,14 @@ loop-rest-init c = record {
   text = refl;
 }
 
-pub loop-rest-preserved-then-table_bits-odd : goal.loop-rest-preserved-then-table_bits-odd
-loop-rest-preserved-then-table_bits-odd c =
+pub loop-rest-preserved-then-is_clear_before : goal.loop-rest-preserved-then-is_clear_before
+loop-rest-preserved-then-is_clear_before c =
     let held = c.loop-rest.invariant in
     let put = c.put_16-at.ensures in
     let bytes = c.loop-rest.rest.now in
     let odd = (length bytes - 1) % 16 + 1 in
     let few : odd ≤ 16 = omega arith in
-    let untabled = not-in_table bytes c.table_bits.result odd c.loop-rest-test.true c.table_bits.ensures few c.if-table_bits-odd.true in
+    let untabled = not-in_table bytes c.tabled.result odd c.tabled.ensures few (c.is_clear_before.ensures.0 c.if-is_clear_before.true) in
     let front = decoded-front _ _ bytes _ odd held.is_text put.scalars c.loop-rest-test.true few untabled put.text held.text in
     record {
       same_room = put.same_room ∙ held.same_room;

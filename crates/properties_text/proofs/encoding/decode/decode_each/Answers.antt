@@ -7,7 +7,7 @@ use Rattle.properties_format.specs.Encoding.{windows_1252}
 use Rattle.properties_format.specs.Windows1252.{windows_1252_character}
 use Rattle.properties_text.specs.Decoding.{text_of}
 use Rattle.properties_text.specs.declared.encoding.Encoding.TheVariants.{WINDOWS_1252}
-use Rattle.properties_text.proofs.LaneTable.{take_past}
+use Rattle.byte_blocks.proofs.Rows.{take_past}
 use Rattle.properties_text.proofs.TextFronts.{decoded-one, taken-rest}
 use Rattle.properties_text.proofs.encoding.decode.decode_each.Goals as goal
 

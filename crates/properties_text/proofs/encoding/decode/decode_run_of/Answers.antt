@@ -38,7 +38,8 @@ loop-first-preserved c =
       onwards = omega (arith, held.onwards, put.more);
       left = rw (taken-rest, length-drop c.first_piece-next.result.length c.loop-first.rest.now) (omega (arith, put.within, held.left, some, long));
       is_text = subst IsUtf8 (sym put.text) (IsUtf8-append _ _ before (IsUtf8-encode _ put.scalar));
-      text = rw (taken-rest, whole) (decoded-one (encoding_of c.args.encoding) _ _ _ c.in-Some.first.now c.in-Some.others.now _ _ before put.scalar put.text (rw whole at joins) shown.character_is shown.length_is);
+      text = rw (taken-rest, whole) (decoded-one (encoding_of c.args.encoding) _ _ _ c.in-Some.first.now
+          c.in-Some.others.now _ _ before put.scalar put.text (rw whole at joins) shown.character_is shown.length_is);
     }
 
 pub loop-first-preserved-in-Some-ascii_front : goal.loop-first-preserved-in-Some-ascii_front

@@ -22,6 +22,8 @@ pub returns-else-code-lt65536-clause-text : goal.returns-else-code-lt65536-claus
 returns-else-code-lt65536-clause-text c =
     let front = take c.args.at c.args.run.now in
     put-more front _ _ _ _ c.put_continuation-else-code-lt65536.ensures.byte
-    (put-more front _ _ _ _ c.put_continuation-at-else-code-lt65536-2.ensures.byte (put-more front _ _ _ _ c.put_continuation-at-else-code-lt65536.ensures.byte c.put-at-else-code-lt65536.ensures.byte))
+    (put-more front _ _ _ _ c.put_continuation-at-else-code-lt65536-2.ensures.byte
+    (put-more front _ _ _ _ c.put_continuation-at-else-code-lt65536.ensures.byte
+    c.put-at-else-code-lt65536.ensures.byte))
     ∙ ap (λ v. front ++ v) (sym (encode-four c.from-code.result c.if-code-lt65536.false))
     ∙ ap (λ v. front ++ encode_utf8 v) c.from-code.ensures

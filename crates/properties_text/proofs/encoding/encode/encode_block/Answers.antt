@@ -19,7 +19,8 @@ returns-clause-boundary c =
     let first : take count v ≡ take count bytes = first-same bytes v count few (omega arith) c.first_16.ensures in
     let same : take count v ≡ take count text = first ∙ ap (take count) value in
     let last : c.whole_characters.result ≡ count - one_lead (get_or text (count - 1) 0) = c.whole_characters.ensures ∙ ap (λ l. count - one_lead (get_or l (count - 1) 0)) value in
-    let is = block-encoded text c.args.run.now narrowed.new.run v c.args.at count narrowed.result.written c.utf8.text inside (omega (arith, c.requires.room)) same narrowed.ensures.latin_1 narrowed.ensures.encoded in
+    let is = block-encoded text c.args.run.now narrowed.new.run v c.args.at count narrowed.result.written c.utf8.text
+    inside (omega (arith, c.requires.room)) same narrowed.ensures.latin_1 narrowed.ensures.encoded in
     subst (λ n. IsCharBoundary text n) (sym last) is.0
 
 pub returns-clause-encoded : goal.returns-clause-encoded
@@ -36,5 +37,6 @@ returns-clause-encoded c =
     let first : take count v ≡ take count bytes = first-same bytes v count few (omega arith) c.first_16.ensures in
     let same : take count v ≡ take count text = first ∙ ap (take count) value in
     let last : c.whole_characters.result ≡ count - one_lead (get_or text (count - 1) 0) = c.whole_characters.ensures ∙ ap (λ l. count - one_lead (get_or l (count - 1) 0)) value in
-    let is = block-encoded text c.args.run.now narrowed.new.run v c.args.at count narrowed.result.written c.utf8.text inside (omega (arith, c.requires.room)) same narrowed.ensures.latin_1 narrowed.ensures.encoded in
+    let is = block-encoded text c.args.run.now narrowed.new.run v c.args.at count narrowed.result.written c.utf8.text
+    inside (omega (arith, c.requires.room)) same narrowed.ensures.latin_1 narrowed.ensures.encoded in
     subst (λ n. EncodesFront (chars text) (drop c.args.at (take (c.args.at + narrowed.result.written) narrowed.new.run)) (chars (drop n text))) (sym last) is.1

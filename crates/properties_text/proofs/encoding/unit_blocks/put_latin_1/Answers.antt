@@ -1,24 +1,28 @@
-use Rattle.std.proofs.Common.{◌≡◌, ◌++◌, ◌∙◌, true, ap, subst, take, arith}
+use Rattle.std.proofs.Common.{◌≡◌, ◌<◌, ◌++◌, ◌∙◌, true, ap, arith, subst, take}
 use Rattle.std.specs.Prelude.{encode_utf8_all}
+use Rattle.std.specs.List.{AllByRecursion}
 use Rattle.std.proofs.Math.Utf8.{scalars}
-use Rattle.properties_text.proofs.UnitBlocks.{bytes-fit, eight-units, first-bytes, first-same}
+use Rattle.properties_text.proofs.UnitBlocks.{first-bytes, first-same, front-units}
 use Rattle.properties_text.proofs.encoding.unit_blocks.put_latin_1.Goals as goal
-
-pub overflow_cast-bytes : goal.overflow_cast-bytes
-overflow_cast-bytes c = bytes-fit c.units-units.result (eight-units c.args.order c.args.v c.units-units.result c.fits-v.0 c.units-units.ensures)
 
 pub returns : goal.returns
 returns c =
-    let put = c.put_8-end.ensures in
-    let long = eight-units c.args.order c.args.v c.units-units.result c.fits-v.0 c.units-units.ensures in
-    let small = first-bytes c.units-units.result _ c.min-count.result long c.units-units.ensures (omega arith) (omega arith) in
-    let same = first-same c.units-units.result _ c.min-count.result long c.units-units.ensures small in
+    let put = c.put_half-end.ensures in
+    let v = c.args.v in
+    let halves = c.split_units-halves in
+    let count = c.front_of-count in
+    let n = count.result in
+    let front = front-units c.args.order n v v (omega (arith, count.ensures.within, c.requires.most, c.fits-v.0)) in
+    let same = ap (take n) halves.ensures.lows
+    ∙ first-same c.args.order v v halves.result.highs c.marks.result n halves.ensures.highs c.marks.ensures count.ensures.clear
+    ∙ front in
+    let bytes = first-bytes c.args.order v v halves.result.highs c.marks.result n halves.ensures.highs c.marks.ensures count.ensures.clear c.fits-v.1 c.fits-v.1 in
     record {
       same_room = put.same_room;
-      within = omega arith;
+      within = count.ensures.within;
       after = put.after;
       end_is = put.within;
-      bytes = small;
+      bytes = subst (AllByRecursion (λ u. u < 0x100)) front bytes;
       scalars = subst (λ l. scalars l ≡ true) same put.scalars;
       text = put.text ∙ ap (λ l. take c.args.at c.args.run.now ++ encode_utf8_all l) same;
     }

@@ -24,7 +24,8 @@ loop-run-preserved c =
     let left = c.rest-rest.ensures in
     let means : meaning_of (chars c.loop-run.rest.now) ≡ in_front escape.character (meaning_of (chars c.rest-rest.result.now)) =
     c.in-Some.ensures.meaning ∙ ap (λ v. in_front escape.character (meaning_of (chars v))) (sym left) in
-    let more = units-more c.args.text.now c.loop-run.run c.put_character-end.new.run (chars c.loop-run.rest.now) (chars c.rest-rest.result.now) c.loop-run.end c.put_character-end.result escape.character
+    let more = units-more c.args.text.now c.loop-run.run c.put_character-end.new.run (chars c.loop-run.rest.now)
+    (chars c.rest-rest.result.now) c.loop-run.end c.put_character-end.result escape.character
     held.is_text c.in-Some.ensures.scalar put.text held.meaning means in
     record {
       utf8 = c.rest-rest.utf8;

@@ -15,7 +15,11 @@ loop-read-preserved-then-is_clear c =
       printed = record {
         read = omega arith;
         written = omega arith;
-        same = more-is c.loop-read.out c.put_16-at.new.out bytes c.loop-read.at c.put_16-at.result c.loop-read.read 16 (c.loop-read.read + 16) (all-no_controls (take 16 (drop c.loop-read.read bytes)) c.marks.result (long-block bytes c.loop-read.read 16 (omega (arith, c.loop-read-test.true, held.printed.read))) c.marks.ensures (c.is_clear.ensures.0 c.if-is_clear.true)) (omega arith) refl put.printed held.printed.same;
+        same = more-is c.loop-read.out c.put_16-at.new.out bytes c.loop-read.at c.put_16-at.result c.loop-read.read 16
+            (c.loop-read.read + 16) (all-no_controls (take 16 (drop c.loop-read.read bytes)) c.marks.result
+            (long-block bytes c.loop-read.read 16 (omega (arith, c.loop-read-test.true, held.printed.read)))
+            c.marks.ensures (c.is_clear.ensures.0 c.if-is_clear.true)) (omega arith) refl put.printed
+            held.printed.same;
       };
     }
 

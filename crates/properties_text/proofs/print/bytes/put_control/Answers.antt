@@ -15,7 +15,8 @@ returns-then-read-bytes-clause-printed c =
     record {
       read = omega arith;
       written = omega arith;
-      same = more-plain c.args.out.now c.put_16-at.new.out c.args.bytes.now c.args.so_far.written c.put_16-at.result read front.result (read + front.result) plain front.ensures.within refl put.printed held.same;
+      same = more-plain c.args.out.now c.put_16-at.new.out c.args.bytes.now c.args.so_far.written c.put_16-at.result
+          read front.result (read + front.result) plain front.ensures.within refl put.printed held.same;
     }
 
 pub returns-clause-printed : goal.returns-clause-printed

@@ -26,7 +26,9 @@ loop-run-preserved c =
     let more = ap chars c.from_utf8_unchecked-more.ensures in
     let pushed = c.in_ok-push_text-2.ensures.appended ∙ ap₂ (λ x y. x ++ y) first more in
     record {
-      text = rw pushed (decoded-run _ _ _ _ _ _ c.loop-run.invariant.text c.text_front.ensures.text _ run.result.rest.now (run.ensures.front.text ∙ ap (λ v. v ++ text_of c.args.encoding c.text_front.result.1.now) chars-nil));
+      text = rw pushed (decoded-run _ _ _ _ _ _ c.loop-run.invariant.text c.text_front.ensures.text _
+          run.result.rest.now (run.ensures.front.text
+          ∙ ap (λ v. v ++ text_of c.args.encoding c.text_front.result.1.now) chars-nil));
       longer = omega (arith, c.loop-run.invariant.longer, c.push_text.ensures.longer, c.push_text-in-loop-run.ensures.longer);
     }
 
@@ -45,6 +47,8 @@ returns-in_err-push_text-2-clause-kept c =
     let all = text_of c.args.encoding c.args.bytes.now in
     let now = string_bytes c.push_text.new.text in
     let left = text_of c.args.encoding c.text_front.result.1.now in
-    let joins = front-joined (chars (string_bytes c.loop-run.text)) (chars c.text_front.result.0.now) left (text_of c.args.encoding c.loop-run.rest.now) _ (chars now) c.in_ok-push_text.ensures.appended c.text_front.ensures.text held.text in
+    let joins = front-joined (chars (string_bytes c.loop-run.text)) (chars c.text_front.result.0.now) left
+    (text_of c.args.encoding c.loop-run.rest.now) _ (chars now) c.in_ok-push_text.ensures.appended
+    c.text_front.ensures.text held.text in
     at-error c.from_residual-in_err-push_text-2.result
     (text-kept old all now left (string_bytes c.push_text-in-loop-run.new.text) c.in_err-push_text-2.ensures.unchanged joins (omega (arith, held.longer, c.push_text.ensures.longer)))

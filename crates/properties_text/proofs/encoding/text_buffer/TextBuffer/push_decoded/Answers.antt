@@ -26,7 +26,9 @@ returns-in_err-rest-clause-kept c =
     let front = c.push_front.new.self in
     let left = text_of c.args.encoding c.in_ok-after.after.now in
     let all = text_of c.args.encoding c.args.bytes.now in
-    at-error c.from_residual-in_err-rest.result (text-kept c.args.self.now all front left c.push_run.new.self (c.in_err-rest.ensures.unchanged) (c.in_ok-after.ensures.text ∙ held.text) (omega (arith, held.longer, c.push_front.ensures.longer)))
+    at-error c.from_residual-in_err-rest.result
+    (text-kept c.args.self.now all front left c.push_run.new.self (c.in_err-rest.ensures.unchanged)
+    (c.in_ok-after.ensures.text ∙ held.text) (omega (arith, held.longer, c.push_front.ensures.longer)))
 
 pub returns-clause-appended : goal.returns-clause-appended
 returns-clause-appended c =

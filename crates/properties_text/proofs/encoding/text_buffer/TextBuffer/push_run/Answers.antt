@@ -9,7 +9,7 @@ returns-clause-text c =
     let run = c.decode_run-decoded in
     let room = c.deref_mut.ensures in
     let bytes = with_items_is c.make_room.new.bytes run.new.run (run.ensures.front.same_room ∙ room.len) in
-    let before = ap (take c.self.inside.filled) room.value ∙ c.in_ok-make_room.ensures.same ∙ c.self.view_is in
+    let before = ap (take c.self-inside.inside.0.0.filled) room.value ∙ c.in_ok-make_room.ensures.same ∙ ap (λ s. s.line) c.self-inside.view_is ∙ c.self.view_is in
     ap (λ v. chars (take run.result.end v) ++ text_of c.args.encoding run.result.rest.now) bytes
     ∙ run.ensures.front.text
     ∙ ap (λ v. chars v ++ text_of c.args.encoding c.args.bytes.now) before

@@ -5,11 +5,10 @@ use Rattle.properties_text.proofs.encoding.text_buffer.TextBuffer.push_text.Goal
 
 pub invariant_of-self-2 : goal.invariant_of-self-2
 invariant_of-self-2 c =
-    let end = c.in_ok-self-inside.ensures in
-    (end.within, subst IsUtf8 (sym end.appended) (IsUtf8-append _ _ c.self.invariant.1 c.as_bytes.ensures.utf8))
+    subst IsUtf8 (sym c.in_ok-extend.ensures.appended) (IsUtf8-append _ _ c.self.invariant c.as_bytes.ensures.utf8)
 
 pub returns-clause-appended : goal.returns-clause-appended
 returns-clause-appended c =
-    ap chars c.in_ok-self-inside.ensures.appended
-    ∙ chars-append _ _ c.self.invariant.1
+    ap chars c.in_ok-extend.ensures.appended
+    ∙ chars-append _ _ c.self.invariant
     ∙ ap₂ (λ x y. chars x ++ chars y) c.self.view_is c.as_bytes.ensures.value

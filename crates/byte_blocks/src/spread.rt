@@ -1,0 +1,135 @@
+// Bytes of a block, some of them after other bytes.
+
+ghost use Rattle.std.specs.Prelude.{◌≡◌, ◌+◌, ◌*◌, ◌%◌, ◌^◌, ◌<◌, ◌≤◌, ◌++◌, length, take, drop, count_ones};
+ghost use Rattle.byte_blocks.specs.Marks.{lowest_bits};
+ghost use Rattle.byte_blocks.specs.Moving.{spread};
+
+use super::marks::Marks;
+use lanes::LANES;
+use std::simd::prelude::*;
+
+mod lanes;
+
+/// Writes the first `kept` bytes of the block from this place on, each that is marked after the byte of `before` in its
+/// place, and returns the place after them. Up to 32 bytes may be written over.
+#[inline(always)]
+pub fn put_spread(
+    out: &mut [u8],
+    at: usize,
+    block: u8x16,
+    before: u8x16,
+    marks: Marks,
+    kept: usize,
+) -> usize
+    requires room { at + 32 ≤ length out.old }
+    requires kept { kept ≤ 16 }
+    ensures same_room { length out.new ≡ length out.old }
+    ensures after { at ≤ result }
+    ensures within { result ≤ at + 2 * kept }
+    ensures written { take result out.new ≡
+        take at out.old ++ spread (take kept marks) (take kept before) (take kept block) }
+{
+    if marks.is_clear() {
+        block.copy_to_slice(&mut out[at..]);
+        return at + kept;
+    }
+    let middle = put_eight(out, at, front(block, before), marks.bits() % 256);
+    put_eight(out, middle, back(block, before), marks.bits() / 256);
+    place_after(at, marks.bits(), kept)
+}
+
+/// The same of no more than the first eight bytes, and up to 16 bytes.
+#[inline(always)]
+pub fn put_spread_half(
+    out: &mut [u8],
+    at: usize,
+    block: u8x16,
+    before: u8x16,
+    marks: Marks,
+    kept: usize,
+) -> usize
+    requires room { at + 16 ≤ length out.old }
+    requires kept { kept ≤ 8 }
+    ensures same_room { length out.new ≡ length out.old }
+    ensures after { at ≤ result }
+    ensures within { result ≤ at + 2 * kept }
+    ensures written { take result out.new ≡
+        take at out.old ++ spread (take kept marks) (take kept before) (take kept block) }
+{
+    put_eight(out, at, front(block, before), marks.bits() % 256);
+    place_after(at, marks.bits(), kept)
+}
+
+/// The same of the first `kept` bytes and the last eight, as [`ends`](super::ends) joins them.
+#[inline(always)]
+pub fn put_spread_ends(
+    out: &mut [u8],
+    at: usize,
+    block: u8x16,
+    before: u8x16,
+    marks: Marks,
+    kept: usize,
+) -> usize
+    requires room { at + 2 * (kept + 8) ≤ length out.old }
+    requires kept { kept ≤ 8 }
+    ensures same_room { length out.new ≡ length out.old }
+    ensures after { at ≤ result }
+    ensures within { result ≤ at + 2 * (kept + 8) }
+    ensures written { let marks = take kept marks ++ drop 8 marks in
+        let before = take kept before ++ drop 8 before in
+        let block = take kept block ++ drop 8 block in
+        take result out.new ≡ take at out.old ++ spread marks before block }
+{
+    let middle = put_spread_half(out, at, block, before, marks, kept);
+    put_eight(out, middle, back(block, before), marks.bits() / 256)
+}
+
+// The first eight bytes, and those that they may follow.
+#[inline(always)]
+fn front(block: u8x16, before: u8x16) -> u8x16
+    ensures { result ≡ take 8 block ++ take 8 before }
+{
+    block.shuffle(
+        before,
+        [0, 1, 2, 3, 4, 5, 6, 7, 16, 17, 18, 19, 20, 21, 22, 23],
+    )
+}
+
+// The last eight bytes, and those that they may follow.
+#[inline(always)]
+fn back(block: u8x16, before: u8x16) -> u8x16
+    ensures { result ≡ drop 8 block ++ drop 8 before }
+{
+    block.shuffle(
+        before,
+        [8, 9, 10, 11, 12, 13, 14, 15, 24, 25, 26, 27, 28, 29, 30, 31],
+    )
+}
+
+// Writes the first eight lanes, those whose bits are set after their lanes among the last eight.
+#[inline(always)]
+fn put_eight(out: &mut [u8], at: usize, pairs: u8x16, bits: u64) -> usize
+    requires room { at + 16 ≤ length out.old }
+    requires bits { bits < 256 }
+    ensures same_room { length out.new ≡ length out.old }
+    ensures place { result ≡ at + (8 + count_ones bits) }
+    ensures within { result ≤ at + 16 }
+    ensures written { take result out.new ≡
+        take at out.old ++ spread (lowest_bits 8 bits) (drop 8 pairs) (take 8 pairs) }
+{
+    let lanes = u8x16::from_array(LANES[bits as usize]);
+    pairs.swizzle_dyn(lanes).copy_to_slice(&mut out[at..]);
+    at + (8 + bits.count_ones() as usize)
+}
+
+// The place after the first `count` bytes, where these bits mark them.
+#[inline(always)]
+fn place_after(at: usize, bits: u64, count: usize) -> usize
+    requires small { at + 2 * count < 2 ^ 64 }
+    requires count { count ≤ 16 }
+    ensures value { result ≡ at + (count + count_ones (bits % 2 ^ count)) }
+    ensures within { result ≤ at + 2 * count }
+{
+    let first = bits % (1 << count);
+    at + (count + first.count_ones() as usize)
+}

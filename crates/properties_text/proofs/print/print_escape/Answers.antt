@@ -1,1 +1,0 @@
-use Rattle.properties_text.proofs.print.print_escape.Goals as goal
