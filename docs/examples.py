@@ -8,21 +8,22 @@ import pathlib
 import re
 
 TOP = pathlib.Path(__file__).resolve().parent.parent
-CRATES = ["counted_io", "java_properties", "properties_text"]
+CRATES = ["byte_blocks", "counted_io", "java_properties", "properties_text"]
 
 HEAD = """// Examples of doc comments, each as a test.
 #![tactic(auto)]
 #![allow(unused)]
 
+use byte_blocks::{Byte, Either, LineEnds, find};
 use counted_io::{Counted, CountedRead, CountedWrite, ScriptedReader, ScriptedSink, SinkFault, Tail, send};
 use java_properties::{
     Call, ContentRef, Document, Edit, Encoding, LineContent, LineEnding, PropertiesError, PropertiesIter, PropertiesWriter,
     edit_all, laws, read, read_lines, read_sorted, remove_key, run_calls, set_key, write, write_sorted,
 };
-use properties_text::encoding::decode::decode_line;
+use properties_text::single_lines::decode::decode_line;
 use properties_text::encoding::{OutputEncoding, TextBuffer};
 use properties_text::escape::unescape;
-use properties_text::parse::{ParsedLine, parse_line};
+use properties_text::single_lines::parse::{ParsedLine, parse_line};
 use properties_text::print::{LineBuffer, Place, Repertoire, print_text};
 use std::collections::{BTreeMap, HashMap};
 use std::io::{self, ErrorKind, Write};
