@@ -4,7 +4,7 @@
 # CALLING with their sources, and docs/API.md with the sources too.
 #
 #     docs/try_calling.sh            a minute or two: compiles and runs, and proves nothing
-#     docs/try_calling.sh --check    proves the two programs too, which takes some ten minutes
+#     docs/try_calling.sh --check    proves the two programs too, which takes a quarter of an hour or more
 set -eu
 top=$(cd "$(dirname "${BASH_SOURCE[0]}")/.." && pwd)
 
