@@ -15,7 +15,7 @@ use crate::finder::{HeldLine, LineFinder};
 use crate::join::{is_comment_line, is_open};
 use crate::plain::plain_front;
 use crate::search::{LineEnd, unit_size};
-use crate::texts::{add_line, keep_opened, keep_text, kept_text};
+use crate::texts::{add_line, keep_opened, keep_past_ascii, keep_text, kept_text};
 use counted_io::CountedRead;
 use memchr::memchr;
 use properties_text::encoding::{Encoding, TextBuffer};
@@ -117,7 +117,7 @@ impl LineJoiner {
         let line = HeldLine { start, end };
         let bytes = self.finder.peeked(line);
         // Where memory runs out, the long way finds that out anew.
-        let Ok(is_kept) = keep_text(&mut self.text, self.finder.encoding(), bytes) else {
+        let Ok(is_kept) = keep_past_ascii(&mut self.text, self.finder.encoding(), bytes) else {
             return None;
         };
         self.is_kept = is_kept;

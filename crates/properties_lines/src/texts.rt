@@ -21,12 +21,34 @@ pub fn keep_text(
 {
     match as_text(encoding, bytes) {
         Some(_) => Ok(false),
-        None => {
-            text.clear();
-            text.push_decoded(encoding, bytes)?;
-            Ok(true)
+        None => keep_decoded(text, encoding, bytes),
+    }
+}
+
+// The same of bytes that aren't ASCII alone. In UTF-8 alone they may be text as they stand.
+#[inline(always)]
+pub(crate) fn keep_past_ascii(
+    text: &mut TextBuffer,
+    encoding: Encoding,
+    bytes: &[u8],
+) -> Result<bool, AllocError>
+    ensures { IfOk result (λ is_kept. KeepsText (encoding_of encoding) bytes.now is_kept text.new) }
+{
+    match encoding {
+        Encoding::UTF_8 => keep_text(text, encoding, bytes),
+        Encoding::WINDOWS_1252 | Encoding::UTF_16LE | Encoding::UTF_16BE => {
+            keep_decoded(text, encoding, bytes)
         }
     }
+}
+
+#[inline(always)]
+fn keep_decoded(text: &mut TextBuffer, encoding: Encoding, bytes: &[u8]) -> Result<bool, AllocError>
+    ensures { IfOk result (λ is_kept. KeepsText (encoding_of encoding) bytes.now is_kept text.new) }
+{
+    text.clear();
+    text.push_decoded(encoding, bytes)?;
+    Ok(true)
 }
 
 /// The text that is kept, or else the bytes of the line.

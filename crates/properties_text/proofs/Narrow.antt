@@ -1,10 +1,10 @@
 -- Sixteen bytes of UTF-8 at once, whose characters are of Latin-1.
-use Rattle.std.proofs.Common.{◌≡◌, ℕ, zero, suc, ◌+◌, ◌-◌, ◌<◌, ◌≤◌, Bool, false, cond, eqb, nat_le, nat_lt, List, [], ◌∷◌, ◌++◌, refl, sym, ap, ap₂, ◌∙◌, arith, length, take, get_or, map, replicate, w8, bit_or}
+use Rattle.std.proofs.Common.{◌≡◌, ℕ, zero, suc, ◌+◌, ◌-◌, ◌<◌, ◌≤◌, Bool, true, false, ◌||◌, cond, eqb, nat_le, nat_lt, List, [], ◌∷◌, ◌++◌, refl, sym, ap, ap₂, subst, ◌∙◌, arith, length, take, get_or, map, replicate, w8, bit_or}
 use Rattle.std.specs.Int.Bits.{or_zero_r}
 use Rattle.std.specs.Simd.Lanes.{zip2, sel_l, put_chunk, top}
 use Rattle.std.specs.Str.{IsAscii}
 use Rattle.std.proofs.lemmas.Bool.{and_left, ne_eqb, leb-false}
-use Rattle.std.proofs.lemmas.List.{length-take-le, take-take, take-map, take_at}
+use Rattle.std.proofs.lemmas.List.{length-map, length-take-le, take-take, take-map, take_at}
 use Rattle.std.proofs.lemmas.Str.{IsAscii-take}
 use Rattle.std.proofs.lemmas.Simd.{tops_compared, zip2_splat, splat_is_map}
 use Rattle.properties_format.specs.Windows1252.{is_in_table}
@@ -43,10 +43,6 @@ raised-is v before long e =
 
 -- ---- which characters they are of
 
-length-raised : (p : ℕ) (v : List ℕ) → length (all_raised p v) ≡ length v
-length-raised p [] = refl
-length-raised p (b ∷ v) = ap suc (length-raised b v)
-
 latin : (p k : ℕ) (v : List ℕ) → k ≤ length v → ((j : ℕ) → j < k → is_in_table (get_or (all_raised p v) j 0) ≡ false)
     → ((j : ℕ) → j < k → is_beyond (get_or v j 0) ≡ false) → AreOfLatin1 p (take k v)
 latin p zero v le f g = tt
@@ -55,12 +51,32 @@ latin p (suc k) (b ∷ v) le f g =
     (leb-false 0xc4 b (g 0 (omega arith)), f 0 (omega arith), latin b k v (omega arith) (λ j lt. f (suc j) (omega arith)) (λ j lt. g (suc j) (omega arith)))
 
 -- before the marks of both
-pub latin-first : (v more : List ℕ) (table beyond : List Bool) (k : ℕ) → length v ≡ 16 → k ≤ 16 → more ≡ all_raised 0 v
-    → table ≡ map is_in_table more → k ≤ clear_front table → beyond ≡ map is_beyond v → k ≤ clear_front beyond → AreOfLatin1 0 (take k v)
-latin-first v more table beyond k long le is e untabled f within =
+length-raised : (p : ℕ) (v : List ℕ) → length (all_raised p v) ≡ length v
+length-raised p [] = refl
+length-raised p (b ∷ v) = ap suc (length-raised b v)
+
+either-front : (xs ys : List Bool) → length xs ≡ length ys
+    → (clear_front (zip2 (λ a b. a || b) xs ys) ≤ clear_front xs) × (clear_front (zip2 (λ a b. a || b) xs ys) ≤ clear_front ys)
+either-front [] [] e = (omega arith, omega arith)
+either-front [] (b ∷ ys) e = absurd (omega arith)
+either-front (a ∷ xs) [] e = absurd (omega arith)
+either-front (true ∷ xs) (b ∷ ys) e = (omega arith, omega arith)
+either-front (false ∷ xs) (true ∷ ys) e = (omega arith, omega arith)
+either-front (false ∷ xs) (false ∷ ys) e =
+    let more = either-front xs ys (omega arith) in
+    (omega (arith, more.0), omega (arith, more.1))
+
+pub latin-first : (v more : List ℕ) (table beyond stops : List Bool) (k : ℕ) → length v ≡ 16 → k ≤ 16 → more ≡ all_raised 0 v
+    → table ≡ map is_in_table more → beyond ≡ map is_beyond v → stops ≡ zip2 (λ a b. a || b) table beyond → k ≤ clear_front stops
+    → AreOfLatin1 0 (take k v)
+latin-first v more table beyond stops k long le is e f either clear =
+    let same : length table ≡ length beyond =
+    ap length e ∙ length-map more is_in_table ∙ ap length is ∙ length-raised 0 v ∙ sym (length-map v is_beyond) ∙ sym (ap length f) in
+    let both = either-front table beyond same in
+    let before : k ≤ clear_front (zip2 (λ a b. a || b) table beyond) = subst (λ l. k ≤ clear_front l) either clear in
     latin 0 k v (omega (arith, long))
-    (λ j lt. ap (λ l. is_in_table (get_or l j 0)) (sym is) ∙ fails-before is_in_table more table k e untabled j lt)
-    (fails-before is_beyond v beyond k f within)
+    (λ j lt. ap (λ l. is_in_table (get_or l j 0)) (sym is) ∙ fails-before is_in_table more table k e (omega (arith, before, both.0)) j lt)
+    (fails-before is_beyond v beyond k f (omega (arith, before, both.1)))
 
 -- after a byte that is no first one
 pub raised-own : (p b : ℕ) → p < 0xc0 → raised p b ≡ b

@@ -29,23 +29,53 @@ pub enum ParsedSpans {
     KVPair(Span, Span),
 }
 
+// A line of so many bytes is parsed apart, and its blanks by blocks. In a shorter one a call would cost as much as the
+// parsing.
+const LONG: usize = 128;
+
 /// Where the parts of a line stand, or `None` where the line is blanks alone.
 ///
 /// Line ends are characters like others here.
+#[inline(always)]
 pub fn parse_spans(line: &str) -> Option<ParsedSpans>
     ensures slices { IsSplit line.now (spanned line.now result) }
     ensures meets { IsSplit (chars line.now) (in_characters (spanned line.now result)) }
     ensures spans { AreSpans line.now result }
     ensures places { AreInPlace line.now result }
 {
+    if line.len() < LONG {
+        parse_by::<false>(line)
+    } else {
+        parse_long(line)
+    }
+}
+
+#[inline(never)]
+fn parse_long(line: &str) -> Option<ParsedSpans>
+    ensures slices { IsSplit line.now (spanned line.now result) }
+    ensures meets { IsSplit (chars line.now) (in_characters (spanned line.now result)) }
+    ensures spans { AreSpans line.now result }
+    ensures places { AreInPlace line.now result }
+{
+    parse_by::<true>(line)
+}
+
+// Blanks are passed by blocks, where there may be many.
+#[inline(always)]
+fn parse_by<const MANY: bool>(line: &str) -> Option<ParsedSpans>
+    ensures slices { IsSplit line.now (spanned line.now result) }
+    ensures meets { IsSplit (chars line.now) (in_characters (spanned line.now result)) }
+    ensures spans { AreSpans line.now result }
+    ensures places { AreInPlace line.now result }
+{
     let bytes = line.as_bytes();
-    let start = leading_blanks(bytes);
+    let start = past_blanks::<MANY>(bytes, 0);
     let first = *bytes.get(start)?;
     if is_comment_sign(char::from(first)) {
-        return Some(ParsedSpans::Comment(trimmed_span(bytes, start + 1)));
+        return Some(ParsedSpans::Comment(trimmed_span::<MANY>(bytes, start + 1)));
     }
     let key_end = start + key_length(&bytes[start..]);
-    let value_start = value_start(bytes, key_end);
+    let value_start = value_start::<MANY>(bytes, key_end);
     let key = Span {
         start,
         end: key_end,
@@ -58,14 +88,14 @@ pub fn parse_spans(line: &str) -> Option<ParsedSpans>
 }
 
 // Where the bytes from here on stand without the blanks around them.
-fn trimmed_span(line: &[u8], from: usize) -> Span
+fn trimmed_span<const MANY: bool>(line: &[u8], from: usize) -> Span
     requires { from ≤ length line.now }
     ensures ordered { result.start ≤ result.end }
     ensures within { result.end ≤ length line.now }
     ensures start { drop result.start line.now ≡ without_leading_blanks (drop from line.now) }
     ensures text { bytes_in line.now result ≡ trimmed (drop from line.now) }
 {
-    let start = past_blanks(line, from);
+    let start = past_blanks::<MANY>(line, from);
     let end = start + length_without_trailing_blanks(&line[start..]);
     Span { start, end }
 }
@@ -85,17 +115,20 @@ pub fn leading_blanks(text: &[u8]) -> usize
     ensures within { result ≤ length text.now }
     ensures rest { drop result text.now ≡ without_leading_blanks text.now }
 {
-    past_blanks(text, 0)
+    past_blanks::<true>(text, 0)
 }
 
 // The place of the first byte from here on that is no blank. Mostly there is no blank, or one, which takes no call.
 #[inline(always)]
-fn past_blanks(text: &[u8], from: usize) -> usize
+fn past_blanks<const MANY: bool>(text: &[u8], from: usize) -> usize
     requires { from ≤ length text.now }
     ensures after { from ≤ result }
     ensures within { result ≤ length text.now }
     ensures rest { drop result text.now ≡ without_leading_blanks (drop from text.now) }
 {
+    if !MANY {
+        return past_few_blanks(text, from);
+    }
     if !is_blank_at(text, from) {
         return from;
     }
@@ -192,15 +225,15 @@ fn key_front(text: &[u8]) -> usize
 
 // Where the value starts, in a line whose key ends here.
 #[inline(always)]
-fn value_start(line: &[u8], key_end: usize) -> usize
+fn value_start<const MANY: bool>(line: &[u8], key_end: usize) -> usize
     requires { key_end ≤ length line.now }
     ensures after { key_end ≤ result }
     ensures within { result ≤ length line.now }
     ensures rest { drop result line.now ≡ past_separator (without_leading_blanks (drop key_end line.now)) }
 {
-    let start = past_blanks(line, key_end);
+    let start = past_blanks::<MANY>(line, key_end);
     match line.get(start) {
-        Some(byte) if is_separator(char::from(*byte)) => past_blanks(line, start + 1),
+        Some(byte) if is_separator(char::from(*byte)) => past_blanks::<MANY>(line, start + 1),
         _ => start,
     }
 }

@@ -63,7 +63,7 @@ pub(crate) fn find_escaped(
 }
 
 /// The same of a line without a backslash, which takes no memory.
-#[inline]
+#[inline(always)]
 pub(crate) fn find_plain(line_number: usize, line: &str) -> Option<Found>
     requires { holds_backslash (chars line.now) ≡ false }
     ensures { FindsPlain line.now line_number result }

@@ -43,8 +43,7 @@ pub fn put_narrow(run: &mut [u8], at: usize, v: u8x16, count: usize) -> Narrowed
         };
     }
     let raised = raised(v);
-    let untabled = tabled(raised).front_of(count);
-    let read = Beyond::marks(v).front_of(untabled);
+    let read = tabled(raised).or(Beyond::marks(v)).front_of(count);
     let end = put_squeezed(run, at, raised, Leads::marks(v), read);
     Narrowed {
         read,

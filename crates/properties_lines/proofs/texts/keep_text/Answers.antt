@@ -1,7 +1,4 @@
-use Rattle.std.proofs.Common.{◌++◌, ◌∙◌, refl, ap}
-use Rattle.std.specs.Str.{chars}
-use Rattle.std.proofs.lemmas.Str.{chars-nil}
-use Rattle.properties_format.specs.Reading.Cut.{decoded_line}
+use Rattle.std.proofs.Common.{refl}
 use Rattle.properties_text.specs.Encoding.{encoding_of}
 use Rattle.properties_text.proofs.TextFronts.{text-decoded, text-utf8}
 use Rattle.properties_lines.proofs.texts.keep_text.Goals as goal
@@ -12,7 +9,3 @@ returns-in-Some c =
     let bytes = c.args.bytes.now in
     let is_text = c.in-Some.ensures.exactly.0 refl in
     (text-utf8 e bytes is_text, text-decoded e bytes is_text)
-
-pub returns-in_ok-push_decoded-in-None : goal.returns-in_ok-push_decoded-in-None
-returns-in_ok-push_decoded-in-None c =
-    c.in_ok-push_decoded-in-None.ensures.appended ∙ ap (λ v. v ++ decoded_line (encoding_of c.args.encoding) c.args.bytes.now) (ap chars c.clear.ensures ∙ chars-nil)

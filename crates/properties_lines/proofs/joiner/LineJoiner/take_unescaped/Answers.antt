@@ -12,7 +12,7 @@ pub returns-clause-joins : goal.returns-clause-joins
 returns-clause-joins c =
     let state = ap (λ v. let w : Joiner = v in w.state) c.self.view_is in
     let found = c.take_line.new.self in
-    let text = c.keep_text.new.text in
+    let text = c.keep_past_ascii.new.text in
     let is_kept = c.in-Ok.is_kept in
     let takes = c.take_line.ensures.takes in
     let Known : Encoding → Type 0 = λ e. KeepsText e c.peeked-bytes.result.now is_kept text in

@@ -21,8 +21,8 @@ returns-clause-before c =
 
 pub returns-clause-latin_1 : goal.returns-clause-latin_1
 returns-clause-latin_1 c =
-    latin-first c.args.v c.raised-raised.result c.tabled.result c.marks.result c.front_of-read.result c.fits-v.0 (omega (arith, c.requires.count)) c.raised-raised.ensures
-    c.tabled.ensures (omega arith) c.marks.ensures c.front_of-read.ensures.clear
+    latin-first c.args.v c.raised-raised.result c.tabled.result c.marks.result c.or.result c.front_of-read.result c.fits-v.0 (omega (arith, c.requires.count)) c.raised-raised.ensures
+    c.tabled.ensures c.marks.ensures c.or.ensures c.front_of-read.ensures.clear
 
 pub returns-clause-encoded : goal.returns-clause-encoded
 returns-clause-encoded c =
