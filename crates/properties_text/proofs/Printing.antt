@@ -1,4 +1,5 @@
 pub mod Bytes
 pub mod Characters
+pub mod Escapes
 pub mod Keys
 pub mod Vectors

@@ -15,7 +15,7 @@ use byte_blocks::{Byte, find};
 use memchr::memchr;
 use std::alloc::{AllocError, Global};
 use std::borrow::CowStr;
-use units::put_units;
+use units::{first_digits, is_run, put_units};
 
 mod units;
 
@@ -66,7 +66,7 @@ pub fn unescape(alloc: Global, s: &str) -> Result<CowStr<'_>, UnescapeError>
     };
     // What an escape stands for is never longer than the escape.
     let mut text = String::with_capacity(alloc, s.len())?;
-    text.push_str(&s[..first])?;
+    push_part(&mut text, &s[..first])?;
     push_resolved(&mut text, &s[first..])?;
     Ok(CowStr::Owned(text))
 }
@@ -90,8 +90,7 @@ fn push_resolved(text: &mut String, s: &str) -> Result<(), UnescapeError>
     while let Some(at) = find_next(rest.as_bytes()) {
         push_part(text, &rest[..at])?;
         let after = &rest[at..];
-        // Most escapes are four digits, and stand side by side.
-        if is_unicode(after.as_bytes()) {
+        if is_run(after.as_bytes()) {
             let units = put_units(&mut run, after);
             if units.end > 0 {
                 // SAFETY: what was put into the run is text.
@@ -108,16 +107,8 @@ fn push_resolved(text: &mut String, s: &str) -> Result<(), UnescapeError>
         text.push(escape.character)?;
         rest = escape.rest();
     }
-    text.push_str(rest)?;
+    push_part(text, rest)?;
     Ok(())
-}
-
-// Whether a backslash stands before a `u`.
-#[inline(always)]
-fn is_unicode(escape: &[u8]) -> bool
-    ensures { result ≡ (slice_index escape.now 1 == letter_u) }
-{
-    escape.len() > 1 && escape[1] == b'u'
 }
 
 // Appends a part of a text. Between escapes that stand side by side there is none.
@@ -206,7 +197,8 @@ fn read_unicode(text: &str) -> Result<Escape<'_>, Malformed>
     }
 }
 
-// The escape of a surrogate, of which the other half is still to be read.
+// The escape of a surrogate, of which the other half is still to be read. It stands apart, since it is rare.
+#[inline(never)]
 fn read_low_surrogate(high: u32, rest: &str) -> Result<Escape<'_>, Malformed>
     requires low { 0xd800 ≤ high }
     requires high { high < 0xe000 }
@@ -246,7 +238,20 @@ struct CodeUnit<'a> {
     rest: &'a str,
 }
 
+#[inline(always)]
 fn read_unit(text: &str) -> Result<CodeUnit<'_>, Malformed>
+    ensures digits { ReadsUnit (chars text.now) result }
+    ensures shorter { IfOk result (λ unit. length unit.rest.now ≤ length text.now) }
+{
+    match first_digits(text) {
+        Some(unit) => Ok(unit),
+        None => read_characters(text),
+    }
+}
+
+// The same by characters, which tells how they fail.
+#[inline(never)]
+fn read_characters(text: &str) -> Result<CodeUnit<'_>, Malformed>
     ensures digits { ReadsUnit (chars text.now) result }
     ensures shorter { IfOk result (λ unit. length unit.rest.now ≤ length text.now) }
 {
@@ -276,9 +281,6 @@ fn first_four(text: &str) -> Option<Four<'_>>
     ensures characters { StartsWithFour (chars text.now) result }
     ensures shorter { IfSome result (λ four. length four.rest.now ≤ length text.now) }
 {
-    if let Some(four) = ascii_four(text) {
-        return Some(four);
-    }
     let mut characters = text.chars();
     let first = characters.next()?;
     let second = characters.next()?;
@@ -290,30 +292,6 @@ fn first_four(text: &str) -> Option<Four<'_>>
         third,
         fourth,
         rest: characters.as_str(),
-    })
-}
-
-// The same where they are ASCII, as digits are, by their bytes.
-#[inline(always)]
-fn ascii_four(text: &str) -> Option<Four<'_>>
-    ensures characters { IfSome result (λ four. StartsWithFour (chars text.now) (Some four)) }
-    ensures shorter { IfSome result (λ four. length four.rest.now ≤ length text.now) }
-{
-    let bytes = text.as_bytes();
-    if bytes.len() < 4
-        || bytes[0] >= 0x80
-        || bytes[1] >= 0x80
-        || bytes[2] >= 0x80
-        || bytes[3] >= 0x80
-    {
-        return None;
-    }
-    Some(Four {
-        first: char::from(bytes[0]),
-        second: char::from(bytes[1]),
-        third: char::from(bytes[2]),
-        fourth: char::from(bytes[3]),
-        rest: &text[4..],
     })
 }
 

@@ -1,28 +1,30 @@
 //! Texts as they are printed.
 
 ghost use Rattle.std.specs.Prelude.{◌≡◌, true, ◌++◌, ◌∷◌, ◌<◌, ◌≤◌, ◌||◌, not, nat_lt, [], is_some, unwrap_or, length, IfOk, OnOk, OnErr};
-ghost use Rattle.std.specs.Char.{digit_char};
 ghost use Rattle.std.specs.Str.{chars};
 ghost use Rattle.properties_format.specs.Text.{backslash};
 ghost use Rattle.properties_format.specs.Encoding.{encoded};
-ghost use Rattle.properties_format.specs.Printing.{unit_escape, unicode_escape, literal, spelt, spelt_text, encoded_text, is_bom_like, with_first_escaped, spelt_key, in_key_or_value, in_comment};
+ghost use Rattle.properties_format.specs.Printing.{unicode_escape, literal, spelt, spelt_text, encoded_text, is_bom_like, with_first_escaped, spelt_key, in_key_or_value, in_comment};
 ghost use Rattle.properties_text.specs.Encoding.{output_of};
 ghost use Rattle.properties_text.specs.declared.encoding.encode.OutputEncoding.TheVariants.{Windows1252};
 ghost use Rattle.properties_text.specs.declared.print.Place.TheVariants.{KeyOrValue};
 ghost use Rattle.properties_text.specs.Printing.{all_of_windows_1252, AppendsOnOk, character_bytes, text_bytes, key_bytes, spelt_byte};
 
-use crate::encoding::{OutputEncoding, byte_of, encode_run, has_byte, is_ascii};
+use crate::encoding::{OutputEncoding, byte_of, encode_run, is_ascii};
+use crate::line_buffer::make_room;
 use bytes::print_bytes;
+use escapes::{LONGEST, put_escape};
+use lacking::put_lacking;
 use std::alloc::AllocError;
 
 mod bytes;
+mod escapes;
+mod lacking;
 
 pub use crate::line_buffer::LineBuffer;
 
 // How many bytes are encoded at once.
 const RUN: usize = 128;
-
-const HEXADECIMAL: [u8; 16] = *b"0123456789abcdef";
 
 /// Where a text stands in a line, which says what is escaped.
 #[derive(Clone, Copy)]
@@ -167,41 +169,23 @@ fn print_first<'a>(line: &mut LineBuffer, text: &'a str) -> Result<&'a str, Allo
     Ok(characters.as_str())
 }
 
-// Prints the characters at the front that windows-1252 lacks, with single characters between them, and returns the text
-// after them.
+// Prints the characters at the front that windows-1252 lacks, with one or two of ASCII between them, and returns the
+// text after them.
+#[inline(always)]
 fn print_lacking<'a>(line: &mut LineBuffer, text: &'a str) -> Result<&'a str, AllocError>
     ensures printed { IfOk result (λ rest.
         line.new ++ text_bytes all_of_windows_1252 KeyOrValue (chars rest.now)
         ≡ line.old ++ text_bytes all_of_windows_1252 KeyOrValue (chars text.now)) }
     ensures left { IfOk result (λ rest. length rest.now ≤ length text.now) }
 {
-    let mut rest = text;
-    // Most texts go on with a character of Latin-1, which its first byte shows.
-    while !rest.is_empty() && rest.as_bytes()[0] >= 0xc4 {
-        let mut characters = rest.chars();
-        let Some(character) = characters.next() else {
-            break;
-        };
-        if character < '\u{100}' || has_byte(character) {
-            break;
-        }
-        print_escape(line, character)?;
-        rest = print_between(line, characters.as_str())?;
-    }
-    Ok(rest)
-}
-
-// Prints a character of ASCII that stands before one past Latin-1, as the blank between two words, and returns the text
-// after it.
-#[inline(always)]
-fn print_between<'a>(line: &mut LineBuffer, text: &'a str) -> Result<&'a str, AllocError>
-    ensures printed { IfOk result (λ rest.
-        line.new ++ text_bytes all_of_windows_1252 KeyOrValue (chars rest.now)
-        ≡ line.old ++ text_bytes all_of_windows_1252 KeyOrValue (chars text.now)) }
-    ensures left { IfOk result (λ rest. length rest.now ≤ length text.now) }
-{
     match text.as_bytes() {
-        [between, next, ..] if *between < 0x80 && *next >= 0xc4 => print_first(line, text),
+        [first, ..] if *first >= 0xc4 => {
+            make_room(&mut line.bytes, line.filled, RUN)?;
+            let put = put_lacking(&mut line.bytes, line.filled, text);
+            line.filled = put.end;
+            Ok(put.rest)
+        }
+        // Most texts begin with a character of Latin-1, which its first byte shows.
         _ => Ok(text),
     }
 }
@@ -400,49 +384,12 @@ fn print_after_backslash(line: &mut LineBuffer, byte: u8) -> Result<(), AllocErr
 }
 
 // As `\u` and four digits, or as two such escapes of a high and a low surrogate.
-#[inline(always)]
 fn print_escape(line: &mut LineBuffer, character: char) -> Result<(), AllocError>
     ensures { AppendsOnOk line.old (unicode_escape character) result line.new }
 {
-    let code = u32::from(character);
-    if code < 0x1_0000 {
-        return print_unit(line, code);
-    }
-    print_surrogates(line, code)
-}
-
-// The two escapes of a character past U+FFFF. They stand apart, since they are rare.
-#[inline(never)]
-fn print_surrogates(line: &mut LineBuffer, code: u32) -> Result<(), AllocError>
-    requires wide { 0x10000 ≤ code }
-    requires scalar { code < 0x110000 }
-    ensures { AppendsOnOk line.old (unicode_escape code) result line.new }
-{
-    let above = code - 0x1_0000;
-    print_unit(line, 0xd800 + above / 0x400)?;
-    print_unit(line, 0xdc00 + above % 0x400)
-}
-
-#[inline(always)]
-fn print_unit(line: &mut LineBuffer, unit: u32) -> Result<(), AllocError>
-    ensures { AppendsOnOk line.old (unit_escape unit) result line.new }
-{
-    line.extend(&[
-        b'\\',
-        b'u',
-        hexadecimal_digit(unit / 0x1000 % 0x10),
-        hexadecimal_digit(unit / 0x100 % 0x10),
-        hexadecimal_digit(unit / 0x10 % 0x10),
-        hexadecimal_digit(unit % 0x10),
-    ])
-}
-
-#[inline(always)]
-fn hexadecimal_digit(value: u32) -> u8
-    requires { value < 16 }
-    ensures { result ≡ digit_char value }
-{
-    HEXADECIMAL[value as usize]
+    make_room(&mut line.bytes, line.filled, LONGEST)?;
+    line.filled = put_escape(&mut line.bytes, line.filled, character);
+    Ok(())
 }
 
 #[cfg(test)]

@@ -7,10 +7,10 @@ mod run;
 use counted_io::Counted;
 use run::{refuse, run};
 use std::env;
-use std::io::{self, BufReader, BufWriter, ErrorKind};
+use std::io::{self, BufWriter, ErrorKind};
 use std::process::ExitCode;
 
-// How many bytes go through a standard stream at once.
+// How many bytes are written at once.
 const BLOCK: usize = 1 << 16;
 
 fn main(rt: HostRuntime) -> ExitCode {
@@ -28,7 +28,7 @@ fn status(rt: &HostRuntime) -> io::Result<u8> {
         Err(error) => return Err(error),
     };
     let arguments: Vec<String> = arguments.skip(1).collect(alloc)?;
-    let mut input = Counted::new(BufReader::with_capacity(alloc, BLOCK, rt.stdin())?);
+    let mut input = Counted::new(rt.stdin());
     let mut output = Counted::new(BufWriter::with_capacity(alloc, BLOCK, rt.stdout())?);
     Ok(run(
         alloc,

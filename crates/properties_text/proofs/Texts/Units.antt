@@ -1,4 +1,4 @@
--- Escapes of four digits, by their bytes.
+-- Escapes that write a character by themselves, by their bytes.
 use Rattle.std.proofs.Common.{◌≡◌, ℕ, ◌+◌, ◌*◌, ◌<◌, ◌≤◌, ◌==◌, ◌&&◌, if◌then◌else◌, true, false, List, [], ◌∷◌, ◌++◌, length, take, drop, get_or, refl, sym, ap, ap₂, subst, ◌∙◌, inl, inr, arith}
 use Rattle.std.specs.Prelude.{Some, None, nat_le}
 use Rattle.std.specs.Str.{IsUtf8, chars}
@@ -7,15 +7,15 @@ use Rattle.std.proofs.lemmas.Bool.Decides.{nat_tests}
 use Rattle.std.proofs.lemmas.Str.{IsUtf8-append, IsUtf8-encode}
 use Rattle.std.specs.Char.{IsScalar, encode_utf8}
 use Rattle.properties_format.specs.Text.{backslash}
-use Rattle.properties_format.specs.Escapes.{letter_u, is_hexadecimal, hexadecimal_value, are_hexadecimal, code_unit, is_surrogate}
+use Rattle.properties_format.specs.Escapes.{letter_u, is_hexadecimal, hexadecimal_value, are_hexadecimal, code_unit, escaped_character}
 use Rattle.properties_format.specs.Reading.Escapes.{in_front, text_in_front, meaning_of}
-use Rattle.properties_text.specs.Escaping.{digit_value, four_bytes}
+use Rattle.properties_text.specs.Escaping.{digit_value, four_bytes, IsUnit}
 use Rattle.properties_text.specs.declared.escape.units.TheConstants.{DIGITS}
 use Rattle.properties_text.proofs.Texts.Characters.{first_ascii, four_ascii}
 use Rattle.properties_format.proofs.Escapes.Laws.{meaning_of-plain_front}
 use Rattle.properties_format.proofs.Escapes.Scalars.{code_unit-below}
 use Rattle.properties_text.proofs.TextFronts.{chars-more}
-use Rattle.properties_text.proofs.Texts.Escapes.{value-some, meaning-unit}
+use Rattle.properties_text.proofs.Texts.Escapes.{value-some, meaning-letter}
 use Rattle.properties_text.proofs.Texts.Resolving.{text_in_front-append}
 
 -- each row of the table
@@ -65,26 +65,57 @@ four-none a b c d h = elim (cases_Bool (are_hexadecimal (four_bytes a b c d))) [
   | inr f ↦ sym (cond-false (are_hexadecimal (four_bytes a b c d)) _ _ f)
 ]
 
--- an escape of four digits at the front of a text
-pub unit-first : (text : List ℕ) (value : ℕ) → IsUtf8 text → 6 ≤ length text → get_or text 0 0 ≡ backslash → get_or text 1 0 ≡ letter_u
-    → Some value ≡ (let four = four_bytes (get_or text 2 0) (get_or text 3 0) (get_or text 4 0) (get_or text 5 0) in if are_hexadecimal four then Some (code_unit four) else None)
-    → is_surrogate value ≡ false
-    → (get_or text 5 0 < 128) × (meaning_of (chars text) ≡ in_front value (meaning_of (chars (drop 6 text))))
-unit-first [] value u h s t e f = absurd (omega arith)
-unit-first (x ∷ []) value u h s t e f = absurd (omega arith)
-unit-first (x ∷ y ∷ bs) value u h s t e f =
-    let four = four_bytes (get_or bs 0 0) (get_or bs 1 0) (get_or bs 2 0) (get_or bs 3 0) in
+-- four digits at the front of a text
+pub digits-first : (text : List ℕ) (value : ℕ) → IsUtf8 text → 4 ≤ length text
+    → Some value ≡ (let four = four_bytes (get_or text 0 0) (get_or text 1 0) (get_or text 2 0) (get_or text 3 0) in if are_hexadecimal four then Some (code_unit four) else None)
+    → (get_or text 3 0 < 128) × IsUnit (chars text) value (chars (drop 4 text))
+digits-first text value u h e =
+    let four = four_bytes (get_or text 0 0) (get_or text 1 0) (get_or text 2 0) (get_or text 3 0) in
     let is = value-some four value e in
-    let p = and_parts (is_hexadecimal (get_or bs 0 0) && is_hexadecimal (get_or bs 1 0)) (is_hexadecimal (get_or bs 2 0) && is_hexadecimal (get_or bs 3 0)) is.0 in
-    let q = and_parts (is_hexadecimal (get_or bs 0 0)) (is_hexadecimal (get_or bs 1 0)) p.0 in
-    let r = and_parts (is_hexadecimal (get_or bs 2 0)) (is_hexadecimal (get_or bs 3 0)) p.1 in
+    let p = and_parts (is_hexadecimal four.first && is_hexadecimal four.second) (is_hexadecimal four.third && is_hexadecimal four.fourth) is.0 in
+    let q = and_parts (is_hexadecimal four.first) (is_hexadecimal four.second) p.0 in
+    let r = and_parts (is_hexadecimal four.third) (is_hexadecimal four.fourth) p.1 in
+    let digits = four_ascii text u h (digit-ascii _ q.0) (digit-ascii _ q.1) (digit-ascii _ r.0) (digit-ascii _ r.1) in
+    (digit-ascii _ r.1, record { digits = four; whole = digits; hexadecimal = is.0; writes = is.1 })
+
+-- A text begins with a `\u` and four digits, which write this.
+pub record BeginsWithUnit (text : List ℕ) (value : ℕ) : Type 0 where
+  pub ascii : get_or text 5 0 < 128
+  pub front : chars text ≡ backslash ∷ letter_u ∷ chars (drop 2 text)
+  pub unit : IsUnit (chars (drop 2 text)) value (chars (drop 6 text))
+
+pub unit-first : (text bytes : List ℕ) (value : ℕ) → bytes ≡ text → IsUtf8 text → 6 ≤ length bytes → get_or bytes 0 0 ≡ backslash → get_or bytes 1 0 ≡ letter_u
+    → Some value ≡ (let four = four_bytes (get_or bytes 2 0) (get_or bytes 3 0) (get_or bytes 4 0) (get_or bytes 5 0) in if are_hexadecimal four then Some (code_unit four) else None)
+    → BeginsWithUnit text value
+unit-first text bytes value same = subst (λ v. IsUtf8 v → 6 ≤ length bytes → get_or bytes 0 0 ≡ backslash → get_or bytes 1 0 ≡ letter_u
+    → Some value ≡ (let four = four_bytes (get_or bytes 2 0) (get_or bytes 3 0) (get_or bytes 4 0) (get_or bytes 5 0) in if are_hexadecimal four then Some (code_unit four) else None)
+    → BeginsWithUnit v value) same (of bytes)
+  where
+    of : (bs : List ℕ) → IsUtf8 bs → 6 ≤ length bs → get_or bs 0 0 ≡ backslash → get_or bs 1 0 ≡ letter_u
+        → Some value ≡ (let four = four_bytes (get_or bs 2 0) (get_or bs 3 0) (get_or bs 4 0) (get_or bs 5 0) in if are_hexadecimal four then Some (code_unit four) else None)
+        → BeginsWithUnit bs value
+    of [] u h s t e = absurd (omega arith)
+    of (x ∷ []) u h s t e = absurd (omega arith)
+    of (x ∷ y ∷ bs) u h s t e =
+        let one = first_ascii x (y ∷ bs) (omega (arith, s)) u in
+        let two = first_ascii y bs (omega (arith, t)) one.utf8 in
+        let digits = digits-first bs value two.utf8 (omega (arith, h)) e in
+        record {
+          ascii = digits.0;
+          front = one.characters ∙ ap₂ (λ v w. v ∷ w) s (two.characters ∙ ap (λ v. v ∷ chars bs) t);
+          unit = digits.1;
+        }
+
+-- an escape of one character of ASCII
+pub letter-first : (text : List ℕ) → IsUtf8 text → 2 ≤ length text → get_or text 0 0 ≡ backslash → (get_or text 1 0 == letter_u) ≡ false → get_or text 1 0 < 128
+    → meaning_of (chars text) ≡ in_front (escaped_character (get_or text 1 0)) (meaning_of (chars (drop 2 text)))
+letter-first [] u l s n h = absurd (omega arith)
+letter-first (x ∷ []) u l s n h = absurd (omega arith)
+letter-first (x ∷ y ∷ bs) u l s n h =
     let one = first_ascii x (y ∷ bs) (omega (arith, s)) u in
-    let two = first_ascii y bs (omega (arith, t)) one.utf8 in
-    let digits = four_ascii bs two.utf8 (omega (arith, h)) (digit-ascii _ q.0) (digit-ascii _ q.1) (digit-ascii _ r.0) (digit-ascii _ r.1) in
-    let front : chars (x ∷ y ∷ bs) ≡ backslash ∷ letter_u ∷ chars bs = one.characters ∙ ap₂ (λ v w. v ∷ w) s (two.characters ∙ ap (λ v. v ∷ chars bs) t) in (
-      digit-ascii _ r.1,
-      ap meaning_of front ∙ meaning-unit (chars bs) (chars (drop 4 bs)) value (record { digits = four; whole = digits; hexadecimal = is.0; writes = is.1 }) f,
-    )
+    let two = first_ascii y bs h one.utf8 in
+    let front : chars (x ∷ y ∷ bs) ≡ backslash ∷ y ∷ chars bs = one.characters ∙ ap₂ (λ v w. v ∷ w) s two.characters in
+    ap meaning_of front ∙ meaning-letter y (escaped_character y) (y ∷ chars bs) (chars bs) refl n refl
 
 -- a character between two escapes
 pub between-first : (text : List ℕ) → IsUtf8 text → 0 < length text → get_or text 0 0 < 128 → (get_or text 0 0 == backslash) ≡ false

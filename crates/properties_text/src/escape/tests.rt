@@ -32,6 +32,11 @@ fn resolves_escapes(rt: HostRuntime) -> Result<(), Fail> {
             r"\u0430 \u0431-\u0432  \u0433",
             "\"\u{430} \u{431}-\u{432}  \u{433}\"",
         ),
+        (r"\t\n\u0041\:, \=x\r", r#""\t\nA:, =x\r""#),
+        (
+            "\\u0041\\ud83d\\udc1e\\\u{e9}\\u0042",
+            "\"A\u{1f41e}\u{e9}B\"",
+        ),
         (r"\U0041", r#""U0041""#),
         (r"\u", "Malformed(NotEnoughDigits)"),
         (r"\u12", "Malformed(NotEnoughDigits)"),
@@ -48,11 +53,29 @@ fn resolves_escapes(rt: HostRuntime) -> Result<(), Fail> {
         (r"\ud83d\u0041", "Malformed(InvalidCharacter)"),
         (r"\ud83d\ud83d\udc1e", "Malformed(InvalidCharacter)"),
         (r"\t\u1\uxxxx", "Malformed(NotHex)"),
+        (r"\u0041\u004g", "Malformed(NotHex)"),
+        (r"\u0041\ud83d\u0041", "Malformed(InvalidCharacter)"),
     ];
     for (text, wanted) in rows {
         let found = shown(rt.alloc(), text)?;
         assert_eq!(rt; found.as_str(), wanted);
     }
+    Ok(())
+}
+
+// More than are put together at once.
+#[test]
+fn resolves_many_escapes(rt: HostRuntime) -> Result<(), Fail> {
+    let alloc = rt.alloc();
+    let mut text = String::new(alloc);
+    let mut wanted = String::new(alloc);
+    for _ in 0..40 {
+        text.push_str(r"\u4e00\t\ud83d\udc1e")?;
+        wanted.push_str("\u{4e00}\t\u{1f41e}")?;
+    }
+    let found = shown(alloc, text.as_str())?;
+    let wanted = format!(in alloc; "{wanted:?}")?;
+    assert_eq!(rt; found.as_str(), wanted.as_str());
     Ok(())
 }
 

@@ -263,9 +263,9 @@ fn put_singly(out: &mut [u8], bytes: &[u8], so_far: Printed) -> Printed
     Printed { read, written: at }
 }
 
-// Prints a byte from this place on, and returns the place after it. There is no branch.
+/// Prints a byte from this place on, and returns the place after it. There is no branch.
 #[inline(always)]
-fn put_byte(out: &mut [u8], at: usize, byte: u8) -> usize
+pub fn put_byte(out: &mut [u8], at: usize, byte: u8) -> usize
     requires room { at + 2 ≤ length out.old }
     requires short { backslashes_before byte < 2 }
     ensures length { length out.new ≡ length out.old }
@@ -278,8 +278,10 @@ fn put_byte(out: &mut [u8], at: usize, byte: u8) -> usize
     last + 1
 }
 
+/// How many backslashes are printed before the last byte of what is printed for a byte, or 2 where that is a longer
+/// escape.
 #[inline(always)]
-fn backslashes_before(byte: u8) -> u8
+pub fn backslashes_before(byte: u8) -> u8
     ensures { result ≡ backslashes_before byte }
 {
     BEFORE[usize::from(byte)]

@@ -24,7 +24,7 @@ fn printed(
 
 #[test]
 fn prints_texts(rt: HostRuntime) -> Result<(), Fail> {
-    let rows: [(Repertoire, Place, &str, &[u8]); 16] = [
+    let rows: [(Repertoire, Place, &str, &[u8]); 17] = [
         (UTF_8, Place::KeyOrValue, "", b"|"),
         (
             UTF_8,
@@ -61,6 +61,12 @@ fn prints_texts(rt: HostRuntime) -> Result<(), Fail> {
             Place::KeyOrValue,
             "\u{430} \u{431}-\u{20ac}.",
             b"|\\u0430\\ \\u0431-\x80.",
+        ),
+        (
+            WINDOWS_1252,
+            Place::KeyOrValue,
+            "\u{430}, \u{1f41e}\u{1}\u{431}ab c",
+            b"|\\u0430,\\ \\ud83d\\udc1e\\u0001\\u0431ab\\ c",
         ),
         (
             WINDOWS_1252,

@@ -68,4 +68,4 @@ returns c =
     let rest = c.loop-at.rest.now in
     let p = plain c.as_bytes.result.now rest c.loop-at.invariant.utf8 c.as_bytes.ensures.value c.in_default.ensures in
     resolved_end (chars c.args.s.now) _ _ (chars rest) _ c.loop-at.invariant.resolved p.meaning
-    (ap chars c.in_ok-push_str-2.ensures.bytes ∙ chars-append (string_bytes c.loop-at.text) rest (IsUtf8-string_bytes c.loop-at.text))
+    (ap chars c.in_ok-push_part-2.ensures ∙ chars-append (string_bytes c.loop-at.text) rest (IsUtf8-string_bytes c.loop-at.text))

@@ -18,6 +18,12 @@ returns-in_err-text-clause-lent c =
     let p = err_from_is_err_and c.from_residual.result c.from_residual.ensures.1 in
     rw p.1 (sym (ap not s.holds))
 
+pub returns-in_err-push_part-clause-lent : goal.returns-in_err-push_part-clause-lent
+returns-in_err-push_part-clause-lent c =
+    let s = split_at c.as_bytes.result.now c.args.s.now c.in-Some.first c.utf8.s c.as_bytes.ensures.value c.in-Some.ensures in
+    let p = err_from_is_err_and c.from_residual-in_err-push_part.result c.from_residual-in_err-push_part.ensures.1 in
+    rw p.1 (sym (ap not s.holds))
+
 pub returns-in_err-push_resolved : goal.returns-in_err-push_resolved
 returns-in_err-push_resolved c =
     let text = c.args.s.now in
@@ -37,8 +43,8 @@ returns c =
     let at = c.in-Some.first in
     let s = split_at c.as_bytes.result.now text at c.utf8.s c.as_bytes.ensures.value c.in-Some.ensures in
     let h = c.in_ok-push_resolved.ensures in
-    let before : string_bytes c.push_str.new.self ≡ take at text =
-    c.in_ok-push_str.ensures.bytes ∙ ap (λ v. v ++ c.range.result.now) c.in_ok-text.ensures.bytes ∙ c.range.ensures.value ∙ slice-front text at in
+    let before : string_bytes c.push_part.new.text ≡ take at text =
+    c.in_ok-push_part.ensures ∙ ap (λ v. v ++ c.range.result.now) c.in_ok-text.ensures.bytes ∙ c.range.ensures.value ∙ slice-front text at in
     let meant = means_front (chars text) (chars (take at text)) (chars (drop at text)) h.0 s.meaning (ap (λ v. meaning_of (chars v)) (sym c.range_from.ensures.value) ∙ h.1) in
     record {
       meaning = subst (Means (chars text)) (sym (h.2 ∙ ap (λ v. chars v ++ h.0) before)) meant;

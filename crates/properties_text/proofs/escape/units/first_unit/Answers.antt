@@ -1,32 +1,51 @@
-use Rattle.std.proofs.Common.{◌≡◌, length, refl, get_or, ap, subst, ◌∙◌, arith}
-use Rattle.std.specs.Prelude.{Some, None, if◌then◌else◌}
+use Rattle.std.proofs.Common.{◌∙◌, length, sym, ap, subst, drop, arith}
+use Rattle.std.specs.Str.{chars}
+use Rattle.std.proofs.lemmas.Option.{IfSome_then}
 use Rattle.std.proofs.lemmas.Str.{IsCharBoundary-after_ascii}
-use Rattle.properties_format.specs.Escapes.{are_hexadecimal, code_unit}
-use Rattle.properties_text.specs.Escaping.{four_bytes}
-use Rattle.properties_text.proofs.Texts.Escapes.{scalar-unit}
+use Rattle.properties_format.specs.Reading.Escapes.{in_front, meaning_of}
+use Rattle.properties_text.specs.Escaping.{IsUnit}
+use Rattle.properties_text.proofs.Texts.Escapes.{meaning-unit, scalar-unit, surrogate-unit}
 use Rattle.properties_text.proofs.Texts.Units.{unit-first}
 use Rattle.properties_text.proofs.escape.units.first_unit.Goals as goal
 
-pub range_from-requires : goal.range_from-requires
-range_from-requires c =
-    let same = c.as_bytes-bytes.ensures.value in
-    let is = subst (λ v. Some c.in_ok-value.value
-    ≡ (let four = four_bytes (get_or v 2 0) (get_or v 3 0) (get_or v 4 0) (get_or v 5 0) in
-    if are_hexadecimal four then Some (code_unit four) else None)) same c.in_ok-value.ensures in
-    let size = ap length same in
-    let unit = unit-first c.args.text.now c.in_ok-value.value c.utf8.text (omega (arith, size, c.if-bytes-lt6.false))
-    (subst (λ v. get_or v 0 0 ≡ 92) same (omega (arith, c.if-bytes-ne92.false))) (subst (λ v. get_or v 1 0 ≡ 117) same (omega (arith, c.if-bytes-ne117.false)))
-    is (scalar-unit c.in_ok-value.value c.in_ok-character.ensures.cases) in
-    λ _. IsCharBoundary-after_ascii c.args.text.now 5 c.utf8.text (omega (arith, size, c.if-bytes-lt6.false)) unit.0
+pub range_from-rest-requires : goal.range_from-rest-requires
+range_from-rest-requires c =
+    let bytes = c.as_bytes-bytes in
+    let size = ap length bytes.ensures.value in
+    let first = unit-first c.args.text.now bytes.result.now c.in_ok-value.value bytes.ensures.value c.utf8.text
+    (omega (arith, c.if-bytes-lt6.false)) (omega (arith, c.if-bytes-ne92.false)) (omega (arith, c.if-bytes-ne117.false)) c.in_ok-value.ensures in
+    λ _. IsCharBoundary-after_ascii c.args.text.now 5 c.utf8.text (omega (arith, size, c.if-bytes-lt6.false)) first.ascii
 
-pub returns-clause-meaning : goal.returns-clause-meaning
-returns-clause-meaning c =
-    let same = c.as_bytes-bytes.ensures.value in
-    let is = subst (λ v. Some c.in_ok-value.value
-    ≡ (let four = four_bytes (get_or v 2 0) (get_or v 3 0) (get_or v 4 0) (get_or v 5 0) in
-    if are_hexadecimal four then Some (code_unit four) else None)) same c.in_ok-value.ensures in
-    let size = ap length same in
-    let unit = unit-first c.args.text.now c.in_ok-value.value c.utf8.text (omega (arith, size, c.if-bytes-lt6.false))
-    (subst (λ v. get_or v 0 0 ≡ 92) same (omega (arith, c.if-bytes-ne92.false))) (subst (λ v. get_or v 1 0 ≡ 117) same (omega (arith, c.if-bytes-ne117.false)))
-    is (scalar-unit c.in_ok-value.value c.in_ok-character.ensures.cases) in
-    unit.1 ∙ rw (c.in_ok-character.ensures.value.1, c.range_from.ensures.value) refl
+pub first_pair-requires : goal.first_pair-requires
+first_pair-requires c =
+    let bytes = c.as_bytes-bytes in
+    let text = c.args.text.now in
+    let first = unit-first text bytes.result.now c.in_ok-value.value bytes.ensures.value c.utf8.text
+    (omega (arith, c.if-bytes-lt6.false)) (omega (arith, c.if-bytes-ne92.false)) (omega (arith, c.if-bytes-ne117.false)) c.in_ok-value.ensures in
+    let s = surrogate-unit (chars (drop 2 text)) (chars (drop 6 text)) c.in_ok-value.value first.unit c.in-None.ensures.cases in
+    record { low = s.0; high = s.1 }
+
+pub returns-in-Some-clause-meaning : goal.returns-in-Some-clause-meaning
+returns-in-Some-clause-meaning c =
+    let bytes = c.as_bytes-bytes in
+    let text = c.args.text.now in
+    let first = unit-first text bytes.result.now c.in_ok-value.value bytes.ensures.value c.utf8.text
+    (omega (arith, c.if-bytes-lt6.false)) (omega (arith, c.if-bytes-ne92.false)) (omega (arith, c.if-bytes-ne117.false)) c.in_ok-value.ensures in
+    let rest = chars (drop 6 text) in
+    rw c.range_from-rest.ensures.value (
+    ap meaning_of first.front
+    ∙ meaning-unit (chars (drop 2 text)) rest c.in_ok-value.value first.unit (scalar-unit c.in_ok-value.value c.in-Some.ensures.cases)
+    ∙ ap (λ v. in_front v (meaning_of rest)) (sym c.in-Some.ensures.value.1))
+
+pub returns-in-None-clause-meaning : goal.returns-in-None-clause-meaning
+returns-in-None-clause-meaning c =
+    let bytes = c.as_bytes-bytes in
+    let text = c.args.text.now in
+    let first = unit-first text bytes.result.now c.in_ok-value.value bytes.ensures.value c.utf8.text
+    (omega (arith, c.if-bytes-lt6.false)) (omega (arith, c.if-bytes-ne92.false)) (omega (arith, c.if-bytes-ne117.false)) c.in_ok-value.ensures in
+    let unit = subst (λ v. IsUnit (chars (drop 2 text)) c.in_ok-value.value (chars v)) (sym c.range_from-rest.ensures.value) first.unit in
+    IfSome_then c.first_pair.result c.first_pair.ensures.meaning (λ escape means. ap meaning_of first.front ∙ means (chars (drop 2 text)) unit)
+
+pub returns-in-None-clause-shorter : goal.returns-in-None-clause-shorter
+returns-in-None-clause-shorter c =
+    IfSome_then c.first_pair.result c.first_pair.ensures.shorter (λ escape shorter. omega (arith, shorter, c.range_from-rest.ensures.len, ap length c.as_bytes-bytes.ensures.value, c.if-bytes-lt6.false))

@@ -1,7 +1,7 @@
 use Rattle.std.specs.Str.{chars}
 use Rattle.properties_text.specs.Escaping.{four_of}
 use Rattle.properties_text.proofs.Texts.Escapes.{value-some, value-none}
-use Rattle.properties_text.proofs.escape.read_unit.Goals as goal
+use Rattle.properties_text.proofs.escape.read_characters.Goals as goal
 
 pub returns-in-Some-value-clause-digits : goal.returns-in-Some-value-clause-digits
 returns-in-Some-value-clause-digits c =

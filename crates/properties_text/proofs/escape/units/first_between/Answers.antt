@@ -3,7 +3,7 @@ use Rattle.std.proofs.lemmas.Str.{IsCharBoundary-after_ascii}
 use Rattle.properties_format.specs.Text.{backslash}
 use Rattle.std.specs.Prelude.{◌==◌, false}
 use Rattle.properties_text.proofs.Texts.Units.{between-first}
-use Rattle.properties_text.proofs.escape.units.first_character.Goals as goal
+use Rattle.properties_text.proofs.escape.units.first_between.Goals as goal
 
 pub range_from-requires : goal.range_from-requires
 range_from-requires c =
