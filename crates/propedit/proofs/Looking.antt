@@ -22,7 +22,7 @@ pub finds-last : {R Y Z : Type 0} (reader : Reader R) (e : Encoding) (from to : 
 finds-last reader e from to m key is h = record {
   items = entries_in h.lines;
   reads = h.reads;
-  value = rw (value_at_text_sorted m key is) at (h.is_map (chars key));
+  value = rw (value_at_text_sorted m key is) at (h.values (chars key));
 }
 
 -- A value that was found is printed in UTF-8, which are the bytes of its text.

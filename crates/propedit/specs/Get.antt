@@ -5,7 +5,7 @@ use Rattle.std.specs.declared.string.String.{String}
 use Rattle.counted_io.specs.Streams.{Reader, Sink}
 use Rattle.properties_format.specs.Encoding.{Encoding}
 use Rattle.properties_format.specs.Entries.{Entry}
-use Rattle.properties_format.specs.Maps.{IsValue}
+use Rattle.properties_format.specs.Maps.{HasValue}
 use Rattle.properties_format.specs.Text.{line_feed}
 use Rattle.java_properties.specs.Maps.{StopsReadingMap, characters}
 use Rattle.java_properties.specs.ReadLines.{ReadsWhole}
@@ -16,7 +16,7 @@ use Rattle.propedit.specs.Streams.{PutsAll}
 pub record Finds {R : Type 0} (reader : Reader R) (e : Encoding) (from : R) (key : List ℕ) (found : Option (List ℕ)) (to : R) : Type 0 where
   pub items : List Entry
   pub reads : ReadsWhole reader e from items to
-  pub value : IsValue items key found
+  pub value : HasValue e reads.bytes key found
 
 -- What looking up a key returns.
 abbrev pub LooksUp : {R Z : Type 0} → Reader R → Encoding → R → List ℕ → Result (Option (String Z)) PropertiesError → R → Type 0

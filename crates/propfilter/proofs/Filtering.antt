@@ -16,7 +16,7 @@ use Rattle.java_properties.specs.PropertiesWriter.{Writing, Flushes, HasFlushedS
 use Rattle.java_properties.specs.ReadLines.{BeginsItems}
 use Rattle.java_properties.specs.declared.error.PropertiesError.{PropertiesError}
 use Rattle.java_properties.proofs.Readings.{Comes, Collected, collected-start, collected-next, collected-none, collected-malformed, collected-error}
-use Rattle.propfilter.specs.Filter.{pair_writer, AreItems, HasScalars, WritesIfPair, HasFiltered, StopsInWriting, Filters}
+use Rattle.propfilter.specs.Filter.{pair_writer, HasScalars, WritesIfPair, HasFiltered, StopsInWriting, Filters}
 use Rattle.propfilter.proofs.Pairs.{HasWrittenPairs, pairs-none, pairs-comment, pairs-more, pairs-live, pairs-fail, pairs-refused, pairs-flushed, pairs-flush, pairs-flush-failed}
 
 -- the content of an entry
