@@ -4,7 +4,7 @@ use Rattle.std.specs.Prelude.{Bool, ◌⊎◌, Result, Ok, Err}
 use Rattle.counted_io.specs.Streams.{Reader, Sink}
 use Rattle.properties_format.specs.Encoding.{Encoding}
 use Rattle.properties_format.specs.ItemsToCome.{ReaderState, start}
-use Rattle.properties_format.specs.Entries.{Content, comment, pair, Entry, item, malformed, read_fault}
+use Rattle.properties_format.specs.Entries.{Content, comment, pair, Entry, item, malformed, read_fault, AreItems}
 use Rattle.properties_format.specs.Items.{IsItems}
 use Rattle.properties_format.specs.Lines.{end}
 use Rattle.properties_format.specs.Pairs.{pairs_in, ArePairsOfScalars}
