@@ -55,6 +55,12 @@ pub record HasReadMap {R Y Z : Type 0} (reader : Reader R) (e : Encoding) (from 
   pub reads : ReadsWhole reader e from (entries_in lines) to
   pub values : (key : List ℕ) → HasValue e reads.bytes key (value_at entries key)
 
+-- The input was read to its end, no escape is malformed, and this is the value of the key, or none where no pair has it.
+pub record ReadsValue {R : Type 0} (reader : Reader R) (e : Encoding) (from : R) (key : List ℕ) (value : Option (List ℕ)) (to : R) : Type 0 where
+  pub items : List Entry
+  pub reads : ReadsWhole reader e from items to
+  pub has_value : HasValue e reads.bytes key value
+
 -- Reading stopped after these items: at malformed escapes, at a fault, or since memory ran out or the numbers for lines.
 pub record StopsReadingMap {R : Type 0} (reader : Reader R) (e : Encoding) (from : R) (error : PropertiesError) (to : R) : Type 0 where
   pub lines : List Line

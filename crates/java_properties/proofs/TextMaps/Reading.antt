@@ -1,6 +1,6 @@
 -- A map that is read, item after item.
 use Rattle.std.proofs.Common.{◌≡◌, ℕ, false, List, [], ◌∷◌, ◌++◌, refl, sym, inl, inr, subst}
-use Rattle.std.specs.Prelude.{◌⊎◌, Ok}
+use Rattle.std.specs.Prelude.{◌⊎◌, Option, Ok}
 use Rattle.std.proofs.lemmas.List.{map-append}
 use Rattle.counted_io.specs.Streams.{Reader}
 use Rattle.properties_format.specs.Encoding.{Encoding}
@@ -13,7 +13,7 @@ use Rattle.java_properties.specs.Line.{number_of, content_of}
 use Rattle.java_properties.specs.PropertiesIter.{said, entry_of}
 use Rattle.java_properties.specs.GivenItems.{GivesEntry, GivesNone, GivesMalformed, GivesError}
 use Rattle.java_properties.specs.ReadLines.{entries_in}
-use Rattle.java_properties.specs.Maps.{Entries, value_at, InsertsIfPair, HasReadMap, StopsReadingMap}
+use Rattle.java_properties.specs.Maps.{Entries, value_at, InsertsIfPair, HasReadMap, ReadsValue, StopsReadingMap}
 use Rattle.java_properties.specs.declared.error.ErrorKind.TheVariants as kind
 use Rattle.java_properties.specs.declared.error.PropertiesError.{PropertiesError}
 use Rattle.java_properties.specs.declared.line.Line.{Line}
@@ -84,3 +84,12 @@ module _ {R Y Z : Type 0} {reader : Reader R} {e : Encoding} where
         reads = whole;
         values = λ key. record { entries = entries_in h.lines; items = whole.reading.items; whole = lines-are-items h.lines; is = h.is_map key };
       }
+
+-- What a map that was read has at a key is the value of that key in the input.
+pub reads_value : {R Y Z : Type 0} {reader : Reader R} {e : Encoding} {from to : R} {entries : Entries Y Z} → HasReadMap reader e from entries to
+    → (key : List ℕ) (value : Option (List ℕ)) → value ≡ value_at entries key → ReadsValue reader e from key value to
+reads_value {reader = reader} {e = e} {from = from} {to = to} h key value is = subst (λ v. ReadsValue reader e from key v to) (sym is) (record {
+  items = entries_in h.lines;
+  reads = h.reads;
+  has_value = h.values key;
+})
