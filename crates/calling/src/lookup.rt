@@ -4,8 +4,9 @@ ghost use Rattle.std.specs.Prelude.{◌≡◌, IfOk};
 ghost use Rattle.std.specs.Option.{option_map};
 ghost use Rattle.std.specs.Str.{chars};
 ghost use Rattle.counted_io.specs.Streams.{IsSameReader};
-ghost use Rattle.java_properties.specs.Maps.{value_at};
-ghost use Rattle.calling.specs.Lookups.{lent_characters, FindsValue};
+ghost use Rattle.properties_format.specs.Encoding.{windows_1252};
+ghost use Rattle.java_properties.specs.Maps.{ReadsValue, characters, value_at};
+ghost use Rattle.calling.specs.Lookups.{lent_characters};
 
 use counted_io::CountedRead;
 use java_properties::{PropertiesError, read};
@@ -13,13 +14,14 @@ use std::alloc::Global;
 use std::collections::HashMap;
 
 /// The last value of a key in an input in windows-1252, or `None` where no pair has it.
+#[tactic(auto, using(java_properties::proofs::TextMaps::Reading::reads_value))]
 pub fn lookup<R: CountedRead>(
     alloc: Global,
     input: &mut R,
     key: &str,
 ) -> Result<Option<String>, PropertiesError>
-    ensures finds { IfOk result (λ found.
-        FindsValue R.CountedRead input.old (chars key.now) found input.new) }
+    ensures finds { IfOk result (λ found. let value = option_map characters found in
+        ReadsValue R.CountedRead windows_1252 input.old (chars key.now) value input.new) }
     ensures same_reader { IsSameReader R.CountedRead input.old input.new }
 {
     let map = read(alloc, input)?;

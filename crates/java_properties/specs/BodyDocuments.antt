@@ -8,7 +8,7 @@ use Rattle.std.specs.String.{string_cmp}
 use Rattle.std.specs.declared.string.String.{String}
 use Rattle.properties_format.specs.Encoding.{Encoding}
 use Rattle.properties_format.specs.Lines.{end}
-use Rattle.properties_format.specs.Entries.{Entry, comment, pair}
+use Rattle.properties_format.specs.Entries.{Entry, comment, pair, AreItems}
 use Rattle.properties_format.specs.Items.{IsItems, Outcome, ignored, given, broken}
 use Rattle.properties_format.specs.Maps.{IsMap}
 use Rattle.properties_format.specs.Edited.{Edit, AreScalarEdits, is_editable}
@@ -49,6 +49,7 @@ open_document d = record { encoding = encoding_of d.encoding; bytes = document_b
 pub record ReadsMapOf (e : Encoding) (bytes : List ℕ) (value_of : List ℕ → Option (List ℕ)) : Type 0 where
   pub entries : List Entry
   pub items : IsItems e bytes end entries
+  pub whole : AreItems entries
   pub is_map : IsMap entries value_of
 
 -- The source is in force and sound, the slots are its slots after some edits, and the values are those of what the document

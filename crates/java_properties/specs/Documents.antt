@@ -1,10 +1,7 @@
 -- A document: a source that stays open for edits, and what its calls do.
 use Rattle.std.specs.Prelude.{◌≡◌, ℕ, List, [], Option, Result, Ok, Err}
 use Rattle.properties_format.specs.Encoding.{Encoding}
-use Rattle.properties_format.specs.Lines.{end}
-use Rattle.properties_format.specs.Entries.{Entry}
-use Rattle.properties_format.specs.Items.{IsItems}
-use Rattle.properties_format.specs.Maps.{IsValue}
+use Rattle.properties_format.specs.Maps.{HasValue}
 use Rattle.properties_format.specs.Edited.{IsEditAllResult}
 use Rattle.java_properties.specs.Editing.{AreMade, IsRefusal, IsSet, IsRemoved}
 use Rattle.java_properties.specs.declared.error.PropertiesError.{PropertiesError}
@@ -30,7 +27,5 @@ pub record RemovesFrom (key : List ℕ) (old new : OpenDocument) : Type 0 where
   pub removed : IsRemoved old.encoding old.bytes key new.bytes
 
 -- Read in its encoding, a document has this value under a key: that of the last pair with the key, or none.
-pub record HasValueAt (d : OpenDocument) (key : List ℕ) (value : Option (List ℕ)) : Type 0 where
-  pub entries : List Entry
-  pub items : IsItems d.encoding d.bytes end entries
-  pub is : IsValue entries key value
+abbrev pub HasValueAt : OpenDocument → List ℕ → Option (List ℕ) → Type 0
+HasValueAt d key value = HasValue d.encoding d.bytes key value

@@ -15,7 +15,7 @@ use Rattle.properties_format.specs.Encoding.{Encoding, windows_1252}
 use Rattle.properties_format.specs.Entries.{Content, comment, pair, Entry}
 use Rattle.properties_format.specs.Lines.{end}
 use Rattle.properties_format.specs.Items.{IsItems}
-use Rattle.properties_format.specs.Maps.{IsMap}
+use Rattle.properties_format.specs.Maps.{HasValue, IsMap}
 use Rattle.properties_format.specs.Pairs.{Pair, items_after}
 use Rattle.properties_format.specs.Settings.{default_settings}
 use Rattle.properties_format.specs.Writing.{Call, pair_call, flush_call, wrote}
@@ -53,7 +53,13 @@ InsertsIfPair old (pair key value) (Ok done) new = (k : List ℕ) → value_at n
 pub record HasReadMap {R Y Z : Type 0} (reader : Reader R) (e : Encoding) (from : R) (entries : Entries Y Z) (to : R) : Type 0 where
   pub lines : List Line
   pub reads : ReadsWhole reader e from (entries_in lines) to
-  pub is_map : IsMap (entries_in lines) (value_at entries)
+  pub values : (key : List ℕ) → HasValue e reads.bytes key (value_at entries key)
+
+-- The input was read to its end, no escape is malformed, and this is the value of the key, or none where no pair has it.
+pub record ReadsValue {R : Type 0} (reader : Reader R) (e : Encoding) (from : R) (key : List ℕ) (value : Option (List ℕ)) (to : R) : Type 0 where
+  pub items : List Entry
+  pub reads : ReadsWhole reader e from items to
+  pub has_value : HasValue e reads.bytes key value
 
 -- Reading stopped after these items: at malformed escapes, at a fault, or since memory ran out or the numbers for lines.
 pub record StopsReadingMap {R : Type 0} (reader : Reader R) (e : Encoding) (from : R) (error : PropertiesError) (to : R) : Type 0 where

@@ -7,6 +7,8 @@ use Rattle.properties_format.specs.Entries.{Entry}
 use Rattle.properties_format.specs.Lines.{end}
 use Rattle.properties_format.specs.Items.{IsItems}
 use Rattle.properties_format.specs.Writing as format
+use Rattle.properties_format.specs.Pairs.{Pair, pairs_in, calls_of, AreAccepted, ArePairsOfScalars}
+use Rattle.properties_format.specs.Laws.{wrote_pairs}
 use Rattle.java_properties.specs.Calls.{FailsInCall}
 use Rattle.java_properties.specs.Errors.{Refuses}
 use Rattle.java_properties.specs.PropertiesWriter.{Writing}
@@ -46,3 +48,23 @@ pub record IsReadBackBefore {W : Type 0} (sink : Sink W) (old : Writing W) (call
 abbrev pub ReadsBack : {W : Type 0} → Sink W → Writing W → List format.Call → Result (Vec Bool) PropertiesError → Writing W → Type 0
 ReadsBack sink old calls (Ok answers) new = IsCleanWriting old calls → IsReadBack sink old calls new
 ReadsBack sink old calls (Err error) new = IsCleanWriting old calls → Refuses kind.Memory old error new ⊎ IsReadBackBefore sink old calls error new
+
+-- The calls write these pairs and nothing else: no line stands before them, and all of them are accepted.
+pub record ArePairsWritten {W : Type 0} (old : Writing W) (calls : List format.Call) (pairs : List Pair) : Type 0 where
+  pub first : old.lines ≡ 0
+  pub alone : calls ≡ calls_of pairs
+  pub accepted : AreAccepted old.settings pairs
+
+-- The sink took bytes that only these pairs write: any other list of accepted pairs that writes them by the same settings
+-- is this list. To write anew what is read back from them changes no byte.
+pub record IsWritingOf {W : Type 0} (sink : Sink W) (old : Writing W) (pairs : List Pair) (new : Writing W) : Type 0 where
+  pub bytes : List ℕ
+  pub written : HasWritten sink old.sink bytes new.sink
+  pub only : (others : List Pair) → AreAccepted old.settings others → ArePairsOfScalars others
+      → wrote_pairs old.encoding old.settings others ≡ bytes → others ≡ pairs
+  pub anew : (entries : List Entry) → IsItems old.encoding bytes end entries → wrote_pairs old.encoding old.settings (pairs_in entries) ≡ bytes
+
+-- What calls that write pairs alone say of these pairs, where all were made.
+abbrev pub WritesOnlyThese : {W : Type 0} → Sink W → Writing W → List format.Call → Result (Vec Bool) PropertiesError → Writing W → Type 0
+WritesOnlyThese sink old calls (Ok answers) new = (pairs : List Pair) → ArePairsWritten old calls pairs → IsWritingOf sink old pairs new
+WritesOnlyThese sink old calls (Err error) new = Unit {0}

@@ -4,23 +4,14 @@ use Rattle.std.specs.Option.{option_map}
 use Rattle.std.specs.declared.string.String.{String}
 use Rattle.counted_io.specs.Streams.{Reader, Sink}
 use Rattle.properties_format.specs.Encoding.{Encoding}
-use Rattle.properties_format.specs.Entries.{Entry}
-use Rattle.properties_format.specs.Maps.{IsValue}
 use Rattle.properties_format.specs.Text.{line_feed}
-use Rattle.java_properties.specs.Maps.{StopsReadingMap, characters}
-use Rattle.java_properties.specs.ReadLines.{ReadsWhole}
+use Rattle.java_properties.specs.Maps.{ReadsValue, StopsReadingMap, characters}
 use Rattle.java_properties.specs.declared.error.PropertiesError.{PropertiesError}
 use Rattle.propedit.specs.Streams.{PutsAll}
 
--- The input was read to its end, nothing in it is malformed, and this is the last value of the key, or none where no pair has the key.
-pub record Finds {R : Type 0} (reader : Reader R) (e : Encoding) (from : R) (key : List ℕ) (found : Option (List ℕ)) (to : R) : Type 0 where
-  pub items : List Entry
-  pub reads : ReadsWhole reader e from items to
-  pub value : IsValue items key found
-
 -- What looking up a key returns.
 abbrev pub LooksUp : {R Z : Type 0} → Reader R → Encoding → R → List ℕ → Result (Option (String Z)) PropertiesError → R → Type 0
-LooksUp reader e from key (Ok found) to = Finds reader e from key (option_map characters found) to
+LooksUp reader e from key (Ok found) to = ReadsValue reader e from key (option_map characters found) to
 LooksUp reader e from key (Err error) to = StopsReadingMap reader e from error to
 
 -- a text in UTF-8, and an LF
@@ -31,12 +22,12 @@ line_of text = encode_utf8_all text ++ (line_feed ∷ [])
 pub record Prints {R W : Type 0} (reader : Reader R) (sink : Sink W) (e : Encoding) (key : List ℕ) (input : R) (output : W)
     (printed : Result Unit PropertiesError) (input' : R) (output' : W) : Type 0 where
   pub value : List ℕ
-  pub found : Finds reader e input key (Some value) input'
+  pub found : ReadsValue reader e input key (Some value) input'
   pub puts : PutsAll sink output (line_of value) printed output'
 
 -- No pair has the key, and nothing was written.
 pub record PrintsNothing {R W : Type 0} (reader : Reader R) (e : Encoding) (key : List ℕ) (input : R) (output : W) (input' : R) (output' : W) : Type 0 where
-  pub absent : Finds reader e input key None input'
+  pub absent : ReadsValue reader e input key None input'
   pub unwritten : output' ≡ output
 
 -- The input couldn't be read to its end, or something in it is malformed, and nothing was written.

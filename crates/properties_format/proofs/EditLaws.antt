@@ -6,12 +6,12 @@ use Rattle.std.proofs.lemmas.Slice.Eq.{bytes_eq-Decides}
 use Rattle.properties_format.specs.Encoding.{Encoding, InForce, byte_order_mark, begins_like_bom}
 use Rattle.properties_format.specs.Lines.{end}
 use Rattle.properties_format.specs.Groups.{joined}
-use Rattle.properties_format.specs.Entries.{comment, pair, Entry}
+use Rattle.properties_format.specs.Entries.{comment, pair, Entry, AreItems}
 use Rattle.properties_format.specs.Items.{Outcome, ignored, given, broken, IsItems}
 use Rattle.properties_format.specs.Reading.Items.{outcome_of, followed, items_of}
 use Rattle.properties_format.specs.Maps.{HasNoPair, IsMap}
 use Rattle.properties_format.specs.Body.{HeldLine, as_lines, NoneHasKey, group_bytes, groups_bytes}
-use Rattle.properties_format.specs.Edited.{bom_of, guarding_lf, is_editable, HoldsNoMalformed, Edit, put, remove, edited, IsSetKeyResult, IsRemoveKeyResult, IsEditAllResult}
+use Rattle.properties_format.specs.Edited.{bom_of, guarding_lf, is_editable, Edit, put, remove, edited, IsSetKeyResult, IsRemoveKeyResult, IsEditAllResult}
 use Rattle.properties_format.specs.Changed.{map_edited}
 use Rattle.properties_format.specs.Reading.Body.{held_groups_of, is_pair_with, has_key, entries_in}
 use Rattle.properties_format.specs.Reading.Edited.{without, key_set, edit_made, edits_made, result_of, set_key_result, edit_all_result}
@@ -33,8 +33,8 @@ use Rattle.properties_format.proofs.Changed.Read.{readable, set_key-reads, remov
 -- ---- a key that no pair has
 
 -- what an entry says of the groups after it
-followed-none : (key : List ℕ) (n : ℕ) (o : Outcome) (entries : List Entry) → HoldsNoMalformed (followed n o entries) → HasNoPair key (followed n o entries)
-    → (is_pair_with key o ≡ false) × HoldsNoMalformed entries × HasNoPair key entries
+followed-none : (key : List ℕ) (n : ℕ) (o : Outcome) (entries : List Entry) → AreItems (followed n o entries) → HasNoPair key (followed n o entries)
+    → (is_pair_with key o ≡ false) × AreItems entries × HasNoPair key entries
 followed-none key n ignored entries h k = (refl, h, k)
 followed-none key n (given (comment text)) entries h k = (refl, h, k)
 followed-none key n (given (pair l v)) entries h k =
@@ -42,7 +42,7 @@ followed-none key n (given (pair l v)) entries h k =
 followed-none key n (broken kind) entries h k = absurd h
 
 -- where no item is a pair with the key, no group has it
-none-have : (key : List ℕ) (n : ℕ) (gs : List (List HeldLine)) → HoldsNoMalformed (entries_in n gs) → HasNoPair key (entries_in n gs) → NoneHasKey key gs
+none-have : (key : List ℕ) (n : ℕ) (gs : List (List HeldLine)) → AreItems (entries_in n gs) → HasNoPair key (entries_in n gs) → NoneHasKey key gs
 none-have key n [] h k = tt
 none-have key n (g ∷ gs) h k =
     let m = followed-none key n (outcome_of (joined (as_lines g))) (entries_in (n + length g) gs) h k in
@@ -76,7 +76,7 @@ removing-no_pair e source key entries is none result h =
     let r = readable e source h.0 h.1 in
     let all = items_of-only e source end entries is ∙ items_of-groups e source in
     let left : without key gs ≡ f.body =
-    without-none key gs (none-have key 1 gs (subst HoldsNoMalformed (items_of-groups e source) r.no_fault) (subst (HasNoPair key) all none))
+    without-none key gs (none-have key 1 gs (subst AreItems (items_of-groups e source) r.no_fault) (subst (HasNoPair key) all none))
     ∙ held-body f.encoding f.body gs h.0 (held_groups_of-meets f.encoding f.body) in
     key_removed-only e source key result h.2
     ∙ ap (λ v. bom_of source ++ (guarding_lf source v ++ v)) left

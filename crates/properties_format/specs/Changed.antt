@@ -3,11 +3,11 @@
 use Rattle.std.specs.Prelude.{◌≡◌, ◌≢◌, ◌⊎◌, bytes_eq, ℕ, if◌then◌else◌, List, [], ◌∷◌, ◌++◌, Option, Some, None}
 use Rattle.properties_format.specs.Encoding.{Encoding, byte_order_mark}
 use Rattle.properties_format.specs.Lines.{end}
-use Rattle.properties_format.specs.Entries.{Content, comment, pair, Entry, item, malformed, read_fault}
+use Rattle.properties_format.specs.Entries.{Content, comment, pair, Entry, item, malformed, read_fault, AreItems}
 use Rattle.properties_format.specs.Items.{IsItems}
 use Rattle.properties_format.specs.Maps.{IsMap}
 use Rattle.properties_format.specs.Body.{AreGroupsOf, HasKey, HeldLine, NoneHasKey, group_bytes}
-use Rattle.properties_format.specs.Edited.{Edit, HoldsNoMalformed, put, remove}
+use Rattle.properties_format.specs.Edited.{Edit, put, remove}
 
 -- what the items say, in order
 abbrev pub contents : List Entry → List Content
@@ -67,7 +67,7 @@ map_after (edit ∷ edits) value_at k = map_after edits (map_edited edit value_a
 
 -- Read as entries, a result has no malformed one, says what was said before with this edit, and has the map that was with this change.
 pub record IsReadAfter (IsEdit : List Content → List Content → Type 0) (change : (List ℕ → Option (List ℕ)) → List ℕ → Option (List ℕ)) (old new : List Entry) : Type 0 where
-  pub readable : HoldsNoMalformed new
+  pub readable : AreItems new
   pub said : IsEdit (contents old) (contents new)
   pub mapped : (value_at : List ℕ → Option (List ℕ)) → IsMap old value_at → IsMap new (change value_at)
 

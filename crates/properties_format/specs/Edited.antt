@@ -6,7 +6,7 @@ use Rattle.properties_format.specs.Encoding.{Encoding, windows_1252, utf_8, utf_
 use Rattle.properties_format.specs.Lines.{end, ends_in_cr}
 use Rattle.properties_format.specs.Groups.{is_open, is_comment_line}
 use Rattle.properties_format.specs.Escapes.{Malformed}
-use Rattle.properties_format.specs.Entries.{Entry, item, malformed, read_fault}
+use Rattle.properties_format.specs.Entries.{Entry, item, malformed, read_fault, AreItems}
 use Rattle.properties_format.specs.Items.{IsItems}
 use Rattle.properties_format.specs.Printing.{in_key_or_value, spelt_text, encoded_text, spelt_key}
 use Rattle.properties_format.specs.Writing.{is_empty}
@@ -140,13 +140,6 @@ is_editable utf_8 = true
 is_editable utf_16le = false
 is_editable utf_16be = false
 
--- no entry is malformed
-abbrev pub HoldsNoMalformed : List Entry → Type 0
-HoldsNoMalformed [] = Unit {0}
-HoldsNoMalformed (item n content ∷ entries) = HoldsNoMalformed entries
-HoldsNoMalformed (malformed kind n ∷ entries) = ⊥
-HoldsNoMalformed (read_fault n ∷ entries) = HoldsNoMalformed entries
-
 -- the first malformed entry is of this kind and names this line
 abbrev pub IsFirstMalformed : Malformed → ℕ → List Entry → Type 0
 IsFirstMalformed kind n [] = ⊥
@@ -162,7 +155,7 @@ ItemsAre e source Such = (entries : List Entry) × IsItems e source end entries 
 abbrev pub IsEditResult : Encoding → List ℕ → (List ℕ → Type 0) → EditResult → Type 0
 IsEditResult e source Makes unsupported = is_editable (byte_order_mark e source).encoding ≡ false
 IsEditResult e source Makes (unreadable kind n) = (is_editable (byte_order_mark e source).encoding ≡ true) × ItemsAre e source (IsFirstMalformed kind n)
-IsEditResult e source Makes (edited result) = (is_editable (byte_order_mark e source).encoding ≡ true) × ItemsAre e source HoldsNoMalformed × Makes result
+IsEditResult e source Makes (edited result) = (is_editable (byte_order_mark e source).encoding ≡ true) × ItemsAre e source AreItems × Makes result
 
 -- the results of the three editors
 abbrev pub IsSetKeyResult : Encoding → List ℕ → List ℕ → List ℕ → EditResult → Type 0

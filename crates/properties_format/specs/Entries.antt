@@ -24,3 +24,10 @@ number_of (read_fault number) = number
 abbrev pub NumbersAscend : ℕ → List Entry → Type 0
 NumbersAscend n [] = Unit {0}
 NumbersAscend n (entry ∷ entries) = (n < number_of entry) × NumbersAscend (number_of entry) entries
+
+-- All of them are items: no escapes are malformed, and no read failed.
+abbrev pub AreItems : List Entry → Type 0
+AreItems [] = Unit {0}
+AreItems (item number content ∷ entries) = AreItems entries
+AreItems (malformed kind number ∷ entries) = ⊥
+AreItems (read_fault number ∷ entries) = ⊥

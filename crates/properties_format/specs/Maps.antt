@@ -1,7 +1,10 @@
 -- The map of an input: each key that a pair of it has, with the value of its last pair.
 -- Source: java.util.Properties of Java SE 7, load (a later pair with a key takes the place of an earlier one).
 use Rattle.std.specs.Prelude.{◌≡◌, ◌≢◌, ℕ, List, [], ◌∷◌, ◌++◌, Option, Some, None}
-use Rattle.properties_format.specs.Entries.{comment, pair, Entry, item, malformed, read_fault}
+use Rattle.properties_format.specs.Encoding.{Encoding}
+use Rattle.properties_format.specs.Entries.{comment, pair, Entry, item, malformed, read_fault, AreItems}
+use Rattle.properties_format.specs.Items.{IsItems}
+use Rattle.properties_format.specs.Lines.{end}
 
 -- no entry is a pair with this key
 abbrev pub HasNoPair : List ℕ → List Entry → Type 0
@@ -27,3 +30,10 @@ IsValue entries key None = HasNoPair key entries
 -- The map gives each key its value.
 abbrev pub IsMap : List Entry → (List ℕ → Option (List ℕ)) → Type 0
 IsMap entries value_at = (key : List ℕ) → IsValue entries key (value_at key)
+
+-- The value of a key in a source, none of whose entries is malformed: that of the last pair with the key, or none where no pair has it.
+pub record HasValue (e : Encoding) (source key : List ℕ) (value : Option (List ℕ)) : Type 0 where
+  pub entries : List Entry
+  pub items : IsItems e source end entries
+  pub whole : AreItems entries
+  pub is : IsValue entries key value

@@ -4,7 +4,7 @@ use Rattle.std.specs.Prelude.{Bool, ◌⊎◌, Result, Ok, Err}
 use Rattle.counted_io.specs.Streams.{Reader, Sink}
 use Rattle.properties_format.specs.Encoding.{Encoding}
 use Rattle.properties_format.specs.ItemsToCome.{ReaderState, start}
-use Rattle.properties_format.specs.Entries.{Content, comment, pair, Entry, item, malformed, read_fault}
+use Rattle.properties_format.specs.Entries.{Content, comment, pair, Entry, item, malformed, read_fault, AreItems}
 use Rattle.properties_format.specs.Items.{IsItems}
 use Rattle.properties_format.specs.Lines.{end}
 use Rattle.properties_format.specs.Pairs.{pairs_in, ArePairsOfScalars}
@@ -16,7 +16,7 @@ use Rattle.java_properties.specs.PropertiesWriter.{Writing, Flushes, HasFlushedS
 use Rattle.java_properties.specs.ReadLines.{BeginsItems}
 use Rattle.java_properties.specs.declared.error.PropertiesError.{PropertiesError}
 use Rattle.java_properties.proofs.Readings.{Comes, Collected, collected-start, collected-next, collected-none, collected-malformed, collected-error}
-use Rattle.propfilter.specs.Filter.{pair_writer, AreItems, HasScalars, WritesIfPair, HasFiltered, StopsInWriting, Filters}
+use Rattle.propfilter.specs.Filter.{pair_writer, HasScalars, WritesIfPair, HasFiltered, StopsInWriting, Filters}
 use Rattle.propfilter.proofs.Pairs.{HasWrittenPairs, pairs-none, pairs-comment, pairs-more, pairs-live, pairs-fail, pairs-refused, pairs-flushed, pairs-flush, pairs-flush-failed}
 
 -- the content of an entry

@@ -4,7 +4,7 @@ use Rattle.std.specs.declared.io.Error.{Error}
 use Rattle.counted_io.specs.Streams.{Reader, HasRead, Sink, HasWritten, HasFaulted, HasFailedFlush, IsProperPrefix, CameFromWrite}
 use Rattle.properties_format.specs.Text.{scalar}
 use Rattle.properties_format.specs.Encoding.{Encoding, output_encoding}
-use Rattle.properties_format.specs.Entries.{Content, comment, pair, Entry, item, malformed, read_fault}
+use Rattle.properties_format.specs.Entries.{Content, comment, pair, Entry, item, AreItems}
 use Rattle.properties_format.specs.Printing.{printed}
 use Rattle.properties_format.specs.Settings.{Settings, default_settings}
 use Rattle.properties_format.specs.Lines.{end}
@@ -44,13 +44,6 @@ pair_lines e only entries = wrote (output_encoding e) (settings_with only) 0 (pa
 -- the line of a pair after these
 abbrev pub next_pair_line : Encoding → Bool → List Entry → List ℕ → List ℕ → List ℕ
 next_pair_line e only entries key value = printed (output_encoding e) (settings_with only) (pair_count entries == 0) (pair key value)
-
--- all of them are items: no text was malformed, and no read failed
-abbrev pub AreItems : List Entry → Type 0
-AreItems [] = Unit {0}
-AreItems (item number content ∷ entries) = AreItems entries
-AreItems (malformed kind number ∷ entries) = ⊥
-AreItems (read_fault number ∷ entries) = ⊥
 
 -- the texts of a pair are of scalar values
 abbrev pub HasScalars : Content → Type 0

@@ -14,6 +14,10 @@ use Rattle.propfilter.specs.declared.run.Asked.{Asked}
 abbrev pub usage : List ℕ
 usage = codes "usage: propfilter [windows-1252|utf-8|utf-16le|utf-16be [ascii]]"
 
+-- what it prints where an argument isn't UTF-8
+abbrev pub not_utf_8 : List ℕ
+not_utf_8 = codes "propfilter: an argument is not UTF-8"
+
 -- the line that says a text
 abbrev pub line_of : List ℕ → List ℕ
 line_of text = text ++ (line_feed ∷ [])

@@ -5,7 +5,7 @@ mod filter;
 mod run;
 
 use counted_io::Counted;
-use run::{refuse, run};
+use run::{refuse_bytes, run};
 use std::env;
 use std::io::{self, BufWriter, ErrorKind};
 use std::process::ExitCode;
@@ -23,8 +23,9 @@ fn status(rt: &HostRuntime) -> io::Result<u8> {
     let mut errors = Counted::new(rt.stderr());
     let arguments = match env::args(rt) {
         Ok(arguments) => arguments,
-        // One of them isn't UTF-8.
-        Err(error) if error.kind() == ErrorKind::InvalidData => return Ok(refuse(&mut errors)),
+        Err(error) if error.kind() == ErrorKind::InvalidData => {
+            return Ok(refuse_bytes(&mut errors));
+        }
         Err(error) => return Err(error),
     };
     let arguments: Vec<String> = arguments.skip(1).collect(alloc)?;

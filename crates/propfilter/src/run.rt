@@ -6,7 +6,7 @@ ghost use Rattle.counted_io.specs.Streams.{IsSameReader, IsSameSink};
 ghost use Rattle.properties_text.specs.Encoding.{encoding_of};
 ghost use Rattle.java_properties.specs.DisplayTexts.{error_display};
 ghost use Rattle.propfilter.specs.Filter.{Filters};
-ghost use Rattle.propfilter.specs.Run.{asked_of, line_of, usage, HasSaid, IsAsked, IsNamed, IsNamedWith, Runs, SaysIfRoom};
+ghost use Rattle.propfilter.specs.Run.{asked_of, line_of, not_utf_8, usage, HasSaid, IsAsked, IsNamed, IsNamedWith, Runs, SaysIfRoom};
 
 use crate::filter::{filter, filter_ascii};
 use counted_io::{CountedRead, CountedWrite, send};
@@ -14,6 +14,8 @@ use java_properties::{Encoding, PropertiesError};
 use std::alloc::Global;
 
 const USAGE: &str = "usage: propfilter [windows-1252|utf-8|utf-16le|utf-16be [ascii]]\n";
+
+const NOT_UTF_8: &str = "propfilter: an argument is not UTF-8\n";
 
 // What arguments ask for.
 #[derive(Clone, Copy)]
@@ -60,8 +62,25 @@ pub fn run<R: CountedRead, W: CountedWrite, E: CountedWrite>(
     }
 }
 
-/// Says the usage, and returns the status of arguments that ask for nothing that there is.
-pub fn refuse<E: CountedWrite>(errors: &mut E) -> u8
+/// Prints on `errors` that an argument isn't UTF-8, and returns the exit status of an error, 1.
+///
+/// For a `main` that can't have its arguments as texts. What can't be printed is dropped.
+///
+/// ```text
+/// let mut errors = Counted::new(Vec::new(alloc));
+/// refuse_bytes(&mut errors); // 1, and one line is printed
+/// ```
+pub fn refuse_bytes<E: CountedWrite>(errors: &mut E) -> u8
+    ensures answer { result ≡ 1 }
+    ensures says { HasSaid E.CountedWrite errors.old (line_of not_utf_8) errors.new }
+    ensures same_sink { IsSameSink E.CountedWrite errors.old errors.new }
+{
+    say(errors, NOT_UTF_8);
+    1
+}
+
+// Says the usage, and returns the status of arguments that ask for nothing that there is.
+fn refuse<E: CountedWrite>(errors: &mut E) -> u8
     ensures answer { result ≡ 2 }
     ensures says { HasSaid E.CountedWrite errors.old (line_of usage) errors.new }
     ensures same_sink { IsSameSink E.CountedWrite errors.old errors.new }

@@ -58,7 +58,7 @@ pub has-value : (d : Inside) → IsDocument d → (key : List ℕ) (value : Opti
     → HasValueAt (open_document d) key value
 has-value d i key value is =
     let reads = i.values in
-    record { entries = reads.entries; items = reads.items; is = subst (IsValue reads.entries key) is (reads.is_map key) }
+    record { entries = reads.entries; items = reads.items; whole = reads.whole; is = subst (IsValue reads.entries key) is (reads.is_map key) }
 
 -- ---- a value that is changed
 

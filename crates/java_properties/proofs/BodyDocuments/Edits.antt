@@ -13,7 +13,7 @@ use Rattle.properties_text.specs.Encoding.{encoding_of}
 use Rattle.properties_format.specs.Text.{scalar}
 use Rattle.properties_format.specs.Encoding.{Encoding, InForce, output_encoding}
 use Rattle.properties_format.specs.Lines.{end}
-use Rattle.properties_format.specs.Entries.{Entry}
+use Rattle.properties_format.specs.Entries.{Entry, AreItems}
 use Rattle.properties_format.specs.Items.{IsItems}
 use Rattle.properties_format.specs.Maps.{IsMap, IsValue}
 use Rattle.properties_format.specs.Changed.{map_edited}
@@ -116,9 +116,10 @@ module _ (d : Inside) (i : IsDocument d) where
         ∙ sym (bytes-after after (i.edits ++ edit ∷ []) i.in_force i.editable (scalars-push i.edits edit i.scalar scalar) held-after)
 
     document-after : ((entries : List Entry) → IsItems (encoding_of d.encoding) (document_bytes after) end entries → IsMap entries (map_edited edit (value_at d.values.entries)))
+        → ((entries : List Entry) → IsItems (encoding_of d.encoding) (document_bytes after) end entries → AreItems entries)
         → ((k : List ℕ) → value_at values.entries k ≡ map_edited edit (value_at d.values.entries) k)
         → IsOrdered string_cmp values → IsDocument after
-    document-after mapped same ordered =
+    document-after mapped whole same ordered =
         let e = encoding_of d.encoding in
         let items = items_of e (document_bytes after) end in
         let meets = items_of-meets e (document_bytes after) end in
@@ -132,6 +133,7 @@ module _ (d : Inside) (i : IsDocument d) where
           values = record {
             entries = items;
             items = meets;
+            whole = whole items meets;
             is_map = λ k. subst (IsValue items k) (sym (same k)) (mapped items meets k);
           };
           ordered = ordered;
@@ -158,6 +160,7 @@ put-in d i slots values key value k v change same ordered =
       document =
           document-after d i slots values edit (k, v) changed
           (λ entries items. (set.edit.reads reads.entries entries reads.items items).mapped (value_at d.values.entries) reads.is_map)
+          (λ entries items. (set.edit.reads reads.entries entries reads.items items).readable)
           (λ j. same j ∙ ap (λ b. if b then Some value else value_at d.values.entries j) (flipped key j)) ordered;
       set = set;
     }
@@ -180,7 +183,8 @@ taken-from d i slots values key changed same ordered =
     record {
       document =
           document-after d i slots values edit tt changed
-          (λ entries items. (removed.edit.reads reads.entries entries reads.items items).mapped (value_at d.values.entries) reads.is_map) same ordered;
+          (λ entries items. (removed.edit.reads reads.entries entries reads.items items).mapped (value_at d.values.entries) reads.is_map)
+          (λ entries items. (removed.edit.reads reads.entries entries reads.items items).readable) same ordered;
       removed = removed;
     }
 
@@ -233,6 +237,7 @@ kept-as d i slots values keeps same ordered =
         values = record {
           entries = reads.entries;
           items = subst (λ v. IsItems e v end reads.entries) (sym bytes) reads.items;
+          whole = reads.whole;
           is_map = λ k. subst (IsValue reads.entries k) (sym (same k)) (reads.is_map k);
         };
         ordered = ordered;
@@ -264,6 +269,7 @@ own-opened d p =
     let held = slots-none d.slots p.in_force p.slots in
     let bytes : document_bytes d ≡ source = bytes-after d [] p.in_force p.editable tt held in
     let items = items_of e source end in
+    let result = subst (IsEditAllResult e source []) (result-made source p.in_force p.editable p.sound) (edit_all_result-meets e source []) in
     let same : items ≡ entries_in 1 (held_groups_of (encoding_of d.opened.encoding) (drop d.opened.start source)) =
     items_of-groups e source ∙ ap (λ v. let w : InForce = v in entries_in 1 (held_groups_of w.encoding w.body)) p.in_force.in_force in
     record {
@@ -277,6 +283,7 @@ own-opened d p =
         values = record {
           entries = items;
           items = subst (λ v. IsItems e v end items) (sym bytes) (items_of-meets e source end);
+          whole = (readable e source result.0 result.1).no_fault;
           is_map = subst (λ v. IsMap v (value_at d.values.entries)) (sym same) p.is_map;
         };
         ordered = p.ordered;

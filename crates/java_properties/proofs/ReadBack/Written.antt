@@ -1,17 +1,20 @@
 -- What was written is read back.
-use Rattle.std.proofs.Common.{◌≡◌, List, [], ◌∷◌, ◌++◌, refl, ◌∙◌, inl, inr}
+use Rattle.std.proofs.Common.{◌≡◌, List, [], ◌∷◌, ◌++◌, refl, ◌∙◌, inl, inr, subst}
 use Rattle.std.specs.Prelude.{Bool, Result, Ok, Err}
 use Rattle.std.specs.Global.{Vec}
 use Rattle.counted_io.specs.Streams.{Sink}
 use Rattle.properties_format.specs.Encoding.{output_encoding}
 use Rattle.properties_format.specs.Settings.{Settings}
 use Rattle.properties_format.specs.Writing.{Call, comment_call, pair_call, prefix_call, separator_call, ending_call, flush_call, ascii_only_call, settings_after_call, wrote, ArePrefixesClean, AreOfScalars}
+use Rattle.properties_format.specs.Pairs.{Pair, calls_of, ArePairsOfScalars}
+use Rattle.properties_format.specs.Laws.{wrote_pairs, ArePairsReadBack}
 use Rattle.properties_format.proofs.Items.Unique.{items_of-only}
+use Rattle.properties_format.proofs.Laws.{equal-bytes, writing-anew}
 use Rattle.properties_format.proofs.ReadBack.Law.{items_of-wrote, IsItems-wrote}
 use Rattle.properties_text.specs.Encoding.{output_of}
 use Rattle.java_properties.specs.PropertiesWriter.{Writing}
 use Rattle.java_properties.specs.Calls.{HasMade, StopsAtCall, RunsCalls}
-use Rattle.java_properties.specs.ReadBack.{IsGoodWriter, IsCleanWriting, IsReadBack, IsReadBackBefore, ReadsBack}
+use Rattle.java_properties.specs.ReadBack.{IsGoodWriter, IsCleanWriting, IsReadBack, IsReadBackBefore, ReadsBack, ArePairsWritten, IsWritingOf}
 use Rattle.java_properties.specs.declared.error.PropertiesError.{PropertiesError}
 use Rattle.properties_text.specs.declared.encoding.encode.OutputEncoding.{OutputEncoding}
 use Rattle.properties_text.specs.declared.encoding.encode.OutputEncoding.TheVariants.{Windows1252, Utf8}
@@ -65,6 +68,37 @@ module _ {W : Type 0} {sink : Sink W} where
     });
     fails = h.fails;
   }
+
+-- the texts of pairs are those of the calls that write them
+scalars-pairs : (pairs : List Pair) → AreOfScalars (calls_of pairs) → ArePairsOfScalars pairs
+scalars-pairs [] h = tt
+scalars-pairs (p ∷ pairs) h = (h.0, scalars-pairs pairs h.1)
+
+-- Pairs that were written are the only ones that write their bytes, and writing anew changes none of these.
+pub made-only : {W : Type 0} {sink : Sink W} {old new : Writing W} {calls : List Call} → IsGoodWriter old → AreOfScalars calls → HasMade sink old calls new
+    → (pairs : List Pair) → ArePairsWritten old calls pairs → IsWritingOf sink old pairs new
+made-only {old = old} {calls = calls} good scalars made pairs these =
+    let e = old.encoding in
+    let s = old.settings in
+    let own : ArePairsReadBack e s pairs = record {
+      encoding = good.encoding;
+      settings = good.settings;
+      accepted = these.accepted;
+      scalars = scalars-pairs pairs (subst AreOfScalars these.alone scalars);
+    } in
+    record {
+      bytes = wrote_pairs e s pairs;
+      written = rw these.alone at (rw these.first at made.written);
+      only = λ others accepted texts same.
+          let their : ArePairsReadBack e s others = record {
+            encoding = good.encoding;
+            settings = good.settings;
+            accepted = accepted;
+            scalars = texts;
+          } in
+          (equal-bytes e s others pairs their own).0 same;
+      anew = writing-anew e s pairs own;
+    }
 
 pub runs-read_back : {W : Type 0} (sink : Sink W) (old new : Writing W) (calls : List Call) (result : Result (Vec Bool) PropertiesError) → IsGoodWriter old → AreOfScalars calls
     → RunsCalls sink old calls result new → ReadsBack sink old calls result new

@@ -1,11 +1,11 @@
 -- A map that is read, item after item.
 use Rattle.std.proofs.Common.{◌≡◌, ℕ, false, List, [], ◌∷◌, ◌++◌, refl, sym, inl, inr, subst}
-use Rattle.std.specs.Prelude.{◌⊎◌, Ok}
+use Rattle.std.specs.Prelude.{◌⊎◌, Option, Ok}
 use Rattle.std.proofs.lemmas.List.{map-append}
 use Rattle.counted_io.specs.Streams.{Reader}
 use Rattle.properties_format.specs.Encoding.{Encoding}
 use Rattle.properties_format.specs.ItemsToCome.{ReaderState, start}
-use Rattle.properties_format.specs.Entries.{Content, comment, pair, Entry, item}
+use Rattle.properties_format.specs.Entries.{Content, comment, pair, Entry, item, AreItems}
 use Rattle.properties_format.specs.Maps.{IsMap}
 use Rattle.properties_format.proofs.Maps.{map-none, map-comment, map-pair}
 use Rattle.java_properties.specs.Errors.{IsBareError}
@@ -13,7 +13,7 @@ use Rattle.java_properties.specs.Line.{number_of, content_of}
 use Rattle.java_properties.specs.PropertiesIter.{said, entry_of}
 use Rattle.java_properties.specs.GivenItems.{GivesEntry, GivesNone, GivesMalformed, GivesError}
 use Rattle.java_properties.specs.ReadLines.{entries_in}
-use Rattle.java_properties.specs.Maps.{Entries, value_at, InsertsIfPair, HasReadMap, StopsReadingMap}
+use Rattle.java_properties.specs.Maps.{Entries, value_at, InsertsIfPair, HasReadMap, ReadsValue, StopsReadingMap}
 use Rattle.java_properties.specs.declared.error.ErrorKind.TheVariants as kind
 use Rattle.java_properties.specs.declared.error.PropertiesError.{PropertiesError}
 use Rattle.java_properties.specs.declared.line.Line.{Line}
@@ -28,6 +28,11 @@ pub record HasPassed {R Y Z : Type 0} (reader : Reader R) (e : Encoding) (from :
 
 entries-more : (lines : List Line) (line : Line) → entries_in lines ++ (entry_of line ∷ []) ≡ entries_in (lines ++ (line ∷ []))
 entries-more lines line = sym (map-append entry_of lines (line ∷ []))
+
+-- lines are items
+lines-are-items : (lines : List Line) → AreItems (entries_in lines)
+lines-are-items [] = tt
+lines-are-items (line ∷ lines) = lines-are-items lines
 
 module _ {R Y Z : Type 0} {reader : Reader R} {e : Encoding} where
   -- before the first item
@@ -72,4 +77,19 @@ module _ {R Y Z : Type 0} {reader : Reader R} {e : Encoding} where
   -- no item comes any more
   pub passed-all : {from to next : R} {m : Entries Y Z} {s t : ReaderState} → HasPassed reader e from m s to
       → GivesNone reader s to t next → HasReadMap reader e from m next
-  passed-all h n = record { lines = h.lines; reads = collected-none h.collected n; is_map = h.is_map }
+  passed-all h n =
+      let whole = collected-none h.collected n in
+      record {
+        lines = h.lines;
+        reads = whole;
+        values = λ key. record { entries = entries_in h.lines; items = whole.reading.items; whole = lines-are-items h.lines; is = h.is_map key };
+      }
+
+-- What a map that was read has at a key is the value of that key in the input.
+pub reads_value : {R Y Z : Type 0} {reader : Reader R} {e : Encoding} {from to : R} {entries : Entries Y Z} → HasReadMap reader e from entries to
+    → (key : List ℕ) (value : Option (List ℕ)) → value ≡ value_at entries key → ReadsValue reader e from key value to
+reads_value {reader = reader} {e = e} {from = from} {to = to} h key value is = subst (λ v. ReadsValue reader e from key v to) (sym is) (record {
+  items = entries_in h.lines;
+  reads = h.reads;
+  has_value = h.values key;
+})

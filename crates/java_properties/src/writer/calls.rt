@@ -2,7 +2,7 @@
 
 ghost use Rattle.counted_io.specs.Streams.{IsSameSink};
 ghost use Rattle.java_properties.specs.Calls.{calls_in, call_in, SaysAccepted, MakesCall, RunsCalls, LeavesFailed};
-ghost use Rattle.java_properties.specs.ReadBack.{ReadsBack};
+ghost use Rattle.java_properties.specs.ReadBack.{ReadsBack, WritesOnlyThese};
 ghost use Rattle.java_properties.specs.AsciiOnly.{WritesAscii};
 
 use crate::error::{ErrorKind, PropertiesError};
@@ -34,6 +34,9 @@ pub enum Call {
 /// A bad prefix, a bad separator and an empty key under a separator of blanks are not accepted, change nothing, and
 /// the calls go on. Any other error ends them and is returned: the calls before it have been made.
 ///
+/// Where all calls are pairs and all are accepted, no other list of pairs writes the same bytes by the same settings, and
+/// reading these pairs and writing them anew changes no byte.
+///
 /// Where the first call is `AsciiOnly(true)` and none is `AsciiOnly(false)`, every byte that is written is ASCII, and
 /// what is written reads back the same in windows-1252 and in UTF-8.
 ///
@@ -49,6 +52,7 @@ pub fn run_calls<W: CountedWrite>(
     ensures runs { RunsCalls W.CountedWrite writer.old (calls_in calls.now) result writer.new }
     ensures untouched { LeavesFailed writer.old writer.new }
     ensures reads_back { ReadsBack W.CountedWrite writer.old (calls_in calls.now) result writer.new }
+    ensures only { WritesOnlyThese W.CountedWrite writer.old (calls_in calls.now) result writer.new }
     ensures ascii { WritesAscii W.CountedWrite writer.old (calls_in calls.now) result writer.new }
     ensures same_sink { IsSameSink W.CountedWrite writer.old.sink writer.new.sink }
 {

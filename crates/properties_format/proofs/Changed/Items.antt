@@ -3,11 +3,11 @@ use Rattle.std.proofs.Common.{◌≡◌, ℕ, ◌+◌, List, [], ◌∷◌, leng
 use Rattle.properties_format.specs.Encoding.{Encoding, byte_order_mark}
 use Rattle.properties_format.specs.Lines.{end}
 use Rattle.properties_format.specs.Groups.{joined}
-use Rattle.properties_format.specs.Entries.{Content, Entry}
+use Rattle.properties_format.specs.Entries.{Content, Entry, AreItems}
 use Rattle.properties_format.specs.Items.{Outcome, ignored, given, broken}
 use Rattle.properties_format.specs.Reading.Items.{outcome_of, followed, items_of}
 use Rattle.properties_format.specs.Body.{HeldLine, as_lines, as_groups, AreGroupsOf}
-use Rattle.properties_format.specs.Edited.{is_editable, HoldsNoMalformed}
+use Rattle.properties_format.specs.Edited.{is_editable}
 use Rattle.properties_format.specs.Changed.{contents}
 use Rattle.properties_format.specs.Reading.Body.{held_groups_of, entries_in}
 use Rattle.properties_format.proofs.Edited.Told.{told_before, told_by, told, givens}
@@ -18,21 +18,21 @@ use Rattle.properties_format.proofs.Body.Numbers.{items_of-groups}
 -- ---- entries
 
 -- an outcome before others is what its entry and their entries say, where none is malformed
-followed-told : (number : ℕ) (o : Outcome) (entries : List Entry) (os : List Outcome) → (HoldsNoMalformed entries → os ≡ givens (contents entries))
-    → HoldsNoMalformed (followed number o entries) → told_before o os ≡ givens (contents (followed number o entries))
+followed-told : (number : ℕ) (o : Outcome) (entries : List Entry) (os : List Outcome) → (AreItems entries → os ≡ givens (contents entries))
+    → AreItems (followed number o entries) → told_before o os ≡ givens (contents (followed number o entries))
 followed-told number ignored entries os h k = h k
 followed-told number (given content) entries os h k = ap (λ v. given content ∷ v) (h k)
 followed-told number (broken kind) entries os h k = absurd k
 
 -- groups come to what their entries say, where none is malformed
-entries-told : (n : ℕ) (gs : List (List HeldLine)) → HoldsNoMalformed (entries_in n gs) → told_by (as_groups gs) ≡ givens (contents (entries_in n gs))
+entries-told : (n : ℕ) (gs : List (List HeldLine)) → AreItems (entries_in n gs) → told_by (as_groups gs) ≡ givens (contents (entries_in n gs))
 entries-told n [] h = refl
 entries-told n (g ∷ gs) h =
     followed-told n (outcome_of (joined (as_lines g))) (entries_in (n + length g) gs) (told_by (as_groups gs)) (entries-told (n + length g) gs) h
 
 -- the entries are items, which say this
 abbrev Say : List Entry → List Content → Type 0
-Say entries cs = HoldsNoMalformed entries × (contents entries ≡ cs)
+Say entries cs = AreItems entries × (contents entries ≡ cs)
 
 -- where an outcome before others is contents alone, its entry and their entries say these
 told-followed : (number : ℕ) (o : Outcome) (entries : List Entry) (os : List Outcome) (cs : List Content)
@@ -59,19 +59,19 @@ told-entries n (g ∷ gs) cs h =
 
 -- Where no item is malformed, the groups of the body come to what the items say.
 pub items-told : (e : Encoding) (source : List ℕ) (gs : List (List HeldLine)) → AreGroupsOf (byte_order_mark e source).encoding (byte_order_mark e source).body gs
-    → HoldsNoMalformed (items_of e source end) → told_by (as_groups gs) ≡ givens (contents (items_of e source end))
+    → AreItems (items_of e source end) → told_by (as_groups gs) ≡ givens (contents (items_of e source end))
 items-told e source gs h k =
     let f = byte_order_mark e source in
     let same = items_of-groups e source in
     let own = held_groups_of f.encoding f.body in
     ap (λ v. told_by (as_groups v)) (held_groups_of-only f.encoding f.body gs h)
-    ∙ entries-told 1 own (subst HoldsNoMalformed same k)
+    ∙ entries-told 1 own (subst AreItems same k)
     ∙ ap (λ v. givens (contents v)) (sym same)
 
 -- And where the body comes to contents alone, no item is malformed, and these are what the items say.
 pub told-items : (e : Encoding) (source : List ℕ) (cs : List Content) → is_editable (byte_order_mark e source).encoding ≡ true
     → told (byte_order_mark e source).encoding (byte_order_mark e source).body ≡ givens cs
-    → HoldsNoMalformed (items_of e source end) × (contents (items_of e source end) ≡ cs)
+    → AreItems (items_of e source end) × (contents (items_of e source end) ≡ cs)
 told-items e source cs ok h =
     let f = byte_order_mark e source in
     let own = held_groups_of f.encoding f.body in
@@ -79,4 +79,4 @@ told-items e source cs ok h =
     let t : told_by (as_groups own) ≡ givens cs =
     sym (told-groups f.encoding own (held-groups f.encoding f.body own ok are)) ∙ ap (told f.encoding) (held-body f.encoding f.body own ok are) ∙ h in
     let m = told-entries 1 own cs t in
-    subst (λ v. HoldsNoMalformed v × (contents v ≡ cs)) (sym (items_of-groups e source)) m
+    subst (λ v. AreItems v × (contents v ≡ cs)) (sym (items_of-groups e source)) m

@@ -4,11 +4,11 @@ use Rattle.properties_format.specs.Text.{scalar}
 use Rattle.properties_format.specs.Encoding.{Encoding, InForce, byte_order_mark}
 use Rattle.properties_format.specs.Lines.{end}
 use Rattle.properties_format.specs.Reading.Lines.{ends_in_cr}
-use Rattle.properties_format.specs.Entries.{Content}
+use Rattle.properties_format.specs.Entries.{Content, AreItems}
 use Rattle.properties_format.specs.Reading.Items.{items_of}
 use Rattle.properties_format.specs.Body.{HeldLine, as_groups, AreGroupsOf, groups_bytes}
 use Rattle.properties_format.specs.Edited.{bom_of, IsKeySet, guarding_lf, IsKeyRemoved, Edit, put, remove}
-use Rattle.properties_format.specs.Edited.{IsEdited, AreEdited, is_editable, HoldsNoMalformed}
+use Rattle.properties_format.specs.Edited.{IsEdited, AreEdited, is_editable}
 use Rattle.properties_format.specs.Changed.{contents, IsSetIn, IsRemovedIn, IsEditedIn, AreEditedIn}
 use Rattle.properties_format.specs.Edited.{IsScalarEdit, AreScalarEdits}
 use Rattle.properties_format.proofs.Edited.Told.{told_by, told}
@@ -23,7 +23,7 @@ use Rattle.properties_format.proofs.Edited.Contents.{ends-right, ComesTo, replac
 -- the source can be edited: its encoding in force is one that is edited, and no item of it is malformed
 pub record IsReadable (e : Encoding) (source : List ℕ) : Type 0 where
   pub editable : is_editable (byte_order_mark e source).encoding ≡ true
-  pub no_fault : HoldsNoMalformed (items_of e source end)
+  pub no_fault : AreItems (items_of e source end)
 
 -- what its items say
 abbrev pub says : Encoding → List ℕ → List Content

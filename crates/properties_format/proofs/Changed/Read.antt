@@ -3,9 +3,9 @@ use Rattle.std.proofs.Common.{◌≡◌, ℕ, true, List, All, subst, sym, Optio
 use Rattle.properties_format.specs.Text.{scalar}
 use Rattle.properties_format.specs.Encoding.{Encoding, byte_order_mark}
 use Rattle.properties_format.specs.Lines.{end}
-use Rattle.properties_format.specs.Entries.{Content, Entry}
+use Rattle.properties_format.specs.Entries.{Content, Entry, AreItems}
 use Rattle.properties_format.specs.Maps.{IsMap}
-use Rattle.properties_format.specs.Edited.{Edit, put, remove, edited, is_editable, HoldsNoMalformed, ItemsAre, IsSetKeyResult, IsRemoveKeyResult}
+use Rattle.properties_format.specs.Edited.{Edit, put, remove, edited, is_editable, ItemsAre, IsSetKeyResult, IsRemoveKeyResult}
 use Rattle.properties_format.specs.Edited.{IsEditAllResult, AreScalarEdits}
 use Rattle.properties_format.specs.Changed.{contents, IsSetIn, IsRemovedIn, AreEditedIn, map_edited, map_after, ReadsAfter}
 use Rattle.properties_format.proofs.Items.Unique.{items_of-only}
@@ -13,9 +13,9 @@ use Rattle.properties_format.proofs.Changed.Laws.{IsReadable, says, IsReadTo, ke
 use Rattle.properties_format.proofs.Changed.Maps.{map-edited, map-after}
 
 -- a source that is edited is readable
-pub readable : (e : Encoding) (source : List ℕ) → is_editable (byte_order_mark e source).encoding ≡ true → ItemsAre e source HoldsNoMalformed
+pub readable : (e : Encoding) (source : List ℕ) → is_editable (byte_order_mark e source).encoding ≡ true → ItemsAre e source AreItems
     → IsReadable e source
-readable e source ok h = record { editable = ok; no_fault = subst HoldsNoMalformed (items_of-only e source end h.0 h.1) h.2 }
+readable e source ok h = record { editable = ok; no_fault = subst AreItems (items_of-only e source end h.0 h.1) h.2 }
 
 -- what is computed, in the words of what it is
 reads-after : (e : Encoding) (source result : List ℕ) (IsEdit : List Content → List Content → Type 0) (change : (List ℕ → Option (List ℕ)) → List ℕ → Option (List ℕ))
@@ -27,7 +27,7 @@ reads-after e source result IsEdit change r m old new h k =
     let t = items_of-only e result end new k in
     let f : IsEdit (contents old) (contents new) =
     subst (λ v. IsEdit (contents v) (contents new)) (sym s) (subst (λ v. IsEdit (says e source) (contents v)) (sym t) r.such) in
-    record { readable = subst HoldsNoMalformed (sym t) r.readable.no_fault; said = f; mapped = m old new f }
+    record { readable = subst AreItems (sym t) r.readable.no_fault; said = f; mapped = m old new f }
 
 -- The result of setting a key reads as the source with that key set: its last pair has the new value, or a new last pair comes after all.
 pub set_key-reads : (e : Encoding) (source key value result : List ℕ) → All scalar key → All scalar value → IsSetKeyResult e source key value (edited result)

@@ -1,17 +1,22 @@
 -- What is computed for an editor's result is that result, and the only one.
-use Rattle.std.proofs.Common.{◌≡◌, ℕ, true, false, List, [], ◌∷◌, refl, ap, ap₂, sym, ◌∙◌, inl, inr, subst}
+use Rattle.std.proofs.Common.{◌≡◌, ℕ, ◌+◌, length, true, false, List, [], ◌∷◌, refl, ap, ap₂, sym, ◌∙◌, inl, inr, subst}
 use Rattle.std.proofs.lemmas.Bool.{cases_Bool, cond-true, cond-false}
 use Rattle.properties_format.specs.Encoding.{Encoding, byte_order_mark}
 use Rattle.properties_format.specs.Lines.{end}
 use Rattle.properties_format.specs.Escapes.{Malformed}
-use Rattle.properties_format.specs.Entries.{Content, Entry, item, malformed, read_fault}
-use Rattle.properties_format.specs.Reading.Items.{items_of}
+use Rattle.properties_format.specs.Entries.{Content, Entry, item, malformed, read_fault, AreItems}
+use Rattle.properties_format.specs.Items.{Outcome, ignored, given, broken}
+use Rattle.properties_format.specs.Groups.{joined}
+use Rattle.properties_format.specs.Body.{HeldLine, as_lines}
+use Rattle.properties_format.specs.Reading.Items.{outcome_of, followed, items_of}
+use Rattle.properties_format.specs.Reading.Body.{held_groups_of, entries_in}
 use Rattle.properties_format.specs.Edited.{IsKeySet, IsKeyRemoved, Edit, put, remove, IsEdited, AreEdited}
-use Rattle.properties_format.specs.Edited.{EditResult, edited, unsupported, unreadable, is_editable, HoldsNoMalformed, IsFirstMalformed}
+use Rattle.properties_format.specs.Edited.{EditResult, edited, unsupported, unreadable, is_editable, IsFirstMalformed}
 use Rattle.properties_format.specs.Edited.{IsEditResult, IsSetKeyResult, IsRemoveKeyResult, IsEditAllResult}
 use Rattle.properties_format.specs.Reading.Edited.{key_set, key_removed, edit_made, edits_made, result_by, result_of}
 use Rattle.properties_format.specs.Reading.Edited.{set_key_result, remove_key_result, edit_all_result}
 use Rattle.properties_format.proofs.Items.Unique.{items_of-meets, items_of-only}
+use Rattle.properties_format.proofs.Body.Numbers.{items_of-groups}
 use Rattle.properties_format.proofs.Edited.Made.{key_set-meets, key_set-only, key_removed-meets, key_removed-only}
 
 -- ---- edits in turn
@@ -38,11 +43,38 @@ edits_made-only e source [] result h = h
 edits_made-only e source (edit ∷ edits) result h =
     edits_made-only e h.0 edits result h.2 ∙ ap (λ v. edits_made e v edits) (edit_made-only e source edit h.0 h.1)
 
+-- ---- no read of a source that is held fails
+
+-- no read failed
+abbrev HasNoFault : List Entry → Type 0
+HasNoFault [] = Unit {0}
+HasNoFault (item n content ∷ entries) = HasNoFault entries
+HasNoFault (malformed kind n ∷ entries) = HasNoFault entries
+HasNoFault (read_fault n ∷ entries) = ⊥
+
+-- nor before an outcome
+followed-no_fault : (n : ℕ) (o : Outcome) (entries : List Entry) → HasNoFault entries → HasNoFault (followed n o entries)
+followed-no_fault n ignored entries h = h
+followed-no_fault n (given content) entries h = h
+followed-no_fault n (broken kind) entries h = tt
+
+-- nor among groups
+groups-no_fault : (n : ℕ) (gs : List (List HeldLine)) → HasNoFault (entries_in n gs)
+groups-no_fault n [] = tt
+groups-no_fault n (g ∷ gs) =
+    followed-no_fault n (outcome_of (joined (as_lines g))) (entries_in (n + length g) gs) (groups-no_fault (n + length g) gs)
+
+-- nor in a source
+source-no_fault : (e : Encoding) (source : List ℕ) → HasNoFault (items_of e source end)
+source-no_fault e source =
+    let f = byte_order_mark e source in
+    subst HasNoFault (sym (items_of-groups e source)) (groups-no_fault 1 (held_groups_of f.encoding f.body))
+
 -- ---- results
 
 -- what the items say of a result that is made of these bytes
 abbrev IsBy : List Entry → List ℕ → EditResult → Type 0
-IsBy entries made (edited result) = HoldsNoMalformed entries × (result ≡ made)
+IsBy entries made (edited result) = AreItems entries × (result ≡ made)
 IsBy entries made unsupported = ⊥
 IsBy entries made (unreadable kind n) = IsFirstMalformed kind n entries
 
@@ -52,25 +84,19 @@ by-item n content entries made (edited result) h = h
 by-item n content entries made unsupported h = h
 by-item n content entries made (unreadable kind m) h = h
 
--- nor does a failed read
-by-fault : (n : ℕ) (entries : List Entry) (made : List ℕ) (r : EditResult) → IsBy entries made r → IsBy (read_fault n ∷ entries) made r
-by-fault n entries made (edited result) h = h
-by-fault n entries made unsupported h = h
-by-fault n entries made (unreadable kind m) h = h
-
 -- what is computed is what the items say
-result_by-meets : (entries : List Entry) (made : List ℕ) → IsBy entries made (result_by entries made)
-result_by-meets [] made = (tt, refl)
-result_by-meets (item n content ∷ entries) made = by-item n content entries made (result_by entries made) (result_by-meets entries made)
-result_by-meets (malformed kind n ∷ entries) made = (refl, refl)
-result_by-meets (read_fault n ∷ entries) made = by-fault n entries made (result_by entries made) (result_by-meets entries made)
+result_by-meets : (entries : List Entry) (made : List ℕ) → HasNoFault entries → IsBy entries made (result_by entries made)
+result_by-meets [] made h = (tt, refl)
+result_by-meets (item n content ∷ entries) made h = by-item n content entries made (result_by entries made) (result_by-meets entries made h)
+result_by-meets (malformed kind n ∷ entries) made h = (refl, refl)
+result_by-meets (read_fault n ∷ entries) made h = absurd h
 
 -- where no item is malformed the result is these bytes
-pub result_by-edited : (entries : List Entry) (made : List ℕ) → HoldsNoMalformed entries → result_by entries made ≡ edited made
+pub result_by-edited : (entries : List Entry) (made : List ℕ) → AreItems entries → result_by entries made ≡ edited made
 result_by-edited [] made h = refl
 result_by-edited (item n content ∷ entries) made h = result_by-edited entries made h
 result_by-edited (malformed kind n ∷ entries) made h = absurd h
-result_by-edited (read_fault n ∷ entries) made h = result_by-edited entries made h
+result_by-edited (read_fault n ∷ entries) made h = absurd h
 
 -- and else it is the first malformed one
 result_by-unreadable : (entries : List Entry) (made : List ℕ) (kind : Malformed) (n : ℕ) → IsFirstMalformed kind n entries
@@ -102,7 +128,7 @@ result_of-meets : (e : Encoding) (source made : List ℕ) (Makes : List ℕ → 
 result_of-meets e source made Makes m = elim (cases_Bool (is_editable (byte_order_mark e source).encoding)) [
   | inl ok ↦
       subst (IsEditResult e source Makes) (sym (result-editable e source made ok))
-      (by-result e source made Makes (result_by (items_of e source end) made) ok m (result_by-meets (items_of e source end) made))
+      (by-result e source made Makes (result_by (items_of e source end) made) ok m (result_by-meets (items_of e source end) made (source-no_fault e source)))
   | inr h ↦ subst (IsEditResult e source Makes) (sym (result-unsupported e source made h)) h
 ]
 
@@ -110,7 +136,7 @@ result_of-meets e source made Makes m = elim (cases_Bool (is_editable (byte_orde
 result_of-only : (e : Encoding) (source made : List ℕ) (Makes : List ℕ → Type 0) (r : EditResult) → ((result : List ℕ) → Makes result → result ≡ made)
     → IsEditResult e source Makes r → r ≡ result_of e source made
 result_of-only e source made Makes (edited result) one (ok, items, h) =
-    let f = subst HoldsNoMalformed (items_of-only e source end items.0 items.1) items.2 in
+    let f = subst AreItems (items_of-only e source end items.0 items.1) items.2 in
     ap edited (one result h) ∙ sym (result_by-edited (items_of e source end) made f) ∙ sym (result-editable e source made ok)
 result_of-only e source made Makes unsupported one h = sym (result-unsupported e source made h)
 result_of-only e source made Makes (unreadable kind n) one (ok, items) =

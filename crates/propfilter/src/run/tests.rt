@@ -56,6 +56,15 @@ fn refuses_other_arguments(rt: HostRuntime) -> Result<(), Fail> {
 }
 
 #[test]
+fn says_that_an_argument_is_not_utf_8(rt: HostRuntime) {
+    let mut errors = Counted::new(Vec::new(rt.alloc()));
+    assert_eq!(rt; refuse_bytes(&mut errors), 1);
+    let said = errors.into_inner();
+    let wanted = b"propfilter: an argument is not UTF-8\n".as_slice();
+    assert_eq!(rt; said.as_slice(), wanted);
+}
+
+#[test]
 fn reads_the_encoding_that_is_named(rt: HostRuntime) -> Result<(), Fail> {
     let rows: [(&str, &[u8], &[u8]); 4] = [
         ("windows-1252", b"a=\xe9", b"a=\xe9\n"),

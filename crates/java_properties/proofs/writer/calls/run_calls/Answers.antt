@@ -6,7 +6,7 @@ use Rattle.java_properties.specs.PropertiesWriter.{Writing}
 use Rattle.java_properties.proofs.Calls.Made.{made-more}
 use Rattle.java_properties.proofs.Calls.Lists.{answers-more, stops, calls-cut, calls-take, calls-all}
 use Rattle.java_properties.proofs.ReadBack.Scalars.{calls-scalars}
-use Rattle.java_properties.proofs.ReadBack.Written.{made-read_back, runs-read_back}
+use Rattle.java_properties.proofs.ReadBack.Written.{made-read_back, runs-read_back, made-only}
 use Rattle.java_properties.proofs.AsciiOnly.{made-ascii, runs-ascii}
 use Rattle.java_properties.proofs.writer.calls.run_calls.Goals as goal
 
@@ -33,6 +33,11 @@ pub returns-in_err-accepted-clause-ascii : goal.returns-in_err-accepted-clause-a
 returns-in_err-accepted-clause-ascii g c =
     let s = sink g.W.Write g.W.CountedWrite in
     runs-ascii s c.args.writer.now _ (calls_in c.args.calls.now) _ c.tell_settings_are_good.ensures (calls-scalars c.args.calls.now) (returns-in_err-accepted-clause-runs g c)
+
+pub returns-clause-only : goal.returns-clause-only
+returns-clause-only g c = λ pairs these.
+    let all = calls-all call_in c.args.calls.now c.loop-call.call-index c.loop-call-test.false in
+    made-only {new = c.loop-call.writer} c.tell_settings_are_good.ensures (calls-scalars c.args.calls.now) (rw all at c.loop-call.invariant.made) pairs these
 
 pub returns-clause-ascii : goal.returns-clause-ascii
 returns-clause-ascii g c =
