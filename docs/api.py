@@ -14,7 +14,7 @@ sys.dont_write_bytecode = True
 from wrap import wrapped
 
 TOP = pathlib.Path(__file__).resolve().parent.parent
-CRATES = ["java_properties", "counted_io", "properties_text", "properties_lines", "byte_blocks"]
+CRATES = ["java_properties", "counted_io", "properties_text", "properties_lines", "single_lines", "byte_blocks"]
 ITEM = re.compile(r"^(    )?pub (const fn|fn|struct|enum|trait|const|mod|use)\b")
 
 

@@ -8,7 +8,7 @@ import pathlib
 import re
 
 TOP = pathlib.Path(__file__).resolve().parent.parent
-CRATES = ["byte_blocks", "counted_io", "java_properties", "properties_text"]
+CRATES = ["byte_blocks", "counted_io", "java_properties", "properties_text", "single_lines"]
 
 HEAD = """// Examples of doc comments, each as a test.
 #![tactic(auto)]
@@ -20,11 +20,11 @@ use java_properties::{
     Call, ContentRef, Document, Edit, Encoding, LineContent, LineEnding, PropertiesError, PropertiesIter, PropertiesWriter,
     edit_all, laws, read, read_lines, read_sorted, remove_key, run_calls, set_key, write, write_sorted,
 };
-use properties_text::single_lines::decode::decode_line;
 use properties_text::encoding::{OutputEncoding, TextBuffer};
 use properties_text::escape::unescape;
-use properties_text::single_lines::parse::{ParsedLine, parse_line};
 use properties_text::print::{LineBuffer, Place, Repertoire, print_text};
+use single_lines::decode::decode_line;
+use single_lines::parse::{ParsedLine, parse_line};
 use std::collections::{BTreeMap, HashMap};
 use std::io::{self, ErrorKind, Write};
 use std::test::Fail;

@@ -3,5 +3,3 @@ pub mod LineFinder
 pub mod PlainLines
 pub mod LineSearch
 pub mod LineJoiner
-pub mod Joining
-pub mod JoinedRuns

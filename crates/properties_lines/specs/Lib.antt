@@ -5,5 +5,3 @@ pub mod LineFinder
 pub mod LineTexts
 pub mod LineErrors
 pub mod LineJoiner
-pub mod NaturalLines
-pub mod Joining

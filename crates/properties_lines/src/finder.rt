@@ -1,4 +1,4 @@
-// Natural lines among undecoded bytes.
+//! Natural lines among undecoded bytes.
 
 ghost use Rattle.std.specs.Prelude.{◌≡◌, ◌≤◌, ◌<◌, false, true, [], take, drop, length, Some, Err, IfSome, OnSome};
 ghost use Rattle.counted_io.specs.Streams.{IsSameReader};
@@ -101,9 +101,9 @@ impl LineFinder {
         self.is_done = true;
     }
 
-    /// Counts on from so many line ends, so that a test comes to the last number.
+    // Counts on from so many line ends, so that a test comes to the last number.
     #[cfg(test)]
-    pub fn count_from(&mut self, passed: usize)
+    fn count_from(&mut self, passed: usize)
         ensures { self.new ≡ record self.old { state = record self.old.state { passed = passed } } }
     {
         self.passed = passed;
@@ -111,7 +111,7 @@ impl LineFinder {
 
     /// The next line, where it is held with its end. Nothing is read, and `None` says nothing of what comes.
     #[inline(always)]
-    pub fn peek(&self) -> Option<HeldLine>
+    pub(crate) fn peek(&self) -> Option<HeldLine>
         ensures { IfSome result (IsHeldLine self.now.state) }
     {
         let start = self.peek_start()?;
@@ -122,7 +122,7 @@ impl LineFinder {
     /// Where the next line starts among the bytes that are held, if it may be held whole. `None` says nothing of what
     /// comes.
     #[inline]
-    pub fn peek_start(&self) -> Option<usize>
+    pub(crate) fn peek_start(&self) -> Option<usize>
         ensures { IfSome result (IsLineStart self.now.state) }
     {
         if self.is_done || !self.is_decided || self.passed == usize::MAX {
@@ -154,7 +154,7 @@ impl LineFinder {
 
     /// The bytes that are held from such a place on.
     #[inline]
-    pub fn held_from(&self, start: usize) -> &[u8]
+    pub(crate) fn held_from(&self, start: usize) -> &[u8]
         requires { start ≤ length self.now.state.held }
         ensures { result.now ≡ drop start self.now.state.held }
     {
@@ -163,7 +163,7 @@ impl LineFinder {
 
     /// The bytes of a line that is held.
     #[inline]
-    pub fn peeked(&self, line: HeldLine) -> &[u8]
+    pub(crate) fn peeked(&self, line: HeldLine) -> &[u8]
         requires { IsHeldLine self.now.state line }
         ensures { result.now ≡ take line.end.at (drop line.start self.now.state.held) }
     {
@@ -172,7 +172,7 @@ impl LineFinder {
 
     /// Finds the line that is held, and returns its number.
     #[inline]
-    pub fn take_line(&mut self, line: HeldLine) -> usize
+    pub(crate) fn take_line(&mut self, line: HeldLine) -> usize
         requires { IsHeldLine self.old.state line }
         ensures takes { TakesHeld self.old.state result self.new }
         ensures line { self.new.line ≡ take line.end.at (drop line.start self.old.state.held) }
@@ -282,3 +282,6 @@ fn failed<T, E>(error: E) -> Option<Result<T, E>>
 {
     Some(Err(error))
 }
+
+#[cfg(test)]
+mod tests;

@@ -4,17 +4,13 @@
 //! open, and decodes a line only where its bytes aren't its text. What it says of a single line stands apart, for whoever
 //! holds all bytes: [`find_line_end`](search::find_line_end), [`is_open`](join::is_open), and what is kept and added of a
 //! line's text ([`texts`]). Why no line comes is a [`LineError`](error::LineError).
-//!
-//! Natural lines and logical lines that are handed out one after another, each as a text of its own, are in
-//! [`single_lines`]. The reader doesn't use them.
 #![tactic(auto)]
 
 pub mod error;
-mod finder;
+pub mod finder;
 mod input;
 pub mod join;
 pub mod joiner;
 mod plain;
 pub mod search;
-pub mod single_lines;
 pub mod texts;

@@ -1,6 +1,6 @@
 -- Fronts of bytes that are text as they stand.
 use Rattle.std.proofs.Common.{◌≡◌, ◌↔◌, ◌<◌, ◌≤◌, arith, length-append, ℕ, true, List, [], ◌∷◌, ◌++◌, length, take, drop, ◌-◌, length-drop, refl, sym, ap, ◌∙◌, append-nil, append_assoc}
-use Rattle.std.specs.Prelude.{Result, Ok, Err, MatchResult, OnOk, OnErr, is_ok, IsSome, if◌then◌else◌}
+use Rattle.std.specs.Prelude.{Result, Ok, Err, MatchResult, OnErr, IsSome}
 use Rattle.std.specs.Result.{result_ok}
 use Rattle.std.specs.Str.{IsUtf8, chars}
 use Rattle.std.proofs.Math.Utf8.{scalar as is_scalar}
@@ -54,17 +54,6 @@ pub text-kept : (old more now rest : List ℕ) (new : List ℕ) → new ≡ now 
 text-kept old more now rest new same joins longer =
     record { others = rest; begins = ap (λ v. chars v ++ rest) same ∙ joins; longer = rw same longer }
 
--- a front was pushed, which is what is left without this
-pub front-joined : (text front after left all now : List ℕ) → now ≡ text ++ front → left ≡ front ++ after → text ++ left ≡ all → now ++ after ≡ all
-front-joined text front after left all now is split joins =
-    ap (λ v. v ++ after) is ∙ append_assoc text front after ∙ ap (λ v. text ++ v) (sym split) ∙ joins
-
--- A text that is pushed.
-pub pushed-text : {E : Type 0} (r : Result Unit E) (old new more : List ℕ)
-    → IsUtf8 old → new ≡ (if is_ok r then old ++ more else old) → OnOk r (chars new ≡ chars old ++ chars more)
-pushed-text (Ok done) old new more u e = ap chars e ∙ chars-append old more u
-pushed-text (Err error) old new more u e = tt
-
 -- ---- The steps of decoding: what was decoded, `text`, and the characters of the `rest` make `all`.
 
 module _ (e : Encoding) (text front rest after all : List ℕ) (joins : text ++ characters (pieces_of e rest) ≡ all)
@@ -74,16 +63,6 @@ module _ (e : Encoding) (text front rest after all : List ℕ) (joins : text ++ 
   decoded-all h =
       sym (append-nil (text ++ front))
       ∙ ap (λ v. (text ++ front) ++ v) (sym (ap (λ v. characters (pieces_of e v)) (nil_from_length after h) ∙ ap characters (pieces_of-nil e)))
-      ∙ append_assoc text front (characters (pieces_of e after))
-      ∙ ap (λ v. text ++ v) (sym split)
-      ∙ joins
-
-  -- the front is taken, and a run of what is after it
-  pub decoded-run : (more last : List ℕ) → more ++ characters (pieces_of e last) ≡ characters (pieces_of e after)
-      → ((text ++ front) ++ more) ++ characters (pieces_of e last) ≡ all
-  decoded-run more last h =
-      append_assoc (text ++ front) more (characters (pieces_of e last))
-      ∙ ap (λ v. (text ++ front) ++ v) h
       ∙ append_assoc text front (characters (pieces_of e after))
       ∙ ap (λ v. text ++ v) (sym split)
       ∙ joins

@@ -3,8 +3,6 @@ use Rattle.std.specs.Prelude.{◌≡◌, ℕ, ◌≤◌, ◌<◌, ◌+◌, ◌*�
 use Rattle.std.specs.List.{AllByRecursion}
 use Rattle.std.specs.Char.{IsScalar, encode_utf8}
 use Rattle.std.specs.Str.{IsAscii, IsUtf8, all_scalars, chars}
-use Rattle.std.specs.declared.borrow.CowStr.{CowStr}
-use Rattle.std.specs.declared.borrow.CowStr.TheVariants.{Borrowed, Owned}
 use Rattle.properties_format.specs.Encoding as format
 use Rattle.properties_format.specs.Pieces.{Piece, characters}
 use Rattle.properties_format.specs.Utf8.{Range, from_to, IsWellFormedText}
@@ -154,11 +152,6 @@ IsText format.windows_1252 d = IsAscii d
 IsText format.utf_8 d = IsWellFormedText d
 IsText format.utf_16le d = ⊥
 IsText format.utf_16be d = ⊥
-
--- the text is lent, and not one of its own
-abbrev pub IsBorrowed : {Z : Type 0} → CowStr Z → Type 0
-IsBorrowed (Borrowed text) = Unit {0}
-IsBorrowed (Owned text) = ⊥
 
 -- Where memory ran out: the text, in UTF-8, is a beginning of what it was to become, and no shorter than it was.
 pub record KeepsText (old more new : List ℕ) : Type 0 where

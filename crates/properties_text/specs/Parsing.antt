@@ -4,8 +4,6 @@ use Rattle.std.specs.Str.{chars, IsCharBoundary}
 use Rattle.properties_format.specs.Text.{backslash, is_blank}
 use Rattle.properties_format.specs.Reading.Split.{ends_key}
 use Rattle.properties_format.specs.Split.{Logical, blank, comment, pair, IsComment, IsPair}
-use Rattle.properties_text.specs.declared.single_lines.parse.ParsedLine.{ParsedLine}
-use Rattle.properties_text.specs.declared.single_lines.parse.ParsedLine.TheVariants as line
 use Rattle.properties_text.specs.declared.parse.ParsedSpans.{ParsedSpans}
 use Rattle.properties_text.specs.declared.parse.ParsedSpans.TheVariants as spans
 use Rattle.properties_text.specs.declared.parse.Span.{Span}
@@ -17,12 +15,6 @@ stays_in_key c = not (c == backslash || ends_key c)
 -- whether a character is no blank
 abbrev pub is_no_blank : ℕ → Bool
 is_no_blank c = not (is_blank c)
-
--- what a line is, in bytes
-abbrev pub parsed : Option ParsedLine → Logical
-parsed None = blank
-parsed (Some (line.Comment text)) = comment text.now
-parsed (Some (line.KVPair key value)) = pair key.now value.now
 
 -- the bytes of a span of a line
 abbrev pub bytes_in : List ℕ → Span → List ℕ

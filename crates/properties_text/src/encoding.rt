@@ -6,15 +6,15 @@ ghost use Rattle.properties_text.specs.Encoding.{encoding_of};
 
 mod ascii;
 pub mod byte_order_mark;
-pub(crate) mod decode;
+mod decode;
 mod encode;
-pub(crate) mod first_piece;
+pub mod first_piece;
 mod latin_1;
 mod narrow;
 mod text_buffer;
 mod unit_blocks;
 mod utf_16;
-pub(crate) mod utf_8;
+mod utf_8;
 mod windows_1252;
 
 pub(crate) use ascii::is_ascii;

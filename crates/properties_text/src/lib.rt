@@ -5,8 +5,6 @@
 //! [`parse_spans`](parse::parse_spans), escapes are resolved by [`unescape`](escape::unescape), and texts are printed by
 //! [`print_text`](print::print_text) to a [`LineBuffer`](print::LineBuffer). The
 //! [byte order mark](encoding::byte_order_mark) is of a whole input.
-//!
-//! A line that is decoded or cut by itself, and the characters of a reader, are in [`single_lines`].
 #![tactic(auto)]
 
 pub mod characters;
@@ -15,4 +13,3 @@ pub mod escape;
 mod line_buffer;
 pub mod parse;
 pub mod print;
-pub mod single_lines;

@@ -6,7 +6,7 @@ ghost use Rattle.std.specs.Str.{chars};
 ghost use Rattle.properties_format.specs.Text.{is_blank, without_leading_blanks};
 ghost use Rattle.properties_format.specs.Split.{IsSplit};
 ghost use Rattle.properties_format.specs.Reading.Split.{without_trailing_blanks, trimmed, ends_key, cut_key, past_separator};
-ghost use Rattle.properties_text.specs.Parsing.{stays_in_key, parsed, bytes_in, spanned, in_characters, IsSpan, AreSpans, AreInPlace};
+ghost use Rattle.properties_text.specs.Parsing.{stays_in_key, bytes_in, spanned, in_characters, IsSpan, AreSpans, AreInPlace};
 
 use crate::characters::{is_blank, is_comment_sign, is_separator};
 use byte_blocks::{Blanks, Controls, Either, Except, Specials, find_in_block};

@@ -102,13 +102,3 @@ cut_open bs u h =
       boundary = IsCharBoundary-from_take bs (length bs - 1) u (omega arith) (subst IsUtf8 (sym front) part.utf8);
       rest = ap chars front ∙ part.same;
     }
-
--- what is left where the last character of an open text was taken off
-pub popped : (bs rest : List ℕ) (n : ℕ) → IsUtf8 bs → is_open (chars bs) ≡ true → n ≡ length bs
-    → (0 < n → get_or bs (n - 1) 0 < 128 → rest ≡ take (n - 1) bs) → chars rest ≡ without_open_backslash (chars bs)
-popped bs rest n u h e taken =
-    let cut = cut_open bs u h in
-    let same : n - 1 ≡ length bs - 1 = ap (λ m. m - 1) e in
-    let some : 0 < n = omega (arith, cut.some) in
-    let ascii : get_or bs (n - 1) 0 < 128 = subst (λ m. get_or bs m 0 < 128) (sym same) (subst (λ c. c < 128) (sym cut.last) (omega arith)) in
-    ap chars (taken some ascii ∙ ap (λ m. take m bs) same) ∙ cut.rest

@@ -1,4 +1,4 @@
-// The first piece of some bytes: those that stand for one character.
+//! The first piece of some bytes: those that stand for one character.
 
 ghost use Rattle.std.specs.Prelude.{◌≡◌, ◌<◌, ◌≤◌, ◌+◌, length, false};
 ghost use Rattle.properties_format.specs.Text.{replacement, scalar};
@@ -21,8 +21,8 @@ pub struct FirstPiece {
 }
 
 impl FirstPiece {
-    /// So many bytes that stand for this character.
-    pub fn whole(code: u32, length: usize) -> FirstPiece
+    // So many bytes that stand for this character.
+    pub(super) fn whole(code: u32, length: usize) -> FirstPiece
         requires { scalar code }
         ensures { result ≡ record { character = code; length = length; may_change = false } }
     {
@@ -33,8 +33,8 @@ impl FirstPiece {
         }
     }
 
-    /// So many bytes that stand for no character of their own.
-    pub fn broken(length: usize, may_change: bool) -> FirstPiece
+    // So many bytes that stand for no character of their own.
+    pub(super) fn broken(length: usize, may_change: bool) -> FirstPiece
         ensures { result ≡
             record { character = replacement; length = length; may_change = may_change } }
     {

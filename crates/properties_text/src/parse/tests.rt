@@ -1,74 +1,28 @@
-// The slices of a line, with their escapes as they stand.
+// Where the parts of a line stand.
 
 use super::*;
-use crate::single_lines::parse::{ParsedLine, parse_line};
-use std::alloc::{AllocError, Global};
-use std::test::Fail;
-
-fn shown(alloc: Global, line: &str) -> Result<String, AllocError> {
-    match parse_line(line) {
-        None => String::from_str(alloc, "none"),
-        Some(ParsedLine::Comment(text)) => format!(in alloc; "comment {text:?}"),
-        Some(ParsedLine::KVPair(key, value)) => format!(in alloc; "pair {key:?} {value:?}"),
-    }
-}
 
 #[test]
-fn cuts_lines_into_slices(rt: HostRuntime) -> Result<(), Fail> {
-    let rows = [
-        ("", "none"),
-        (" ", "none"),
-        ("\\", r#"pair "\\" """#),
-        ("a=\\", r#"pair "a" "\\""#),
-        ("a", r#"pair "a" """#),
-        ("x=", r#"pair "x" """#),
-        ("# foo", r#"comment "foo""#),
-        (" # foo", r#"comment "foo""#),
-        ("#", r#"comment """#),
-        ("\t!\x0c foo\t \x0c", r#"comment "foo""#),
-        ("# \u{e9} \u{e9} ", "comment \"\u{e9} \u{e9}\""),
-        ("a = b", r#"pair "a" "b""#),
-        (
-            "a.key.of.many.letters=b",
-            r#"pair "a.key.of.many.letters" "b""#,
-        ),
-        (
-            r"a.key.of\ many\=letters:b",
-            r#"pair "a.key.of\\ many\\=letters" "b""#,
-        ),
-        (
-            "a.key.of.many.letters\tb",
-            r#"pair "a.key.of.many.letters" "b""#,
-        ),
-        (
-            "a.key!of#many.letters b",
-            r#"pair "a.key!of#many.letters" "b""#,
-        ),
-        ("a : b", r#"pair "a" "b""#),
-        ("a b", r#"pair "a" "b""#),
-        (" a : b", r#"pair "a" "b""#),
-        (" a b", r#"pair "a" "b""#),
-        (" a = b ", r#"pair "a" "b ""#),
-        ("a:=b", r#"pair "a" "=b""#),
-        ("a=:b", r#"pair "a" ":b""#),
-        ("a b:c", r#"pair "a" "b:c""#),
-        ("a # foo", r##"pair "a" "# foo""##),
-        (r"a\ \:\=b=c", r#"pair "a\\ \\:\\=b" "c""#),
-        (r"a\ \:\=b c", r#"pair "a\\ \\:\\=b" "c""#),
-        (r"a\\ \\:\\=b c", r#"pair "a\\\\" "\\\\:\\\\=b c""#),
-        (r"\  b", r#"pair "\\ " "b""#),
-        ("=", r#"pair "" """#),
-        ("=x", r#"pair "" "x""#),
-        (r"\=x", r#"pair "\\=x" """#),
-        (r"\ ", r#"pair "\\ " """#),
-        ("\u{a0}a\r\nb", "pair \"\\u{a0}a\\r\\nb\" \"\""),
-        ("\u{1f41e}=\u{1f41e}", "pair \"\u{1f41e}\" \"\u{1f41e}\""),
-    ];
-    for (line, wanted) in rows {
-        let found = shown(rt.alloc(), line)?;
-        assert_eq!(rt; found.as_str(), wanted);
+fn finds_the_parts_of_a_line(rt: HostRuntime) {
+    assert!(rt; parse_spans(" ").is_none());
+    let comment = parse_spans("\t! foo ");
+    assert!(rt;
+        matches!(
+            comment,
+            Some(ParsedSpans::Comment(Span { start: 3, end: 6 }))
+        )
+    );
+    let pair = parse_spans(" a = b ");
+    assert!(rt;
+        matches!(
+            pair,
+            Some(ParsedSpans::KVPair(Span { start: 1, end: 2 }, Span { start: 5, end: 7 }))
+        )
+    );
+    if let Some(ParsedSpans::KVPair(key, value)) = pair {
+        assert_eq!(rt; key.cut(" a = b "), "a");
+        assert_eq!(rt; value.cut(" a = b "), "b ");
     }
-    Ok(())
 }
 
 #[test]

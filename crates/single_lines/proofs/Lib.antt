@@ -1,0 +1,4 @@
+pub mod ReadAhead
+pub mod DecodeIter
+pub mod Joining
+pub mod JoinedRuns

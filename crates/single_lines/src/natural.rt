@@ -1,0 +1,85 @@
+//! Natural lines: those that a line end ends, and the last one.
+
+ghost use Rattle.std.specs.Prelude.{◌≡◌, IfOk, string_bytes};
+ghost use Rattle.std.specs.Str.{chars};
+ghost use Rattle.properties_lines.specs.LineJoiner.{line_text};
+ghost use Rattle.std.specs.Iterator.{at_most};
+ghost use Rattle.properties_format.specs.ItemsToCome.{start};
+ghost use Rattle.properties_text.specs.Encoding.{encoding_of};
+ghost use Rattle.properties_lines.specs.LineFinder.{lines_left};
+ghost use Rattle.single_lines.specs.NaturalLines.{NaturalReading, NextLineGives};
+
+use crate::decode::decode_line;
+use counted_io::CountedRead;
+use properties_lines::error::LineError;
+use properties_lines::finder::LineFinder;
+use properties_text::encoding::Encoding;
+use std::alloc::{AllocError, Global};
+use std::borrow::CowStr;
+use std::marker::Model;
+
+/// A line with its number, which counts from 1, and without its line end.
+#[derive(Drop)]
+pub struct NaturalLine(pub usize, pub String);
+
+/// The natural lines of a reader, decoded. Tests alone call it.
+#[derive(Drop)]
+pub struct NaturalLines<R> {
+    reader: R,
+    finder: LineFinder,
+    alloc: Global,
+}
+
+impl<R> Model for NaturalLines<R> {
+    ghost Value = { NaturalReading R };
+
+    ghost view = { λ it. record { reader = it.reader; state = it.finder.state } };
+}
+
+impl<R: CountedRead> NaturalLines<R> {
+    /// At the start of a reader, of which nothing is read yet.
+    pub fn new(alloc: Global, reader: R, encoding: Encoding) -> NaturalLines<R>
+        ensures { result ≡ record { reader = reader; state = start (encoding_of encoding) } }
+    {
+        NaturalLines {
+            reader,
+            finder: LineFinder::new(alloc, encoding),
+            alloc,
+        }
+    }
+}
+
+impl<R: CountedRead> Iterator for NaturalLines<R> {
+    type Item = Result<NaturalLine, LineError>;
+
+    ghost next_gives = { λ old answer new. NextLineGives R.CountedRead old answer new };
+
+    ghost remaining = { λ it. at_most (lines_left it.state) };
+
+    fn next(&mut self) -> Option<Result<NaturalLine, LineError>> {
+        let number = match self.finder.find_line(&mut self.reader)? {
+            Ok(number) => number,
+            Err(error) => return Some(Err(error)),
+        };
+        match line_text(self.alloc, &self.finder) {
+            Ok(text) => Some(Ok(NaturalLine(number, text))),
+            Err(error) => {
+                self.finder.end();
+                Some(Err(LineError::from(error)))
+            }
+        }
+    }
+}
+
+// The text of the line that was found.
+fn line_text(alloc: Global, finder: &LineFinder) -> Result<String, AllocError>
+    ensures { IfOk result (λ text. chars (string_bytes text) ≡ line_text finder.now) }
+{
+    match decode_line(alloc, finder.encoding(), finder.line())? {
+        CowStr::Borrowed(text) => String::from_str(alloc, text),
+        CowStr::Owned(text) => Ok(text),
+    }
+}
+
+#[cfg(test)]
+mod tests;
