@@ -59,6 +59,22 @@ fn pairs_are_cut_by_a_fault(rt: HostRuntime) -> Result<(), Fail> {
     Ok(())
 }
 
+#[test]
+fn what_begins_like_a_mark_reads_back(rt: HostRuntime) -> Result<(), Fail> {
+    let rows: [(Encoding, &[u8], &[u8]); 3] = [
+        (Encoding::UTF_8, b" \xef\xbb\xbf=x", b"\\ufeff=x\n"),
+        (Encoding::UTF_16LE, b"\xff\xfea\0=\0\xe9\0", b"a=\xc3\xa9\n"),
+        (Encoding::UTF_8, b"a=\xc3\xa9\n", b"a=\xc3\xa9\n"),
+    ];
+    for (encoding, input, wanted) in rows {
+        let mut input = input;
+        let mut output = Counted::new(Vec::new(rt.alloc()));
+        filter(rt.alloc(), &mut input, &mut output, encoding)?;
+        assert_eq!(rt; output.into_inner().as_slice(), wanted);
+    }
+    Ok(())
+}
+
 // What a sink that fails at this write holds of the lines, and the number of the line that it fails in. It takes so
 // many bytes at a write.
 fn taken_before(

@@ -19,11 +19,12 @@ fn filtered(
 
 #[test]
 fn prints_the_pairs(rt: HostRuntime) {
-    let rows: [(&[u8], &[u8]); 5] = [
+    let rows: [(&[u8], &[u8]); 6] = [
         (b"b = 2\na", b"b=2\na=\n"),
         (b"# x\nb = 2\na", b"b=2\na=\n"),
         (b" a = b ", b"a=b\\ \n"),
         (b"a=1\r\n!c\nb:2", b"a=1\nb=2\n"),
+        (b"\xef\xbb\xbfk=\xe3\x81\x82", b"k=\\u3042\n"),
         (b"", b""),
     ];
     for (input, wanted) in rows {
@@ -46,12 +47,18 @@ fn filters_its_output_to_the_same_bytes(rt: HostRuntime) {
 
 #[test]
 fn refuses_other_arguments(rt: HostRuntime) -> Result<(), Fail> {
-    let arguments = vec![in rt.alloc(); String::from_str(rt.alloc(), "x")?]?;
-    let (status, output, errors) = filtered(rt.alloc(), arguments.as_slice(), b"a=1".as_slice());
-    assert_eq!(rt; status, 2);
-    assert_eq!(rt; output.as_slice(), b"".as_slice());
     let usage = b"usage: propfilter [windows-1252|utf-8|utf-16le|utf-16be [ascii]]\n".as_slice();
-    assert_eq!(rt; errors.as_slice(), usage);
+    for word in ["x", "UTF-8"] {
+        let arguments = vec![in rt.alloc(); String::from_str(rt.alloc(), word)?]?;
+        let (status, output, errors) = filtered(
+            rt.alloc(),
+            arguments.as_slice(),
+            b"a=1".as_slice(),
+        );
+        assert_eq!(rt; status, 2);
+        assert_eq!(rt; output.as_slice(), b"".as_slice());
+        assert_eq!(rt; errors.as_slice(), usage);
+    }
     Ok(())
 }
 
@@ -66,8 +73,14 @@ fn says_that_an_argument_is_not_utf_8(rt: HostRuntime) {
 
 #[test]
 fn reads_the_encoding_that_is_named(rt: HostRuntime) -> Result<(), Fail> {
-    let rows: [(&str, &[u8], &[u8]); 4] = [
+    let rows: [(&str, &[u8], &[u8]); 6] = [
         ("windows-1252", b"a=\xe9", b"a=\xe9\n"),
+        ("utf-8", b"k=\xe3\x81\nx=y", b"k=\xef\xbf\xbd\nx=y\n"),
+        (
+            "utf-16be",
+            b"\0a\0=\xd8\x3d\xdc\x1e",
+            b"a=\xf0\x9f\x90\x9e\n",
+        ),
         ("utf-8", b"a=\xc3\xa9", b"a=\xc3\xa9\n"),
         ("utf-16le", b"a\0=\0\xe9\0", b"a=\xc3\xa9\n"),
         ("utf-16be", b"\0a\0=\0\xe9", b"a=\xc3\xa9\n"),
