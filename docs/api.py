@@ -36,19 +36,21 @@ def uses(path, source):
 
 
 def exported(crate):
-    """The names that the root of the crate and its public modules hand on, each with its file, and the files of these modules."""
+    """The module from which a caller has each name that the root of the crate and its public modules hand on, by the
+    name and its file, and the module of each of their files. The root is the empty text."""
     source = TOP / "crates" / crate / "src"
-    names, pages, left = set(), set(), [source / "lib.rt"]
+    names, pages, left = {}, {}, [(source / "lib.rt", "")]
     while left:
-        path = left.pop()
-        pages.add(path)
+        path, module = left.pop(0)
+        pages[path] = module
         for name, of in uses(path, source):
             # A module may hand on what it has from another.
             while of and of.exists():
-                names.add((name, of))
+                names.setdefault((name, of), module)
                 of = dict(uses(of, source)).get(name)
         folder = source if path.stem == "lib" else path.with_suffix("")
-        left += [folder / (module + ".rt") for module in re.findall(r"^pub mod (\w+);", path.read_text(), re.M)]
+        for inner in re.findall(r"^pub mod (\w+);", path.read_text(), re.M):
+            left.append((folder / (inner + ".rt"), f"{module}::{inner}".removeprefix("::")))
     return names, pages
 
 
@@ -115,7 +117,7 @@ def fields(lines, at):
 
 
 def entries(crate):
-    """(name, lines) of each public item; functions of a type stand under it."""
+    """(name, lines) of each public item, with its module where that isn't the root; functions of a type stand under it."""
     names, pages = exported(crate)
     items, methods, implements = {}, {}, {}
     for path in files(crate):
@@ -145,7 +147,8 @@ def entries(crate):
                     methods.setdefault(inside, []).append("    " + signature(lines, at) + ";")
             elif (name, path) in names or path in pages:
                 text = [signature(lines, at)] if public[2].endswith("fn") else fields(lines, at)
-                items[name] = text
+                module = names.get((name, path), pages.get(path))
+                items[name] = [f"// in module {module}"] + text if module else text
     return items, methods, implements
 
 
@@ -154,7 +157,8 @@ def page():
         "# Public names",
         "",
         "`docs/api.py` makes this page from the sources, and `docs/api.py --check` compares it with them. What a type implements stands",
-        "in a comment after it. Contracts are left out: they stand at the functions, and docs/PROMISES.md explains them.",
+        "in a comment after it, and the module of a name that isn't at its crate's root in a comment before it. Contracts are left out:",
+        "they stand at the functions, and docs/PROMISES.md explains them.",
     ]
     for crate in CRATES:
         items, methods, implements = entries(crate)
