@@ -1,7 +1,7 @@
 #!/bin/sh
 # Runs the tests of refused memory with each growth refused in turn, and names those that fail.
 #
-#     crates/properties_vectors/fail-alloc.sh [FIRST [LAST]]
+#     crates/properties_tests/fail-alloc.sh [FIRST [LAST]]
 #
 # `rt try --fail-alloc N` refuses the Nth allocation of each test, and proves nothing. The tests whose names hold
 # `refused::`, `refused_memory` or `without_memory` hold all the same. Those of other names fail where their own data is
@@ -11,7 +11,7 @@ last=${2:-32}
 crates=$(cd "$(dirname "$0")/.." && pwd)
 status=0
 for number in $(seq "$first" "$last"); do
-    for crate in properties_vectors editing_vectors propfilter propedit; do
+    for crate in properties_tests propfilter propedit; do
         told=$(cd "$crates/$crate" && rt try --test --fail-alloc "$number" 2>&1)
         looked_at=$(echo "$told" | grep -cE '^test .*(refused::|refused_memory|without_memory).* \.\.\. ')
         failed=$(echo "$told" | grep -E '^test .*(refused::|refused_memory|without_memory).* \.\.\. FAILED')

@@ -3,7 +3,7 @@
 // Each test holds with memory to spare, and where any one growth is refused: `fail-alloc.sh` refuses each in turn.
 // What a test takes for its own use may be refused as well, and then it says nothing.
 
-use crate::support::{Change, change_document, changed, edits_of, is_error, is_refusal};
+use super::support::{Change, change_document, changed, edits_of, is_error, is_refusal};
 use java_properties::{Document, Edit, Encoding, ErrorKind, PropertiesError, edit_all};
 use std::alloc::{AllocError, Global};
 use std::process::Abort;

@@ -7,6 +7,8 @@
 #[cfg(test)]
 mod ascii;
 #[cfg(test)]
+mod editing;
+#[cfg(test)]
 mod laws;
 #[cfg(test)]
 mod maps;

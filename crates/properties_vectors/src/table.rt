@@ -1,0 +1,151 @@
+// The lines of a table: headings, which say what the rows below them are of, and rows.
+
+use crate::editing::check_edit;
+use crate::notation::{Clause, Halt, clauses};
+use crate::outcome::Outcome;
+use crate::reading::check_reading;
+use crate::writing::check_writing;
+use java_properties::Encoding;
+use std::alloc::{AllocError, Global};
+
+/// How many rows were run, each counted in each encoding, and what doesn't hold or isn't understood.
+#[derive(Drop)]
+pub struct Report {
+    pub rows: u64,
+    pub failures: String,
+}
+
+// What the rows are of.
+#[derive(Clone, Copy)]
+enum Kind {
+    Read,
+    Write,
+    Edit,
+}
+
+// What a heading says of the rows below it.
+#[derive(Drop)]
+struct Heading {
+    kind: Kind,
+    encodings: Vec<Encoding>,
+}
+
+/// Runs each row of a table.
+pub fn check_table(alloc: Global, table: &str) -> Result<Report, AllocError> {
+    let mut report = Report {
+        rows: 0,
+        failures: String::new(alloc),
+    };
+    let mut heading = None;
+    for (number, line) in (1u64..).zip(table.lines()) {
+        let line = line.trim();
+        if line.is_empty() || line.starts_with('#') {
+            continue;
+        }
+        let failure = match line.split_once('|') {
+            None => {
+                heading = heading_of(alloc, line)?;
+                if heading.is_some() {
+                    None
+                } else {
+                    Some(String::from_str(alloc, "this heading is not understood")?)
+                }
+            }
+            Some((left, right)) => match &heading {
+                Some(heading) => check_row(alloc, heading, left, right.trim(), &mut report.rows)?,
+                None => Some(String::from_str(alloc, "no heading is above this row")?),
+            },
+        };
+        if let Some(text) = failure {
+            let text = format!(in alloc; "line {number}: {line}\n    {text}\n")?;
+            report.failures.push_str(text.as_str())?;
+        }
+    }
+    if report.rows == 0 {
+        report.failures.push_str("no row was run\n")?;
+    }
+    Ok(report)
+}
+
+// A kind and the encodings after it, of which there is one at least.
+fn heading_of(alloc: Global, line: &str) -> Result<Option<Heading>, AllocError> {
+    let Some((first, rest)) = line.split_once(' ') else {
+        return Ok(None);
+    };
+    let Some(kind) = kind_of(first) else {
+        return Ok(None);
+    };
+    let mut encodings = Vec::new(alloc);
+    for word in rest.split_whitespace() {
+        match encoding_of(word) {
+            Some(encoding) => encodings.push(encoding)?,
+            None => return Ok(None),
+        }
+    }
+    if encodings.is_empty() {
+        return Ok(None);
+    }
+    Ok(Some(Heading { kind, encodings }))
+}
+
+fn kind_of(word: &str) -> Option<Kind> {
+    match word {
+        "read" => Some(Kind::Read),
+        "write" => Some(Kind::Write),
+        "edit" => Some(Kind::Edit),
+        _ => None,
+    }
+}
+
+fn encoding_of(word: &str) -> Option<Encoding> {
+    match word {
+        "windows-1252" => Some(Encoding::WINDOWS_1252),
+        "utf-8" => Some(Encoding::UTF_8),
+        "utf-16le" => Some(Encoding::UTF_16LE),
+        "utf-16be" => Some(Encoding::UTF_16BE),
+        _ => None,
+    }
+}
+
+// Runs a row in each encoding, and returns what came in place of the right side the first time that something did.
+fn check_row(
+    alloc: Global,
+    heading: &Heading,
+    left: &str,
+    right: &str,
+    rows: &mut u64,
+) -> Result<Option<String>, AllocError> {
+    for encoding in heading.encodings.as_slice() {
+        *rows = rows.saturating_add(1);
+        match outcome_of(alloc, heading.kind, *encoding, left, right) {
+            Ok(outcome) => {
+                if let Some(text) = outcome.failure() {
+                    return Ok(Some(format!(in alloc; "{encoding:?}, {text}")?));
+                }
+            }
+            Err(Halt::Memory) => return Err(AllocError),
+            Err(Halt::Unreadable) => {
+                return Ok(Some(String::from_str(alloc, "this row is not understood")?));
+            }
+        }
+    }
+    Ok(None)
+}
+
+fn outcome_of(
+    alloc: Global,
+    kind: Kind,
+    encoding: Encoding,
+    left: &str,
+    right: &str,
+) -> Result<Outcome, Halt> {
+    let clauses: Vec<Clause> = clauses(alloc, left)?;
+    let clauses = clauses.as_slice();
+    let mut outcome = Outcome::new(alloc, right)?;
+    match kind {
+        Kind::Read => check_reading(alloc, encoding, clauses, &mut outcome)?,
+        Kind::Write => check_writing(alloc, encoding, clauses, &mut outcome)?,
+        Kind::Edit => check_edit(alloc, encoding, clauses, &mut outcome)?,
+    }
+    Ok(outcome)
+}
