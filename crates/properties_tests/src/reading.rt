@@ -1,12 +1,6 @@
-// What is read.
+// What is read, where no row of a table can say it.
 
 mod before_fault;
-mod displays;
-mod encodings;
-mod escapes;
-mod faults;
+mod lazy;
 mod lent;
-mod lines;
-mod printed;
 pub mod support;
-mod values;

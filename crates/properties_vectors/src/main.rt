@@ -4,7 +4,7 @@
 //! # Open lines are joined.
 //! read windows-1252
 //! "a=b\nc=d\\\ne=f"                 | pair 1 "a" "b"; pair 2 "c" "de=f"
-//! "a\\\n"; fault                    | error 2 Io
+//! "a\\\n"; fault TimedOut           | Io in line 2 by TimedOut
 //! write utf-8
 //! prefix "!"; comment "x"           | "!x\n"
 //! edit windows-1252 utf-8
@@ -21,6 +21,7 @@ mod editing;
 mod notation;
 mod outcome;
 mod reading;
+mod shown;
 mod table;
 mod writing;
 
@@ -32,11 +33,18 @@ fn main(rt: HostRuntime) -> ExitCode {
     ExitCode::from(run(&rt).unwrap_or(2))
 }
 
-// Runs each table, and returns the exit status: 1 where a row doesn't hold or a table can't be understood.
+// Runs each table, and returns the exit status: 1 where a row doesn't hold, or a table can't be read or understood.
 fn run(rt: &HostRuntime) -> io::Result<u8> {
     let mut status = 0;
     for name in env::args(rt)?.skip(1) {
-        let text = fs::read_to_string(rt, name.as_str())?;
+        let text = match fs::read_to_string(rt, name.as_str()) {
+            Ok(text) => text,
+            Err(error) => {
+                println!(rt; "{name}: {error}")?;
+                status = 1;
+                continue;
+            }
+        };
         let report = check_table(rt.alloc(), text.as_str())?;
         if report.failures.is_empty() {
             println!(rt; "{name}: {} rows hold", report.rows)?;

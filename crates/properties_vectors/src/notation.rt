@@ -1,5 +1,7 @@
-// Texts in quotes, with `\n`, `\r`, `\t`, `\f`, `\0`, `\\`, `\xHH` for a byte and `\u{..}` for a character. A quote in a
-// text is `\x22` on the left side, and a bar `\x7c`.
+// The left side of a row: clauses, which `;` separates, each a word and texts in quotes, of which either may be missing.
+//
+// Texts have `\n`, `\r`, `\t`, `\f`, `\0`, `\\`, `\xHH` for a byte and `\u{..}` for a character. A quote in a text is
+// `\x22`, and a bar `\x7c`.
 
 use std::alloc::{AllocError, AllocFailed, Global};
 
@@ -62,7 +64,11 @@ pub fn clauses(alloc: Global, side: &str) -> Result<Vec<Clause>, Halt> {
                 clauses.push(clause.unless_empty()?)?;
                 clause = Clause::new(alloc);
             }
-            clause.word.push_str(words.trim())?;
+            let word = words.trim();
+            if !word.is_empty() && !clause.texts.is_empty() {
+                return Err(Halt::Unreadable);
+            }
+            clause.word.push_str(word)?;
         }
     }
     clauses.push(clause.unless_empty()?)?;
@@ -145,6 +151,19 @@ fn push_character(alloc: Global, bytes: &mut Vec<u8>, character: char) -> Result
     let mut text = String::new(alloc);
     text.push(character)?;
     bytes.extend_from_slice(text.as_bytes())
+}
+
+/// The text in quotes, as a right side has it. Where it begins with a thousand equal characters or more, these are
+/// counted.
+pub fn shown(alloc: Global, text: &str) -> Result<String, AllocError> {
+    if let Some(first) = text.chars().next() {
+        let rest = text.trim_start_matches(first);
+        let count = text.chars().count().saturating_sub(rest.chars().count());
+        if count >= 1000 {
+            return format!(in alloc; "{count} {first:?} {rest:?}");
+        }
+    }
+    format!(in alloc; "{text:?}")
 }
 
 /// The bytes in quotes, as a right side has them.

@@ -3,7 +3,7 @@
 use crate::editing::check_edit;
 use crate::notation::{Clause, Halt, clauses};
 use crate::outcome::Outcome;
-use crate::reading::check_reading;
+use crate::reading::{Reading, check_compared, check_printed, check_reading};
 use crate::writing::check_writing;
 use java_properties::Encoding;
 use std::alloc::{AllocError, Global};
@@ -18,7 +18,9 @@ pub struct Report {
 // What the rows are of.
 #[derive(Clone, Copy)]
 enum Kind {
-    Read,
+    Read(Reading),
+    Print,
+    Compare,
     Write,
     Edit,
 }
@@ -37,6 +39,7 @@ pub fn check_table(alloc: Global, table: &str) -> Result<Report, AllocError> {
         failures: String::new(alloc),
     };
     let mut heading = None;
+    let mut rows_above = 0;
     for (number, line) in (1u64..).zip(table.lines()) {
         let line = line.trim();
         if line.is_empty() || line.starts_with('#') {
@@ -44,12 +47,10 @@ pub fn check_table(alloc: Global, table: &str) -> Result<Report, AllocError> {
         }
         let failure = match line.split_once('|') {
             None => {
+                let is_empty = heading.is_some() && report.rows == rows_above;
+                rows_above = report.rows;
                 heading = heading_of(alloc, line)?;
-                if heading.is_some() {
-                    None
-                } else {
-                    Some(String::from_str(alloc, "this heading is not understood")?)
-                }
+                failure_of_heading(alloc, is_empty, heading.is_some())?
             }
             Some((left, right)) => match &heading {
                 Some(heading) => check_row(alloc, heading, left, right.trim(), &mut report.rows)?,
@@ -61,10 +62,25 @@ pub fn check_table(alloc: Global, table: &str) -> Result<Report, AllocError> {
             report.failures.push_str(text.as_str())?;
         }
     }
-    if report.rows == 0 {
-        report.failures.push_str("no row was run\n")?;
+    if report.rows == rows_above {
+        report.failures.push_str("no row is at the end\n")?;
     }
     Ok(report)
+}
+
+fn failure_of_heading(
+    alloc: Global,
+    is_above_empty: bool,
+    is_understood: bool,
+) -> Result<Option<String>, AllocError> {
+    let text = if !is_understood {
+        "this heading is not understood"
+    } else if is_above_empty {
+        "no row is between this heading and the one above"
+    } else {
+        return Ok(None);
+    };
+    Ok(Some(String::from_str(alloc, text)?))
 }
 
 // A kind and the encodings after it, of which there is one at least.
@@ -90,7 +106,11 @@ fn heading_of(alloc: Global, line: &str) -> Result<Option<Heading>, AllocError> 
 
 fn kind_of(word: &str) -> Option<Kind> {
     match word {
-        "read" => Some(Kind::Read),
+        "read" => Some(Kind::Read(Reading::Items)),
+        "read-pairs" => Some(Kind::Read(Reading::Pairs)),
+        "read-map" => Some(Kind::Read(Reading::Map)),
+        "print" => Some(Kind::Print),
+        "compare" => Some(Kind::Compare),
         "write" => Some(Kind::Write),
         "edit" => Some(Kind::Edit),
         _ => None,
@@ -143,7 +163,9 @@ fn outcome_of(
     let clauses = clauses.as_slice();
     let mut outcome = Outcome::new(alloc, right)?;
     match kind {
-        Kind::Read => check_reading(alloc, encoding, clauses, &mut outcome)?,
+        Kind::Read(reading) => check_reading(alloc, reading, encoding, clauses, &mut outcome)?,
+        Kind::Print => check_printed(alloc, encoding, clauses, &mut outcome)?,
+        Kind::Compare => check_compared(alloc, encoding, clauses, &mut outcome)?,
         Kind::Write => check_writing(alloc, encoding, clauses, &mut outcome)?,
         Kind::Edit => check_edit(alloc, encoding, clauses, &mut outcome)?,
     }
