@@ -21,6 +21,7 @@ mod editing;
 mod notation;
 mod outcome;
 mod reading;
+mod shown;
 mod table;
 mod writing;
 

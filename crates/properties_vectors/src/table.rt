@@ -4,7 +4,8 @@ use crate::editing::check_edit;
 use crate::notation::{Clause, Halt, clauses};
 use crate::outcome::Outcome;
 use crate::reading::check_reading;
-use crate::writing::check_writing;
+use crate::writing::maps::check_maps;
+use crate::writing::{check_printing, check_writing};
 use java_properties::Encoding;
 use std::alloc::{AllocError, Global};
 
@@ -20,6 +21,8 @@ pub struct Report {
 enum Kind {
     Read,
     Write,
+    WritePrint,
+    WriteMap,
     Edit,
 }
 
@@ -92,12 +95,15 @@ fn kind_of(word: &str) -> Option<Kind> {
     match word {
         "read" => Some(Kind::Read),
         "write" => Some(Kind::Write),
+        "write-print" => Some(Kind::WritePrint),
+        "write-map" => Some(Kind::WriteMap),
         "edit" => Some(Kind::Edit),
         _ => None,
     }
 }
 
-fn encoding_of(word: &str) -> Option<Encoding> {
+/// The encoding of this name.
+pub fn encoding_of(word: &str) -> Option<Encoding> {
     match word {
         "windows-1252" => Some(Encoding::WINDOWS_1252),
         "utf-8" => Some(Encoding::UTF_8),
@@ -145,6 +151,8 @@ fn outcome_of(
     match kind {
         Kind::Read => check_reading(alloc, encoding, clauses, &mut outcome)?,
         Kind::Write => check_writing(alloc, encoding, clauses, &mut outcome)?,
+        Kind::WritePrint => check_printing(alloc, encoding, clauses, &mut outcome)?,
+        Kind::WriteMap => check_maps(alloc, encoding, clauses, &mut outcome)?,
         Kind::Edit => check_edit(alloc, encoding, clauses, &mut outcome)?,
     }
     Ok(outcome)
