@@ -1,22 +1,12 @@
-//! Rows of examples of reading, writing and maps, table by table, each table one test.
-//!
-//! The expected values come from the rules of the format, and from the tests of the Rust crate that this is a
-//! port of.
+//! What no table of rows shows: refused memory, what items borrow, and values as they are compared, copied and
+//! debugged.
 #![tactic(auto)]
 
 #[cfg(test)]
-mod ascii;
+mod edits;
 #[cfg(test)]
-mod editing;
-#[cfg(test)]
-mod laws;
-#[cfg(test)]
-mod maps;
+mod printed;
 #[cfg(test)]
 mod reading;
 #[cfg(test)]
 mod refused;
-#[cfg(test)]
-mod sorted_maps;
-#[cfg(test)]
-mod writing;

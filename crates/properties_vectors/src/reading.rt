@@ -16,7 +16,7 @@ use items::{Kind, joined};
 use java_properties::Encoding;
 pub use printed::check_printed;
 use script::Script;
-use std::alloc::Global;
+use std::alloc::{AllocError, Global};
 use std::{io, slice};
 use ways::{Way, read_by, whole_items};
 
@@ -82,6 +82,14 @@ pub fn check_reading(
         ([bytes], fault) => check_front(task, bytes.as_slice(), fault, outcome),
         _ => check_script(task, &script, outcome),
     }
+}
+
+/// The items that are read of these bytes, each after a semicolon.
+pub fn items_after(alloc: Global, encoding: Encoding, bytes: &[u8]) -> Result<String, AllocError> {
+    let mut input = bytes;
+    let items = whole_items(alloc, encoding, &mut input)?;
+    let items = joined(alloc, Reading::Items, items.as_slice())?;
+    format!(in alloc; "; {items}")
 }
 
 fn check_bytes(task: Task, bytes: &[u8], outcome: &mut Outcome) -> Result<(), Halt> {

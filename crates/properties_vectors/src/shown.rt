@@ -1,7 +1,22 @@
 // What came of a row, in the notation of right sides.
 
-use java_properties::{Cause, PropertiesError};
+use crate::outcome::Outcome;
+use crate::table::encoding_of;
+use java_properties::{Cause, Encoding, PropertiesError};
 use std::alloc::{AllocError, Global};
+
+/// Keeps what came in this way, where it isn't what is wanted.
+pub fn compare(
+    alloc: Global,
+    outcome: &mut Outcome,
+    way: &str,
+    came: &str,
+) -> Result<(), AllocError> {
+    if outcome.differs(came) {
+        outcome.fail(format!(in alloc; "{way}: {came}")?);
+    }
+    Ok(())
+}
 
 /// All that an error says, as `Io in line 2 by StorageFull`.
 pub fn told(alloc: Global, error: &PropertiesError) -> Result<String, AllocError> {
@@ -15,4 +30,9 @@ pub fn told(alloc: Global, error: &PropertiesError) -> Result<String, AllocError
         Cause::NotHex => text.push_str(" by NotHex")?,
     }
     Ok(text)
+}
+
+/// The encoding in which a clause, as `read utf-8`, has bytes read.
+pub fn reading_of(word: &str) -> Option<Encoding> {
+    encoding_of(word.strip_prefix("read ")?)
 }

@@ -4,7 +4,8 @@ use crate::editing::check_edit;
 use crate::notation::{Clause, Halt, clauses};
 use crate::outcome::Outcome;
 use crate::reading::{Reading, check_compared, check_printed, check_reading};
-use crate::writing::check_writing;
+use crate::writing::maps::check_maps;
+use crate::writing::{check_printing, check_writing};
 use java_properties::Encoding;
 use std::alloc::{AllocError, Global};
 
@@ -19,9 +20,11 @@ pub struct Report {
 #[derive(Clone, Copy)]
 enum Kind {
     Read(Reading),
-    Print,
+    ReadPrint,
     Compare,
     Write,
+    WritePrint,
+    WriteMap,
     Edit,
 }
 
@@ -109,15 +112,18 @@ fn kind_of(word: &str) -> Option<Kind> {
         "read" => Some(Kind::Read(Reading::Items)),
         "read-pairs" => Some(Kind::Read(Reading::Pairs)),
         "read-map" => Some(Kind::Read(Reading::Map)),
-        "print" => Some(Kind::Print),
+        "read-print" => Some(Kind::ReadPrint),
         "compare" => Some(Kind::Compare),
         "write" => Some(Kind::Write),
+        "write-print" => Some(Kind::WritePrint),
+        "write-map" => Some(Kind::WriteMap),
         "edit" => Some(Kind::Edit),
         _ => None,
     }
 }
 
-fn encoding_of(word: &str) -> Option<Encoding> {
+/// The encoding of this name.
+pub fn encoding_of(word: &str) -> Option<Encoding> {
     match word {
         "windows-1252" => Some(Encoding::WINDOWS_1252),
         "utf-8" => Some(Encoding::UTF_8),
@@ -164,9 +170,11 @@ fn outcome_of(
     let mut outcome = Outcome::new(alloc, right)?;
     match kind {
         Kind::Read(reading) => check_reading(alloc, reading, encoding, clauses, &mut outcome)?,
-        Kind::Print => check_printed(alloc, encoding, clauses, &mut outcome)?,
+        Kind::ReadPrint => check_printed(alloc, encoding, clauses, &mut outcome)?,
         Kind::Compare => check_compared(alloc, encoding, clauses, &mut outcome)?,
         Kind::Write => check_writing(alloc, encoding, clauses, &mut outcome)?,
+        Kind::WritePrint => check_printing(alloc, encoding, clauses, &mut outcome)?,
+        Kind::WriteMap => check_maps(alloc, encoding, clauses, &mut outcome)?,
         Kind::Edit => check_edit(alloc, encoding, clauses, &mut outcome)?,
     }
     Ok(outcome)

@@ -1,15 +1,41 @@
 // Maps.
 
 use super::{is_memory, roomy_sink, takes_at_once};
-use crate::maps::{Pairs, map_of};
-use crate::sorted_maps::sorted_map_of;
 use java_properties::{
     Encoding, ErrorKind, PropertiesError, read, read_sorted, write, write_sorted,
 };
 use std::alloc::Global;
-use std::collections::HashMap;
+use std::collections::{BTreeMap, HashMap};
 use std::process::Abort;
 use std::test::Fail;
+
+// What a map has, or is to have.
+type Pairs<'a> = &'a [(&'a str, &'a str)];
+
+fn map_of(alloc: Global, pairs: Pairs<'_>) -> Result<HashMap<String, String>, PropertiesError> {
+    let mut map = HashMap::new(alloc);
+    for (key, value) in pairs {
+        map.insert(
+            String::from_str(alloc, *key)?,
+            String::from_str(alloc, *value)?,
+        )?;
+    }
+    Ok(map)
+}
+
+fn sorted_map_of(
+    alloc: Global,
+    pairs: Pairs<'_>,
+) -> Result<BTreeMap<String, String>, PropertiesError> {
+    let mut map = BTreeMap::new(alloc);
+    for (key, value) in pairs {
+        map.insert(
+            String::from_str(alloc, *key)?,
+            String::from_str(alloc, *value)?,
+        )?;
+    }
+    Ok(map)
+}
 
 // More entries than a map takes without growing, of lines that are decoded and unescaped.
 const INPUT: &[u8] = b"#\na=0\nk\\u00e9y=x\xe9\nb\nc\na=1";

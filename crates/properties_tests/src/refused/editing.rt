@@ -1,12 +1,17 @@
-// Memory that is refused.
-//
-// Each test holds with memory to spare, and where any one growth is refused: `fail-alloc.sh` refuses each in turn.
-// What a test takes for its own use may be refused as well, and then it says nothing.
+// Edits and documents.
 
-use super::support::{Change, change_document, changed, edits_of, is_error, is_refusal};
-use java_properties::{Document, Edit, Encoding, ErrorKind, PropertiesError, edit_all};
+use java_properties::{
+    Cause, Document, Edit, Encoding, ErrorKind, PropertiesError, edit_all, remove_key, set_key,
+};
 use std::alloc::{AllocError, Global};
 use std::process::Abort;
+
+// An edit whose texts are lent.
+#[derive(Clone, Copy)]
+enum Change<'a> {
+    Put(&'a str, &'a str),
+    Remove(&'a str),
+}
 
 // Lines that are decoded, joined and unescaped, and more pairs with the key than a list takes without growing.
 const SOURCE: &[u8] =
@@ -33,6 +38,67 @@ const LIST: [Change<'static>; 3] = [
 ];
 
 const AFTER_LIST: &[u8] = b"#\xe9\na=1\na=3\na=x\nb=7\nc=\n";
+
+// The source after a single call.
+fn changed(
+    alloc: Global,
+    source: &[u8],
+    encoding: Encoding,
+    change: Change<'_>,
+) -> Result<Vec<u8>, PropertiesError> {
+    match change {
+        Change::Put(key, value) => set_key(alloc, source, encoding, key, value),
+        Change::Remove(key) => remove_key(alloc, source, encoding, key),
+    }
+}
+
+// These changes as a list of edits.
+fn edits_of(alloc: Global, changes: &[Change<'_>]) -> Result<Vec<Edit>, AllocError> {
+    let mut edits = Vec::new(alloc);
+    for change in changes {
+        edits.push(edit_of(alloc, *change)?)?;
+    }
+    Ok(edits)
+}
+
+// The edit that this change is, with texts of its own.
+fn edit_of(alloc: Global, change: Change<'_>) -> Result<Edit, AllocError> {
+    match change {
+        Change::Put(key, value) => Ok(Edit::Put(
+            String::from_str(alloc, key)?,
+            String::from_str(alloc, value)?,
+        )),
+        Change::Remove(key) => Ok(Edit::Remove(String::from_str(alloc, key)?)),
+    }
+}
+
+// Makes a change to a document.
+fn change_document(document: &mut Document, change: Change<'_>) -> Result<(), AllocError> {
+    match change {
+        Change::Put(key, value) => document.put(key, value),
+        Change::Remove(key) => {
+            document.remove(key);
+            Ok(())
+        }
+    }
+}
+
+// Whether it is an error of this kind, in this line, that came from no other.
+fn is_refusal(
+    answer: &Result<Vec<u8>, PropertiesError>,
+    kind: ErrorKind,
+    line: Option<usize>,
+) -> bool {
+    match answer {
+        Ok(_) => false,
+        Err(error) => is_error(error, kind, line),
+    }
+}
+
+// The same of an error at hand.
+fn is_error(error: &PropertiesError, kind: ErrorKind, line: Option<usize>) -> bool {
+    error.kind() == kind && error.line_number() == line && matches!(error.cause(), Cause::None)
+}
 
 // The bytes that are wanted, or Memory. Says whether it was the bytes.
 fn gives(rt: &impl Abort, answer: Result<Vec<u8>, PropertiesError>, wanted: &[u8]) -> bool {
