@@ -1,12 +1,164 @@
-// What is read.
+// What is read, in each way to read it.
 
 mod before_fault;
-mod displays;
-mod encodings;
-mod escapes;
-mod faults;
-mod lent;
-mod lines;
+mod compared;
+mod items;
 mod printed;
-pub mod support;
-mod values;
+mod script;
+mod ways;
+
+use crate::notation::{Clause, Halt};
+use crate::outcome::Outcome;
+use before_fault::items_before_fault;
+pub use compared::check_compared;
+use counted_io::Tail;
+use items::{Kind, joined};
+use java_properties::Encoding;
+pub use printed::check_printed;
+use script::Script;
+use std::alloc::{AllocError, Global};
+use std::{io, slice};
+use ways::{Way, read_by, whole_items};
+
+// The sizes of the pieces that each input comes in.
+const SIZES: [usize; 4] = [1, 2, 3, 1000];
+
+// The fault that comes after each byte of an input.
+const FAULT: io::ErrorKind = io::ErrorKind::TimedOut;
+
+/// What is made of an input.
+#[derive(Clone, Copy)]
+pub enum Reading {
+    /// Items with the numbers of their lines.
+    Items,
+    /// The pairs that are handed over, one after another.
+    Pairs,
+    /// The last value of each key, or an error alone.
+    Map,
+}
+
+// What is read, and from which encoding.
+#[derive(Clone, Copy)]
+struct Task {
+    alloc: Global,
+    reading: Reading,
+    encoding: Encoding,
+}
+
+impl Task {
+    fn ways(self) -> &'static [Way] {
+        match (self.reading, self.encoding) {
+            (Reading::Items, _) => &[
+                Way::ReadLines,
+                Way::Next,
+                Way::NextRef,
+                Way::NextAndNextRef,
+                Way::AdvanceAndGet,
+            ],
+            (Reading::Pairs, _) => &[Way::ReadInto],
+            (Reading::Map, Encoding::WINDOWS_1252) => &[Way::ReadSorted, Way::Read],
+            (Reading::Map, _) => &[Way::ReadSorted],
+        }
+    }
+}
+
+/// A text alone is read whole and in pieces, and up to a fault after each of its bytes. A text with a fault after it is
+/// read whole and byte by byte. Other texts are read piece by piece as they stand.
+pub fn check_reading(
+    alloc: Global,
+    reading: Reading,
+    encoding: Encoding,
+    clauses: &[Clause],
+    outcome: &mut Outcome,
+) -> Result<(), Halt> {
+    let task = Task {
+        alloc,
+        reading,
+        encoding,
+    };
+    let script = Script::new(alloc, clauses)?;
+    match (script.pieces.as_slice(), script.tail) {
+        ([bytes], Tail::End) => check_bytes(task, bytes.as_slice(), outcome),
+        ([bytes], fault) => check_front(task, bytes.as_slice(), fault, outcome),
+        _ => check_script(task, &script, outcome),
+    }
+}
+
+/// The items that are read of these bytes, each after a semicolon.
+pub fn items_after(alloc: Global, encoding: Encoding, bytes: &[u8]) -> Result<String, AllocError> {
+    let mut input = bytes;
+    let items = whole_items(alloc, encoding, &mut input)?;
+    let items = joined(alloc, Reading::Items, items.as_slice())?;
+    format!(in alloc; "; {items}")
+}
+
+fn check_bytes(task: Task, bytes: &[u8], outcome: &mut Outcome) -> Result<(), Halt> {
+    let alloc = task.alloc;
+    for way in task.ways() {
+        let (came, _) = read_by(alloc, task.encoding, bytes, *way)?;
+        let came = joined(alloc, task.reading, came.as_slice())?;
+        if outcome.differs(came.as_str()) {
+            outcome.fail(format!(in alloc; "whole, by {way:?}: {came}")?);
+        }
+    }
+    for size in SIZES {
+        let script = Script::of_bytes(alloc, bytes, size, Tail::End)?;
+        check_script(task, &script, outcome)?;
+    }
+    check_fronts(task, bytes, outcome)
+}
+
+// The bytes are read up to a fault after each of them.
+fn check_fronts(task: Task, bytes: &[u8], outcome: &mut Outcome) -> Result<(), Halt> {
+    let alloc = task.alloc;
+    let mut input = bytes;
+    let whole = whole_items(alloc, task.encoding, &mut input)?;
+    for count in 0..=bytes.len() {
+        let front = bytes.get(..count).unwrap_or(bytes);
+        let wanted = items_before_fault(alloc, task.encoding, front, whole.as_slice())?;
+        let wanted = match (task.reading, wanted.as_slice()) {
+            // An error is no map.
+            (Reading::Map, [.., last]) => joined(alloc, task.reading, slice::from_ref(last))?,
+            (_, items) => joined(alloc, task.reading, items)?,
+        };
+        let mut inner = Outcome::new(alloc, wanted.as_str())?;
+        check_front(task, front, Tail::Fault(FAULT), &mut inner)?;
+        if let Some(came) = inner.failure() {
+            outcome.fail(format!(in alloc;
+                "with a fault after byte {count}, in place of {wanted}, {came}"
+            )?);
+        }
+    }
+    Ok(())
+}
+
+fn check_front(task: Task, bytes: &[u8], tail: Tail, outcome: &mut Outcome) -> Result<(), Halt> {
+    for size in [1, 1000] {
+        let script = Script::of_bytes(task.alloc, bytes, size, tail)?;
+        check_script(task, &script, outcome)?;
+    }
+    Ok(())
+}
+
+// The script is read in as many reads each way. A reader that has failed or ended is not asked again, and none is asked
+// after the error of an item.
+fn check_script(task: Task, script: &Script, outcome: &mut Outcome) -> Result<(), Halt> {
+    let alloc = task.alloc;
+    let longest = script.pieces.first().map_or(0, |piece| piece.len());
+    let mut reads = None;
+    for way in task.ways() {
+        let (items, input) = read_by(alloc, task.encoding, script.reader(alloc)?, *way)?;
+        let came = joined(alloc, task.reading, items.as_slice())?;
+        if outcome.differs(came.as_str()) {
+            outcome.fail(format!(in alloc; "in pieces of {longest}, by {way:?}: {came}")?);
+        }
+        let faults = usize::from(items.last().is_some_and(|item| item.kind == Kind::Fault));
+        if input.reads() != *reads.get_or_insert(input.reads()) || input.faults() != faults {
+            let (reads, faults) = (input.reads(), input.faults());
+            outcome.fail(format!(in alloc;
+                "in pieces of {longest}, by {way:?}: {reads} reads, {faults} faults"
+            )?);
+        }
+    }
+    Ok(())
+}

@@ -1,266 +1,129 @@
-// What is left and answered where a sink takes little or fails.
+// Sinks that take little at a write, or fail.
 
-use super::support::{Step, call_of, is_fault, is_plain, take};
+use crate::notation::{Clause, Halt};
 use counted_io::{ScriptedSink, SinkFault};
-use java_properties::{Call, ErrorKind, LineEnding, PropertiesError, PropertiesWriter, run_calls};
-use std::alloc::{AllocError, Global};
+use std::alloc::Global;
 use std::io;
-use std::process::Abort;
-use std::test::Fail;
 
-const FULL: SinkFault = SinkFault::Fault(io::ErrorKind::StorageFull);
-
-// Each way in which a write may fail.
-const FAULTS: [SinkFault; 3] = [
+/// Each way in which a write may fail.
+pub const FAULTS: [SinkFault; 3] = [
     SinkFault::Fault(io::ErrorKind::Other),
     SinkFault::Fault(io::ErrorKind::Interrupted),
     SinkFault::Nothing,
 ];
 
-// Lines, and the bytes that each is written as.
-const STEPS: [Step<'_>; 4] = [
-    Step::Comment("c"),
-    Step::Pair("ab", "cd"),
-    Step::Pair("e", ""),
-    Step::Comment(""),
-];
-
-const LINES: [&[u8]; 4] = [b"# c\n", b"ab=cd\n", b"e=\n", b"# \n"];
-
-// More writes than the lines take, byte by byte.
-const WRITES: usize = 18;
-
-// What a sink that fails at this write holds of the lines, and the number of the line that it fails in. It takes so
-// many bytes at a write.
-fn taken_before(
-    alloc: Global,
+/// How much a sink takes at a write, which write fails and how, and how each flush fails.
+#[derive(Clone, Copy)]
+pub struct Sink {
     most: usize,
-    fail_at: usize,
-) -> Result<(Vec<u8>, Option<usize>), AllocError> {
-    let mut taken = Vec::new(alloc);
-    let mut writes = 0usize;
-    for (number, line) in (1usize..).zip(&LINES) {
-        for piece in line.chunks(most.max(1)) {
-            writes = writes.saturating_add(1);
-            if writes == fail_at {
-                return Ok((taken, Some(number)));
-            }
-            taken.extend_from_slice(piece)?;
-        }
-    }
-    Ok((taken, None))
+    fault: Option<(usize, SinkFault)>,
+    flush_fault: Option<io::ErrorKind>,
 }
 
-// Whether it is the error of a write that failed so in this line.
-fn fails_as<T>(answer: &Result<T, PropertiesError>, line_number: usize, how: SinkFault) -> bool {
+/// It takes all.
+pub const ROOMY: Sink = Sink {
+    most: usize::MAX,
+    fault: None,
+    flush_fault: None,
+};
+
+impl Sink {
+    /// A sink whose write of this number fails.
+    pub fn failing(most: usize, fail_at: usize, how: SinkFault) -> Sink {
+        Sink {
+            most,
+            fault: Some((fail_at, how)),
+            flush_fault: None,
+        }
+    }
+
+    /// A new sink of this kind.
+    pub fn open(self, alloc: Global) -> ScriptedSink {
+        let (fail_at, how) = match self.fault {
+            Some((fail_at, how)) => (Some(fail_at), how),
+            None => (None, SinkFault::Nothing),
+        };
+        let mut sink = ScriptedSink::new(alloc, self.most, fail_at, how);
+        sink.set_flush_fault(self.flush_fault);
+        sink
+    }
+}
+
+/// The sink that a row begins with, as `sink 3 fault 2 Other`, `sink 1 fault 1 nothing` or `sink 2 flush Other`, where
+/// it begins with one, and the clauses after it.
+pub fn front_sink(alloc: Global, clauses: &[Clause]) -> Result<(Option<Sink>, &[Clause]), Halt> {
+    let [first, rest @ ..] = clauses else {
+        return Err(Halt::Unreadable);
+    };
+    let mut words = Vec::new(alloc);
+    for word in first.word.as_str().split_whitespace() {
+        words.push(word)?;
+    }
+    let ["sink", most, how @ ..] = words.as_slice() else {
+        return Ok((None, clauses));
+    };
+    let mut sink = Sink {
+        most: number(most)?,
+        ..ROOMY
+    };
     match how {
-        SinkFault::Fault(kind) => is_fault(answer, Some(line_number), kind),
-        SinkFault::Nothing => is_plain(answer, ErrorKind::Io, Some(line_number)),
-    }
-}
-
-// The sink took these bytes, and no write came after the one that failed.
-fn check_sink(
-    rt: &impl Abort,
-    sink: &ScriptedSink,
-    taken: &[u8],
-    fail_at: usize,
-    has_failed: bool,
-) {
-    assert_eq!(rt; sink.bytes(), taken);
-    assert_eq!(rt; sink.faults(), usize::from(has_failed));
-    assert_eq!(rt; sink.calls() == fail_at, has_failed);
-}
-
-// The lines are written to a sink that fails at this write: the line that it comes in is named, and nothing after it
-// touches the sink.
-fn check_lines(
-    rt: &impl Abort,
-    alloc: Global,
-    most: usize,
-    fail_at: usize,
-    how: SinkFault,
-) -> Result<(), Fail> {
-    let (taken, failing) = taken_before(alloc, most, fail_at)?;
-    let sink = ScriptedSink::new(alloc, most, Some(fail_at), how);
-    let mut writer = PropertiesWriter::new(alloc, sink)?;
-    for (number, step) in (1usize..).zip(&STEPS) {
-        let answer = take(&mut writer, *step);
-        match failing {
-            Some(line) if line == number => assert!(rt; fails_as(&answer, line, how)),
-            Some(line) if line < number => assert!(rt; is_plain(&answer, ErrorKind::Failed, None)),
-            _ => assert!(rt; answer.is_ok()),
+        [] => {}
+        ["fault", fail_at, "nothing"] => {
+            sink.fault = Some((number(fail_at)?, SinkFault::Nothing));
         }
-    }
-    for answer in [writer.flush(), writer.finish()] {
-        assert_eq!(rt;
-            is_plain(&answer, ErrorKind::Failed, None),
-            failing.is_some()
-        );
-        assert_eq!(rt; answer.is_ok(), failing.is_none());
-    }
-    writer.set_comment_prefix("!")?;
-    writer.set_kv_separator(":")?;
-    check_sink(rt, &writer.into_inner(), &taken, fail_at, failing.is_some());
-    Ok(())
-}
-
-#[test]
-fn each_write_of_a_line_may_fail(rt: HostRuntime) -> Result<(), Fail> {
-    for most in 1..=3 {
-        for fail_at in 1..=WRITES {
-            for how in FAULTS {
-                check_lines(&rt, rt.alloc(), most, fail_at, how)?;
-            }
+        ["fault", fail_at, kind] => {
+            sink.fault = Some((number(fail_at)?, SinkFault::Fault(kind_of(kind)?)));
         }
+        ["flush", kind] => sink.flush_fault = Some(kind_of(kind)?),
+        _ => return Err(Halt::Unreadable),
     }
-    Ok(())
+    Ok((Some(sink), rest))
 }
 
-// The same lines and a flush, as a list of calls. Made again after a fault, they don't touch the sink.
-fn check_calls(
-    rt: &impl Abort,
-    alloc: Global,
-    most: usize,
-    fail_at: usize,
-    how: SinkFault,
-) -> Result<(), Fail> {
-    let mut calls = Vec::new(alloc);
-    for step in &STEPS {
-        calls.push(call_of(alloc, *step)?)?;
+fn number(word: &str) -> Result<usize, Halt> {
+    word.parse::<usize>().or(Err(Halt::Unreadable))
+}
+
+fn kind_of(word: &str) -> Result<io::ErrorKind, Halt> {
+    match word {
+        "Other" => Ok(io::ErrorKind::Other),
+        "Interrupted" => Ok(io::ErrorKind::Interrupted),
+        "StorageFull" => Ok(io::ErrorKind::StorageFull),
+        "BrokenPipe" => Ok(io::ErrorKind::BrokenPipe),
+        _ => Err(Halt::Unreadable),
     }
-    calls.push(Call::Flush)?;
-    let (taken, failing) = taken_before(alloc, most, fail_at)?;
-    let sink = ScriptedSink::new(alloc, most, Some(fail_at), how);
-    let mut writer = PropertiesWriter::new(alloc, sink)?;
-    let answer = run_calls(alloc, calls.as_slice(), &mut writer);
-    match failing {
-        Some(line) => {
-            assert!(rt; fails_as(&answer, line, how));
-            let answer = run_calls(alloc, calls.as_slice(), &mut writer);
-            assert!(rt; is_plain(&answer, ErrorKind::Failed, None));
+}
+
+/// Where a write fails: in the send of this place, which is of the line of this number, after so many bytes.
+#[derive(Clone, Copy)]
+pub struct Cut {
+    pub place: usize,
+    pub line: usize,
+    pub taken: usize,
+}
+
+/// Where the write of this number fails, of sends that end here and go out in pieces of `most` bytes at most.
+pub fn cut_at(ends: &[usize], most: usize, fail_at: usize) -> Option<Cut> {
+    let mut before = fail_at.saturating_sub(1);
+    let mut taken = 0;
+    let mut line = 1usize;
+    for (place, end) in ends.iter().enumerate() {
+        let pieces = end.saturating_sub(taken).div_ceil(most.max(1));
+        if before < pieces {
+            let taken = before.saturating_mul(most).saturating_add(taken);
+            return Some(Cut { place, line, taken });
         }
-        None => assert_eq!(rt; answer?.as_slice(), [true; 5].as_slice()),
+        before -= pieces;
+        taken = *end;
+        line = line.saturating_add(usize::from(pieces > 0));
     }
-    check_sink(rt, &writer.into_inner(), &taken, fail_at, failing.is_some());
-    Ok(())
+    None
 }
 
-#[test]
-fn each_write_of_calls_may_fail(rt: HostRuntime) -> Result<(), Fail> {
-    for most in 1..=3 {
-        for fail_at in 1..=WRITES {
-            for how in FAULTS {
-                check_calls(&rt, rt.alloc(), most, fail_at, how)?;
-            }
-        }
-    }
-    Ok(())
-}
-
-// A flush that fails ends the calls, and the writer goes on with them after it.
-#[test]
-fn a_flush_of_calls_may_fail(rt: HostRuntime) -> Result<(), Fail> {
-    let alloc = rt.alloc();
-    let calls = vec![in alloc;
-        call_of(alloc, Step::Pair("a", "b"))?,
-        Call::Flush,
-        call_of(alloc, Step::Pair("c", "d"))?,
-    ]?;
-    for kind in [io::ErrorKind::Other, io::ErrorKind::Interrupted] {
-        let mut sink = ScriptedSink::new(alloc, 2, None, SinkFault::Nothing);
-        sink.set_flush_fault(Some(kind));
-        let mut writer = PropertiesWriter::new(alloc, sink)?;
-        let answer = run_calls(alloc, calls.as_slice(), &mut writer);
-        assert!(rt; is_fault(&answer, None, kind));
-        writer.write("c", "d")?;
-        let sink = writer.into_inner();
-        assert_eq!(rt; sink.bytes(), b"a=b\nc=d\n".as_slice());
-        assert_eq!(rt; sink.faults(), 1);
-    }
-    Ok(())
-}
-
-#[test]
-fn a_line_goes_out_byte_by_byte(rt: HostRuntime) -> Result<(), Fail> {
-    let sink = ScriptedSink::new(rt.alloc(), 1, None, SinkFault::Nothing);
-    let mut writer = PropertiesWriter::new(rt.alloc(), sink)?;
-    writer.write("a", "b")?;
-    let sink = writer.into_inner();
-    assert_eq!(rt; sink.bytes(), b"a=b\n".as_slice());
-    assert_eq!(rt; sink.faults(), 0);
-    Ok(())
-}
-
-#[test]
-fn a_line_is_cut_by_a_fault(rt: HostRuntime) -> Result<(), Fail> {
-    let sink = ScriptedSink::new(rt.alloc(), 3, Some(2), FULL);
-    let mut writer = PropertiesWriter::new(rt.alloc(), sink)?;
-    let answer = writer.write("ab", "cd");
-    assert!(rt; is_fault(&answer, Some(1), io::ErrorKind::StorageFull));
-    let answer = writer.write("ab", "cd");
-    assert!(rt; is_plain(&answer, ErrorKind::Failed, None));
-    let sink = writer.into_inner();
-    assert_eq!(rt; sink.bytes(), b"ab=".as_slice());
-    assert_eq!(rt; sink.faults(), 1);
-    Ok(())
-}
-
-#[test]
-fn no_byte_taken_is_a_fault_without_a_cause(rt: HostRuntime) -> Result<(), Fail> {
-    let sink = ScriptedSink::new(rt.alloc(), 100, Some(1), SinkFault::Nothing);
-    let mut writer = PropertiesWriter::new(rt.alloc(), sink)?;
-    let answer = writer.write("a", "b");
-    assert!(rt; is_plain(&answer, ErrorKind::Io, Some(1)));
-    let sink = writer.into_inner();
-    assert_eq!(rt; sink.bytes(), b"".as_slice());
-    assert_eq!(rt; sink.faults(), 1);
-    Ok(())
-}
-
-#[test]
-fn an_interrupted_write_is_not_tried_again(rt: HostRuntime) -> Result<(), Fail> {
-    let how = SinkFault::Fault(io::ErrorKind::Interrupted);
-    let sink = ScriptedSink::new(rt.alloc(), 100, Some(2), how);
-    let mut writer = PropertiesWriter::new(rt.alloc(), sink)?;
-    writer.write("a", "b")?;
-    let answer = writer.write("c", "d");
-    assert!(rt; is_fault(&answer, Some(2), io::ErrorKind::Interrupted));
-    let sink = writer.into_inner();
-    assert_eq!(rt; sink.bytes(), b"a=b\n".as_slice());
-    assert_eq!(rt; sink.faults(), 1);
-    Ok(())
-}
-
-// A writer that has failed says so before it looks at the key, and leaves the sink alone.
-#[test]
-fn a_failed_writer_stays_failed(rt: HostRuntime) -> Result<(), Fail> {
-    let sink = ScriptedSink::new(rt.alloc(), 100, Some(1), FULL);
-    let mut writer = PropertiesWriter::new(rt.alloc(), sink)?;
-    writer.set_kv_separator(" ")?;
-    let answer = writer.write("a", "b");
-    assert!(rt; is_fault(&answer, Some(1), io::ErrorKind::StorageFull));
-    let answer = writer.write("", "v");
-    assert!(rt; is_plain(&answer, ErrorKind::Failed, None));
-    writer.set_line_ending(LineEnding::CR);
-    let answer = writer.flush();
-    assert!(rt; is_plain(&answer, ErrorKind::Failed, None));
-    let sink = writer.into_inner();
-    assert_eq!(rt; sink.bytes(), b"".as_slice());
-    assert_eq!(rt; sink.faults(), 1);
-    Ok(())
-}
-
-#[test]
-fn a_flush_fault_leaves_the_writer_as_it_was(rt: HostRuntime) -> Result<(), Fail> {
-    let mut sink = ScriptedSink::new(rt.alloc(), 100, None, SinkFault::Nothing);
-    sink.set_flush_fault(Some(io::ErrorKind::BrokenPipe));
-    let mut writer = PropertiesWriter::new(rt.alloc(), sink)?;
-    let answer = writer.flush();
-    assert!(rt; is_fault(&answer, None, io::ErrorKind::BrokenPipe));
-    writer.write("a", "b")?;
-    let sink = writer.into_inner();
-    assert_eq!(rt; sink.bytes(), b"a=b\n".as_slice());
-    assert_eq!(rt; sink.faults(), 1);
-    Ok(())
+/// What is told of a write that fails so in the line of this number.
+pub fn told_fault(alloc: Global, line: usize, how: SinkFault) -> Result<String, Halt> {
+    Ok(match how {
+        SinkFault::Fault(kind) => format!(in alloc; "Io in line {line} by {kind:?}")?,
+        SinkFault::Nothing => format!(in alloc; "Io in line {line}")?,
+    })
 }

@@ -196,7 +196,7 @@ fn filter_by<W: CountedWrite>(
     }
 }
 
-// Where a growth is refused, as `fail-alloc.sh` of `properties_vectors` has it, the lines before it stand. The next
+// Where a growth is refused, as `fail-alloc.sh` of `properties_tests` has it, the lines before it stand. The next
 // time all lines are appended.
 fn check_refused(
     rt: &impl Abort,

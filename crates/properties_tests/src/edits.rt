@@ -1,0 +1,34 @@
+// Edits as values.
+
+use java_properties::Edit;
+use std::alloc::{AllocError, Global};
+use std::test::Fail;
+
+fn put(alloc: Global, key: &str, value: &str) -> Result<Edit, AllocError> {
+    let key = String::from_str(alloc, key)?;
+    Ok(Edit::Put(key, String::from_str(alloc, value)?))
+}
+
+fn remove(alloc: Global, key: &str) -> Result<Edit, AllocError> {
+    Ok(Edit::Remove(String::from_str(alloc, key)?))
+}
+
+#[test]
+fn edits_are_compared_copied_and_debugged(rt: HostRuntime) -> Result<(), Fail> {
+    let alloc = rt.alloc();
+    let rows = [
+        (put(alloc, "a", "b")?, r#"Put("a", "b")"#),
+        (put(alloc, "a", "\n")?, r#"Put("a", "\n")"#),
+        (put(alloc, "b", "b")?, r#"Put("b", "b")"#),
+        (remove(alloc, "a")?, r#"Remove("a")"#),
+        (remove(alloc, "")?, r#"Remove("")"#),
+    ];
+    for (place, (edit, wanted)) in rows.iter().enumerate() {
+        assert_eq!(rt; format!(in alloc; "{edit:?}")?.as_str(), *wanted);
+        assert!(rt; edit.clone()? == *edit);
+        for (other_place, (other, _)) in rows.iter().enumerate() {
+            assert_eq!(rt; other == edit, other_place == place);
+        }
+    }
+    Ok(())
+}

@@ -1,0 +1,88 @@
+// Documents that stay open while they are changed.
+
+use crate::notation::{Clause, Halt, quoted};
+use crate::outcome::Outcome;
+use crate::reading::items_after;
+use crate::shown::{compare, reading_of, told};
+use crate::writing::text;
+use java_properties::{Document, Encoding, read_sorted};
+use std::alloc::{AllocError, Global};
+
+/// The document is its source, and then what its changes make of it. Returns what is seen of it besides its bytes: the
+/// values that are asked for, and what is read of the bytes.
+pub fn check_document(
+    alloc: Global,
+    encoding: Encoding,
+    source: &[u8],
+    steps: &[Clause],
+    outcome: &mut Outcome,
+) -> Result<String, Halt> {
+    let mut seen = String::new(alloc);
+    match Document::parse(alloc, source, encoding) {
+        Err(error) => {
+            let came = told(alloc, &error)?;
+            compare(alloc, outcome, "by a document", came.as_str())?;
+        }
+        Ok(mut document) => {
+            if document.to_bytes(alloc)?.as_slice() != source {
+                outcome.fail(String::from_str(alloc, "a document isn't its source")?);
+            }
+            check_values(alloc, encoding, &document, outcome)?;
+            for step in steps {
+                take_step(alloc, &mut document, step, &mut seen)?;
+                check_values(alloc, encoding, &document, outcome)?;
+            }
+            let bytes = document.to_bytes(alloc)?;
+            for step in steps {
+                if let Some(encoding) = reading_of(step.word.as_str()) {
+                    let items = items_after(alloc, encoding, bytes.as_slice())?;
+                    seen.push_str(items.as_str())?;
+                }
+            }
+            let came = format!(in alloc; "{}{seen}", quoted(alloc, bytes.as_slice())?)?;
+            compare(alloc, outcome, "by a document", came.as_str())?;
+        }
+    }
+    Ok(seen)
+}
+
+// Changes the document, or adds the value that is asked for.
+fn take_step(
+    alloc: Global,
+    document: &mut Document,
+    step: &Clause,
+    seen: &mut String,
+) -> Result<(), Halt> {
+    match (step.word.as_str(), step.texts.as_slice()) {
+        ("put", [key, value]) => document.put(text(key)?, text(value)?)?,
+        ("remove", [key]) => document.remove(text(key)?),
+        ("get", [key]) => match document.get(text(key)?) {
+            Some(value) => seen.push_str(format!(in alloc; "; {value:?}")?.as_str())?,
+            None => seen.push_str("; none")?,
+        },
+        _ => {}
+    }
+    Ok(())
+}
+
+// Its keys have the values that a reader of its bytes finds.
+fn check_values(
+    alloc: Global,
+    encoding: Encoding,
+    document: &Document,
+    outcome: &mut Outcome,
+) -> Result<(), AllocError> {
+    let bytes = document.to_bytes(alloc)?;
+    let mut input = bytes.as_slice();
+    match read_sorted(alloc, &mut input, encoding) {
+        Ok(map) => {
+            for (key, value) in &map {
+                if document.get(key.as_str()) != Some(value.as_str()) {
+                    outcome.fail(format!(in alloc; "a document has another value of {key:?}")?);
+                }
+            }
+        }
+        Err(_) => outcome.fail(String::from_str(alloc, "a document isn't read")?),
+    }
+    Ok(())
+}

@@ -1,0 +1,184 @@
+// The left side of a row: clauses, which `;` separates, each a word and texts in quotes, of which either may be missing.
+//
+// Texts have `\n`, `\r`, `\t`, `\f`, `\0`, `\\`, `\xHH` for a byte and `\u{..}` for a character. A quote in a text is
+// `\x22`, and a bar `\x7c`.
+
+use std::alloc::{AllocError, AllocFailed, Global};
+
+/// What kept a row from being run.
+#[derive(Clone, Copy, Debug, PartialEq, Eq)]
+pub enum Halt {
+    Memory,
+    Unreadable,
+}
+
+impl From<AllocError> for Halt {
+    fn from(_: AllocError) -> Halt {
+        Halt::Memory
+    }
+}
+
+impl<T: Drop> From<AllocFailed<T>> for Halt {
+    fn from(_: AllocFailed<T>) -> Halt {
+        Halt::Memory
+    }
+}
+
+/// A word, which may be missing, and the texts after it.
+#[derive(Drop)]
+pub struct Clause {
+    pub word: String,
+    pub texts: Vec<Vec<u8>>,
+}
+
+impl Clause {
+    fn new(alloc: Global) -> Clause {
+        Clause {
+            word: String::new(alloc),
+            texts: Vec::new(alloc),
+        }
+    }
+
+    fn unless_empty(self) -> Result<Clause, Halt> {
+        if self.word.is_empty() && self.texts.is_empty() {
+            Err(Halt::Unreadable)
+        } else {
+            Ok(self)
+        }
+    }
+}
+
+/// The clauses of the left side of a row, which `;` separates.
+pub fn clauses(alloc: Global, side: &str) -> Result<Vec<Clause>, Halt> {
+    let mut clauses = Vec::new(alloc);
+    let mut clause = Clause::new(alloc);
+    let mut is_in_text = true;
+    for part in side.split('"') {
+        is_in_text = !is_in_text;
+        if is_in_text {
+            clause.texts.push(unescaped(alloc, part)?)?;
+            continue;
+        }
+        for (index, words) in (0u64..).zip(part.split(';')) {
+            if index > 0 {
+                clauses.push(clause.unless_empty()?)?;
+                clause = Clause::new(alloc);
+            }
+            let word = words.trim();
+            if !word.is_empty() && !clause.texts.is_empty() {
+                return Err(Halt::Unreadable);
+            }
+            clause.word.push_str(word)?;
+        }
+    }
+    clauses.push(clause.unless_empty()?)?;
+    if is_in_text {
+        Err(Halt::Unreadable)
+    } else {
+        Ok(clauses)
+    }
+}
+
+// How far an escape has been read.
+#[derive(Clone, Copy)]
+enum Escape {
+    Outside,
+    Begun,
+    Byte,
+    Half(u32),
+    Brace,
+    Code(u32),
+}
+
+fn unescaped(alloc: Global, text: &str) -> Result<Vec<u8>, Halt> {
+    let mut bytes = Vec::new(alloc);
+    let mut escape = Escape::Outside;
+    for character in text.chars() {
+        escape = match (escape, character) {
+            (Escape::Outside, '\\') => Escape::Begun,
+            (Escape::Outside, _) => {
+                push_character(alloc, &mut bytes, character)?;
+                Escape::Outside
+            }
+            (Escape::Begun, 'x') => Escape::Byte,
+            (Escape::Begun, 'u') => Escape::Brace,
+            (Escape::Begun, _) => {
+                bytes.push(short_escape(character).ok_or(Halt::Unreadable)?)?;
+                Escape::Outside
+            }
+            (Escape::Byte, _) => Escape::Half(digit(character)?),
+            (Escape::Half(high), _) => {
+                let code = high.saturating_mul(16).saturating_add(digit(character)?);
+                bytes.push(u8::try_from(code).unwrap_or(0))?;
+                Escape::Outside
+            }
+            (Escape::Brace, '{') => Escape::Code(0),
+            (Escape::Brace, _) => return Err(Halt::Unreadable),
+            (Escape::Code(code), '}') => {
+                let character = char::from_u32(code).ok_or(Halt::Unreadable)?;
+                push_character(alloc, &mut bytes, character)?;
+                Escape::Outside
+            }
+            (Escape::Code(code), _) => {
+                Escape::Code(code.saturating_mul(16).saturating_add(digit(character)?))
+            }
+        };
+    }
+    if matches!(escape, Escape::Outside) {
+        Ok(bytes)
+    } else {
+        Err(Halt::Unreadable)
+    }
+}
+
+fn short_escape(character: char) -> Option<u8> {
+    match character {
+        'n' => Some(b'\n'),
+        'r' => Some(b'\r'),
+        't' => Some(b'\t'),
+        'f' => Some(0x0c),
+        '0' => Some(0),
+        '\\' => Some(b'\\'),
+        _ => None,
+    }
+}
+
+fn digit(character: char) -> Result<u32, Halt> {
+    character.to_digit(16).ok_or(Halt::Unreadable)
+}
+
+fn push_character(alloc: Global, bytes: &mut Vec<u8>, character: char) -> Result<(), AllocError> {
+    let mut text = String::new(alloc);
+    text.push(character)?;
+    bytes.extend_from_slice(text.as_bytes())
+}
+
+/// The text in quotes, as a right side has it. Where it begins with a thousand equal characters or more, these are
+/// counted.
+pub fn shown(alloc: Global, text: &str) -> Result<String, AllocError> {
+    if let Some(first) = text.chars().next() {
+        let rest = text.trim_start_matches(first);
+        let count = text.chars().count().saturating_sub(rest.chars().count());
+        if count >= 1000 {
+            return format!(in alloc; "{count} {first:?} {rest:?}");
+        }
+    }
+    format!(in alloc; "{text:?}")
+}
+
+/// The bytes in quotes, as a right side has them.
+pub fn quoted(alloc: Global, bytes: &[u8]) -> Result<String, AllocError> {
+    let mut text = String::from_str(alloc, "\"")?;
+    for byte in bytes {
+        match *byte {
+            b'\n' => text.push_str("\\n")?,
+            b'\r' => text.push_str("\\r")?,
+            b'\t' => text.push_str("\\t")?,
+            b'\\' => text.push_str("\\\\")?,
+            0x20..=0x7e => text.push(char::from(*byte))?,
+            _ => text.push_str(format!(in alloc; "\\x{byte:02x}")?.as_str())?,
+        }
+    }
+    text.push('"')?;
+    Ok(text)
+}

@@ -1,0 +1,109 @@
+// Items and errors, as a right side has them.
+
+use super::Reading;
+use crate::notation::shown;
+use crate::shown::told;
+use java_properties::{ErrorKind, Line, LineContent, PropertiesError};
+use std::alloc::{AllocError, Global};
+use std::io;
+
+/// What an item is.
+#[derive(Clone, Copy, Debug, PartialEq, Eq)]
+pub enum Kind {
+    Comment,
+    Pair,
+    /// An error that is no fault.
+    Error,
+    Fault,
+}
+
+/// An item or an error under the number of its line, and its texts as they are shown.
+#[derive(Drop)]
+pub struct Item {
+    pub number: usize,
+    pub kind: Kind,
+    text: String,
+}
+
+impl Item {
+    pub fn of_line(alloc: Global, line: &Line) -> Result<Item, AllocError> {
+        let number = line.line_number();
+        match line.content() {
+            LineContent::Comment(text) => Ok(Item {
+                number,
+                kind: Kind::Comment,
+                text: shown(alloc, text.as_str())?,
+            }),
+            LineContent::KVPair(key, value) => {
+                Item::of_pair(alloc, number, key.as_str(), value.as_str())
+            }
+        }
+    }
+
+    pub fn of_pair(
+        alloc: Global,
+        number: usize,
+        key: &str,
+        value: &str,
+    ) -> Result<Item, AllocError> {
+        let key = shown(alloc, key)?;
+        let value = shown(alloc, value)?;
+        Ok(Item {
+            number,
+            kind: Kind::Pair,
+            text: format!(in alloc; "{key} {value}")?,
+        })
+    }
+
+    pub fn of_error(alloc: Global, error: &PropertiesError) -> Result<Item, AllocError> {
+        Ok(Item {
+            number: error.line_number().unwrap_or(0),
+            kind: match error.kind() {
+                ErrorKind::Io => Kind::Fault,
+                _ => Kind::Error,
+            },
+            text: told(alloc, error)?,
+        })
+    }
+
+    pub fn of_fault(
+        alloc: Global,
+        number: usize,
+        fault: io::ErrorKind,
+    ) -> Result<Item, AllocError> {
+        Ok(Item {
+            number,
+            kind: Kind::Fault,
+            text: format!(in alloc; "Io in line {number} by {fault:?}")?,
+        })
+    }
+
+    pub fn copy(&self, alloc: Global) -> Result<Item, AllocError> {
+        Ok(Item {
+            number: self.number,
+            kind: self.kind,
+            text: String::from_str(alloc, self.text.as_str())?,
+        })
+    }
+}
+
+/// The items, one after another; where pairs are wanted, these alone and without their numbers.
+pub fn joined(alloc: Global, reading: Reading, items: &[Item]) -> Result<String, AllocError> {
+    let mut all = String::new(alloc);
+    for Item { number, kind, text } in items {
+        let text = match (reading, *kind) {
+            (Reading::Items, Kind::Comment) => format!(in alloc; "comment {number} {text}")?,
+            (Reading::Items, Kind::Pair) => format!(in alloc; "pair {number} {text}")?,
+            (_, Kind::Comment) => continue,
+            (_, Kind::Pair | Kind::Error | Kind::Fault) => text.clone()?,
+        };
+        if !all.is_empty() {
+            all.push_str("; ")?;
+        }
+        all.push_str(text.as_str())?;
+    }
+    if all.is_empty() {
+        all.push_str("nothing")?;
+    }
+    Ok(all)
+}

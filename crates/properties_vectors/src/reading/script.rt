@@ -1,0 +1,72 @@
+// What a row is read from: pieces, and then the end or a fault.
+
+use crate::notation::{Clause, Halt};
+use counted_io::{ScriptedReader, Tail};
+use std::alloc::{AllocError, Global};
+use std::io;
+
+/// Pieces of an input, and what comes after them.
+#[derive(Drop)]
+pub struct Script {
+    pub pieces: Vec<Vec<u8>>,
+    pub tail: Tail,
+}
+
+impl Script {
+    /// Each clause is a text, which a number before it repeats. The last one may be `fault` with its kind.
+    pub fn new(alloc: Global, clauses: &[Clause]) -> Result<Script, Halt> {
+        let mut pieces = Vec::new(alloc);
+        let mut tail = Tail::End;
+        for clause in clauses {
+            match (tail, clause.texts.as_slice()) {
+                (Tail::End, [text]) => {
+                    for _ in 0..times_of(clause.word.as_str())? {
+                        pieces.push(Vec::from_slice(alloc, text.as_slice())?)?;
+                    }
+                }
+                (Tail::End, []) => tail = Tail::Fault(fault_of(clause.word.as_str())?),
+                _ => return Err(Halt::Unreadable),
+            }
+        }
+        Ok(Script { pieces, tail })
+    }
+
+    /// These bytes in pieces of this size.
+    pub fn of_bytes(
+        alloc: Global,
+        bytes: &[u8],
+        size: usize,
+        tail: Tail,
+    ) -> Result<Script, AllocError> {
+        let mut pieces = Vec::new(alloc);
+        for piece in bytes.chunks(size.max(1)) {
+            pieces.push(Vec::from_slice(alloc, piece)?)?;
+        }
+        Ok(Script { pieces, tail })
+    }
+
+    /// A reader that does as the script says.
+    pub fn reader(&self, alloc: Global) -> Result<ScriptedReader, AllocError> {
+        let mut pieces = Vec::new(alloc);
+        for piece in self.pieces.as_slice() {
+            pieces.push(Vec::from_slice(alloc, piece.as_slice())?)?;
+        }
+        Ok(ScriptedReader::new(pieces, self.tail))
+    }
+}
+
+fn times_of(word: &str) -> Result<u32, Halt> {
+    if word.is_empty() {
+        Ok(1)
+    } else {
+        word.parse::<u32>().or(Err(Halt::Unreadable))
+    }
+}
+
+fn fault_of(word: &str) -> Result<io::ErrorKind, Halt> {
+    match word {
+        "fault TimedOut" => Ok(io::ErrorKind::TimedOut),
+        "fault Interrupted" => Ok(io::ErrorKind::Interrupted),
+        _ => Err(Halt::Unreadable),
+    }
+}

@@ -1,0 +1,181 @@
+// The lines of a table: headings, which say what the rows below them are of, and rows.
+
+use crate::editing::check_edit;
+use crate::notation::{Clause, Halt, clauses};
+use crate::outcome::Outcome;
+use crate::reading::{Reading, check_compared, check_printed, check_reading};
+use crate::writing::maps::check_maps;
+use crate::writing::{check_printing, check_writing};
+use java_properties::Encoding;
+use std::alloc::{AllocError, Global};
+
+/// How many rows were run, each counted in each encoding, and what doesn't hold or isn't understood.
+#[derive(Drop)]
+pub struct Report {
+    pub rows: u64,
+    pub failures: String,
+}
+
+// What the rows are of.
+#[derive(Clone, Copy)]
+enum Kind {
+    Read(Reading),
+    ReadPrint,
+    Compare,
+    Write,
+    WritePrint,
+    WriteMap,
+    Edit,
+}
+
+// What a heading says of the rows below it.
+#[derive(Drop)]
+struct Heading {
+    kind: Kind,
+    encodings: Vec<Encoding>,
+}
+
+/// Runs each row of a table.
+pub fn check_table(alloc: Global, table: &str) -> Result<Report, AllocError> {
+    let mut report = Report {
+        rows: 0,
+        failures: String::new(alloc),
+    };
+    let mut heading = None;
+    let mut rows_above = 0;
+    for (number, line) in (1u64..).zip(table.lines()) {
+        let line = line.trim();
+        if line.is_empty() || line.starts_with('#') {
+            continue;
+        }
+        let failure = match line.split_once('|') {
+            None => {
+                let is_empty = heading.is_some() && report.rows == rows_above;
+                rows_above = report.rows;
+                heading = heading_of(alloc, line)?;
+                failure_of_heading(alloc, is_empty, heading.is_some())?
+            }
+            Some((left, right)) => match &heading {
+                Some(heading) => check_row(alloc, heading, left, right.trim(), &mut report.rows)?,
+                None => Some(String::from_str(alloc, "no heading is above this row")?),
+            },
+        };
+        if let Some(text) = failure {
+            let text = format!(in alloc; "line {number}: {line}\n    {text}\n")?;
+            report.failures.push_str(text.as_str())?;
+        }
+    }
+    if report.rows == rows_above {
+        report.failures.push_str("no row is at the end\n")?;
+    }
+    Ok(report)
+}
+
+fn failure_of_heading(
+    alloc: Global,
+    is_above_empty: bool,
+    is_understood: bool,
+) -> Result<Option<String>, AllocError> {
+    let text = if !is_understood {
+        "this heading is not understood"
+    } else if is_above_empty {
+        "no row is between this heading and the one above"
+    } else {
+        return Ok(None);
+    };
+    Ok(Some(String::from_str(alloc, text)?))
+}
+
+// A kind and the encodings after it, of which there is one at least.
+fn heading_of(alloc: Global, line: &str) -> Result<Option<Heading>, AllocError> {
+    let Some((first, rest)) = line.split_once(' ') else {
+        return Ok(None);
+    };
+    let Some(kind) = kind_of(first) else {
+        return Ok(None);
+    };
+    let mut encodings = Vec::new(alloc);
+    for word in rest.split_whitespace() {
+        match encoding_of(word) {
+            Some(encoding) => encodings.push(encoding)?,
+            None => return Ok(None),
+        }
+    }
+    if encodings.is_empty() {
+        return Ok(None);
+    }
+    Ok(Some(Heading { kind, encodings }))
+}
+
+fn kind_of(word: &str) -> Option<Kind> {
+    match word {
+        "read" => Some(Kind::Read(Reading::Items)),
+        "read-pairs" => Some(Kind::Read(Reading::Pairs)),
+        "read-map" => Some(Kind::Read(Reading::Map)),
+        "read-print" => Some(Kind::ReadPrint),
+        "compare" => Some(Kind::Compare),
+        "write" => Some(Kind::Write),
+        "write-print" => Some(Kind::WritePrint),
+        "write-map" => Some(Kind::WriteMap),
+        "edit" => Some(Kind::Edit),
+        _ => None,
+    }
+}
+
+/// The encoding of this name.
+pub fn encoding_of(word: &str) -> Option<Encoding> {
+    match word {
+        "windows-1252" => Some(Encoding::WINDOWS_1252),
+        "utf-8" => Some(Encoding::UTF_8),
+        "utf-16le" => Some(Encoding::UTF_16LE),
+        "utf-16be" => Some(Encoding::UTF_16BE),
+        _ => None,
+    }
+}
+
+// Runs a row in each encoding, and returns what came in place of the right side the first time that something did.
+fn check_row(
+    alloc: Global,
+    heading: &Heading,
+    left: &str,
+    right: &str,
+    rows: &mut u64,
+) -> Result<Option<String>, AllocError> {
+    for encoding in heading.encodings.as_slice() {
+        *rows = rows.saturating_add(1);
+        match outcome_of(alloc, heading.kind, *encoding, left, right) {
+            Ok(outcome) => {
+                if let Some(text) = outcome.failure() {
+                    return Ok(Some(format!(in alloc; "{encoding:?}, {text}")?));
+                }
+            }
+            Err(Halt::Memory) => return Err(AllocError),
+            Err(Halt::Unreadable) => {
+                return Ok(Some(String::from_str(alloc, "this row is not understood")?));
+            }
+        }
+    }
+    Ok(None)
+}
+
+fn outcome_of(
+    alloc: Global,
+    kind: Kind,
+    encoding: Encoding,
+    left: &str,
+    right: &str,
+) -> Result<Outcome, Halt> {
+    let clauses: Vec<Clause> = clauses(alloc, left)?;
+    let clauses = clauses.as_slice();
+    let mut outcome = Outcome::new(alloc, right)?;
+    match kind {
+        Kind::Read(reading) => check_reading(alloc, reading, encoding, clauses, &mut outcome)?,
+        Kind::ReadPrint => check_printed(alloc, encoding, clauses, &mut outcome)?,
+        Kind::Compare => check_compared(alloc, encoding, clauses, &mut outcome)?,
+        Kind::Write => check_writing(alloc, encoding, clauses, &mut outcome)?,
+        Kind::WritePrint => check_printing(alloc, encoding, clauses, &mut outcome)?,
+        Kind::WriteMap => check_maps(alloc, encoding, clauses, &mut outcome)?,
+        Kind::Edit => check_edit(alloc, encoding, clauses, &mut outcome)?,
+    }
+    Ok(outcome)
+}

@@ -1,0 +1,172 @@
+// Maps that are written whole, each pair a clause.
+
+use super::sinks::{FAULTS, ROOMY, Sink, cut_at, front_sink, told_fault};
+use super::{owned, shown_calls};
+use crate::notation::{Clause, Halt};
+use crate::outcome::Outcome;
+use crate::shown::{compare, told};
+use counted_io::ScriptedSink;
+use java_properties::{Encoding, read, read_sorted, write, write_sorted};
+use std::alloc::{AllocError, Global};
+use std::collections::{BTreeMap, HashMap};
+
+// How a map is written.
+#[derive(Clone, Copy, Debug, PartialEq, Eq)]
+enum Way {
+    Write,
+    WriteSorted,
+}
+
+/// The map is written sorted, and in windows-1252 as a hash map too. Where the row names no sink, it is read back, and
+/// written again to sinks that take little and fail, at each write.
+pub fn check_maps(
+    alloc: Global,
+    encoding: Encoding,
+    clauses: &[Clause],
+    outcome: &mut Outcome,
+) -> Result<(), Halt> {
+    check_map(alloc, encoding, clauses, Way::WriteSorted, outcome)?;
+    if encoding == Encoding::WINDOWS_1252 {
+        check_map(alloc, encoding, clauses, Way::Write, outcome)?;
+    }
+    Ok(())
+}
+
+fn check_map(
+    alloc: Global,
+    encoding: Encoding,
+    clauses: &[Clause],
+    way: Way,
+    outcome: &mut Outcome,
+) -> Result<(), Halt> {
+    let (named, pairs) = front_sink(alloc, clauses)?;
+    let (came, sink) = written(alloc, encoding, named.unwrap_or(ROOMY), pairs, way)?;
+    let name = format!(in alloc; "by {way:?}")?;
+    compare(alloc, outcome, name.as_str(), came.as_str())?;
+    if named.is_none() {
+        if !is_read_back(alloc, encoding, sink.bytes(), pairs, way)? {
+            outcome.fail(format!(in alloc; "{name}: another map is read back")?);
+        }
+        check_faults(alloc, encoding, pairs, sink.bytes(), way, outcome)?;
+    }
+    Ok(())
+}
+
+// What came of the map in a sink of this kind, and the sink.
+fn written(
+    alloc: Global,
+    encoding: Encoding,
+    sink: Sink,
+    pairs: &[Clause],
+    way: Way,
+) -> Result<(String, ScriptedSink), Halt> {
+    let mut sink = sink.open(alloc);
+    let done = match way {
+        Way::Write => write(alloc, &mut sink, &hash_map(alloc, pairs)?),
+        Way::WriteSorted => write_sorted(alloc, &mut sink, &sorted_map(alloc, pairs)?, encoding),
+    };
+    let answer = match done {
+        Ok(()) => None,
+        Err(error) => Some(told(alloc, &error)?),
+    };
+    let came = shown_calls(alloc, &[answer], sink.bytes(), sink.faults())?;
+    Ok((came, sink))
+}
+
+// The line in which a write fails is named, and no write comes after it.
+fn check_faults(
+    alloc: Global,
+    encoding: Encoding,
+    pairs: &[Clause],
+    whole: &[u8],
+    way: Way,
+    outcome: &mut Outcome,
+) -> Result<(), Halt> {
+    let ends = line_ends(alloc, whole)?;
+    for most in 1..=3 {
+        for fail_at in 1..=whole.len() {
+            if let Some(cut) = cut_at(ends.as_slice(), most, fail_at) {
+                for how in FAULTS {
+                    let sink = Sink::failing(most, fail_at, how);
+                    let (came, sink) = written(alloc, encoding, sink, pairs, way)?;
+                    let answer = Some(told_fault(alloc, cut.line, how)?);
+                    let taken = whole.get(..cut.taken).unwrap_or(whole);
+                    let wanted = shown_calls(alloc, &[answer], taken, 1)?;
+                    if came != wanted || sink.calls() != fail_at {
+                        outcome.fail(format!(in alloc;
+                            "by {way:?}, where write {fail_at} fails, in place of {wanted}: {came}"
+                        )?);
+                    }
+                }
+            }
+        }
+    }
+    Ok(())
+}
+
+// Where each line ends.
+fn line_ends(alloc: Global, bytes: &[u8]) -> Result<Vec<usize>, AllocError> {
+    let mut ends = Vec::new(alloc);
+    for (place, byte) in (1usize..).zip(bytes) {
+        if *byte == b'\n' {
+            ends.push(place)?;
+        }
+    }
+    Ok(ends)
+}
+
+// Whether the map is read of its bytes. What is written for UTF-16 is UTF-8.
+fn is_read_back(
+    alloc: Global,
+    encoding: Encoding,
+    bytes: &[u8],
+    pairs: &[Clause],
+    way: Way,
+) -> Result<bool, Halt> {
+    let mut input = bytes;
+    match way {
+        Way::Write => match read(alloc, &mut input) {
+            Ok(map) => Ok(map == hash_map(alloc, pairs)?),
+            Err(_) => Ok(false),
+        },
+        Way::WriteSorted => {
+            let written = match encoding {
+                Encoding::WINDOWS_1252 => Encoding::WINDOWS_1252,
+                _ => Encoding::UTF_8,
+            };
+            match read_sorted(alloc, &mut input, written) {
+                Ok(map) => Ok(map == sorted_map(alloc, pairs)?),
+                Err(_) => Ok(false),
+            }
+        }
+    }
+}
+
+fn hash_map(alloc: Global, clauses: &[Clause]) -> Result<HashMap<String, String>, Halt> {
+    let mut map = HashMap::new(alloc);
+    for clause in clauses {
+        if let Some((key, value)) = pair(clause)? {
+            map.insert(owned(alloc, key)?, owned(alloc, value)?)?;
+        }
+    }
+    Ok(map)
+}
+
+fn sorted_map(alloc: Global, clauses: &[Clause]) -> Result<BTreeMap<String, String>, Halt> {
+    let mut map = BTreeMap::new(alloc);
+    for clause in clauses {
+        if let Some((key, value)) = pair(clause)? {
+            map.insert(owned(alloc, key)?, owned(alloc, value)?)?;
+        }
+    }
+    Ok(map)
+}
+
+// A pair, or none, as the empty map has it.
+fn pair(clause: &Clause) -> Result<Option<(&Vec<u8>, &Vec<u8>)>, Halt> {
+    match (clause.word.as_str(), clause.texts.as_slice()) {
+        ("pair", [key, value]) => Ok(Some((key, value))),
+        ("nothing", []) => Ok(None),
+        _ => Err(Halt::Unreadable),
+    }
+}
