@@ -47,8 +47,9 @@ pub fn check_lists(
     }
     let sink = writer.into_inner();
     let came = shown_calls(alloc, answers.as_slice(), sink.bytes(), sink.faults())?;
-    if came != wanted {
-        outcome.fail(format!(in alloc; "as a list: {came}")?);
+    let (count, all) = (answers.len(), singles.len());
+    if came != wanted || count != all {
+        outcome.fail(format!(in alloc; "as a list, {count} of {all} calls: {came}")?);
     }
     Ok(())
 }
