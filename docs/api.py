@@ -14,7 +14,7 @@ sys.dont_write_bytecode = True
 from wrap import wrapped
 
 TOP = pathlib.Path(__file__).resolve().parent.parent
-CRATES = ["java_properties", "counted_io", "properties_text", "properties_lines", "single_lines", "byte_blocks"]
+CRATES = ["java_properties", "properties_tools", "counted_io", "properties_text", "properties_lines", "single_lines", "byte_blocks"]
 ITEM = re.compile(r"^(    )?pub (const fn|fn|struct|enum|trait|const|mod|use)\b")
 
 
@@ -117,7 +117,8 @@ def fields(lines, at):
 
 
 def entries(crate):
-    """(name, lines) of each public item, with its module where that isn't the root; functions of a type stand under it."""
+    """The lines of each public item by its name and its module, which they begin with where it isn't the root, the functions
+    of each type, and what it implements."""
     names, pages = exported(crate)
     items, methods, implements = {}, {}, {}
     for path in files(crate):
@@ -148,7 +149,7 @@ def entries(crate):
             elif (name, path) in names or path in pages:
                 text = [signature(lines, at)] if public[2].endswith("fn") else fields(lines, at)
                 module = names.get((name, path), pages.get(path))
-                items[name] = [f"// in module {module}"] + text if module else text
+                items[name, module] = [f"// in module {module}"] + text if module else text
     return items, methods, implements
 
 
@@ -168,8 +169,8 @@ def page():
         if crate == "properties_text":
             out += ["What is done with a single line, in the modules `encoding`, `escape`, `parse` and others. Most callers need `Encoding` alone.", ""]
         out.append("```rust")
-        for name in sorted(items, key=str.lower):
-            out += items[name]
+        for name, module in sorted(items, key=lambda item: (item[0].lower(), item[1])):
+            out += items[name, module]
             if name in methods:
                 out += ["impl " + name + " {"] + methods[name] + ["}"]
             kinds = [kind for kind in dict.fromkeys(implements.get(name, [])) if kind]

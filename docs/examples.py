@@ -8,7 +8,7 @@ import pathlib
 import re
 
 TOP = pathlib.Path(__file__).resolve().parent.parent
-CRATES = ["byte_blocks", "counted_io", "java_properties", "properties_text", "single_lines"]
+CRATES = ["byte_blocks", "counted_io", "java_properties", "properties_text", "properties_tools", "single_lines"]
 
 HEAD = """// Examples of doc comments, each as a test.
 #![tactic(auto)]
@@ -18,14 +18,21 @@ use byte_blocks::{Byte, Either, LineEnds, find};
 use counted_io::{Counted, CountedRead, CountedWrite, ScriptedReader, ScriptedSink, SinkFault, Tail, send};
 use java_properties::{
     Call, ContentRef, Document, Edit, Encoding, LineContent, LineEnding, PropertiesError, PropertiesIter, PropertiesWriter,
-    edit_all, laws, read, read_lines, read_sorted, remove_key, run_calls, set_key, write, write_sorted,
+    edit_all, laws, read, read_lines, read_sorted, read_source, remove_key, run_calls, set_key, write, write_sorted,
+    write_source,
 };
 use properties_text::encoding::{OutputEncoding, TextBuffer};
 use properties_text::escape::unescape;
 use properties_text::print::{LineBuffer, Place, Repertoire, print_text};
+use properties_tools::arguments::words;
+use properties_tools::filter::{filter, filter_ascii};
+use properties_tools::messages::{say, say_error};
+use properties_tools::propedit::{self, change::change, get::get};
+use properties_tools::propfilter;
 use single_lines::decode::decode_line;
 use single_lines::parse::{ParsedLine, parse_line};
 use std::collections::{BTreeMap, HashMap};
+use std::env;
 use std::io::{self, ErrorKind, Write};
 use std::test::Fail;
 """
@@ -36,7 +43,9 @@ GIVEN = {
     "pieces": "let pieces: Vec<Vec<u8>> = Vec::new(alloc);",
     "input": 'let mut input: &[u8] = b"a=b";',
     "output": f"let mut output = {SINK};",
+    "errors": f"let mut errors = {SINK};",
     "sink": f"let mut sink = {SINK};",
+    "arguments": "let arguments: &[String] = &[];",
     "map": "let map: HashMap<String, String> = HashMap::new(alloc);",
     "name": 'let name = "my.properties";',
     "path": 'let path = "my.properties";',
@@ -80,7 +89,8 @@ def is_free(name, text):
     ways = ["let (mut )?{}\\b", "\\|[^|]*\\b{}\\b[^|]*\\|", "\\(.*\\b{}\\b.*\\) =", "\\b{}\\) =>", "KVPair\\({},", "for {} in"]
     is_bound = any(re.search(way.format(name), text) for way in ways) or re.search(rf"Some\((Ok\()?{name}\b", text)
     # A variant of `Call` or of `Edit` is made of texts, and not matched.
-    is_made = name in ("key", "value") and "Call::Pair(key, value)" in text or "Edit::Put(" in text
+    is_made = name in ("key", "value") and "Call::Pair(key, value)" in text
+    is_made = is_made or name in ("port", "host", "value") and "Edit::Put(" in text
     return re.search(rf"(?<![.\w]){name}\b(?!\()", text) and (is_made or not is_bound)
 
 

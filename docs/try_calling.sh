@@ -69,10 +69,12 @@ try my_program "$PWD/crates/my_program/stdin" "$work/wanted"
 try readme /dev/null "$work/wanted_of_readme"
 mkdir -p crates/examples/src
 "$top/docs/examples.py" >crates/examples/src/lib.rt
-# The examples are of single_lines too, which no caller of the library needs.
-cp -r ../todrenval/crates/single_lines crates/
-grep '^single_lines:' "$top/crates.txt" >>crates.txt
-echo 'examples: byte_blocks counted_io properties_text single_lines java_properties' >>crates.txt
+# The examples are of two crates more, which callers of the library don't need.
+for name in single_lines properties_tools; do
+    cp -r "../todrenval/crates/$name" crates/
+    grep "^$name:" "$top/crates.txt" >>crates.txt
+done
+echo 'examples: byte_blocks counted_io properties_text single_lines java_properties properties_tools' >>crates.txt
 (cd crates/examples && rt try --test >"$work/said" 2>&1) || { cat "$work/said"; exit 1; }
 grep 'test result' "$work/said"
 if [ "${1:-}" = --check ]; then

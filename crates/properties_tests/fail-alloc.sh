@@ -11,7 +11,7 @@ last=${2:-32}
 crates=$(cd "$(dirname "$0")/.." && pwd)
 status=0
 for number in $(seq "$first" "$last"); do
-    for crate in properties_tests propfilter propedit; do
+    for crate in properties_tests properties_tools; do
         told=$(cd "$crates/$crate" && rt try --test --fail-alloc "$number" 2>&1)
         looked_at=$(echo "$told" | grep -cE '^test .*(refused::|refused_memory|without_memory).* \.\.\. ')
         failed=$(echo "$told" | grep -E '^test .*(refused::|refused_memory|without_memory).* \.\.\. FAILED')

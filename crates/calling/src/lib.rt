@@ -13,4 +13,5 @@ pub mod load;
 pub mod lookup;
 pub mod migrate;
 pub mod ordered;
+pub mod pairs;
 pub mod settings;

@@ -2,12 +2,11 @@
 use Rattle.std.proofs.lemmas.Bool.Decides.{nat_tests}
 use Rattle.properties_format.specs.Text.{carriage_return}
 use Rattle.properties_format.specs.Reading.Lines.{ends_in_cr}
-use Rattle.std.proofs.Common.{take-add, get_or, ◌==◌, ◌≡◌, ℕ, ◌+◌, ◌-◌, ◌≤◌, ◌<◌, ◌^◌, zero, suc, List, [], ◌∷◌, ◌++◌, length, take, drop, min, refl, ap, ap₂, sym, ◌∙◌, subst, inl, inr, append-nil, append_assoc, length-append, arith}
+use Rattle.std.proofs.Common.{take-add, get_or, ◌==◌, ◌≡◌, ℕ, ◌+◌, ◌-◌, ◌≤◌, ◌<◌, zero, suc, List, [], ◌∷◌, ◌++◌, length, take, drop, refl, ap, ap₂, sym, ◌∙◌, subst, inl, inr, append-nil, append_assoc, length-append, arith}
 use Rattle.std.specs.Prelude.{◌⊎◌, Bool, true, false, if◌then◌else◌, Option, Some, None}
-use Rattle.std.proofs.Math.Seq.{drop-length}
-use Rattle.std.proofs.lemmas.Bool.{cases_Bool, cases_lt, cond-true, cond-false}
-use Rattle.std.proofs.lemmas.List.{drop-drop, take-append-le, take_more}
-use Rattle.std.proofs.Math.Seq.{drop-append_seam, take-length}
+use Rattle.std.proofs.lemmas.Bool.{cases_Bool, cond-true, cond-false}
+use Rattle.std.proofs.lemmas.List.{drop-drop, take_more}
+use Rattle.std.proofs.Math.Seq.{drop-append_seam}
 use Rattle.properties_format.specs.Edited.{is_editable}
 use Rattle.properties_format.specs.Reading.Edited.{without}
 use Rattle.properties_format.proofs.Body.Groups.{held-body, held_groups_of-meets}
@@ -16,27 +15,23 @@ use Rattle.java_properties.specs.BodyKeys.{spans_bytes, AreWithin, AreOthersFoun
 use Rattle.std.specs.Str.{chars}
 use Rattle.properties_format.specs.Encoding.{Encoding, windows_1252, utf_8, utf_16le, utf_16be}
 use Rattle.properties_lines.specs.LineSearch.{unit_size}
-use Rattle.properties_format.specs.Escapes.{Malformed}
 use Rattle.properties_format.specs.Lines.{Ended}
 use Rattle.properties_format.specs.Groups.{joined}
 use Rattle.properties_format.specs.Reading.Groups.{closes}
-use Rattle.properties_format.specs.Reading.Cut.{cut_of, decoded_line}
+use Rattle.properties_format.specs.Reading.Cut.{cut_of}
 use Rattle.properties_format.specs.Body.{HeldLine, as_lines, held_in, group_bytes, groups_bytes}
 use Rattle.properties_format.specs.Edited.{unreadable, final_group, added_ending, parting, is_empty_line, is_left_open}
-use Rattle.properties_format.specs.Items.{ignored, broken}
+use Rattle.properties_format.specs.Items.{broken}
 use Rattle.properties_format.specs.Reading.Items.{outcome_of, followed}
 use Rattle.properties_format.specs.Reading.Body.{is_pair_with, has_key, entries_in, held_of, held_lines_of, held_groups_after, held_groups_of}
 use Rattle.properties_format.specs.Reading.Slots.{unended_bytes}
 use Rattle.properties_format.specs.Reading.Edited.{IsSound, AreSound, result_by}
-use Rattle.properties_format.proofs.Body.Decoded.{decoded-nil}
 use Rattle.properties_format.proofs.Body.Groups.{groups_bytes-append, groups-close, groups-leave}
-use Rattle.properties_format.proofs.Cut.Units.{no_end_unit-nil}
-use Rattle.properties_format.proofs.Edited.Told.{outcome-empty}
 use Rattle.properties_format.proofs.Edited.Made.{has_key-true}
-use Rattle.properties_format.proofs.Edited.Steps.{last_place-new, last_place-other, with_after, final_group-push, result-after, held_lines-last}
+use Rattle.properties_format.proofs.Edited.Steps.{last_place-new, last_place-other, with_after, final_group-push, result-after}
 use Rattle.properties_text.specs.Encoding.{encoding_of}
-use Rattle.java_properties.proofs.BodyGroups.{groups-lines}
-use Rattle.java_properties.specs.BodyGroups.{IsWithin, lines_left, groups_left, text_of, TakesGroup}
+use Rattle.java_properties.proofs.BodyGroups.{front-of}
+use Rattle.java_properties.specs.BodyGroups.{IsWithin, groups_left, text_of, TakesGroup}
 use Rattle.java_properties.specs.BodyKeys.{IsFaultOf, IsPlace, closing_of, parted, IsKeyFound, found_after}
 use Rattle.java_properties.specs.GivenItems.{IsNoItem}
 use Rattle.java_properties.specs.declared.edit.groups.Group.{Group}
@@ -45,27 +40,22 @@ use Rattle.java_properties.specs.declared.edit.place.BodySpan.{BodySpan}
 use Rattle.java_properties.specs.declared.edit.place.KeyPlace as place
 use Rattle.java_properties.specs.declared.error.PropertiesError.{PropertiesError}
 
--- ---- parts of bytes
-
-pub front-of : (x y : List ℕ) → take (length x) (x ++ y) ≡ x
-front-of x y = take-append-le (length x) x y (omega arith) ∙ take-length x
-
 -- ---- the groups that were read
 
 -- These groups of a body were read, in none of which anything is malformed.
 pub record HasRead (e : Encoding) (body : List ℕ) (groups : List (List HeldLine)) (s : GroupReader) : Type 0 where
   pub all : held_groups_of e body ≡ groups ++ groups_left body s
   pub sound : AreSound groups
-  pub counted : s.is_done ≡ false → s.passed ≡ length (held_in groups)
-  pub placed : s.at ≡ length (groups_bytes groups)
+  pub counted : s.scanner.passed ≡ length (held_in groups)
+  pub placed : s.scanner.at ≡ length (groups_bytes groups)
   pub within : IsWithin body s
-  pub encoding : encoding_of s.encoding ≡ e
+  pub encoding : encoding_of s.scanner.encoding ≡ e
 
-pub read-none : (body : List ℕ) (s : GroupReader) → s.at ≡ 0 → s.passed ≡ 0 → s.is_done ≡ false → IsWithin body s → HasRead (encoding_of s.encoding) body [] s
+pub read-none : (body : List ℕ) (s : GroupReader) → s.scanner.at ≡ 0 → s.scanner.passed ≡ 0 → s.scanner.is_done ≡ false → IsWithin body s → HasRead (encoding_of s.scanner.encoding) body [] s
 read-none body s at passed going w = record {
   all = rw (going, at) refl;
   sound = tt;
-  counted = λ h. passed;
+  counted = passed;
   placed = at;
   within = w;
   encoding = refl;
@@ -87,6 +77,8 @@ read-more {e} {body} {groups} {s} {t} {group} h k sound =
     let next = k.span.next in
     let starts = k.starts in
     let placed = h.placed in
+    let counted = h.counted in
+    let passed = k.passed in
     let all : length (groups_bytes (groups ++ k.held ∷ [])) ≡ length (groups_bytes groups) + length (group_bytes k.held) =
     ap length (groups_bytes-append groups (k.held ∷ []) ∙ ap (λ v. groups_bytes groups ++ v) one) ∙ length-append (groups_bytes groups) (group_bytes k.held) in
     let lines : length (held_in (groups ++ k.held ∷ [])) ≡ length (held_in groups) + length k.held =
@@ -94,60 +86,31 @@ read-more {e} {body} {groups} {s} {t} {group} h k sound =
     record {
       all = h.all ∙ ap (λ v. groups ++ v) k.groups ∙ sym (append_assoc groups (k.held ∷ []) (groups_left body t));
       sound = sound-append groups (k.held ∷ []) h.sound (subst (λ v. IsSound (outcome_of v)) k.text sound, tt);
-      counted = λ going. (let a = k.counted going in let b = h.counted k.live in omega arith);
+      counted = omega arith;
       placed = omega arith;
       within = k.within;
-      encoding = ap encoding_of k.encoding ∙ h.encoding;
+      encoding = k.encoding ∙ h.encoding;
     }
 
 -- the last group was read
-pub read-all : {e : Encoding} {body : List ℕ} {groups : List (List HeldLine)} {s : GroupReader} → HasRead e body groups s → s.is_done ≡ true
+pub read-all : {e : Encoding} {body : List ℕ} {groups : List (List HeldLine)} {s : GroupReader} → HasRead e body groups s → s.scanner.is_done ≡ true
     → held_groups_of e body ≡ groups
 read-all {e} {body} {groups} {s} h done = h.all ∙ (rw done (append-nil groups))
 
 -- ---- the first fault
 
--- no bytes are left: the last group is an empty line
-none-left : (body : List ℕ) (s t : GroupReader) (group : Group) → IsWithin body s → s.at ≡ length body → (k : TakesGroup body s group t)
-    → outcome_of (joined (as_lines k.held)) ≡ ignored
-none-left body s t group w at k =
-    let e = encoding_of s.encoding in
-    let h : HeldLine = record { bytes = []; text = decoded_line e []; ending = None } in
-    let none : drop s.at body ≡ [] = ap (λ n. drop n body) at ∙ drop-length body in
-    let lines : lines_left body s ≡ h ∷ [] = rw k.live (ap (held_lines_of e) none ∙ held_lines-last e [] (no_end_unit-nil e)) in
-    let nil = decoded-nil e in
-    let alone : closes [] (record { number = 0; text = decoded_line e [] }) ≡ true = ap (λ v. closes [] (record { number = 0; text = v })) nil in
-    let groups = groups-lines body s ∙ ap (held_groups_after []) lines ∙ groups-close [] h [] alone in
-    let held : k.held ≡ h ∷ [] = (let both = sym k.groups ∙ groups in cc) in
-    ap (λ v. outcome_of (joined (as_lines v))) held ∙ ap (λ v. outcome_of (joined (record { number = 0; text = v } ∷ []))) nil ∙ outcome-empty
-
--- a line that is malformed has a number
-numbered : {e : Encoding} {body : List ℕ} {groups : List (List HeldLine)} {s t : GroupReader} {group : Group} (kind : Malformed) → HasRead e body groups s
-    → (k : TakesGroup body s group t) → outcome_of (joined (as_lines k.held)) ≡ broken kind → s.passed + 1 < 2 ^ 64
-numbered {e} {body} {groups} {s} {t} {group} kind h k is =
-    let place = h.within.place in
-    let counted = h.within.counted in
-    let fits = h.within.fits in
-    elim (cases_lt s.at (length body)) [
-      | inl less ↦ omega arith
-      | inr full ↦ let none = none-left body s t group h.within (omega arith) k in absurd (cc)
-    ]
-
-pub counted : {number passed n : ℕ} → number ≡ min (passed + 1) 18446744073709551615 → passed ≡ n → n + 1 < 2 ^ 64 → number ≡ n + 1
-counted is same fits = omega arith
-
--- The first fault of a body is that of the group that came, whose line is this number.
-pub read-fault : {e : Encoding} {body : List ℕ} {groups : List (List HeldLine)} {s t : GroupReader} {group : Group} (number : ℕ) (error : PropertiesError)
-    → HasRead e body groups s → TakesGroup body s group t → (s.passed + 1 < 2 ^ 64 → number ≡ s.passed + 1)
-    → IsNoItem number (chars (text_of body t group)) error → IsFaultOf (held_groups_of e body) error
-read-fault {e} {body} {groups} {s} {t} {group} number error h k counts (inl (how, breaks, is)) =
+-- The first fault of a body is that of the group that came.
+pub read-fault : {e : Encoding} {body : List ℕ} {groups : List (List HeldLine)} {s t : GroupReader} {group : Group} (error : PropertiesError)
+    → HasRead e body groups s → TakesGroup body s group t → IsNoItem group.number (chars (text_of body t group)) error
+    → IsFaultOf (held_groups_of e body) error
+read-fault {e} {body} {groups} {s} {t} {group} error h k (inl (how, breaks, is)) =
     let broke : outcome_of (joined (as_lines k.held)) ≡ broken how = ap outcome_of (sym k.text) ∙ breaks in
-    let n = counts (numbered how h k broke) in
-    let counted = h.counted k.live in
-    let first : number ≡ 1 + length (held_in groups) = omega arith in
+    let number = k.number in
+    let counted = h.counted in
+    let first : group.number ≡ 1 + length (held_in groups) = omega arith in
     inl (
       how,
-      number,
+      group.number,
       (λ made.
           ap (λ v. result_by (entries_in 1 v) made) (h.all ∙ ap (λ v. groups ++ v) k.groups)
           ∙ result-after 1 groups (k.held ∷ groups_left body t) made h.sound
@@ -155,7 +118,7 @@ read-fault {e} {body} {groups} {s} {t} {group} number error h k counts (inl (how
           ∙ ap (unreadable how) (sym first)),
       is,
     )
-read-fault number error h k counts (inr is) = inr is
+read-fault error h k (inr is) = inr is
 
 -- ---- where the key stands
 
@@ -166,8 +129,8 @@ pub record HasLooked (e : Encoding) (body key : List ℕ) (s : GroupReader) (fou
   pub pair : IsPlace key groups found.pair
   pub closing : (groups ≡ []) ⊎ ((source : List ℕ) → parting source (final_group groups) ≡ parted (added_ending source) found.closing)
 
-pub looked-none : (body key : List ℕ) (s : GroupReader) (found : place.KeyPlace) → s.at ≡ 0 → s.passed ≡ 0 → s.is_done ≡ false → IsWithin body s → found.pair ≡ None
-    → HasLooked (encoding_of s.encoding) body key s found
+pub looked-none : (body key : List ℕ) (s : GroupReader) (found : place.KeyPlace) → s.scanner.at ≡ 0 → s.scanner.passed ≡ 0 → s.scanner.is_done ≡ false → IsWithin body s → found.pair ≡ None
+    → HasLooked (encoding_of s.scanner.encoding) body key s found
 looked-none body key s found at passed going w none =
     record { groups = []; read = read-none body s at passed going w; pair = subst (IsPlace key []) (sym none) refl; closing = inl refl }
 
@@ -240,7 +203,7 @@ unfolding held_groups_of
 some-groups e body h = some-after [] (held_lines_of e body) (λ none. some-lines e (cut_of e body).ended (cut_of e body).last) h
 
 -- all groups were looked at
-pub looked-all : {e : Encoding} {body key : List ℕ} {s : GroupReader} {found : place.KeyPlace} → HasLooked e body key s found → s.is_done ≡ true
+pub looked-all : {e : Encoding} {body key : List ℕ} {s : GroupReader} {found : place.KeyPlace} → HasLooked e body key s found → s.scanner.is_done ≡ true
     → IsKeyFound e body key found
 looked-all {e} {body} {key} {s} {found} h done =
     let all = read-all h.read done in
@@ -271,12 +234,12 @@ last-cr (c ∷ d ∷ ds) h =
 pub record HasKept (e : Encoding) (body key : List ℕ) (s : GroupReader) (others : List BodySpan) (start : ℕ) : Type 0 where
   pub groups : List (List HeldLine)
   pub read : HasRead e body groups s
-  pub ordered : start ≤ s.at
+  pub ordered : start ≤ s.scanner.at
   pub within : AreWithin body others
-  pub bytes : spans_bytes body others ++ take (s.at - start) (drop start body) ≡ without key groups
+  pub bytes : spans_bytes body others ++ take (s.scanner.at - start) (drop start body) ≡ without key groups
 
-pub kept-none : (body key : List ℕ) (s : GroupReader) (others : List BodySpan) → s.at ≡ 0 → s.passed ≡ 0 → s.is_done ≡ false → IsWithin body s → others ≡ []
-    → HasKept (encoding_of s.encoding) body key s others 0
+pub kept-none : (body key : List ℕ) (s : GroupReader) (others : List BodySpan) → s.scanner.at ≡ 0 → s.scanner.passed ≡ 0 → s.scanner.is_done ≡ false → IsWithin body s → others ≡ []
+    → HasKept (encoding_of s.scanner.encoding) body key s others 0
 kept-none body key s others at passed going w none = record {
   groups = [];
   read = read-none body s at passed going w;
@@ -316,19 +279,19 @@ editable-bytes utf_16be h = absurd (omega arith)
 -- a pair with the key is taken out
 pub kept-removed : {e : Encoding} {body key : List ℕ} {s t : GroupReader} {others : List BodySpan} {start : ℕ} {group : Group} (more : List BodySpan) → HasKept e body key s others start
     → TakesGroup body s group t → IsSound (outcome_of (chars (text_of body t group))) → true ≡ is_pair_with key (outcome_of (chars (text_of body t group)))
-    → more ≡ others ++ record { start = start; end = group.start } ∷ [] → HasKept e body key t more t.at
+    → more ≡ others ++ record { start = start; end = group.start } ∷ [] → HasKept e body key t more t.scanner.at
 kept-removed {e} {body} {key} {s} {t} {others} {start} {group} more h k sound is pushed =
     let has : has_key key k.held ≡ true = ap (λ v. is_pair_with key (outcome_of v)) (sym k.text) ∙ sym is in
     let starts = k.starts in
     let ordered = h.ordered in
-    let place = h.read.within.place in
+    let place = h.read.within.stands.fits.within in
     let within = within-append body others (record { start = start; end = group.start } ∷ []) h.within ((omega arith), (omega arith), tt) in
     record {
       groups = h.groups ++ k.held ∷ [];
       read = read-more h.read k sound;
       ordered = omega arith;
       within = subst (AreWithin body) (sym pushed) within;
-      bytes = ap₂ (λ v w. spans_bytes body v ++ w) pushed (no-part t.at (drop t.at body))
+      bytes = ap₂ (λ v w. spans_bytes body v ++ w) pushed (no-part t.scanner.at (drop t.scanner.at body))
           ∙ append-nil (spans_bytes body (others ++ record { start = start; end = group.start } ∷ []))
           ∙ one-span body others start group.start
           ∙ ap (λ n. spans_bytes body others ++ take (n - start) (drop start body)) starts
@@ -347,7 +310,7 @@ group-whole {e} {body} {groups} {s} {t} {group} ok h k =
 
 -- the bytes of the group that came
 group-part : {e : Encoding} {body : List ℕ} {groups : List (List HeldLine)} {s t : GroupReader} {group : Group} → is_editable e ≡ true → HasRead e body groups s
-    → (k : TakesGroup body s group t) → (take (t.at - s.at) (drop s.at body) ≡ group_bytes k.held) × (s.at ≤ t.at)
+    → (k : TakesGroup body s group t) → (take (t.scanner.at - s.scanner.at) (drop s.scanner.at body) ≡ group_bytes k.held) × (s.scanner.at ≤ t.scanner.at)
 group-part {e} {body} {groups} {s} {t} {group} ok h k =
     let front = groups_bytes groups in
     let g = group_bytes k.held in
@@ -356,7 +319,7 @@ group-part {e} {body} {groups} {s} {t} {group} ok h k =
     let next = k.span.next in
     let starts = k.starts in
     let placed = h.placed in
-    let size : t.at - s.at ≡ length g = omega arith in (
+    let size : t.scanner.at - s.scanner.at ≡ length g = omega arith in (
       ap₂ (λ n d. take n d) size (ap₂ drop placed whole ∙ drop-append_seam front (g ++ rest)) ∙ front-of g rest,
       (omega arith),
     )
@@ -370,35 +333,35 @@ kept-more {e} {body} {key} {s} {t} {others} {start} {group} ok h k sound is =
     let part = group-part ok h.read k in
     let ordered = h.ordered in
     let after = part.1 in
-    let sum : t.at - start ≡ (s.at - start) + (t.at - s.at) = omega arith in
-    let place : start + (s.at - start) ≡ s.at = omega arith in
-    let grown : take (t.at - start) (drop start body) ≡ take (s.at - start) (drop start body) ++ group_bytes k.held =
+    let sum : t.scanner.at - start ≡ (s.scanner.at - start) + (t.scanner.at - s.scanner.at) = omega arith in
+    let place : start + (s.scanner.at - start) ≡ s.scanner.at = omega arith in
+    let grown : take (t.scanner.at - start) (drop start body) ≡ take (s.scanner.at - start) (drop start body) ++ group_bytes k.held =
     ap (λ n. take n (drop start body)) sum
-    ∙ take-add (s.at - start) (t.at - s.at) (drop start body)
-    ∙ ap (λ v. take (s.at - start) (drop start body) ++ take (t.at - s.at) v) (drop-drop (s.at - start) start body ∙ ap (λ n. drop n body) place)
-    ∙ ap (λ v. take (s.at - start) (drop start body) ++ v) part.0 in
+    ∙ take-add (s.scanner.at - start) (t.scanner.at - s.scanner.at) (drop start body)
+    ∙ ap (λ v. take (s.scanner.at - start) (drop start body) ++ take (t.scanner.at - s.scanner.at) v) (drop-drop (s.scanner.at - start) start body ∙ ap (λ n. drop n body) place)
+    ∙ ap (λ v. take (s.scanner.at - start) (drop start body) ++ v) part.0 in
     record {
       groups = h.groups ++ k.held ∷ [];
       read = read-more h.read k sound;
       ordered = omega arith;
       within = h.within;
       bytes = ap (λ v. spans_bytes body others ++ v) grown
-          ∙ sym (append_assoc (spans_bytes body others) (take (s.at - start) (drop start body)) (group_bytes k.held))
+          ∙ sym (append_assoc (spans_bytes body others) (take (s.scanner.at - start) (drop start body)) (group_bytes k.held))
           ∙ ap (λ v. v ++ group_bytes k.held) h.bytes
           ∙ sym (without-push key h.groups k.held ∙ ap (λ v. without key h.groups ++ v) (cond-false (has_key key k.held) [] (group_bytes k.held ++ []) has ∙ append-nil (group_bytes k.held)));
     }
 
 -- all groups were looked at
 pub kept-all : {e : Encoding} {body key : List ℕ} {s : GroupReader} {others : List BodySpan} {start : ℕ} (more : List BodySpan) → HasKept e body key s others start
-    → s.is_done ≡ true → more ≡ others ++ record { start = start; end = s.at } ∷ [] → AreOthersFound e body key more
+    → s.scanner.is_done ≡ true → more ≡ others ++ record { start = start; end = s.scanner.at } ∷ [] → AreOthersFound e body key more
 kept-all {e} {body} {key} {s} {others} {start} more h done pushed =
     let all = read-all h.read done in
-    let place = h.read.within.place in
-    let within = within-append body others (record { start = start; end = s.at } ∷ []) h.within (h.ordered, place, tt) in
+    let place = h.read.within.stands.fits.within in
+    let within = within-append body others (record { start = start; end = s.scanner.at } ∷ []) h.within (h.ordered, place, tt) in
     record {
       sound = subst AreSound (sym all) h.read.sound;
       within = subst (AreWithin body) (sym pushed) within;
-      bytes = ap (spans_bytes body) pushed ∙ one-span body others start s.at ∙ h.bytes ∙ ap (without key) (sym all);
+      bytes = ap (spans_bytes body) pushed ∙ one-span body others start s.scanner.at ∙ h.bytes ∙ ap (without key) (sym all);
     }
 
 -- ---- parts that are copied

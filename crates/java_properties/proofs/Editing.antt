@@ -57,8 +57,7 @@ use Rattle.properties_text.specs.Encoding.{encoding_of}
 use Rattle.java_properties.specs.BodyKeys.{IsFaultOf, IsPlaceOf, IsPlace, IsKeyFound, AreOthersFound, left_bytes, parted}
 use Rattle.java_properties.specs.Editing.{IsRefusal, IsSet, IsRemoved}
 use Rattle.java_properties.specs.Sources.{IsInForce}
-use Rattle.java_properties.proofs.BodyGroups.{no-bytes}
-use Rattle.java_properties.proofs.BodyKeys.{front-of}
+use Rattle.java_properties.proofs.BodyGroups.{front-of, no-bytes}
 use Rattle.java_properties.specs.declared.edit.place.BodySpan.{BodySpan}
 use Rattle.java_properties.specs.declared.edit.place.KeyPlace as place
 use Rattle.java_properties.specs.declared.edit.source.Source.{Source}

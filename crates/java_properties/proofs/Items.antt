@@ -24,7 +24,7 @@ use Rattle.properties_text.specs.declared.escape.UnescapeError.{UnescapeError}
 use Rattle.properties_text.specs.declared.escape.UnescapeError.TheVariants as unescape
 use Rattle.java_properties.specs.Errors.{IsBareError, IsUnresolved, SaysUnresolved, SaysLineError}
 use Rattle.java_properties.specs.LentItems.{found_content, spans_of, AreTextsIn, IsFoundIn, FindsItem, FindsPlain}
-use Rattle.properties_lines.specs.LineFinder.{PassesSome}
+use Rattle.properties_lines.specs.LineReader.{PassesSome}
 use Rattle.properties_lines.proofs.LineJoiner.{some-start, some-on, all-on}
 use Rattle.properties_lines.specs.LineJoiner.{IsLazyItems, JoinsError, JoinsNext, Comes, Joiner, numbered_line}
 use Rattle.properties_lines.specs.declared.error.LineError.{LineError}

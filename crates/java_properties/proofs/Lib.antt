@@ -8,11 +8,12 @@ pub mod Items
 pub mod LentItems
 pub mod Told
 pub mod Readings
+pub mod MalformedEscapes
 pub mod ReadInto
 pub mod TextMaps
-pub mod BodyLines
 pub mod BodyGroups
 pub mod BodyKeys
 pub mod BodySlots
 pub mod Editing
+pub mod WholeSources
 pub mod BodyDocuments

@@ -1,6 +1,7 @@
 -- How a whole input is read, item after item.
 use Rattle.std.proofs.Common.{◌≡◌, ℕ, Bool, true, false, List, [], ◌∷◌, ◌++◌, refl, sym, ap, ◌∙◌, inl, inr, subst, append_assoc, append-nil}
 use Rattle.std.specs.Prelude.{◌⊎◌}
+use Rattle.std.proofs.lemmas.List.{map-append}
 use Rattle.counted_io.specs.Streams.{Reader, HasRead}
 use Rattle.counted_io.proofs.Streams.{read-none, read-more, failed-more}
 use Rattle.properties_format.specs.Encoding.{Encoding}
@@ -15,13 +16,15 @@ use Rattle.properties_format.proofs.Cut.Byline.{byline-is_lines, lines-is_byline
 use Rattle.properties_format.proofs.Laws.{one-reading}
 use Rattle.properties_format.proofs.ItemsToCome.Unique.{items_to_come-start}
 use Rattle.java_properties.specs.Errors.{IsBareError}
-use Rattle.properties_lines.specs.LineFinder.{PassesSome}
+use Rattle.properties_lines.specs.LineReader.{PassesSome}
 use Rattle.properties_lines.proofs.LineJoiner.{some-start, some-on, all-on}
 use Rattle.java_properties.proofs.Told.{tell-all}
 use Rattle.java_properties.specs.GivenItems.{Gives, BreaksOff, GivesEntry, GivesNone, GivesMalformed, GivesError}
-use Rattle.java_properties.specs.ReadLines.{IsReading, BeginsReading, ReadsWhole, StopsMalformed, StopsFailed, StopsEarly}
+use Rattle.java_properties.specs.PropertiesIter.{entry_of}
+use Rattle.java_properties.specs.ReadLines.{entries_in, IsReading, BeginsReading, ReadsWhole, StopsMalformed, StopsFailed, StopsEarly, StopsReading}
 use Rattle.java_properties.specs.declared.error.ErrorKind.TheVariants as kind
 use Rattle.java_properties.specs.declared.error.PropertiesError.{PropertiesError}
+use Rattle.java_properties.specs.declared.line.Line.{Line}
 
 -- the items that are computed are a reading
 pub reading-of : (e : Encoding) (bytes : List ℕ) (ending : InputEnd) (entries : List Entry) → items_of e bytes ending ≡ entries → IsReading e bytes ending entries
@@ -149,3 +152,32 @@ module _ {R : Type 0} {reader : Reader R} where
   collected-error {r = r} h g (inr (inl f)) =
       inr (record { bytes = r ++ f.bytes; read = read-more h.read f.read; is = inl (f.is, tell-all (all-on (h.passes g) f.passes)); begins = early h g f.bytes })
   collected-error {r = r} h g (inr (inr f)) = inr (record { bytes = r ++ f.bytes; read = read-more h.read f.read; is = inr f.is; begins = early h g f.bytes })
+
+  -- an error came
+  pub collected-stops : {e : Encoding} {from to next : R} {r : List ℕ} {s : ReaderState} {error : PropertiesError} (lines : List Line) → Collected reader e from r (entries_in lines) s to
+      → s.is_done ≡ false → GivesMalformed reader s to error next ⊎ GivesError reader s to error next → StopsReading reader e from error next
+  collected-stops lines h live k = record { lines = lines; stops = elim k [ inl m ↦ inl (collected-malformed h live m) | inr j ↦ inr (collected-error h live j) ] }
+
+pub entries-more : (lines : List Line) (line : Line) → entries_in lines ++ (entry_of line ∷ []) ≡ entries_in (lines ++ (line ∷ []))
+entries-more lines line = sym (map-append entry_of lines (line ∷ []))
+
+-- ---- items that are dropped
+
+-- Some items came.
+pub record HasDropped {R : Type 0} (reader : Reader R) (e : Encoding) (from : R) (state : ReaderState) (to : R) : Type 0 where
+  pub lines : List Line
+  pub bytes : List ℕ
+  pub collected : Collected reader e from bytes (entries_in lines) state to
+
+module _ {R : Type 0} {reader : Reader R} {e : Encoding} where
+  pub dropped-none : (from : R) (s : ReaderState) → s ≡ start e → HasDropped reader e from s from
+  dropped-none from s is = let P : ReaderState → Type 0 = λ v. HasDropped reader e from v from in
+      subst P (sym is) (record { lines = []; bytes = []; collected = collected-start e from })
+
+  pub dropped-more : {from to next : R} {s t : ReaderState} (line : Line) → HasDropped reader e from s to → GivesEntry reader s to (entry_of line) t next → HasDropped reader e from t next
+  dropped-more {from = from} {next = next} {t = t} line h g = record {
+    lines = h.lines ++ (line ∷ []);
+    bytes = h.bytes ++ g.bytes;
+    collected = let P : List Entry → Type 0 = λ v. Collected reader e from (h.bytes ++ g.bytes) v t next in
+        subst P (entries-more h.lines line) (collected-next h.collected g);
+  }

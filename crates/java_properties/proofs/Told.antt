@@ -5,7 +5,7 @@ use Rattle.counted_io.specs.Streams.{Reader}
 use Rattle.properties_format.specs.Entries.{Entry}
 use Rattle.properties_format.specs.ItemsToCome.{ReaderState}
 use Rattle.properties_format.proofs.ItemsToCome.Divisions.{are_to_come, to_come_are, comes_first, first_comes, lines_come_first, first_lines_come}
-use Rattle.properties_lines.specs.LineFinder as finder
+use Rattle.properties_lines.specs.LineReader as finder
 use Rattle.properties_lines.specs.LineJoiner as joiner
 use Rattle.java_properties.specs.GivenItems as given
 use Rattle.java_properties.specs.LentItems.{FindsItem, AdvancesTo}

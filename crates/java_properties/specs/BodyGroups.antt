@@ -1,43 +1,54 @@
 -- The groups of a body that is held whole, one after another.
-use Rattle.std.specs.Prelude.{◌≡◌, ℕ, ◌+◌, ◌-◌, ◌≤◌, ◌<◌, ◌^◌, Bool, true, false, if◌then◌else◌, List, [], ◌∷◌, take, drop, length}
+use Rattle.std.specs.Prelude.{◌≡◌, ℕ, ◌+◌, ◌-◌, ◌≤◌, Bool, true, false, if◌then◌else◌, List, [], ◌∷◌, take, drop, length}
 use Rattle.std.specs.Prelude.{◌⊎◌, Option, Some, None, Result, Ok, Err}
 use Rattle.std.specs.Str.{chars, IsUtf8}
+use Rattle.properties_format.specs.Text as text
 use Rattle.properties_format.specs.Groups.{is_comment_line, joined}
 use Rattle.properties_format.specs.Body.{HeldLine, as_lines, ending_bytes, group_bytes, last_ending}
 use Rattle.properties_format.specs.Edited.{is_empty_line, is_left_open}
-use Rattle.properties_format.specs.Reading.Body.{held_lines_of, held_groups_after, held_groups_of}
+use Rattle.properties_format.specs.Reading.Body.{held_groups_after, held_groups_of}
 use Rattle.properties_format.specs.Reading.Slots.{unended_bytes}
 use Rattle.properties_text.specs.Encoding.{encoding_of}
 use Rattle.properties_lines.specs.LineSearch.{unit_size}
-use Rattle.java_properties.specs.BodyLines.{ending_in, held_line}
-use Rattle.java_properties.specs.declared.edit.lines.FirstLine.{FirstLine}
+use Rattle.properties_lines.specs.Scanner.{IsTold, bytes_of}
+use Rattle.properties_lines.specs.HeldLines.{StandsInBody, held_line, lines_left}
+use Rattle.properties_lines.specs.LogicalLine.{text_with}
+use Rattle.java_properties.specs.BodyLines.{ending_in}
 use Rattle.java_properties.specs.declared.edit.groups.Group.{Group}
 use Rattle.java_properties.specs.declared.edit.groups.GroupReader.{GroupReader}
 
 -- ---- where a reader stands
 
--- It stands within the body, and so many line endings fit before its place.
+-- It stands in the body, whose units are of one byte.
 pub record IsWithin (body : List ℕ) (s : GroupReader) : Type 0 where
-  pub bytes : unit_size (encoding_of s.encoding) ≡ 1
-  pub place : s.at ≤ length body
-  pub counted : s.passed ≤ s.at
-  pub fits : length body < 2 ^ 64
+  pub bytes : unit_size (encoding_of s.scanner.encoding) ≡ 1
+  pub stands : StandsInBody s.scanner body
 
--- the lines to come, and the groups to come
-abbrev pub lines_left : List ℕ → GroupReader → List HeldLine
-lines_left body s = if s.is_done then [] else held_lines_of (encoding_of s.encoding) (drop s.at body)
-
+-- the groups to come
 abbrev pub groups_left : List ℕ → GroupReader → List (List HeldLine)
-groups_left body s = if s.is_done then [] else held_groups_of (encoding_of s.encoding) (drop s.at body)
+groups_left body s = if s.scanner.is_done then [] else held_groups_of (encoding_of s.scanner.encoding) (drop s.scanner.at body)
+
+-- ---- lines
 
 -- The next line was taken.
-pub record TakesLine (body : List ℕ) (old : GroupReader) (line : FirstLine) (new : GroupReader) : Type 0 where
-  pub lines : lines_left body old ≡ held_line (encoding_of old.encoding) (take line.size (drop old.at body)) (ending_in line.ending) ∷ lines_left body new
-  pub held : old.at + line.size ≤ length body
-  pub placed : new.at ≡ old.at + line.size + length (ending_bytes (ending_in line.ending))
-  pub passed : new.is_done ≡ false → new.passed ≡ old.passed + 1
+pub record TakesLine (body : List ℕ) (old new : GroupReader) : Type 0 where
+  pub live : old.scanner.is_done ≡ false
+  pub ending : Option text.LineEnding
+  pub lines : lines_left body old.scanner ≡ held_line (encoding_of old.scanner.encoding) body new.scanner.line ending ∷ lines_left body new.scanner
+  pub starts : new.scanner.line.start ≡ old.scanner.at
+  pub ordered : new.scanner.line.start ≤ new.scanner.line.end
+  pub placed : new.scanner.line.end ≤ new.scanner.at
+  pub ends : take (new.scanner.at - new.scanner.line.end) (drop new.scanner.line.end body) ≡ ending_bytes ending
+  pub passed : new.scanner.passed ≡ old.scanner.passed + 1
+  pub told : IsTold (encoding_of new.scanner.encoding) (bytes_of body new.scanner.line) new.scanner.line
   pub within : IsWithin body new
-  pub same : new ≡ record old { at = new.at; passed = new.passed; is_done = new.is_done }
+  pub encoding : encoding_of new.scanner.encoding ≡ encoding_of old.scanner.encoding
+  pub same : new ≡ record old { scanner = new.scanner }
+
+abbrev pub FindsLine : {E : Type 0} → List ℕ → GroupReader → Result Bool E → GroupReader → Type 0
+FindsLine body old (Ok true) new = TakesLine body old new
+FindsLine body old (Ok false) new = (old.scanner.is_done ≡ true) × (new ≡ old)
+FindsLine body old (Err e) new = Unit {0}
 
 -- ---- groups
 
@@ -51,30 +62,30 @@ pub record IsSpanOf (held : List HeldLine) (group : Group) (after : ℕ) : Type 
 
 -- the logical line of a group, in UTF-8
 abbrev pub text_of : List ℕ → GroupReader → Group → List ℕ
-text_of body s group = if s.is_kept then s.text else take (group.end - group.start) (drop group.start body)
+text_of body s group = text_with s.line (take (group.end - group.start) (drop group.start body))
 
 -- that line is text
 pub record IsTextHeld (body : List ℕ) (s : GroupReader) (group : Group) : Type 0 where
   pub ordered : group.start ≤ group.end
   pub within : group.end ≤ length body
-  pub text : s.is_kept ≡ false → IsUtf8 (take (group.end - group.start) (drop group.start body))
+  pub text : s.line.is_kept ≡ false → IsUtf8 (take (group.end - group.start) (drop group.start body))
 
 -- The next group came.
 pub record TakesGroup (body : List ℕ) (old : GroupReader) (group : Group) (new : GroupReader) : Type 0 where
   pub held : List HeldLine
-  pub live : old.is_done ≡ false
+  pub live : old.scanner.is_done ≡ false
   pub groups : groups_left body old ≡ held ∷ groups_left body new
-  pub starts : group.start ≡ old.at
-  pub passed : group.passed ≡ old.passed
-  pub counted : new.is_done ≡ false → new.passed ≡ old.passed + length held
-  pub span : IsSpanOf held group new.at
+  pub starts : group.start ≡ old.scanner.at
+  pub number : group.number ≡ old.scanner.passed + 1
+  pub passed : new.scanner.passed ≡ old.scanner.passed + length held
+  pub span : IsSpanOf held group new.scanner.at
   pub within : IsWithin body new
-  pub encoding : new.encoding ≡ old.encoding
+  pub encoding : encoding_of new.scanner.encoding ≡ encoding_of old.scanner.encoding
   pub held_text : IsTextHeld body new group
   pub text : chars (text_of body new group) ≡ joined (as_lines held)
 
 abbrev pub GivesGroup : {E : Type 0} → List ℕ → GroupReader → Result (Option Group) E → GroupReader → Type 0
-GivesGroup body old (Ok None) new = (old.is_done ≡ true) × (new ≡ old)
+GivesGroup body old (Ok None) new = (old.scanner.is_done ≡ true) × (new ≡ old)
 GivesGroup body old (Ok (Some group)) new = TakesGroup body old group new
 GivesGroup body old (Err e) new = Unit {0}
 
@@ -85,24 +96,23 @@ abbrev pub groups_from : Bool → List HeldLine → List HeldLine → List (List
 groups_from true held rest = held_groups_after held rest
 groups_from false held rest = held ∷ held_groups_after [] rest
 
--- A group was read up to a line of it that was open before, whatever the reader was before that group.
-pub record IsJoined (body : List ℕ) (old : GroupReader) (group : Group) (new : GroupReader) : Type 0 where
+-- A group was read up to a line of it, whatever the reader was before that group.
+pub record ReadsGroup (body : List ℕ) (old : GroupReader) (group : Group) (new : GroupReader) : Type 0 where
   pub first : HeldLine
   pub more : List HeldLine
-  pub live : old.is_done ≡ false
-  pub other : is_comment_line first.text ≡ false
-  pub groups : held_groups_after [] (lines_left body old) ≡ groups_from group.is_open (first ∷ more) (lines_left body new)
-  pub starts : group.start ≡ old.at
-  pub passed : group.passed ≡ old.passed
-  pub counted : new.is_done ≡ false → new.passed ≡ old.passed + length (first ∷ more)
-  pub span : IsSpanOf (first ∷ more) group new.at
-  pub ends : group.end ≤ length body
-  pub encoding : new.encoding ≡ old.encoding
-  pub kept : new.is_kept ≡ true
-  pub text : chars new.text ≡ joined (as_lines (first ∷ more))
+  pub live : old.scanner.is_done ≡ false
+  pub groups : held_groups_after [] (lines_left body old.scanner) ≡ groups_from group.is_open (first ∷ more) (lines_left body new.scanner)
+  pub starts : group.start ≡ old.scanner.at
+  pub number : group.number ≡ old.scanner.passed + 1
+  pub passed : new.scanner.passed ≡ old.scanner.passed + length (first ∷ more)
+  pub span : IsSpanOf (first ∷ more) group new.scanner.at
+  pub encoding : encoding_of new.scanner.encoding ≡ encoding_of old.scanner.encoding
+  pub opened : group.is_open ≡ true → (is_comment_line first.text ≡ false) × (new.line.is_kept ≡ true)
+  pub held_text : IsTextHeld body new group
+  pub text : chars (text_of body new group) ≡ joined (as_lines (first ∷ more))
 
--- A group that was read up to an open line is read on: to a line that isn't open, or to the last one.
+-- It is read on: to a line that isn't open, or to the last one.
 pub record JoinsGroup (body : List ℕ) (old : GroupReader) (group : Group) (joined : Group) (new : GroupReader) : Type 0 where
-  pub whole : (before : GroupReader) → IsJoined body before group old → IsJoined body before joined new
-  pub ended : joined.is_open ≡ false ⊎ new.is_done ≡ true
+  pub whole : (before : GroupReader) → ReadsGroup body before group old → ReadsGroup body before joined new
+  pub ended : joined.is_open ≡ false ⊎ new.scanner.is_done ≡ true
   pub within : IsWithin body new

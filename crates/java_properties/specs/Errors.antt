@@ -50,6 +50,12 @@ abbrev pub cause_of_write : Option Error → Cause
 cause_of_write Option.None = cause.None
 cause_of_write (Option.Some source) = cause.Io source
 
+-- the same cause, but where it is a stream that failed, it failed so
+abbrev pub cause_by : Error → Cause → Cause
+cause_by source cause.None = cause.None
+cause_by source (cause.Io given) = cause.Io source
+cause_by source cause.NotHex = cause.NotHex
+
 -- the kind that malformed escapes are, and what they came from
 abbrev pub malformed_kind : Malformed → ErrorKind
 malformed_kind not_enough_digits = kind.NotEnoughDigits

@@ -11,7 +11,7 @@ use Rattle.properties_format.specs.ItemsToCome.{ReaderState}
 use Rattle.properties_format.specs.Reading.ItemsToCome.{items_to_come}
 use Rattle.properties_format.specs.Reading.ReaderSteps.{ReadsEntry}
 use Rattle.java_properties.specs.Errors.{IsBareError, IsStreamError, IsMalformed}
-use Rattle.properties_lines.specs.LineFinder.{PassesSome, PassesAll}
+use Rattle.properties_lines.specs.LineReader.{PassesSome, PassesAll}
 use Rattle.properties_lines.specs.LineJoiner.{IsLazyItems}
 use Rattle.java_properties.specs.PropertiesIter.{entry_of}
 use Rattle.java_properties.specs.declared.error.ErrorKind.TheVariants as kind

@@ -1,5 +1,5 @@
 -- What a contract sees of items that are lent, and of what is found of them before that.
-use Rattle.std.specs.Prelude.{◌≡◌, ◌⊎◌, ℕ, Bool, true, false, not, List, Option, Some, None, OnSome, Result, Ok, Err}
+use Rattle.std.specs.Prelude.{◌≡◌, ◌⊎◌, ℕ, Bool, true, false, not, List, Option, Some, None, Result, Ok, Err}
 use Rattle.std.specs.Option.{is_some}
 use Rattle.std.specs.Str.{chars}
 use Rattle.std.specs.String.{string_bytes}
@@ -19,7 +19,7 @@ use Rattle.java_properties.specs.Errors.{IsBareError, SaysUnresolved}
 use Rattle.properties_text.specs.Escaping.{holds_backslash, IsRefused}
 use Rattle.properties_text.specs.declared.escape.UnescapeError.{UnescapeError}
 use Rattle.properties_format.specs.ItemsToCome.{ReaderState}
-use Rattle.properties_lines.specs.LineJoiner.{Joiner, JoinsNext}
+use Rattle.properties_lines.specs.LineJoiner.{Joiner}
 use Rattle.java_properties.specs.Line.{number_of, content_of}
 use Rattle.properties_text.specs.Parsing.{bytes_in, spanned, in_characters, IsSpan}
 use Rattle.java_properties.specs.GivenItems as given
@@ -31,8 +31,6 @@ use Rattle.java_properties.specs.declared.iter.found.Found.{Found}
 use Rattle.java_properties.specs.declared.iter.found.FoundContent.{FoundContent}
 use Rattle.java_properties.specs.declared.iter.found.FoundContent.TheVariants as found
 use Rattle.java_properties.specs.declared.iter.found.FoundText.{FoundText}
-use Rattle.java_properties.specs.declared.iter.items.Came.{Came}
-use Rattle.java_properties.specs.declared.iter.items.Came.TheVariants as came
 use Rattle.java_properties.specs.declared.iter.lent.ContentRef.{ContentRef}
 use Rattle.java_properties.specs.declared.iter.lent.ContentRef.TheVariants as lent
 use Rattle.java_properties.specs.declared.iter.lent.LineRef.{LineRef}
@@ -180,17 +178,3 @@ LendsItem reader old (Some (Err e)) new =
 -- It is the next item, by what some reading of the iterator's reader gave.
 abbrev pub NextRefGives : {R : Type 0} → Reader R → Reading R → Option (Result LineRef PropertiesError) → Type 0
 NextRefGives {R} reader old answer = (new : Reading R) × LendsItem reader old answer new × IsSameReader reader old.reader new.reader
-
--- ---- in between
-
--- What the next logical line is, or the next item, and what coming to it leaves.
-abbrev pub ComesTo : {R : Type 0} → Reader R → ReaderState → R → Came → Joiner → R → Type 0
-ComesTo reader old from (came.Plain number) new to = JoinsNext reader old from number new to × (holds_backslash (chars new.line) ≡ false)
-ComesTo reader old from came.Blank new to = (number : ℕ) × JoinsNext reader old from number new to × (outcome_of (chars new.line) ≡ ignored)
-ComesTo reader old from (came.Answer answer) new to = FindsItem reader old from answer new to
-
--- This holds, unless it is answered that no more come.
-abbrev pub OnLine : Came → Type 0 → Type 0
-OnLine (came.Plain number) holds = holds
-OnLine came.Blank holds = holds
-OnLine (came.Answer answer) holds = OnSome answer holds

@@ -11,6 +11,7 @@ pub mod PropertiesIter
 pub mod GivenItems
 pub mod LentItems
 pub mod ReadLines
+pub mod MalformedEscapes
 pub mod ReadInto
 pub mod Maps
 pub mod BodyLines
@@ -19,5 +20,6 @@ pub mod BodyKeys
 pub mod BodySlots
 pub mod Sources
 pub mod Editing
+pub mod WholeSources
 pub mod Documents
 pub mod BodyDocuments

@@ -23,7 +23,7 @@ use Rattle.java_properties.specs.Calls.{StopsAtCall}
 use Rattle.java_properties.specs.Errors.{IsBareError, Refuses}
 use Rattle.java_properties.specs.PropertiesWriter.{Writing, new_writer}
 use Rattle.java_properties.specs.ReadBack.{IsReadBackBefore}
-use Rattle.java_properties.specs.ReadLines.{entries_in, ReadsWhole, StopsMalformed, StopsFailed, StopsEarly}
+use Rattle.java_properties.specs.ReadLines.{entries_in, ReadsWhole, StopsReading}
 use Rattle.java_properties.specs.declared.error.ErrorKind.TheVariants as kind
 use Rattle.java_properties.specs.declared.error.PropertiesError.{PropertiesError}
 use Rattle.java_properties.specs.declared.line.Line.{Line}
@@ -61,21 +61,15 @@ pub record ReadsValue {R : Type 0} (reader : Reader R) (e : Encoding) (from : R)
   pub reads : ReadsWhole reader e from items to
   pub has_value : HasValue e reads.bytes key value
 
--- Reading stopped after these items: at malformed escapes, at a fault, or since memory ran out or the numbers for lines.
-pub record StopsReadingMap {R : Type 0} (reader : Reader R) (e : Encoding) (from : R) (error : PropertiesError) (to : R) : Type 0 where
-  pub lines : List Line
-  pub stops : StopsMalformed reader e from (entries_in lines) error to
-      ⊎ (StopsFailed reader e from (entries_in lines) error to ⊎ StopsEarly reader e from (entries_in lines) error to)
-
 -- What reading a map returns, and what it leaves of the reader. Ok comes at the reader's own end alone.
 abbrev pub ReadsMap : {R Y Z S : Type 0} → Reader R → R → Result (HashMap (String Y) (String Z) S) PropertiesError → R → Type 0
 ReadsMap reader from (Ok m) to = HasReadMap reader windows_1252 from m.entries to
-ReadsMap reader from (Err error) to = StopsReadingMap reader windows_1252 from error to
+ReadsMap reader from (Err error) to = StopsReading reader windows_1252 from error to
 
 -- The same of a sorted map, in any encoding.
 abbrev pub ReadsSorted : {R Y Z : Type 0} → Reader R → Encoding → R → Result (BTreeMap (String Y) (String Z)) PropertiesError → R → Type 0
 ReadsSorted reader e from (Ok m) to = HasReadMap reader e from m.entries to
-ReadsSorted reader e from (Err error) to = StopsReadingMap reader e from error to
+ReadsSorted reader e from (Err error) to = StopsReading reader e from error to
 
 -- ---- writing
 

@@ -83,3 +83,9 @@ ReadsLines reader e from (Err stopped) to =
     StopsMalformed reader e from (entries_in stopped.lines.items) stopped.error to
     ⊎ (StopsFailed reader e from (entries_in stopped.lines.items) stopped.error to
     ⊎ StopsEarly reader e from (entries_in stopped.lines.items) stopped.error to)
+
+-- Reading stopped after these items: at malformed escapes, at a fault, or since memory ran out or the numbers for lines.
+pub record StopsReading {R : Type 0} (reader : Reader R) (e : Encoding) (from : R) (error : PropertiesError) (to : R) : Type 0 where
+  pub lines : List Line
+  pub stops : StopsMalformed reader e from (entries_in lines) error to
+      ⊎ (StopsFailed reader e from (entries_in lines) error to ⊎ StopsEarly reader e from (entries_in lines) error to)

@@ -14,6 +14,7 @@ mod place;
 mod result;
 mod slots;
 mod source;
+mod streams;
 mod values;
 
 pub use crate::edit::document::Document;
@@ -22,6 +23,7 @@ use crate::edit::place::find_key;
 use crate::edit::result::{appended, others_alone, replaced};
 use crate::edit::slots::Slots;
 use crate::edit::source::Source;
+pub use crate::edit::streams::{read_source, write_source};
 use crate::error::PropertiesError;
 use properties_text::encoding::Encoding;
 use std::alloc::Global;

@@ -4,7 +4,7 @@ ghost use Rattle.std.specs.Prelude.{◌≡◌, Some, None};
 ghost use Rattle.std.specs.Str.{chars};
 ghost use Rattle.std.specs.String.{string_bytes};
 ghost use Rattle.properties_text.specs.Escaping.{malformed_in};
-ghost use Rattle.java_properties.specs.Errors.{kind_of, line_of, cause_of, cause_of_write, IsError, IsBareError, IsMalformed, SaysUnresolved, SaysLineError, IsStreamError, RefusesText};
+ghost use Rattle.java_properties.specs.Errors.{kind_of, line_of, cause_of, cause_by, cause_of_write, IsError, IsBareError, IsMalformed, SaysUnresolved, SaysLineError, IsStreamError, RefusesText, malformed_kind};
 ghost use Rattle.java_properties.specs.DisplayTexts.{description, cause_display, error_display};
 ghost use Rattle.java_properties.specs.declared.error.ErrorKind.TheVariants.{Io, BadCommentPrefix, BadKvSeparator, EmptyKey, TooManyLines, Failed, Memory, Unsupported};
 
@@ -105,22 +105,42 @@ impl PropertiesError {
         self.cause
     }
 
-    // A stream failed in the line of this number.
-    fn io(line_number: usize, cause: Cause) -> PropertiesError
-        ensures { IsError Io (Some line_number) cause result }
+    // A stream failed, in the line of this number if it was in one.
+    fn io(line_number: Option<usize>, cause: Cause) -> PropertiesError
+        ensures { IsError Io line_number cause result }
     {
-        PropertiesError::in_line(line_number, ErrorKind::Io, cause)
+        PropertiesError {
+            line_number,
+            cause,
+            ..PropertiesError::bare(ErrorKind::Io)
+        }
     }
 
-    /// A write failed in the line of this number: by this error, or by taking no byte.
-    pub(crate) fn write_fault(line_number: usize, error: Option<io::Error>) -> PropertiesError
-        ensures { IsError Io (Some line_number) (cause_of_write error) result }
+    /// A write failed, in the line of this number if it was of one: by this error, or by taking no byte.
+    pub(crate) fn write_fault(
+        line_number: Option<usize>,
+        error: Option<io::Error>,
+    ) -> PropertiesError
+        ensures { IsError Io line_number (cause_of_write error) result }
     {
         let cause = match error {
             Some(error) => Cause::Io(error),
             None => Cause::None,
         };
         PropertiesError::io(line_number, cause)
+    }
+
+    /// The same error, but where a stream failed it failed so.
+    pub(crate) fn caused_by(self, error: io::Error) -> PropertiesError
+        ensures { result ≡ record self { cause = cause_by error (cause_of self) } }
+    {
+        match self.cause {
+            Cause::Io(_) => PropertiesError {
+                cause: Cause::Io(error),
+                ..self
+            },
+            _ => self,
+        }
     }
 
     /// Escapes in the line of this number aren't resolved.
@@ -139,12 +159,11 @@ impl PropertiesError {
     fn malformed(line_number: usize, malformed: Malformed) -> PropertiesError
         ensures { IsMalformed (malformed_in malformed) line_number result }
     {
-        let (kind, cause) = match malformed {
-            Malformed::NotEnoughDigits => (ErrorKind::NotEnoughDigits, Cause::None),
-            Malformed::NotHex => (ErrorKind::NotHex, Cause::NotHex),
-            Malformed::InvalidCharacter => (ErrorKind::InvalidCharacter, Cause::None),
+        let cause = match malformed {
+            Malformed::NotHex => Cause::NotHex,
+            Malformed::NotEnoughDigits | Malformed::InvalidCharacter => Cause::None,
         };
-        PropertiesError::in_line(line_number, kind, cause)
+        PropertiesError::in_line(line_number, ErrorKind::malformed(malformed), cause)
     }
 
     pub(crate) fn too_many_lines() -> PropertiesError
@@ -238,7 +257,7 @@ impl From<LineError> for PropertiesError {
     fn from(error: LineError) -> PropertiesError {
         match error {
             LineError::Io(line_number, error) => {
-                PropertiesError::io(line_number, Cause::Io(error))
+                PropertiesError::io(Some(line_number), Cause::Io(error))
             }
             LineError::TooManyLines => PropertiesError::too_many_lines(),
             LineError::Memory => PropertiesError::bare(ErrorKind::Memory),
@@ -300,6 +319,17 @@ impl fmt::Display for Cause {
 }
 
 impl ErrorKind {
+    /// The kind of escapes that are malformed in this way.
+    pub(crate) fn malformed(malformed: Malformed) -> ErrorKind
+        ensures { result ≡ malformed_kind (malformed_in malformed) }
+    {
+        match malformed {
+            Malformed::NotEnoughDigits => ErrorKind::NotEnoughDigits,
+            Malformed::NotHex => ErrorKind::NotHex,
+            Malformed::InvalidCharacter => ErrorKind::InvalidCharacter,
+        }
+    }
+
     fn description(self) -> &'static str
         ensures { result.now ≡ description self }
     {

@@ -6,7 +6,7 @@ ghost use Rattle.std.specs.Iterator.{at_most};
 ghost use Rattle.properties_format.specs.Encoding.{windows_1252};
 ghost use Rattle.properties_format.specs.ItemsToCome.{start};
 ghost use Rattle.properties_text.specs.Encoding.{encoding_of};
-ghost use Rattle.properties_lines.specs.LineFinder.{lines_left};
+ghost use Rattle.properties_lines.specs.LineReader.{lines_left};
 ghost use Rattle.java_properties.specs.LentItems.{lent_entry, found_entry, BorrowsPlain, IsFoundIn, AdvanceGives, NextRefGives};
 ghost use Rattle.java_properties.specs.PropertiesIter.{Reading, NextGives};
 
@@ -14,6 +14,7 @@ pub(crate) mod found;
 mod into;
 pub(crate) mod items;
 mod lent;
+mod malformed;
 mod whole;
 
 use crate::error::PropertiesError;
@@ -22,6 +23,7 @@ use crate::line::Line;
 use counted_io::CountedRead;
 pub use found::Found;
 pub use lent::{ContentRef, LineRef};
+pub use malformed::{MalformedEscape, malformed_escapes};
 use properties_text::encoding::Encoding;
 use std::alloc::Global;
 use std::marker::Model;

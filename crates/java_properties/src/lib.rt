@@ -23,9 +23,12 @@ mod line;
 mod maps;
 mod writer;
 
-pub use edit::{Document, Edit, edit_all, remove_key, set_key};
+pub use edit::{Document, Edit, edit_all, read_source, remove_key, set_key, write_source};
 pub use error::{Cause, ErrorKind, PropertiesError};
-pub use iter::{ContentRef, Found, LineRef, PropertiesIter, Stopped, read_lines};
+pub use iter::{
+    ContentRef, Found, LineRef, MalformedEscape, PropertiesIter, Stopped, malformed_escapes,
+    read_lines,
+};
 pub use line::{Line, LineContent};
 pub use maps::{read, read_sorted, write, write_sorted};
 pub use properties_text::encoding::Encoding;

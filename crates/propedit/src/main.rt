@@ -1,17 +1,11 @@
 //! Gets, sets and removes keys of a properties file that comes from standard input.
 #![tactic(auto)]
 
-mod asked;
-mod change;
-mod get;
-mod run;
-mod say;
-mod streams;
-
 use counted_io::Counted;
-use run::{refuse, run};
+use properties_tools::arguments::words;
+use properties_tools::propedit::{refuse, run};
 use std::env;
-use std::io::{self, BufWriter, ErrorKind};
+use std::io::{self, BufWriter};
 use std::process::ExitCode;
 
 // How many bytes are written at once.
@@ -25,18 +19,14 @@ fn main(rt: HostRuntime) -> ExitCode {
 fn status(rt: &HostRuntime) -> io::Result<u8> {
     let alloc = rt.alloc();
     let mut errors = Counted::new(rt.stderr());
-    let arguments = match env::args(rt) {
-        Ok(arguments) => arguments,
-        // One of them isn't UTF-8.
-        Err(error) if error.kind() == ErrorKind::InvalidData => return Ok(refuse(&mut errors)),
-        Err(error) => return Err(error),
+    let Some(words) = words(alloc, env::args(rt))? else {
+        return Ok(refuse(&mut errors));
     };
-    let arguments: Vec<String> = arguments.skip(1).collect(alloc)?;
     let mut input = Counted::new(rt.stdin());
     let mut output = Counted::new(BufWriter::with_capacity(alloc, BLOCK, rt.stdout())?);
     Ok(run(
         alloc,
-        arguments.as_slice(),
+        words.as_slice(),
         &mut input,
         &mut output,
         &mut errors,

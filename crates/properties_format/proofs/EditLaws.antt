@@ -86,7 +86,7 @@ removing-no_pair e source key entries is none result h =
 -- ---- a key that is set twice
 
 -- the result of a source that can be edited
-result-made : (e : Encoding) (source made : List ℕ) → IsReadable e source → result_of e source made ≡ edited made
+pub result-made : (e : Encoding) (source made : List ℕ) → IsReadable e source → result_of e source made ≡ edited made
 result-made e source made r = result-editable e source made r.editable ∙ result_by-edited (items_of e source end) made r.no_fault
 
 -- Setting a key twice is setting it once, to the later value.
@@ -110,7 +110,7 @@ setting-twice e source key first second k v w between h result =
 -- ---- the map
 
 -- the maps of a source and of its result, where the result reads as the source after this edit
-maps-differ : (e : Encoding) (source result key : List ℕ) (edit : Edit) (value : Option (List ℕ)) (old new : List ℕ → Option (List ℕ))
+pub maps-differ : (e : Encoding) (source result key : List ℕ) (edit : Edit) (value : Option (List ℕ)) (old new : List ℕ → Option (List ℕ))
     → ((before after : List Entry) → IsItems e source end before → IsItems e result end after → IsMap before old → IsMap after (map_edited edit old))
     → ((value_at : List ℕ → Option (List ℕ)) → DiffersAt key value value_at (map_edited edit value_at))
     → HasMap e source old → HasMap e result new → DiffersAt key value old new
@@ -125,7 +125,7 @@ own-test : (key : List ℕ) → bytes_eq key key ≡ true
 own-test key = (bytes_eq-Decides key key).1 refl
 
 -- the map with a key set gives it the value, and every other key what it had
-set-differs : (key value : List ℕ) (value_at : List ℕ → Option (List ℕ)) → DiffersAt key (Some value) value_at (map_edited (put key value) value_at)
+pub set-differs : (key value : List ℕ) (value_at : List ℕ → Option (List ℕ)) → DiffersAt key (Some value) value_at (map_edited (put key value) value_at)
 set-differs key value value_at = (
   cond-true (bytes_eq key key) (Some value) (value_at key) (own-test key),
   (λ other n. cond-false (bytes_eq other key) (Some value) (value_at other) (other-test other key n)),

@@ -1,6 +1,7 @@
 -- Worked rows of each page, computed.
 pub mod Cut
 pub mod Edited
+pub mod Valued
 pub mod Encodings
 pub mod Escapes
 pub mod Groups

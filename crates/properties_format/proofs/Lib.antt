@@ -6,6 +6,7 @@ pub mod Groups
 pub mod Split
 pub mod Escapes
 pub mod Items
+pub mod MalformedEscapes
 pub mod ItemsToCome
 pub mod Settings
 pub mod Printing
@@ -16,6 +17,7 @@ pub mod Maps
 pub mod Body
 pub mod Edited
 pub mod Slots
+pub mod Valued
 pub mod Changed
 pub mod Laws
 pub mod EditLaws

@@ -6,8 +6,9 @@ use Rattle.properties_format.specs.Encoding.{Encoding}
 use Rattle.properties_format.specs.Lines.{end}
 use Rattle.properties_format.specs.Entries.{Entry}
 use Rattle.properties_format.specs.Items.{IsItems}
-use Rattle.properties_format.specs.Maps.{HasNoPair, IsMap}
+use Rattle.properties_format.specs.Maps.{HasNoPair, IsMap, HasValue}
 use Rattle.properties_format.specs.Edited.{Edit, put, remove, AreScalarEdits, EditResult, edited, ItemsAre, IsSetKeyResult, IsRemoveKeyResult, IsEditAllResult}
+use Rattle.properties_format.specs.Valued.{IsSetValueResult}
 
 -- ---- One key.
 
@@ -42,6 +43,32 @@ abbrev pub RemovingTakesTheValue : Encoding → List ℕ → List ℕ → Type 0
 RemovingTakesTheValue e source key =
     (result : List ℕ) → IsRemoveKeyResult e source key (edited result) → (old new : List ℕ → Option (List ℕ)) → HasMap e source old → HasMap e result new
     → DiffersAt key None old new
+
+-- ---- One value.
+
+-- Setting the value that a key has already changes no byte.
+abbrev pub SettingItsOwnValueChangesNothing : Encoding → List ℕ → List ℕ → List ℕ → Type 0
+SettingItsOwnValueChangesNothing e source key value =
+    HasValue e source key (Some value) → (result : List ℕ) → IsSetValueResult e source key value (edited result) → result ≡ source
+
+-- Setting a value twice is setting it once, to the later value, where the source doesn't have that one already.
+abbrev pub SettingAValueTwiceIsSettingItOnce : Encoding → List ℕ → List ℕ → List ℕ → List ℕ → Type 0
+SettingAValueTwiceIsSettingItOnce e source key first second =
+    All scalar key → All scalar first → All scalar second → ¬ (HasValue e source key (Some second))
+    → (between : List ℕ) → IsSetValueResult e source key first (edited between)
+    → (result : EditResult) → IsSetValueResult e between key second result ↔ IsSetValueResult e source key second result
+
+-- Setting a value again changes no byte.
+abbrev pub SettingAValueAgainChangesNothing : Encoding → List ℕ → List ℕ → List ℕ → Type 0
+SettingAValueAgainChangesNothing e source key value =
+    All scalar key → All scalar value → (between : List ℕ) → IsSetValueResult e source key value (edited between)
+    → IsSetValueResult e between key value (edited between)
+
+-- After a value is set, the map of the result has it for the key, and for every other key what the source's map has.
+abbrev pub SettingAValueGivesIt : Encoding → List ℕ → List ℕ → List ℕ → Type 0
+SettingAValueGivesIt e source key value =
+    All scalar key → All scalar value → (result : List ℕ) → IsSetValueResult e source key value (edited result)
+    → (old new : List ℕ → Option (List ℕ)) → HasMap e source old → HasMap e result new → DiffersAt key (Some value) old new
 
 -- ---- Lists of edits.
 

@@ -5,6 +5,7 @@ pub mod Utf8
 pub mod Surrogates
 pub mod Utf16
 pub mod Encoding
+pub mod Names
 pub mod Lines
 pub mod Cut
 pub mod Groups
@@ -13,6 +14,7 @@ pub mod Hexadecimal
 pub mod Escapes
 pub mod Entries
 pub mod Items
+pub mod MalformedEscapes
 pub mod ItemsToCome
 pub mod Settings
 pub mod Printing
@@ -23,6 +25,7 @@ pub mod Maps
 pub mod Body
 pub mod Edited
 pub mod Changed
+pub mod Valued
 pub mod Laws
 pub mod EditLaws
 pub mod Reading

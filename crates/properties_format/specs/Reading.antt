@@ -9,11 +9,13 @@ pub mod Logical
 pub mod Split
 pub mod Escapes
 pub mod Items
+pub mod MalformedEscapes
 pub mod ItemsToCome
 pub mod ReaderSteps
 pub mod Settings
 pub mod Maps
 pub mod Body
 pub mod Edited
+pub mod Valued
 pub mod Slots
 pub mod Cells

@@ -1,5 +1,9 @@
 mod InputBuffer
-pub mod LineFinder
-pub mod PlainLines
 pub mod LineSearch
+pub mod ScannerFront
+pub mod ScannerSearch
+pub mod Scans
+pub mod HeldLines
+pub mod LineReaders
+pub mod LogicalLines
 pub mod LineJoiner

@@ -1,102 +1,34 @@
 -- How natural lines are joined, step by step.
-use Rattle.std.proofs.Common.{◌≡◌, ◌+◌, ◌==◌, ℕ, suc, Bool, true, false, arith, eqb-true, List, [], ◌∷◌, ◌++◌, refl, sym, ap, ap₂, ◌∙◌, inl, inr, subst, append_assoc, append-nil}
-use Rattle.std.specs.Prelude.{◌⊎◌, if◌then◌else◌, Option, Some, None, Result, Ok, Err}
-use Rattle.std.specs.Str.{chars}
-use Rattle.std.proofs.lemmas.Bool.{cases_Bool, or_from, false_from_ne_true}
-use Rattle.memchr.specs.Find.{IsFirstByte, is_byte}
+use Rattle.std.proofs.Common.{◌≡◌, ◌+◌, ℕ, Bool, true, false, List, [], ◌∷◌, ◌++◌, refl, sym, ap, ap₂, ◌∙◌, inl, inr, subst, append_assoc, append-nil}
+use Rattle.std.specs.Prelude.{◌⊎◌, if◌then◌else◌, not, Option, Some, None, is_some}
+use Rattle.std.specs.Str.{chars, IsUtf8}
+use Rattle.std.proofs.lemmas.Bool.{cases_Bool}
+use Rattle.std.proofs.lemmas.Str.{IsUtf8-nil}
 use Rattle.counted_io.specs.Streams.{Reader}
 use Rattle.counted_io.proofs.Streams.{read-none, read-more, failed-more}
-use Rattle.properties_format.specs.Text.{backslash}
-use Rattle.properties_format.specs.Encoding.{Encoding, windows_1252, utf_8, utf_16le, utf_16be, ascii_bytes, IsPieces}
-use Rattle.properties_format.specs.Pieces.{Piece, characters}
-use Rattle.properties_format.specs.Reading.Encoding.{pieces_of}
+use Rattle.properties_format.specs.Encoding.{Encoding}
 use Rattle.properties_format.specs.Reading.Cut.{decoded_line}
-use Rattle.properties_format.proofs.Encodings.Pieces.{pieces_of-meets}
-use Rattle.properties_format.proofs.Encodings.Characters.{piece-ascii}
 use Rattle.properties_format.specs.Lines as format
 use Rattle.properties_format.specs.Lines.{InputEnd, end, fault, more}
-use Rattle.properties_format.specs.Groups.{is_open, is_comment_line, addition, without_open_backslash}
+use Rattle.properties_format.specs.Groups.{is_open, is_comment_line, addition, without_open_backslash, joined_after, AreOpen, EndsClosed, IsWhole, IsUnfinished}
 use Rattle.properties_format.specs.Entries.{Entry, read_fault}
 use Rattle.properties_format.specs.ItemsToCome.{ReaderState}
 use Rattle.properties_format.specs.Reading.Items.{outcome_of, followed}
 use Rattle.properties_format.specs.Reading.ItemsToCome.{items_to_come, natural_to_come, last_to_come, entries_pending, entries_of_logical, logical_pending}
-use Rattle.properties_format.proofs.ItemsToCome.Entries.{joining-open, joining-closed, joining-done, pending-comment_line, pending-closed, pending-open, pending-done, items_to_come-pending}
+use Rattle.properties_format.proofs.Groups.Joined.{joined-comment_line, joined-closed, joined-unmarked, joined_after-append}
+use Rattle.properties_format.proofs.ItemsToCome.Entries.{gives-on, joining-open, joining-closed, joining-done, pending-comment_line, pending-closed, pending-open, pending-done, items_to_come-pending}
 use Rattle.properties_format.proofs.ItemsToCome.Steps.{lines-start, lines-on, on-start, on-open, logical-comment_line, logical-closed}
-use Rattle.properties_format.specs.Reading.ReaderSteps.{ReadsLines}
+use Rattle.properties_format.specs.Reading.ReaderSteps.{Gives}
 use Rattle.properties_text.specs.Escaping.{holds_backslash}
-use Rattle.properties_text.proofs.Texts.Resolving.{plain-closed, holds-part}
-use Rattle.properties_lines.specs.LineTexts.{KeepsText}
-use Rattle.properties_lines.specs.LineFinder as finder
-use Rattle.properties_lines.specs.LineFinder.{Finder, Passes, PassesSome, PassesAll, IsLazy, TakesHeld, FindsError, FindsFault, FindsTooMany, FindsNoRoom}
-use Rattle.properties_lines.specs.LineJoiner.{line_text, join_of, Pends, Closes, IsLazyJoin, IsLazyItems, GoesOn, JoinsAll, JoinError, Joiner, numbered_line, TakesPlain, JoinsPlain, FindsNext, Comes, JoinsAfter, JoinsOn, JoinsNext, JoinsError}
+use Rattle.properties_text.proofs.Texts.Resolving.{plain-closed}
+use Rattle.properties_lines.specs.LineReader as finder
+use Rattle.properties_lines.specs.LineReader.{Finder, Finds, Passes, PassesSome, PassesAll, IsLazy, IsToldOf, LetsGo, FindsError, found_line}
+use Rattle.properties_lines.specs.LogicalLine.{IsAsciiLine, KeepsText, StandsAlone, OpensJoin, text_with}
+use Rattle.properties_lines.specs.LineJoiner.{line_text, join_of, joiner_of, Pends, Closes, AddsOpen, AddsLast, EndJoin, IsLazyJoin, IsLazyItems, GoesOn, JoinsAll, JoinError, JoinsNone, JoinsOn, Joiner, Joining, Comes, Joins, JoinsGroup, JoinsNext, JoinsError, ReadsWhole, ReadsNone, ReadsRest}
 use Rattle.properties_lines.specs.declared.error.LineError.TheVariants as why
 use Rattle.properties_lines.specs.declared.error.LineError.{LineError}
-
--- what reading a join to its end does, after the line that opened it
-pub joins-after : {R : Type 0} (reader : Reader R) (from to : R) (old new : Joiner) (s : ReaderState) (text : List ℕ) (answer : Result Unit LineError)
-    → JoinsOn reader s from text answer new.state to (chars new.line) → s ≡ old.state → text ≡ without_open_backslash (chars old.line)
-    → JoinsAfter reader old from answer new to
-joins-after {R} reader from to old new s text answer h e k =
-    let P : List ℕ → Type 0 = λ v. JoinsOn reader s from v answer new.state to (chars new.line) in
-    let S : ReaderState → Type 0 = λ v. JoinsOn reader v from (without_open_backslash (chars old.line)) answer new.state to (chars new.line) in
-    by-answer answer (subst S e (subst P k h))
-  where
-    by-answer : (a : Result Unit LineError) → JoinsOn reader old.state from (without_open_backslash (chars old.line)) a new.state to (chars new.line) → JoinsAfter reader old from a new to
-    by-answer (Ok done) h = h
-    by-answer (Err error) h = inr h
-
--- a line that was held, and the text that it is
-pub takes-plain : (s : ReaderState) (number : ℕ) (f : Finder) (line : List ℕ) → TakesHeld s number f → line_text f ≡ chars line
-    → holds_backslash (chars line) ≡ false → TakesPlain s number (record { state = f.state; line = line })
-takes-plain s number f line h same plain =
-    let P : List ℕ → Type 0 = λ v. ReadsLines s [] (record { number = number; text = v } ∷ []) f.state in
-    record { live = h.live; numbered = h.numbered; reads = subst P same h.reads; going = h.going; counted = h.counted; plain = plain }
-
--- a search found no backslash
-pub none-found : (bytes : List ℕ) → IsFirstByte (is_byte backslash) bytes None → holds_backslash bytes ≡ false
-none-found [] h = refl
-none-found (b ∷ bytes) h =
-    or_from (b == backslash) (holds_backslash bytes) (false_from_ne_true (b == backslash) (h 0 (omega arith) (omega arith)))
-    (none-found bytes (λ k l e. h (suc k) (omega arith) (omega arith)))
-
--- a backslash is a byte by itself, in each encoding
-backslash-bytes : (e : Encoding) → holds_backslash (ascii_bytes e backslash) ≡ true
-backslash-bytes windows_1252 = refl
-backslash-bytes utf_8 = refl
-backslash-bytes utf_16le = refl
-backslash-bytes utf_16be = refl
-
-unescaped-pieces : (e : Encoding) (d : List ℕ) (ps : List Piece) → IsPieces e d ps → holds_backslash d ≡ false → holds_backslash (characters ps) ≡ false
-unescaped-pieces e d [] h k = refl
-unescaped-pieces e d (p ∷ ps) (rest, same, is, others) k =
-    let none : holds_backslash (p.bytes ++ rest) ≡ false = ap holds_backslash (sym same) ∙ k in
-    or_from (p.character == backslash) (holds_backslash (characters ps))
-    (elim (cases_Bool (p.character == backslash)) [
-      | inl b ↦
-          let c : p.character ≡ backslash = eqb-true p.character backslash b in
-          let bytes = piece-ascii e p rest is (omega (arith, c)) ∙ ap (ascii_bytes e) c in
-          absurd (cc (holds-part [] p.bytes rest none, ap holds_backslash bytes, backslash-bytes e))
-      | inr b ↦ b
-    ])
-    (unescaped-pieces e rest ps others (holds-part p.bytes rest [] (rw append-nil none)))
-
--- a text holds no backslash where its bytes hold none
-unescaped-decoded : (e : Encoding) (d : List ℕ) → holds_backslash d ≡ false → holds_backslash (decoded_line e d) ≡ false
-unescaped-decoded e d h = unescaped-pieces e d (pieces_of e d) (pieces_of-meets e d) h
-
--- a line that was held, and what is kept of its text
-pub takes-kept : (s : ReaderState) (number : ℕ) (f : Finder) (is_kept : Bool) (text : List ℕ) → TakesHeld s number f
-    → KeepsText f.state.encoding f.line is_kept text → holds_backslash f.line ≡ false
-    → TakesPlain s number (record { state = f.state; line = if is_kept then text else f.line })
-takes-kept s number f true text h keeps plain =
-    takes-plain s number f text h (sym keeps) (ap holds_backslash keeps ∙ unescaped-decoded f.state.encoding f.line plain)
-takes-kept s number f false text h keeps plain =
-    takes-plain s number f f.line h (sym keeps.1) (ap holds_backslash keeps.1 ∙ unescaped-decoded f.state.encoding f.line plain)
-
--- none came
-pub not-plain : (old new : Joiner) {answer : Option ℕ} → JoinsPlain old answer new → ((number : ℕ) → answer ≡ Some number → ⊥) → new.state ≡ old.state
-not-plain old new {answer = Some number} h k = absurd (k number refl)
-not-plain old new {answer = None} h k = h
+use Rattle.properties_lines.specs.declared.logical.LogicalLine.{LogicalLine}
+use Rattle.properties_lines.proofs.LogicalLines.{ascii-keeps, unescaped-decoded}
 
 -- ---- where no line comes
 
@@ -126,13 +58,73 @@ pub some-on : {s t u : ReaderState} {r q : List ℕ} → PassesSome s r t → Pa
 some-on h k = record { lines = h.lines ++ k.lines; reads = lines-on h.reads k.reads }
 
 -- those that came, where the reading goes on
-some-come : {s t : ReaderState} {r : List ℕ} {lines : List format.Line} → Passes s r lines t → t.is_done ≡ false → PassesSome s r t
+pub some-come : {s t : ReaderState} {r : List ℕ} {lines : List format.Line} → Passes s r lines t → t.is_done ≡ false → PassesSome s r t
 some-come {lines = lines} (Passes.going_on f reads) g = record { lines = lines; reads = reads }
 some-come (Passes.at_last f gives) g = absurd (cc)
 
 -- no number is left after them
 pub all-on : {s t : ReaderState} {r q : List ℕ} → PassesSome s r t → PassesAll t q → PassesAll s (r ++ q)
 all-on h k = record { last = k.last; passes = some-on h k.passes; passed = k.passed }
+
+-- ---- the natural lines of a join
+
+pub passes-start : (s : ReaderState) → Passes s [] [] s
+passes-start s = elim (cases_Bool s.is_done) [
+  | inl h ↦ Passes.at_last h (record { natural = refl; last = refl })
+  | inr h ↦ Passes.going_on h (lines-start s)
+]
+
+pub passes-on : {s t u : ReaderState} {r q : List ℕ} {ls ms : List format.Line} → Passes s r ls t → t.is_done ≡ false → Passes t q ms u
+    → Passes s (r ++ q) (ls ++ ms) u
+passes-on (Passes.at_last f gives) h k = absurd (cc)
+passes-on (Passes.going_on f reads) h (Passes.going_on g others) = Passes.going_on g (lines-on reads others)
+passes-on {q = q} (Passes.going_on f reads) h (Passes.at_last g gives) = Passes.at_last g (gives-on (reads.gives q end) gives)
+
+are-open : (ls : List format.Line) (l : format.Line) → AreOpen ls → is_open l.text ≡ true → AreOpen (ls ++ l ∷ [])
+are-open [] l h k = (k, tt)
+are-open (m ∷ ls) l h k = (h.0, are-open ls l h.1 k)
+
+ends-closed : (m : format.Line) (ls : List format.Line) (l : format.Line) → is_open m.text ≡ true → AreOpen ls → is_open l.text ≡ false
+    → EndsClosed m (ls ++ l ∷ [])
+ends-closed m [] l o h k = (o, k)
+ends-closed m (n ∷ ls) l o h k = (o, ends-closed n ls l h.0 h.1 k)
+
+-- what one line more adds
+added-more : (old text new : List ℕ) (ls : List format.Line) (l : format.Line) → text ≡ old ++ joined_after ls → new ≡ text ++ addition l.text
+    → new ≡ old ++ joined_after (ls ++ l ∷ [])
+added-more old text new ls l h k =
+    k
+    ∙ ap (λ v. v ++ addition l.text) h
+    ∙ append_assoc old (joined_after ls) (addition l.text)
+    ∙ ap (λ v. old ++ v) (sym (joined_after-append ls (l ∷ []) ∙ ap (λ v. joined_after ls ++ v) (append-nil (addition l.text))))
+
+adds-start : (s : ReaderState) (text : List ℕ) → AddsOpen s text [] text s
+adds-start s text = record { lines = []; passes = passes-start s; are_open = tt; is = sym (append-nil text) }
+
+adds-more : {s t u : ReaderState} {old r q text new : List ℕ} (l : format.Line) → AddsOpen s old r text t → t.is_done ≡ false → Passes t q (l ∷ []) u
+    → is_open l.text ≡ true → new ≡ text ++ addition l.text → AddsOpen s old (r ++ q) new u
+adds-more {old = old} {text = text} {new} l h g p o k = record {
+  lines = h.lines ++ l ∷ [];
+  passes = passes-on h.passes g p;
+  are_open = are-open h.lines l h.are_open o;
+  is = added-more old text new h.lines l h.is k;
+}
+
+adds-last : {s t u : ReaderState} {old r q text new : List ℕ} (l : format.Line) → AddsOpen s old r text t → t.is_done ≡ false → Passes t q (l ∷ []) u
+    → is_open l.text ≡ false → new ≡ text ++ addition l.text → AddsLast s old (r ++ q) new u
+adds-last {old = old} {text = text} {new} l h g p o k = record {
+  lines = h.lines ++ l ∷ [];
+  passes = passes-on h.passes g p;
+  end_join = inl (λ m k. ends-closed m h.lines l k h.are_open o);
+  is = added-more old text new h.lines l h.is k;
+}
+
+adds-done : {s t : ReaderState} {old r text : List ℕ} → AddsOpen s old r text t → t.is_done ≡ true → AddsLast s old r text t
+adds-done h d = record { lines = h.lines; passes = h.passes; end_join = inr (d, h.are_open); is = h.is }
+
+-- the reading ended for good at this line, for this reason
+abbrev pub failed : Finder → LineError → Finder
+failed found e = record found { state = record found.state { is_done = true }; error = Some e }
 
 -- ---- lines are added to a join
 
@@ -146,8 +138,8 @@ start-pends s text = elim (cases_Bool s.is_done) [
 regroup : (join : Option format.Line) (s : ReaderState) (r q d : List ℕ) (ending : InputEnd) → entries_pending join s ((r ++ q) ++ d) ending ≡ entries_pending join s (r ++ (q ++ d)) ending
 regroup join s r q d ending = ap (λ v. entries_pending join s v ending) (append_assoc r q d)
 
-abbrev joined : ℕ → List ℕ → format.Line
-joined number text = record { number = number; text = text }
+abbrev joint : ℕ → List ℕ → format.Line
+joint number text = record { number = number; text = text }
 
 -- an open line goes on with a join
 more-pends : {s t u : ReaderState} {old r q text new : List ℕ} (l : format.Line) → Pends s old r text t → t.is_done ≡ false → Passes t q (l ∷ []) u
@@ -155,9 +147,9 @@ more-pends : {s t u : ReaderState} {old r q text new : List ℕ} (l : format.Lin
 more-pends l (Pends.at_last e m) h p o k = absurd (cc)
 more-pends {s} {u = u} {old} {r} {q} {text} l (Pends.going_on e m) h (Passes.going_on f reads) o k =
     rw k (Pends.going_on f (λ number d ending.
-    regroup (join_of number old) s r q d ending ∙ m number (q ++ d) ending ∙ joining-open (joined number text) (reads.gives d ending) o))
+    regroup (join_of number old) s r q d ending ∙ m number (q ++ d) ending ∙ joining-open (joint number text) (reads.gives d ending) o))
 more-pends {s} {u = u} {old} {r} {q} {text} l (Pends.going_on e m) h (Passes.at_last f gives) o k =
-    rw k (Pends.at_last f (λ number. m number q end ∙ joining-open (joined number text) gives o))
+    rw k (Pends.at_last f (λ number. m number q end ∙ joining-open (joint number text) gives o))
 
 -- any other line closes it
 more-closes : {s t u : ReaderState} {old r q text new : List ℕ} (l : format.Line) → Pends s old r text t → t.is_done ≡ false → Passes t q (l ∷ []) u
@@ -167,12 +159,12 @@ more-closes {s} {u = u} {old} {r} {q} {text} l (Pends.going_on e m) h (Passes.go
     rw k (Closes.going_on f (λ number d ending.
     regroup (join_of number old) s r q d ending
     ∙ m number (q ++ d) ending
-    ∙ joining-closed (joined number text) (reads.gives d ending) o
+    ∙ joining-closed (joint number text) (reads.gives d ending) o
     ∙ ap (followed number (outcome_of (text ++ addition l.text))) (sym (items_to_come-pending u d ending))))
 more-closes {s} {u = u} {old} {r} {q} {text} l (Pends.going_on e m) h (Passes.at_last f gives) o k =
     rw k (Closes.at_last f (λ number.
     m number q end
-    ∙ joining-closed (joined number text) gives o
+    ∙ joining-closed (joint number text) gives o
     ∙ ap (followed number (outcome_of (text ++ addition l.text))) (pending-done u [] end f)))
 
 -- a fault comes in it
@@ -192,6 +184,7 @@ module _ {R : Type 0} {reader : Reader R} where
   goes-start s from text = record {
     read = read-none from;
     pends = start-pends s text;
+    adds = adds-start s text;
     passes = λ g. some-start s;
     done = λ e. e;
     ended = λ e. inl e;
@@ -228,7 +221,8 @@ module _ {R : Type 0} {reader : Reader R} where
       → GoesOn reader s from old (r ++ h.bytes) new found.state next
   goes-more number found h n o e = record {
     read = read-more h.read n.read;
-    pends = more-pends (finder.found_line number found) h.pends n.live n.passes o e;
+    pends = more-pends (found_line number found) h.pends n.live n.passes o e;
+    adds = adds-more (found_line number found) h.adds n.live n.passes o e;
     passes = λ g. some-on (h.passes n.live) (some-come n.passes g);
     done = λ k. let d = h.done k in let l = n.live in absurd (cc);
     ended = λ k. inr (n.ended k);
@@ -243,7 +237,8 @@ module _ {R : Type 0} {reader : Reader R} where
   joins-closed {r = r} number found h n o e = record {
     bytes = r ++ n.bytes;
     read = read-more h.read n.read;
-    closes = more-closes (finder.found_line number found) h.pends n.live n.passes o e;
+    closes = more-closes (found_line number found) h.pends n.live n.passes o e;
+    adds = adds-last (found_line number found) h.adds n.live n.passes o e;
     passes = λ g. some-on (h.passes n.live) (some-come n.passes g);
     done = λ k. let d = h.done k in let l = n.live in absurd (cc);
     ended = λ k. inr (n.ended k);
@@ -258,6 +253,7 @@ module _ {R : Type 0} {reader : Reader R} where
     bytes = r;
     read = h.read;
     closes = done-closes h.pends d;
+    adds = adds-done h.adds d;
     passes = h.passes;
     done = λ k. d;
     ended = h.ended;
@@ -297,6 +293,39 @@ module _ {R : Type 0} {reader : Reader R} where
   pub goes-live : {s t : ReaderState} {from to : R} {old r text : List ℕ} → GoesOn reader s from old r text t to → t.is_done ≡ false → s.is_done ≡ false
   goes-live {s} h g = elim (cases_Bool s.is_done) [ inl e ↦ let d = h.done e in absurd (cc) | inr e ↦ e ]
 
+  -- and so the join couldn't be read to its end
+  pub joins-lost : {from at to : R} {old r text : List ℕ} (before lines found after : Finder) → GoesOn reader before.state from old r text lines.state at
+      → finder.FindsNext reader lines.state at found.state.passed found to → after ≡ failed found why.Memory → JoinsNone reader before from old after to
+  joins-lost before lines found after h n e = rw e (record {
+    live = goes-live h n.live;
+    done = refl;
+    error = why.Memory;
+    kept = refl;
+    why = join-no_room found.state.passed found (failed found why.Memory).state h n refl;
+  })
+
+  -- no more lines came
+  pub joins-over : {from at to : R} {old r text : List ℕ} (before lines after : Finder) (failed : Bool) → GoesOn reader before.state from old r text lines.state at
+      → lines.error ≡ None → Finds reader lines at false after to → failed ≡ is_some after.error → JoinsOn reader before from old (not failed) after to text
+  joins-over before lines after failed h e (inl n) f =
+      let state = ap (λ v. let w : Finder = v in w.state) n.1 in
+      let error = ap (λ v. let w : Finder = v in w.error) n.1 ∙ e in
+      let none : failed ≡ false = f ∙ ap is_some error in
+      rw none (joins-done h n.0 state n.2, error)
+  joins-over before lines after failed h e (inr n) f =
+      let some : failed ≡ true = f ∙ ap is_some n.failed.error in
+      rw some (record { live = goes-live h n.live; done = n.failed.done; error = n.error; kept = n.failed.error; why = join-refused h n.live n.why })
+
+-- ---- what is known of a line
+
+pub known-ascii : (f : Finder) (e : Encoding) (bytes : List ℕ) (is_ascii : Bool) → IsToldOf f → e ≡ f.state.encoding → bytes ≡ f.line → is_ascii ≡ f.is_ascii
+    → is_ascii ≡ true → IsAsciiLine e bytes
+known-ascii f e bytes is_ascii h same line told k = rw (same, line) ((h 0 0).ascii.0 (sym told ∙ k))
+
+pub known-plain : (f : Finder) (bytes : List ℕ) (has_backslash : Bool) → IsToldOf f → bytes ≡ f.line → has_backslash ≡ f.has_backslash
+    → has_backslash ≡ false → holds_backslash bytes ≡ false
+known-plain f bytes has_backslash h line told k = rw line (sym (h 0 0).backslash ∙ sym told ∙ k)
+
 -- ---- logical lines
 
 abbrev join_line : ℕ → List ℕ → format.Line
@@ -307,7 +336,7 @@ items-pending : (s : ReaderState) (d : List ℕ) (ending : InputEnd) → items_t
 items-pending = items_to_come-pending
 
 -- a line that is a logical line by itself
-alone-comes : {s t : ReaderState} {r : List ℕ} (l : format.Line) → Passes s r (l ∷ []) t → (is_comment_line l.text ≡ true) ⊎ (is_open l.text ≡ false) → Comes s r l t
+alone-comes : {s t : ReaderState} {r : List ℕ} (l : format.Line) → Passes s r (l ∷ []) t → StandsAlone l.text → Comes s r l t
 alone-comes {s} l (Passes.going_on f reads) (inl c) = Comes.going_on f (logical-comment_line (on-start s) reads c)
 alone-comes {s} l (Passes.going_on f reads) (inr c) = Comes.going_on f (logical-closed (on-start s) reads c)
 alone-comes {s} {t} {r} l (Passes.at_last f gives) (inl c) =
@@ -334,45 +363,82 @@ join-comes {s} {t} {u} {r} {q} l (Passes.at_last f gives) c o (Closes.at_last e 
     ∙ m l.number
     )
 
+-- so is its group
+alone-group : {s t : ReaderState} {r : List ℕ} (l : format.Line) → Passes s r (l ∷ []) t → (is_comment_line l.text ≡ true) ⊎ (is_open l.text ≡ false) → JoinsGroup s r l t
+alone-group l p (inl c) = record {
+  first = l;
+  others = [];
+  passes = p;
+  number = refl;
+  text = sym (joined-comment_line l [] c);
+  ends = inl (inl (c, refl));
+}
+alone-group l p (inr o) = record {
+  first = l;
+  others = [];
+  passes = p;
+  number = refl;
+  text = sym (joined-closed l o);
+  ends = inl (elim (cases_Bool (is_comment_line l.text)) [ inl c ↦ inl (c, refl) | inr c ↦ inr (c, o) ]);
+}
+
+-- and the group of an open line and those that it is joined to
+join-group : {s t u : ReaderState} {r q text : List ℕ} (l : format.Line) → Passes s r (l ∷ []) t → is_comment_line l.text ≡ false → is_open l.text ≡ true
+    → AddsLast t (without_open_backslash l.text) q text u → (t.is_done ≡ true → (u.is_done ≡ true) × (q ≡ [])) → JoinsGroup s (r ++ q) (record { number = l.number; text = text }) u
+join-group {s} {t} {u} {r} {q} {text} l p c o h i = record {
+  first = l;
+  others = h.lines;
+  passes = all-lines p;
+  number = refl;
+  text = h.is ∙ sym (joined-unmarked l h.lines c);
+  ends = by-end h.end_join;
+}
+  where
+    by-end : EndJoin h.lines u → IsWhole (l ∷ h.lines) ⊎ (u.is_done ≡ true) × IsUnfinished (l ∷ h.lines)
+    by-end (inl k) = inl (inr (c, k l o))
+    by-end (inr k) = inr (k.0, (c, (o, k.1)))
+
+    last-lines : t.is_done ≡ true → Gives s r (l ∷ []) t [] end → q ≡ [] → Passes t q h.lines u → Passes s (r ++ q) (l ∷ h.lines) u
+    last-lines f gives none (Passes.going_on g reads) = let d = (i f).0 in absurd (cc)
+    last-lines f gives none (Passes.at_last g others) =
+        let S : List ℕ → Type 0 = λ v. Gives t v h.lines u [] end in
+        let P : List ℕ → Type 0 = λ v. Gives s v (l ∷ h.lines) u [] end in
+        Passes.at_last g (subst P (sym (ap (λ v. r ++ v) none ∙ append-nil r)) (gives-on gives (subst S none others)))
+
+    all-lines : Passes s r (l ∷ []) t → Passes s (r ++ q) (l ∷ h.lines) u
+    all-lines (Passes.going_on f reads) = passes-on (Passes.going_on f reads) f h.passes
+    all-lines (Passes.at_last f gives) = last-lines f gives (i f).1 h.passes
+
 lazy-items : {R : Type 0} {from to : R} {r : List ℕ} (s : ReaderState) → IsLazy s from r to → IsLazyItems s from r to
 lazy-items s (inl h) = inl h
 lazy-items s (inr h) = inr (items-pending s [] more ∙ pending-lazy None s h)
 
 module _ {R : Type 0} {reader : Reader R} where
   -- the line is a logical line
-  pub joins-alone : {s : ReaderState} {from to : R} (number : ℕ) (new : Joiner) → FindsNext reader s from number new to
-      → (is_comment_line (chars new.line) ≡ true) ⊎ (is_open (chars new.line) ≡ false) → JoinsNext reader s from number new to
-  joins-alone {s} number new n c = record {
-    bytes = n.bytes;
-    read = n.read;
-    live = n.live;
-    comes = alone-comes (numbered_line number new) n.passes c;
-    passes = λ g. some-come n.passes g;
-    ended = n.ended;
-    lazy = lazy-items s n.lazy;
-  }
-
-  -- and so is a plain one
-  pub joins-plain : {s : ReaderState} {from : R} (number : ℕ) (new : Joiner) → TakesPlain s number new → JoinsNext reader s from number new from
-  joins-plain {from = from} number new h = joins-alone number new (record {
-    bytes = [];
-    read = read-none from;
-    live = h.live;
-    numbered = h.numbered;
-    passes = Passes.going_on h.going h.reads;
-    counted = λ d. h.counted;
-    ended = λ d. let g = h.going in absurd (cc);
-    lazy = inl (refl, refl);
-  }) (inr (plain-closed (chars new.line) h.plain))
+  pub joins-alone : {s : ReaderState} {from to : R} (number : ℕ) (found : Finder) (line : List ℕ) → finder.FindsNext reader s from number found to
+      → StandsAlone (line_text found) → chars line ≡ line_text found → JoinsNext reader s from number (record { state = found.state; line = line }) to
+  joins-alone {s} number found line n c same =
+      let P : List ℕ → Type 0 = λ v. Comes s n.bytes (record { number = number; text = v }) found.state in
+      let G : List ℕ → Type 0 = λ v. JoinsGroup s n.bytes (record { number = number; text = v }) found.state in
+      record {
+        bytes = n.bytes;
+        read = n.read;
+        live = n.live;
+        comes = subst P (sym same) (alone-comes (found_line number found) n.passes c);
+        group = subst G (sym same) (alone-group (found_line number found) n.passes c);
+        passes = λ g. some-come n.passes g;
+        ended = n.ended;
+        lazy = lazy-items s n.lazy;
+      }
 
   -- what was held when a join began, and gave no item
-  lazy-join : {s : ReaderState} {from to next : R} {q : List ℕ} (number : ℕ) (mid : Joiner) (n : FindsNext reader s from number mid to)
-      → is_comment_line (chars mid.line) ≡ false → is_open (chars mid.line) ≡ true → (mid.state.is_done ≡ true → (q ≡ []) × (next ≡ to))
-      → IsLazyJoin mid.state to (without_open_backslash (chars mid.line)) q next → IsLazyItems s from (n.bytes ++ q) next
+  lazy-join : {s : ReaderState} {from to next : R} {q : List ℕ} (number : ℕ) (mid : Finder) (n : finder.FindsNext reader s from number mid to)
+      → is_comment_line (line_text mid) ≡ false → is_open (line_text mid) ≡ true → (mid.state.is_done ≡ true → (q ≡ []) × (next ≡ to))
+      → IsLazyJoin mid.state to (without_open_backslash (line_text mid)) q next → IsLazyItems s from (n.bytes ++ q) next
   lazy-join {s} {from} {to} {next} {q} number mid n c o idle lazy = by-find n.lazy
     where
-      by-passes : n.bytes ≡ [] → to ≡ from → Passes s n.bytes (numbered_line number mid ∷ []) mid.state
-          → ((first : ℕ) → entries_pending (join_of first (without_open_backslash (chars mid.line))) mid.state [] more ≡ []) → IsLazyItems s from (n.bytes ++ q) next
+      by-passes : n.bytes ≡ [] → to ≡ from → Passes s n.bytes (found_line number mid ∷ []) mid.state
+          → ((first : ℕ) → entries_pending (join_of first (without_open_backslash (line_text mid))) mid.state [] more ≡ []) → IsLazyItems s from (n.bytes ++ q) next
       by-passes e k (Passes.going_on f reads) none =
           inr (ap (λ v. items_to_come s (v ++ []) more) (sym e) ∙ (on-open (on-start s) reads c o).items [] more ∙ none number)
       by-passes e k (Passes.at_last f gives) none = let i = idle f in inl (i.1 ∙ k, ap₂ (λ v w. v ++ w) e i.0)
@@ -385,14 +451,15 @@ module _ {R : Type 0} {reader : Reader R} where
       ]
 
   -- the line and those after it are one
-  pub joins-joined : {s : ReaderState} {from to next : R} (number : ℕ) (mid new : Joiner) → FindsNext reader s from number mid to
-      → is_comment_line (chars mid.line) ≡ false → is_open (chars mid.line) ≡ true
-      → JoinsAll reader mid.state to (without_open_backslash (chars mid.line)) (chars new.line) new.state next → JoinsNext reader s from number new next
+  pub joins-joined : {s : ReaderState} {from to next : R} (number : ℕ) (mid : Finder) (new : Joiner) → finder.FindsNext reader s from number mid to
+      → is_comment_line (line_text mid) ≡ false → is_open (line_text mid) ≡ true
+      → JoinsAll reader mid.state to (without_open_backslash (line_text mid)) (chars new.line) new.state next → JoinsNext reader s from number new next
   joins-joined {next = next} number mid new n c o j = record {
     bytes = n.bytes ++ j.bytes;
     read = read-more n.read j.read;
     live = n.live;
-    comes = join-comes (numbered_line number mid) n.passes c o j.closes (λ e. (j.done e, (j.idle e).0));
+    comes = join-comes (found_line number mid) n.passes c o j.closes (λ e. (j.done e, (j.idle e).0));
+    group = join-group (found_line number mid) n.passes c o j.adds (λ e. (j.done e, (j.idle e).0));
     passes = λ g. some-on (some-come n.passes (elim (cases_Bool mid.state.is_done) [ inl e ↦ let d = j.done e in absurd (cc) | inr e ↦ e ])) (j.passes g);
     ended = λ e. elim (j.ended e) [ inl k ↦ let P : R → Type 0 = λ v. reader.at_end v ≡ true in subst P (sym (j.idle k).1) (n.ended k) | inr k ↦ k ];
     lazy = lazy-join number mid n c o j.idle j.lazy;
@@ -419,9 +486,9 @@ module _ {R : Type 0} {reader : Reader R} where
   joins-refused {s} (inr (inr f)) = inr (inr (record { bytes = f.room.bytes; read = f.room.read; is = f.is; lazy = lazy-items s f.room.lazy }))
 
   -- a join was not read to its end
-  pub joins-broken : {s u : ReaderState} {from to next : R} {e : LineError} (number : ℕ) (mid : Joiner) → FindsNext reader s from number mid to
-      → is_comment_line (chars mid.line) ≡ false → is_open (chars mid.line) ≡ true → mid.state.is_done ≡ false
-      → JoinError reader mid.state to (without_open_backslash (chars mid.line)) e u next → JoinsError reader s from e u next
+  pub joins-broken : {s u : ReaderState} {from to next : R} {e : LineError} (number : ℕ) (mid : Finder) → finder.FindsNext reader s from number mid to
+      → is_comment_line (line_text mid) ≡ false → is_open (line_text mid) ≡ true → mid.state.is_done ≡ false
+      → JoinError reader mid.state to (without_open_backslash (line_text mid)) e u next → JoinsError reader s from e u next
   joins-broken {s} {from = from} {to = to} number mid n c o g (inl f) = inl (record {
     bytes = n.bytes ++ f.bytes;
     error = f.error;
@@ -432,11 +499,11 @@ module _ {R : Type 0} {reader : Reader R} where
     lazy = none n.lazy;
   })
     where
-      by-passes : Passes s n.bytes (numbered_line number mid ∷ []) mid.state → items_to_come s (n.bytes ++ f.bytes) fault ≡ read_fault f.number ∷ []
+      by-passes : Passes s n.bytes (found_line number mid ∷ []) mid.state → items_to_come s (n.bytes ++ f.bytes) fault ≡ read_fault f.number ∷ []
       by-passes (Passes.at_last k gives) = absurd (cc)
       by-passes (Passes.going_on k reads) = (on-open (on-start s) reads c o).items f.bytes fault ∙ f.entries number
 
-      on-more : n.bytes ≡ [] → Passes s n.bytes (numbered_line number mid ∷ []) mid.state → items_to_come s [] more ≡ []
+      on-more : n.bytes ≡ [] → Passes s n.bytes (found_line number mid ∷ []) mid.state → items_to_come s [] more ≡ []
       on-more e (Passes.at_last k gives) = absurd (cc)
       on-more e (Passes.going_on k reads) =
           ap (λ v. items_to_come s (v ++ []) more) (sym e) ∙ (on-open (on-start s) reads c o).items [] more ∙ f.lazy number
@@ -456,21 +523,134 @@ module _ {R : Type 0} {reader : Reader R} where
       inr (inr (record { bytes = n.bytes ++ f.bytes; read = read-more n.read f.read; is = f.is; lazy = lazy-join number mid n c o (λ e. absurd (cc)) f.lazy }))
 
   -- there was no memory for it
-  pub joins-no_room : {s u : ReaderState} {from to : R} {e : LineError} (number : ℕ) (mid : Joiner) → FindsNext reader s from number mid to
+  pub joins-no_room : {s u : ReaderState} {from to : R} {e : LineError} (number : ℕ) (mid : Finder) → finder.FindsNext reader s from number mid to
       → e ≡ why.Memory → JoinsError reader s from e u to
   joins-no_room {s} number mid n is = inr (inr (record { bytes = n.bytes; read = n.read; is = is; lazy = lazy-items s n.lazy }))
 
-  -- only the number of line ends passed counts
-  joins-passed : {s t u : ReaderState} {from to : R} {e : LineError} → u.passed ≡ t.passed → JoinsError reader s from e t to → JoinsError reader s from e u to
-  joins-passed h (inl f) = inl f
-  joins-passed h (inr (inl f)) =
-      inr (inl (record { bytes = f.bytes; read = f.read; passes = f.passes; is = f.is; lazy = f.lazy }))
-  joins-passed h (inr (inr f)) = inr (inr f)
+-- ---- the rest of a logical line
 
-  -- as the errors of a join say it
-  pub joins-stopped : {s : ReaderState} {from to next : R} {e : LineError} (number : ℕ) (mid new : Joiner) (u : ReaderState) → FindsNext reader s from number mid to
-      → is_comment_line (chars mid.line) ≡ false → is_open (chars mid.line) ≡ true → JoinsAfter reader mid to (Err e) new next → u.passed ≡ new.state.passed
-      → JoinsError reader s from e u next
-  joins-stopped {s} {from} {e = e} number mid new u n c o (inl (kept, is)) same =
-      let P : R → Type 0 = λ v. JoinsError reader s from e u v in subst P (sym kept) (joins-no_room number mid n is)
-  joins-stopped number mid new u n c o (inr (live, h)) same = joins-passed same (joins-broken number mid n c o live h)
+-- what is kept of the text of a line
+kept-text : (e : Encoding) (bytes text : List ℕ) (is_kept : Bool) → KeepsText e bytes is_kept text → chars (if is_kept then text else bytes) ≡ decoded_line e bytes
+kept-text e bytes text true h = h
+kept-text e bytes text false h = h.1
+
+kept-utf8 : (e : Encoding) (bytes text : List ℕ) (is_kept : Bool) → KeepsText e bytes is_kept text → is_kept ≡ false → IsUtf8 bytes
+kept-utf8 e bytes text true h k = absurd (cc)
+kept-utf8 e bytes text false h k = h.0
+
+-- a line without a backslash opens no join
+opens-escaped : (found : Finder) → is_open (line_text found) ≡ true → holds_backslash found.line ≡ false → ⊥
+opens-escaped found o plain =
+    let closed = plain-closed (line_text found) (unescaped-decoded found.state.encoding found.line plain) in
+    absurd (cc)
+
+module _ {R : Type 0} {reader : Reader R} where
+  -- the line is a logical line
+  pub reads-alone : {from : R} (found : Finder) (line : LogicalLine) → StandsAlone (line_text found) → KeepsText found.state.encoding found.line line.is_kept line.text
+      → found.error ≡ None → ReadsWhole reader found from found.state.passed found line from
+  reads-alone found line c keeps error =
+      let text = kept-text found.state.encoding found.line line.text line.is_kept keeps in
+      record {
+        number_is = refl;
+        error = error;
+        text = kept-utf8 found.state.encoding found.line line.text line.is_kept keeps;
+        comes = λ n. joins-alone found.state.passed found (text_with line found.line) n c text;
+        plain = λ h. ap holds_backslash text ∙ unescaped-decoded found.state.encoding found.line h;
+      }
+
+  -- the text that is kept came
+  kept-comes : {S : ReaderState} {start to : R} (number : ℕ) (lines : Finder) (line : LogicalLine) → line.is_kept ≡ true
+      → JoinsNext reader S start number (record { state = lines.state; line = line.text }) to → JoinsNext reader S start number (joiner_of lines line) to
+  kept-comes {S} {start} {to} number lines line kept h =
+      let P : Bool → Type 0 = λ v. JoinsNext reader S start number (record { state = lines.state; line = if v then line.text else lines.line }) to in
+      subst P (sym kept) h
+
+  -- and so is it with the lines that are joined to it
+  pub reads-joined : {from to : R} (found lines : Finder) (begun line : LogicalLine) → OpensJoin (line_text found) begun
+      → JoinsAll reader found.state from (chars begun.text) (chars line.text) lines.state to → lines.error ≡ None → line.is_kept ≡ true
+      → ReadsWhole reader found from found.state.passed lines line to
+  reads-joined {from} {to} found lines begun line o j error kept =
+      let P : List ℕ → Type 0 = λ v. JoinsAll reader found.state from v (chars line.text) lines.state to in
+      record {
+        number_is = refl;
+        error = error;
+        text = λ e. absurd (cc);
+        comes = λ n. kept-comes found.state.passed lines line kept
+            (joins-joined found.state.passed found (record { state = lines.state; line = line.text }) n o.other o.opens (subst P o.closed j));
+        plain = λ h. absurd (opens-escaped found o.opens h);
+      }
+
+  -- these can't be read to their end
+  pub reads-broken : {from to : R} (found lines : Finder) (begun line : LogicalLine) → OpensJoin (line_text found) begun
+      → JoinsNone reader found from (chars begun.text) lines to → line.is_kept ≡ true → ReadsNone reader found from lines line to
+  reads-broken {from} {to} found lines begun line o j kept =
+      let P : List ℕ → Type 0 = λ v. JoinError reader found.state from v j.error lines.state to in
+      record {
+        done = j.done;
+        error = j.error;
+        kept = j.kept;
+        text = λ e. absurd (cc);
+        why = λ n. joins-broken found.state.passed found n o.other o.opens j.live (subst P o.closed j.why);
+      }
+
+  -- there was no memory for its text
+  pub reads-no_room : {from : R} (found lines : Finder) (line : LogicalLine) → lines ≡ failed found why.Memory → line.is_kept ≡ true
+      → ReadsNone reader found from lines line from
+  reads-no_room found lines line e kept = rw e (record {
+    done = refl;
+    error = why.Memory;
+    kept = refl;
+    text = λ lent. absurd (cc);
+    why = λ n. joins-no_room found.state.passed found n refl;
+  })
+
+-- ---- the next logical line
+
+-- what a contract sees of the joiner of this reader and this line
+abbrev pub joining : Finder → LogicalLine → Bool → Joining
+joining lines line has_backslash = record { at = joiner_of lines line; has_backslash = has_backslash; error = lines.error }
+
+module _ {R : Type 0} {reader : Reader R} where
+  -- no line was found
+  pub joins-none : {from to : R} (before after : Finder) (line : LogicalLine) (has_backslash : Bool) → Finds reader before from false after to
+      → Joins reader (joining before line has_backslash) from None (joining after line has_backslash) to
+  joins-none before after line has_backslash (inl h) = inl (h.0, ap (λ v. joining v line has_backslash) h.1, h.2)
+  joins-none before after line has_backslash (inr h) = inr (record {
+    live = h.live;
+    done = h.failed.done;
+    error = h.error;
+    kept = h.failed.error;
+    why = joins-refused h.why;
+  })
+
+  -- the one before stays, or is let go
+  pub none-utf8 : {from to : R} (before after : Finder) → Finds reader before from false after to → IsUtf8 before.line → IsUtf8 after.line
+  none-utf8 before after (inl h) u = rw h.1 u
+  none-utf8 before after (inr h) u = by-line h.failed.line
+    where
+      by-line : LetsGo before after → IsUtf8 after.line
+      by-line (inl e) = subst (λ v. IsUtf8 v) (sym e) u
+      by-line (inr e) = subst (λ v. IsUtf8 v) (sym e) IsUtf8-nil
+
+  -- the line is lent
+  pub joins-lent : {from to : R} (old : Joining) (found : Finder) (line : LogicalLine)
+      → finder.FindsNext reader old.at.state from found.state.passed found to × IsToldOf found × (found.error ≡ None) → found.is_ascii ≡ true → found.has_backslash ≡ false
+      → line.is_kept ≡ false → Joins reader old from (Some found.state.passed) (joining found line false) to
+  joins-lent {from} {to} old found line n is_ascii none kept =
+      let e = found.state.encoding in
+      let text = (ascii-keeps e found.line (known-ascii found e found.line found.is_ascii n.1 refl refl refl is_ascii)).1 in
+      let plain = unescaped-decoded e found.line (known-plain found found.line found.has_backslash n.1 refl refl none) in
+      let P : Bool → Type 0 = λ v. Joins reader old from (Some found.state.passed)
+      (record { at = record { state = found.state; line = if v then line.text else found.line }; has_backslash = false; error = found.error }) to in
+      let lent = joins-alone found.state.passed found found.line n.0 (inr (plain-closed (line_text found) plain)) text in
+      subst P (sym kept) (lent, λ h. ap holds_backslash text ∙ plain, n.2)
+
+  -- the rest of it was read
+  pub joins-rest : {from mid : R} (to : R) (old : Joining) (found lines : Finder) (line : LogicalLine) (result : Option ℕ) (has_backslash : Bool)
+      → finder.FindsNext reader old.at.state from found.state.passed found mid × IsToldOf found × (found.error ≡ None) → has_backslash ≡ found.has_backslash
+      → ReadsRest reader found mid result lines line to → Joins reader old from result (joining lines line has_backslash) to
+  joins-rest {from} {mid} to old found lines line (Some number) has_backslash n same h =
+      let P : ℕ → Type 0 = λ v. finder.FindsNext reader old.at.state from v found mid in
+      (h.comes (subst P (sym h.number_is) n.0), λ e. h.plain (known-plain found found.line has_backslash n.1 refl same e), h.error)
+  joins-rest to old found lines line None has_backslash n same h =
+      inr (record { live = n.0.live; done = h.done; error = h.error; kept = h.kept; why = h.why n.0 })

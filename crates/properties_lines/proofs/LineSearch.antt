@@ -226,7 +226,7 @@ searched-bytes e bytes from size le h =
     }
 
 -- a unit of one byte is its character
-one-byte : (e : Encoding) (c : ℕ) → unit_size e ≡ 1 → ascii_bytes e c ≡ c ∷ []
+pub one-byte : (e : Encoding) (c : ℕ) → unit_size e ≡ 1 → ascii_bytes e c ≡ c ∷ []
 one-byte windows_1252 c h = refl
 one-byte utf_8 c h = refl
 one-byte utf_16le c h = absurd (omega arith)
@@ -285,7 +285,7 @@ searched-past e bytes at size s le none =
     }
 
 -- half a unit is none
-half-unit : (e : Encoding) (d : List ℕ) → unit_size e ≡ 2 → length d < 2 → HoldsNoLineEndUnit e d
+pub half-unit : (e : Encoding) (d : List ℕ) → unit_size e ≡ 2 → length d < 2 → HoldsNoLineEndUnit e d
 half-unit windows_1252 d size h = absurd (omega arith)
 half-unit utf_8 d size h = absurd (omega arith)
 half-unit utf_16le [] size h = tt

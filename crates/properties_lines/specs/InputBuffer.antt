@@ -1,15 +1,23 @@
 -- What a read into the buffer of undecoded bytes does.
-use Rattle.std.specs.Prelude.{◌≡◌, ℕ, ◌+◌, ◌≤◌, true, List, [], ◌++◌, length, take, Result, Ok, Err}
+use Rattle.std.specs.Prelude.{◌≡◌, ℕ, ◌+◌, ◌<◌, ◌≤◌, true, List, [], ◌++◌, length, take, drop, Result, Ok, Err}
 use Rattle.std.specs.declared.io.Error.{Error}
 use Rattle.counted_io.specs.Streams.{Reader, HasRead, HasFailed}
-use Rattle.properties_lines.specs.declared.input.FillError.{FillError}
-use Rattle.properties_lines.specs.declared.input.FillError.TheVariants.{Memory, Io}
 
--- the bytes that are held, how many were taken before them, and for how many there is room after them
+-- the bytes that are held, and for how many there is room after them
 pub record Buffer : Type 0 where
   pub held : List ℕ
-  pub taken : ℕ
   pub room : ℕ
+
+-- There is room after the bytes that are held, of which some at the front were let go, at most so many.
+pub record HasRoom (count : ℕ) (old : Buffer) (gone : ℕ) (new : Buffer) : Type 0 where
+  pub most : gone ≤ count
+  pub held : new.held ≡ drop gone old.held
+  pub room : 0 < new.room
+
+-- Room was made, or there is no memory for it.
+abbrev pub MakesRoom : {E : Type 0} → ℕ → Buffer → Result ℕ E → Buffer → Type 0
+MakesRoom count old (Ok gone) new = HasRoom count old gone new
+MakesRoom count old (Err e) new = new.held ≡ old.held
 
 -- these bytes were read, and are held after the others; where there are none, the reader is at its end
 pub record HasFilled {R : Type 0} (reader : Reader R) (held : List ℕ) (old : R) (held' : List ℕ) (new : R) (count : ℕ) : Type 0 where
@@ -19,11 +27,10 @@ pub record HasFilled {R : Type 0} (reader : Reader R) (held : List ℕ) (old : R
   pub counted : count ≡ length bytes
   pub ended : bytes ≡ [] → reader.at_end new ≡ true
 
--- One read: its bytes are held after those that were, or it failed, or there was no room for it, and nothing was read.
-abbrev pub Fills : {R : Type 0} → Reader R → List ℕ → R → Result ℕ FillError → List ℕ → R → Type 0
+-- One read: its bytes are held after those that were, or it failed.
+abbrev pub Fills : {R : Type 0} → Reader R → List ℕ → R → Result ℕ Error → List ℕ → R → Type 0
 Fills reader held old (Ok count) held' new = HasFilled reader held old held' new count
-Fills reader held old (Err (Memory e)) held' new = (held' ≡ held) × (new ≡ old)
-Fills reader held old (Err (Io e)) held' new = (held' ≡ held) × HasFailed reader old [] e new
+Fills reader held old (Err e) held' new = (held' ≡ held) × HasFailed reader old [] e new
 
 -- this many bytes were read, and stand from the place on
 pub record HasReadAt {R : Type 0} (reader : Reader R) (place : ℕ) (buffer : List ℕ) (old : R) (count : ℕ) (buffer' : List ℕ) (new : R) : Type 0 where

@@ -1,7 +1,7 @@
 pub mod InputBuffer
 pub mod LineSearch
-pub mod PlainLines
-pub mod LineFinder
-pub mod LineTexts
-pub mod LineErrors
+pub mod Scanner
+pub mod HeldLines
+pub mod LineReader
+pub mod LogicalLine
 pub mod LineJoiner

@@ -1,20 +1,22 @@
 -- What a contract sees of the joiner of lines, and what its calls give and leave.
-use Rattle.std.specs.Prelude.{◌≡◌, ◌⊎◌, ◌+◌, ◌++◌, ℕ, true, false, List, [], ◌∷◌, Option, Some, None, Result, Ok, Err}
-use Rattle.std.specs.Str.{chars}
+use Rattle.std.specs.Prelude.{◌≡◌, ◌⊎◌, ◌++◌, ℕ, Bool, true, false, List, [], ◌∷◌, Option, Some, None}
+use Rattle.std.specs.Str.{chars, IsUtf8}
 use Rattle.std.specs.declared.io.Error.{Error}
 use Rattle.counted_io.specs.Streams.{Reader, HasRead, HasFailed}
 use Rattle.properties_format.specs.Lines as format
 use Rattle.properties_format.specs.Lines.{InputEnd, end, fault, more}
-use Rattle.properties_format.specs.Groups.{without_open_backslash}
+use Rattle.properties_format.specs.Groups.{is_open, joined, joined_after, AreOpen, EndsClosed, IsWhole, IsUnfinished}
 use Rattle.properties_format.specs.Reading.Cut.{decoded_line}
 use Rattle.properties_format.specs.Entries.{read_fault}
 use Rattle.properties_format.specs.ItemsToCome.{ReaderState}
 use Rattle.properties_format.specs.Reading.Items.{outcome_of, followed}
 use Rattle.properties_format.specs.Reading.ItemsToCome.{items_to_come, entries_pending}
-use Rattle.properties_format.specs.Reading.ReaderSteps.{ReadsLines, ReadsLogical}
-use Rattle.properties_text.specs.Decoding.{IsText}
+use Rattle.properties_format.specs.Reading.ReaderSteps.{ReadsLogical}
 use Rattle.properties_text.specs.Escaping.{holds_backslash}
-use Rattle.properties_lines.specs.LineFinder.{Finder, Passes, PassesSome, PassesAll, IsLazy, FindsError}
+use Rattle.properties_lines.specs.LineReader as finder
+use Rattle.properties_lines.specs.LineReader.{Finder, Passes, PassesSome, PassesAll}
+use Rattle.properties_lines.specs.LogicalLine.{text_with}
+use Rattle.properties_lines.specs.declared.logical.LogicalLine.{LogicalLine}
 use Rattle.properties_lines.specs.declared.error.LineError.TheVariants as why
 use Rattle.properties_lines.specs.declared.error.LineError.{LineError}
 
@@ -23,46 +25,15 @@ pub record Joiner : Type 0 where
   pub state : ReaderState
   pub line : List ℕ
 
+-- that, whether the line may hold a backslash, and why no line came
+pub record Joining : Type 0 where
+  pub at : Joiner
+  pub has_backslash : Bool
+  pub error : Option LineError
+
 -- that line under a number
 abbrev pub numbered_line : ℕ → Joiner → format.Line
 numbered_line number joiner = record { number = number; text = chars joiner.line }
-
--- ---- natural lines
-
--- A natural line came, and was decoded.
-pub record FindsNext {R : Type 0} (reader : Reader R) (old : ReaderState) (from : R) (number : ℕ) (new : Joiner) (to : R) : Type 0 where
-  pub bytes : List ℕ
-  pub read : HasRead reader from bytes to
-  pub live : old.is_done ≡ false
-  pub numbered : number ≡ old.passed + 1
-  pub passes : Passes old bytes (numbered_line number new ∷ []) new.state
-  pub counted : new.state.is_done ≡ false → new.state.passed ≡ number
-  pub ended : new.state.is_done ≡ true → reader.at_end to ≡ true
-  pub lazy : IsLazy old from bytes to
-
-abbrev pub FindsNatural : {R : Type 0} → Reader R → Joiner → R → Option (Result ℕ LineError) → Joiner → R → Type 0
-FindsNatural reader old from None new to = (old.state.is_done ≡ true) × (new.state ≡ old.state) × (to ≡ from)
-FindsNatural reader old from (Some (Ok number)) new to = FindsNext reader old.state from number new to
-FindsNatural reader old from (Some (Err e)) new to = (old.state.is_done ≡ false) × (new.state.is_done ≡ true) × FindsError reader old.state from e new.state to
-
--- The bytes of a line are its text, which holds no backslash.
-pub record IsTextLine (s : ReaderState) (bytes : List ℕ) : Type 0 where
-  pub text : IsText s.encoding bytes
-  pub unescaped : holds_backslash (chars bytes) ≡ false
-
--- A natural line that was held came, and holds no backslash.
-pub record TakesPlain (old : ReaderState) (number : ℕ) (new : Joiner) : Type 0 where
-  pub live : old.is_done ≡ false
-  pub numbered : number ≡ old.passed + 1
-  pub reads : ReadsLines old [] (numbered_line number new ∷ []) new.state
-  pub going : new.state.is_done ≡ false
-  pub counted : new.state.passed ≡ number
-  pub plain : holds_backslash (chars new.line) ≡ false
-
--- What coming to a plain line does. At `None` the line that came last may be lost.
-abbrev pub JoinsPlain : Joiner → Option ℕ → Joiner → Type 0
-JoinsPlain old None new = new.state ≡ old.state
-JoinsPlain old (Some number) new = TakesPlain old.state number new
 
 -- the text of the line that was found, decoded
 abbrev pub line_text : Finder → List ℕ
@@ -128,6 +99,24 @@ pub data Closes (old : ReaderState) (old_text bytes text : List ℕ) (new : Read
   at_last : new.is_done ≡ true → ((number : ℕ) → entries_pending (join_of number old_text) old bytes end ≡ followed number (outcome_of text) [])
       → Closes old old_text bytes text new
 
+-- Open lines were added to a join.
+pub record AddsOpen (old : ReaderState) (old_text bytes text : List ℕ) (new : ReaderState) : Type 0 where
+  pub lines : List format.Line
+  pub passes : Passes old bytes lines new
+  pub are_open : AreOpen lines
+  pub is : text ≡ old_text ++ joined_after lines
+
+-- These lines end a group that open lines begin; or they are open too, and the input ended.
+abbrev pub EndJoin : List format.Line → ReaderState → Type 0
+EndJoin lines new = ((l : format.Line) → is_open l.text ≡ true → EndsClosed l lines) ⊎ (new.is_done ≡ true) × AreOpen lines
+
+-- The last lines of a join were added to it.
+pub record AddsLast (old : ReaderState) (old_text bytes text : List ℕ) (new : ReaderState) : Type 0 where
+  pub lines : List format.Line
+  pub passes : Passes old bytes lines new
+  pub end_join : EndJoin lines new
+  pub is : text ≡ old_text ++ joined_after lines
+
 -- Nothing was read; or what was held did not close the join.
 abbrev pub IsLazyJoin : {R : Type 0} → ReaderState → R → List ℕ → List ℕ → R → Type 0
 IsLazyJoin old from text bytes to = ((to ≡ from) × (bytes ≡ [])) ⊎ ((number : ℕ) → entries_pending (join_of number text) old [] more ≡ [])
@@ -136,6 +125,7 @@ IsLazyJoin old from text bytes to = ((to ≡ from) × (bytes ≡ [])) ⊎ ((numb
 pub record GoesOn {R : Type 0} (reader : Reader R) (old : ReaderState) (from : R) (old_text bytes text : List ℕ) (new : ReaderState) (to : R) : Type 0 where
   pub read : HasRead reader from bytes to
   pub pends : Pends old old_text bytes text new
+  pub adds : AddsOpen old old_text bytes text new
   pub passes : new.is_done ≡ false → PassesSome old bytes new
   pub done : old.is_done ≡ true → new.is_done ≡ true
   pub ended : new.is_done ≡ true → (old.is_done ≡ true) ⊎ (reader.at_end to ≡ true)
@@ -147,6 +137,7 @@ pub record JoinsAll {R : Type 0} (reader : Reader R) (old : ReaderState) (from :
   pub bytes : List ℕ
   pub read : HasRead reader from bytes to
   pub closes : Closes old old_text bytes text new
+  pub adds : AddsLast old old_text bytes text new
   pub passes : new.is_done ≡ false → PassesSome old bytes new
   pub done : old.is_done ≡ true → new.is_done ≡ true
   pub ended : new.is_done ≡ true → (old.is_done ≡ true) ⊎ (reader.at_end to ≡ true)
@@ -182,18 +173,28 @@ abbrev pub JoinError : {R : Type 0} → Reader R → ReaderState → R → List 
 JoinError reader old from old_text e new to =
     JoinFault reader old from old_text e to ⊎ (JoinTooMany reader old from old_text e new to ⊎ JoinNoRoom reader old from old_text e to)
 
--- What reading a join to its end does.
-abbrev pub JoinsOn : {R : Type 0} → Reader R → ReaderState → R → List ℕ → Result Unit LineError → ReaderState → R → List ℕ → Type 0
-JoinsOn reader old from old_text (Ok done) new to text = JoinsAll reader old from old_text text new to
-JoinsOn reader old from old_text (Err e) new to text = (old.is_done ≡ false) × JoinError reader old from old_text e new to
+-- It couldn't be read to its end, and the reading ended for good: why is kept.
+pub record JoinsNone {R : Type 0} (reader : Reader R) (old : Finder) (from : R) (old_text : List ℕ) (new : Finder) (to : R) : Type 0 where
+  pub live : old.state.is_done ≡ false
+  pub done : new.state.is_done ≡ true
+  pub error : LineError
+  pub kept : new.error ≡ Some error
+  pub why : JoinError reader old.state from old_text error new.state to
 
--- What joining the lines after an open one does. Where there is no memory for its text, nothing is read.
-abbrev pub JoinsAfter : {R : Type 0} → Reader R → Joiner → R → Result Unit LineError → Joiner → R → Type 0
-JoinsAfter reader old from (Ok done) new to =
-    JoinsAll reader old.state from (without_open_backslash (chars old.line)) (chars new.line) new.state to
-JoinsAfter reader old from (Err e) new to =
-    (to ≡ from) × (e ≡ why.Memory)
-    ⊎ (old.state.is_done ≡ false) × JoinError reader old.state from (without_open_backslash (chars old.line)) e new.state to
+-- What reading a join to its end does.
+abbrev pub JoinsOn : {R : Type 0} → Reader R → Finder → R → List ℕ → Bool → Finder → R → List ℕ → Type 0
+JoinsOn reader old from old_text true new to text = JoinsAll reader old.state from old_text text new.state to × (new.error ≡ None)
+JoinsOn reader old from old_text false new to text = JoinsNone reader old from old_text new to
+
+-- The line is a group of natural lines, joined, under the number of the first; it is whole, or it is the last, and the
+-- input ended.
+pub record JoinsGroup (old : ReaderState) (bytes : List ℕ) (line : format.Line) (new : ReaderState) : Type 0 where
+  pub first : format.Line
+  pub others : List format.Line
+  pub passes : Passes old bytes (first ∷ others) new
+  pub number : line.number ≡ first.number
+  pub text : line.text ≡ joined (first ∷ others)
+  pub ends : IsWhole (first ∷ others) ⊎ (new.is_done ≡ true) × IsUnfinished (first ∷ others)
 
 -- A logical line came.
 pub record JoinsNext {R : Type 0} (reader : Reader R) (old : ReaderState) (from : R) (number : ℕ) (new : Joiner) (to : R) : Type 0 where
@@ -201,12 +202,49 @@ pub record JoinsNext {R : Type 0} (reader : Reader R) (old : ReaderState) (from 
   pub read : HasRead reader from bytes to
   pub live : old.is_done ≡ false
   pub comes : Comes old bytes (numbered_line number new) new.state
+  pub group : JoinsGroup old bytes (numbered_line number new) new.state
   pub passes : new.state.is_done ≡ false → PassesSome old bytes new.state
   pub ended : new.state.is_done ≡ true → reader.at_end to ≡ true
   pub lazy : IsLazyItems old from bytes to
 
+-- None came, and the reading ended for good: why is kept until it is taken.
+pub record StopsJoining {R : Type 0} (reader : Reader R) (old : Joining) (from : R) (new : Joining) (to : R) : Type 0 where
+  pub live : old.at.state.is_done ≡ false
+  pub done : new.at.state.is_done ≡ true
+  pub error : LineError
+  pub kept : new.error ≡ Some error
+  pub why : JoinsError reader old.at.state from error new.at.state to
+
 -- What coming to the next logical line does. At its end for good nothing is read.
-abbrev pub Joins : {R : Type 0} → Reader R → Joiner → R → Option (Result ℕ LineError) → Joiner → R → Type 0
-Joins reader old from None new to = (old.state.is_done ≡ true) × (new.state ≡ old.state) × (to ≡ from)
-Joins reader old from (Some (Ok number)) new to = JoinsNext reader old.state from number new to
-Joins reader old from (Some (Err e)) new to = (old.state.is_done ≡ false) × (new.state.is_done ≡ true) × JoinsError reader old.state from e new.state to
+abbrev pub Joins : {R : Type 0} → Reader R → Joining → R → Option ℕ → Joining → R → Type 0
+Joins reader old from None new to =
+    (old.at.state.is_done ≡ true) × (new ≡ old) × (to ≡ from) ⊎ StopsJoining reader old from new to
+Joins reader old from (Some number) new to =
+    JoinsNext reader old.at.state from number new.at to × (new.has_backslash ≡ false → holds_backslash (chars new.at.line) ≡ false)
+    × (new.error ≡ None)
+
+-- ---- the rest of a logical line
+
+-- the joiner of this reader and this line
+abbrev pub joiner_of : Finder → LogicalLine → Joiner
+joiner_of lines line = record { state = lines.state; line = text_with line lines.line }
+
+-- The natural line that was found, under this number, is a logical line by itself, or with the lines that were joined to it.
+pub record ReadsWhole {R : Type 0} (reader : Reader R) (old : Finder) (from : R) (number : ℕ) (lines : Finder) (line : LogicalLine) (to : R) : Type 0 where
+  pub number_is : number ≡ old.state.passed
+  pub error : lines.error ≡ None
+  pub text : line.is_kept ≡ false → IsUtf8 lines.line
+  pub comes : {S : ReaderState} {start : R} → finder.FindsNext reader S start number old from → JoinsNext reader S start number (joiner_of lines line) to
+  pub plain : holds_backslash old.line ≡ false → holds_backslash (chars (text_with line lines.line)) ≡ false
+
+-- It isn't, and the reading ended for good.
+pub record ReadsNone {R : Type 0} (reader : Reader R) (old : Finder) (from : R) (lines : Finder) (line : LogicalLine) (to : R) : Type 0 where
+  pub done : lines.state.is_done ≡ true
+  pub error : LineError
+  pub kept : lines.error ≡ Some error
+  pub text : line.is_kept ≡ false → IsUtf8 lines.line
+  pub why : {S : ReaderState} {start : R} → finder.FindsNext reader S start old.state.passed old from → JoinsError reader S start error lines.state to
+
+abbrev pub ReadsRest : {R : Type 0} → Reader R → Finder → R → Option ℕ → Finder → LogicalLine → R → Type 0
+ReadsRest reader old from (Some number) lines line to = ReadsWhole reader old from number lines line to
+ReadsRest reader old from None lines line to = ReadsNone reader old from lines line to

@@ -1,9 +1,8 @@
-// The bytes that were read and not taken.
+// The bytes that were read.
 
-ghost use Rattle.std.specs.Prelude.{◌≡◌, ◌-◌, ◌<◌, ◌≤◌, [], take, drop, length, OnOk};
+ghost use Rattle.std.specs.Prelude.{◌≡◌, ◌-◌, ◌<◌, ◌≤◌, ◌+◌, [], take, drop, length};
 ghost use Rattle.counted_io.specs.Streams.{IsSameReader};
-ghost use Rattle.properties_lines.specs.InputBuffer.{Buffer, Fills, ReadsAt};
-ghost use Rattle.properties_lines.specs.declared.input.FillError.TheVariants.{Memory};
+ghost use Rattle.properties_lines.specs.InputBuffer.{Buffer, Fills, MakesRoom, ReadsAt};
 
 use counted_io::CountedRead;
 use std::alloc::{AllocError, Global};
@@ -13,38 +12,20 @@ use std::marker::Model;
 // How many bytes the buffer grows by.
 const ROOM: usize = 1 << 16;
 
-/// Why no bytes could be read.
-#[derive(Drop)]
-pub enum FillError {
-    /// The buffer couldn't grow, and nothing was read.
-    Memory(AllocError),
-    /// The reader failed.
-    Io(io::Error),
-}
-
-impl From<AllocError> for FillError {
-    ghost from_gives = { λ error e. e ≡ Memory error };
-
-    fn from(error: AllocError) -> FillError {
-        FillError::Memory(error)
-    }
-}
-
-/// The bytes that were read and not taken, in one buffer that grows where they fill it.
+/// The bytes that were read and are still held, in one buffer that grows where they fill it.
 #[derive(Drop)]
 pub struct InputBuffer {
-    // The bytes up to `filled` were read, and those from `start` on are held. The others are room.
+    // The bytes up to `filled` are held. The others are room.
     bytes: Vec<u8>,
-    start: usize,
     filled: usize,
 }
 
 impl Model for InputBuffer {
     ghost Value = { Buffer };
 
-    ghost view = { λ s. record { held = drop s.start (take s.filled s.bytes.items); taken = s.start; room = length s.bytes.items - s.filled } };
+    ghost view = { λ s. record { held = take s.filled s.bytes.items; room = length s.bytes.items - s.filled } };
 
-    ghost invariant = { λ s. (s.start ≤ s.filled) × (s.filled ≤ length s.bytes.items) };
+    ghost invariant = { λ s. s.filled ≤ length s.bytes.items };
 }
 
 impl InputBuffer {
@@ -54,65 +35,57 @@ impl InputBuffer {
     {
         InputBuffer {
             bytes: Vec::new(alloc),
-            start: 0,
             filled: 0,
         }
     }
 
     /// The bytes that are held.
+    #[inline(always)]
     pub fn held(&self) -> &[u8]
         ensures { result.now ≡ self.now.held }
     {
-        &self.bytes[self.start..self.filled]
+        &self.bytes[..self.filled]
     }
 
-    /// Lets go of so many bytes at the front.
-    pub fn take(&mut self, count: usize)
+    /// Makes room for a read, and returns how many bytes at the front were let go: none, or all that may go.
+    ///
+    /// Bytes move down only where at least half of the buffer may go, so that each moves once on average.
+    pub fn make_room(&mut self, count: usize) -> Result<usize, AllocError>
         requires { count ≤ length self.old.held }
-        ensures { self.new.held ≡ drop count self.old.held }
-    {
-        self.start += count;
-    }
-
-    /// One read, whose bytes come after those that are held. Where it gives none the reader is at its end.
-    pub fn fill<R: CountedRead>(&mut self, reader: &mut R) -> Result<usize, FillError>
-        ensures fills { Fills R.CountedRead self.old.held reader.old result self.new.held reader.new }
-        ensures same_reader { IsSameReader R.CountedRead reader.old reader.new }
-    {
-        self.make_room()?;
-        match read_at(&mut self.bytes, self.filled, reader) {
-            Ok(count) => {
-                self.filled += count;
-                Ok(count)
-            }
-            Err(error) => Err(FillError::Io(error)),
-        }
-    }
-
-    // Bytes move down only where at least half of the buffer was taken, so that each moves once on average.
-    fn make_room(&mut self) -> Result<(), AllocError>
-        ensures same { self.new.held ≡ self.old.held }
-        ensures room { OnOk result (0 < self.new.room) }
+        ensures { MakesRoom count self.old result self.new }
     {
         if self.filled < self.bytes.len() {
-            return Ok(());
+            return Ok(0);
         }
-        if self.start > self.bytes.len() / 2 {
-            self.move_down();
-            return Ok(());
+        if count > self.bytes.len() / 2 {
+            self.move_down(count);
+            return Ok(count);
         }
         // The vector's capacity doubles all the same. Only what is read next is cleared.
         let size = self.bytes.len().saturating_add(ROOM);
-        self.bytes.resize(size, 0)
+        self.bytes.resize(size, 0)?;
+        Ok(0)
     }
 
-    fn move_down(&mut self)
-        ensures same { self.new.held ≡ self.old.held }
-        ensures room { self.old.taken ≤ self.new.room }
+    /// One read, whose bytes are held after the others. Where it gives none the reader is at its end.
+    pub fn fill<R: CountedRead>(&mut self, reader: &mut R) -> io::Result<usize>
+        requires { 0 < self.old.room }
+        ensures fills { Fills R.CountedRead self.old.held reader.old result self.new.held reader.new }
+        ensures same_reader { IsSameReader R.CountedRead reader.old reader.new }
     {
-        self.bytes.copy_within(self.start..self.filled, 0);
-        self.filled -= self.start;
-        self.start = 0;
+        let count = read_at(&mut self.bytes, self.filled, reader)?;
+        self.filled += count;
+        Ok(count)
+    }
+
+    // Lets go of so many bytes at the front.
+    fn move_down(&mut self, count: usize)
+        requires { count ≤ length self.old.held }
+        ensures held { self.new.held ≡ drop count self.old.held }
+        ensures room { self.new.room ≡ self.old.room + count }
+    {
+        self.bytes.copy_within(count..self.filled, 0);
+        self.filled -= count;
     }
 }
 

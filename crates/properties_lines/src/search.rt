@@ -57,7 +57,7 @@ pub fn find_line_end(encoding: Encoding, bytes: &[u8], from: usize) -> Option<Li
 
 // The first CR or LF where a unit is one byte.
 #[inline(always)]
-fn find_in_bytes(bytes: &[u8], from: usize) -> Option<LineEnd>
+pub fn find_in_bytes(bytes: &[u8], from: usize) -> Option<LineEnd>
     requires within { from ≤ length bytes.now }
     requires none_before { HoldsNoLineEnd (take from bytes.now) }
     ensures { FindsLineEndByte bytes.now result }
@@ -69,7 +69,7 @@ fn find_in_bytes(bytes: &[u8], from: usize) -> Option<LineEnd>
 
 // The first CR or LF where a unit is two bytes: a byte like one counts only in a unit whose other byte is zero.
 #[inline(never)]
-fn find_in_units(encoding: Encoding, bytes: &[u8], from: usize) -> Option<LineEnd>
+pub fn find_in_units(encoding: Encoding, bytes: &[u8], from: usize) -> Option<LineEnd>
     requires size { unit_size (encoding_of encoding) ≡ 2 }
     requires searched { IsSearched (encoding_of encoding) bytes.now from }
     ensures { FindsLineEnd (encoding_of encoding) bytes.now result }

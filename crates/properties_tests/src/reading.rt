@@ -2,3 +2,4 @@
 
 mod lazy;
 mod lent;
+mod malformed;

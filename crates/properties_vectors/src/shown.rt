@@ -1,7 +1,6 @@
 // What came of a row, in the notation of right sides.
 
 use crate::outcome::Outcome;
-use crate::table::encoding_of;
 use java_properties::{Cause, Encoding, PropertiesError};
 use std::alloc::{AllocError, Global};
 
@@ -34,5 +33,5 @@ pub fn told(alloc: Global, error: &PropertiesError) -> Result<String, AllocError
 
 /// The encoding in which a clause, as `read utf-8`, has bytes read.
 pub fn reading_of(word: &str) -> Option<Encoding> {
-    encoding_of(word.strip_prefix("read ")?)
+    Encoding::from_name(word.strip_prefix("read ")?)
 }

@@ -96,7 +96,7 @@ fn heading_of(alloc: Global, line: &str) -> Result<Option<Heading>, AllocError> 
     };
     let mut encodings = Vec::new(alloc);
     for word in rest.split_whitespace() {
-        match encoding_of(word) {
+        match Encoding::from_name(word) {
             Some(encoding) => encodings.push(encoding)?,
             None => return Ok(None),
         }
@@ -118,17 +118,6 @@ fn kind_of(word: &str) -> Option<Kind> {
         "write-print" => Some(Kind::WritePrint),
         "write-map" => Some(Kind::WriteMap),
         "edit" => Some(Kind::Edit),
-        _ => None,
-    }
-}
-
-/// The encoding of this name.
-pub fn encoding_of(word: &str) -> Option<Encoding> {
-    match word {
-        "windows-1252" => Some(Encoding::WINDOWS_1252),
-        "utf-8" => Some(Encoding::UTF_8),
-        "utf-16le" => Some(Encoding::UTF_16LE),
-        "utf-16be" => Some(Encoding::UTF_16BE),
         _ => None,
     }
 }

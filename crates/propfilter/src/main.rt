@@ -1,13 +1,11 @@
 //! Reads the pairs of a properties file from standard input, and prints them on standard output, one per line.
 #![tactic(auto)]
 
-mod filter;
-mod run;
-
 use counted_io::Counted;
-use run::{refuse_bytes, run};
+use properties_tools::arguments::words;
+use properties_tools::propfilter::{refuse_bytes, run};
 use std::env;
-use std::io::{self, BufWriter, ErrorKind};
+use std::io::{self, BufWriter};
 use std::process::ExitCode;
 
 // How many bytes are written at once.
@@ -21,19 +19,14 @@ fn main(rt: HostRuntime) -> ExitCode {
 fn status(rt: &HostRuntime) -> io::Result<u8> {
     let alloc = rt.alloc();
     let mut errors = Counted::new(rt.stderr());
-    let arguments = match env::args(rt) {
-        Ok(arguments) => arguments,
-        Err(error) if error.kind() == ErrorKind::InvalidData => {
-            return Ok(refuse_bytes(&mut errors));
-        }
-        Err(error) => return Err(error),
+    let Some(words) = words(alloc, env::args(rt))? else {
+        return Ok(refuse_bytes(&mut errors));
     };
-    let arguments: Vec<String> = arguments.skip(1).collect(alloc)?;
     let mut input = Counted::new(rt.stdin());
     let mut output = Counted::new(BufWriter::with_capacity(alloc, BLOCK, rt.stdout())?);
     Ok(run(
         alloc,
-        arguments.as_slice(),
+        words.as_slice(),
         &mut input,
         &mut output,
         &mut errors,

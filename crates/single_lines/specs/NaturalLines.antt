@@ -4,7 +4,7 @@ use Rattle.std.specs.Str.{chars}
 use Rattle.counted_io.specs.Streams.{Reader, HasRead, IsSameReader}
 use Rattle.properties_format.specs.Lines as format
 use Rattle.properties_format.specs.ItemsToCome.{ReaderState}
-use Rattle.properties_lines.specs.LineFinder.{Passes, IsLazy, FindsError}
+use Rattle.properties_lines.specs.LineReader.{Passes, IsLazy, FindsError}
 use Rattle.properties_lines.specs.declared.error.LineError.{LineError}
 use Rattle.single_lines.specs.declared.natural.NaturalLine.{NaturalLine}
 

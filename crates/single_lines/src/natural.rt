@@ -1,18 +1,18 @@
 //! Natural lines: those that a line end ends, and the last one.
 
-ghost use Rattle.std.specs.Prelude.{◌≡◌, IfOk, string_bytes};
+ghost use Rattle.std.specs.Prelude.{◌≡◌, None, IfOk, string_bytes};
 ghost use Rattle.std.specs.Str.{chars};
 ghost use Rattle.properties_lines.specs.LineJoiner.{line_text};
 ghost use Rattle.std.specs.Iterator.{at_most};
 ghost use Rattle.properties_format.specs.ItemsToCome.{start};
 ghost use Rattle.properties_text.specs.Encoding.{encoding_of};
-ghost use Rattle.properties_lines.specs.LineFinder.{lines_left};
+ghost use Rattle.properties_lines.specs.LineReader.{lines_left};
 ghost use Rattle.single_lines.specs.NaturalLines.{NaturalReading, NextLineGives};
 
 use crate::decode::decode_line;
 use counted_io::CountedRead;
 use properties_lines::error::LineError;
-use properties_lines::finder::LineFinder;
+use properties_lines::reader::LineReader;
 use properties_text::encoding::Encoding;
 use std::alloc::{AllocError, Global};
 use std::borrow::CowStr;
@@ -26,14 +26,16 @@ pub struct NaturalLine(pub usize, pub String);
 #[derive(Drop)]
 pub struct NaturalLines<R> {
     reader: R,
-    finder: LineFinder,
+    lines: LineReader,
     alloc: Global,
 }
 
 impl<R> Model for NaturalLines<R> {
     ghost Value = { NaturalReading R };
 
-    ghost view = { λ it. record { reader = it.reader; state = it.finder.state } };
+    ghost view = { λ it. record { reader = it.reader; state = it.lines.state } };
+
+    ghost invariant = { λ it. it.lines.error ≡ None };
 }
 
 impl<R: CountedRead> NaturalLines<R> {
@@ -43,7 +45,7 @@ impl<R: CountedRead> NaturalLines<R> {
     {
         NaturalLines {
             reader,
-            finder: LineFinder::new(alloc, encoding),
+            lines: LineReader::new(alloc, encoding),
             alloc,
         }
     }
@@ -57,14 +59,14 @@ impl<R: CountedRead> Iterator for NaturalLines<R> {
     ghost remaining = { λ it. at_most (lines_left it.state) };
 
     fn next(&mut self) -> Option<Result<NaturalLine, LineError>> {
-        let number = match self.finder.find_line(&mut self.reader)? {
-            Ok(number) => number,
-            Err(error) => return Some(Err(error)),
-        };
-        match line_text(self.alloc, &self.finder) {
-            Ok(text) => Some(Ok(NaturalLine(number, text))),
+        if !self.lines.find_line(&mut self.reader) {
+            let error = self.lines.take_error()?;
+            return Some(Err(error));
+        }
+        match line_text(self.alloc, &self.lines) {
+            Ok(text) => Some(Ok(NaturalLine(self.lines.number(), text))),
             Err(error) => {
-                self.finder.end();
+                self.lines.end();
                 Some(Err(LineError::from(error)))
             }
         }
@@ -72,10 +74,10 @@ impl<R: CountedRead> Iterator for NaturalLines<R> {
 }
 
 // The text of the line that was found.
-fn line_text(alloc: Global, finder: &LineFinder) -> Result<String, AllocError>
-    ensures { IfOk result (λ text. chars (string_bytes text) ≡ line_text finder.now) }
+fn line_text(alloc: Global, lines: &LineReader) -> Result<String, AllocError>
+    ensures { IfOk result (λ text. chars (string_bytes text) ≡ line_text lines.now) }
 {
-    match decode_line(alloc, finder.encoding(), finder.line())? {
+    match decode_line(alloc, lines.encoding(), lines.line())? {
         CowStr::Borrowed(text) => String::from_str(alloc, text),
         CowStr::Owned(text) => Ok(text),
     }

@@ -73,8 +73,8 @@ pub record HasValues {Y Z : Type 0} (e : Encoding) (body : List ℕ) (reader : G
   pub is_map : IsMap (entries_in 1 groups) (value_at values)
 
 -- No group was read.
-pub values-none : {Y Z : Type 0} (body : List ℕ) (reader : GroupReader) (values : Entries Y Z) → reader.at ≡ 0 → reader.passed ≡ 0 → reader.is_done ≡ false
-    → IsWithin body reader → values ≡ [] → HasValues (encoding_of reader.encoding) body reader values
+pub values-none : {Y Z : Type 0} (body : List ℕ) (reader : GroupReader) (values : Entries Y Z) → reader.scanner.at ≡ 0 → reader.scanner.passed ≡ 0 → reader.scanner.is_done ≡ false
+    → IsWithin body reader → values ≡ [] → HasValues (encoding_of reader.scanner.encoding) body reader values
 values-none body reader values at passed going within empty = record {
   groups = [];
   read = read-none body reader at passed going within;
@@ -95,7 +95,7 @@ values-more {old = old} new told h k sound is kept =
     }
 
 -- All groups were read.
-pub values-all : {Y Z : Type 0} {e : Encoding} {body : List ℕ} {reader : GroupReader} {values : Entries Y Z} → HasValues e body reader values → reader.is_done ≡ true
+pub values-all : {Y Z : Type 0} {e : Encoding} {body : List ℕ} {reader : GroupReader} {values : Entries Y Z} → HasValues e body reader values → reader.scanner.is_done ≡ true
     → IsMap (entries_in 1 (held_groups_of e body)) (value_at values)
 values-all {values = values} h done = subst (λ v. IsMap (entries_in 1 v) (value_at values)) (sym (read-all h.read done)) h.is_map
 

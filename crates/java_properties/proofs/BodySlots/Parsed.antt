@@ -101,8 +101,8 @@ pub record IsReadTo (e : Encoding) (body : List ℕ) (reader : GroupReader) (s :
   pub last : (groups ≡ []) ⊎ IsLastRead cells (final_group groups) s
 
 -- No group was read.
-pub parsed-none : (body : List ℕ) (reader : GroupReader) (s : Slots) → reader.at ≡ 0 → reader.passed ≡ 0 → reader.is_done ≡ false → IsWithin body reader
-    → HoldsGuard s → IsReadTo (encoding_of reader.encoding) body reader s
+pub parsed-none : (body : List ℕ) (reader : GroupReader) (s : Slots) → reader.scanner.at ≡ 0 → reader.scanner.passed ≡ 0 → reader.scanner.is_done ≡ false → IsWithin body reader
+    → HoldsGuard s → IsReadTo (encoding_of reader.scanner.encoding) body reader s
 parsed-none body reader s at passed going within guard = record {
   groups = [];
   read = read-none body reader at passed going within;
@@ -192,7 +192,7 @@ parsed-more {e} {body} {s} {t} {old} {group} new told ok h k sound is a =
 -- ---- all groups
 
 -- All groups were read.
-pub parsed-all : {e : Encoding} {body : List ℕ} {reader : GroupReader} {s : Slots} → is_editable e ≡ true → IsReadTo e body reader s → reader.is_done ≡ true
+pub parsed-all : {e : Encoding} {body : List ℕ} {reader : GroupReader} {s : Slots} → is_editable e ≡ true → IsReadTo e body reader s → reader.scanner.is_done ≡ true
     → AreSound (held_groups_of e body) × Holds body s (slots_of (held_groups_of e body))
 parsed-all {e} {body} {reader} {s} ok h done =
     let gs = held_groups_of e body in

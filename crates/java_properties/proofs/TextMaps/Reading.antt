@@ -1,7 +1,6 @@
 -- A map that is read, item after item.
-use Rattle.std.proofs.Common.{◌≡◌, ℕ, false, List, [], ◌∷◌, ◌++◌, refl, sym, inl, inr, subst}
+use Rattle.std.proofs.Common.{◌≡◌, ℕ, false, List, [], ◌∷◌, ◌++◌, refl, sym, inr, subst}
 use Rattle.std.specs.Prelude.{◌⊎◌, Option, Ok}
-use Rattle.std.proofs.lemmas.List.{map-append}
 use Rattle.counted_io.specs.Streams.{Reader}
 use Rattle.properties_format.specs.Encoding.{Encoding}
 use Rattle.properties_format.specs.ItemsToCome.{ReaderState, start}
@@ -12,12 +11,12 @@ use Rattle.java_properties.specs.Errors.{IsBareError}
 use Rattle.java_properties.specs.Line.{number_of, content_of}
 use Rattle.java_properties.specs.PropertiesIter.{said, entry_of}
 use Rattle.java_properties.specs.GivenItems.{GivesEntry, GivesNone, GivesMalformed, GivesError}
-use Rattle.java_properties.specs.ReadLines.{entries_in}
-use Rattle.java_properties.specs.Maps.{Entries, value_at, InsertsIfPair, HasReadMap, ReadsValue, StopsReadingMap}
+use Rattle.java_properties.specs.ReadLines.{entries_in, StopsReading}
+use Rattle.java_properties.specs.Maps.{Entries, value_at, InsertsIfPair, HasReadMap, ReadsValue}
 use Rattle.java_properties.specs.declared.error.ErrorKind.TheVariants as kind
 use Rattle.java_properties.specs.declared.error.PropertiesError.{PropertiesError}
 use Rattle.java_properties.specs.declared.line.Line.{Line}
-use Rattle.java_properties.proofs.Readings.{Collected, collected-start, collected-next, collected-none, collected-lost, collected-malformed, collected-error}
+use Rattle.java_properties.proofs.Readings.{Collected, collected-start, collected-next, collected-none, collected-lost, collected-stops, entries-more}
 
 -- These lines came so far, and the map is theirs.
 pub record HasPassed {R Y Z : Type 0} (reader : Reader R) (e : Encoding) (from : R) (m : Entries Y Z) (state : ReaderState) (to : R) : Type 0 where
@@ -25,9 +24,6 @@ pub record HasPassed {R Y Z : Type 0} (reader : Reader R) (e : Encoding) (from :
   pub bytes : List ℕ
   pub collected : Collected reader e from bytes (entries_in lines) state to
   pub is_map : IsMap (entries_in lines) (value_at m)
-
-entries-more : (lines : List Line) (line : Line) → entries_in lines ++ (entry_of line ∷ []) ≡ entries_in (lines ++ (line ∷ []))
-entries-more lines line = sym (map-append entry_of lines (line ∷ []))
 
 -- lines are items
 lines-are-items : (lines : List Line) → AreItems (entries_in lines)
@@ -63,16 +59,13 @@ module _ {R Y Z : Type 0} {reader : Reader R} {e : Encoding} where
 
   -- an item came for which there was no memory
   pub passed-lost : {from to next : R} {m : Entries Y Z} {s t : ReaderState} {error : PropertiesError} (line : Line) → HasPassed reader e from m s to
-      → GivesEntry reader s to (entry_of line) t next → IsBareError kind.Memory error → StopsReadingMap reader e from error next
+      → GivesEntry reader s to (entry_of line) t next → IsBareError kind.Memory error → StopsReading reader e from error next
   passed-lost line h g is = record { lines = h.lines; stops = inr (inr (collected-lost h.collected g is)) }
 
   -- an error came
   pub passed-error : {from to next : R} {m : Entries Y Z} {s : ReaderState} {error : PropertiesError} → HasPassed reader e from m s to
-      → s.is_done ≡ false → GivesMalformed reader s to error next ⊎ GivesError reader s to error next → StopsReadingMap reader e from error next
-  passed-error h live k = record {
-    lines = h.lines;
-    stops = elim k [ inl m ↦ inl (collected-malformed h.collected live m) | inr j ↦ inr (collected-error h.collected live j) ];
-  }
+      → s.is_done ≡ false → GivesMalformed reader s to error next ⊎ GivesError reader s to error next → StopsReading reader e from error next
+  passed-error h live k = collected-stops h.lines h.collected live k
 
   -- no item comes any more
   pub passed-all : {from to next : R} {m : Entries Y Z} {s t : ReaderState} → HasPassed reader e from m s to

@@ -1,24 +1,21 @@
 // The groups of a body that is held whole, one after another: logical lines, and the spans of their bytes.
 
-ghost use Rattle.std.specs.Prelude.{◌≡◌, ◌&&◌, not, true, false, IfOk};
-ghost use Rattle.std.specs.Str.{chars};
-ghost use Rattle.properties_format.specs.Groups.{is_comment_line, is_open};
-ghost use Rattle.properties_text.specs.Encoding.{encoding_of};
-ghost use Rattle.properties_lines.specs.LineSearch.{unit_size};
-ghost use Rattle.java_properties.specs.BodyGroups.{IsWithin, TakesLine, GivesGroup, JoinsGroup, text_of, IsTextHeld};
+ghost use Rattle.std.specs.Prelude.{◌≡◌, ℕ, List, false, IfOk};
+ghost use Rattle.properties_lines.specs.HeldLines.{StandsInBody};
+ghost use Rattle.java_properties.specs.BodyLines.{IsEndingOf};
+ghost use Rattle.java_properties.specs.BodyGroups.{IsWithin, FindsLine, GivesGroup, JoinsGroup, text_of, IsTextHeld};
 
-use crate::edit::lines::{FirstLine, ending_size, first_line};
 use crate::writer::LineEnding;
-use properties_lines::join::{is_comment_line, is_open};
-use properties_lines::texts::{add_line, keep_opened, keep_text, kept_text};
-use properties_text::encoding::{Encoding, TextBuffer};
+use properties_lines::logical::LogicalLine;
+use properties_lines::scanner::{Scan, Scanner};
+use properties_text::encoding::Encoding;
 use std::alloc::{AllocError, Global};
 
 /// A group of a body, as a span of its bytes.
 #[derive(Clone, Copy)]
 pub struct Group {
-    /// How many line endings stand before it.
-    pub passed: usize,
+    /// The number of its first line.
+    pub number: usize,
     /// The place of its first byte.
     pub start: usize,
     /// The place after the bytes of its last line, where the line ending of that line stands.
@@ -34,35 +31,23 @@ pub struct Group {
 /// Reads the groups of a body, which is passed at each call.
 #[derive(Drop)]
 pub struct GroupReader {
-    encoding: Encoding,
-    // Where the next line starts, and how many line endings stand before it.
-    at: usize,
-    passed: usize,
-    // Whether the last line was read.
-    is_done: bool,
-    // The logical line that came last, where it isn't the group's bytes as they stand.
-    text: TextBuffer,
-    is_kept: bool,
-    // Where the lines after an open one are decoded.
-    decoded: TextBuffer,
+    scanner: Scanner,
+    // The logical line of the group that came last.
+    line: LogicalLine,
 }
 
 impl GroupReader {
     /// Before the first group of a body, whose units are of one byte.
     pub fn new(alloc: Global, encoding: Encoding) -> GroupReader
-        ensures encoding { result.encoding ≡ encoding }
-        ensures start { result.at ≡ 0 }
-        ensures none { result.passed ≡ 0 }
-        ensures going { result.is_done ≡ false }
+        ensures encoding { result.scanner.encoding ≡ encoding }
+        ensures start { result.scanner.at ≡ 0 }
+        ensures none { result.scanner.passed ≡ 0 }
+        ensures going { result.scanner.is_done ≡ false }
+        ensures stands { (body : List ℕ) → StandsInBody result.scanner body }
     {
         GroupReader {
-            encoding,
-            at: 0,
-            passed: 0,
-            is_done: false,
-            text: TextBuffer::new(alloc),
-            is_kept: true,
-            decoded: TextBuffer::new(alloc),
+            scanner: Scanner::in_body(encoding),
+            line: LogicalLine::new(alloc),
         }
     }
 
@@ -71,14 +56,14 @@ impl GroupReader {
         requires { IsTextHeld body.now self.now group }
         ensures { result.now ≡ text_of body.now self.now group }
     {
-        kept_text(&self.text, self.is_kept, &body[group.start..group.end])
+        self.line.as_str(&body[group.start..group.end])
     }
 
     /// The place after the group that came last.
     pub fn place(&self) -> usize
-        ensures { result ≡ self.now.at }
+        ensures { result ≡ self.now.scanner.at }
     {
-        self.at
+        self.scanner.place()
     }
 
     /// The next group, or `None` after the last one.
@@ -86,49 +71,43 @@ impl GroupReader {
         requires { IsWithin body.now self.old }
         ensures { GivesGroup body.now self.old result self.new }
     {
-        if self.is_done {
+        if !self.find_line(body)? {
             return Ok(None);
         }
-        let passed = self.passed;
-        let start = self.at;
-        let first = self.take_line(body);
-        let end = start + first.size;
-        let bytes = &body[start..end];
-        self.is_kept = keep_text(&mut self.text, self.encoding, bytes)?;
-        let line = kept_text(&self.text, self.is_kept, bytes);
+        let line = *self.scanner.line();
+        let is_open = self.line.begin(
+            self.scanner.encoding(),
+            line.is_ascii,
+            line.has_backslash,
+            &body[line.start..line.end],
+        )?;
         let group = Group {
-            passed,
-            start,
-            end,
-            ending: first.ending,
-            is_open: goes_on(line),
-            is_empty: first.size == 0,
+            number: self.scanner.number(),
+            start: line.start,
+            end: line.end,
+            ending: ending_of(&body[line.end..self.scanner.place()]),
+            is_open,
+            is_empty: line.start == line.end,
         };
-        if !group.is_open {
-            return Ok(Some(group));
-        }
-        keep_opened(&mut self.text, self.is_kept, bytes)?;
-        self.is_kept = true;
         let joined = self.join(body, group)?;
         Ok(Some(joined))
     }
 
     // Joins the lines after an open one, of which the group is, up to one that isn't open.
     fn join(&mut self, body: &[u8], group: Group) -> Result<Group, AllocError>
-        requires within { IsWithin body.now self.old }
-        requires open { group.is_open ≡ true }
+        requires { IsWithin body.now self.old }
         ensures { IfOk result (λ joined. JoinsGroup body.now self.old group joined self.new) }
     {
         let mut joined = group;
-        while joined.is_open && !self.is_done {
-            let start = self.at;
-            let line = self.take_line(body);
-            let end = start + line.size;
-            let bytes = &body[start..end];
-            let is_open = add_line(&mut self.text, &mut self.decoded, self.encoding, bytes)?;
+        while joined.is_open && self.find_line(body)? {
+            let line = *self.scanner.line();
+            let bytes = &body[line.start..line.end];
+            let is_open = self
+                .line
+                .join(self.scanner.encoding(), line.is_ascii, bytes)?;
             joined = Group {
-                end,
-                ending: line.ending,
+                end: line.end,
+                ending: ending_of(&body[line.end..self.scanner.place()]),
                 is_open,
                 is_empty: false,
                 ..joined
@@ -137,25 +116,28 @@ impl GroupReader {
         Ok(joined)
     }
 
-    // Takes the next line.
-    fn take_line(&mut self, body: &[u8]) -> FirstLine
-        requires going { self.old.is_done ≡ false }
-        requires within { IsWithin body.now self.old }
-        ensures { TakesLine body.now self.old result self.new }
+    // Finds the next line, and returns whether there is one.
+    fn find_line(&mut self, body: &[u8]) -> Result<bool, AllocError>
+        requires { IsWithin body.now self.old }
+        ensures { FindsLine body.now self.old result self.new }
     {
-        let line = first_line(self.encoding, &body[self.at..]);
-        self.at += line.size + ending_size(line.ending);
-        match line.ending {
-            Some(_) => self.passed += 1,
-            None => self.is_done = true,
+        match self.scanner.next(body, true) {
+            Scan::Line => Ok(true),
+            Scan::End => Ok(false),
+            // No memory holds a body of so many lines.
+            Scan::More | Scan::TooMany => Err(AllocError),
         }
-        line
     }
 }
 
-// Whether the lines after this first line of a group are joined to it.
-fn goes_on(line: &str) -> bool
-    ensures { result ≡ (not (is_comment_line (chars line.now)) && is_open (chars line.now)) }
+// The line ending that these bytes are.
+fn ending_of(bytes: &[u8]) -> Option<LineEnding>
+    ensures { IsEndingOf bytes.now result }
 {
-    !is_comment_line(line) && is_open(line)
+    match bytes {
+        [] => None,
+        [b'\n'] => Some(LineEnding::LF),
+        [_] => Some(LineEnding::CR),
+        _ => Some(LineEnding::CRLF),
+    }
 }

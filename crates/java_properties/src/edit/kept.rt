@@ -27,7 +27,7 @@ pub fn find_others(
     let mut others = Vec::new(alloc);
     let mut start = 0;
     while let Some(group) = groups.next(body)? {
-        let number = group.passed.saturating_add(1);
+        let number = group.number;
         if has_key(alloc, number, groups.line(body, group), key)? {
             let end = group.start;
             others.push(BodySpan { start, end })?;

@@ -59,7 +59,7 @@ pub fn find_key(
         closing: Closing::Nothing,
     };
     while let Some(group) = groups.next(body)? {
-        let number = group.passed.saturating_add(1);
+        let number = group.number;
         let is_pair = has_key(alloc, number, groups.line(body, group), key)?;
         place = place.after(group, is_pair);
     }

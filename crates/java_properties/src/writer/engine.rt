@@ -92,7 +92,7 @@ impl Engine {
             }
             Err(error) => {
                 self.failed = true;
-                Err(PropertiesError::write_fault(number, error))
+                Err(PropertiesError::write_fault(Some(number), error))
             }
         }
     }

@@ -30,7 +30,7 @@ held_of-meets e [] last = (decoded_line e last, decoded_line-meets e last, refl)
 held_of-meets e (l ∷ ls) last = (decoded_line e l.text, held_of e ls last, decoded_line-meets e l.text, refl, held_of-meets e ls last)
 
 -- and no others are
-held_of-only : (e : Encoding) (ls : List Ended) (last : List ℕ) (held : List HeldLine) → AreHeld e ls last held → held ≡ held_of e ls last
+pub held_of-only : (e : Encoding) (ls : List Ended) (last : List ℕ) (held : List HeldLine) → AreHeld e ls last held → held ≡ held_of e ls last
 held_of-only e [] last held (x, h, s) = s ∙ ap (λ v. record { bytes = last; text = v; ending = None } ∷ []) (decoded_line-only e last x h)
 held_of-only e (l ∷ ls) last held (x, rest, h, s, k) =
     s ∙ ap₂ (λ v w. record { bytes = l.text; text = v; ending = Some l.by } ∷ w) (decoded_line-only e l.text x h) (held_of-only e ls last rest k)
@@ -144,7 +144,7 @@ AreFit (g ∷ []) = IsLastFit g
 AreFit (g ∷ h ∷ gs) = IsWhole (as_lines g) × AreFit (h ∷ gs)
 
 -- all groups but the last are whole, where the texts are whole groups and perhaps a last one that ends open
-fit : (gs : List (List HeldLine)) (whole : List (List Line)) (u : List Line) → as_groups gs ≡ whole ++ last_group u end → AreWhole whole → IsUnfinished u
+pub fit : (gs : List (List HeldLine)) (whole : List (List Line)) (u : List Line) → as_groups gs ≡ whole ++ last_group u end → AreWhole whole → IsUnfinished u
     → AreFit gs
 fit [] whole u t h k = tt
 fit (g ∷ []) [] [] t h k = absurd (cc)
@@ -170,15 +170,15 @@ none-right [] y h = h
 none-right (a ∷ x) y h = absurd (cc)
 
 -- lines cut off before the last
-record IsCutOff (e : Encoding) (g rest : List HeldLine) (ls : List Ended) (last : List ℕ) : Type 0 where
-  front : List Ended
-  back : List Ended
-  all : ls ≡ front ++ back
-  group : g ≡ held_ended e front
-  others : rest ≡ held_of e back last
+pub record IsCutOff (e : Encoding) (g rest : List HeldLine) (ls : List Ended) (last : List ℕ) : Type 0 where
+  pub front : List Ended
+  pub back : List Ended
+  pub all : ls ≡ front ++ back
+  pub group : g ≡ held_ended e front
+  pub others : rest ≡ held_of e back last
 
 -- lines in front of some others are cut off so
-cut-off : (e : Encoding) (g rest : List HeldLine) (ls : List Ended) (last : List ℕ) → rest ≢ [] → g ++ rest ≡ held_of e ls last → IsCutOff e g rest ls last
+pub cut-off : (e : Encoding) (g rest : List HeldLine) (ls : List Ended) (last : List ℕ) → rest ≢ [] → g ++ rest ≡ held_of e ls last → IsCutOff e g rest ls last
 cut-off e [] rest ls last some h = record { front = []; back = ls; all = refl; group = refl; others = h }
 cut-off e (a ∷ g) rest [] last some h = let q : g ++ rest ≡ [] = cc in absurd (some (none-right g rest q))
 cut-off e (a ∷ g) rest (l ∷ ls) last some h =
@@ -188,7 +188,7 @@ cut-off e (a ∷ g) rest (l ∷ ls) last some h =
     record { front = l ∷ m.front; back = m.back; all = ap (λ v. l ∷ v) {y = m.front ++ m.back} m.all; group = ap₂ (λ v w. v ∷ w) p m.group; others = m.others }
 
 -- the first of ended lines are lines, with an empty last one
-lines-front : (ls ms : List Ended) (last : List ℕ) → AreLines (ls ++ ms) last → AreLines ls []
+pub lines-front : (ls ms : List Ended) (last : List ℕ) → AreLines (ls ++ ms) last → AreLines ls []
 lines-front [] ms last h = tt
 lines-front (l ∷ ls) ms last h = (h.0, (λ k. lone ls (h.1 k)), lines-front ls ms last h.2)
   where
@@ -197,7 +197,7 @@ lines-front (l ∷ ls) ms last h = (h.0, (λ k. lone ls (h.1 k)), lines-front ls
     lone (l ∷ ls) h = h
 
 -- and so are those after them, with the last one
-lines-back : (ls ms : List Ended) (last : List ℕ) → AreLines (ls ++ ms) last → AreLines ms last
+pub lines-back : (ls ms : List Ended) (last : List ℕ) → AreLines (ls ++ ms) last → AreLines ms last
 lines-back [] ms last h = h
 lines-back (l ∷ ls) ms last h = lines-back ls ms last h.2
 
@@ -300,7 +300,7 @@ last-of e ls last h k =
     }
 
 -- groups of which all but the last are whole, one at least, have lines
-fit-some : (h : List HeldLine) (gs : List (List HeldLine)) → AreFit (h ∷ gs) → held_in (h ∷ gs) ≢ []
+pub fit-some : (h : List HeldLine) (gs : List (List HeldLine)) → AreFit (h ∷ gs) → held_in (h ∷ gs) ≢ []
 fit-some [] [] (inl k) q = k
 fit-some [] [] (inr k) q = k
 fit-some [] (i ∷ gs) k q = k.0
@@ -344,7 +344,7 @@ groups_bytes-append (g ∷ gs) hs =
     ap (λ v. group_bytes g ++ v) (groups_bytes-append gs hs) ∙ sym (append_assoc (group_bytes g) (groups_bytes gs) (groups_bytes hs))
 
 -- the bytes of groups are those of their lines
-groups-bytes : (gs : List (List HeldLine)) → groups_bytes gs ≡ group_bytes (held_in gs)
+pub groups-bytes : (gs : List (List HeldLine)) → groups_bytes gs ≡ group_bytes (held_in gs)
 groups-bytes [] = refl
 groups-bytes (g ∷ gs) = ap (λ v. group_bytes g ++ v) (groups-bytes gs) ∙ sym (group_bytes-append g (held_in gs))
 

@@ -35,7 +35,7 @@ pub record IsReadTo (e : Encoding) (result : List ℕ) (Such : List Content → 
   pub such : Such (says e result)
 
 -- a body in force that comes to contents
-read-to : (e : Encoding) (result : List ℕ) (f : InForce) (Such : List Content → Type 0) → is_editable f.encoding ≡ true → byte_order_mark e result ≡ f
+pub read-to : (e : Encoding) (result : List ℕ) (f : InForce) (Such : List Content → Type 0) → is_editable f.encoding ≡ true → byte_order_mark e result ≡ f
     → ComesTo f.encoding f.body Such
     → IsReadTo e result Such
 read-to e result f Such ok same c =
@@ -45,7 +45,7 @@ read-to e result f Such ok same c =
     record { readable = record { editable = g; no_fault = m.0 }; such = subst Such (sym m.1) c.1 }
 
 -- the groups of a readable source come to what it says
-groups-say : (e : Encoding) (source : List ℕ) (gs : List (List HeldLine)) → IsReadable e source
+pub groups-say : (e : Encoding) (source : List ℕ) (gs : List (List HeldLine)) → IsReadable e source
     → AreGroupsOf (byte_order_mark e source).encoding (byte_order_mark e source).body gs → told_by (as_groups gs) ≡ givens (says e source)
 groups-say e source gs r h = items-told e source gs h r.no_fault
 

@@ -18,7 +18,7 @@ pub readable : (e : Encoding) (source : List ℕ) → is_editable (byte_order_ma
 readable e source ok h = record { editable = ok; no_fault = subst AreItems (items_of-only e source end h.0 h.1) h.2 }
 
 -- what is computed, in the words of what it is
-reads-after : (e : Encoding) (source result : List ℕ) (IsEdit : List Content → List Content → Type 0) (change : (List ℕ → Option (List ℕ)) → List ℕ → Option (List ℕ))
+pub reads-after : (e : Encoding) (source result : List ℕ) (IsEdit : List Content → List Content → Type 0) (change : (List ℕ → Option (List ℕ)) → List ℕ → Option (List ℕ))
     → IsReadTo e result (IsEdit (says e source))
     → ((old new : List Entry) → IsEdit (contents old) (contents new) → (value_at : List ℕ → Option (List ℕ)) → IsMap old value_at → IsMap new (change value_at))
     → ReadsAfter IsEdit change e source result

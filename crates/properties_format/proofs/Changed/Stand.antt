@@ -7,22 +7,22 @@ use Rattle.properties_format.specs.Changed.{StandIn}
 use Rattle.properties_format.specs.Changed.{AreOthersThanLast, AreOthers, KeepsOthers}
 
 -- other bytes before them
-stand-after : (gs : List (List HeldLine)) (x y : List ℕ) → StandIn gs y → StandIn gs (x ++ y)
+pub stand-after : (gs : List (List HeldLine)) (x y : List ℕ) → StandIn gs y → StandIn gs (x ++ y)
 stand-after [] x y h = tt
 stand-after (g ∷ gs) x y h = (x ++ h.0, h.1, ap (λ v. x ++ v) h.2 ∙ sym (append_assoc x h.0 (group_bytes g ++ h.1)), h.3)
 
 -- groups one after the other, and then others
-stand-before : (gs hs : List (List HeldLine)) (y : List ℕ) → StandIn hs y → StandIn (gs ++ hs) (groups_bytes gs ++ y)
+pub stand-before : (gs hs : List (List HeldLine)) (y : List ℕ) → StandIn hs y → StandIn (gs ++ hs) (groups_bytes gs ++ y)
 stand-before [] hs y h = h
 stand-before (g ∷ gs) hs y h = ([], groups_bytes gs ++ y, append_assoc (group_bytes g) (groups_bytes gs) y, stand-before gs hs y h)
 
 -- all groups, and any bytes
-stand-all : (gs : List (List HeldLine)) (y : List ℕ) → StandIn gs (groups_bytes gs ++ y)
+pub stand-all : (gs : List (List HeldLine)) (y : List ℕ) → StandIn gs (groups_bytes gs ++ y)
 stand-all [] y = tt
 stand-all (g ∷ gs) y = ([], groups_bytes gs ++ y, append_assoc (group_bytes g) (groups_bytes gs) y, stand-all gs y)
 
 -- all groups, and no other bytes
-stand-alone : (gs : List (List HeldLine)) → StandIn gs (groups_bytes gs)
+pub stand-alone : (gs : List (List HeldLine)) → StandIn gs (groups_bytes gs)
 stand-alone [] = tt
 stand-alone (g ∷ gs) = ([], groups_bytes gs, refl, stand-alone gs)
 

@@ -80,7 +80,7 @@ unmarked-body e source h = ap (λ v. let u : InForce = v in u.body) (byte_order_
 -- ---- what decides whether bytes begin like a byte order mark
 
 -- what stands after an ASCII byte does not matter
-ascii-cut : (x y z : List ℕ) → HasAscii x → begins_like_bom (x ++ y) ≡ begins_like_bom (x ++ z)
+pub ascii-cut : (x y z : List ℕ) → HasAscii x → begins_like_bom (x ++ y) ≡ begins_like_bom (x ++ z)
 ascii-cut x y z (u, c, v, s, l) =
     ap (λ w. begins_like_bom (w ++ y)) s
     ∙ ap begins_like_bom (append_assoc u (c ∷ v) y)
@@ -117,7 +117,7 @@ first-unmarked e key value rest =
 -- ---- a key is set
 
 -- the bytes of some groups, and those of the first
-front-unmarked : (g : List HeldLine) (gs : List (List HeldLine)) (y z : List ℕ) → HasAscii (group_bytes g)
+pub front-unmarked : (g : List HeldLine) (gs : List (List HeldLine)) (y z : List ℕ) → HasAscii (group_bytes g)
     → begins_like_bom (groups_bytes (g ∷ gs) ++ z) ≡ false
     → begins_like_bom (groups_bytes (g ∷ gs) ++ y) ≡ false
 front-unmarked g gs y z a h =
@@ -127,7 +127,7 @@ front-unmarked g gs y z a h =
     ∙ h
 
 -- a group before others has an ASCII byte
-first-ascii : (e : Encoding) (g : List HeldLine) (gs : List (List HeldLine)) (h : List HeldLine) (hs : List (List HeldLine))
+pub first-ascii : (e : Encoding) (g : List HeldLine) (gs : List (List HeldLine)) (h : List HeldLine) (hs : List (List HeldLine))
     → AreHeldGroups e (g ∷ gs ++ h ∷ hs) → HasAscii (group_bytes g)
 first-ascii e g [] h hs k = k.0.ascii
 first-ascii e g (i ∷ gs) h hs k = k.0.ascii
@@ -201,7 +201,7 @@ appended-unmarked e source gs key value body k h r = elim (parting-cases source 
         ∙ front-unmarked g (i ∷ hs) _ [] k.0.ascii (ap begins_like_bom (append-nil (groups_bytes (g ∷ i ∷ hs))) ∙ h)
 
 -- where the source has no byte order mark, its groups begin like none
-groups-unmarked : (e : Encoding) (source : List ℕ) (gs : List (List HeldLine)) → is_editable (byte_order_mark e source).encoding ≡ true
+pub groups-unmarked : (e : Encoding) (source : List ℕ) (gs : List (List HeldLine)) → is_editable (byte_order_mark e source).encoding ≡ true
     → AreGroupsOf (byte_order_mark e source).encoding (byte_order_mark e source).body gs → begins_like_bom source ≡ false
     → begins_like_bom (groups_bytes gs) ≡ false
 groups-unmarked e source gs ok h n =

@@ -40,7 +40,7 @@ outcome g = outcome_of (joined (as_lines g))
 -- ---- outcomes in order
 
 -- an outcome before outcomes in two parts
-told_before-append : (o : Outcome) (xs ys : List Outcome) → told_before o (xs ++ ys) ≡ told_before o xs ++ ys
+pub told_before-append : (o : Outcome) (xs ys : List Outcome) → told_before o (xs ++ ys) ≡ told_before o xs ++ ys
 told_before-append ignored xs ys = refl
 told_before-append (given content) xs ys = refl
 told_before-append (broken kind) xs ys = refl
@@ -85,7 +85,7 @@ told-groups e (g ∷ i ∷ gs) h =
     told-front e (group_bytes g) (groups_bytes (i ∷ gs)) (as_lines g) h.0.front ∙ ap (told_before (outcome g)) (told-groups e (i ∷ gs) h.1)
 
 -- what groups and then more groups come to
-told_by-append : (gs hs : List (List HeldLine)) → told_by (as_groups (gs ++ hs)) ≡ told_by (as_groups gs) ++ told_by (as_groups hs)
+pub told_by-append : (gs hs : List (List HeldLine)) → told_by (as_groups (gs ++ hs)) ≡ told_by (as_groups gs) ++ told_by (as_groups hs)
 told_by-append [] hs = refl
 told_by-append (g ∷ gs) hs =
     ap (told_before (outcome g)) (told_by-append gs hs) ∙ told_before-append (outcome g) (told_by (as_groups gs)) (told_by (as_groups hs))
@@ -93,20 +93,20 @@ told_by-append (g ∷ gs) hs =
 -- ---- contents in order
 
 -- contents and then more contents, as outcomes
-givens-append : (cs ds : List Content) → givens (cs ++ ds) ≡ givens cs ++ givens ds
+pub givens-append : (cs ds : List Content) → givens (cs ++ ds) ≡ givens cs ++ givens ds
 givens-append [] ds = refl
 givens-append (c ∷ cs) ds = ap (λ v. given c ∷ v) (givens-append cs ds)
 
 -- contents that are told in two parts
-record AreParted (xs ys : List Outcome) (cs : List Content) : Type 0 where
-  front : List Content
-  back : List Content
-  whole : cs ≡ front ++ back
-  front_told : xs ≡ givens front
-  back_told : ys ≡ givens back
+pub record AreParted (xs ys : List Outcome) (cs : List Content) : Type 0 where
+  pub front : List Content
+  pub back : List Content
+  pub whole : cs ≡ front ++ back
+  pub front_told : xs ≡ givens front
+  pub back_told : ys ≡ givens back
 
 -- where outcomes in two parts are contents alone, they are told so
-givens-parted : (xs ys : List Outcome) (cs : List Content) → xs ++ ys ≡ givens cs → AreParted xs ys cs
+pub givens-parted : (xs ys : List Outcome) (cs : List Content) → xs ++ ys ≡ givens cs → AreParted xs ys cs
 givens-parted [] ys cs h = record { front = []; back = cs; whole = refl; front_told = refl; back_told = h }
 givens-parted (x ∷ xs) ys [] h = absurd (cc)
 givens-parted (x ∷ xs) ys (c ∷ cs) h =
@@ -116,7 +116,7 @@ givens-parted (x ∷ xs) ys (c ∷ cs) h =
     record { front = c ∷ m.front; back = m.back; whole = ap (λ v. c ∷ v) {y = m.front ++ m.back} m.whole; front_told = ap₂ (λ v w. v ∷ w) p m.front_told; back_told = m.back_told }
 
 -- a group with the key comes to a pair with it
-key-outcome : (key : List ℕ) (g : List HeldLine) → HasKey key g → (old : List ℕ) × (outcome g ≡ given (pair key old))
+pub key-outcome : (key : List ℕ) (g : List HeldLine) → HasKey key g → (old : List ℕ) × (outcome g ≡ given (pair key old))
 key-outcome key g (old, h) = (old, sym (outcome_of-only (joined (as_lines g)) (given (pair key old)) h))
 
 -- and a group without it to none
@@ -137,7 +137,7 @@ hold-step key (broken kind) os [] other rest h = absurd (cc)
 hold-step key (broken kind) os (c ∷ cs) other rest h = absurd (cc)
 
 -- groups of which none has the key
-none-hold : (key : List ℕ) (gs : List (List HeldLine)) (cs : List Content) → NoneHasKey key gs → told_by (as_groups gs) ≡ givens cs → HoldNoPair key cs
+pub none-hold : (key : List ℕ) (gs : List (List HeldLine)) (cs : List Content) → NoneHasKey key gs → told_by (as_groups gs) ≡ givens cs → HoldNoPair key cs
 none-hold key [] [] h s = tt
 none-hold key [] (c ∷ cs) h s = absurd (cc)
 none-hold key (g ∷ gs) cs h s = hold-step key (outcome g) (told_by (as_groups gs)) cs (other-outcome key g h.0) (λ ds k. none-hold key gs ds h.1 k) s

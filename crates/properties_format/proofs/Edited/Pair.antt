@@ -77,7 +77,7 @@ pair-writable e false key value h k =
     (subst (AreWritable e) (line-text e 1 key value) (wrote_text-writable e default_settings 1 (pair_call key value ∷ []) default_settings-good ((h, k), tt)))
 
 -- an encoding that is edited is one that a writer writes
-editable-own : (e : Encoding) → is_editable e ≡ true → output_encoding e ≡ e
+pub editable-own : (e : Encoding) → is_editable e ≡ true → output_encoding e ≡ e
 editable-own windows_1252 h = refl
 editable-own utf_8 h = refl
 editable-own utf_16le h = absurd (cc)

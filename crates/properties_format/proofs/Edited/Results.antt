@@ -124,20 +124,22 @@ by-result e source made Makes unsupported ok m h = absurd h
 by-result e source made Makes (unreadable kind n) ok m h = (ok, (items_of e source end, items_of-meets e source end, h))
 
 -- the result of these bytes, where the edit makes them
-result_of-meets : (e : Encoding) (source made : List ℕ) (Makes : List ℕ → Type 0) → Makes made → IsEditResult e source Makes (result_of e source made)
+pub result_of-meets : (e : Encoding) (source made : List ℕ) (Makes : List ℕ → Type 0) → (is_editable (byte_order_mark e source).encoding ≡ true → Makes made)
+    → IsEditResult e source Makes (result_of e source made)
 result_of-meets e source made Makes m = elim (cases_Bool (is_editable (byte_order_mark e source).encoding)) [
   | inl ok ↦
       subst (IsEditResult e source Makes) (sym (result-editable e source made ok))
-      (by-result e source made Makes (result_by (items_of e source end) made) ok m (result_by-meets (items_of e source end) made (source-no_fault e source)))
+      (by-result e source made Makes (result_by (items_of e source end) made) ok (m ok) (result_by-meets (items_of e source end) made (source-no_fault e source)))
   | inr h ↦ subst (IsEditResult e source Makes) (sym (result-unsupported e source made h)) h
 ]
 
 -- and there is no other, where the edit makes no other bytes
-result_of-only : (e : Encoding) (source made : List ℕ) (Makes : List ℕ → Type 0) (r : EditResult) → ((result : List ℕ) → Makes result → result ≡ made)
+pub result_of-only : (e : Encoding) (source made : List ℕ) (Makes : List ℕ → Type 0) (r : EditResult)
+    → (is_editable (byte_order_mark e source).encoding ≡ true → (result : List ℕ) → Makes result → result ≡ made)
     → IsEditResult e source Makes r → r ≡ result_of e source made
 result_of-only e source made Makes (edited result) one (ok, items, h) =
     let f = subst AreItems (items_of-only e source end items.0 items.1) items.2 in
-    ap edited (one result h) ∙ sym (result_by-edited (items_of e source end) made f) ∙ sym (result-editable e source made ok)
+    ap edited (one ok result h) ∙ sym (result_by-edited (items_of e source end) made f) ∙ sym (result-editable e source made ok)
 result_of-only e source made Makes unsupported one h = sym (result-unsupported e source made h)
 result_of-only e source made Makes (unreadable kind n) one (ok, items) =
     let f = subst (IsFirstMalformed kind n) (items_of-only e source end items.0 items.1) items.2 in
@@ -146,27 +148,27 @@ result_of-only e source made Makes (unreadable kind n) one (ok, items) =
 -- The result of setting a key is what is computed, and nothing else is.
 pub set_key_result-meets : (e : Encoding) (source key value : List ℕ) → IsSetKeyResult e source key value (set_key_result e source key value)
 set_key_result-meets e source key value =
-    result_of-meets e source (key_set e source key value) (IsKeySet e source key value) (key_set-meets e source key value)
+    result_of-meets e source (key_set e source key value) (IsKeySet e source key value) (λ ok. key_set-meets e source key value)
 
 -- No other result is one of setting a key.
 pub set_key_result-only : (e : Encoding) (source key value : List ℕ) (r : EditResult) → IsSetKeyResult e source key value r
     → r ≡ set_key_result e source key value
 set_key_result-only e source key value r h =
-    result_of-only e source (key_set e source key value) (IsKeySet e source key value) r (key_set-only e source key value) h
+    result_of-only e source (key_set e source key value) (IsKeySet e source key value) r (λ ok. key_set-only e source key value) h
 
 -- The same of removing one.
 pub remove_key_result-meets : (e : Encoding) (source key : List ℕ) → IsRemoveKeyResult e source key (remove_key_result e source key)
-remove_key_result-meets e source key = result_of-meets e source (key_removed e source key) (IsKeyRemoved e source key) (key_removed-meets e source key)
+remove_key_result-meets e source key = result_of-meets e source (key_removed e source key) (IsKeyRemoved e source key) (λ ok. key_removed-meets e source key)
 
 -- No other result is one of removing one.
 pub remove_key_result-only : (e : Encoding) (source key : List ℕ) (r : EditResult) → IsRemoveKeyResult e source key r → r ≡ remove_key_result e source key
-remove_key_result-only e source key r h = result_of-only e source (key_removed e source key) (IsKeyRemoved e source key) r (key_removed-only e source key) h
+remove_key_result-only e source key r h = result_of-only e source (key_removed e source key) (IsKeyRemoved e source key) r (λ ok. key_removed-only e source key) h
 
 -- The same of edits in turn.
 pub edit_all_result-meets : (e : Encoding) (source : List ℕ) (edits : List Edit) → IsEditAllResult e source edits (edit_all_result e source edits)
-edit_all_result-meets e source edits = result_of-meets e source (edits_made e source edits) (AreEdited e source edits) (edits_made-meets e source edits)
+edit_all_result-meets e source edits = result_of-meets e source (edits_made e source edits) (AreEdited e source edits) (λ ok. edits_made-meets e source edits)
 
 -- No other result is one of edits in turn.
 pub edit_all_result-only : (e : Encoding) (source : List ℕ) (edits : List Edit) (r : EditResult) → IsEditAllResult e source edits r
     → r ≡ edit_all_result e source edits
-edit_all_result-only e source edits r h = result_of-only e source (edits_made e source edits) (AreEdited e source edits) r (edits_made-only e source edits) h
+edit_all_result-only e source edits r h = result_of-only e source (edits_made e source edits) (AreEdited e source edits) r (λ ok. edits_made-only e source edits) h

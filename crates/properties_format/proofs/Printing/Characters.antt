@@ -211,11 +211,11 @@ blank-ascii c h = elim (or_cases (c == 0x20) (c == 0x09 || c == 0x0c) h) [
 ]
 
 -- and so is a separator
-separator-ascii : (c : ℕ) → is_separator c ≡ true → c < 0x80
+pub separator-ascii : (c : ℕ) → is_separator c ≡ true → c < 0x80
 separator-ascii c h = elim (or_cases (c == 0x3d) (c == 0x3a) h) [ inl e ↦ is-ascii c 0x3d (lit< tt) e | inr e ↦ is-ascii c 0x3a (lit< tt) e ]
 
 -- blanks are an ASCII text
-blanks-ascii : (x : List ℕ) → AreBlanks x → AreAscii x
+pub blanks-ascii : (x : List ℕ) → AreBlanks x → AreAscii x
 blanks-ascii [] h = tt
 blanks-ascii (c ∷ x) h = (blank-ascii c h.0, blanks-ascii x h.1)
 

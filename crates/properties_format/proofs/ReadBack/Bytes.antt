@@ -38,7 +38,7 @@ scalars-append [] y h k = k
 scalars-append (c ∷ x) y h k = (h.0, scalars-append x y h.1 k)
 
 -- an ASCII text is of scalars
-ascii-scalars : (x : List ℕ) → AreAscii x → AllByRecursion scalar x
+pub ascii-scalars : (x : List ℕ) → AreAscii x → AllByRecursion scalar x
 ascii-scalars [] h = tt
 ascii-scalars (c ∷ x) h = (inl (let b = h.0 in omega arith), ascii-scalars x h.1)
 
@@ -56,7 +56,7 @@ with_first_escaped-scalars e only (c ∷ cs) h =
     (spelt_text-scalars e only in_key_or_value cs h.1)
 
 -- and any key that is printed
-key-scalars : (e : Encoding) (only : Bool) (first : Bool) (key : List ℕ) → AllByRecursion scalar key → AllByRecursion scalar (spelt_key e only first key)
+pub key-scalars : (e : Encoding) (only : Bool) (first : Bool) (key : List ℕ) → AllByRecursion scalar key → AllByRecursion scalar (spelt_key e only first key)
 key-scalars e only first key h =
     cond_both (first && is_bom_like e only key) (with_first_escaped e only key) (spelt_text e only in_key_or_value key)
     (AllByRecursion scalar) (λ k. with_first_escaped-scalars e only key h) (λ k. spelt_text-scalars e only in_key_or_value key h)
@@ -92,7 +92,7 @@ pub record AreWritable (e : Encoding) (x : List ℕ) : Type 0 where
   pub encodable : AreEncodable e x
 
 -- two such texts together
-writable-append : (e : Encoding) (x y : List ℕ) → AreWritable e x → AreWritable e y → AreWritable e (x ++ y)
+pub writable-append : (e : Encoding) (x y : List ℕ) → AreWritable e x → AreWritable e y → AreWritable e (x ++ y)
 writable-append e x y h k = record { scalars = scalars-append x y h.scalars k.scalars; encodable = AreEncodable-append e x y h.encodable k.encodable }
 
 -- a line of scalars is printed as such a text, under good settings

@@ -66,9 +66,9 @@ blank-plain c h = elim (or_cases (c == 0x20) (c == 0x09 || c == 0x0c) h) [
 ]
 
 -- no backslash, and no line end
-record IsQuiet (x : List ℕ) : Type 0 where
-  slashes : HoldsNoBackslash x
-  plain : HoldsNoLineEnd x
+pub record IsQuiet (x : List ℕ) : Type 0 where
+  pub slashes : HoldsNoBackslash x
+  pub plain : HoldsNoLineEnd x
 
 -- two such texts together
 quiet-append : (x y : List ℕ) → IsQuiet x → IsQuiet y → IsQuiet (x ++ y)
@@ -97,7 +97,7 @@ sign-quiet : (c : ℕ) (x : List ℕ) → is_separator c ≡ true → IsQuiet x 
 sign-quiet c x h k = let s = separator-other c h in record { slashes = (s.0, k.slashes); plain = (s.1, k.plain) }
 
 -- and a good separator
-separator-quiet : (x : List ℕ) → IsGoodSeparator x → IsQuiet x
+pub separator-quiet : (x : List ℕ) → IsGoodSeparator x → IsQuiet x
 separator-quiet x (inl g) = rw g.division (quiet-append g.before (g.sign ∷ g.after) (blanks-quiet g.before g.blank_before) (sign-quiet g.sign g.after g.signed (blanks-quiet g.after g.blank_after)))
 separator-quiet x (inr g) = blanks-quiet x g.blank
 
@@ -112,7 +112,7 @@ separator-some x (inl g) = λ q. cons-front g.before g.after g.sign (sym g.divis
 separator-some x (inr g) = g.some
 
 -- after a separator only what follows it counts
-closed-after : (x sep y : List ℕ) → HoldsNoBackslash sep → sep ≢ [] → is_open y ≡ false → is_open (x ++ (sep ++ y)) ≡ false
+pub closed-after : (x sep y : List ℕ) → HoldsNoBackslash sep → sep ≢ [] → is_open y ≡ false → is_open (x ++ (sep ++ y)) ≡ false
 closed-after x [] y h some o = absurd (some refl)
 closed-after x (c ∷ []) y h some o = is_open-after x c y h.0 ∙ o
 closed-after x (c ∷ d ∷ sep) y h some o = is_open-after x c (d ∷ sep ++ y) h.0 ∙ closed-after [] (d ∷ sep) y h.1 (λ q. cc) o

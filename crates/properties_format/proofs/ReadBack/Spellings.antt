@@ -138,7 +138,7 @@ at-character : (c d : ℕ) (x : ℕ → List ℕ) → (c == d) ≡ true → IsSa
 at-character c d x e s = rw (eqb-true c d e) s
 
 -- a backslash and a character that takes one spell it safely
-special-spelt : (c : ℕ) → is_special c ≡ true → IsSafelySpelt (backslash ∷ c ∷ []) c
+pub special-spelt : (c : ℕ) → is_special c ≡ true → IsSafelySpelt (backslash ∷ c ∷ []) c
 special-spelt c h = elim (or_cases (c == backslash) (c == space || (is_separator c || is_comment_sign c)) h) [
   | inl e ↦ at-character c backslash (λ v. backslash ∷ v ∷ []) e (escape-spelt backslash backslash refl refl refl)
   | inr h ↦ elim (or_cases (c == space) (is_separator c || is_comment_sign c) h) [

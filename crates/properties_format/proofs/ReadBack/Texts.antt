@@ -106,7 +106,7 @@ unit-closed x y d h =
     ∙ other-closed x (y ++ (backslash ∷ letter_u ∷ d.first ∷ d.second ∷ d.third ∷ [])) d.fourth (hexadecimal-plain d.fourth (four-digits d h).3).0
 
 -- after a text that is not open, nor is one that ends in a safe spelling
-safe-closed : (p : Spelling) (x : List ℕ) → IsSafe p → is_open x ≡ false → is_open (x ++ spelling_text p) ≡ false
+pub safe-closed : (p : Spelling) (x : List ℕ) → IsSafe p → is_open x ≡ false → is_open (x ++ spelling_text p) ≡ false
 safe-closed (itself c) x h o = is_open-other x c h.0
 safe-closed (escaped c) x h o = elim (cases_Bool (c == backslash)) [
   | inl k ↦ rw (eqb-true c backslash k) (is_open-two x ∙ o)

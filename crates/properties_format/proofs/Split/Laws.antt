@@ -44,7 +44,7 @@ IsKey-unicode d x rest h k =
 -- ---- pairs
 
 -- a separator is no comment sign
-separator-sign : (c : ℕ) → is_separator c ≡ true → is_comment_sign c ≡ false
+pub separator-sign : (c : ℕ) → is_separator c ≡ true → is_comment_sign c ≡ false
 separator-sign c h = grind (arith, nat_tests)
 
 -- an empty key: what stands before the separator is then the line's indent

@@ -40,14 +40,14 @@ sign-end [] sign rest b s = ends_key-separator sign s
 sign-end (c ∷ before) sign rest b s = ends_key-blank c b.0
 
 -- where a key ends, what stands between comes or the line does
-between-ends : (between value : List ℕ) → IsBetween between value → ends_here (between ++ value) ≡ true
+pub between-ends : (between value : List ℕ) → IsBetween between value → ends_here (between ++ value) ≡ true
 between-ends between value (nothing e f) = rw (e, f) refl
 between-ends between value (blanks h b e f) = blanks-end between value h b
 between-ends between value (separator before sign after e b s d f) =
     rw e (rw (append_assoc before (sign ∷ after) value) (sign-end before sign (after ++ value) b s))
 
 -- after what stands between comes the value
-between-value : (between value : List ℕ) → IsBetween between value → past_separator (without_leading_blanks (between ++ value)) ≡ value
+pub between-value : (between value : List ℕ) → IsBetween between value → past_separator (without_leading_blanks (between ++ value)) ≡ value
 between-value between value (nothing e f) = rw (e, f) refl
 between-value between value (blanks h b e f) = ap past_separator (without_leading_blanks-only between value b e) ∙ past_separator-full value f
 between-value between value (separator before sign after e b s d f) =

@@ -1,9 +1,12 @@
 // Edits and documents.
 
+use counted_io::{ScriptedReader, Tail};
 use java_properties::{
-    Cause, Document, Edit, Encoding, ErrorKind, PropertiesError, edit_all, remove_key, set_key,
+    Cause, Document, Edit, Encoding, ErrorKind, PropertiesError, edit_all, read_source, remove_key,
+    set_key,
 };
 use std::alloc::{AllocError, Global};
+use std::io;
 use std::process::Abort;
 
 // An edit whose texts are lent.
@@ -281,4 +284,38 @@ fn utf_16_is_refused_without_memory(rt: HostRuntime) {
         let told = answer(rt.alloc(), source, call);
         assert!(rt; is_refusal(&told, ErrorKind::Unsupported, None));
     }
+}
+
+// One growth at most is refused, so a second reading gives the source.
+#[test]
+fn a_source_is_read_or_refused(rt: HostRuntime) {
+    let (mut first, mut second) = (SOURCE, SOURCE);
+    let answer = read_source(rt.alloc(), &mut first, Encoding::WINDOWS_1252);
+    if !gives(&rt, answer, SOURCE) {
+        let again = read_source(rt.alloc(), &mut second, Encoding::WINDOWS_1252);
+        assert!(rt; gives(&rt, again, SOURCE));
+    }
+}
+
+// A reader that fails after a source.
+fn broken(alloc: Global) -> Result<ScriptedReader, AllocError> {
+    let piece = Vec::from_slice(alloc, SOURCE)?;
+    let pieces = vec![in alloc; piece]?;
+    Ok(ScriptedReader::new(pieces, Tail::Fault(io::ErrorKind::TimedOut)))
+}
+
+// The line of a fault, or Memory, and never another error.
+#[test]
+fn a_fault_of_a_source_is_told_or_memory_is(rt: HostRuntime) {
+    let Ok(mut input) = broken(rt.alloc()) else {
+        return;
+    };
+    let mut told = read_source(rt.alloc(), &mut input, Encoding::WINDOWS_1252);
+    if is_refusal(&told, ErrorKind::Memory, None) {
+        let Ok(mut input) = broken(rt.alloc()) else {
+            return;
+        };
+        told = read_source(rt.alloc(), &mut input, Encoding::WINDOWS_1252);
+    }
+    assert!(rt; is_refusal(&told, ErrorKind::Io, Some(12)));
 }

@@ -5,6 +5,7 @@ use super::decode::as_text;
 use super::first_piece::first_piece;
 use super::*;
 use std::alloc::{AllocError, Global};
+use std::collections::HashMap;
 use std::test::Fail;
 
 fn decoded(alloc: Global, encoding: Encoding, bytes: &[u8]) -> Result<TextBuffer, AllocError> {
@@ -186,4 +187,30 @@ fn tells_which_pieces_may_change(rt: HostRuntime) {
         assert_eq!(rt; piece.length, length);
         assert_eq!(rt; piece.may_change, may_change);
     }
+}
+
+#[test]
+fn names_and_orders_encodings(rt: HostRuntime) -> Result<(), Fail> {
+    let names = [
+        ("windows-1252", Encoding::WINDOWS_1252),
+        ("utf-8", Encoding::UTF_8),
+        ("utf-16le", Encoding::UTF_16LE),
+        ("utf-16be", Encoding::UTF_16BE),
+    ];
+    for (name, encoding) in names {
+        assert_eq!(rt; Encoding::from_name(name), Some(encoding));
+        assert_eq!(rt; encoding.name(), name);
+        assert_eq!(rt; format!(in rt.alloc(); "{encoding}")?.as_str(), name);
+    }
+    for name in ["", "UTF-8", "utf8", "utf-8 ", "utf-16", "latin1"] {
+        assert_eq!(rt; Encoding::from_name(name), None);
+    }
+    assert!(rt; Encoding::WINDOWS_1252 < Encoding::UTF_8);
+    assert!(rt; Encoding::UTF_16LE < Encoding::UTF_16BE);
+
+    let mut counts = HashMap::new(rt.alloc());
+    counts.insert(Encoding::UTF_8, 1)?;
+    assert_eq!(rt; counts.get(&Encoding::UTF_8), Some(&1));
+    assert_eq!(rt; counts.get(&Encoding::UTF_16LE), None);
+    Ok(())
 }

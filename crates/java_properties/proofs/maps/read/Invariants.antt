@@ -1,6 +1,6 @@
 use Rattle.counted_io.specs.Streams.{reader, IsSameReader}
 use Rattle.properties_format.specs.Encoding.{windows_1252}
-use Rattle.properties_lines.specs.LineFinder.{lines_left}
+use Rattle.properties_lines.specs.LineReader.{lines_left}
 use Rattle.java_properties.proofs.TextMaps.Reading.{HasPassed}
 use Rattle.java_properties.proofs.maps.read.Given as goal
 

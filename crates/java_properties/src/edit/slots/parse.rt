@@ -34,7 +34,7 @@ impl Slots {
         let mut groups = GroupReader::new(alloc, encoding);
         let mut slots = Slots::with_guard(alloc)?;
         while let Some(group) = groups.next(body)? {
-            let number = group.passed.saturating_add(1);
+            let number = group.number;
             let key = key_of(alloc, number, groups.line(body, group))?;
             slots.add_group(alloc, body, group, key)?;
         }
@@ -54,7 +54,7 @@ impl Slots {
         let mut slots = Slots::with_guard(alloc)?;
         let mut values = BTreeMap::new(alloc);
         while let Some(group) = groups.next(body)? {
-            let number = group.passed.saturating_add(1);
+            let number = group.number;
             let pair = pair_of(alloc, number, groups.line(body, group))?;
             let key = keep_value(alloc, &mut values, pair)?;
             slots.add_group(alloc, body, group, key)?;

@@ -1,41 +1,53 @@
-use Rattle.std.proofs.Common.{◌++◌, ◌∙◌, sym, ap, arith}
-use Rattle.properties_lines.specs.LineFinder.{Finder}
-use Rattle.std.proofs.lemmas.Result.{err_from_is_err_and}
-use Rattle.properties_lines.proofs.LineJoiner.{goes-more, joins-closed, joins-done, join-no_room, join-refused, goes-live}
+use Rattle.std.proofs.Common.{[], ◌++◌, ◌∙◌, refl, sym, arith}
+use Rattle.std.specs.Str.{chars}
+use Rattle.properties_text.specs.Encoding.{encoding_of}
+use Rattle.properties_lines.proofs.LineJoiner.{goes-start, goes-more, joins-closed, joins-over, joins-lost, known-ascii}
 use Rattle.properties_lines.proofs.joiner.join_lines.Goals as goal
 
-pub returns-in_err-add_line-in-Ok-clause-joins : goal.returns-in_err-add_line-in-Ok-clause-joins
-returns-in_err-add_line-in-Ok-clause-joins g c =
-    let next = rw c.in-Ok.is at c.in-Some.ensures.finds in
-    let error = err_from_is_err_and c.from_residual.result c.from_residual.ensures.1 in
-    let along = c.loop-found.invariant.along.1 in
-    rw error.1 (goes-live along next.live, join-no_room c.in-Ok.field-0 c.find_line.new.self c.find_line.new.self.state along next error.2)
+pub loop-line-init : goal.loop-line-init
+loop-line-init g c = record {
+  along = ([], goes-start c.args.lines.now.state c.args.reader.now (chars c.args.line.now.text));
+  error = c.requires.error;
+  kept = c.requires.kept;
+  left = omega arith;
+  same_reader = refl;
+}
 
-pub returns-then-not-branch-clause-joins : goal.returns-then-not-branch-clause-joins
-returns-then-not-branch-clause-joins g c =
-    let next = rw c.in-Ok.is at c.in-Some.ensures.finds in
-    let added = rw (c.encoding.ensures, c.line.ensures) at c.in_ok-add_line-in-Ok.ensures in
-    joins-closed c.in-Ok.field-0 c.find_line.new.self c.loop-found.invariant.along.1 next (sym added.0 ∙ c.if-not-branch.true) added.1
+pub join-requires : goal.join-requires
+join-requires g c =
+    let found = c.loop-line-test.ensures.finds in
+    known-ascii c.find_line.new.self (encoding_of c.encoding.result) c.line.result.now c.is_ascii.result found.1 c.encoding.ensures c.line.ensures c.is_ascii.ensures
 
-pub loop-found-preserved : goal.loop-found-preserved
-loop-found-preserved g c =
-    let next = rw c.in-Ok.is at c.in-Some.ensures.finds in
-    let added = rw (c.encoding.ensures, c.line.ensures) at c.in_ok-add_line-in-Ok.ensures in
+pub loop-line-preserved : goal.loop-line-preserved
+loop-line-preserved g c =
+    let found = c.loop-line-test.ensures.finds in
+    let next = found.0 in
+    let along = c.loop-line.invariant.along in
+    let added = rw (c.encoding.ensures, c.line.ensures) at c.in-Ok-true.ensures.adds in
     record {
       along = (
-        c.loop-found.invariant.along.0 ++ next.bytes,
-        goes-more c.in-Ok.field-0 c.find_line.new.self c.loop-found.invariant.along.1 next (sym added.0 ∙ c.if-not-branch.false) added.1,
+        along.0 ++ next.bytes,
+        goes-more c.find_line.new.self.state.passed c.find_line.new.self along.1 next (sym added.0 ∙ c.in-Ok-true.field-0-test) added.1,
       );
-      left = omega (arith, c.loop-found.invariant.left, c.in-Some.ensures.nearer);
-      same_reader = c.find_line.ensures.same_reader ∙ c.loop-found.invariant.same_reader;
+      error = found.2;
+      kept = c.join.ensures.same ∙ c.loop-line.invariant.kept;
+      left = omega (arith, c.loop-line.invariant.left, c.find_line.ensures.nearer c.loop-line-test.true);
+      same_reader = c.find_line.ensures.same_reader ∙ c.loop-line.invariant.same_reader;
     }
+
+pub returns-in-Ok-false-clause-joins : goal.returns-in-Ok-false-clause-joins
+returns-in-Ok-false-clause-joins g c =
+    let found = c.loop-line-test.ensures.finds in
+    let added = rw (c.encoding.ensures, c.line.ensures) at c.in-Ok-false.ensures.adds in (
+      joins-closed c.find_line.new.self.state.passed c.find_line.new.self c.loop-line.invariant.along.1 found.0 (sym added.0 ∙ c.in-Ok-false.field-0-test) added.1,
+      found.2,
+    )
 
 pub returns-in-Err-clause-joins : goal.returns-in-Err-clause-joins
 returns-in-Err-clause-joins g c =
-    let refused = rw c.in-Err.is at c.in-Some.ensures.finds in
-    (goes-live c.loop-found.invariant.along.1 refused.0, join-refused c.loop-found.invariant.along.1 refused.0 refused.2)
+    joins-lost c.args.lines.now c.loop-line.lines c.find_line.new.self c.fail.new.self c.loop-line.invariant.along.1 c.loop-line-test.ensures.finds.0 c.fail.ensures
 
 pub returns-clause-joins : goal.returns-clause-joins
 returns-clause-joins g c =
-    let none = c.in_default.ensures.finds in
-    joins-done c.loop-found.invariant.along.1 none.0 (ap (λ v. let w : Finder = v in w.state) none.1) none.2
+    joins-over c.args.lines.now c.loop-line.lines c.find_line.new.self c.has_failed.result c.loop-line.invariant.along.1 c.loop-line.invariant.error
+    c.loop-line-test.ensures.finds c.has_failed.ensures

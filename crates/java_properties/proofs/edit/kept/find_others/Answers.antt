@@ -1,8 +1,8 @@
-use Rattle.std.proofs.Common.{arith, ◌++◌, [], ◌∷◌, ◌∙◌, ap, sym, subst}
+use Rattle.std.proofs.Common.{◌++◌, [], ◌∷◌, ◌∙◌, ap, sym, subst}
 use Rattle.std.proofs.lemmas.Result.{err_from_is_err_and}
 use Rattle.std.specs.Str.{chars}
 use Rattle.properties_text.specs.Encoding.{encoding_of}
-use Rattle.java_properties.proofs.BodyKeys.{HasKept, counted, read-fault, kept-none, kept-removed, kept-more, kept-all, editable-bytes}
+use Rattle.java_properties.proofs.BodyKeys.{HasKept, read-fault, kept-none, kept-removed, kept-more, kept-all, editable-bytes}
 use Rattle.java_properties.specs.BodyGroups.{IsWithin}
 use Rattle.properties_lines.specs.LineSearch.{unit_size}
 use Rattle.java_properties.specs.declared.edit.groups.GroupReader.{GroupReader}
@@ -13,20 +13,17 @@ loop-others-init c =
     let s = c.new-groups.result in
     let body = c.args.body.now in
     let n = c.new-groups.ensures in
-    let at = n.start in
-    let passed = n.none in
     let same = ap encoding_of n.encoding in
-    let within : IsWithin body s =
-    record { bytes = ap unit_size same ∙ c.requires; place = omega arith; counted = omega arith; fits = omega arith } in
+    let within : IsWithin body s = record { bytes = ap unit_size same ∙ c.requires; stands = n.stands body } in
     subst (λ e. HasKept e body (chars c.args.key.now) s c.new-others.result.items 0) same
-    (kept-none body (chars c.args.key.now) s c.new-others.result.items at passed n.going within c.new-others.ensures.items)
+    (kept-none body (chars c.args.key.now) s c.new-others.result.items n.start n.none n.going within c.new-others.ensures.items)
 
 pub returns-in_err-has_key : goal.returns-in_err-has_key
 returns-in_err-has_key c =
     let came = rw c.in-Some.is at c.in_ok-group.ensures in
     let error = err_from_is_err_and c.from_residual-in_err-has_key.result c.from_residual-in_err-has_key.ensures.1 in
     let said = rw c.line.ensures at c.in_err-has_key.ensures in
-    rw (error.1, error.2) (read-fault c.saturating_add-number.result c.in_err-has_key.field-0.0 c.loop-others.invariant.read came (counted c.saturating_add-number.ensures came.passed) said)
+    rw (error.1, error.2) (read-fault c.in_err-has_key.field-0.0 c.loop-others.invariant.read came said)
 
 pub loop-others-preserved-then-branch : goal.loop-others-preserved-then-branch
 loop-others-preserved-then-branch c =
@@ -47,6 +44,6 @@ loop-others-preserved c =
 pub returns : goal.returns
 returns c =
     let none = rw c.in_default.is at c.in_ok-group.ensures in
-    let at = c.place-end.ensures ∙ ap (λ v. let w : GroupReader = v in w.at) none.1 in
+    let at = c.place-end.ensures ∙ ap (λ v. let w : GroupReader = v in w.scanner.at) none.1 in
     let pushed = c.in_ok-push-2.ensures.items ∙ ap (λ n. c.loop-others.others.items ++ record { start = c.loop-others.start; end = n } ∷ []) at in
     kept-all c.push-2.new.self.items c.loop-others.invariant none.0 pushed

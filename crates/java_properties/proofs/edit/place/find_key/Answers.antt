@@ -1,5 +1,5 @@
 use Rattle.std.proofs.lemmas.Result.{err_from_is_err_and}
-use Rattle.java_properties.proofs.BodyKeys.{counted, read-fault, looked-more, looked-all}
+use Rattle.java_properties.proofs.BodyKeys.{read-fault, looked-more, looked-all}
 use Rattle.java_properties.proofs.edit.place.find_key.Goals as goal
 
 pub returns-in_err-is_pair : goal.returns-in_err-is_pair
@@ -7,7 +7,7 @@ returns-in_err-is_pair c =
     let came = rw c.in-Some.is at c.in_ok-group.ensures in
     let error = err_from_is_err_and c.from_residual-in_err-is_pair.result c.from_residual-in_err-is_pair.ensures.1 in
     let said = rw c.line.ensures at c.in_err-is_pair.ensures in
-    rw (error.1, error.2) (read-fault c.saturating_add-number.result c.in_err-is_pair.field-0.0 c.loop-groups.invariant.read came (counted c.saturating_add-number.ensures came.passed) said)
+    rw (error.1, error.2) (read-fault c.in_err-is_pair.field-0.0 c.loop-groups.invariant.read came said)
 
 pub loop-groups-preserved : goal.loop-groups-preserved
 loop-groups-preserved c =

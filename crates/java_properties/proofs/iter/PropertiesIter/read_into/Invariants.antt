@@ -1,5 +1,5 @@
 use Rattle.counted_io.specs.Streams.{reader}
-use Rattle.properties_lines.specs.LineFinder.{lines_left}
+use Rattle.properties_lines.specs.LineReader.{lines_left}
 use Rattle.java_properties.proofs.ReadInto.{HasCalled}
 use Rattle.java_properties.proofs.iter.PropertiesIter.read_into.Given as goal
 

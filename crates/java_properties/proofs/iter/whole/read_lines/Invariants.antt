@@ -1,7 +1,7 @@
 use Rattle.std.proofs.Common.{ℕ, List}
 use Rattle.counted_io.specs.Streams.{reader, IsSameReader}
 use Rattle.properties_text.specs.Encoding.{encoding_of}
-use Rattle.properties_lines.specs.LineFinder.{lines_left}
+use Rattle.properties_lines.specs.LineReader.{lines_left}
 use Rattle.java_properties.specs.ReadLines.{entries_in}
 use Rattle.java_properties.proofs.Readings.{Collected}
 use Rattle.java_properties.proofs.iter.whole.read_lines.Given as goal

@@ -2,7 +2,7 @@ use Rattle.std.specs.BTreeMap.{IsOrdered}
 use Rattle.std.specs.String.{string_cmp}
 use Rattle.counted_io.specs.Streams.{reader, IsSameReader}
 use Rattle.properties_text.specs.Encoding.{encoding_of}
-use Rattle.properties_lines.specs.LineFinder.{lines_left}
+use Rattle.properties_lines.specs.LineReader.{lines_left}
 use Rattle.java_properties.proofs.TextMaps.Reading.{HasPassed}
 use Rattle.java_properties.proofs.maps.sorted.read_sorted.Given as goal
 

@@ -1,41 +1,44 @@
-use Rattle.std.proofs.Common.{◌∙◌, sym, ap, inl, inr}
-use Rattle.std.specs.Str.{chars}
-use Rattle.properties_format.specs.Groups.{is_open, is_comment_line}
-use Rattle.properties_lines.specs.LineJoiner.{Joiner}
-use Rattle.properties_lines.proofs.LineJoiner.{joins-alone, joins-joined, joins-refused, joins-stopped}
+use Rattle.std.proofs.Common.{◌∙◌, sym, ap, refl, subst, false}
+use Rattle.std.specs.Prelude.{Some, None}
+use Rattle.counted_io.specs.Streams.{reader}
+use Rattle.properties_lines.specs.LineJoiner.{Joining, Joins}
+use Rattle.properties_lines.specs.declared.logical.LogicalLine.{LogicalLine}
+use Rattle.properties_lines.proofs.LogicalLines.{ascii-keeps}
+use Rattle.properties_lines.proofs.LineJoiner.{joining, joins-none, joins-lent, joins-rest, known-ascii}
 use Rattle.properties_lines.proofs.joiner.LineJoiner.next_line.Goals as goal
-use Rattle.properties_lines.proofs.joiner.LineJoiner.next_line.Goals.{then-is_comment_line-via-then-is_comment_line, then-is_comment_line-via-else-is_comment_line+then-not-is_open}
 
-pub returns-in-Err-clause-joins : goal.returns-in-Err-clause-joins
-returns-in-Err-clause-joins g c =
-    let refused = rw c.in-Err.is at c.in_ok-number.ensures.finds in
-    (refused.0, refused.1, joins-refused refused.2)
+pub returns-then-not-find_line-clause-joins : goal.returns-then-not-find_line-clause-joins
+returns-then-not-find_line-clause-joins g c =
+    let before = c.self.inside in
+    let found = c.find_line.new.self in
+    let P : Joining → Type 0 = λ v. Joins (reader g.R.Read g.R.CountedRead) v c.args.reader.now None (joining found before.line before.has_backslash) c.find_line.new.reader in
+    subst P c.self.view_is (joins-none before.lines found before.line before.has_backslash c.if-not-find_line.ensures.finds)
 
-pub returns-then-is_comment_line-clause-joins : goal.returns-then-is_comment_line-clause-joins
-returns-then-is_comment_line-clause-joins g c =
-    let next = rw c.in-Ok.is at c.in_ok-number.ensures.finds in
-    let mid = c.next_natural.new.self in
-    elim c.then-is_comment_line.branch [
-      | then-is_comment_line-via-then-is_comment_line w ↦
-          let comment = ap (λ v. is_comment_line (chars v)) (sym c.line.ensures) ∙ sym c.is_comment_line.ensures ∙ w.if-is_comment_line.true in
-          joins-alone c.in-Ok.number mid next (inl comment)
-      | then-is_comment_line-via-else-is_comment_line+then-not-is_open w ↦
-          let closed = ap (λ v. is_open (chars v)) (sym w.line-else-is_comment_line.ensures) ∙ sym w.is_open.ensures ∙ w.if-not-is_open.true in
-          joins-alone c.in-Ok.number mid next (inr closed)
-    ]
+pub invariant_of-self-then-not-has_backslash : goal.invariant_of-self-then-not-has_backslash
+invariant_of-self-then-not-has_backslash g c = λ lent.
+    let found = c.find_line.new.self in
+    let told = c.if-not-find_line.ensures.finds.1 in
+    let ascii = known-ascii found found.state.encoding found.line c.is_ascii.result told refl refl c.is_ascii.ensures c.if-is_ascii.true in
+    (ascii-keeps found.state.encoding found.line ascii).0
 
-pub returns-in-Ok-joined-clause-joins : goal.returns-in-Ok-joined-clause-joins
-returns-in-Ok-joined-clause-joins g c =
-    let next = rw c.in-Ok.is at c.in_ok-number.ensures.finds in
-    let other = ap (λ v. is_comment_line (chars v)) (sym c.line.ensures) ∙ sym c.is_comment_line.ensures ∙ c.if-is_comment_line.false in
-    let opens = ap (λ v. is_open (chars v)) (sym c.line-else-is_comment_line.ensures) ∙ sym c.is_open.ensures ∙ c.if-not-is_open.false in
-    joins-joined c.in-Ok.number c.next_natural.new.self c.join-joined.new.self next other opens c.in-Ok-joined.ensures.joins
+pub returns-then-not-has_backslash-clause-joins : goal.returns-then-not-has_backslash-clause-joins
+returns-then-not-has_backslash-clause-joins g c =
+    let before = c.self.inside in
+    let found = c.find_line.new.self in
+    let P : Joining → Type 0 = λ v. Joins (reader g.R.Read g.R.CountedRead) v c.args.reader.now (Some found.state.passed) (joining found c.lend.new.self false) c.find_line.new.reader in
+    let kept = ap (λ v. let w : LogicalLine = v in w.is_kept) c.lend.ensures in
+    let ascii = sym c.is_ascii.ensures ∙ c.if-is_ascii.true in
+    let plain = sym c.has_backslash.ensures ∙ c.if-not-has_backslash.true in
+    let old = joining before.lines before.line before.has_backslash in
+    rw c.number.ensures (subst P c.self.view_is (joins-lent old found c.lend.new.self c.if-not-find_line.ensures.finds ascii plain kept))
 
-pub returns-in-Err-joined-clause-joins : goal.returns-in-Err-joined-clause-joins
-returns-in-Err-joined-clause-joins g c =
-    let next = rw c.in-Ok.is at c.in_ok-number.ensures.finds in
-    let other = ap (λ v. is_comment_line (chars v)) (sym c.line.ensures) ∙ sym c.is_comment_line.ensures ∙ c.if-is_comment_line.false in
-    let opens = ap (λ v. is_open (chars v)) (sym c.line-else-is_comment_line.ensures) ∙ sym c.is_open.ensures ∙ c.if-not-is_open.false in
-    let done = ap (λ v. let w : Joiner = v in w.state.is_done) c.end.ensures in
-    let passed = ap (λ v. let w : Joiner = v in w.state.passed) c.end.ensures in
-    (next.live, done, joins-stopped c.in-Ok.number c.next_natural.new.self c.join-joined.new.self c.end.new.self.state next other opens c.in-Err-joined.ensures.joins passed)
+pub returns-clause-joins : goal.returns-clause-joins
+returns-clause-joins g c =
+    let before = c.self.inside in
+    let rest = c.read_rest.new in
+    let has_backslash = c.has_backslash-self-inside.result in
+    let P : Joining → Type 0 = λ v. Joins (reader g.R.Read g.R.CountedRead) v c.args.reader.now c.read_rest.result (joining rest.lines rest.line has_backslash) rest.reader in
+    let old = joining before.lines before.line before.has_backslash in
+    let finds = c.if-not-find_line.ensures.finds in
+    let same = c.has_backslash-self-inside.ensures in
+    subst P c.self.view_is (joins-rest rest.reader old c.find_line.new.self rest.lines rest.line c.read_rest.result has_backslash finds same c.read_rest.ensures.reads)

@@ -1,13 +1,14 @@
 use Rattle.std.proofs.Common.{length}
-use Rattle.java_properties.specs.BodyGroups.{IsWithin, IsJoined, lines_left}
+use Rattle.properties_lines.specs.HeldLines.{lines_left}
+use Rattle.java_properties.specs.BodyGroups.{IsWithin, ReadsGroup}
 use Rattle.java_properties.specs.declared.edit.groups.GroupReader.{GroupReader}
 use Rattle.java_properties.proofs.edit.groups.GroupReader.join.Given as goal
 
 abbrev pub invariant-loop-joined : goal.invariant-loop-joined
 invariant-loop-joined l = record {
-  whole : (before : GroupReader) → IsJoined l.body before l.fn.group l.fn.self → IsJoined l.body before l.joined l.self;
+  whole : (before : GroupReader) → ReadsGroup l.body before l.fn.group l.fn.self → ReadsGroup l.body before l.joined l.self;
   within : IsWithin l.body l.self;
 }
 
 abbrev pub decreases-loop-joined : goal.decreases-loop-joined
-decreases-loop-joined l = length (lines_left l.body l.self)
+decreases-loop-joined l = length (lines_left l.body l.self.scanner)

@@ -1,35 +1,27 @@
-use Rattle.std.proofs.Common.{ap, ◌∙◌, sym, refl}
-use Rattle.std.specs.Prelude.{◌&&◌, not}
-use Rattle.std.specs.Str.{chars}
-use Rattle.properties_format.specs.Groups.{is_comment_line, is_open, without_open_backslash}
-use Rattle.std.proofs.lemmas.Bool.{not-true, not-false}
-use Rattle.java_properties.proofs.BodyGroups.{line-text, group-closed, group-opened, group-whole}
+use Rattle.std.proofs.Common.{◌==◌, ap, refl, subst, Bool, Ok}
+use Rattle.std.specs.Prelude.{Result}
+use Rattle.std.specs.declared.alloc.AllocError.{AllocError}
+use Rattle.properties_text.specs.Encoding.{encoding_of}
+use Rattle.properties_lines.specs.LogicalLine.{Begins}
+use Rattle.properties_lines.specs.Scanner.{bytes_of}
+use Rattle.properties_lines.specs.declared.scanner.RawLine.{RawLine}
+use Rattle.java_properties.proofs.BodyGroups.{group-first, group-whole}
 use Rattle.java_properties.proofs.edit.groups.GroupReader.next.Goals as goal
-
-pub returns-then-not-group : goal.returns-then-not-group
-returns-then-not-group c =
-    let body = c.args.body.now in
-    let old = c.args.self.now in
-    let taken = c.take_line-first in
-    let line = taken.result in
-    let text = c.kept_text-line.result.now in
-    let l = line-text body old line taken.new.self c.keep_text.new.text c.in_ok-self.field-0 text taken.ensures c.in_ok-self.ensures c.kept_text-line.ensures in
-    let goes = c.goes_on.ensures ∙ ap (λ v. not (is_comment_line v) && is_open v) l.same in
-    group-closed body old line taken.new.self _ c.keep_text.new.text taken.new.self.decoded c.in_ok-self.field-0 taken.ensures c.if-self.false refl refl refl refl
-    goes refl (not-true _ c.if-not-group.true) l.utf8 l.chars_of
 
 pub returns : goal.returns
 returns c =
     let body = c.args.body.now in
     let old = c.args.self.now in
-    let taken = c.take_line-first in
-    let line = taken.result in
-    let text = c.kept_text-line.result.now in
-    let l = line-text body old line taken.new.self c.keep_text.new.text c.in_ok-self.field-0 text taken.ensures c.in_ok-self.ensures c.kept_text-line.ensures in
-    let goes = c.goes_on.ensures ∙ ap (λ v. not (is_comment_line v) && is_open v) l.same in
+    let found = c.find_line.new.self in
+    let line = c.line-line.ensures in
+    let answer : Result Bool AllocError = Ok c.in_ok-is_open.is_open in
+    let taken = rw c.if-not-branch.false at c.in_ok-find_line.ensures in
+    let read = subst (λ v. Begins (encoding_of c.encoding.result) (bytes_of body v) answer c.begin.new.self) line c.in_ok-is_open.ensures.begins in
+    let begins = subst (λ v. Begins (encoding_of v) (bytes_of body found.scanner.line) answer c.begin.new.self) c.encoding.ensures read in
+    let ending = c.ending_of.ensures taken.ending (rw (line, c.place.ensures) taken.ends) in
     let joined = c.in_ok-joined.ensures in
-    let opened =
-    group-opened body old line taken.new.self _ c.keep_opened.new.text taken.new.self.decoded taken.ensures c.if-self.false refl refl refl refl
-    goes refl (not-false _ c.if-not-group.false)
-    (c.in_ok-keep_opened.ensures ∙ ap without_open_backslash (ap chars (sym c.kept_text-line.ensures) ∙ l.same)) in
-    group-whole body old c.in_ok-joined.joined c.join.new.self (joined.whole old opened) joined.ended joined.within
+    let first =
+    group-first AllocError body old found c.begin.new.self _ c.in_ok-is_open.is_open taken begins c.number.ensures
+    (ap (λ v. let w : RawLine = v in w.start) line) (ap (λ v. let w : RawLine = v in w.end) line) ending refl
+    (ap (λ v. let w : RawLine = v in w.start == w.end) line) in
+    group-whole body old c.in_ok-joined.joined c.join.new.self (joined.whole old first) joined.ended joined.within

@@ -1,11 +1,11 @@
-use Rattle.std.proofs.Common.{arith, ◌∙◌, ap, subst}
+use Rattle.std.proofs.Common.{◌∙◌, ap, subst}
 use Rattle.std.proofs.lemmas.Result.{err_from_is_err_and}
 use Rattle.std.specs.Option.{option_map}
 use Rattle.properties_text.specs.Encoding.{encoding_of}
 use Rattle.java_properties.specs.BodyGroups.{IsWithin}
 use Rattle.properties_lines.specs.LineSearch.{unit_size}
 use Rattle.java_properties.specs.Maps.{characters}
-use Rattle.java_properties.proofs.BodyKeys.{counted, editable-bytes, read-fault}
+use Rattle.java_properties.proofs.BodyKeys.{editable-bytes, read-fault}
 use Rattle.java_properties.proofs.BodySlots.Parsed.{IsReadTo, parsed-none, parsed-more, parsed-all}
 use Rattle.java_properties.proofs.edit.slots.Slots.parse.Goals as goal
 
@@ -15,19 +15,16 @@ loop-slots-init c =
     let reader = c.new-groups.result in
     let slots = c.in_ok-slots.slots in
     let new = c.new-groups.ensures in
-    let at = new.start in
-    let passed = new.none in
     let same = ap encoding_of new.encoding in
-    let within : IsWithin body reader =
-    record { bytes = ap unit_size same ∙ c.requires; place = omega arith; counted = omega arith; fits = omega arith } in
-    subst (λ e. IsReadTo e body reader slots) same (parsed-none body reader slots at passed new.going within c.in_ok-slots.ensures)
+    let within : IsWithin body reader = record { bytes = ap unit_size same ∙ c.requires; stands = new.stands body } in
+    subst (λ e. IsReadTo e body reader slots) same (parsed-none body reader slots new.start new.none new.going within c.in_ok-slots.ensures)
 
 pub returns-in_err-key : goal.returns-in_err-key
 returns-in_err-key c =
     let came = rw c.in-Some.is at c.in_ok-group.ensures in
     let error = err_from_is_err_and c.from_residual-in_err-key.result c.from_residual-in_err-key.ensures.1 in
     let said = rw c.line.ensures at c.in_err-key.ensures in
-    rw (error.1, error.2) (read-fault c.saturating_add-number.result c.in_err-key.field-0.0 c.loop-slots.invariant.read came (counted c.saturating_add-number.ensures came.passed) said)
+    rw (error.1, error.2) (read-fault c.in_err-key.field-0.0 c.loop-slots.invariant.read came said)
 
 pub loop-slots-preserved : goal.loop-slots-preserved
 loop-slots-preserved c =

@@ -1,4 +1,4 @@
-use Rattle.std.proofs.Common.{arith, ◌∙◌, ap, subst}
+use Rattle.std.proofs.Common.{◌∙◌, ap, subst}
 use Rattle.std.proofs.lemmas.Result.{err_from_is_err_and}
 use Rattle.std.specs.Option.{option_map}
 use Rattle.std.specs.Str.{chars}
@@ -9,7 +9,7 @@ use Rattle.java_properties.specs.BodyGroups.{IsWithin, text_of}
 use Rattle.properties_lines.specs.LineSearch.{unit_size}
 use Rattle.java_properties.specs.Maps.{characters}
 use Rattle.java_properties.proofs.BodyDocuments.Parsed.{HasValues, values-none, values-more, values-all, pair-key}
-use Rattle.java_properties.proofs.BodyKeys.{counted, editable-bytes, read-fault}
+use Rattle.java_properties.proofs.BodyKeys.{editable-bytes, read-fault}
 use Rattle.java_properties.proofs.BodySlots.Parsed.{IsReadTo, parsed-none, parsed-more, parsed-all}
 use Rattle.java_properties.proofs.edit.slots.Slots.parse_with_values.Goals as goal
 
@@ -20,14 +20,11 @@ loop-values-init c =
     let slots = c.in_ok-slots.slots in
     let values = c.new-values.result.entries in
     let new = c.new-groups.ensures in
-    let at = new.start in
-    let passed = new.none in
     let same = ap encoding_of new.encoding in
-    let within : IsWithin body reader =
-    record { bytes = ap unit_size same ∙ c.requires; place = omega arith; counted = omega arith; fits = omega arith } in
+    let within : IsWithin body reader = record { bytes = ap unit_size same ∙ c.requires; stands = new.stands body } in
     record {
-      slots = subst (λ e. IsReadTo e body reader slots) same (parsed-none body reader slots at passed new.going within c.in_ok-slots.ensures);
-      values = subst (λ e. HasValues e body reader values) same (values-none body reader values at passed new.going within c.new-values.ensures.empty);
+      slots = subst (λ e. IsReadTo e body reader slots) same (parsed-none body reader slots new.start new.none new.going within c.in_ok-slots.ensures);
+      values = subst (λ e. HasValues e body reader values) same (values-none body reader values new.start new.none new.going within c.new-values.ensures.empty);
       ordered = c.new-values.ensures.ordered;
     }
 
@@ -36,7 +33,7 @@ returns-in_err-pair c =
     let came = rw c.in-Some.is at c.in_ok-group.ensures in
     let error = err_from_is_err_and c.from_residual-in_err-pair.result c.from_residual-in_err-pair.ensures.1 in
     let said = rw c.line.ensures at c.in_err-pair.ensures in
-    rw (error.1, error.2) (read-fault c.saturating_add-number.result c.in_err-pair.field-0.0 c.loop-values.invariant.slots.read came (counted c.saturating_add-number.ensures came.passed) said)
+    rw (error.1, error.2) (read-fault c.in_err-pair.field-0.0 c.loop-values.invariant.slots.read came said)
 
 pub loop-values-preserved : goal.loop-values-preserved
 loop-values-preserved c =

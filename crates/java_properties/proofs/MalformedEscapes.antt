@@ -1,0 +1,245 @@
+-- How the malformed escapes of a whole input are found, logical line after logical line.
+use Rattle.std.proofs.Common.{◌≡◌, ℕ, true, false, List, [], ◌∷◌, ◌++◌, refl, sym, ap, ap₂, ◌∙◌, inl, inr, subst, append_assoc, append-nil}
+use Rattle.std.specs.Prelude.{◌⊎◌, Option, Some, None, Ok, Err}
+use Rattle.std.specs.declared.vec.Vec.{Vec}
+use Rattle.std.proofs.lemmas.List.{map-append}
+use Rattle.std.specs.Str.{chars}
+use Rattle.counted_io.specs.Streams.{Reader, HasRead}
+use Rattle.counted_io.proofs.Streams.{read-none, read-more, failed-more}
+use Rattle.properties_format.specs.Encoding.{Encoding}
+use Rattle.properties_format.specs.Lines.{end, fault, Line, numbered_lines}
+use Rattle.properties_format.specs.Reading.Encoding.{decoded_of}
+use Rattle.properties_format.specs.Reading.Lines.{lines_of}
+use Rattle.properties_format.specs.Groups.{IsGroups, AreWhole, IsWhole, IsUnfinished, is_comment_line, lines_in, joined, first_number}
+use Rattle.properties_format.specs.Escapes.{Malformed, not_enough_digits, not_hex, invalid_character}
+use Rattle.properties_format.specs.Items.{broken}
+use Rattle.properties_format.specs.Entries.{read_fault}
+use Rattle.properties_format.specs.Reading.Items.{outcome_of}
+use Rattle.properties_format.specs.ItemsToCome.{ReaderState, start}
+use Rattle.properties_format.specs.Reading.ItemsToCome.{last_to_come}
+use Rattle.properties_format.specs.MalformedEscapes.{escapes_from}
+use Rattle.properties_format.specs.Reading.MalformedEscapes.{escapes_in, malformed_escapes_of}
+use Rattle.properties_format.proofs.ItemsToCome.Lines.{natural-done}
+use Rattle.properties_format.proofs.MalformedEscapes.{malformed_escapes_of-meets, malformed_escapes_of-only, escapes_in-groups, escapes_in-push, natural-start, fault-last, cut-line}
+use Rattle.properties_lines.specs.LineReader.{Passes}
+use Rattle.properties_lines.specs.LineJoiner.{Joiner, JoinsNext, JoinsError, JoinsFault}
+use Rattle.properties_lines.specs.declared.error.LineError.{LineError}
+use Rattle.properties_lines.proofs.LineJoiner.{passes-start, passes-on, some-come, all-on}
+use Rattle.properties_text.specs.Escaping.{malformed_in}
+use Rattle.properties_text.specs.declared.escape.Malformed as escape
+use Rattle.properties_text.specs.declared.escape.UnescapeError.TheVariants as unescape
+use Rattle.java_properties.specs.Errors.{IsBareError, SaysLineError, malformed_kind, malformed_cause}
+use Rattle.java_properties.specs.GivenItems.{IsNoItem}
+use Rattle.java_properties.specs.LentItems.{FindsIn}
+use Rattle.java_properties.specs.declared.iter.found.Found as code
+use Rattle.java_properties.specs.MalformedEscapes.{told_escape, told_escapes, FindsAll, FailsToFind, StopsFinding, PushesMalformed}
+use Rattle.java_properties.specs.declared.error.ErrorKind.TheVariants as kind
+use Rattle.java_properties.specs.declared.error.PropertiesError.{PropertiesError}
+use Rattle.java_properties.specs.declared.iter.malformed.MalformedEscape.{MalformedEscape}
+use Rattle.java_properties.proofs.Items.{found-item}
+use Rattle.java_properties.proofs.Told.{tell-all}
+
+-- ---- groups
+
+lines_in-push : (gs : List (List Line)) (g : List Line) → lines_in (gs ++ g ∷ []) ≡ lines_in gs ++ g
+lines_in-push [] g = append-nil g
+lines_in-push (h ∷ gs) g = ap (λ v. h ++ v) (lines_in-push gs g) ∙ sym (append_assoc h (lines_in gs) g)
+
+are_whole-push : (gs : List (List Line)) (g : List Line) → AreWhole gs → IsWhole g → AreWhole (gs ++ g ∷ [])
+are_whole-push [] g h k = (k, tt)
+are_whole-push (f ∷ gs) g h k = (h.0, are_whole-push gs g h.1 k)
+
+whole-groups : (gs : List (List Line)) → AreWhole gs → IsGroups (lines_in gs) end gs
+whole-groups gs h = record {
+  whole = gs;
+  unfinished = [];
+  are_lines = sym (append-nil (lines_in gs));
+  are_whole = h;
+  is_unfinished = tt;
+  are_groups = sym (append-nil gs);
+}
+
+last-groups : (gs : List (List Line)) (l : Line) (ls : List Line) → AreWhole gs → IsUnfinished (l ∷ ls) → IsGroups (lines_in (gs ++ (l ∷ ls) ∷ [])) end (gs ++ (l ∷ ls) ∷ [])
+last-groups gs l ls h k = record {
+  whole = gs;
+  unfinished = l ∷ ls;
+  are_lines = lines_in-push gs (l ∷ ls);
+  are_whole = h;
+  is_unfinished = k;
+  are_groups = refl;
+}
+
+whole-next : (gs : List (List Line)) (g : List Line) (new : ReaderState) → AreWhole gs → new.is_done ≡ false
+    → IsWhole g ⊎ (new.is_done ≡ true) × IsUnfinished g → AreWhole (gs ++ g ∷ [])
+whole-next gs g new h d (inl w) = are_whole-push gs g h w
+whole-next gs g new h d (inr u) = let k = u.0 in absurd (cc)
+
+groups-next : (gs : List (List Line)) (l : Line) (ls : List Line) (new : ReaderState) → AreWhole gs
+    → IsWhole (l ∷ ls) ⊎ (new.is_done ≡ true) × IsUnfinished (l ∷ ls) → IsGroups (lines_in (gs ++ (l ∷ ls) ∷ [])) end (gs ++ (l ∷ ls) ∷ [])
+groups-next gs l ls new h (inl w) = whole-groups (gs ++ (l ∷ ls) ∷ []) (are_whole-push gs (l ∷ ls) h w)
+groups-next gs l ls new h (inr u) = last-groups gs l ls h u.1
+
+-- what one group more adds
+pub found-push : (gs : List (List Line)) (g : List Line) (number : ℕ) (x : List ℕ) (old new : List MalformedEscape) → old ≡ told_escapes (escapes_in gs)
+    → number ≡ first_number g → x ≡ joined g → new ≡ old ++ told_escapes (escapes_from number x (outcome_of x) [])
+    → new ≡ told_escapes (escapes_in (gs ++ g ∷ []))
+found-push gs g number x old new h i j k =
+    k
+    ∙ ap₂ (λ v w. v ++ told_escapes w) h (ap₂ (λ v w. escapes_from v w (outcome_of w) []) i j)
+    ∙ sym (ap told_escapes (escapes_in-push gs g) ∙ map-append told_escape (escapes_in gs) (escapes_from (first_number g) (joined g) (outcome_of (joined g)) []))
+
+-- ---- a logical line
+
+not_memory : (k : Malformed) → malformed_kind k ≡ kind.Memory → ⊥
+not_memory not_enough_digits h = cc
+not_memory not_hex h = cc
+not_memory invalid_character h = cc
+
+none-in : (line : List ℕ) (number : ℕ) (found : Option code.Found) → FindsIn line number (Ok found)
+    → escapes_from number (chars line) (outcome_of (chars line)) [] ≡ []
+none-in line number None h = ap (λ v. escapes_from number (chars line) v []) h
+none-in line number (Some f) h = ap (λ v. escapes_from number (chars line) v []) (found-item line f h.1)
+
+-- It has none.
+pub pushes-none : {Z : Type 0} (line : List ℕ) (number : ℕ) (found : Option code.Found) (old : Vec MalformedEscape Z) → FindsIn line number (Ok found)
+    → PushesMalformed number (chars line) old (Ok tt) old
+pushes-none line number found old h = sym (ap (λ v. old.items ++ told_escapes v) (none-in line number found h) ∙ append-nil old.items)
+
+broken-in : (line : List ℕ) (number : ℕ) (how : escape.Malformed) → FindsIn line number (Err (unescape.Malformed how))
+    → (k : Malformed) × (outcome_of (chars line) ≡ broken k) × (malformed_kind (malformed_in how) ≡ malformed_kind k)
+broken-in line number how h =
+    let k = malformed_in how in
+    by-reason (h number (record { kind = malformed_kind k; line_number = Some number; cause = malformed_cause k; refused = None })
+    (record { its_kind = refl; its_line = refl; its_cause = refl; its_text = refl }))
+  where
+    by-reason : IsNoItem number (chars line) (record { kind = malformed_kind (malformed_in how); line_number = Some number; cause = malformed_cause (malformed_in how); refused = None })
+        → (k : Malformed) × (outcome_of (chars line) ≡ broken k) × (malformed_kind (malformed_in how) ≡ malformed_kind k)
+    by-reason (inl (k, o, is)) = (k, o, is.its_kind)
+    by-reason (inr is) = absurd (not_memory (malformed_in how) is.its_kind)
+
+-- It has this one.
+pub pushes-one : {Z : Type 0} (line : List ℕ) (number : ℕ) (how : escape.Malformed) (old new : Vec MalformedEscape Z)
+    → FindsIn line number (Err (unescape.Malformed how))
+    → new.items ≡ old.items ++ record { line_number = number; kind = malformed_kind (malformed_in how); in_comment = is_comment_line (chars line) } ∷ []
+    → PushesMalformed number (chars line) old (Ok tt) new
+pushes-one line number how old new h k =
+    let b = broken-in line number how h in
+    k
+    ∙ ap (λ v. old.items ++ record { line_number = number; kind = v; in_comment = is_comment_line (chars line) } ∷ []) b.2
+    ∙ sym (ap (λ v. old.items ++ told_escapes (escapes_from number (chars line) v [])) b.1)
+
+-- ---- the reading
+
+-- These groups came, and no others of what was read.
+pub record Collected {R : Type 0} (reader : Reader R) (e : Encoding) (from : R) (groups : List (List Line)) (state : ReaderState) (to : R) : Type 0 where
+  pub bytes : List ℕ
+  pub read : HasRead reader from bytes to
+  pub passes : Passes (start e) bytes (lines_in groups) state
+  pub whole : state.is_done ≡ false → AreWhole groups
+  pub grouped : IsGroups (lines_in groups) end groups
+  pub ended : state.is_done ≡ true → reader.at_end to ≡ true
+
+-- and these escapes were found in them
+pub record Found {R : Type 0} (reader : Reader R) (e : Encoding) (from : R) (found : List MalformedEscape) (state : ReaderState) (to : R) : Type 0 where
+  pub groups : List (List Line)
+  pub collected : Collected reader e from groups state to
+  pub escapes : found ≡ told_escapes (escapes_in groups)
+
+module _ {R : Type 0} {reader : Reader R} where
+  collected-start : (e : Encoding) (from : R) → Collected reader e from [] (start e) from
+  collected-start e from = record {
+    bytes = [];
+    read = read-none from;
+    passes = passes-start (start e);
+    whole = λ d. tt;
+    grouped = whole-groups [] tt;
+    ended = λ d. absurd (cc);
+  }
+
+  pub found-start : (e : Encoding) (from : R) (found : List MalformedEscape) (state : ReaderState) → found ≡ [] → state ≡ start e → Found reader e from found state from
+  found-start e from found state h k = rw (h, k) (record { groups = []; collected = collected-start e from; escapes = refl })
+
+  -- one group more came
+  collected-next : {e : Encoding} {from to next : R} {gs : List (List Line)} {s : ReaderState} (number : ℕ) (new : Joiner) → Collected reader e from gs s to
+      → (n : JoinsNext reader s to number new next) → Collected reader e from (gs ++ (n.group.first ∷ n.group.others) ∷ []) new.state next
+  collected-next {e} {gs = gs} number new h n =
+      let group = n.group.first ∷ n.group.others in
+      let P : List Line → Type 0 = λ v. Passes (start e) (h.bytes ++ n.bytes) v new.state in
+      record {
+        bytes = h.bytes ++ n.bytes;
+        read = read-more h.read n.read;
+        passes = subst P (sym (lines_in-push gs group)) (passes-on h.passes n.live n.group.passes);
+        whole = λ d. whole-next gs group new.state (h.whole n.live) d n.group.ends;
+        grouped = groups-next gs n.group.first n.group.others new.state (h.whole n.live) n.group.ends;
+        ended = n.ended;
+      }
+
+  pub found-next : {e : Encoding} {from to next : R} {old : List MalformedEscape} {s : ReaderState} (number : ℕ) (new : Joiner) (found : List MalformedEscape)
+      → Found reader e from old s to → (n : JoinsNext reader s to number new next)
+      → found ≡ old ++ told_escapes (escapes_from number (chars new.line) (outcome_of (chars new.line)) []) → Found reader e from found new.state next
+  found-next {old = old} number new found h n k = record {
+    groups = h.groups ++ (n.group.first ∷ n.group.others) ∷ [];
+    collected = collected-next number new h.collected n;
+    escapes = found-push h.groups (n.group.first ∷ n.group.others) number (chars new.line) old found h.escapes n.group.number n.group.text k;
+  }
+
+  -- no more came
+  pub found-all : {e : Encoding} {from to next : R} {found : List MalformedEscape} {s : ReaderState} → Found reader e from found s to → s.is_done ≡ true → next ≡ to
+      → FindsAll reader e from found next
+  found-all {e} {from} {to} {found = found} {s} h d same = rw same (by-passes h.collected.passes)
+    where
+      by-passes : Passes (start e) h.collected.bytes (lines_in h.groups) s → FindsAll reader e from found to
+      by-passes (Passes.going_on g reads) = absurd (cc)
+      by-passes (Passes.at_last g gives) =
+          let bytes = h.collected.bytes in
+          let lines : numbered_lines (lines_of (decoded_of e bytes)) end ≡ lines_in h.groups =
+          sym (natural-start e bytes end) ∙ gives.natural ∙ ap (λ v. lines_in h.groups ++ v) (natural-done s [] end d).0 ∙ append-nil (lines_in h.groups) in
+          let P : List Line → Type 0 = λ v. IsGroups v end h.groups in
+          record {
+            bytes = bytes;
+            escapes = malformed_escapes_of e bytes;
+            read = h.collected.read;
+            ended = h.collected.ended d;
+            are = malformed_escapes_of-meets e bytes;
+            only = malformed_escapes_of-only e bytes;
+            is = h.escapes ∙ ap told_escapes (escapes_in-groups e bytes h.groups (subst P (sym lines) h.collected.grouped));
+          }
+
+  -- a read failed
+  found-fault : {e : Encoding} {from to next : R} {found : List MalformedEscape} {s : ReaderState} {why : LineError} {error : PropertiesError}
+      → Found reader e from found s to → s.is_done ≡ false → JoinsFault reader s to why next → SaysLineError why error → FailsToFind reader e from error next
+  found-fault {e} {s = s} {error = error} h live f says =
+      let S : LineError → Type 0 = λ v. SaysLineError v error in
+      record {
+        bytes = h.collected.bytes ++ f.bytes;
+        cause = f.error;
+        number = f.number;
+        failed = failed-more h.collected.read f.failed;
+        is = subst S f.is says;
+        cut = cut-line e (h.collected.bytes ++ f.bytes) f.number (by-passes h.collected.passes);
+      }
+    where
+      by-passes : Passes (start e) h.collected.bytes (lines_in h.groups) s → last_to_come (start e) (h.collected.bytes ++ f.bytes) fault ≡ read_fault f.number ∷ []
+      by-passes (Passes.going_on g reads) = (reads.gives f.bytes fault).last ∙ fault-last s f.bytes f.number f.items
+      by-passes (Passes.at_last g gives) = absurd (cc)
+
+  -- no line came
+  pub found-error : {e : Encoding} {from to next : R} {found : List MalformedEscape} {s t : ReaderState} {why : LineError} {error : PropertiesError}
+      → Found reader e from found s to → s.is_done ≡ false → JoinsError reader s to why t next → SaysLineError why error
+      → FailsToFind reader e from error next ⊎ StopsFinding reader e from error next
+  found-error h live (inl f) says = inl (found-fault h live f says)
+  found-error {error = error} h live (inr (inl f)) says =
+      let S : LineError → Type 0 = λ v. SaysLineError v error in
+      inr (record {
+        bytes = h.collected.bytes ++ f.bytes;
+        read = read-more h.collected.read f.read;
+        is = inl (subst S f.is says, tell-all (all-on (some-come h.collected.passes live) f.passes));
+      })
+  found-error {error = error} h live (inr (inr f)) says =
+      let S : LineError → Type 0 = λ v. SaysLineError v error in
+      inr (record { bytes = h.collected.bytes ++ f.bytes; read = read-more h.collected.read f.read; is = inr (subst S f.is says) })
+
+  -- there was no memory for an escape
+  pub found-lost : {e : Encoding} {from to next : R} {found : List MalformedEscape} {s : ReaderState} {error : PropertiesError} (number : ℕ) (new : Joiner)
+      → Found reader e from found s to → JoinsNext reader s to number new next → IsBareError kind.Memory error → StopsFinding reader e from error next
+  found-lost number new h n is = record { bytes = h.collected.bytes ++ n.bytes; read = read-more h.collected.read n.read; is = inr is }

@@ -1,0 +1,166 @@
+-- A source whose reader failed, read again up to that fault.
+use Rattle.std.proofs.Common.{◌≡◌, ℕ, false, List, [], ◌∷◌, ◌++◌, refl, sym, ap, ◌∙◌, inl, inr, subst, append_assoc, append-nil}
+use Rattle.std.specs.Prelude.{if◌then◌else◌, Option, Some, None, Err, IfErr}
+use Rattle.std.specs.declared.io.Error.{Error}
+use Rattle.std.specs.Io.KnownBytes.{Consumes, Keeps}
+use Rattle.counted_io.specs.Faults.{HasRisen}
+use Rattle.counted_io.specs.Streams.{Reader, HasRead, HasFailed}
+use Rattle.counted_io.proofs.Streams.{read-more, failed-more}
+use Rattle.properties_format.specs.Encoding.{Encoding, InForce, IsPieces, byte_order_mark}
+use Rattle.properties_format.specs.Escapes.{Malformed, not_enough_digits, not_hex, invalid_character}
+use Rattle.properties_format.specs.Entries.{Entry, malformed, read_fault}
+use Rattle.properties_format.specs.Lines as format
+use Rattle.properties_format.specs.Lines.{InputEnd, fault}
+use Rattle.properties_format.specs.ItemsToCome.{ReaderState, start, in_force, AreLinesToCome}
+use Rattle.java_properties.specs.Errors.{cause_of, cause_by, IsError, IsMalformed}
+use Rattle.java_properties.specs.PropertiesIter.{PassesAll}
+use Rattle.java_properties.specs.ReadLines.{IsReading, StopsMalformed, StopsFailed, StopsEarly, StopsReading}
+use Rattle.java_properties.specs.WholeSources.{FailsInRead}
+use Rattle.java_properties.specs.declared.error.Cause.{Cause}
+use Rattle.java_properties.specs.declared.error.ErrorKind.{ErrorKind}
+use Rattle.java_properties.specs.declared.error.PropertiesError.{PropertiesError}
+
+keeps-consumes : (a b : Option (List ℕ)) → Keeps a b → Consumes a b []
+keeps-consumes None b h = tt
+keeps-consumes (Some xs) None h = absurd h
+keeps-consumes (Some xs) (Some ys) h = sym h
+
+module _ {R : Type 0} {reader : Reader R} {from place to : R} {bytes : List ℕ} where
+  -- a read that gave bytes, after others
+  pub read-on : (part : List ℕ) → HasRead reader from bytes place → Consumes (reader.remaining place) (reader.remaining to) part → reader.faults to ≡ reader.faults place
+      → HasRead reader from (bytes ++ part) to
+  read-on part h moved same = read-more h (record { moved = moved; faultless = same })
+
+-- a read that failed
+pub fails-here : {R : Type 0} {reader : Reader R} {place to : R} (source : Error) → Keeps (reader.remaining place) (reader.remaining to)
+    → HasRisen (reader.faults place) (reader.faults to) → reader.read_gives place (Err source) to → HasFailed reader place [] source to
+fails-here {place = place} source kept risen given = record { moved = keeps-consumes _ _ kept; risen = risen; given = (place, given) }
+
+-- ---- errors by another cause
+
+abbrev pub caused_by : Error → PropertiesError → PropertiesError
+caused_by source error = record error { cause = cause_by source (cause_of error) }
+
+error-by : {kind : ErrorKind} {line : Option ℕ} {cause : Cause} {error : PropertiesError} (source : Error) → IsError kind line cause error
+    → IsError kind line (cause_by source cause) (caused_by source error)
+error-by source h = record { its_kind = h.its_kind; its_line = h.its_line; its_cause = ap (cause_by source) h.its_cause; its_text = h.its_text }
+
+malformed-by : {error : PropertiesError} {line : ℕ} (source : Error) (how : Malformed) → IsMalformed how line error → IsMalformed how line (caused_by source error)
+malformed-by source not_enough_digits h = error-by source h
+malformed-by source not_hex h = error-by source h
+malformed-by source invalid_character h = error-by source h
+
+-- ---- more bytes that are held
+
+in_force-more : (s : ReaderState) (q d : List ℕ) → in_force (record s { held = s.held ++ q }) d ≡ in_force s (q ++ d)
+in_force-more s q d =
+    let F : List ℕ → InForce = λ v. if s.is_decided then record { encoding = s.encoding; body = v } else byte_order_mark s.encoding v in
+    ap F (append_assoc s.held q d)
+
+lines-more : (s : ReaderState) (q d : List ℕ) (ending : InputEnd) (further : List format.Line) (last : List Entry)
+    → AreLinesToCome (record s { held = s.held ++ q }) d ending further last → AreLinesToCome s (q ++ d) ending further last
+lines-more s q d ending further last (inl k) = inl k
+lines-more s q d ending further last (inr k) = inr (
+  k.0,
+  record {
+    pieces = k.1.pieces;
+    text = k.1.text;
+    all = k.1.all;
+    are_pieces = let P : InForce → Type 0 = λ v. IsPieces v.encoding v.body k.1.pieces in subst P (in_force-more s q d) k.1.are_pieces;
+    after_end = k.1.after_end;
+    divided = k.1.divided;
+    are_lines = k.1.are_lines;
+    are_last = k.1.are_last;
+  },
+)
+
+all-more : {s : ReaderState} {p : List ℕ} (q : List ℕ) → PassesAll s p → PassesAll s (p ++ q)
+all-more {s} {p} q h = record {
+  last = record h.last { held = h.last.held ++ q };
+  passes = record {
+    lines = h.passes.lines;
+    first = record {
+      others = λ d ending further last k. let P : List ℕ → Type 0 = λ v. AreLinesToCome s v ending (h.passes.lines ++ further) last in
+          subst P (sym (append_assoc p q d)) (h.passes.first.others (q ++ d) ending further last (lines-more h.last q d ending further last k));
+    };
+  };
+  passed = h.passed;
+}
+
+-- ---- reading again
+
+-- a reader that has these bytes left and then fails, each time
+module _ {B : Type 0} (left : B → List ℕ) (faults : B → ℕ) (identity : B → List ℕ) where
+  abbrev pub broken : Reader B
+  broken = record {
+    remaining = λ b. Some (left b);
+    faults = faults;
+    at_end = λ b. false;
+    identity = identity;
+    read_gives = λ b answer c. IfErr answer (λ error. left c ≡ []);
+  }
+
+  divided : (b c : B) (bytes p d : List ℕ) → left b ≡ bytes → left b ≡ p ++ left c → p ++ (left c ++ d) ≡ bytes ++ d
+  divided b c bytes p d whole moved = sym (append_assoc p (left c) d) ∙ ap (λ v. v ++ d) (sym moved ∙ whole)
+
+  module _ {R : Type 0} {reader : Reader R} {e : Encoding} {from place to : R} {source : Error} {error : PropertiesError} {entries : List Entry} {bytes : List ℕ} (b c : B)
+      (whole : left b ≡ bytes) (read : HasRead reader from bytes place) (failed : HasFailed reader place [] source to) where
+    again-malformed : StopsMalformed broken e b entries error c → StopsMalformed reader e from entries (caused_by source error) place
+    again-malformed h = record {
+      bytes = bytes;
+      number = h.number;
+      how = h.how;
+      read = read;
+      is = malformed-by source h.how h.is;
+      reading = elim h.reading [
+        | inl k ↦ inl (λ d ending. let P : List ℕ → Type 0 = λ v. IsReading e v ending (entries ++ (malformed h.how h.number ∷ [])) in
+            subst P (divided b c bytes h.bytes d whole h.read.moved) (k (left c ++ d) ending))
+        | inr k ↦ let never = k.0 in absurd (cc)
+      ];
+    }
+
+    again-failed : StopsFailed broken e b entries error c → StopsFailed reader e from entries (caused_by source error) to
+    again-failed h =
+        let all : h.bytes ≡ bytes = sym (append-nil h.bytes) ∙ ap (λ v. h.bytes ++ v) (sym h.failed.given.1) ∙ sym h.failed.moved ∙ whole in
+        let P : List ℕ → Type 0 = λ v. IsReading e v fault (entries ++ (read_fault h.number ∷ [])) in
+        let Q : List ℕ → Type 0 = λ v. HasFailed reader from v source to in
+        record {
+          bytes = bytes;
+          cause = source;
+          number = h.number;
+          failed = subst Q (append-nil bytes) (failed-more read failed);
+          is = error-by source h.is;
+          reading = subst P all h.reading;
+        }
+
+    again-early : StopsEarly broken e b entries error c → StopsEarly reader e from entries (caused_by source error) place
+    again-early h =
+        let P : List ℕ → Type 0 = λ v. PassesAll (start e) v in
+        record {
+          bytes = bytes;
+          read = read;
+          is = elim h.is [
+            | inl k ↦ inl (error-by source k.0, subst P (sym h.read.moved ∙ whole) (all-more (left c) k.1))
+            | inr k ↦ inr (error-by source k)
+          ];
+          begins = elim h.begins [
+            | inl k ↦ inl (λ d ending. let began = k (left c ++ d) ending in
+                let Q : List ℕ → Type 0 = λ v. IsReading e v ending (entries ++ began.0) in (began.0, subst Q (divided b c bytes h.bytes d whole h.read.moved) began.1))
+            | inr k ↦ let never = k.0 in absurd (cc)
+          ];
+        }
+
+  -- The error of the items of these bytes, up to a fault after them, is that of the fault.
+  pub fails-in-read : {R : Type 0} {reader : Reader R} {e : Encoding} {from place to : R} {source : Error} {error : PropertiesError} {bytes : List ℕ} (b c : B)
+      → left b ≡ bytes → HasRead reader from bytes place → HasFailed reader place [] source to → StopsReading broken e b error c
+      → FailsInRead reader e from (caused_by source error) to
+  fails-in-read {reader = reader} {from = from} {place = place} {to = to} {source = source} {bytes = bytes} b c whole read failed h =
+      let Q : List ℕ → Type 0 = λ v. HasFailed reader from v source to in
+      let all = subst Q (append-nil bytes) (failed-more read failed) in
+      elim h.stops [
+        | inl k ↦ record { bytes = bytes; cause = source; failed = all; place = place; stops = record { lines = h.lines; stops = inl (again-malformed b c whole read failed k) }; before = inr failed }
+        | inr j ↦ elim j [
+          | inl k ↦ record { bytes = bytes; cause = source; failed = all; place = to; stops = record { lines = h.lines; stops = inr (inl (again-failed b c whole read failed k)) }; before = inl refl }
+          | inr k ↦ record { bytes = bytes; cause = source; failed = all; place = place; stops = record { lines = h.lines; stops = inr (inr (again-early b c whole read failed k)) }; before = inr failed }
+        ]
+      ]

@@ -1,0 +1,154 @@
+// Sources that come from a reader, and go to a sink.
+
+ghost use Rattle.std.specs.Prelude.{◌≡◌, ◌<◌, [], length, false, Some, IfErr, IfOk};
+ghost use Rattle.std.specs.Io.{ReadsAtMost};
+ghost use Rattle.std.specs.Io.KnownBytes.{ReadConsumes};
+ghost use Rattle.counted_io.specs.Faults.{CountsFault, ShowsEnd};
+ghost use Rattle.counted_io.specs.Streams.{IsSameReader, IsSameSink};
+ghost use Rattle.properties_text.specs.Encoding.{encoding_of};
+ghost use Rattle.java_properties.specs.WholeSources.{PassesItems, ReadsSource, WritesSource};
+
+use crate::error::PropertiesError;
+use crate::iter::items::ItemReader;
+use counted_io::{CountedRead, CountedWrite, send};
+use properties_text::encoding::Encoding;
+use std::alloc::{AllocError, Global};
+use std::io::{self, ErrorKind, Read};
+
+// How many bytes are read at once, at most.
+const BLOCK: usize = 1 << 16;
+
+/// All that a reader gives to its end: the source of an edit.
+///
+/// Where a read fails, the error is the one that reading the items of this input would return: that of a malformed escape
+/// before the fault, or else the fault, under the number of its line. The encoding is used for that alone.
+///
+/// ```text
+/// let source = read_source(alloc, &mut input, Encoding::UTF_8)?;
+/// let edited = set_key(alloc, &source, Encoding::UTF_8, "port", "8080")?;
+/// write_source(&mut output, &edited)?;
+/// ```
+pub fn read_source<R: CountedRead>(
+    alloc: Global,
+    reader: &mut R,
+    encoding: Encoding,
+) -> Result<Vec<u8>, PropertiesError>
+    ensures reads { ReadsSource R.CountedRead (encoding_of encoding) reader.old result reader.new }
+    ensures same_reader { IsSameReader R.CountedRead reader.old reader.new }
+{
+    let mut block = cleared(alloc, BLOCK)?;
+    read_through(alloc, reader, encoding, &mut block)
+}
+
+fn cleared(alloc: Global, size: usize) -> Result<Vec<u8>, AllocError>
+    ensures { IfOk result (λ block. length block.items ≡ size) }
+{
+    vec![in alloc; 0; size]
+}
+
+// The same, by way of a block.
+fn read_through<R: CountedRead>(
+    alloc: Global,
+    reader: &mut R,
+    encoding: Encoding,
+    block: &mut [u8],
+) -> Result<Vec<u8>, PropertiesError>
+    requires { 0 < length block.old }
+    ensures reads { ReadsSource R.CountedRead (encoding_of encoding) reader.old result reader.new }
+    ensures same_reader { IsSameReader R.CountedRead reader.old reader.new }
+{
+    let mut bytes = Vec::new(alloc);
+    loop {
+        match reader.read_counted(block) {
+            Ok(0) => return Ok(bytes),
+            Ok(count) => bytes.extend_from_slice(&block[..count])?,
+            Err(fault) => {
+                let mut broken = Broken {
+                    left: &bytes,
+                    faults: 0,
+                };
+                return match pass_items(alloc, &mut broken, encoding) {
+                    Ok(()) => unreachable!(),
+                    Err(error) => Err(error.caused_by(fault)),
+                };
+            }
+        }
+    }
+}
+
+// Reads all items, and drops them.
+fn pass_items<R: CountedRead>(
+    alloc: Global,
+    reader: &mut R,
+    encoding: Encoding,
+) -> Result<(), PropertiesError>
+    ensures { PassesItems R.CountedRead (encoding_of encoding) reader.old result reader.new }
+{
+    let mut items = ItemReader::new(alloc, encoding);
+    while let Some(item) = items.next_item(reader) {
+        let line = item?;
+        drop(line);
+    }
+    Ok(())
+}
+
+// A reader that fails after some bytes, each time.
+#[derive(Drop)]
+struct Broken<'a> {
+    left: &'a [u8],
+    faults: usize,
+}
+
+impl Read for Broken<'_> {
+    ghost remaining = { λ r. Some r.left.now };
+
+    fn read(&mut self, buf: &mut [u8]) -> io::Result<usize>
+        ensures bound { ReadsAtMost result buf.new }
+        ensures bytes { ReadConsumes (Some self.old.left.now) (Some self.new.left.now)
+            result buf.new }
+        ensures faults { CountsFault self.old.faults self.new.faults result }
+        ensures ended { ShowsEnd false result buf.new }
+        ensures spent { IfErr result (λ _. self.new.left.now ≡ []) }
+    {
+        if self.left.is_empty() {
+            self.faults = self.faults.saturating_add(1);
+            return Err(io::Error::from(ErrorKind::Other));
+        }
+        self.left.read(buf)
+    }
+}
+
+impl CountedRead for Broken<'_> {
+    ghost faults = { λ r. r.faults };
+
+    ghost at_end = { λ _. false };
+
+    ghost read_gives = { λ _ answer r. IfErr answer (λ _. r.left.now ≡ []) };
+
+    fn read_counted(&mut self, buf: &mut [u8]) -> io::Result<usize> {
+        self.read(buf)
+    }
+}
+
+/// Writes all the bytes, and flushes the sink.
+///
+/// The errors are those of a [`PropertiesWriter`](crate::PropertiesWriter), without a line: where a write fails, the sink has a
+/// proper prefix of the bytes.
+///
+/// ```text
+/// let mut output = Counted::new(Vec::new(alloc));
+/// write_source(&mut output, b"port=8080\n")?;
+/// ```
+pub fn write_source<W: CountedWrite>(writer: &mut W, bytes: &[u8]) -> Result<(), PropertiesError>
+    ensures writes { WritesSource W.CountedWrite writer.old bytes.now result writer.new }
+    ensures same_sink { IsSameSink W.CountedWrite writer.old writer.new }
+{
+    if let Err(fault) = send(writer, bytes) {
+        return Err(PropertiesError::write_fault(None, fault));
+    }
+    writer.flush_counted()?;
+    Ok(())
+}
+
+#[cfg(test)]
+mod tests;

@@ -1,0 +1,277 @@
+-- The groups of a body with a value set: what they come to, and that setting another value gives what it gives on the body itself.
+use Rattle.std.proofs.Common.{◌≡◌, ◌≢◌, ℕ, true, false, List, [], ◌∷◌, ◌++◌, Option, Some, None, refl, ap, ap₂, sym, ◌∙◌, inl, inr, append_assoc, append-nil, subst}
+use Rattle.std.specs.Prelude.{All}
+use Rattle.std.proofs.lemmas.Bool.{cases_Bool, cond-true, cond-false}
+use Rattle.properties_format.specs.Text.{scalar, LineEnding, lf, line_ending_text}
+use Rattle.properties_format.specs.Encoding.{Encoding}
+use Rattle.properties_format.specs.Lines.{Ended}
+use Rattle.properties_format.specs.Groups.{IsWhole, joined}
+use Rattle.properties_format.specs.Entries.{Content, pair}
+use Rattle.properties_format.specs.Items.{given}
+use Rattle.properties_format.specs.Printing.{encoded_text, spelt_key}
+use Rattle.properties_format.specs.Writing.{is_empty}
+use Rattle.properties_format.specs.Reading.Settings.{is_blanks}
+use Rattle.properties_format.specs.Body.{HeldLine, as_lines, as_groups, held_in, AreGroupsOf, group_bytes, groups_bytes, ending_bytes, last_ending, HasKey, NoneHasKey}
+use Rattle.properties_format.specs.Edited.{final_group, is_editable}
+use Rattle.properties_format.specs.Changed.{IsSetIn}
+use Rattle.properties_format.specs.Valued.{spelt_value, value_text, HasPair, IsThere, IsRevalued, ending_among, ending_in, parted_by, IsBodyValued}
+use Rattle.properties_format.specs.Reading.Edited.{KeyPlace, last_place}
+use Rattle.properties_format.specs.Reading.Valued.{last_between, separator_by, has_value, revalued_at, added_at, valued_at}
+use Rattle.properties_format.proofs.Items.Unique.{outcome_of-only}
+use Rattle.properties_format.proofs.Printing.Characters.{encoded_text-append}
+use Rattle.properties_format.proofs.Body.Decoded.{decoded-nil}
+use Rattle.properties_format.proofs.Body.Groups.{IsLastFit, AreFit, group_bytes-append, groups_bytes-append}
+use Rattle.properties_format.proofs.Edited.Told.{told_before, told_by, givens}
+use Rattle.properties_format.proofs.Edited.Contents.{told_by-append, givens-append, givens-parted, key-outcome, none-hold}
+use Rattle.properties_format.proofs.Edited.Made.{last_place-none, last_place-some}
+use Rattle.properties_format.proofs.Valued.Fronts.{front_of-only}
+use Rattle.properties_format.proofs.Valued.Made.{group-decoded, has_value-true, new_separator-meets, valued-only}
+use Rattle.properties_format.proofs.Valued.Lined.{AreLined, groups-lined, lined-groups, lines-join, held_of-append, held_in-append}
+use Rattle.properties_format.proofs.Valued.Lined.{fit-join, fit-parts, fit-first, changed-lined, plain-lines, group-plain}
+use Rattle.properties_format.proofs.Valued.Revalued.{between_after, value_after, missing}
+use Rattle.properties_format.proofs.Valued.Pair.{after-bytes, new_bytes, new_line, changed-pair}
+use Rattle.properties_format.proofs.Valued.Separators.{added_bytes, added_line, added-pair, new_separator-fit}
+use Rattle.properties_format.proofs.Valued.Added.{empty_line, told-empty, closed-groups}
+
+-- ---- what they come to
+
+-- contents to which these groups come
+abbrev pub AreTold : List (List HeldLine) → (List Content → Type 0) → Type 0
+AreTold gs Such = (new : List Content) × Such new × (told_by (as_groups gs) ≡ givens new)
+
+-- where the last pair with a key has a value, or gets it, the contents are those with the key set to it
+pub pair-told : (before : List (List HeldLine)) (g h : List HeldLine) (after : List (List HeldLine)) (key value : List ℕ) (old : List Content)
+    → HasKey key g → NoneHasKey key after → HasPair key value h → told_by (as_groups (before ++ g ∷ after)) ≡ givens old
+    → AreTold (before ++ h ∷ after) (IsSetIn key value old)
+pair-told before g h after key value old k n p t =
+    let a = key-outcome key g k in
+    let s : told_by (as_groups before) ++ given (pair key a.0) ∷ told_by (as_groups after) ≡ givens old =
+    ap (λ w. told_by (as_groups before) ++ told_before w (told_by (as_groups after))) (sym a.1) ∙ sym (told_by-append before (g ∷ after)) ∙ t in
+    let m = givens-parted (told_by (as_groups before)) (given (pair key a.0) ∷ told_by (as_groups after)) old s in
+    of_back m.front m.back a.0 m.whole m.front_told m.back_told
+  where
+    of_back : (front back : List Content) (old_value : List ℕ) → old ≡ front ++ back → told_by (as_groups before) ≡ givens front
+        → given (pair key old_value) ∷ told_by (as_groups after) ≡ givens back
+        → AreTold (before ++ h ∷ after) (IsSetIn key value old)
+    of_back front [] old_value w ft bt = absurd (cc)
+    of_back front (c ∷ back) old_value w ft bt =
+        let x : pair key old_value ≡ c = cc in
+        let q : told_by (as_groups after) ≡ givens back = cc in (
+          front ++ pair key value ∷ back,
+          inl (record {
+            before = front;
+            old_value = old_value;
+            after = back;
+            was = w ∙ ap (λ y. front ++ y ∷ back) (sym x);
+            no_later = none-hold key after back n q;
+            now = refl;
+          }),
+          told_by-append before (h ∷ after)
+              ∙ ap₂ (λ y z. y ++ told_before z (told_by (as_groups after))) ft (sym (outcome_of-only (joined (as_lines h)) (given (pair key value)) p))
+              ∙ ap (λ y. givens front ++ given (pair key value) ∷ y) q
+              ∙ sym (givens-append front (pair key value ∷ back)),
+        )
+
+-- ---- the body with a value set
+
+-- the group in this place, where there is one, has not the value
+abbrev pub IsNotAt : List ℕ → Option KeyPlace → Type 0
+IsNotAt value None = Unit {0}
+IsNotAt value (Some p) = has_value value p.group ≡ false
+
+-- What is so of a body with a value set: its groups, what they come to, where the pair stands, and what setting another value gives.
+pub record IsValued (e : Encoding) (gs : List (List HeldLine)) (key value body : List ℕ) : Type 0 where
+  pub groups : List (List HeldLine)
+  pub held : AreGroupsOf e body groups
+  pub said : (old : List Content) → told_by (as_groups gs) ≡ givens old → AreTold groups (IsSetIn key value old)
+  pub again : (second : List ℕ) → IsNotAt second (last_place key gs) → valued_at e groups key second (last_place key groups) ≡ valued_at e gs key second (last_place key gs)
+
+-- a group that is a pair has one value
+one-value : (key value second : List ℕ) (g : List HeldLine) → HasPair key value g → has_value second g ≡ true → value ≡ second
+one-value key value second g h k =
+    let s = sym (outcome_of-only (joined (as_lines g)) (given (pair key value)) h) in
+    let t = sym (outcome_of-only (joined (as_lines g)) (given (pair key second)) (has_value-true key second g (value, h) k)) in
+    let m : given (pair key value) ≡ given (pair key second) = sym s ∙ t in
+    cc
+
+-- what setting a value gives at the place of a pair that has a value: it depends on the pair's front alone
+again-at : (e : Encoding) (groups before : List (List HeldLine)) (g : List HeldLine) (after : List (List HeldLine)) (key value second body : List ℕ)
+    → groups ≡ before ++ g ∷ after → HasPair key value g → NoneHasKey key after → groups_bytes groups ≡ body
+    → (made : List ℕ → List ℕ) → body ≡ made value
+    → revalued_at e second (record { before = before; group = g; after = after }) ≡ made second
+    → valued_at e groups key second (last_place key groups) ≡ made second
+again-at e groups before g after key value second body s h n b made m r =
+    let p : KeyPlace = record { before = before; group = g; after = after } in
+    ap (valued_at e groups key second) (ap (last_place key) s ∙ last_place-some key before g after (value, h) n)
+    ∙ (elim (cases_Bool (has_value second g)) [
+      | inl k ↦ cond-true (has_value second g) (groups_bytes groups) (revalued_at e second p) k ∙ b ∙ m ∙ ap made (one-value key value second g h k)
+      | inr k ↦ cond-false (has_value second g) (groups_bytes groups) (revalued_at e second p) k ∙ r
+    ])
+
+-- the value is there
+there-valued : (e : Encoding) (gs : List (List HeldLine)) (key value body : List ℕ) → is_editable e ≡ true → AreLined e gs → IsThere gs key value body
+    → IsValued e gs key value body
+there-valued e gs key value body ok l h = record {
+  groups = gs;
+  held = subst (λ v. AreGroupsOf e v gs) (sym h.bytes) (lined-groups e gs ok l);
+  said = λ old t.
+      subst (λ v. AreTold v (IsSetIn key value old)) (sym h.division)
+      (pair-told h.before h.group h.group h.after key value old (value, h.has_pair) h.no_later h.has_pair (ap (λ v. told_by (as_groups v)) (sym h.division) ∙ t));
+  again = λ second k. refl;
+}
+
+-- the bytes of the groups with another value
+revalued-bytes : (e : Encoding) (before : List (List HeldLine)) (kept : List HeldLine) (head between front value : List ℕ) (ending : Option LineEnding)
+    (after : List (List HeldLine)) → front ≡ group_bytes kept ++ head
+    → groups_bytes (before ++ (kept ++ new_line e head between value ending ∷ []) ∷ after)
+    ≡ groups_bytes before ++ (front ++ (encoded_text e (value_text e between value) ++ (ending_bytes ending ++ groups_bytes after)))
+revalued-bytes e before kept head between front value ending after s =
+    let x = encoded_text e (value_text e between value) in
+    let rest = ending_bytes ending ++ groups_bytes after in
+    groups_bytes-append before ((kept ++ new_line e head between value ending ∷ []) ∷ after)
+    ∙ ap (λ v. groups_bytes before ++ (v ++ groups_bytes after))
+    (group_bytes-append kept (new_line e head between value ending ∷ [])
+    ∙ ap (λ v. group_bytes kept ++ ((head ++ x) ++ v)) (append-nil (ending_bytes ending))
+    ∙ ap (λ v. group_bytes kept ++ v) (append_assoc head x (ending_bytes ending))
+    ∙ sym (append_assoc (group_bytes kept) head (x ++ ending_bytes ending))
+    ∙ ap (λ v. v ++ (x ++ ending_bytes ending)) (sym s))
+    ∙ ap (λ v. groups_bytes before ++ v) (append_assoc front (x ++ ending_bytes ending) (groups_bytes after) ∙ ap (λ v. front ++ v) (append_assoc x (ending_bytes ending) (groups_bytes after)))
+
+-- what comes after the front, where that is the old one and what is missing
+after-missing : (e : Encoding) (between value : List ℕ) → value_text e (between_after between) value ≡ value_after e between value
+after-missing e [] value = refl
+after-missing e (c ∷ cs) value = refl
+
+-- the last pair has another value
+revalued-valued : (e : Encoding) (source_body : List ℕ) (gs : List (List HeldLine)) (key value body : List ℕ) → is_editable e ≡ true → All scalar value
+    → AreGroupsOf e source_body gs → IsRevalued e gs key value body
+    → IsValued e gs key value body
+revalued-valued e source_body gs key value body ok v held r =
+    let f = r.is_front in
+    let l = groups-lined e source_body gs ok held in
+    let lined : AreLined e (r.before ++ (f.kept ++ f.line ∷ f.more) ∷ r.after) = subst (AreLined e) (r.division ∙ ap (λ w. r.before ++ w ∷ r.after) f.division) l in
+    let fit : IsLastFit r.group = fit-first r.group r.after (fit-parts r.before r.group r.after (subst AreFit r.division l.fit)).1 in
+    let line_plain = plain-lines f.kept f.line f.more (group-plain e r.before (f.kept ++ f.line ∷ f.more) r.after lined) in
+    let ending = last_ending (f.kept ++ f.line ∷ f.more) in
+    let ends : ending ≡ last_ending r.group = ap last_ending (sym f.division) in
+    let c = changed-pair e r.group key r.between r.front value ending f ok v fit line_plain r.has_key in
+    let g = f.kept ++ new_line e f.head r.between value ending ∷ [] in
+    let groups = r.before ++ g ∷ r.after in
+    let next : AreLined e groups = changed-lined e r.before f.kept f.line f.more r.after (new_bytes e f.head r.between value) lined c.plain c.some c.whole in
+    let made : List ℕ → List ℕ = λ x.
+    groups_bytes r.before ++ (r.front ++ (encoded_text e (value_text e r.between x) ++ (ending_bytes (last_ending r.group) ++ groups_bytes r.after))) in
+    let bytes : groups_bytes groups ≡ body =
+    revalued-bytes e r.before f.kept f.head r.between r.front value ending r.after f.bytes
+    ∙ ap (λ o. groups_bytes r.before ++ (r.front ++ (encoded_text e (value_text e r.between value) ++ (ending_bytes o ++ groups_bytes r.after)))) ends
+    ∙ sym r.bytes in
+    let next_held : AreGroupsOf e body groups = subst (λ w. AreGroupsOf e w groups) bytes (lined-groups e groups ok next) in
+    let old_front = front_of-only e r.group r.between r.front ok (group-decoded e source_body gs r.before r.group r.after held r.division) f in
+    let new_front = front_of-only e g (between_after r.between) (r.front ++ missing r.between) ok (group-decoded e body groups r.before g r.after next_held refl) c.is_front in
+    record {
+      groups = groups;
+      held = next_held;
+      said = λ old t. pair-told r.before r.group g r.after key value old r.has_key r.no_later c.has_pair (ap (λ w. told_by (as_groups w)) (sym r.division) ∙ t);
+      again = λ second k.
+          let place : last_place key gs ≡ Some (record { before = r.before; group = r.group; after = r.after }) =
+          ap (last_place key) r.division ∙ last_place-some key r.before r.group r.after r.has_key r.no_later in
+          let other : has_value second r.group ≡ false = subst (IsNotAt second) place k in
+          again-at e groups r.before g r.after key value second body refl c.has_pair r.no_later bytes made r.bytes
+          (ap₂ (λ x b. groups_bytes r.before ++ (x ++ (encoded_text e (value_text e b second) ++ (ending_bytes (last_ending g) ++ groups_bytes r.after)))) (sym new_front.1) (sym new_front.0)
+          ∙ ap (λ x. groups_bytes r.before ++ ((r.front ++ missing r.between) ++ (encoded_text e x ++ (ending_bytes (last_ending g) ++ groups_bytes r.after)))) (after-missing e r.between second)
+          ∙ ap (λ x. groups_bytes r.before ++ x)
+          (append_assoc r.front (missing r.between) (encoded_text e (value_after e r.between second) ++ (ending_bytes (last_ending g) ++ groups_bytes r.after))
+          ∙ ap (λ x. r.front ++ x)
+          (sym (append_assoc (missing r.between) (encoded_text e (value_after e r.between second)) (ending_bytes (last_ending g) ++ groups_bytes r.after))
+          ∙ ap₂ (λ x o. x ++ (ending_bytes o ++ groups_bytes r.after)) (sym (after-bytes e r.between second)) (last-of f.kept (new_line e f.head r.between value ending) ∙ ends))))
+          ∙ sym (ap (valued_at e gs key second) place
+          ∙ cond-false (has_value second r.group) (groups_bytes gs) (revalued_at e second (record { before = r.before; group = r.group; after = r.after })) other
+          ∙ ap₂ (λ b x. groups_bytes r.before ++ (x ++ (encoded_text e (value_text e b second) ++ (ending_bytes (last_ending r.group) ++ groups_bytes r.after)))) (sym old_front.0) (sym old_front.1));
+    }
+  where
+    last-of : (a : List HeldLine) (h : HeldLine) → last_ending (a ++ h ∷ []) ≡ h.ending
+    last-of [] h = refl
+    last-of (i ∷ []) h = refl
+    last-of (i ∷ j ∷ a) h = last-of (j ∷ a) h
+
+-- ---- a new pair
+
+-- a new pair after a front, with a text that stands between the same
+added-text : (e : Encoding) (between sep value : List ℕ) → between ≢ [] → is_blanks between ≡ is_blanks sep → value_text e between value ≡ spelt_value e (is_blanks sep) value
+added-text e [] sep value some same = absurd (some refl)
+added-text e (c ∷ cs) sep value some same = ap (λ b. spelt_value e b value) same
+
+-- no pair has the key, and a new one is added
+added-valued : (e : Encoding) (source_body : List ℕ) (gs : List (List HeldLine)) (key value body : List ℕ) → is_editable e ≡ true → All scalar key → All scalar value
+    → AreGroupsOf e source_body gs → NoneHasKey key gs → body ≡ added_at e gs key value
+    → IsValued e gs key value body
+added-valued e source_body gs key value body ok k v held none s =
+    let l = groups-lined e source_body gs ok held in
+    let m = closed-groups e gs l in
+    let closed = m.0 in
+    let c = m.1 in
+    let front = groups_bytes gs ++ parted_by (ending_in gs) (final_group gs) in
+    let first = is_empty front in
+    let sep = separator_by key (last_between gs) in
+    let by = ending_among lf (held_in gs) in
+    let p = added-pair e first key sep value by ok k v (new_separator-fit gs key sep (new_separator-meets gs key)) in
+    let line = added_line e first key sep value by in
+    let g = line ∷ [] in
+    let z = empty_line e None ∷ [] in
+    let groups = closed ++ g ∷ z ∷ [] in
+    let n : Ended = record { text = added_bytes e first key sep value; by = by } in
+    let next : AreLined e groups = record {
+      ended = c.lines ++ n ∷ [];
+      last = [];
+      held = held_in-append closed (g ∷ z ∷ []) ∙ ap (λ w. w ++ line ∷ empty_line e None ∷ []) c.held ∙ sym (held_of-append e c.lines (n ∷ []) []);
+      are_lines = lines-join c.lines (n ∷ []) [] c.are_lines (λ q. λ y. p.some y.0) (p.plain, (λ q. tt), tt);
+      fit = fit-join closed g (z ∷ []) c.whole (p.whole, inl (empty-whole e));
+    } in
+    let made : List ℕ → List ℕ = added_at e gs key in
+    let bytes : groups_bytes groups ≡ body =
+    groups_bytes-append closed (g ∷ z ∷ [])
+    ∙ ap₂ (λ w x. w ++ x) c.bytes
+    (append-nil (group_bytes g) ∙ ap (λ w. added_bytes e first key sep value ++ w) (append-nil (line_ending_text by)))
+    ∙ sym s in
+    let next_held : AreGroupsOf e body groups = subst (λ w. AreGroupsOf e w groups) bytes (lined-groups e groups ok next) in
+    let written = spelt_key e false first key in
+    let new_front = front_of-only e g p.between (encoded_text e (written ++ sep)) ok (refl, tt) p.is_front in
+    record {
+      groups = groups;
+      held = next_held;
+      said = λ old t. (
+        old ++ pair key value ∷ [],
+        inr (none-hold key gs old none t, refl),
+        told_by-append closed (g ∷ z ∷ [])
+            ∙ ap₂ (λ w x. w ++ x) (c.told ∙ t)
+            (ap₂ (λ w x. told_before w (told_before x [])) (sym (outcome_of-only (joined (as_lines g)) (given (pair key value)) p.has_pair)) (told-empty e None))
+            ∙ sym (givens-append old (pair key value ∷ [])),
+      );
+      again = λ second no.
+          again-at e groups closed g (z ∷ []) key value second body refl p.has_pair (empty-no_key e key, tt) bytes made s
+          (ap₂ (λ x b. groups_bytes closed ++ (x ++ (encoded_text e (value_text e b second) ++ (line_ending_text by ++ [])))) (sym new_front.1) (sym new_front.0)
+          ∙ ap₂ (λ w x. w ++ (encoded_text e (written ++ sep) ++ (encoded_text e x ++ (line_ending_text by ++ [])))) c.bytes (added-text e p.between sep second p.between_some p.blanks)
+          ∙ ap (λ w. front ++ w)
+          (sym (append_assoc (encoded_text e (written ++ sep)) (encoded_text e (spelt_value e (is_blanks sep) second)) (line_ending_text by ++ []))
+          ∙ ap₂ (λ w x. w ++ x)
+          (sym (encoded_text-append e (written ++ sep) (spelt_value e (is_blanks sep) second)) ∙ ap (encoded_text e) (append_assoc written sep (spelt_value e (is_blanks sep) second)))
+          (append-nil (line_ending_text by))))
+          ∙ sym (ap (valued_at e gs key second) (last_place-none key gs none));
+    }
+  where
+    empty-whole : (e : Encoding) → IsWhole (as_lines (empty_line e None ∷ []))
+    empty-whole e = subst (λ w. IsWhole (record { number = 0; text = w } ∷ [])) (sym (decoded-nil e)) (inr (refl, refl))
+
+    empty-no_key : (e : Encoding) (key : List ℕ) → ¬ (HasKey key (empty_line e None ∷ []))
+    empty-no_key e key (x, h) =
+        let q = outcome_of-only (joined (as_lines (empty_line e None ∷ []))) (given (pair key x)) h ∙ told-empty e None in
+        absurd (cc)
+
+-- A body with a value set is such.
+pub body-valued : (e : Encoding) (source_body : List ℕ) (gs : List (List HeldLine)) (key value body : List ℕ) → is_editable e ≡ true → All scalar key → All scalar value
+    → AreGroupsOf e source_body gs → IsBodyValued e gs key value body
+    → IsValued e gs key value body
+body-valued e source_body gs key value body ok k v held (inl h) = there-valued e gs key value body ok (groups-lined e source_body gs ok held) h
+body-valued e source_body gs key value body ok k v held (inr (inl h)) = revalued-valued e source_body gs key value body ok v held h
+body-valued e source_body gs key value body ok k v held (inr (inr h)) =
+    added-valued e source_body gs key value body ok k v held h.no_pair
+    (valued-only e source_body key value gs body ok held (inr (inr h)) ∙ ap (valued_at e gs key value) (last_place-none key gs h.no_pair))

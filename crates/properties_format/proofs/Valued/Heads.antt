@@ -1,0 +1,175 @@
+-- The head of a line: the bytes of the characters up to a place of its text, and that there is one such head.
+use Rattle.std.proofs.Common.{◌≡◌, ◌⊎◌, ◌<◌, ℕ, true, List, [], ◌∷◌, ◌++◌, length, take, refl, ap, ap₂, sym, ◌∙◌, inl, inr, arith, append_assoc, append-nil, length-append, lit<}
+use Rattle.std.proofs.lemmas.List.{append_cancel_right}
+use Rattle.properties_format.specs.Text.{backslash}
+use Rattle.properties_format.specs.Pieces.{Piece, characters}
+use Rattle.properties_format.specs.Encoding.{Encoding, windows_1252, utf_8, utf_16le, utf_16be, IsPiece, IsPieces, IsAligned, ascii_bytes}
+use Rattle.properties_format.specs.Reading.Encoding.{pieces_of}
+use Rattle.properties_format.specs.Reading.Cut.{decoded_line}
+use Rattle.properties_format.specs.Edited.{is_editable}
+use Rattle.properties_format.specs.Reading.Valued.{pieces_bytes, head_of}
+use Rattle.properties_format.proofs.Encodings.Pieces.{pieces_of-meets, pieces_of-only}
+use Rattle.properties_format.proofs.Encodings.PieceEnds.{piece-less}
+use Rattle.properties_format.proofs.Encodings.Cuts.{cut-at_ascii, characters-cut_ascii}
+use Rattle.properties_format.proofs.Cut.Byline.{nothing-decoded}
+
+-- ---- the bytes of the characters at the front of a line
+
+-- in an encoding that is edited any byte may begin a unit
+pub aligned-editable : (e : Encoding) (d : List ℕ) → is_editable e ≡ true → IsAligned e d
+aligned-editable windows_1252 d ok = tt
+aligned-editable utf_8 d ok = tt
+aligned-editable utf_16le d ok = absurd (cc)
+aligned-editable utf_16be d ok = absurd (cc)
+
+-- bytes that are cut after these pieces: the head is their bytes, and what is left is of the other pieces
+record IsCutAfter (e : Encoding) (d : List ℕ) (ps : List Piece) (x y : List ℕ) : Type 0 where
+  tail : List ℕ
+  joins : d ≡ pieces_bytes ps ++ tail
+  front : IsPieces e (pieces_bytes ps) ps
+  front_text : characters ps ≡ x
+  back : List Piece
+  are_back : IsPieces e tail back
+  back_text : characters back ≡ y
+
+-- pieces whose characters are a text and then another may be cut between the two
+cut-pieces : (e : Encoding) (d : List ℕ) (ps : List Piece) (x y : List ℕ) → is_editable e ≡ true → IsPieces e d ps → characters ps ≡ x ++ y
+    → IsCutAfter e d (take (length x) ps) x y
+cut-pieces e d ps [] y ok h s = record { tail = d; joins = refl; front = refl; front_text = refl; back = ps; are_back = h; back_text = s }
+cut-pieces e d [] (c ∷ x) y ok h s = absurd (cc)
+cut-pieces e d (p ∷ ps) (c ∷ x) y ok (rest, t, h, k) s =
+    let a : p.character ≡ c = cc in
+    let b : characters ps ≡ x ++ y = cc in
+    let m = cut-pieces e rest ps x y ok k b in
+    let n : IsPiece e p (pieces_bytes (take (length x) ps) ++ m.tail) = rw m.joins at h in
+    record {
+      tail = m.tail;
+      joins = t ∙ ap (λ v. p.bytes ++ v) m.joins ∙ sym (append_assoc p.bytes (pieces_bytes (take (length x) ps)) m.tail);
+      front = (
+        pieces_bytes (take (length x) ps),
+        refl,
+        piece-less e p (pieces_bytes (take (length x) ps)) m.tail (aligned-editable e (pieces_bytes (take (length x) ps)) ok) n,
+        m.front,
+      );
+      front_text = ap₂ (λ v w. v ∷ w) a m.front_text;
+      back = m.back;
+      are_back = m.are_back;
+      back_text = m.back_text;
+    }
+
+-- The bytes of a line, cut where the text is: the head has the first text, and what is left the second.
+pub record IsHeadOf (e : Encoding) (d x y head : List ℕ) : Type 0 where
+  pub tail : List ℕ
+  pub joins : d ≡ head ++ tail
+  pub head_text : decoded_line e head ≡ x
+  pub tail_text : decoded_line e tail ≡ y
+
+-- the bytes of so many characters are such a head
+pub head_of-meets : (e : Encoding) (d x y : List ℕ) → is_editable e ≡ true → decoded_line e d ≡ x ++ y → IsHeadOf e d x y (head_of e (length x) d)
+head_of-meets e d x y ok s =
+    let m = cut-pieces e d (pieces_of e d) x y ok (pieces_of-meets e d) s in
+    let ps = take (length x) (pieces_of e d) in
+    record {
+      tail = m.tail;
+      joins = m.joins;
+      head_text = ap characters (sym (pieces_of-only e (pieces_bytes ps) ps m.front)) ∙ m.front_text;
+      tail_text = ap characters (sym (pieces_of-only e m.tail m.back m.are_back)) ∙ m.back_text;
+    }
+
+-- ---- there is one such head
+
+-- a text ends in an ASCII character
+abbrev pub EndsInAscii : List ℕ → Type 0
+EndsInAscii x = (w : List ℕ) × (c : ℕ) × (x ≡ w ++ c ∷ []) × (c < 0x80)
+
+-- only the bytes of an ASCII character are decoded to it
+ascii-own : (e : Encoding) (c : ℕ) → is_editable e ≡ true → ascii_bytes e c ≡ c ∷ []
+ascii-own windows_1252 c ok = refl
+ascii-own utf_8 c ok = refl
+ascii-own utf_16le c ok = absurd (cc)
+ascii-own utf_16be c ok = absurd (cc)
+
+-- bytes whose text ends in an ASCII character end in it, and what stands before it has the text before it
+pub record EndsAscii (e : Encoding) (d w : List ℕ) (c : ℕ) : Type 0 where
+  pub front : List ℕ
+  pub bytes : d ≡ front ++ c ∷ []
+  pub text : decoded_line e front ≡ w
+
+-- they are such
+pub ascii-end : (e : Encoding) (d w : List ℕ) (c : ℕ) → is_editable e ≡ true → c < 0x80 → decoded_line e d ≡ w ++ c ∷ [] → EndsAscii e d w c
+ascii-end e d w c ok l s =
+    let k = cut-at_ascii e d w c [] l s in
+    let n : k.1 ≡ [] = nothing-decoded e k.1 k.2.back in
+    record { front = k.0; bytes = k.2.joins ∙ ap₂ (λ v z. k.0 ++ (v ++ z)) (ascii-own e c ok) n; text = k.2.front }
+
+-- the text of bytes with an ASCII character among them
+pub ascii-among : (e : Encoding) (u : List ℕ) (c : ℕ) (v : List ℕ) → is_editable e ≡ true → c < 0x80
+    → decoded_line e (u ++ c ∷ v) ≡ decoded_line e u ++ c ∷ decoded_line e v
+ascii-among e u c v ok l =
+    ap (λ z. decoded_line e (u ++ (z ++ v))) (sym (ascii-own e c ok)) ∙ characters-cut_ascii e c u v l (aligned-editable e u ok)
+
+-- a text is not itself with more after it
+no-more : (x : List ℕ) (c : ℕ) (y : List ℕ) → x ≡ x ++ c ∷ y → ⊥
+no-more x c y h =
+    let l : length x ≡ length (x ++ c ∷ y) = ap length h in
+    let m = length-append x (c ∷ y) in
+    absurd (omega arith)
+
+-- two fronts of the same bytes, each before the same character, with the same text
+same-fronts : (e : Encoding) (u v : List ℕ) (c : ℕ) (y z : List ℕ) → is_editable e ≡ true → c < 0x80 → u ++ c ∷ y ≡ v ++ c ∷ z
+    → (w : List ℕ) → decoded_line e (w ++ u) ≡ decoded_line e (w ++ v) → u ≡ v
+same-fronts e [] [] c y z ok l s w h = refl
+same-fronts e [] (d ∷ v) c y z ok l s w h =
+    let k : c ≡ d = cc in
+    let m : decoded_line e w ≡ decoded_line e w ++ c ∷ decoded_line e v =
+    ap (decoded_line e) (sym (append-nil w)) ∙ h ∙ ap (λ b. decoded_line e (w ++ b ∷ v)) (sym k) ∙ ascii-among e w c v ok l in
+    absurd (no-more (decoded_line e w) c (decoded_line e v) m)
+same-fronts e (d ∷ u) [] c y z ok l s w h =
+    let k : d ≡ c = cc in
+    let m : decoded_line e w ≡ decoded_line e w ++ c ∷ decoded_line e u =
+    ap (decoded_line e) (sym (append-nil w)) ∙ sym h ∙ ap (λ b. decoded_line e (w ++ b ∷ u)) k ∙ ascii-among e w c u ok l in
+    absurd (no-more (decoded_line e w) c (decoded_line e u) m)
+same-fronts e (b ∷ u) (d ∷ v) c y z ok l s w h =
+    let k : b ≡ d = cc in
+    let r : u ++ c ∷ y ≡ v ++ c ∷ z = cc in
+    ap₂ (λ p q. p ∷ q) k
+    (same-fronts e u v c y z ok l r (w ++ b ∷ [])
+    (ap (decoded_line e) (append_assoc w (b ∷ []) u) ∙ h ∙ ap (λ p. decoded_line e (w ++ p ∷ v)) (sym k) ∙ ap (decoded_line e) (sym (append_assoc w (b ∷ []) v))))
+
+-- two heads with the same text, which ends in an ASCII character
+heads-ascii : (e : Encoding) (d x y a b : List ℕ) → is_editable e ≡ true → EndsInAscii x → IsHeadOf e d x y a → IsHeadOf e d x y b → a ≡ b
+heads-ascii e d x y a b ok (w, c, s, l) h k =
+    let m = ascii-end e a w c ok l (h.head_text ∙ s) in
+    let n = ascii-end e b w c ok l (k.head_text ∙ s) in
+    let t : m.front ++ c ∷ h.tail ≡ n.front ++ c ∷ k.tail =
+    sym (append_assoc m.front (c ∷ []) h.tail)
+    ∙ ap (λ v. v ++ h.tail) (sym m.bytes)
+    ∙ sym h.joins
+    ∙ k.joins
+    ∙ ap (λ v. v ++ k.tail) n.bytes
+    ∙ append_assoc n.front (c ∷ []) k.tail in
+    m.bytes ∙ ap (λ v. v ++ c ∷ []) (same-fronts e m.front n.front c h.tail k.tail ok l t [] (m.text ∙ sym n.text)) ∙ sym n.bytes
+
+-- two heads before the same bytes
+heads-before : (d a b t : List ℕ) → d ≡ a ++ t → d ≡ b ++ t → a ≡ b
+heads-before d a b t h k = append_cancel_right a b t (sym h ∙ k)
+
+-- only a backslash is decoded to one
+pub backslash-own : (e : Encoding) (d : List ℕ) → is_editable e ≡ true → decoded_line e d ≡ backslash ∷ [] → d ≡ backslash ∷ []
+backslash-own e d ok s =
+    let m = ascii-end e d [] backslash ok (lit< tt) s in
+    m.bytes ∙ ap (λ v. v ++ backslash ∷ []) (nothing-decoded e m.front m.text)
+
+-- what is left of the text is nothing, or a backslash
+abbrev pub IsLittle : List ℕ → Type 0
+IsLittle y = (y ≡ []) ⊎ (y ≡ backslash ∷ [])
+
+-- Of two heads with the same text, where it ends in an ASCII character or little is left, each is the other.
+pub heads-same : (e : Encoding) (d x y a b : List ℕ) → is_editable e ≡ true → EndsInAscii x ⊎ IsLittle y → IsHeadOf e d x y a → IsHeadOf e d x y b → a ≡ b
+heads-same e d x y a b ok (inl i) h k = heads-ascii e d x y a b ok i h k
+heads-same e d x y a b ok (inr (inl s)) h k =
+    heads-before d a b [] (h.joins ∙ ap (λ v. a ++ v) (nothing-decoded e h.tail (h.tail_text ∙ s)))
+    (k.joins ∙ ap (λ v. b ++ v) (nothing-decoded e k.tail (k.tail_text ∙ s)))
+heads-same e d x y a b ok (inr (inr s)) h k =
+    heads-before d a b (backslash ∷ []) (h.joins ∙ ap (λ v. a ++ v) (backslash-own e h.tail ok (h.tail_text ∙ s)))
+    (k.joins ∙ ap (λ v. b ++ v) (backslash-own e k.tail ok (k.tail_text ∙ s)))

@@ -1,0 +1,210 @@
+-- The laws of setting a value.
+use Rattle.std.proofs.Common.{◌≡◌, ℕ, ◌+◌, List, [], ◌∷◌, ◌++◌, length, Option, Some, None, refl, ap, sym, ◌∙◌, inl, inr, subst}
+use Rattle.std.proofs.lemmas.Bool.{cases_Bool, cond-true}
+use Rattle.properties_format.specs.Encoding.{Encoding, byte_order_mark}
+use Rattle.properties_format.specs.Lines.{end}
+use Rattle.properties_format.specs.Groups.{joined}
+use Rattle.properties_format.specs.Entries.{comment, pair, Entry, item, AreItems}
+use Rattle.properties_format.specs.Items.{Outcome, ignored, given, broken, IsOutcome}
+use Rattle.properties_format.specs.Reading.Items.{outcome_of, followed, items_of}
+use Rattle.properties_format.specs.Maps.{HasNoPair, IsLastValue, HasValue}
+use Rattle.properties_format.specs.Body.{HeldLine, as_lines, NoneHasKey, groups_bytes}
+use Rattle.properties_format.specs.Edited.{bom_of, put, edited}
+use Rattle.properties_format.specs.EditLaws.{SettingItsOwnValueChangesNothing, SettingAValueTwiceIsSettingItOnce, SettingAValueAgainChangesNothing, SettingAValueGivesIt}
+use Rattle.properties_format.specs.Valued.{HasPair, IsSetValueResult}
+use Rattle.properties_format.specs.Reading.Body.{held_groups_of, entries_in}
+use Rattle.properties_format.specs.Reading.Edited.{KeyPlace, last_place}
+use Rattle.properties_format.specs.Reading.Valued.{has_value, revalued_at, valued_at, value_set, set_value_result}
+use Rattle.properties_format.proofs.Items.Unique.{items_of-meets, items_of-only, outcome_of-meets, outcome_of-only}
+use Rattle.properties_format.proofs.Maps.{value_in-only}
+use Rattle.properties_format.proofs.Body.Groups.{held_groups_of-meets, held-body}
+use Rattle.properties_format.proofs.Body.Numbers.{items_of-groups}
+use Rattle.properties_format.proofs.Edited.Made.{IsPlace, last_place-meets}
+use Rattle.properties_format.proofs.Edited.ByteOrderMarks.{source-whole}
+use Rattle.properties_format.proofs.Changed.Laws.{IsReadable}
+use Rattle.properties_format.proofs.Changed.Read.{readable}
+use Rattle.properties_format.proofs.EditLaws.{result-made, maps-differ, set-differs}
+use Rattle.properties_format.proofs.Valued.Made.{has_value-true, HasPair-test, value_set-only, set_value_result-meets, set_value_result-only}
+use Rattle.properties_format.proofs.Valued.Groups.{IsNotAt}
+use Rattle.properties_format.proofs.Valued.Read.{value_set-says, set_value-reads, value_set-again}
+
+-- ---- the value of a key in a source
+
+-- where an outcome is no pair with the key, its entry is none either
+followed-other : (key : List ℕ) (n : ℕ) (o : Outcome) (entries : List Entry) → ((v : List ℕ) → o ≡ given (pair key v) → ⊥) → AreItems (followed n o entries)
+    → (AreItems entries → HasNoPair key entries) → HasNoPair key (followed n o entries)
+followed-other key n ignored entries h a k = k a
+followed-other key n (given (comment text)) entries h a k = k a
+followed-other key n (given (pair l v)) entries h a k = ((λ s. h v (ap (λ x. given (pair x v)) s)), k a)
+followed-other key n (broken kind) entries h a k = absurd a
+
+-- where no group has the key, no item is a pair with it
+none-pairs : (key : List ℕ) (n : ℕ) (gs : List (List HeldLine)) → NoneHasKey key gs → AreItems (entries_in n gs) → HasNoPair key (entries_in n gs)
+none-pairs key n [] h a = tt
+none-pairs key n (g ∷ gs) h a =
+    followed-other key n (outcome_of (joined (as_lines g))) (entries_in (n + length g) gs)
+    (λ v s. h.0 (v, subst (IsOutcome (joined (as_lines g))) s (outcome_of-meets (joined (as_lines g))))) a
+    (none-pairs key (n + length g) gs h.1)
+
+-- one more entry in front changes nothing of the last value
+followed-last : (key value : List ℕ) (n : ℕ) (o : Outcome) (entries : List Entry) → AreItems (followed n o entries)
+    → (AreItems entries → IsLastValue entries key value) → IsLastValue (followed n o entries) key value
+followed-last key value n ignored entries a k = k a
+followed-last key value n (given content) entries a k =
+    let m = k a in
+    record { before = item n content ∷ m.before; number = m.number; after = m.after; division = ap (λ v. item n content ∷ v) m.division; no_later = m.no_later }
+followed-last key value n (broken kind) entries a k = absurd a
+
+-- where the last group with the key has the value, the last item with it does
+groups-last : (key value : List ℕ) (n : ℕ) (before : List (List HeldLine)) (g : List HeldLine) (after : List (List HeldLine)) → HasPair key value g
+    → NoneHasKey key after → AreItems (entries_in n (before ++ g ∷ after))
+    → IsLastValue (entries_in n (before ++ g ∷ after)) key value
+groups-last key value n [] g after h k a =
+    let o = outcome_of-only (joined (as_lines g)) (given (pair key value)) h in
+    let rest = entries_in (n + length g) after in
+    let s : followed n (outcome_of (joined (as_lines g))) rest ≡ item n (pair key value) ∷ rest = ap (λ v. followed n v rest) (sym o) in
+    record { before = []; number = n; after = rest; division = s; no_later = none-pairs key (n + length g) after k (rw s at a) }
+groups-last key value n (f ∷ before) g after h k a =
+    followed-last key value n (outcome_of (joined (as_lines f))) (entries_in (n + length f) (before ++ g ∷ after)) a
+    (groups-last key value (n + length f) before g after h k)
+
+-- what the place of a key says of the source's value for it
+place-value : (e : Encoding) (source key : List ℕ) → IsReadable e source → (p : KeyPlace)
+    → last_place key (held_groups_of (byte_order_mark e source).encoding (byte_order_mark e source).body) ≡ Some p
+    → (value : List ℕ) × HasPair key value p.group × IsLastValue (items_of e source end) key value
+place-value e source key r p s =
+    let f = byte_order_mark e source in
+    let gs = held_groups_of f.encoding f.body in
+    let m : IsPlace key gs (Some p) = subst (IsPlace key gs) s (last_place-meets key gs) in
+    let all : items_of e source end ≡ entries_in 1 (p.before ++ p.group ∷ p.after) = items_of-groups e source ∙ ap (entries_in 1) m.division in (
+      m.has.0,
+      m.has.1,
+      subst (λ v. IsLastValue v key m.has.0) (sym all) (groups-last key m.has.0 1 p.before p.group p.after m.has.1 m.no_later (subst AreItems all r.no_fault)),
+    )
+
+-- and where there is none, that it has none
+no_place-value : (e : Encoding) (source key : List ℕ) → IsReadable e source
+    → last_place key (held_groups_of (byte_order_mark e source).encoding (byte_order_mark e source).body) ≡ None
+    → HasNoPair key (items_of e source end)
+no_place-value e source key r s =
+    let f = byte_order_mark e source in
+    let gs = held_groups_of f.encoding f.body in
+    let m : IsPlace key gs None = subst (IsPlace key gs) s (last_place-meets key gs) in
+    let all = items_of-groups e source in
+    subst (HasNoPair key) (sym all) (none-pairs key 1 gs m (subst AreItems all r.no_fault))
+
+-- a source that doesn't have the value doesn't have it at that place
+not-at : (e : Encoding) (source key value : List ℕ) → IsReadable e source → ¬ (HasValue e source key (Some value))
+    → IsNotAt value (last_place key (held_groups_of (byte_order_mark e source).encoding (byte_order_mark e source).body))
+not-at e source key value r h =
+    let f = byte_order_mark e source in
+    of-place (last_place key (held_groups_of f.encoding f.body)) refl
+  where
+    of-place : (o : Option KeyPlace) → last_place key (held_groups_of (byte_order_mark e source).encoding (byte_order_mark e source).body) ≡ o → IsNotAt value o
+    of-place None s = tt
+    of-place (Some p) s = elim (cases_Bool (has_value value p.group)) [
+      | inl k ↦
+          let m = place-value e source key r p s in
+          let q = has_value-true key value p.group (m.0, m.1) k in
+          let t : m.0 ≡ value = same m.0 m.1 q in
+          absurd (h (record {
+            entries = items_of e source end;
+            items = items_of-meets e source end;
+            whole = r.no_fault;
+            is = subst (IsLastValue (items_of e source end) key) t m.2;
+          }))
+      | inr k ↦ k
+    ]
+      where
+        same : (w : List ℕ) → HasPair key w p.group → HasPair key value p.group → w ≡ value
+        same w a b =
+            let x : given (pair key w) ≡ given (pair key value) =
+            outcome_of-only (joined (as_lines p.group)) (given (pair key w)) a ∙ sym (outcome_of-only (joined (as_lines p.group)) (given (pair key value)) b) in
+            cc
+
+-- where it does, setting that value makes the source
+own-made : (e : Encoding) (source key value : List ℕ) → IsReadable e source → HasValue e source key (Some value) → value_set e source key value ≡ source
+own-made e source key value r h =
+    let f = byte_order_mark e source in
+    let gs = held_groups_of f.encoding f.body in
+    let is : IsLastValue (items_of e source end) key value = subst (λ v. IsLastValue v key value) (items_of-only e source end h.entries h.items) h.is in
+    ap (λ v. bom_of source ++ v)
+    (of-place is (last_place key gs) refl ∙ held-body f.encoding f.body gs r.editable (held_groups_of-meets f.encoding f.body))
+    ∙ sym (source-whole e source)
+  where
+    of-place : IsLastValue (items_of e source end) key value → (o : Option KeyPlace)
+        → last_place key (held_groups_of (byte_order_mark e source).encoding (byte_order_mark e source).body) ≡ o
+        → valued_at (byte_order_mark e source).encoding (held_groups_of (byte_order_mark e source).encoding (byte_order_mark e source).body) key value o
+        ≡ groups_bytes (held_groups_of (byte_order_mark e source).encoding (byte_order_mark e source).body)
+    of-place is None s =
+        let a = value_in-only (items_of e source end) key (Some value) is in
+        let b = value_in-only (items_of e source end) key None (no_place-value e source key r s) in
+        absurd (cc)
+    of-place is (Some p) s =
+        let m = place-value e source key r p s in
+        let a = value_in-only (items_of e source end) key (Some value) is in
+        let b = value_in-only (items_of e source end) key (Some m.0) m.2 in
+        let t : m.0 ≡ value = cc in
+        let f = byte_order_mark e source in
+        cond-true (has_value value p.group) (groups_bytes (held_groups_of f.encoding f.body)) (revalued_at f.encoding value p)
+        (HasPair-test key value p.group (subst (λ w. HasPair key w p.group) t m.1))
+
+-- ---- the laws
+
+-- Setting the value that a key has already changes no byte.
+pub setting-own_value : (e : Encoding) (source key value : List ℕ) → SettingItsOwnValueChangesNothing e source key value
+setting-own_value e source key value has result h =
+    value_set-only e source key value result h.0 h.2 ∙ own-made e source key value (readable e source h.0 h.1) has
+
+-- Setting a value twice is setting it once, to the later value, where the source doesn't have that one already.
+pub setting-value_twice : (e : Encoding) (source key first second : List ℕ) → SettingAValueTwiceIsSettingItOnce e source key first second
+setting-value_twice e source key first second k v w other between h result =
+    let r = readable e source h.0 h.1 in
+    let next = (value_set-says e source key first between r k v h.2).readable in
+    let bytes = value_set-again e source key first second between h.0 k v h.2 (not-at e source key second r other) in
+    let same : set_value_result e between key second ≡ set_value_result e source key second =
+    result-made e between (value_set e between key second) next ∙ ap edited bytes ∙ sym (result-made e source (value_set e source key second) r) in (
+      (λ i. subst (IsSetValueResult e source key second) (sym (set_value_result-only e between key second result i ∙ same)) (set_value_result-meets e source key second)),
+      (λ i. subst (IsSetValueResult e between key second) (sym (set_value_result-only e source key second result i ∙ sym same)) (set_value_result-meets e between key second)),
+    )
+
+-- Setting a value again changes no byte.
+pub setting-value_again : (e : Encoding) (source key value : List ℕ) → SettingAValueAgainChangesNothing e source key value
+setting-value_again e source key value k v between h =
+    let f = byte_order_mark e source in
+    let r = readable e source h.0 h.1 in
+    let next = (value_set-says e source key value between r k v h.2).readable in
+    let made : between ≡ value_set e source key value = value_set-only e source key value between h.0 h.2 in
+    let bytes : value_set e between key value ≡ between = of-place made (last_place key (held_groups_of f.encoding f.body)) refl in
+    subst (IsSetValueResult e between key value) (result-made e between (value_set e between key value) next ∙ ap edited bytes) (set_value_result-meets e between key value)
+  where
+    of-place : between ≡ value_set e source key value → (o : Option KeyPlace)
+        → last_place key (held_groups_of (byte_order_mark e source).encoding (byte_order_mark e source).body) ≡ o → value_set e between key value ≡ between
+    of-place made None s = value_set-again e source key value value between h.0 k v h.2 (subst (IsNotAt value) (sym s) tt) ∙ sym made
+    of-place made (Some p) s = elim (cases_Bool (has_value value p.group)) [
+      | inl t ↦
+          let r = readable e source h.0 h.1 in
+          let m = place-value e source key r p s in
+          let q = has_value-true key value p.group (m.0, m.1) t in
+          let same : m.0 ≡ value = one m.0 m.1 q in
+          let own = own-made e source key value r (record {
+            entries = items_of e source end;
+            items = items_of-meets e source end;
+            whole = r.no_fault;
+            is = subst (IsLastValue (items_of e source end) key) same m.2;
+          }) in
+          ap (λ x. value_set e x key value) (made ∙ own) ∙ own ∙ sym (made ∙ own)
+      | inr t ↦ value_set-again e source key value value between h.0 k v h.2 (subst (IsNotAt value) (sym s) t) ∙ sym made
+    ]
+      where
+        one : (w : List ℕ) → HasPair key w p.group → HasPair key value p.group → w ≡ value
+        one w a b =
+            let x : given (pair key w) ≡ given (pair key value) =
+            outcome_of-only (joined (as_lines p.group)) (given (pair key w)) a ∙ sym (outcome_of-only (joined (as_lines p.group)) (given (pair key value)) b) in
+            cc
+
+-- After a value is set, the map has it for the key, and for every other key what it had.
+pub setting-value_gives : (e : Encoding) (source key value : List ℕ) → SettingAValueGivesIt e source key value
+setting-value_gives e source key value k v result h old new =
+    maps-differ e source result key (put key value) (Some value) old new
+    (λ before after i j m. (set_value-reads e source key value result k v h before after i j).mapped old m) (set-differs key value)

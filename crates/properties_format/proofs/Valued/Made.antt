@@ -1,0 +1,255 @@
+-- What is computed for a value that is set in place is that edit, and the only one.
+use Rattle.std.proofs.Common.{◌≡◌, ℕ, true, false, List, [], ◌∷◌, ◌++◌, Option, Some, None, refl, ap, ap₂, sym, ◌∙◌, inl, inr, subst}
+use Rattle.std.proofs.lemmas.Bool.{cases_Bool, cond-true, cond-false, false_from_ne_true}
+use Rattle.std.proofs.lemmas.Slice.Eq.{bytes_eq-Decides}
+use Rattle.properties_format.specs.Encoding.{Encoding, byte_order_mark}
+use Rattle.properties_format.specs.Lines.{Ended}
+use Rattle.properties_format.specs.Groups.{joined}
+use Rattle.properties_format.specs.Split.{Logical, IsPair}
+use Rattle.properties_format.specs.Reading.Split.{split_of}
+use Rattle.properties_format.specs.Entries.{pair}
+use Rattle.properties_format.specs.Items.{Outcome, given}
+use Rattle.properties_format.specs.Reading.Items.{outcome_of}
+use Rattle.properties_format.specs.Printing.{encoded_text}
+use Rattle.properties_format.specs.Body.{HeldLine, AreHeld, AreGroupsOf, as_lines, held_in, groups_bytes, ending_bytes, last_ending, HasKey}
+use Rattle.properties_format.specs.Edited.{bom_of, final_group, is_editable, EditResult}
+use Rattle.properties_format.specs.Valued.{value_text, HasPair, NoPairs, IsNewSeparator, ending_in, parted_by, new_pair_bytes, IsBodyValued, IsValueSet, IsSetValueResult}
+use Rattle.properties_format.specs.Reading.Body.{held_groups_of}
+use Rattle.properties_format.specs.Reading.Edited.{KeyPlace, last_place}
+use Rattle.properties_format.specs.Reading.Valued.{front_of, between_of, between_told, or_else, last_between, separator_by, is_pair_to, has_value, revalued_at, valued_at, value_set, set_value_result}
+use Rattle.properties_format.proofs.Items.Unique.{outcome_of-meets, outcome_of-only}
+use Rattle.properties_format.proofs.Split.Unique.{split_of-meets, split_of-only}
+use Rattle.properties_format.proofs.Cut.Byline.{decoded_line-only}
+use Rattle.properties_format.proofs.Body.Groups.{held_groups_of-meets, held_groups_of-only}
+use Rattle.properties_format.proofs.Edited.Made.{IsPlace, last_place-meets, last_place-none, last_place-some}
+use Rattle.properties_format.proofs.Edited.Results.{result_of-meets, result_of-only}
+use Rattle.properties_format.proofs.Valued.Parts.{between_in-pair}
+use Rattle.properties_format.proofs.Valued.Fronts.{AreDecoded, front_of-meets, front_of-only}
+
+-- ---- the lines of a body are decoded
+
+-- the lines that a body holds are decoded
+held-decoded : (e : Encoding) (ls : List Ended) (last : List ℕ) (held : List HeldLine) → AreHeld e ls last held → AreDecoded e held
+held-decoded e [] last held (x, h, s) = rw s (sym (decoded_line-only e last x h), tt)
+held-decoded e (l ∷ ls) last held (x, rest, h, s, k) = rw s (sym (decoded_line-only e l.text x h), held-decoded e ls last rest k)
+
+-- and so are the lines of their groups
+decoded-left : (e : Encoding) (a b : List HeldLine) → AreDecoded e (a ++ b) → AreDecoded e a
+decoded-left e [] b h = tt
+decoded-left e (l ∷ a) b h = (h.0, decoded-left e a b h.1)
+
+-- the later lines too
+decoded-right : (e : Encoding) (a b : List HeldLine) → AreDecoded e (a ++ b) → AreDecoded e b
+decoded-right e [] b h = h
+decoded-right e (l ∷ a) b h = decoded-right e a b h.1
+
+-- so those of one of the groups
+decoded-group : (e : Encoding) (before : List (List HeldLine)) (g : List HeldLine) (after : List (List HeldLine))
+    → AreDecoded e (held_in (before ++ g ∷ after)) → AreDecoded e g
+decoded-group e [] g after h = decoded-left e g (held_in after) h
+decoded-group e (f ∷ before) g after h = decoded-group e before g after (decoded-right e f (held_in (before ++ g ∷ after)) h)
+
+-- The lines of a group of a body are decoded.
+pub group-decoded : (e : Encoding) (body : List ℕ) (groups before : List (List HeldLine)) (g : List HeldLine) (after : List (List HeldLine))
+    → AreGroupsOf e body groups → groups ≡ before ++ g ∷ after → AreDecoded e g
+group-decoded e body groups before g after h s =
+    decoded-group e before g after (subst (λ v. AreDecoded e (held_in v)) s (held-decoded e h.cut.ended h.cut.last (held_in groups) h.are_held))
+
+-- ---- whether a pair has the value
+
+-- an outcome that passes the tests is the pair
+pair-to : (key value : List ℕ) (o : Outcome) → (old : List ℕ) → o ≡ given (pair key old) → is_pair_to value o ≡ true → o ≡ given (pair key value)
+pair-to key value o old s h =
+    let t : old ≡ value = (bytes_eq-Decides old value).0 (ap (is_pair_to value) (sym s) ∙ h) in s ∙ ap (λ v. given (pair key v)) t
+
+-- a group with the key that passes the test is the pair
+pub has_value-true : (key value : List ℕ) (g : List HeldLine) → HasKey key g → has_value value g ≡ true → HasPair key value g
+has_value-true key value g (old, k) h =
+    let line = joined (as_lines g) in
+    let s : outcome_of line ≡ given (pair key old) = sym (outcome_of-only line (given (pair key old)) k) in
+    let t : outcome_of line ≡ given (pair key value) = pair-to key value (outcome_of line) old s h in
+    rw t at (outcome_of-meets line)
+
+-- and the pair passes it
+pub HasPair-test : (key value : List ℕ) (g : List HeldLine) → HasPair key value g → has_value value g ≡ true
+HasPair-test key value g h =
+    ap (is_pair_to value) (sym (outcome_of-only (joined (as_lines g)) (given (pair key value)) h)) ∙ (bytes_eq-Decides value value).1 refl
+
+-- a group that doesn't pass it is not that pair
+pub has_value-false : (key value : List ℕ) (g : List HeldLine) → has_value value g ≡ false → ¬ (HasPair key value g)
+has_value-false key value g h = λ k. let m = HasPair-test key value g k in absurd (cc)
+
+-- and one that is not doesn't pass it
+pub no_value-test : (key value : List ℕ) (g : List HeldLine) → HasKey key g → ¬ (HasPair key value g) → has_value value g ≡ false
+no_value-test key value g k h = false_from_ne_true (has_value value g) (λ m. h (has_value-true key value g k m))
+
+-- ---- the separator of a new pair
+
+-- where no group is a pair, there is no last one
+last_between-none : (gs : List (List HeldLine)) → NoPairs gs → last_between gs ≡ None
+last_between-none [] h = refl
+last_between-none (g ∷ gs) h =
+    ap (λ v. or_else v (between_told (split_of (joined (as_lines g))) (joined (as_lines g)))) (last_between-none gs h.1)
+    ∙ of-split (split_of (joined (as_lines g))) refl
+  where
+    of-split : (l : Logical) → split_of (joined (as_lines g)) ≡ l → between_told (split_of (joined (as_lines g))) (joined (as_lines g)) ≡ None
+    of-split Logical.blank s = rw s refl
+    of-split (Logical.comment text) s = rw s refl
+    of-split (Logical.pair key value) s = let m : IsPair (joined (as_lines g)) key value = rw s at (split_of-meets (joined (as_lines g))) in absurd (h.0 key value m)
+
+-- what stands in a pair
+told-pair : (line key value : List ℕ) (h : IsPair line key value) → between_told (split_of line) line ≡ Some h.between
+told-pair line key value h =
+    ap (λ v. between_told v line) (sym (split_of-only line (Logical.pair key value) h)) ∙ ap Some (between_in-pair line key value h)
+
+-- and after which no group is one
+last_between-some : (before : List (List HeldLine)) (g : List HeldLine) (after : List (List HeldLine)) (key value : List ℕ)
+    (h : IsPair (joined (as_lines g)) key value) → NoPairs after → last_between (before ++ g ∷ after) ≡ Some h.between
+last_between-some [] g after key value h k =
+    ap (λ v. or_else v (between_told (split_of (joined (as_lines g))) (joined (as_lines g)))) (last_between-none after k)
+    ∙ told-pair (joined (as_lines g)) key value h
+last_between-some (f ∷ before) g after key value h k =
+    ap (λ v. or_else v (between_told (split_of (joined (as_lines f))) (joined (as_lines f)))) (last_between-some before g after key value h k)
+
+-- the separator is what is computed
+new_separator-only : (groups : List (List HeldLine)) (key separator : List ℕ) → IsNewSeparator groups key separator
+    → separator ≡ separator_by key (last_between groups)
+new_separator-only groups key separator (inl h) =
+    h.separator_is
+    ∙ ap (separator_by key) (sym (ap last_between h.division ∙ last_between-some h.before h.group h.after h.key h.value h.is_pair h.no_later))
+new_separator-only groups key separator (inr h) = h.1 ∙ ap (separator_by key) (sym (last_between-none groups h.0))
+
+-- the last pair, or that there is none
+data LastPair (gs : List (List HeldLine)) : Type 0 where
+  none : NoPairs gs → LastPair gs
+  some : (before : List (List HeldLine)) (g : List HeldLine) (after : List (List HeldLine)) (key value : List ℕ) → gs ≡ before ++ g ∷ after
+      → IsPair (joined (as_lines g)) key value
+      → NoPairs after
+      → LastPair gs
+
+last_pair : (gs : List (List HeldLine)) → LastPair gs
+last_pair [] = none tt
+last_pair (g ∷ gs) = in-front (last_pair gs)
+  where
+    of-split : (l : Logical) → split_of (joined (as_lines g)) ≡ l → NoPairs gs → LastPair (g ∷ gs)
+    of-split Logical.blank s h = none ((λ key value m. let q = sym s ∙ sym (split_of-only (joined (as_lines g)) (Logical.pair key value) m) in absurd (cc)), h)
+    of-split (Logical.comment text) s h =
+        none ((λ key value m. let q = sym s ∙ sym (split_of-only (joined (as_lines g)) (Logical.pair key value) m) in absurd (cc)), h)
+    of-split (Logical.pair key value) s h = some [] g gs key value refl (rw s at (split_of-meets (joined (as_lines g)))) h
+
+    in-front : LastPair gs → LastPair (g ∷ gs)
+    in-front (none h) = of-split (split_of (joined (as_lines g))) refl h
+    in-front (some before f after key value s m h) = some (g ∷ before) f after key value (ap (λ v. g ∷ v) s) m h
+
+-- what is computed is the separator
+pub new_separator-meets : (groups : List (List HeldLine)) (key : List ℕ) → IsNewSeparator groups key (separator_by key (last_between groups))
+new_separator-meets groups key = of-last (last_pair groups)
+  where
+    of-last : LastPair groups → IsNewSeparator groups key (separator_by key (last_between groups))
+    of-last (none h) = inr (h, ap (separator_by key) (last_between-none groups h))
+    of-last (some before g after k value s m h) = inl (record {
+      before = before;
+      group = g;
+      after = after;
+      division = s;
+      key = k;
+      value = value;
+      is_pair = m;
+      no_later = h;
+      separator_is = ap (separator_by key) (ap last_between s ∙ last_between-some before g after k value m h);
+    })
+
+-- ---- a value is set
+
+-- a pair's group is a pair as it is written
+raw-pair : (key : List ℕ) (g : List HeldLine) → HasKey key g → (k : List ℕ) × (v : List ℕ) × IsPair (joined (as_lines g)) k v
+raw-pair key g (value, h) = (h.raw_key, h.raw_value, h.split)
+
+-- the body that is computed is such a body
+valued-meets : (e : Encoding) (body key value : List ℕ) (gs : List (List HeldLine)) (o : Option KeyPlace) → is_editable e ≡ true → AreGroupsOf e body gs
+    → IsPlace key gs o → IsBodyValued e gs key value (valued_at e gs key value o)
+valued-meets e body key value gs None ok g h =
+    inr (inr (record { no_pair = h; separator = separator_by key (last_between gs); is_separator = new_separator-meets gs key; bytes = refl }))
+valued-meets e body key value gs (Some p) ok g h = elim (cases_Bool (has_value value p.group)) [
+  | inl k ↦
+      inl (record {
+        before = p.before;
+        group = p.group;
+        after = p.after;
+        division = h.division;
+        has_pair = has_value-true key value p.group h.has k;
+        no_later = h.no_later;
+        bytes = cond-true (has_value value p.group) (groups_bytes gs) (revalued_at e value p) k;
+      })
+  | inr k ↦
+      let m = raw-pair key p.group h.has in
+      inr (inl (record {
+        before = p.before;
+        group = p.group;
+        after = p.after;
+        division = h.division;
+        has_key = h.has;
+        other_value = has_value-false key value p.group k;
+        no_later = h.no_later;
+        between = between_of p.group;
+        front = front_of e p.group;
+        is_front = front_of-meets e p.group m.0 m.1 ok (group-decoded e body gs p.before p.group p.after g h.division) m.2;
+        bytes = cond-false (has_value value p.group) (groups_bytes gs) (revalued_at e value p) k;
+      }))
+]
+
+-- and such a body is what is computed
+pub valued-only : (e : Encoding) (body key value : List ℕ) (gs : List (List HeldLine)) (result : List ℕ) → is_editable e ≡ true → AreGroupsOf e body gs
+    → IsBodyValued e gs key value result → result ≡ valued_at e gs key value (last_place key gs)
+valued-only e body key value gs result ok g (inl h) =
+    let p : KeyPlace = record { before = h.before; group = h.group; after = h.after } in
+    h.bytes
+    ∙ sym (cond-true (has_value value h.group) (groups_bytes gs) (revalued_at e value p) (HasPair-test key value h.group h.has_pair))
+    ∙ ap (valued_at e gs key value) (sym (ap (last_place key) h.division ∙ last_place-some key h.before h.group h.after (value, h.has_pair) h.no_later))
+valued-only e body key value gs result ok g (inr (inl h)) =
+    let p : KeyPlace = record { before = h.before; group = h.group; after = h.after } in
+    let f = front_of-only e h.group h.between h.front ok (group-decoded e body gs h.before h.group h.after g h.division) h.is_front in
+    h.bytes
+    ∙ ap₂ (λ b x. groups_bytes h.before ++ (x ++ (encoded_text e (value_text e b value) ++ (ending_bytes (last_ending h.group) ++ groups_bytes h.after)))) f.0 f.1
+    ∙ sym (cond-false (has_value value h.group) (groups_bytes gs) (revalued_at e value p) (no_value-test key value h.group h.has_key h.other_value))
+    ∙ ap (valued_at e gs key value) (sym (ap (last_place key) h.division ∙ last_place-some key h.before h.group h.after h.has_key h.no_later))
+valued-only e body key value gs result ok g (inr (inr h)) =
+    let front = groups_bytes gs ++ parted_by (ending_in gs) (final_group gs) in
+    h.bytes
+    ∙ ap (λ s. front ++ new_pair_bytes e front key s value (ending_in gs)) (new_separator-only gs key h.separator h.is_separator)
+    ∙ ap (valued_at e gs key value) (sym (last_place-none key gs h.no_pair))
+
+-- What is computed is the source with the value set.
+pub value_set-meets : (e : Encoding) (source key value : List ℕ) → is_editable (byte_order_mark e source).encoding ≡ true
+    → IsValueSet e source key value (value_set e source key value)
+value_set-meets e source key value ok =
+    let f = byte_order_mark e source in
+    let gs = held_groups_of f.encoding f.body in
+    let held = held_groups_of-meets f.encoding f.body in
+    record {
+      groups = gs;
+      held = held;
+      body = valued_at f.encoding gs key value (last_place key gs);
+      edited = valued-meets f.encoding f.body key value gs (last_place key gs) ok held (last_place-meets key gs);
+      whole = refl;
+    }
+
+-- A source with the value set is what is computed.
+pub value_set-only : (e : Encoding) (source key value result : List ℕ) → is_editable (byte_order_mark e source).encoding ≡ true
+    → IsValueSet e source key value result → result ≡ value_set e source key value
+value_set-only e source key value result ok h =
+    let f = byte_order_mark e source in
+    h.whole
+    ∙ ap (λ v. bom_of source ++ v) (valued-only f.encoding f.body key value h.groups h.body ok h.held h.edited)
+    ∙ ap (λ v. bom_of source ++ valued_at f.encoding v key value (last_place key v)) (held_groups_of-only f.encoding f.body h.groups h.held)
+
+-- The result of setting a value is what is computed, and nothing else is.
+pub set_value_result-meets : (e : Encoding) (source key value : List ℕ) → IsSetValueResult e source key value (set_value_result e source key value)
+set_value_result-meets e source key value =
+    result_of-meets e source (value_set e source key value) (IsValueSet e source key value) (value_set-meets e source key value)
+
+-- No other result is one of setting a value.
+pub set_value_result-only : (e : Encoding) (source key value : List ℕ) (r : EditResult) → IsSetValueResult e source key value r
+    → r ≡ set_value_result e source key value
+set_value_result-only e source key value r h =
+    result_of-only e source (value_set e source key value) (IsValueSet e source key value) r (λ ok result. value_set-only e source key value result ok) h

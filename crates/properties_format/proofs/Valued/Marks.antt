@@ -1,0 +1,172 @@
+-- A source with a value set is in force as it was: the byte order mark stays, and where there was none, none comes to be.
+use Rattle.std.proofs.Common.{◌≡◌, ◌⊎◌, ◌<◌, ℕ, ◌==◌, ◌||◌, true, false, List, [], ◌∷◌, ◌++◌, refl, ap, sym, ◌∙◌, inl, inr, append_assoc, append-nil, lit<, subst}
+use Rattle.std.specs.Prelude.{unwrap_or}
+use Rattle.std.proofs.lemmas.Bool.{cases_Bool, and_parts, and_from, or_cases, or_left, or_right, false_from_ne_true}
+use Rattle.properties_format.specs.Text.{equals_sign, LineEnding, lf, line_ending_text}
+use Rattle.properties_format.specs.Encoding.{Encoding, byte_order_mark, begins_with, begins_like_bom, utf_8_bom, utf_16be_bom, utf_16le_bom}
+use Rattle.properties_format.specs.Printing.{encoded_text, spelt_key}
+use Rattle.properties_format.specs.Writing.{is_empty}
+use Rattle.properties_format.specs.Reading.Settings.{is_blanks}
+use Rattle.properties_format.specs.Body.{HeldLine, held_in, ending_bytes, group_bytes, groups_bytes, last_ending}
+use Rattle.properties_format.specs.Edited.{final_group, is_empty_line, is_left_open, is_editable}
+use Rattle.properties_format.specs.Valued.{spelt_value, value_text, IsFrontOf, IsRevalued, ending_among, ending_in, parted_by, IsNewSeparator, IsAdded, IsValueSet}
+use Rattle.properties_format.proofs.Cut.Byline.{decoded_line-only}
+use Rattle.properties_format.proofs.Printing.Characters.{encoded-ascii}
+use Rattle.properties_format.proofs.ReadBack.Unmarked.{byte_order_mark-cut, pair-unmarked}
+use Rattle.properties_format.proofs.Body.Groups.{groups_bytes-append, group_bytes-append, AreHeldGroups, held-groups}
+use Rattle.properties_format.proofs.Edited.ByteOrderMarks.{in_force, ending-cut, front-unmarked, first-ascii, groups-unmarked, empty-last}
+use Rattle.properties_format.proofs.Valued.Heads.{ascii-end}
+use Rattle.properties_format.proofs.Valued.Revalued.{front-ends}
+use Rattle.properties_format.proofs.Valued.Separators.{new_separator-fit}
+
+-- ---- the front of bytes
+
+-- bytes that begin with others do so with more after them
+begins-more : (m b z : List ℕ) → begins_with m b ≡ true → begins_with m (b ++ z) ≡ true
+begins-more [] b z h = refl
+begins-more (c ∷ m) [] z h = absurd (cc)
+begins-more (c ∷ m) (d ∷ b) z h =
+    let p = and_parts (c == d) (begins_with m b) h in and_from (c == d) (begins_with m (b ++ z)) p.0 (begins-more m b z p.1)
+
+-- and so bytes that begin like a byte order mark
+like-more : (b z : List ℕ) → begins_like_bom b ≡ true → begins_like_bom (b ++ z) ≡ true
+like-more b z h =
+    let x = begins_with utf_8_bom (b ++ z) in
+    let y = begins_with utf_16be_bom (b ++ z) in
+    let w = begins_with utf_16le_bom (b ++ z) in
+    elim (or_cases (begins_with utf_8_bom b) (begins_with utf_16be_bom b || begins_with utf_16le_bom b) h) [
+      | inl k ↦ or_left x (y || w) (begins-more utf_8_bom b z k)
+      | inr k ↦ elim (or_cases (begins_with utf_16be_bom b) (begins_with utf_16le_bom b) k) [
+        | inl m ↦ or_right x (y || w) (or_left y w (begins-more utf_16be_bom b z m))
+        | inr m ↦ or_right x (y || w) (or_right y w (begins-more utf_16le_bom b z m))
+      ]
+    ]
+
+-- the front of bytes that begin like none, and then an ASCII character and any bytes, begin like none
+prefix-unmarked : (b z : List ℕ) (c : ℕ) (y : List ℕ) → c < 0x80 → begins_like_bom (b ++ z) ≡ false → begins_like_bom (b ++ c ∷ y) ≡ false
+prefix-unmarked b z c y l h =
+    byte_order_mark-cut b c y l ∙ false_from_ne_true (begins_like_bom b) (λ k. let m = like-more b z k in cc)
+
+-- ---- the last pair has another value
+
+-- the bytes of a group are those of its front, and others
+pub front-bytes : (e : Encoding) (group : List HeldLine) (between front : List ℕ) (f : IsFrontOf e group between front)
+    → group_bytes group ≡ front ++ (f.tail ++ (ending_bytes f.line.ending ++ group_bytes f.more))
+front-bytes e group between front f =
+    let rest = ending_bytes f.line.ending ++ group_bytes f.more in
+    ap group_bytes f.division
+    ∙ group_bytes-append f.kept (f.line ∷ f.more)
+    ∙ ap (λ v. group_bytes f.kept ++ (v ++ rest)) f.cut
+    ∙ ap (λ v. group_bytes f.kept ++ v) (append_assoc f.head f.tail rest)
+    ∙ sym (append_assoc (group_bytes f.kept) f.head (f.tail ++ rest))
+    ∙ ap (λ v. v ++ (f.tail ++ rest)) (sym f.bytes)
+
+-- a front with what is spelt for a value, in the place of a group at the front of a body
+front-valued : (e : Encoding) (group : List HeldLine) (between front value : List ℕ) (f : IsFrontOf e group between front) (rest more : List ℕ)
+    → is_editable e ≡ true
+    → begins_like_bom (front ++ rest) ≡ false → begins_like_bom (front ++ (encoded_text e (value_text e between value) ++ more)) ≡ false
+front-valued e group [] front value f rest more ok h =
+    let x = spelt_value e false value in
+    ap (λ o. begins_like_bom (front ++ ((unwrap_or o [] ++ encoded_text e x) ++ more))) (encoded-ascii e equals_sign (lit< tt))
+    ∙ prefix-unmarked front rest equals_sign (encoded_text e x ++ more) (lit< tt) h
+front-valued e group (b ∷ bs) front value f rest more ok h =
+    let m = front-ends e group (b ∷ bs) front f (λ q. cc) in
+    let n = ascii-end e f.head m.0 m.1 ok m.3 (sym (decoded_line-only e f.head f.head_text f.is_head) ∙ m.2) in
+    let w = group_bytes f.kept ++ n.front in
+    let s : (z : List ℕ) → front ++ z ≡ w ++ m.1 ∷ z = λ z.
+    ap (λ v. v ++ z) (f.bytes ∙ ap (λ v. group_bytes f.kept ++ v) n.bytes ∙ sym (append_assoc (group_bytes f.kept) n.front (m.1 ∷ []))) ∙ append_assoc w (m.1 ∷ []) z in
+    ap begins_like_bom (s (encoded_text e (value_text e (b ∷ bs) value) ++ more))
+    ∙ prefix-unmarked w (m.1 ∷ rest) m.1 (encoded_text e (value_text e (b ∷ bs) value) ++ more) m.3 (ap begins_like_bom (sym (s rest)) ∙ h)
+
+-- where the last pair has another value, a body that began like no byte order mark begins like none
+revalued-unmarked : (e : Encoding) (gs : List (List HeldLine)) (key value body : List ℕ) → is_editable e ≡ true → AreHeldGroups e gs
+    → begins_like_bom (groups_bytes gs) ≡ false → IsRevalued e gs key value body
+    → begins_like_bom body ≡ false
+revalued-unmarked e gs key value body ok k h r = of_before r.before r.division r.bytes
+  where
+    of_before : (before : List (List HeldLine)) → gs ≡ before ++ r.group ∷ r.after
+        → body ≡ groups_bytes before ++ (r.front ++ (encoded_text e (value_text e r.between value) ++ (ending_bytes (last_ending r.group) ++ groups_bytes r.after)))
+        → begins_like_bom body ≡ false
+    of_before [] s t =
+        let f = r.is_front in
+        let old = f.tail ++ (ending_bytes f.line.ending ++ group_bytes f.more) in
+        let u : groups_bytes gs ≡ r.front ++ (old ++ groups_bytes r.after) =
+        ap groups_bytes s ∙ ap (λ v. v ++ groups_bytes r.after) (front-bytes e r.group r.between r.front f) ∙ append_assoc r.front old (groups_bytes r.after) in
+        ap begins_like_bom t
+        ∙ front-valued e r.group r.between r.front value f (old ++ groups_bytes r.after) (ending_bytes (last_ending r.group) ++ groups_bytes r.after) ok
+        (ap begins_like_bom (sym u) ∙ h)
+    of_before (g ∷ before) s t =
+        ap begins_like_bom t
+        ∙ front-unmarked g before (r.front ++ (encoded_text e (value_text e r.between value) ++ (ending_bytes (last_ending r.group) ++ groups_bytes r.after))) (groups_bytes (r.group ∷ r.after))
+        (first-ascii e g before r.group r.after (subst (AreHeldGroups e) s k))
+        (ap begins_like_bom (sym (groups_bytes-append (g ∷ before) (r.group ∷ r.after)) ∙ ap groups_bytes (sym s)) ∙ h)
+
+-- ---- a new pair
+
+-- a new pair at the front begins like none
+first-unmarked : (e : Encoding) (key sep value : List ℕ) (by : LineEnding) (groups : List (List HeldLine)) → IsNewSeparator groups key sep
+    → begins_like_bom (encoded_text e (spelt_key e false true key ++ (sep ++ spelt_value e (is_blanks sep) value)) ++ line_ending_text by) ≡ false
+first-unmarked e key sep value by groups s =
+    let x = encoded_text e (spelt_key e false true key ++ (sep ++ spelt_value e (is_blanks sep) value)) in
+    ap (λ v. begins_like_bom (x ++ v)) (sym (append-nil (line_ending_text by)))
+    ∙ ending-cut x by []
+    ∙ pair-unmarked e false key sep (spelt_value e (is_blanks sep) value) (new_separator-fit groups key sep s).good
+
+-- what parts a pair from the last group is nothing after an empty line, or begins with a line ending
+parted-cases : (by : LineEnding) (g : List HeldLine)
+    → (is_empty_line g ≡ true) × (parted_by (line_ending_text by) g ≡ []) ⊎ (rest : List ℕ) × (parted_by (line_ending_text by) g ≡ line_ending_text by ++ rest)
+parted-cases by g = elim (cases_Bool (is_empty_line g)) [
+  | inl h ↦ inl (h, rw h refl)
+  | inr h ↦ elim (cases_Bool (is_left_open g)) [
+    | inl k ↦ inr (line_ending_text by, rw (h, k) refl)
+    | inr k ↦ inr ([], rw (h, k) (sym (append-nil (line_ending_text by))))
+  ]
+]
+
+-- where a new pair is added, a body that began like no byte order mark begins like none
+added-unmarked : (e : Encoding) (gs : List (List HeldLine)) (key value body : List ℕ) → AreHeldGroups e gs → begins_like_bom (groups_bytes gs) ≡ false
+    → IsAdded e gs key value body → begins_like_bom body ≡ false
+added-unmarked e gs key value body k h r = elim (parted-cases (ending_among lf (held_in gs)) (final_group gs)) [
+  | inl p ↦ none gs k h p.0 (ap (λ v. groups_bytes gs ++ v) p.1 ∙ append-nil (groups_bytes gs))
+  | inr p ↦
+      ap begins_like_bom r.bytes
+      ∙ ap (λ v. begins_like_bom ((groups_bytes gs ++ v) ++ tail front)) p.1
+      ∙ ap begins_like_bom (append_assoc (groups_bytes gs) (ending_in gs ++ p.0) (tail front) ∙ ap (λ v. groups_bytes gs ++ v) (append_assoc (ending_in gs) p.0 (tail front)))
+      ∙ ending-cut (groups_bytes gs) (ending_among lf (held_in gs)) (p.0 ++ tail front)
+      ∙ h
+]
+  where
+    front : List ℕ
+    front = groups_bytes gs ++ parted_by (ending_in gs) (final_group gs)
+
+    tail : List ℕ → List ℕ
+    tail x = encoded_text e (spelt_key e false (is_empty x) key ++ (r.separator ++ spelt_value e (is_blanks r.separator) value)) ++ ending_in gs
+
+    none : (hs : List (List HeldLine)) → AreHeldGroups e hs → begins_like_bom (groups_bytes hs) ≡ false → is_empty_line (final_group hs) ≡ true
+        → groups_bytes gs ++ parted_by (ending_in gs) (final_group gs) ≡ groups_bytes hs → begins_like_bom body ≡ false
+    none [] k h m s = absurd (cc)
+    none (g ∷ []) k h m s =
+        let q : groups_bytes gs ++ parted_by (ending_in gs) (final_group gs) ≡ [] = s ∙ append-nil (group_bytes g) ∙ empty-last g m k.ending in
+        ap begins_like_bom r.bytes ∙ ap (λ v. begins_like_bom (v ++ tail v)) q ∙ first-unmarked e key r.separator value (ending_among lf (held_in gs)) gs r.is_separator
+    none (g ∷ i ∷ hs) k h m s =
+        ap begins_like_bom r.bytes
+        ∙ ap (λ v. begins_like_bom (v ++ tail v)) s
+        ∙ front-unmarked g (i ∷ hs) (tail (groups_bytes (g ∷ i ∷ hs))) [] k.0.ascii (ap begins_like_bom (append-nil (groups_bytes (g ∷ i ∷ hs))) ∙ h)
+
+-- ---- the source
+
+-- What is in force after a value is set: the encoding that was, and the body with the value.
+pub value_set-in_force : (e : Encoding) (source key value result : List ℕ) → is_editable (byte_order_mark e source).encoding ≡ true
+    → (h : IsValueSet e source key value result)
+    → byte_order_mark e result ≡ record { encoding = (byte_order_mark e source).encoding; body = h.body }
+value_set-in_force e source key value result ok h =
+    let f = byte_order_mark e source in
+    let gs = held-groups f.encoding f.body h.groups ok h.held in
+    ap (byte_order_mark e) h.whole
+    ∙ in_force e source h.body ok (λ n.
+    let old = groups-unmarked e source h.groups ok h.held n in
+    elim h.edited [
+      | inl r ↦ ap begins_like_bom r.bytes ∙ old
+      | inr (inl r) ↦ revalued-unmarked f.encoding h.groups key value h.body ok gs old r
+      | inr (inr r) ↦ added-unmarked f.encoding h.groups key value h.body gs old r
+    ])

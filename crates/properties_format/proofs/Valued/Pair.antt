@@ -1,0 +1,208 @@
+-- The group of a pair that has another value: it is that pair, and its front is the old one, with an equals sign where nothing stood between key and value.
+use Rattle.std.proofs.Common.{◌≡◌, ◌≢◌, ℕ, true, false, List, [], ◌∷◌, ◌++◌, Option, None, refl, ap, ap₂, sym, ◌∙◌, append_assoc, append-nil, lit<, subst}
+use Rattle.std.specs.Prelude.{All, unwrap_or}
+use Rattle.std.proofs.lemmas.List.Elements.{recursion_from_All}
+use Rattle.properties_format.specs.Text.{scalar, equals_sign, LineEnding}
+use Rattle.properties_format.specs.Encoding.{Encoding}
+use Rattle.properties_format.specs.Lines.{HoldsNoLineEnd}
+use Rattle.properties_format.specs.Cut.{IsDecodedLine}
+use Rattle.properties_format.specs.Reading.Cut.{decoded_line}
+use Rattle.properties_format.specs.Groups.{is_open, is_comment_line, IsWhole, joined}
+use Rattle.properties_format.specs.Split.{Logical, AreBlanks}
+use Rattle.properties_format.specs.Escapes.{Means}
+use Rattle.properties_format.specs.Printing.{encoded_text}
+use Rattle.properties_format.specs.Reading.Settings.{is_blanks}
+use Rattle.properties_format.specs.Body.{HeldLine, as_lines, group_bytes, HasKey}
+use Rattle.properties_format.specs.Edited.{is_editable}
+use Rattle.properties_format.specs.Valued.{value_text, IsFrontOf, HasPair}
+use Rattle.properties_format.specs.Reading.Valued.{without_indent}
+use Rattle.properties_format.proofs.Lines.Plain.{plain-append, plain-left}
+use Rattle.properties_format.proofs.Groups.Open.{is_open-other}
+use Rattle.properties_format.proofs.Split.Laws.{split-unique}
+use Rattle.properties_format.proofs.Cut.Byline.{decoded_line-meets, decoded_line-only}
+use Rattle.properties_format.proofs.Escapes.Unique.{meaning_of-meets}
+use Rattle.properties_format.proofs.Printing.Characters.{encoded-ascii, encoded_text-append}
+use Rattle.properties_format.proofs.ReadBack.Bytes.{AreWritable}
+use Rattle.properties_format.proofs.Body.Decoded.{decoded-nil, plain-bytes}
+use Rattle.properties_format.proofs.Body.Groups.{IsLastFit}
+use Rattle.properties_format.proofs.Valued.Heads.{ascii-among}
+use Rattle.properties_format.proofs.Valued.Fronts.{open-past, open-indent, joined_by, is_first_after, none-left, front-unmarked, front-text}
+use Rattle.properties_format.proofs.Valued.Texts.{value-loose, loose-means, loosely-plain, loosely-closed, value-begins, value-writable}
+use Rattle.properties_format.proofs.Valued.Revalued.{open-closed, added-closed, between_after, value_after, missing, value_text-parts}
+use Rattle.properties_format.proofs.Valued.Revalued.{between_after-parts, pair-anew, longer-joined, longer-whole, text-own, after-front}
+
+-- ---- what is missing of what stands between
+
+-- it is its own bytes
+missing-bytes : (e : Encoding) (between : List ℕ) → encoded_text e (missing between) ≡ missing between
+missing-bytes e [] = ap (λ o. unwrap_or o [] ++ []) (encoded-ascii e equals_sign (lit< tt))
+missing-bytes e (c ∷ cs) = refl
+
+-- the bytes after the front
+pub after-bytes : (e : Encoding) (between value : List ℕ) → encoded_text e (value_text e between value) ≡ missing between ++ encoded_text e (value_after e between value)
+after-bytes e between value =
+    ap (encoded_text e) (value_text-parts e between value)
+    ∙ encoded_text-append e (missing between) (value_after e between value)
+    ∙ ap (λ v. v ++ encoded_text e (value_after e between value)) (missing-bytes e between)
+
+-- it leaves no line open
+missing-closed : (x between : List ℕ) → is_open x ≡ false → is_open (x ++ missing between) ≡ false
+missing-closed x [] h = is_open-other x equals_sign refl
+missing-closed x (c ∷ cs) h = ap is_open (append-nil x) ∙ h
+
+-- and ends none
+missing-plain : (between : List ℕ) → HoldsNoLineEnd (missing between)
+missing-plain [] = (refl, tt)
+missing-plain (c ∷ cs) = tt
+
+-- the text of no value is what is missing
+no_value-text : (e : Encoding) (between : List ℕ) → value_text e between [] ≡ missing between
+no_value-text e [] = refl
+no_value-text e (c ∷ cs) = refl
+
+-- ---- the changed group
+
+-- the line that takes the place of those after the lines that are kept
+abbrev pub new_bytes : Encoding → List ℕ → List ℕ → List ℕ → List ℕ
+new_bytes e head between value = head ++ encoded_text e (value_text e between value)
+
+-- the line of these bytes
+abbrev pub new_line : Encoding → List ℕ → List ℕ → List ℕ → Option LineEnding → HeldLine
+new_line e head between value ending =
+    record { bytes = new_bytes e head between value; text = decoded_line e (new_bytes e head between value); ending = ending }
+
+-- What is so of the changed group.
+pub record IsChangedPair (e : Encoding) (key between front value : List ℕ) (kept : List HeldLine) (head : List ℕ) (ending : Option LineEnding) : Type 0 where
+  pub plain : HoldsNoLineEnd (new_bytes e head between value)
+  pub some : new_bytes e head between value ≢ []
+  pub whole : IsWhole (as_lines (kept ++ new_line e head between value ending ∷ []))
+  pub has_pair : HasPair key value (kept ++ new_line e head between value ending ∷ [])
+  pub is_front : IsFrontOf e (kept ++ new_line e head between value ending ∷ []) (between_after between) (front ++ missing between)
+
+-- a head has a byte
+head-some : (e : Encoding) (group : List HeldLine) (between front : List ℕ) (f : IsFrontOf e group between front) → f.head ≢ []
+head-some e group between front f q =
+    f.not_blank (subst AreBlanks (sym (decoded_line-only e f.head f.head_text f.is_head ∙ ap (decoded_line e) q ∙ decoded-nil e)) tt)
+
+-- the front part of blanks is blanks
+blanks-left : (x y : List ℕ) → AreBlanks (x ++ y) → AreBlanks x
+blanks-left [] y h = tt
+blanks-left (c ∷ x) y h = (h.0, blanks-left x y h.1)
+
+-- the first of the lines that are kept
+kept-unmarked : (e : Encoding) (group : List HeldLine) (between front : List ℕ) (f : IsFrontOf e group between front) (i : HeldLine) (is : List HeldLine)
+    → f.kept ≡ i ∷ is → is_comment_line i.text ≡ false
+kept-unmarked e group between front f i is s = front-unmarked e group between front f i (is ++ f.line ∷ f.more) (ap (λ v. v ++ f.line ∷ f.more) s)
+
+-- where nothing stands between key and value, the key ends in no lone backslash
+key-closed : (e : Encoding) (group : List HeldLine) (between front : List ℕ) (f : IsFrontOf e group between front) → between ≡ [] → is_open f.key ≡ false
+key-closed e group between front f s =
+    let first = is_first_after true f.kept in
+    let q = without_indent first f.head_text in
+    let t : f.is_pair.indent ++ f.key ≡ joined_by true f.kept ++ q =
+    ap (λ v. f.is_pair.indent ++ v) (sym (ap (λ v. f.key ++ v) s ∙ append-nil f.key)) ∙ front-text e group between front f in
+    sym (open-past f.is_pair.indent f.key f.is_pair.indent_blank)
+    ∙ ap is_open t
+    ∙ open-closed (joined_by true f.kept) q (added-closed true f.kept)
+    ∙ open-indent first f.head_text
+    ∙ f.closed
+
+-- the key that a group has is what its written key means
+key-means : (e : Encoding) (group : List HeldLine) (key between front : List ℕ) (f : IsFrontOf e group between front) → HasKey key group → Means f.key key
+key-means e group key between front f (old, h) =
+    let s = split-unique (joined (as_lines group)) (Logical.pair h.raw_key h.raw_value) (Logical.pair f.key f.value) h.split f.is_pair in
+    let t : h.raw_key ≡ f.key = cc in
+    subst (λ v. Means v key) t h.key_means
+
+-- The group with the front and another value.
+pub changed-pair : (e : Encoding) (group : List HeldLine) (key between front value : List ℕ) (ending : Option LineEnding) (f : IsFrontOf e group between front)
+    → is_editable e ≡ true → All scalar value → IsLastFit group → HoldsNoLineEnd f.line.bytes → HasKey key group
+    → IsChangedPair e key between front value f.kept f.head ending
+changed-pair e group key between front value ending f ok scalars fit line_plain has =
+    let h = f.is_pair in
+    let first = is_first_after true f.kept in
+    let va = value_after e between value in
+    let vt = value_text e between value in
+    let all = recursion_from_All scalar value scalars in
+    let loose = value-loose e (is_blanks (between_after between)) value all in
+    let writable = value-writable e (is_blanks (between_after between)) value all in
+    let none = value-writable e (is_blanks (between_after between)) [] tt in
+    let decoded : decoded_line e (new_bytes e f.head between value) ≡ f.head_text ++ vt = after-front e group between front value f ok writable in
+    let parts : f.head_text ++ vt ≡ (f.head_text ++ missing between) ++ va =
+    ap (λ v. f.head_text ++ v) (value_text-parts e between value) ∙ sym (append_assoc f.head_text (missing between) va) in
+    let closed_head : is_open (f.head_text ++ missing between) ≡ false = missing-closed f.head_text between f.closed in
+    let closed : is_open (f.head_text ++ vt) ≡ false = ap is_open parts ∙ loosely-closed (f.head_text ++ missing between) va value loose closed_head in
+    let line : HeldLine = record { bytes = new_bytes e f.head between value; text = f.head_text ++ vt; ending = ending } in
+    let same : line ≡ new_line e f.head between value ending =
+    ap (λ v. let l : HeldLine = record { bytes = new_bytes e f.head between value; text = v; ending = ending } in l) (sym decoded) in
+    let unmarked = kept-unmarked e group between front f in
+    let joined_is : joined (as_lines (f.kept ++ line ∷ [])) ≡ h.indent ++ (f.key ++ (between_after between ++ va)) =
+    longer-joined e f.kept f.head_text vt (new_bytes e f.head between value) ending unmarked f.not_blank closed
+    ∙ ap₂ (λ v w. v ++ w) (sym (front-text e group between front f)) (value_text-parts e between value)
+    ∙ append_assoc h.indent (f.key ++ between) (missing between ++ va)
+    ∙ ap (λ v. h.indent ++ v) (append_assoc f.key between (missing between ++ va))
+    ∙ ap (λ v. h.indent ++ (f.key ++ v)) (sym (append_assoc between (missing between) va))
+    ∙ ap (λ v. h.indent ++ (f.key ++ (v ++ va))) (sym (between_after-parts between)) in
+    let joined_new : joined (as_lines (f.kept ++ new_line e f.head between value ending ∷ [])) ≡ h.indent ++ (f.key ++ (between_after between ++ va)) =
+    ap (λ v. joined (as_lines (f.kept ++ v ∷ []))) (sym same) ∙ joined_is in
+    let anew = pair-anew (joined (as_lines group)) f.key f.value va h between (joined (as_lines (f.kept ++ new_line e f.head between value ending ∷ []))) f.is_between
+    (value-begins e (is_blanks (between_after between)) value all) (key-closed e group between front f) joined_new in
+    let value_plain : HoldsNoLineEnd (encoded_text e vt) =
+    plain-bytes e (encoded_text e vt) ok
+    (subst HoldsNoLineEnd (sym (ap (decoded_line e) (after-bytes e between value) ∙ text-after e between va ok writable))
+    (plain-append (missing between) va (missing-plain between) (loosely-plain va value loose))) in
+    let shorter : decoded_line e (f.head ++ missing between) ≡ f.head_text ++ missing between =
+    ap (λ v. decoded_line e (f.head ++ v)) (sym (ap (encoded_text e) (no_value-text e between) ∙ missing-bytes e between))
+    ∙ after-front e group between front [] f ok none
+    ∙ ap (λ v. f.head_text ++ v) (no_value-text e between) in
+    record {
+      plain = plain-append f.head (encoded_text e vt) (plain-left f.head f.tail (subst HoldsNoLineEnd f.cut line_plain)) value_plain;
+      some = λ q. head-some e group between front f (none-left f.head (encoded_text e vt) q);
+      whole = subst (λ v. IsWhole (as_lines (f.kept ++ v ∷ []))) same
+          (longer-whole f.kept f.line f.more line (subst IsLastFit f.division fit) closed unmarked);
+      has_pair = record {
+        raw_key = f.key;
+        raw_value = va;
+        split = anew.is_pair;
+        key_means = key-means e group key between front f has;
+        value_means = rw (loose-means va value loose) at (meaning_of-meets va);
+      };
+      is_front = record {
+        kept = f.kept;
+        line = new_line e f.head between value ending;
+        more = [];
+        division = refl;
+        head = f.head ++ missing between;
+        tail = encoded_text e va;
+        head_text = f.head_text ++ missing between;
+        tail_text = va;
+        cut = ap (λ v. f.head ++ v) (after-bytes e between value) ∙ sym (append_assoc f.head (missing between) (encoded_text e va));
+        cut_text = decoded ∙ parts;
+        is_head = subst (IsDecodedLine e (f.head ++ missing between)) shorter (decoded_line-meets e (f.head ++ missing between));
+        is_tail = subst (IsDecodedLine e (encoded_text e va)) (text-own e va ok writable) (decoded_line-meets e (encoded_text e va));
+        not_blank = λ b. f.not_blank (blanks-left f.head_text (missing between) b);
+        closed = closed_head;
+        key = f.key;
+        value = va;
+        is_pair = anew.is_pair;
+        is_between = sym anew.between_is;
+        up_to =
+            longer-joined e f.kept f.head_text (missing between) (f.head ++ missing between) None unmarked f.not_blank closed_head
+            ∙ ap (λ v. v ++ missing between) (sym (front-text e group between front f))
+            ∙ append_assoc h.indent (f.key ++ between) (missing between)
+            ∙ ap (λ v. h.indent ++ v) (append_assoc f.key between (missing between))
+            ∙ ap₂ (λ v w. v ++ (f.key ++ w)) (sym anew.indent_is) (sym (between_after-parts between));
+        bytes = ap (λ v. v ++ missing between) f.bytes ∙ append_assoc (group_bytes f.kept) f.head (missing between);
+      };
+    }
+  where
+    text-after : (e : Encoding) (between va : List ℕ) → is_editable e ≡ true → AreWritable e va
+        → decoded_line e (missing between ++ encoded_text e va) ≡ missing between ++ va
+    text-after e [] va ok w = ascii-first e va ok w
+      where
+        ascii-first : (e : Encoding) (va : List ℕ) → is_editable e ≡ true → AreWritable e va
+            → decoded_line e (equals_sign ∷ encoded_text e va) ≡ equals_sign ∷ va
+        ascii-first e va ok w =
+            ascii-among e [] equals_sign (encoded_text e va) ok (lit< tt)
+            ∙ ap₂ (λ v z. v ++ equals_sign ∷ z) (decoded-nil e) (text-own e va ok w)
+    text-after e (c ∷ cs) va ok w = text-own e va ok w

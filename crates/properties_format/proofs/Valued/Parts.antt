@@ -1,0 +1,58 @@
+-- What a pair's line is divided into is what is computed: what stands between its key and its value, and what stands before the value.
+use Rattle.std.proofs.Common.{◌≡◌, ℕ, ◌-◌, true, false, List, [], ◌∷◌, ◌++◌, length, take, ap, ap₂, sym, ◌∙◌, arith, append_assoc, length-append}
+use Rattle.std.proofs.Math.Seq.{take-append_seam}
+use Rattle.properties_format.specs.Text.{is_comment_sign, without_leading_blanks}
+use Rattle.properties_format.specs.Groups.{is_comment_line, begins_with_comment_sign}
+use Rattle.properties_format.specs.Split.{begins, IsPair}
+use Rattle.properties_format.specs.Reading.Split.{Cut, cut_key, past_separator}
+use Rattle.properties_format.specs.Reading.Valued.{without_end, after_key, written_value, between_in, before_value}
+use Rattle.properties_format.proofs.Split.Blanks.{without_leading_blanks-only}
+use Rattle.properties_format.proofs.Split.Keys.{cut_key-only}
+use Rattle.properties_format.proofs.Split.Unique.{between-ends, between-value}
+
+-- a text and its end, without the end
+pub without_end-append : (x y : List ℕ) → without_end (x ++ y) y ≡ x
+without_end-append x y =
+    let l = length-append x y in
+    let n : length (x ++ y) - length y ≡ length x = omega arith in
+    ap (λ m. take m (x ++ y)) n ∙ take-append_seam x y
+
+-- what follows the key of a pair
+after_key-pair : (line key value : List ℕ) (h : IsPair line key value) → after_key line ≡ h.between ++ value
+after_key-pair line key value h =
+    ap (λ v. let c : Cut = cut_key v false in c.rest)
+    (ap without_leading_blanks h.whole ∙ without_leading_blanks-only h.indent (key ++ (h.between ++ value)) h.indent_blank h.begins_full)
+    ∙ ap (λ v. let c : Cut = v in c.rest) (cut_key-only key (h.between ++ value) h.is_key (between-ends h.between value h.is_between))
+
+-- The value of a pair.
+pub written_value-pair : (line key value : List ℕ) (h : IsPair line key value) → written_value line ≡ value
+written_value-pair line key value h =
+    ap (λ v. past_separator (without_leading_blanks v)) (after_key-pair line key value h) ∙ between-value h.between value h.is_between
+
+-- What stands between key and value of a pair.
+pub between_in-pair : (line key value : List ℕ) (h : IsPair line key value) → between_in line ≡ h.between
+between_in-pair line key value h =
+    ap₂ without_end (after_key-pair line key value h) (written_value-pair line key value h) ∙ without_end-append h.between value
+
+-- a pair's line is what stands before the value, and the value
+pub pair-line : (line key value : List ℕ) (h : IsPair line key value) → line ≡ (h.indent ++ (key ++ h.between)) ++ value
+pair-line line key value h =
+    h.whole
+    ∙ ap (λ v. h.indent ++ v) (sym (append_assoc key h.between value))
+    ∙ sym (append_assoc h.indent (key ++ h.between) value)
+
+-- What stands before the value of a pair.
+pub before_value-pair : (line key value : List ℕ) (h : IsPair line key value) → before_value line ≡ h.indent ++ (key ++ h.between)
+before_value-pair line key value h =
+    ap₂ without_end (pair-line line key value h) (written_value-pair line key value h) ∙ without_end-append (h.indent ++ (key ++ h.between)) value
+
+-- a comment line is no pair
+pub comment_line-no_pair : (line key value : List ℕ) → is_comment_line line ≡ true → IsPair line key value → ⊥
+comment_line-no_pair line key value c h =
+    let s : without_leading_blanks line ≡ key ++ (h.between ++ value) =
+    ap without_leading_blanks h.whole ∙ without_leading_blanks-only h.indent (key ++ (h.between ++ value)) h.indent_blank h.begins_full in
+    of_text (key ++ (h.between ++ value)) s h.no_comment
+  where
+    of_text : (x : List ℕ) → without_leading_blanks line ≡ x → begins is_comment_sign x ≡ false → ⊥
+    of_text [] s b = let m : begins_with_comment_sign [] ≡ true = ap begins_with_comment_sign (sym s) ∙ c in absurd (cc)
+    of_text (d ∷ x) s b = let m : begins_with_comment_sign (d ∷ x) ≡ true = ap begins_with_comment_sign (sym s) ∙ c in absurd (cc)

@@ -1,0 +1,246 @@
+-- What a source with a value set says, what of it stays, and what setting another value gives.
+use Rattle.std.proofs.Common.{◌≡◌, ℕ, true, List, [], ◌∷◌, ◌++◌, refl, ap, ap₂, sym, ◌∙◌, inl, inr, append_assoc, append-nil, subst, All}
+use Rattle.std.proofs.lemmas.List.{append_cancel_right}
+use Rattle.properties_format.specs.Text.{scalar}
+use Rattle.properties_format.specs.Encoding.{Encoding, InForce, byte_order_mark}
+use Rattle.properties_format.specs.Printing.{encoded_text}
+use Rattle.properties_format.specs.Body.{HeldLine, group_bytes, groups_bytes, ending_bytes, last_ending}
+use Rattle.properties_format.specs.Edited.{bom_of, final_group, put, edited, is_editable}
+use Rattle.properties_format.specs.Changed.{IsSetIn, map_edited, AreOthersThanLast, StandIn, ReadsAfter, KeepsOthers}
+use Rattle.properties_format.specs.Valued.{value_text, ending_in, parted_by, new_pair_bytes, IsFrontOf, IsValueSet, IsSetValueResult, KeepsFront}
+use Rattle.properties_format.specs.Reading.Body.{held_groups_of}
+use Rattle.properties_format.specs.Reading.Edited.{last_place}
+use Rattle.properties_format.specs.Reading.Slots.{unended_bytes}
+use Rattle.properties_format.specs.Reading.Valued.{front_of, between_of, valued_at, value_set}
+use Rattle.properties_format.proofs.Body.Groups.{held_groups_of-only, held-groups, held-body, groups_bytes-append}
+use Rattle.properties_format.proofs.Edited.Told.{told, givens}
+use Rattle.properties_format.proofs.Edited.Contents.{told-groups}
+use Rattle.properties_format.proofs.Edited.ByteOrderMarks.{source-whole}
+use Rattle.properties_format.proofs.Changed.Laws.{IsReadable, says, IsReadTo, read-to, groups-say}
+use Rattle.properties_format.proofs.Changed.Read.{readable, reads-after}
+use Rattle.properties_format.proofs.Changed.Maps.{map-edited}
+use Rattle.properties_format.proofs.Changed.Stand.{stand-after, stand-before, stand-all, stand-alone}
+use Rattle.properties_format.proofs.Valued.Made.{group-decoded}
+use Rattle.properties_format.proofs.Valued.Fronts.{front_of-meets}
+use Rattle.properties_format.proofs.Valued.Groups.{IsNotAt, IsValued, body-valued}
+use Rattle.properties_format.proofs.Valued.Marks.{front-bytes, value_set-in_force}
+
+-- ---- what it says
+
+-- what is so of the body
+valued-body : (e : Encoding) (source key value result : List ℕ) → is_editable (byte_order_mark e source).encoding ≡ true → All scalar key → All scalar value
+    → (h : IsValueSet e source key value result)
+    → IsValued (byte_order_mark e source).encoding h.groups key value h.body
+valued-body e source key value result ok k v h =
+    let f = byte_order_mark e source in body-valued f.encoding f.body h.groups key value h.body ok k v h.held h.edited
+
+-- After a value is set, the last pair with the key has it, or where there is none there is a new last pair; all else is said as before.
+pub value_set-says : (e : Encoding) (source key value result : List ℕ) → IsReadable e source → All scalar key → All scalar value
+    → IsValueSet e source key value result
+    → IsReadTo e result (IsSetIn key value (says e source))
+value_set-says e source key value result r k v h =
+    let f = byte_order_mark e source in
+    let m = valued-body e source key value result r.editable k v h in
+    let t = m.said (says e source) (groups-say e source h.groups r h.held) in
+    let same : told f.encoding h.body ≡ givens t.0 =
+    ap (told f.encoding) (sym (held-body f.encoding h.body m.groups r.editable m.held))
+    ∙ told-groups f.encoding m.groups (held-groups f.encoding h.body m.groups r.editable m.held)
+    ∙ t.2 in
+    read-to e result (record { encoding = f.encoding; body = h.body }) (IsSetIn key value (says e source)) r.editable
+    (value_set-in_force e source key value result r.editable h) (t.0, t.1, same)
+
+-- The result of setting a value reads as the source with that value.
+pub set_value-reads : (e : Encoding) (source key value result : List ℕ) → All scalar key → All scalar value → IsSetValueResult e source key value (edited result)
+    → ReadsAfter (IsSetIn key value) (map_edited (put key value)) e source result
+set_value-reads e source key value result k v h =
+    reads-after e source result (IsSetIn key value) (map_edited (put key value)) (value_set-says e source key value result (readable e source h.0 h.1) k v h.2) (map-edited (put key value))
+
+-- ---- another value
+
+-- the byte order mark of the result is that of the source
+bom-same : (e : Encoding) (source key value result : List ℕ) → is_editable (byte_order_mark e source).encoding ≡ true → (h : IsValueSet e source key value result)
+    → bom_of result ≡ bom_of source
+bom-same e source key value result ok h =
+    let f = value_set-in_force e source key value result ok h in
+    append_cancel_right (bom_of result) (bom_of source) h.body
+    (ap (λ v. let w : InForce = v in bom_of result ++ w.body) (sym f) ∙ sym (source-whole e result) ∙ h.whole)
+
+-- Setting another value in the result gives what it gives in the source, where that doesn't have it already.
+pub value_set-again : (e : Encoding) (source key first second between : List ℕ) → is_editable (byte_order_mark e source).encoding ≡ true → All scalar key
+    → All scalar first
+    → IsValueSet e source key first between
+    → IsNotAt second (last_place key (held_groups_of (byte_order_mark e source).encoding (byte_order_mark e source).body))
+    → value_set e between key second ≡ value_set e source key second
+value_set-again e source key first second between ok k v h other =
+    let f = byte_order_mark e source in
+    let m = valued-body e source key first between ok k v h in
+    let own = held_groups_of-only f.encoding f.body h.groups h.held in
+    ap (λ w. let g : InForce = w in bom_of between ++ valued_at g.encoding (held_groups_of g.encoding g.body) key second (last_place key (held_groups_of g.encoding g.body)))
+    (value_set-in_force e source key first between ok h)
+    ∙ ap₂ (λ x gs. x ++ valued_at f.encoding gs key second (last_place key gs)) (bom-same e source key first between ok h) (sym (held_groups_of-only f.encoding h.body m.groups m.held))
+    ∙ ap (λ x. bom_of source ++ x) (m.again second (subst (λ gs. IsNotAt second (last_place key gs)) (sym own) other))
+    ∙ ap (λ gs. bom_of source ++ valued_at f.encoding gs key second (last_place key gs)) own
+
+-- ---- what stays
+
+-- Where a value is set, every group but the last pair with the key stands as it was.
+pub value_set-keeps : (e : Encoding) (source key value result : List ℕ) → IsValueSet e source key value result → KeepsOthers (AreOthersThanLast key) e source result
+value_set-keeps e source key value result h = elim h.edited [
+  | inl r ↦ (
+    h.groups,
+    r.before ++ r.after,
+    h.held,
+    inr (r.before, r.group, r.after, r.division, (value, r.has_pair), r.no_later, refl),
+    subst (StandIn (r.before ++ r.after))
+        (sym (h.whole ∙ ap (λ v. bom_of source ++ v) (r.bytes ∙ ap groups_bytes r.division ∙ groups_bytes-append r.before (r.group ∷ r.after))))
+        (stand-after (r.before ++ r.after) (bom_of source) _ (stand-before r.before r.after _ (stand-after r.after (group_bytes r.group) (groups_bytes r.after) (stand-alone r.after)))),
+  )
+  | inr (inl r) ↦ (
+    h.groups,
+    r.before ++ r.after,
+    h.held,
+    inr (r.before, r.group, r.after, r.division, r.has_key, r.no_later, refl),
+    subst (StandIn (r.before ++ r.after)) (sym (h.whole ∙ ap (λ v. bom_of source ++ v) r.bytes))
+        (stand-after (r.before ++ r.after) (bom_of source) _
+        (stand-before r.before r.after _
+        (stand-after r.after r.front _ (stand-after r.after _ _ (stand-after r.after _ (groups_bytes r.after) (stand-alone r.after)))))),
+  )
+  | inr (inr r) ↦ (
+    h.groups,
+    h.groups,
+    h.held,
+    inl (r.no_pair, refl),
+    subst (StandIn h.groups) (sym (h.whole ∙ ap (λ v. bom_of source ++ v) (r.bytes ∙ append_assoc (groups_bytes h.groups) _ _)))
+        (stand-after h.groups (bom_of source) _ (stand-all h.groups _)),
+  )
+]
+
+-- lines are their bytes up to the last line ending, and that ending
+ended-whole : (h : HeldLine) (hs : List HeldLine) → group_bytes (h ∷ hs) ≡ unended_bytes (h ∷ hs) ++ ending_bytes (last_ending (h ∷ hs))
+ended-whole h [] = ap (λ v. h.bytes ++ v) (append-nil (ending_bytes h.ending))
+ended-whole h (i ∷ hs) =
+    ap (λ v. h.bytes ++ (ending_bytes h.ending ++ v)) (ended-whole i hs)
+    ∙ ap (λ v. h.bytes ++ v) (sym (append_assoc (ending_bytes h.ending) (unended_bytes (i ∷ hs)) (ending_bytes (last_ending (i ∷ hs)))))
+    ∙ sym (append_assoc h.bytes (ending_bytes h.ending ++ unended_bytes (i ∷ hs)) (ending_bytes (last_ending (i ∷ hs))))
+
+-- what follows the front of a pair, up to its last line ending
+abbrev after_front : HeldLine → List ℕ → List HeldLine → List ℕ
+after_front line tail more = unended_bytes (record { bytes = tail; text = line.text; ending = line.ending } ∷ more)
+
+-- the ending of the last of some lines
+last-ending : (a : List HeldLine) (h : HeldLine) (b : List HeldLine) → last_ending (a ++ h ∷ b) ≡ last_ending (h ∷ b)
+last-ending [] h b = refl
+last-ending (i ∷ []) h b = refl
+last-ending (i ∷ j ∷ a) h b = last-ending (j ∷ a) h b
+
+-- the ending doesn't hang on the bytes
+same-ending : (line : HeldLine) (tail : List ℕ) (more : List HeldLine)
+    → last_ending (record { bytes = tail; text = line.text; ending = line.ending } ∷ more) ≡ last_ending (line ∷ more)
+same-ending line tail [] = refl
+same-ending line tail (i ∷ more) = refl
+
+-- the bytes of a pair's group: its front, what follows it, and its line ending
+pair-bytes : (e : Encoding) (group : List HeldLine) (between front : List ℕ) (f : IsFrontOf e group between front)
+    → group_bytes group ≡ front ++ (after_front f.line f.tail f.more ++ ending_bytes (last_ending group))
+pair-bytes e group between front f =
+    front-bytes e group between front f
+    ∙ ap (λ v. front ++ v) (ended-whole (record { bytes = f.tail; text = f.line.text; ending = f.line.ending }) f.more)
+    ∙ ap (λ o. front ++ (after_front f.line f.tail f.more ++ ending_bytes o)) (same-ending f.line f.tail f.more ∙ sym (ap last_ending f.division ∙ last-ending f.kept f.line f.more))
+
+-- a source with such a pair in it, divided around its value
+around-source : (e : Encoding) (source : List ℕ) (before : List (List HeldLine)) (group : List HeldLine) (after : List (List HeldLine)) (between front : List ℕ)
+    (f : IsFrontOf (byte_order_mark e source).encoding group between front) → (byte_order_mark e source).body ≡ groups_bytes (before ++ group ∷ after)
+    → source ≡ bom_of source ++ ((groups_bytes before ++ front) ++ (after_front f.line f.tail f.more ++ (ending_bytes (last_ending group) ++ groups_bytes after)))
+around-source e source before group after between front f s =
+    let old = after_front f.line f.tail f.more in
+    let by = ending_bytes (last_ending group) in
+    source-whole e source
+    ∙ ap (λ v. bom_of source ++ v)
+    (s
+    ∙ groups_bytes-append before (group ∷ after)
+    ∙ ap (λ v. groups_bytes before ++ (v ++ groups_bytes after)) (pair-bytes (byte_order_mark e source).encoding group between front f)
+    ∙ ap (λ v. groups_bytes before ++ v) (append_assoc front (old ++ by) (groups_bytes after) ∙ ap (λ v. front ++ v) (append_assoc old by (groups_bytes after)))
+    ∙ sym (append_assoc (groups_bytes before) front (old ++ (by ++ groups_bytes after))))
+
+-- Where a value is set, every byte outside the old one stays.
+pub value_set-keeps_front : (e : Encoding) (source key value result : List ℕ) → is_editable (byte_order_mark e source).encoding ≡ true
+    → IsValueSet e source key value result
+    → KeepsFront e source key result
+value_set-keeps_front e source key value result ok h =
+    let f = byte_order_mark e source in
+    let body : f.body ≡ groups_bytes h.groups = sym (held-body f.encoding f.body h.groups ok h.held) in
+    elim h.edited [
+      | inl r ↦
+          let p = r.has_pair in
+          let m = front_of-meets f.encoding r.group p.raw_key p.raw_value ok (group-decoded f.encoding f.body h.groups r.before r.group r.after h.held r.division) p.split in
+          let s = around-source e source r.before r.group r.after (between_of r.group) (front_of f.encoding r.group) m (body ∙ ap groups_bytes r.division) in (
+            h.groups,
+            h.held,
+            inl (record {
+              front = groups_bytes r.before ++ front_of f.encoding r.group;
+              back = ending_bytes (last_ending r.group) ++ groups_bytes r.after;
+              around = record {
+                before = r.before;
+                group = r.group;
+                after = r.after;
+                division = r.division;
+                has_key = (value, r.has_pair);
+                no_later = r.no_later;
+                between = between_of r.group;
+                pair_front = front_of f.encoding r.group;
+                is_front = m;
+                front_bytes = refl;
+                back_bytes = refl;
+              };
+              old = after_front m.line m.tail m.more;
+              new = after_front m.line m.tail m.more;
+              source_is = s;
+              result_is = h.whole ∙ ap (λ v. bom_of source ++ v) (r.bytes ∙ sym body) ∙ sym (source-whole e source) ∙ s;
+            }),
+          )
+      | inr (inl r) ↦
+          let m = r.is_front in
+          let back = ending_bytes (last_ending r.group) ++ groups_bytes r.after in
+          let new = encoded_text f.encoding (value_text f.encoding r.between value) in (
+            h.groups,
+            h.held,
+            inl (record {
+              front = groups_bytes r.before ++ r.front;
+              back = back;
+              around = record {
+                before = r.before;
+                group = r.group;
+                after = r.after;
+                division = r.division;
+                has_key = r.has_key;
+                no_later = r.no_later;
+                between = r.between;
+                pair_front = r.front;
+                is_front = m;
+                front_bytes = refl;
+                back_bytes = refl;
+              };
+              old = after_front m.line m.tail m.more;
+              new = new;
+              source_is = around-source e source r.before r.group r.after r.between r.front m (body ∙ ap groups_bytes r.division);
+              result_is = h.whole ∙ ap (λ v. bom_of source ++ v) (r.bytes ∙ sym (append_assoc (groups_bytes r.before) r.front (new ++ back)));
+            }),
+          )
+      | inr (inr r) ↦
+          let parting = parted_by (ending_in h.groups) (final_group h.groups) in
+          let more = parting ++ new_pair_bytes f.encoding (groups_bytes h.groups ++ parting) key r.separator value (ending_in h.groups) in (
+            h.groups,
+            h.held,
+            inr (
+              r.no_pair,
+              more,
+              h.whole
+                  ∙ ap (λ v. bom_of source ++ v)
+                  (r.bytes
+                  ∙ append_assoc (groups_bytes h.groups) parting (new_pair_bytes f.encoding (groups_bytes h.groups ++ parting) key r.separator value (ending_in h.groups))
+                  ∙ ap (λ v. v ++ more) (sym body))
+                  ∙ sym (append_assoc (bom_of source) f.body more)
+                  ∙ ap (λ v. v ++ more) (sym (source-whole e source)),
+            ),
+          )
+    ]

@@ -1,0 +1,268 @@
+-- A pair with another value: its front and what is spelt for the value are a group, which is the pair of its key and the value, and has the same front.
+use Rattle.std.proofs.Common.{◌≡◌, ◌≢◌, ◌⊎◌, ◌<◌, ℕ, ◌==◌, not, Bool, true, false, List, [], ◌∷◌, ◌++◌, Option, refl, ap, ap₂, sym, ◌∙◌, inl, inr, append_assoc, append-nil, lit<, subst, eqb-true}
+use Rattle.std.specs.Prelude.{unwrap_or, if◌then◌else◌}
+use Rattle.std.proofs.lemmas.Bool.{cases_Bool}
+use Rattle.properties_format.specs.Text.{backslash, equals_sign, LineEnding, is_blank, is_separator, is_comment_sign}
+use Rattle.properties_format.specs.Encoding.{Encoding}
+use Rattle.properties_format.specs.Reading.Cut.{decoded_line}
+use Rattle.properties_format.specs.Groups.{is_open, is_comment_line, EndsClosed, AreOpen, IsWhole, joined}
+use Rattle.properties_format.specs.Split.{AreBlanks, begins, ends, KeyUnit, plain, escaped, last, units_before, AreUnits, IsKey, IsBetween, nothing, blanks, separator, IsPair}
+use Rattle.properties_format.specs.Reading.Split.{ends_key}
+use Rattle.properties_format.specs.Printing.{encoded_text}
+use Rattle.properties_format.specs.Reading.Settings.{is_blanks}
+use Rattle.properties_format.specs.Body.{HeldLine, as_lines}
+use Rattle.properties_format.specs.Edited.{is_editable}
+use Rattle.properties_format.specs.Valued.{spelt_value, value_text, IsFrontOf}
+use Rattle.properties_format.specs.Reading.Valued.{without_indent, added_by}
+use Rattle.properties_format.proofs.Groups.Open.{is_open-backslash, is_open-other, is_open-after, without_open_backslash-closed}
+use Rattle.properties_format.proofs.Groups.Joined.{joined-closed}
+use Rattle.properties_format.proofs.Split.Keys.{units_before-append}
+use Rattle.properties_format.proofs.Split.Unique.{separator-full}
+use Rattle.properties_format.proofs.Settings.Tests.{is_blanks-from}
+use Rattle.properties_format.proofs.Cut.Byline.{decoded_line-only}
+use Rattle.properties_format.proofs.Printing.Characters.{encoded-ascii}
+use Rattle.properties_format.proofs.ReadBack.Bytes.{AreWritable, text-decoded}
+use Rattle.properties_format.proofs.Body.Groups.{IsLastFit}
+use Rattle.properties_format.proofs.Edited.Pair.{editable-own}
+use Rattle.properties_format.proofs.Valued.Heads.{ascii-end, ascii-among}
+use Rattle.properties_format.proofs.Valued.Fronts.{indented, open-indent, indent-head, shut-closed, joined_by, joined-by, is_first_after, joined_by-append}
+use Rattle.properties_format.proofs.Valued.Fronts.{none-left, none-right, right-some, ends-last, ends-right, ends_key-ascii, between-end, front-text}
+use Rattle.properties_format.proofs.Valued.Texts.{BeginsAfter}
+
+-- ---- whether two texts together are open
+
+-- a text after one that is open or not
+abbrev open_on : Bool → List ℕ → Bool
+open_on was_open [] = was_open
+open_on was_open (c ∷ x) = open_on (if c == backslash then not was_open else false) x
+
+-- it is open where this says so
+open-on : (x y : List ℕ) → is_open (x ++ y) ≡ open_on (is_open x) y
+open-on x [] = ap is_open (append-nil x)
+open-on x (c ∷ y) = ap is_open (sym (append_assoc x (c ∷ []) y)) ∙ open-on (x ++ c ∷ []) y ∙ ap (λ b. open_on b y) (step (cases_Bool (c == backslash)))
+  where
+    step : ((c == backslash) ≡ true) ⊎ ((c == backslash) ≡ false) → is_open (x ++ c ∷ []) ≡ (if c == backslash then not (is_open x) else false)
+    step (inl k) = rw k (ap (λ d. is_open (x ++ d ∷ [])) (eqb-true c backslash k) ∙ is_open-backslash x)
+    step (inr k) = rw k (is_open-other x c k)
+
+-- after a text that isn't open, a text is open as by itself
+pub open-closed : (x y : List ℕ) → is_open x ≡ false → is_open (x ++ y) ≡ is_open y
+open-closed x y h = open-on x y ∙ ap (λ b. open_on b y) h ∙ sym (open-on [] y)
+
+-- what lines add is not open
+pub added-closed : (first : Bool) (hs : List HeldLine) → is_open (joined_by first hs) ≡ false
+added-closed first [] = refl
+added-closed first (h ∷ hs) =
+    open-closed (added_by first h.text) (joined_by false hs) (shut-closed (without_indent first h.text)) ∙ added-closed false hs
+
+-- ---- a key before another text
+
+-- the units of a key that ends in no lone backslash may stand before any text
+units-anew : (us : List KeyUnit) (rest other : List ℕ) → AreUnits us rest → (rest ≢ []) ⊎ (is_open (units_before us []) ≡ false) → AreUnits us other
+units-anew [] rest other h k = tt
+units-anew (plain c ∷ us) rest other h (inl k) = (h.0, units-anew us rest other h.1 (inl k))
+units-anew (plain c ∷ us) rest other h (inr k) =
+    (h.0, units-anew us rest other h.1 (inr (sym (is_open-after [] c (units_before us []) h.0.0) ∙ k)))
+units-anew (escaped c ∷ us) rest other h (inl k) = (tt, units-anew us rest other h.1 (inl k))
+units-anew (escaped c ∷ us) rest other h (inr k) =
+    (tt, units-anew us rest other h.1 (inr (sym (open-closed (backslash ∷ c ∷ []) (units_before us []) (two (cases_Bool (c == backslash)))) ∙ k)))
+  where
+    two : ((c == backslash) ≡ true) ⊎ ((c == backslash) ≡ false) → is_open (backslash ∷ c ∷ []) ≡ false
+    two (inl m) = rw (eqb-true c backslash m) refl
+    two (inr m) = is_open-other (backslash ∷ []) c m
+units-anew (last ∷ us) rest other h (inl k) = absurd (k (none-right (units_before us []) rest (sym (units_before-append us rest) ∙ h.0)))
+units-anew (last ∷ us) rest other h (inr k) =
+    let n : units_before us [] ≡ [] = none-left (units_before us []) rest (sym (units_before-append us rest) ∙ h.0) in
+    let m : is_open (backslash ∷ []) ≡ false = ap (λ v. is_open (backslash ∷ v)) (sym n) ∙ k in
+    absurd (cc)
+
+-- and so may such a key
+key-anew : (key rest other : List ℕ) → IsKey key rest → (rest ≢ []) ⊎ (is_open key ≡ false) → IsKey key other
+key-anew key rest other h (inl k) = record { units = h.units; whole = h.whole; each = units-anew h.units rest other h.each (inl k) }
+key-anew key rest other h (inr k) =
+    record { units = h.units; whole = h.whole; each = units-anew h.units rest other h.each (inr (ap is_open (sym h.whole) ∙ k)) }
+
+-- ---- what stands between and the value
+
+-- what stands between key and the value after the change, and what is spelt for the value
+abbrev pub between_after : List ℕ → List ℕ
+between_after [] = equals_sign ∷ []
+between_after (c ∷ cs) = c ∷ cs
+
+-- what is spelt for the value after it
+abbrev pub value_after : Encoding → List ℕ → List ℕ → List ℕ
+value_after e between value = spelt_value e (is_blanks (between_after between)) value
+
+-- what comes after the front is what is missing of what stands between, and the value
+abbrev pub missing : List ℕ → List ℕ
+missing [] = equals_sign ∷ []
+missing (c ∷ cs) = []
+
+-- what comes after the front is both
+pub value_text-parts : (e : Encoding) (between value : List ℕ) → value_text e between value ≡ missing between ++ value_after e between value
+value_text-parts e [] value = refl
+value_text-parts e (c ∷ cs) value = refl
+
+-- and what stands between is what stood there, and what was missing
+pub between_after-parts : (between : List ℕ) → between_after between ≡ between ++ missing between
+between_after-parts [] = refl
+between_after-parts (c ∷ cs) = sym (append-nil (c ∷ cs))
+
+-- a separator with blanks around it isn't blank
+pub sign-no_blanks : (before : List ℕ) (sign : ℕ) (after : List ℕ) → is_separator sign ≡ true → is_blanks (before ++ sign ∷ after) ≡ false
+sign-no_blanks [] sign after h = rw (separator-full sign h) refl
+sign-no_blanks (c ∷ before) sign after h = elim (cases_Bool (is_blank c)) [
+  | inl k ↦ rw k (sign-no_blanks before sign after h)
+  | inr k ↦ rw k refl
+]
+
+-- what stands between key and value stands so before another value, which begins as one that is spelt
+between-anew : (between old new : List ℕ) → IsBetween between old → BeginsAfter (is_blanks (between_after between)) new → IsBetween (between_after between) new
+between-anew [] old new h b = separator [] equals_sign [] refl tt refl tt b.no_blank
+between-anew (c ∷ cs) old new (nothing s t) b = absurd (cc)
+between-anew (c ∷ cs) old new (blanks some are a d) b = blanks some are b.no_blank (b.no_separator (is_blanks-from (c ∷ cs) are))
+between-anew (c ∷ cs) old new (separator before sign after s are t d f) b = separator before sign after s are t d b.no_blank
+
+-- ---- the pair with another value
+
+-- a text begins as one with more after it, where it isn't empty
+begins-more : (kind : ℕ → Bool) (x y z : List ℕ) → x ≢ [] → begins kind (x ++ y) ≡ false → begins kind (x ++ z) ≡ false
+begins-more kind [] y z h k = absurd (h refl)
+begins-more kind (c ∷ x) y z h k = k
+
+-- of a pair key and what stands between are not empty together
+key-between : (line key value : List ℕ) (h : IsPair line key value) → key ++ h.between ≢ []
+key-between line key value h q = elim (between-end h.between value h.is_between) [
+  | inl m ↦ m.0 (none-right key h.between q)
+  | inr m ↦ h.not_empty (ap₂ (λ v w. v ++ w) (none-left key h.between q) (ap₂ (λ v w. v ++ w) m.0 m.1))
+]
+
+-- The line is a pair with this key and value, and the same indent and what stands between.
+pub record IsPairAnew (line key value indent between : List ℕ) : Type 0 where
+  pub is_pair : IsPair line key value
+  pub indent_is : is_pair.indent ≡ indent
+  pub between_is : is_pair.between ≡ between
+
+-- after the change the line is the pair with the new value
+pub pair-anew : (line key old new : List ℕ) (h : IsPair line key old) (between other : List ℕ) → between ≡ h.between
+    → BeginsAfter (is_blanks (between_after between)) new → (between ≡ [] → is_open key ≡ false)
+    → other ≡ h.indent ++ (key ++ (between_after between ++ new))
+    → IsPairAnew other key new h.indent (between_after between)
+pair-anew line key old new h between other s b closed whole =
+    let some : key ++ between ≢ [] = λ q. key-between line key old h (ap (λ v. key ++ v) (sym s) ∙ q) in
+    let same : key ++ (between_after between ++ new) ≡ (key ++ between) ++ (missing between ++ new) =
+    ap (λ v. key ++ (v ++ new)) (between_after-parts between)
+    ∙ ap (λ v. key ++ v) (append_assoc between (missing between) new)
+    ∙ sym (append_assoc key between (missing between ++ new)) in
+    let was : key ++ (h.between ++ old) ≡ (key ++ between) ++ old = ap (λ v. key ++ (v ++ old)) (sym s) ∙ sym (append_assoc key between old) in
+    let keeps : (kind : ℕ → Bool) → begins kind (key ++ (h.between ++ old)) ≡ false → begins kind (key ++ (between_after between ++ new)) ≡ false = λ kind k.
+    ap (begins kind) same ∙ begins-more kind (key ++ between) old (missing between ++ new) some (ap (begins kind) (sym was) ∙ k) in
+    record {
+      is_pair = record {
+        indent = h.indent;
+        between = between_after between;
+        whole = whole;
+        indent_blank = h.indent_blank;
+        not_empty = λ q. some (none-left (key ++ between) (missing between ++ new) (sym same ∙ q));
+        begins_full = keeps is_blank h.begins_full;
+        no_comment = keeps is_comment_sign h.no_comment;
+        is_key = key-anew key (h.between ++ old) (between_after between ++ new) h.is_key (of-between between s);
+        is_between = between-anew between old new (subst (λ v. IsBetween v old) (sym s) h.is_between) b;
+      };
+      indent_is = refl;
+      between_is = refl;
+    }
+  where
+    of-between : (x : List ℕ) → x ≡ h.between → (h.between ++ old ≢ []) ⊎ (is_open key ≡ false)
+    of-between [] t = inr (closed (s ∙ sym t))
+    of-between (c ∷ x) t = inl (λ q. absurd (cc (t ∙ none-left h.between old q)))
+
+-- ---- the line after the front
+
+-- the lines that are kept, and then such a line, add so much more
+pub longer-joined : (e : Encoding) (kept : List HeldLine) (text more bytes : List ℕ) (o : Option LineEnding)
+    → ((i : HeldLine) (is : List HeldLine) → kept ≡ i ∷ is → is_comment_line i.text ≡ false) → ¬ (AreBlanks text) → is_open (text ++ more) ≡ false
+    → joined (as_lines (kept ++ record { bytes = bytes; text = text ++ more; ending = o } ∷ []))
+    ≡ (joined_by true kept ++ without_indent (is_first_after true kept) text) ++ more
+longer-joined e [] text more bytes o f n c = joined-closed (record { number = 0; text = text ++ more }) c
+longer-joined e (i ∷ kept) text more bytes o f n c =
+    let l : HeldLine = record { bytes = bytes; text = text ++ more; ending = o } in
+    let add : added_by false (text ++ more) ≡ without_indent false text ++ more =
+    without_open_backslash-closed (without_indent false (text ++ more)) (open-indent false (text ++ more) ∙ c) ∙ indent-head false text more n in
+    joined-by i (kept ++ l ∷ []) (f i kept refl)
+    ∙ joined_by-append true (i ∷ kept) (l ∷ [])
+    ∙ ap (λ v. joined_by true (i ∷ kept) ++ v) (append-nil (added_by false (text ++ more)) ∙ add)
+    ∙ sym (append_assoc (joined_by true (i ∷ kept)) (without_indent false text) more)
+
+-- they are a whole group, where the lines that are kept begin a group
+pub longer-whole : (kept : List HeldLine) (line : HeldLine) (more : List HeldLine) (h : HeldLine) → IsLastFit (kept ++ line ∷ more) → is_open h.text ≡ false
+    → ((i : HeldLine) (is : List HeldLine) → kept ≡ i ∷ is → is_comment_line i.text ≡ false)
+    → IsWhole (as_lines (kept ++ h ∷ []))
+longer-whole [] line more h k c f = elim (cases_Bool (is_comment_line h.text)) [ inl m ↦ inl (m, refl) | inr m ↦ inr (m, c) ]
+longer-whole (i ∷ kept) line more h (inl (inl k)) c f = let m = f i kept refl in absurd (cc (k.0, m))
+longer-whole (i ∷ kept) line more h (inl (inr k)) c f = inr (k.0, closes i kept k.1)
+  where
+    closes : (i : HeldLine) (kept : List HeldLine) → EndsClosed (record { number = 0; text = i.text }) (as_lines (kept ++ line ∷ more))
+        → EndsClosed (record { number = 0; text = i.text }) (as_lines (kept ++ h ∷ []))
+    closes i [] m = (m.0, c)
+    closes i (j ∷ kept) m = (m.0, closes j kept m.1)
+longer-whole (i ∷ kept) line more h (inr k) c f = inr (k.0, closes i kept k.1)
+  where
+    closes : (i : HeldLine) (kept : List HeldLine) → AreOpen (as_lines (i ∷ kept ++ line ∷ more))
+        → EndsClosed (record { number = 0; text = i.text }) (as_lines (kept ++ h ∷ []))
+    closes i [] m = (m.0, c)
+    closes i (j ∷ kept) m = (m.0, closes j kept m.1)
+
+-- ---- the bytes after the front
+
+-- bytes of a text that can be written are decoded to it
+pub text-own : (e : Encoding) (x : List ℕ) → is_editable e ≡ true → AreWritable e x → decoded_line e (encoded_text e x) ≡ x
+text-own e x ok w = subst (λ a. decoded_line a (encoded_text e x) ≡ x) (editable-own e ok) (text-decoded e x w.scalars w.encodable)
+
+-- what ends a head is an ASCII character, where something stands between key and value
+pub front-ends : (e : Encoding) (group : List HeldLine) (between front : List ℕ) (f : IsFrontOf e group between front) → between ≢ []
+    → (w : List ℕ) × (c : ℕ) × (f.head_text ≡ w ++ c ∷ []) × (c < 0x80)
+front-ends e group between front f some =
+    let h = f.is_pair in
+    let first = is_first_after true f.kept in
+    let q = without_indent first f.head_text in
+    let a : ends ends_key between ≡ true = of-between (between-end h.between f.value h.is_between) in
+    let t = front-text e group between front f in
+    let b : ends ends_key (joined_by true f.kept ++ q) ≡ true =
+    ap (ends ends_key) (sym t)
+    ∙ ends-right ends_key h.indent (f.key ++ between) (right-some f.key between some)
+    ∙ ends-right ends_key f.key between some
+    ∙ a in
+    let i = indented first f.head_text in
+    let n : q ≢ [] = λ z. f.not_blank (subst AreBlanks (sym (i.whole ∙ ap (λ v. i.indent ++ v) z ∙ append-nil i.indent)) i.blank) in
+    let m = ends-last ends_key q (sym (ends-right ends_key (joined_by true f.kept) q n) ∙ b) in (
+      i.indent ++ m.0,
+      m.1,
+      i.whole ∙ ap (λ v. i.indent ++ v) m.2 ∙ sym (append_assoc i.indent m.0 (m.1 ∷ [])),
+      ends_key-ascii m.1 m.3,
+    )
+  where
+    of-between : (f.is_pair.between ≢ []) × (ends ends_key f.is_pair.between ≡ true) ⊎ (f.is_pair.between ≡ []) × (f.value ≡ []) → ends ends_key between ≡ true
+    of-between (inl m) = ap (ends ends_key) f.is_between ∙ m.1
+    of-between (inr m) = absurd (some (f.is_between ∙ m.0))
+
+-- the head, and then what is spelt for a value, are decoded to both texts
+pub after-front : (e : Encoding) (group : List HeldLine) (between front value : List ℕ) (f : IsFrontOf e group between front) → is_editable e ≡ true
+    → AreWritable e (value_after e between value)
+    → decoded_line e (f.head ++ encoded_text e (value_text e between value)) ≡ f.head_text ++ value_text e between value
+after-front e group [] front value f ok w =
+    let x = spelt_value e false value in
+    let head : decoded_line e f.head ≡ f.head_text = sym (decoded_line-only e f.head f.head_text f.is_head) in
+    ap (λ o. decoded_line e (f.head ++ (unwrap_or o [] ++ encoded_text e x))) (encoded-ascii e equals_sign (lit< tt))
+    ∙ ascii-among e f.head equals_sign (encoded_text e x) ok (lit< tt)
+    ∙ ap₂ (λ v z. v ++ equals_sign ∷ z) head (text-own e x ok w)
+after-front e group (b ∷ bs) front value f ok w =
+    let x = value_text e (b ∷ bs) value in
+    let m = front-ends e group (b ∷ bs) front f (λ q. cc) in
+    let n = ascii-end e f.head m.0 m.1 ok m.3 (sym (decoded_line-only e f.head f.head_text f.is_head) ∙ m.2) in
+    ap (λ v. decoded_line e (v ++ encoded_text e x)) n.bytes
+    ∙ ap (decoded_line e) (append_assoc n.front (m.1 ∷ []) (encoded_text e x))
+    ∙ ascii-among e n.front m.1 (encoded_text e x) ok m.3
+    ∙ ap₂ (λ v z. v ++ m.1 ∷ z) n.text (text-own e x ok w)
+    ∙ sym (append_assoc m.0 (m.1 ∷ []) x)
+    ∙ ap (λ v. v ++ x) (sym m.2)

@@ -1,0 +1,307 @@
+-- A new pair: its separator is a good one, its line is the pair, and all before the value is its front.
+use Rattle.std.proofs.Common.{◌≡◌, ◌≢◌, ℕ, ◌&&◌, Bool, true, false, List, [], ◌∷◌, ◌++◌, Some, map, refl, ap, sym, ◌∙◌, inl, inr, append_assoc, append-nil, subst}
+use Rattle.std.specs.Prelude.{All}
+use Rattle.std.proofs.lemmas.Bool.{cases_Bool, cond-true, cond-false, and_left}
+use Rattle.std.proofs.lemmas.List.Elements.{recursion_from_All}
+use Rattle.properties_format.specs.Text.{scalar, equals_sign, LineEnding, is_blank, is_separator}
+use Rattle.properties_format.specs.Encoding.{Encoding}
+use Rattle.properties_format.specs.Lines.{HoldsNoLineEnd, Line}
+use Rattle.properties_format.specs.Cut.{IsDecodedLine}
+use Rattle.properties_format.specs.Reading.Cut.{decoded_line}
+use Rattle.properties_format.specs.Groups.{is_open, is_comment_line, IsWhole, joined}
+use Rattle.properties_format.specs.Split.{AreBlanks, begins, IsBetween, nothing, blanks, separator, IsPair}
+use Rattle.properties_format.specs.Escapes.{Spelling, spelling_text, spelt_character, spelt_before}
+use Rattle.properties_format.specs.Settings.{IsGoodSeparator}
+use Rattle.properties_format.specs.Printing.{spelt_key, encoded_text}
+use Rattle.properties_format.specs.Writing.{is_empty}
+use Rattle.properties_format.specs.Reading.Settings.{is_blanks}
+use Rattle.properties_format.specs.Body.{HeldLine, as_lines}
+use Rattle.properties_format.specs.Edited.{is_editable}
+use Rattle.properties_format.specs.Valued.{spelt_value, shortened_after, separator_after, IsNewSeparator, IsFrontOf, HasPair}
+use Rattle.properties_format.proofs.Lines.Plain.{plain-append}
+use Rattle.properties_format.proofs.Groups.Joined.{joined-closed}
+use Rattle.properties_format.proofs.Split.Unique.{separator-full}
+use Rattle.properties_format.proofs.Split.Laws.{IsKey-nil, separator-sign}
+use Rattle.properties_format.proofs.Settings.Tests.{is_blanks-from}
+use Rattle.properties_format.proofs.Escapes.Unique.{meaning_of-meets}
+use Rattle.properties_format.proofs.Cut.Byline.{decoded_line-meets}
+use Rattle.properties_format.proofs.Printing.Characters.{encoded_text-append, good_separator-ascii, spelt_key-encodable}
+use Rattle.properties_format.proofs.ReadBack.Texts.{AreSafe, AreSafelySpelt, spelt-means, spelt-plain, are_safe-key, BeginsFull, safe-begins}
+use Rattle.properties_format.proofs.ReadBack.Pairs.{key-spelt, separator-some, separator-quiet, closed-after}
+use Rattle.properties_format.proofs.ReadBack.Bytes.{AreWritable, writable-append, key-scalars}
+use Rattle.properties_format.proofs.Body.Decoded.{decoded-nil, plain-bytes}
+use Rattle.properties_format.proofs.Valued.Fronts.{blanks-right, none-left, none-right, right-some}
+use Rattle.properties_format.proofs.Valued.Texts.{BeginsAfter, value-loose, loose-means, loosely-plain, loosely-closed, value-begins, ascii-writable, value-writable}
+use Rattle.properties_format.proofs.Valued.Revalued.{text-own}
+
+-- ---- the separator
+
+-- of blanks the first of each run are blanks
+shortened-blank : (was : Bool) (x : List ℕ) → AreBlanks x → AreBlanks (shortened_after was x)
+shortened-blank was [] h = tt
+shortened-blank true (c ∷ x) h = rw h.0 (shortened-blank true x h.1)
+shortened-blank false (c ∷ x) h = (h.0, rw h.0 (shortened-blank true x h.1))
+
+-- and those around a sign stay around it
+shortened-sign : (was : Bool) (before : List ℕ) (sign : ℕ) (after : List ℕ) → AreBlanks before → is_separator sign ≡ true
+    → shortened_after was (before ++ sign ∷ after) ≡ shortened_after was before ++ sign ∷ shortened_after false after
+shortened-sign true [] sign after h s = rw (separator-full sign s) refl
+shortened-sign false [] sign after h s = rw (separator-full sign s) refl
+shortened-sign true (c ∷ before) sign after h s = rw h.0 (shortened-sign true before sign after h.1 s)
+shortened-sign false (c ∷ before) sign after h s = rw h.0 (ap (λ v. c ∷ v) (shortened-sign true before sign after h.1 s))
+
+-- an equals sign is a good separator
+equals-good : IsGoodSeparator (equals_sign ∷ [])
+equals-good = inl (record { before = []; sign = equals_sign; after = []; division = refl; blank_before = tt; signed = refl; blank_after = tt })
+
+-- what stands between the key and the value of a pair, shortened, is a good separator
+shortened-good : (c : ℕ) (cs value : List ℕ) → IsBetween (c ∷ cs) value → IsGoodSeparator (shortened_after false (c ∷ cs))
+shortened-good c cs value (nothing s t) = absurd (cc)
+shortened-good c cs value (blanks some are a d) = inr (record { some = λ q. cc; blank = shortened-blank false (c ∷ cs) are })
+shortened-good c cs value (separator before sign after s are t d f) =
+    inl (record {
+      before = shortened_after false before;
+      sign = sign;
+      after = shortened_after false after;
+      division = ap (shortened_after false) s ∙ shortened-sign false before sign after are t;
+      blank_before = shortened-blank false before are;
+      signed = t;
+      blank_after = shortened-blank false after d;
+    })
+
+-- and blank only where it was
+shortened-blanks : (was : Bool) (x : List ℕ) → is_blanks (shortened_after was x) ≡ is_blanks x
+shortened-blanks was [] = refl
+shortened-blanks true (c ∷ x) = elim (cases_Bool (is_blank c)) [
+  | inl k ↦ rw k (shortened-blanks true x)
+  | inr k ↦
+      ap is_blanks (cond-false (is_blank c) (shortened_after true x) (c ∷ shortened_after (is_blank c) x) k)
+      ∙ and_left (is_blank c) (is_blanks (shortened_after (is_blank c) x)) k
+      ∙ sym (and_left (is_blank c) (is_blanks x) k)
+]
+shortened-blanks false (c ∷ x) = elim (cases_Bool (is_blank c)) [
+  | inl k ↦ rw k (shortened-blanks true x)
+  | inr k ↦ and_left (is_blank c) (is_blanks (shortened_after (is_blank c) x)) k ∙ sym (and_left (is_blank c) (is_blanks x) k)
+]
+
+-- A separator that may stand after this key: a good one, and not blanks alone where the key is empty.
+pub record IsFitSeparator (key separator : List ℕ) : Type 0 where
+  pub good : IsGoodSeparator separator
+  pub signed : key ≡ [] → is_blanks separator ≡ false
+
+-- the separator after a pair with this between
+after-fit : (key between value : List ℕ) → IsBetween between value → IsFitSeparator key (separator_after key between)
+after-fit key [] value h = record { good = equals-good; signed = λ q. refl }
+after-fit key (c ∷ cs) value h = elim (cases_Bool (is_empty key && is_blanks (c ∷ cs))) [
+  | inl k ↦
+      subst (IsFitSeparator key) (sym (cond-true (is_empty key && is_blanks (c ∷ cs)) (equals_sign ∷ []) (shortened_after false (c ∷ cs)) k))
+      (record { good = equals-good; signed = λ q. refl })
+  | inr k ↦
+      subst (IsFitSeparator key) (sym (cond-false (is_empty key && is_blanks (c ∷ cs)) (equals_sign ∷ []) (shortened_after false (c ∷ cs)) k))
+      (record {
+        good = shortened-good c cs value h;
+        signed = λ q. shortened-blanks false (c ∷ cs) ∙ sym (ap (λ v. is_empty v && is_blanks (c ∷ cs)) q) ∙ k;
+      })
+]
+
+-- The separator of a new pair is such.
+pub new_separator-fit : (groups : List (List HeldLine)) (key sep : List ℕ) → IsNewSeparator groups key sep → IsFitSeparator key sep
+new_separator-fit groups key sep (inl h) = subst (IsFitSeparator key) (sym h.separator_is) (after-fit key h.is_pair.between h.value h.is_pair.is_between)
+new_separator-fit groups key sep (inr h) = subst (IsFitSeparator key) (sym h.1) (record { good = equals-good; signed = λ q. refl })
+
+-- ---- the line of a new pair
+
+-- before a value that begins so, a good separator stands between
+good-between : (sep value : List ℕ) → IsGoodSeparator sep → BeginsAfter (is_blanks sep) value → IsBetween sep value
+good-between sep value (inl g) b = separator g.before g.sign g.after g.division g.blank_before g.signed g.blank_after b.no_blank
+good-between sep value (inr g) b = blanks g.some g.blank b.no_blank (b.no_separator (is_blanks-from sep g.blank))
+
+-- The line is the pair of this key and value, as they are written; all before the value is the key and the separator.
+pub record IsNewPair (key sep value : List ℕ) : Type 0 where
+  pub is_pair : IsPair (key ++ (sep ++ value)) key value
+  pub front : is_pair.indent ++ (key ++ is_pair.between) ≡ key ++ sep
+  pub some : is_pair.between ≢ []
+  pub blanks : is_blanks is_pair.between ≡ is_blanks sep
+
+-- a key with a spelling in it
+new-keyed : (p : Spelling) (ps : List Spelling) (sep value : List ℕ) → AreSafe (p ∷ ps) → IsGoodSeparator sep → BeginsAfter (is_blanks sep) value
+    → IsNewPair (spelt_before (p ∷ ps) []) sep value
+new-keyed p ps sep value k g b =
+    let key = spelt_before (p ∷ ps) [] in
+    let full : BeginsFull (key ++ (sep ++ value)) =
+    subst BeginsFull (sym (append_assoc (spelling_text p) (spelt_before ps []) (sep ++ value)))
+    (safe-begins p (spelt_before ps [] ++ (sep ++ value)) k.0) in
+    let some = separator-some sep g in
+    record {
+      is_pair = record {
+        indent = [];
+        between = sep;
+        whole = refl;
+        indent_blank = tt;
+        not_empty = λ q. some (none-left sep value (none-right key (sep ++ value) q));
+        begins_full = full.no_blank;
+        no_comment = full.no_sign;
+        is_key = are_safe-key (p ∷ ps) (sep ++ value) k;
+        is_between = good-between sep value g b;
+      };
+      front = refl;
+      some = some;
+      blanks = refl;
+    }
+
+-- an empty key: what stands before the sign is the indent
+new-empty : (sep value : List ℕ) → IsGoodSeparator sep → is_blanks sep ≡ false → BeginsAfter (is_blanks sep) value → IsNewPair [] sep value
+new-empty sep value (inr g) s b = let m = is_blanks-from sep g.blank in absurd (cc)
+new-empty sep value (inl g) s b = record {
+  is_pair = record {
+    indent = g.before;
+    between = g.sign ∷ g.after;
+    whole = ap (λ v. v ++ value) g.division ∙ append_assoc g.before (g.sign ∷ g.after) value;
+    indent_blank = g.blank_before;
+    not_empty = λ q. cc;
+    begins_full = separator-full g.sign g.signed;
+    no_comment = separator-sign g.sign g.signed;
+    is_key = IsKey-nil (g.sign ∷ (g.after ++ value));
+    is_between = separator [] g.sign g.after refl tt g.signed g.blank_after b.no_blank;
+  };
+  front = sym g.division;
+  some = λ q. cc;
+  blanks = rw (separator-full g.sign g.signed) (sym s);
+}
+
+-- a key that is safely spelt
+new-pair : (written key sep value : List ℕ) → AreSafelySpelt written key → IsFitSeparator key sep → BeginsAfter (is_blanks sep) value → IsNewPair written sep value
+new-pair written key sep value s f b = of-spellings s.spellings s.text s.characters s.safe
+  where
+    of-spellings : (ps : List Spelling) → written ≡ spelt_before ps [] → map spelt_character ps ≡ key → AreSafe ps → IsNewPair written sep value
+    of-spellings [] t m k = subst (λ v. IsNewPair v sep value) (sym t) (new-empty sep value f.good (f.signed (sym m)) b)
+    of-spellings (p ∷ ps) t m k = subst (λ v. IsNewPair v sep value) (sym t) (new-keyed p ps sep value k f.good b)
+
+-- ---- the group of a new pair
+
+-- the bytes of a new pair, first of a body or not, without a line ending
+abbrev pub added_bytes : Encoding → Bool → List ℕ → List ℕ → List ℕ → List ℕ
+added_bytes e first key sep value = encoded_text e (spelt_key e false first key ++ (sep ++ spelt_value e (is_blanks sep) value))
+
+-- the line of these bytes
+abbrev pub added_line : Encoding → Bool → List ℕ → List ℕ → List ℕ → LineEnding → HeldLine
+added_line e first key sep value by =
+    record { bytes = added_bytes e first key sep value; text = decoded_line e (added_bytes e first key sep value); ending = Some by }
+
+-- What is so of that group.
+pub record IsAddedPair (e : Encoding) (first : Bool) (key sep value : List ℕ) (by : LineEnding) : Type 0 where
+  pub plain : HoldsNoLineEnd (added_bytes e first key sep value)
+  pub some : added_bytes e first key sep value ≢ []
+  pub whole : IsWhole (as_lines (added_line e first key sep value by ∷ []))
+  pub has_pair : HasPair key value (added_line e first key sep value by ∷ [])
+  pub between : List ℕ
+  pub is_front : IsFrontOf e (added_line e first key sep value by ∷ []) between (encoded_text e (spelt_key e false first key ++ sep))
+  pub between_some : between ≢ []
+  pub blanks : is_blanks between ≡ is_blanks sep
+
+-- a text that isn't empty has bytes
+text-some : (e : Encoding) (x : List ℕ) → is_editable e ≡ true → AreWritable e x → x ≢ [] → encoded_text e x ≢ []
+text-some e x ok w h q = h (sym (text-own e x ok w) ∙ ap (decoded_line e) q ∙ decoded-nil e)
+
+-- A new pair is such.
+pub added-pair : (e : Encoding) (first : Bool) (key sep value : List ℕ) (by : LineEnding) → is_editable e ≡ true → All scalar key → All scalar value
+    → IsFitSeparator key sep → IsAddedPair e first key sep value by
+added-pair e first key sep value by ok k v f =
+    let written = spelt_key e false first key in
+    let va = spelt_value e (is_blanks sep) value in
+    let keys = recursion_from_All scalar key k in
+    let all = recursion_from_All scalar value v in
+    let spelt = key-spelt e false first key keys in
+    let loose = value-loose e (is_blanks sep) value all in
+    let n = new-pair written key sep va spelt f (value-begins e (is_blanks sep) value all) in
+    let key_writable : AreWritable e written = record { scalars = key-scalars e false first key keys; encodable = spelt_key-encodable e false first key } in
+    let sep_writable = ascii-writable e sep (good_separator-ascii sep f.good) in
+    let value_written = value-writable e (is_blanks sep) value all in
+    let front_writable = writable-append e written sep key_writable sep_writable in
+    let writable = writable-append e written (sep ++ va) key_writable (writable-append e sep va sep_writable value_written) in
+    let decoded : decoded_line e (added_bytes e first key sep value) ≡ written ++ (sep ++ va) = text-own e (written ++ (sep ++ va)) ok writable in
+    let quiet = separator-quiet sep f.good in
+    let sep_some = separator-some sep f.good in
+    let closed : is_open (written ++ (sep ++ va)) ≡ false = closed-after written sep va quiet.slashes sep_some (loosely-closed [] va value loose refl) in
+    let closed_front : is_open (written ++ sep) ≡ false =
+    ap (λ x. is_open (written ++ x)) (sym (append-nil sep)) ∙ closed-after written sep [] quiet.slashes sep_some refl in
+    let plain_text : HoldsNoLineEnd (written ++ (sep ++ va)) =
+    plain-append written (sep ++ va) (spelt-plain written key spelt) (plain-append sep va quiet.plain (loosely-plain va value loose)) in
+    let line : HeldLine = record { bytes = added_bytes e first key sep value; text = written ++ (sep ++ va); ending = Some by } in
+    let same : line ≡ added_line e first key sep value by =
+    ap (λ x. let l : HeldLine = record { bytes = added_bytes e first key sep value; text = x; ending = Some by } in l) (sym decoded) in
+    let joined_is : joined (as_lines (added_line e first key sep value by ∷ [])) ≡ written ++ (sep ++ va) =
+    ap (λ x. joined (as_lines (x ∷ []))) (sym same) ∙ joined-closed (record { number = 0; text = written ++ (sep ++ va) }) closed in
+    let p = again (joined (as_lines (added_line e first key sep value by ∷ []))) written sep va joined_is n in
+    record {
+      plain = plain-bytes e (added_bytes e first key sep value) ok (subst HoldsNoLineEnd (sym decoded) plain_text);
+      some = text-some e (written ++ (sep ++ va)) ok writable (λ q. sep_some (none-left sep va (none-right written (sep ++ va) q)));
+      whole = subst (λ x. IsWhole (as_lines (x ∷ []))) same (alone (record { number = 0; text = written ++ (sep ++ va) }) closed);
+      has_pair = record {
+        raw_key = written;
+        raw_value = va;
+        split = p.0;
+        key_means = rw (spelt-means written key spelt) at (meaning_of-meets written);
+        value_means = rw (loose-means va value loose) at (meaning_of-meets va);
+      };
+      between = n.is_pair.between;
+      is_front = record {
+        kept = [];
+        line = added_line e first key sep value by;
+        more = [];
+        division = refl;
+        head = encoded_text e (written ++ sep);
+        tail = encoded_text e va;
+        head_text = written ++ sep;
+        tail_text = va;
+        cut = ap (encoded_text e) (sym (append_assoc written sep va)) ∙ encoded_text-append e (written ++ sep) va;
+        cut_text = decoded ∙ sym (append_assoc written sep va);
+        is_head = subst (IsDecodedLine e (encoded_text e (written ++ sep))) (text-own e (written ++ sep) ok front_writable) (decoded_line-meets e (encoded_text e (written ++ sep)));
+        is_tail = subst (IsDecodedLine e (encoded_text e va)) (text-own e va ok value_written) (decoded_line-meets e (encoded_text e va));
+        not_blank = not-blank written sep va n;
+        closed = closed_front;
+        key = written;
+        value = va;
+        is_pair = p.0;
+        is_between = sym p.2;
+        up_to =
+            joined-closed (record { number = 0; text = written ++ sep }) closed_front
+            ∙ sym n.front
+            ∙ ap (λ x. x ++ (written ++ n.is_pair.between)) (sym p.1);
+        bytes = refl;
+      };
+      between_some = n.some;
+      blanks = n.blanks;
+    }
+  where
+    alone : (l : Line) → is_open l.text ≡ false → IsWhole (l ∷ [])
+    alone l c = elim (cases_Bool (is_comment_line l.text)) [ inl m ↦ inl (m, refl) | inr m ↦ inr (m, c) ]
+
+    again : (line written sep va : List ℕ) → line ≡ written ++ (sep ++ va) → (n : IsNewPair written sep va)
+        → (p : IsPair line written va) × (p.indent ≡ n.is_pair.indent) × (p.between ≡ n.is_pair.between)
+    again line written sep va s n =
+        let h = n.is_pair in (
+          record {
+            indent = h.indent;
+            between = h.between;
+            whole = s ∙ h.whole;
+            indent_blank = h.indent_blank;
+            not_empty = h.not_empty;
+            begins_full = h.begins_full;
+            no_comment = h.no_comment;
+            is_key = h.is_key;
+            is_between = h.is_between;
+          },
+          refl,
+          refl,
+        )
+
+    not-blank : (written sep va : List ℕ) (n : IsNewPair written sep va) → ¬ (AreBlanks (written ++ sep))
+    not-blank written sep va n b =
+        let h = n.is_pair in
+        let m : AreBlanks (written ++ h.between) = blanks-right h.indent (written ++ h.between) (subst AreBlanks (sym n.front) b) in
+        full (written ++ h.between) va (right-some written h.between n.some) m (ap (begins is_blank) (append_assoc written h.between va) ∙ h.begins_full)
+      where
+        full : (x y : List ℕ) → x ≢ [] → AreBlanks x → begins is_blank (x ++ y) ≡ false → ⊥
+        full [] y s m c = s refl
+        full (d ∷ x) y s m c = absurd (cc (m.0, c))

@@ -1,0 +1,154 @@
+-- How many bytes the head of a line has: up to an ASCII character it has as many ASCII bytes as its text has ASCII characters, and up to its end all but the backslash that opens it.
+use Rattle.std.proofs.Common.{◌≡◌, ◌≢◌, ◌⊎◌, ◌<◌, ℕ, zero, suc, ◌+◌, ◌-◌, true, false, List, [], ◌∷◌, ◌++◌, length, refl, ap, ap₂, sym, ◌∙◌, inl, inr, arith, append_assoc, append-nil, length-append, ltb-true}
+use Rattle.std.specs.Prelude.{nat_lt}
+use Rattle.std.specs.Str.{chars, IsUtf8}
+use Rattle.std.proofs.lemmas.Bool.{cases_Bool, cond-true, cond-false, lt-ltb}
+use Rattle.properties_format.specs.Text.{backslash}
+use Rattle.properties_format.specs.Pieces.{characters}
+use Rattle.properties_format.specs.Encoding.{Encoding, windows_1252, utf_8, utf_16le, utf_16be, ascii_bytes}
+use Rattle.properties_format.specs.Reading.Encoding.{pieces_of}
+use Rattle.properties_format.specs.Reading.Cut.{decoded_line}
+use Rattle.properties_format.specs.Edited.{is_editable}
+use Rattle.properties_format.specs.Reading.Valued.{ascii_count, after_ascii}
+use Rattle.properties_format.proofs.Encodings.Cuts.{cut-at_ascii}
+use Rattle.properties_format.proofs.Encodings.Pieces.{pieces_of-nil}
+use Rattle.properties_format.proofs.Encodings.WellFormed.{characters-text}
+use Rattle.properties_format.proofs.Cut.Byline.{nothing-decoded}
+use Rattle.properties_format.proofs.Valued.Heads.{ascii-end, ascii-among, backslash-own, IsHeadOf}
+
+-- ---- counts
+
+-- an ASCII character counts, and any other doesn't
+count-ascii : (c : ℕ) (d : List ℕ) → c < 0x80 → ascii_count (c ∷ d) ≡ suc (ascii_count d)
+count-ascii c d h = cond-true (nat_lt c 0x80) (suc (ascii_count d)) (ascii_count d) (lt-ltb c 0x80 h)
+
+-- in two parts
+pub count-append : (x y : List ℕ) → ascii_count (x ++ y) ≡ ascii_count x + ascii_count y
+count-append [] y = omega arith
+count-append (c ∷ x) y =
+    let m = count-append x y in
+    elim (cases_Bool (nat_lt c 0x80)) [
+      | inl k ↦
+          let a : ascii_count (c ∷ x ++ y) ≡ suc (ascii_count (x ++ y)) = cond-true (nat_lt c 0x80) (suc (ascii_count (x ++ y))) (ascii_count (x ++ y)) k in
+          let b : ascii_count (c ∷ x) ≡ suc (ascii_count x) = cond-true (nat_lt c 0x80) (suc (ascii_count x)) (ascii_count x) k in
+          omega arith
+      | inr k ↦
+          let a : ascii_count (c ∷ x ++ y) ≡ ascii_count (x ++ y) = cond-false (nat_lt c 0x80) (suc (ascii_count (x ++ y))) (ascii_count (x ++ y)) k in
+          let b : ascii_count (c ∷ x) ≡ ascii_count x = cond-false (nat_lt c 0x80) (suc (ascii_count x)) (ascii_count x) k in
+          omega arith
+    ]
+
+-- a text has no ASCII character, or a first one
+first-ascii : (x : List ℕ) → (ascii_count x ≡ 0) ⊎ ((u : List ℕ) × (c : ℕ) × (v : List ℕ) × (x ≡ u ++ c ∷ v) × (c < 0x80) × (ascii_count u ≡ 0))
+first-ascii [] = inl refl
+first-ascii (c ∷ x) = elim (cases_Bool (nat_lt c 0x80)) [
+  | inl k ↦ inr ([], c, x, refl, ltb-true c 0x80 k, refl)
+  | inr k ↦ elim (first-ascii x) [
+    | inl h ↦ inl (cond-false (nat_lt c 0x80) (suc (ascii_count x)) (ascii_count x) k ∙ h)
+    | inr h ↦ inr (c ∷ h.0, h.1, h.2, ap (λ w. c ∷ w) h.3, h.4, cond-false (nat_lt c 0x80) (suc (ascii_count h.0)) (ascii_count h.0) k ∙ h.5)
+  ]
+]
+
+-- in an encoding that is edited the bytes of an ASCII character are that character
+ascii-one : (e : Encoding) (c : ℕ) → is_editable e ≡ true → ascii_bytes e c ≡ c ∷ []
+ascii-one windows_1252 c ok = refl
+ascii-one utf_8 c ok = refl
+ascii-one utf_16le c ok = absurd (cc)
+ascii-one utf_16be c ok = absurd (cc)
+
+-- bytes among which none is ASCII are decoded to characters among which none is
+no_ascii-decoded : (e : Encoding) (d : List ℕ) → is_editable e ≡ true → ascii_count d ≡ 0 → ascii_count (decoded_line e d) ≡ 0
+no_ascii-decoded e d ok h = elim (first-ascii (decoded_line e d)) [
+  | inl k ↦ k
+  | inr k ↦
+      let m = cut-at_ascii e d k.0 k.1 k.2 k.4 k.3 in
+      let s : ascii_count d ≡ ascii_count (m.0 ++ (k.1 ∷ [] ++ m.1)) = ap ascii_count (m.2.joins ∙ ap (λ v. m.0 ++ (v ++ m.1)) (ascii-one e k.1 ok)) in
+      let a = count-append m.0 (k.1 ∷ m.1) in
+      let b = count-ascii k.1 m.1 k.4 in
+      absurd (omega arith)
+]
+
+-- Decoded bytes have as many ASCII characters as they have ASCII bytes.
+pub count-decoded : (e : Encoding) (n : ℕ) (d : List ℕ) → is_editable e ≡ true → length d < n → ascii_count (decoded_line e d) ≡ ascii_count d
+count-decoded e zero d ok l = absurd (omega arith)
+count-decoded e (suc n) d ok l = elim (first-ascii d) [
+  | inl k ↦ no_ascii-decoded e d ok k ∙ sym k
+  | inr k ↦
+      let size : length d ≡ length (k.0 ++ k.1 ∷ k.2) = ap length k.3 in
+      let sum = length-append k.0 (k.1 ∷ k.2) in
+      let m = count-decoded e n k.2 ok (omega arith) in
+      let a = no_ascii-decoded e k.0 ok k.5 in
+      let b : ascii_count (decoded_line e d) ≡ ascii_count (decoded_line e k.0 ++ k.1 ∷ decoded_line e k.2) = ap ascii_count (ap (decoded_line e) k.3 ∙ ascii-among e k.0 k.1 k.2 ok k.4) in
+      let c = count-append (decoded_line e k.0) (k.1 ∷ decoded_line e k.2) in
+      let f = count-ascii k.1 (decoded_line e k.2) k.4 in
+      let g : ascii_count d ≡ ascii_count (k.0 ++ k.1 ∷ k.2) = ap ascii_count k.3 in
+      let i = count-append k.0 (k.1 ∷ k.2) in
+      let j = count-ascii k.1 k.2 k.4 in
+      let z = k.5 in
+      omega arith
+]
+
+-- A text has as many ASCII characters as its bytes in UTF-8.
+pub count-text : (x : List ℕ) → IsUtf8 x → ascii_count (chars x) ≡ ascii_count x
+count-text x u =
+    ap ascii_count
+    (sym (append-nil (chars x))
+    ∙ ap (λ v. chars x ++ v) (sym (ap characters (pieces_of-nil utf_8)))
+    ∙ sym (characters-text x [] u)
+    ∙ ap (λ v. characters (pieces_of utf_8 v)) (append-nil x))
+    ∙ count-decoded utf_8 (suc (length x)) x refl (omega arith)
+
+-- ---- places
+
+-- the place after the last of some ASCII bytes
+pub after-last : (u : List ℕ) (c : ℕ) (v : List ℕ) → c < 0x80 → after_ascii (ascii_count (u ++ c ∷ [])) (u ++ c ∷ v) ≡ length (u ++ c ∷ [])
+after-last [] c v h =
+    ap (λ n. after_ascii n (c ∷ v)) (count-ascii c [] h) ∙ cond-true (nat_lt c 0x80) (suc (after_ascii 0 v)) (suc (after_ascii 1 v)) (lt-ltb c 0x80 h)
+after-last (b ∷ u) c v h =
+    let m = after-last u c v h in
+    let n = ascii_count (u ++ c ∷ []) in
+    elim (cases_Bool (nat_lt b 0x80)) [
+      | inl k ↦
+          ap (λ w. after_ascii w (b ∷ u ++ c ∷ v)) (cond-true (nat_lt b 0x80) (suc n) n k)
+          ∙ cond-true (nat_lt b 0x80) (suc (after_ascii n (u ++ c ∷ v))) (suc (after_ascii (suc n) (u ++ c ∷ v))) k
+          ∙ ap suc m
+      | inr k ↦
+          ap (λ w. after_ascii w (b ∷ u ++ c ∷ v)) (cond-false (nat_lt b 0x80) (suc n) n k)
+          ∙ past n (some u) k
+          ∙ ap suc m
+    ]
+  where
+    some : (u : List ℕ) → ascii_count (u ++ c ∷ []) ≢ 0
+    some u q =
+        let a = count-append u (c ∷ []) in
+        let d = count-ascii c [] h in
+        absurd (omega arith)
+
+    past : (n : ℕ) → n ≢ 0 → nat_lt b 0x80 ≡ false → after_ascii n (b ∷ u ++ c ∷ v) ≡ suc (after_ascii n (u ++ c ∷ v))
+    past zero s k = absurd (s refl)
+    past (suc n) s k = cond-false (nat_lt b 0x80) (suc (after_ascii n (u ++ c ∷ v))) (suc (after_ascii (suc n) (u ++ c ∷ v))) k
+
+-- The size of a head whose text ends in an ASCII character: the place after as many ASCII bytes.
+pub head-inside : (e : Encoding) (d x y head w : List ℕ) (c : ℕ) → is_editable e ≡ true → x ≡ w ++ c ∷ [] → c < 0x80 → IsHeadOf e d x y head
+    → after_ascii (ascii_count x) d ≡ length head
+head-inside e d x y head w c ok s l h =
+    let m = ascii-end e head w c ok l (h.head_text ∙ s) in
+    let count : ascii_count x ≡ ascii_count (m.front ++ c ∷ []) =
+    ap ascii_count (sym h.head_text) ∙ count-decoded e (suc (length head)) head ok (omega arith) ∙ ap ascii_count m.bytes in
+    ap₂ after_ascii count (h.joins ∙ ap (λ v. v ++ h.tail) m.bytes ∙ append_assoc m.front (c ∷ []) h.tail)
+    ∙ after-last m.front c h.tail l
+    ∙ ap length (sym m.bytes)
+
+-- The size of a head after which nothing is left of the line.
+pub head-end : (e : Encoding) (d x head : List ℕ) → IsHeadOf e d x [] head → length head ≡ length d
+head-end e d x head h =
+    let n : h.tail ≡ [] = nothing-decoded e h.tail h.tail_text in
+    ap length (sym (append-nil head) ∙ ap (λ v. head ++ v) (sym n) ∙ sym h.joins)
+
+-- The size of a head after which a backslash is left.
+pub head-before_backslash : (e : Encoding) (d x head : List ℕ) → is_editable e ≡ true → IsHeadOf e d x (backslash ∷ []) head → length head ≡ length d - 1
+head-before_backslash e d x head ok h =
+    let n : h.tail ≡ backslash ∷ [] = backslash-own e h.tail ok h.tail_text in
+    let l : length d ≡ length (head ++ backslash ∷ []) = ap length (h.joins ∙ ap (λ v. head ++ v) n) in
+    let s = length-append head (backslash ∷ []) in
+    omega arith

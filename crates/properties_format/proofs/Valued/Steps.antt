@@ -1,0 +1,92 @@
+-- How the size of a front goes on line by line: past a line that the front takes whole, to its end, or to a place inside it.
+use Rattle.std.proofs.Common.{◌≡◌, ◌≢◌, ℕ, ◌+◌, ◌-◌, Bool, true, false, List, [], ◌∷◌, ◌++◌, length, drop, inl, inr, ap, ap₂, sym, ◌∙◌, arith, append_assoc, append-nil, length-append, subst}
+use Rattle.std.specs.Prelude.{nat_le, if◌then◌else◌}
+use Rattle.std.proofs.Math.Seq.{drop-append_seam}
+use Rattle.std.proofs.lemmas.Bool.{cases_Bool}
+use Rattle.properties_format.specs.Text.{backslash}
+use Rattle.properties_format.specs.Encoding.{Encoding}
+use Rattle.properties_format.specs.Groups.{is_open}
+use Rattle.properties_format.specs.Split.{ends}
+use Rattle.properties_format.specs.Reading.Split.{ends_key}
+use Rattle.properties_format.specs.Reading.Cut.{decoded_line}
+use Rattle.properties_format.specs.Body.{HeldLine, ending_bytes}
+use Rattle.properties_format.specs.Edited.{is_editable}
+use Rattle.properties_format.specs.Reading.Valued.{without_indent, added_by, head_of, head_size, front_in, ascii_count, after_ascii}
+use Rattle.properties_format.proofs.Valued.Heads.{IsHeadOf, head_of-meets}
+use Rattle.properties_format.proofs.Valued.Fronts.{indented, open-indent, open_backslash, shut-whole, ends-last, ends_key-ascii, head-size, front-here, front-later, some-length}
+use Rattle.properties_format.proofs.Valued.Sizes.{head-inside, head-end, head-before_backslash}
+
+-- the text of a line, divided at the end of what it adds to a front
+record IsDivided (first : Bool) (text p r : List ℕ) : Type 0 where
+  whole : text ≡ ((indented first text).indent ++ p) ++ (r ++ open_backslash text)
+  size : head_size first text p ≡ length ((indented first text).indent ++ p)
+
+divided : (first : Bool) (text p r : List ℕ) → added_by first text ≡ p ++ r → IsDivided first text p r
+divided first text p r s =
+    let i = indented first text in
+    let y = without_indent first text in
+    let b = i.indent in
+    let o : open_backslash y ≡ open_backslash text = ap (λ v. if v then backslash ∷ [] else []) (open-indent first text) in
+    let t : y ≡ p ++ (r ++ open_backslash text) = shut-whole y ∙ ap₂ (λ v w. v ++ w) s o ∙ append_assoc p r (open_backslash text) in
+    let w : text ≡ b ++ (p ++ (r ++ open_backslash text)) = i.whole ∙ ap (λ v. b ++ v) t in
+    record { whole = w ∙ sym (append_assoc b p (r ++ open_backslash text)); size = head-size first text b p (r ++ open_backslash text) w t }
+
+-- the head of a line there
+head-there : (e : Encoding) (first : Bool) (h : HeldLine) (p r : List ℕ) → is_editable e ≡ true → decoded_line e h.bytes ≡ h.text → added_by first h.text ≡ p ++ r
+    → IsHeadOf e h.bytes ((indented first h.text).indent ++ p) (r ++ open_backslash h.text) (head_of e (head_size first h.text p) h.bytes)
+head-there e first h p r ok d s =
+    let m = divided first h.text p r s in
+    let x = (indented first h.text).indent ++ p in
+    subst (λ n. IsHeadOf e h.bytes x (r ++ open_backslash h.text) (head_of e n h.bytes)) (sym m.size)
+    (head_of-meets e h.bytes x (r ++ open_backslash h.text) ok (d ∙ m.whole))
+
+-- the front ends in the line
+front-head : (e : Encoding) (first : Bool) (h : HeldLine) (hs : List HeldLine) (p r : List ℕ) → added_by first h.text ≡ p ++ r
+    → front_in e first p (h ∷ hs) ≡ head_of e (head_size first h.text p) h.bytes
+front-head e first h hs p r s =
+    let l : length (added_by first h.text) ≡ length (p ++ r) = ap length s in
+    let m = length-append p r in
+    let n : nat_le (length p) (length (added_by first h.text)) ≡ true = grind (arith) in
+    front-here e first p h hs n
+
+-- A front that ends inside what a line adds, at what ends a key: up to the place after as many ASCII bytes as its text has characters of ASCII.
+pub front_size-inside : (e : Encoding) (first : Bool) (h : HeldLine) (hs : List HeldLine) (p r : List ℕ) → is_editable e ≡ true → decoded_line e h.bytes ≡ h.text
+    → added_by first h.text ≡ p ++ r → ends ends_key p ≡ true
+    → length (front_in e first p (h ∷ hs)) ≡ after_ascii (ascii_count ((indented first h.text).indent ++ p)) h.bytes
+front_size-inside e first h hs p r ok d s k =
+    let i = indented first h.text in
+    let m = ends-last ends_key p k in
+    let t : i.indent ++ p ≡ (i.indent ++ m.0) ++ m.1 ∷ [] = ap (λ v. i.indent ++ v) m.2 ∙ sym (append_assoc i.indent m.0 (m.1 ∷ [])) in
+    let x = head-there e first h p r ok d s in
+    ap length (front-head e first h hs p r s)
+    ∙ sym (head-inside e h.bytes (i.indent ++ p) (r ++ open_backslash h.text) (head_of e (head_size first h.text p) h.bytes) (i.indent ++ m.0) m.1 ok t (ends_key-ascii m.1 m.3) x)
+
+-- A front that ends where what a line adds does: all of the line but the backslash that opens it.
+pub front_size-end : (e : Encoding) (first : Bool) (h : HeldLine) (hs : List HeldLine) (p : List ℕ) → is_editable e ≡ true → decoded_line e h.bytes ≡ h.text
+    → added_by first h.text ≡ p → length (front_in e first p (h ∷ hs)) ≡ length h.bytes - (if is_open h.text then 1 else 0)
+front_size-end e first h hs p ok d s =
+    let t : added_by first h.text ≡ p ++ [] = s ∙ sym (append-nil p) in
+    let x = head-there e first h p [] ok d t in
+    let head = head_of e (head_size first h.text p) h.bytes in
+    ap length (front-head e first h hs p [] t)
+    ∙ (elim (cases_Bool (is_open h.text)) [
+      | inl k ↦ rw k (head-before_backslash e h.bytes ((indented first h.text).indent ++ p) head ok (rw k at x))
+      | inr k ↦ rw k (head-end e h.bytes ((indented first h.text).indent ++ p) head (rw k at x) ∙ same (length h.bytes))
+    ])
+  where
+    same : (n : ℕ) → n ≡ n - 0
+    same n = omega arith
+
+-- A front that goes on past a line: the line with its ending, and what it goes on to.
+pub front_size-later : (e : Encoding) (first : Bool) (h : HeldLine) (hs : List HeldLine) (p q : List ℕ) → p ≡ added_by first h.text ++ q → q ≢ []
+    → length (front_in e first p (h ∷ hs)) ≡ length h.bytes + (length (ending_bytes h.ending) + length (front_in e false q hs))
+front_size-later e first h hs p q s some =
+    let a = added_by first h.text in
+    let l : length p ≡ length (a ++ q) = ap length s in
+    let m = length-append a q in
+    let z = some-length q some in
+    let n : nat_le (length p) (length a) ≡ false = grind (arith) in
+    ap length (front-later e first p h hs n)
+    ∙ ap (λ v. length (h.bytes ++ (ending_bytes h.ending ++ front_in e false v hs))) (ap (drop (length a)) s ∙ drop-append_seam a q)
+    ∙ length-append h.bytes (ending_bytes h.ending ++ front_in e false q hs)
+    ∙ ap (λ v. length h.bytes + v) (length-append (ending_bytes h.ending) (front_in e false q hs))

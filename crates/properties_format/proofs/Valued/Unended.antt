@@ -1,0 +1,203 @@
+-- A group without its last line ending: its bytes are one group, which is laid out as it was.
+use Rattle.std.proofs.Common.{◌≡◌, ◌≢◌, ◌⊎◌, ℕ, true, List, [], ◌∷◌, ◌++◌, Some, None, inl, inr, refl, ap, sym, ◌∙◌, append-nil, subst}
+use Rattle.properties_format.specs.Encoding.{Encoding}
+use Rattle.properties_format.specs.Lines.{Ended, BeginsWithNoLoneLf, AreLines}
+use Rattle.properties_format.specs.Groups.{IsWhole, joined}
+use Rattle.properties_format.specs.Split.{IsPair}
+use Rattle.properties_format.specs.Body.{HeldLine, as_lines, held_in, AreGroupsOf, ending_bytes, group_bytes, groups_bytes}
+use Rattle.properties_format.specs.Edited.{is_editable}
+use Rattle.properties_format.specs.Valued.{IsFrontOf}
+use Rattle.properties_format.specs.Reading.Body.{held_of, held_groups_of}
+use Rattle.properties_format.specs.Reading.Cut.{decoded_line}
+use Rattle.properties_format.specs.Reading.Slots.{unended_bytes}
+use Rattle.properties_format.specs.Reading.Valued.{between_in, front_of, between_of, is_pair_to, has_value}
+use Rattle.properties_format.specs.Reading.Items.{outcome_of}
+use Rattle.properties_format.proofs.Body.Groups.{EndsOpen, IsLastFit, held_ended, cut-off, held_groups_of-only, lines-front, lines-back, fit-some}
+use Rattle.properties_format.proofs.Valued.Fronts.{AreDecoded, front_of-meets, front_of-only}
+use Rattle.properties_format.proofs.Valued.Lined.{AreLined, groups-lined, lined-groups, held_in-append, fit-parts, fit-first}
+
+-- the lines without the ending of the last
+abbrev pub without_ending : List HeldLine → List HeldLine
+without_ending [] = []
+without_ending (h ∷ []) = record { bytes = h.bytes; text = h.text; ending = None } ∷ []
+without_ending (h ∷ i ∷ hs) = h ∷ without_ending (i ∷ hs)
+
+-- they have the same texts
+pub unended-texts : (g : List HeldLine) → as_lines (without_ending g) ≡ as_lines g
+unended-texts [] = refl
+unended-texts (h ∷ []) = refl
+unended-texts (h ∷ i ∷ g) = ap (λ v. record { number = 0; text = h.text } ∷ v) (unended-texts (i ∷ g))
+
+-- their bytes are those up to the last line ending
+pub unended-bytes : (g : List HeldLine) → group_bytes (without_ending g) ≡ unended_bytes g
+unended-bytes [] = refl
+unended-bytes (h ∷ []) = append-nil h.bytes
+unended-bytes (h ∷ i ∷ g) = ap (λ v. h.bytes ++ (ending_bytes h.ending ++ v)) (unended-bytes (i ∷ g))
+
+-- all lines of a body have no last ending
+unended-held : (e : Encoding) (ls : List Ended) (last : List ℕ) → without_ending (held_of e ls last) ≡ held_of e ls last
+unended-held e [] last = refl
+unended-held e (l ∷ []) last = refl
+unended-held e (l ∷ m ∷ ls) last = ap (λ v. record { bytes = l.text; text = decoded_line e l.text; ending = Some l.by } ∷ v) (unended-held e (m ∷ ls) last)
+
+-- ended lines but the last, and the text of that one
+abbrev all_but_last : List Ended → List Ended
+all_but_last [] = []
+all_but_last (l ∷ []) = []
+all_but_last (l ∷ m ∷ ls) = l ∷ all_but_last (m ∷ ls)
+
+abbrev last_text : List Ended → List ℕ
+last_text [] = []
+last_text (l ∷ []) = l.text
+last_text (l ∷ m ∷ ls) = last_text (m ∷ ls)
+
+-- without the last ending they are all lines of a body
+unended-ended : (e : Encoding) (l : Ended) (ls : List Ended)
+    → without_ending (held_ended e (l ∷ ls)) ≡ held_of e (all_but_last (l ∷ ls)) (last_text (l ∷ ls))
+unended-ended e l [] = refl
+unended-ended e l (m ∷ ls) = ap (λ v. record { bytes = l.text; text = decoded_line e l.text; ending = Some l.by } ∷ v) (unended-ended e m ls)
+
+-- and lines of a text
+first-stays : (m : Ended) (ls : List Ended) → BeginsWithNoLoneLf (m ∷ ls) → BeginsWithNoLoneLf (all_but_last (m ∷ ls))
+first-stays m [] h = tt
+first-stays m (n ∷ ls) h = h
+
+unended-lines : (l : Ended) (ls : List Ended) → AreLines (l ∷ ls) [] → AreLines (all_but_last (l ∷ ls)) (last_text (l ∷ ls))
+unended-lines l [] h = h.0
+unended-lines l (m ∷ ls) h = (h.0, (λ k. first-stays m ls (h.1 k)), unended-lines m ls h.2)
+
+-- a whole or open group is one without its last ending too
+unended-fit : (g : List HeldLine) → IsLastFit g → IsLastFit (without_ending g)
+unended-fit g h = subst (λ v. IsWhole v ⊎ EndsOpen v) (sym (unended-texts g)) h
+
+-- a group has lines
+fit-lines : (g : List HeldLine) → IsLastFit g → g ≢ []
+fit-lines [] (inl k) q = k
+fit-lines [] (inr k) q = k
+fit-lines (h ∷ g) k q = absurd (cc)
+
+-- One group of a body without its last ending is the group of its bytes.
+unended-lined : (e : Encoding) (before : List (List HeldLine)) (g : List HeldLine) (after : List (List HeldLine)) → AreLined e (before ++ g ∷ after)
+    → AreLined e (without_ending g ∷ [])
+unended-lined e before g [] h =
+    let m = fit-parts before g [] h.fit in
+    let s : held_in before ++ g ≡ held_of e h.ended h.last = ap (λ v. held_in before ++ v) (sym (append-nil g)) ∙ sym (held_in-append before (g ∷ [])) ∙ h.held in
+    let a = cut-off e (held_in before) g h.ended h.last (fit-lines g m.1) s in
+    record {
+      ended = a.back;
+      last = h.last;
+      held = append-nil (without_ending g) ∙ ap without_ending a.others ∙ unended-held e a.back h.last;
+      are_lines = lines-back a.front a.back h.last (subst (λ v. AreLines v h.last) a.all h.are_lines);
+      fit = unended-fit g m.1;
+    }
+unended-lined e before g (i ∷ after) h =
+    let m = fit-parts before g (i ∷ after) h.fit in
+    let first = fit-first g (i ∷ after) m.1 in
+    let s : held_in before ++ (g ++ held_in (i ∷ after)) ≡ held_of e h.ended h.last = sym (held_in-append before (g ∷ i ∷ after)) ∙ h.held in
+    let a = cut-off e (held_in before) (g ++ held_in (i ∷ after)) h.ended h.last (λ q. fit-lines g first (none-left g (held_in (i ∷ after)) q)) s in
+    let b = cut-off e g (held_in (i ∷ after)) a.back h.last (fit-some i after m.1.1) a.others in
+    let lines : AreLines (a.front ++ (b.front ++ b.back)) h.last = subst (λ v. AreLines v h.last) (a.all ∙ ap (λ v. a.front ++ v) b.all) h.are_lines in
+    of-front b.front b.group (lines-front b.front b.back h.last (lines-back a.front (b.front ++ b.back) h.last lines)) first
+  where
+    none-left : (x y : List HeldLine) → x ++ y ≡ [] → x ≡ []
+    none-left [] y q = refl
+    none-left (c ∷ x) y q = absurd (cc)
+
+    of-front : (ls : List Ended) → g ≡ held_ended e ls → AreLines ls [] → IsLastFit g → AreLined e (without_ending g ∷ [])
+    of-front [] q k f = absurd (fit-lines g f q)
+    of-front (l ∷ ls) q k f = record {
+      ended = all_but_last (l ∷ ls);
+      last = last_text (l ∷ ls);
+      held = append-nil (without_ending g) ∙ ap without_ending q ∙ unended-ended e l ls;
+      are_lines = unended-lines l ls k;
+      fit = unended-fit g f;
+    }
+
+-- The bytes of a group of a body up to its last line ending have one group: the group without that ending.
+pub unended-groups : (e : Encoding) (body : List ℕ) (before : List (List HeldLine)) (g : List HeldLine) (after : List (List HeldLine)) → is_editable e ≡ true
+    → AreGroupsOf e body (before ++ g ∷ after)
+    → held_groups_of e (unended_bytes g) ≡ without_ending g ∷ []
+unended-groups e body before g after ok h =
+    let l = unended-lined e before g after (groups-lined e body (before ++ g ∷ after) ok h) in
+    let bytes : groups_bytes (without_ending g ∷ []) ≡ unended_bytes g = append-nil (group_bytes (without_ending g)) ∙ unended-bytes g in
+    sym (held_groups_of-only e (unended_bytes g) (without_ending g ∷ [])
+    (subst (λ v. AreGroupsOf e v (without_ending g ∷ [])) bytes (lined-groups e (without_ending g ∷ []) ok l)))
+
+-- ---- its layout
+
+-- the lines that are kept before another line
+unended-kept : (kept : List HeldLine) (line : HeldLine) (more : List HeldLine)
+    → without_ending (kept ++ line ∷ more) ≡ kept ++ without_ending (line ∷ more)
+unended-kept [] line more = refl
+unended-kept (i ∷ []) line more = refl
+unended-kept (i ∷ j ∷ kept) line more = ap (λ v. i ∷ v) (unended-kept (j ∷ kept) line more)
+
+-- a line with the same bytes and text
+record IsAlikeLine (line : HeldLine) (more : List HeldLine) : Type 0 where
+  other : HeldLine
+  rest : List HeldLine
+  lines : without_ending (line ∷ more) ≡ other ∷ rest
+  bytes : other.bytes ≡ line.bytes
+  text : other.text ≡ line.text
+
+alike-line : (line : HeldLine) (more : List HeldLine) → IsAlikeLine line more
+alike-line line [] = record { other = record { bytes = line.bytes; text = line.text; ending = None }; rest = []; lines = refl; bytes = refl; text = refl }
+alike-line line (i ∷ more) = record { other = line; rest = without_ending (i ∷ more); lines = refl; bytes = refl; text = refl }
+
+-- the joined line is the same
+pub unended-joined : (g : List HeldLine) → joined (as_lines (without_ending g)) ≡ joined (as_lines g)
+unended-joined g = ap joined (unended-texts g)
+
+-- The front of a group is that of the group without its last ending.
+pub unended-front : (e : Encoding) (g : List HeldLine) (key value : List ℕ) → is_editable e ≡ true → AreDecoded e g → IsPair (joined (as_lines g)) key value
+    → front_of e (without_ending g) ≡ front_of e g
+unended-front e g key value ok d h =
+    let f = front_of-meets e g key value ok d h in
+    let a = alike-line f.line f.more in
+    let k = f.is_pair in
+    let p : IsPair (joined (as_lines (without_ending g))) f.key f.value = record {
+      indent = k.indent;
+      between = k.between;
+      whole = unended-joined g ∙ k.whole;
+      indent_blank = k.indent_blank;
+      not_empty = k.not_empty;
+      begins_full = k.begins_full;
+      no_comment = k.no_comment;
+      is_key = k.is_key;
+      is_between = k.is_between;
+    } in
+    let front : IsFrontOf e (without_ending g) (between_of g) (front_of e g) = record {
+      kept = f.kept;
+      line = a.other;
+      more = a.rest;
+      division = ap without_ending f.division ∙ unended-kept f.kept f.line f.more ∙ ap (λ v. f.kept ++ v) a.lines;
+      head = f.head;
+      tail = f.tail;
+      head_text = f.head_text;
+      tail_text = f.tail_text;
+      cut = a.bytes ∙ f.cut;
+      cut_text = a.text ∙ f.cut_text;
+      is_head = f.is_head;
+      is_tail = f.is_tail;
+      not_blank = f.not_blank;
+      closed = f.closed;
+      key = f.key;
+      value = f.value;
+      is_pair = p;
+      is_between = f.is_between;
+      up_to = f.up_to;
+      bytes = f.bytes;
+    } in
+    sym (front_of-only e (without_ending g) (between_of g) (front_of e g) ok (unended-decoded g d) front).1
+  where
+    unended-decoded : (g : List HeldLine) → AreDecoded e g → AreDecoded e (without_ending g)
+    unended-decoded [] q = tt
+    unended-decoded (i ∷ []) q = q
+    unended-decoded (i ∷ j ∷ g) q = (q.0, unended-decoded (j ∷ g) q.1)
+
+-- And so is what stands between key and value, and whether it has a value.
+pub unended-between : (g : List HeldLine) → between_of (without_ending g) ≡ between_of g
+unended-between g = ap between_in (unended-joined g)
+
+pub unended-value : (value : List ℕ) (g : List HeldLine) → has_value value (without_ending g) ≡ has_value value g
+unended-value value g = ap (λ v. is_pair_to value (outcome_of v)) (unended-joined g)

@@ -1,0 +1,207 @@
+-- What a contract sees of a reader of natural lines, and what its calls give and leave.
+use Rattle.std.specs.Prelude.{◌≡◌, ◌⊎◌, ◌+◌, ◌-◌, ◌^◌, ◌<◌, ◌≤◌, ◌++◌, length, ℕ, Bool, true, false, if◌then◌else◌, List, [], ◌∷◌, Option, Some, None}
+use Rattle.std.specs.declared.io.Error.{Error}
+use Rattle.counted_io.specs.Streams.{Reader, HasRead, HasFailed}
+use Rattle.properties_format.specs.Lines as format
+use Rattle.properties_format.specs.Lines.{InputEnd, end, fault, more}
+use Rattle.properties_format.specs.Pieces.{characters}
+use Rattle.properties_format.specs.Reading.Encoding.{pieces_of}
+use Rattle.properties_format.specs.Entries.{read_fault}
+use Rattle.properties_format.specs.ItemsToCome.{ReaderState}
+use Rattle.properties_format.specs.Reading.ItemsToCome.{natural_to_come, last_to_come}
+use Rattle.properties_format.specs.Reading.ReaderSteps.{Gives, ReadsLines}
+use Rattle.properties_lines.specs.Scanner.{IsTold, Comes}
+use Rattle.properties_lines.specs.declared.error.LineError.TheVariants as why
+use Rattle.properties_lines.specs.declared.error.LineError.{LineError}
+use Rattle.properties_lines.specs.declared.reader.Read.{Read}
+use Rattle.properties_lines.specs.declared.reader.Read.TheVariants.{Bytes, End, Failed}
+use Rattle.properties_lines.specs.declared.scanner.Scan.{Scan}
+use Rattle.properties_lines.specs.declared.scanner.Scan.TheVariants as scan
+use Rattle.properties_lines.specs.declared.scanner.Scan.TheVariants.{Line, More, TooMany}
+
+-- where it stands, the bytes of the line that it found last and what is known of them, how many bytes were read and not
+-- passed, and why no line came
+pub record Finder : Type 0 where
+  pub state : ReaderState
+  pub line : List ℕ
+  pub is_ascii : Bool
+  pub has_backslash : Bool
+  pub waiting : ℕ
+  pub error : Option LineError
+
+-- what the scan saw of that line is so
+abbrev pub IsToldOf : Finder → Type 0
+IsToldOf f = (start end : ℕ) → IsTold f.state.encoding f.line (record { start = start; end = end; is_ascii = f.is_ascii; has_backslash = f.has_backslash })
+
+-- no more lines come than there are numbers for them
+abbrev pub lines_left : ReaderState → ℕ
+lines_left s = if s.is_done then 0 else 2 ^ 64 - s.passed
+
+-- whether a byte order mark, or an LF of the line end before, may come next
+abbrev pub awaits_front : ReaderState → Bool
+awaits_front s = if s.is_decided then s.after_cr else true
+
+-- no more reads come before the next line: memory has no place for more bytes that wait, and what may stand before it is
+-- passed once
+abbrev pub reads_left : Finder → ℕ
+reads_left f = (if awaits_front f.state then 2 ^ 64 else 0) + (2 ^ 64 - f.waiting)
+
+-- ---- reading on
+
+-- Nothing was read; or what was held gave no line, so that reading had to go on.
+abbrev pub IsLazy : {R : Type 0} → ReaderState → R → List ℕ → R → Type 0
+IsLazy old from r to = ((to ≡ from) × (r ≡ [])) ⊎ (natural_to_come old [] more ≡ [])
+
+-- These bytes were read, and no line was passed.
+pub record Along {R : Type 0} (reader : Reader R) (old : ReaderState) (from : R) (bytes : List ℕ) (new : ReaderState) (to : R) : Type 0 where
+  pub read : HasRead reader from bytes to
+  pub gives : ReadsLines old bytes [] new
+  pub passed : new.passed ≡ old.passed
+  pub done : new.is_done ≡ old.is_done
+  pub lazy : IsLazy old from bytes to
+
+-- The reader is at its end, and what is held gives no line that a line end ends.
+pub record IsAtEnd {R : Type 0} (reader : Reader R) (state : ReaderState) (at : R) : Type 0 where
+  pub ended : reader.at_end at ≡ true
+  pub none : natural_to_come state [] more ≡ []
+  pub live : state.is_done ≡ false
+  pub numbered : state.passed + 1 < 2 ^ 64
+
+-- There was no memory.
+pub record HasNoRoom {R : Type 0} (reader : Reader R) (old : ReaderState) (from : R) (to : R) : Type 0 where
+  pub bytes : List ℕ
+  pub read : HasRead reader from bytes to
+  pub lazy : IsLazy old from bytes to
+
+-- ---- one read
+
+-- the line that was found last is let go, or stays
+abbrev pub LetsGo : Finder → Finder → Type 0
+LetsGo old new = (new.line ≡ old.line) ⊎ (new.line ≡ [])
+
+-- These bytes were read, and are held after the others.
+pub record ReadsBytes {R : Type 0} (reader : Reader R) (old : Finder) (from : R) (bytes : List ℕ) (new : Finder) (to : R) : Type 0 where
+  pub read : HasRead reader from bytes to
+  pub state : new.state ≡ record old.state { held = old.state.held ++ bytes }
+  pub waiting : new.waiting ≡ old.waiting + length bytes
+  pub error : new.error ≡ old.error
+  pub line : LetsGo old new
+
+-- The reading ended for good, for this reason.
+pub record HasFailedFor (old : Finder) (e : LineError) (new : Finder) : Type 0 where
+  pub done : new.state.is_done ≡ true
+  pub error : new.error ≡ Some e
+  pub line : LetsGo old new
+
+-- why a read gave nothing: it failed in the line that is held so far, or there was no memory for it
+abbrev pub IsReadError : {R : Type 0} → Reader R → Finder → R → LineError → R → Type 0
+IsReadError reader old from (why.Io number error) to = (number ≡ old.state.passed + 1) × HasFailed reader from [] error to
+IsReadError reader old from why.TooManyLines to = ⊥
+IsReadError reader old from why.Memory to = to ≡ from
+
+-- What a read gives: some bytes, the end of the input, or an error.
+abbrev pub Reads : {R : Type 0} → Reader R → Finder → R → Read → Finder → R → Type 0
+Reads reader old from Bytes new to = (bytes : List ℕ) × (0 < length bytes) × ReadsBytes reader old from bytes new to
+Reads reader old from End new to = ReadsBytes reader old from [] new to × (reader.at_end to ≡ true)
+Reads reader old from Failed new to = (e : LineError) × IsReadError reader old from e to × HasFailedFor old e new
+
+-- ---- finding lines
+
+-- These lines come first, whatever comes after the bytes that were read; or they are all, and the input ended.
+pub data Passes (old : ReaderState) (bytes : List ℕ) (lines : List format.Line) (new : ReaderState) : Type 0 where
+  going_on : new.is_done ≡ false → ReadsLines old bytes lines new → Passes old bytes lines new
+  at_last : new.is_done ≡ true → Gives old bytes lines new [] end → Passes old bytes lines new
+
+-- These bytes hold some lines at their front, and whatever comes after them, the old state goes on after those lines as
+-- the new one does.
+pub record PassesSome (old : ReaderState) (bytes : List ℕ) (new : ReaderState) : Type 0 where
+  pub lines : List format.Line
+  pub reads : ReadsLines old bytes lines new
+
+-- The bytes hold so many lines that no number is left for another: as many are passed as there are numbers.
+pub record PassesAll (old : ReaderState) (bytes : List ℕ) : Type 0 where
+  pub last : ReaderState
+  pub passes : PassesSome old bytes last
+  pub passed : last.passed + 1 ≡ 2 ^ 64
+
+-- the line that was found, decoded, under its number
+abbrev pub found_line : ℕ → Finder → format.Line
+found_line number finder = record { number = number; text = characters (pieces_of finder.state.encoding finder.line) }
+
+-- A line was found.
+pub record FindsNext {R : Type 0} (reader : Reader R) (old : ReaderState) (from : R) (number : ℕ) (new : Finder) (to : R) : Type 0 where
+  pub bytes : List ℕ
+  pub read : HasRead reader from bytes to
+  pub live : old.is_done ≡ false
+  pub numbered : number ≡ old.passed + 1
+  pub passes : Passes old bytes (found_line number new ∷ []) new.state
+  pub counted : new.state.is_done ≡ false → new.state.passed ≡ number
+  pub ended : new.state.is_done ≡ true → reader.at_end to ≡ true
+  pub lazy : IsLazy old from bytes to
+
+-- A read failed in the line of this number, and nothing but that fault is left to come.
+pub record FindsFault {R : Type 0} (reader : Reader R) (old : ReaderState) (from : R) (e : LineError) (to : R) : Type 0 where
+  pub bytes : List ℕ
+  pub error : Error
+  pub failed : HasFailed reader from bytes error to
+  pub is : e ≡ why.Io (old.passed + 1) error
+  pub natural : natural_to_come old bytes fault ≡ []
+  pub last : last_to_come old bytes fault ≡ read_fault (old.passed + 1) ∷ []
+  pub lazy : natural_to_come old [] more ≡ []
+
+-- There was no number for another line, and nothing was read.
+pub record FindsTooMany {R : Type 0} (old : ReaderState) (from : R) (e : LineError) (new : ReaderState) (to : R) : Type 0 where
+  pub passed : old.passed + 1 ≡ 2 ^ 64
+  pub is : e ≡ why.TooManyLines
+  pub untouched : to ≡ from
+
+-- There was no memory.
+pub record FindsNoRoom {R : Type 0} (reader : Reader R) (old : ReaderState) (from : R) (e : LineError) (to : R) : Type 0 where
+  pub room : HasNoRoom reader old from to
+  pub is : e ≡ why.Memory
+
+-- Why no line was found.
+abbrev pub FindsError : {R : Type 0} → Reader R → ReaderState → R → LineError → ReaderState → R → Type 0
+FindsError reader old from e new to = FindsFault reader old from e to ⊎ (FindsTooMany old from e new to ⊎ FindsNoRoom reader old from e to)
+
+-- No line was found, and the reading ended for good: why is kept until it is taken.
+pub record FindsNone {R : Type 0} (reader : Reader R) (old : Finder) (from : R) (new : Finder) (to : R) : Type 0 where
+  pub live : old.state.is_done ≡ false
+  pub error : LineError
+  pub why : FindsError reader old.state from error new.state to
+  pub failed : HasFailedFor old error new
+
+-- What finding the next line does. At its end for good the reader reads nothing.
+abbrev pub Finds : {R : Type 0} → Reader R → Finder → R → Bool → Finder → R → Type 0
+Finds reader old from true new to = FindsNext reader old.state from new.state.passed new to × IsToldOf new × (new.error ≡ None)
+Finds reader old from false new to = (old.state.is_done ≡ true) × (new ≡ old) × (to ≡ from) ⊎ FindsNone reader old from new to
+
+-- ---- looking among the bytes that are held
+
+-- A line is held, or the input ended after it.
+pub record HoldsLine (old : Finder) (ended : Bool) (new : Finder) : Type 0 where
+  pub live : old.state.is_done ≡ false
+  pub number : new.state.passed ≡ old.state.passed + 1
+  pub comes : Comes ended old.state (found_line new.state.passed new ∷ []) new.state
+  pub going : (new.state.is_done ≡ false) ⊎ (new.state.is_done ≡ true) × (ended ≡ true)
+  pub fits : new.state.passed < 2 ^ 64
+  pub told : IsToldOf new
+  pub error : new.error ≡ None
+
+-- None is held with its end.
+pub record HoldsNone (old new : Finder) : Type 0 where
+  pub live : old.state.is_done ≡ false
+  pub numbered : old.state.passed + 1 < 2 ^ 64
+  pub none : natural_to_come old.state [] more ≡ []
+  pub alike : ReadsLines old.state [] [] new.state
+  pub passed : new.state.passed ≡ old.state.passed
+  pub done : new.state.is_done ≡ old.state.is_done
+  pub nearer : reads_left new ≤ reads_left old
+  pub error : new.error ≡ old.error
+  pub line : new.line ≡ old.line
+
+abbrev pub ScansHeld : Finder → Bool → Scan → Finder → Type 0
+ScansHeld old ended Line new = HoldsLine old ended new
+ScansHeld old ended More new = (ended ≡ false) × HoldsNone old new
+ScansHeld old ended scan.End new = (old.state.is_done ≡ true) × (new ≡ old)
+ScansHeld old ended TooMany new = (old.state.is_done ≡ false) × (old.state.passed + 1 ≡ 2 ^ 64) × (new ≡ old)

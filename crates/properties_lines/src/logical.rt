@@ -1,0 +1,170 @@
+//! The text of a logical line: the bytes of its only natural line where they are text, and else what that line is decoded
+//! to, or what several lines are joined to.
+
+ghost use Rattle.std.specs.Prelude.{◌≡◌, [], false, true, OnErr, OnOk};
+ghost use Rattle.std.specs.Str.{IsUtf8, chars};
+ghost use Rattle.properties_format.specs.Groups.{without_open_backslash};
+ghost use Rattle.properties_format.specs.Reading.Cut.{decoded_line};
+ghost use Rattle.properties_text.specs.Encoding.{encoding_of};
+ghost use Rattle.properties_text.specs.Escaping.{holds_backslash};
+ghost use Rattle.properties_lines.specs.LogicalLine.{KeepsText, AddsLine, AddsText, Begins, Opens, text_with, IsAsciiLine};
+
+use crate::join::{addition, is_comment_line, is_open, without_open_backslash};
+use properties_text::encoding::{Encoding, TextBuffer, as_text};
+use std::alloc::{AllocError, Global};
+
+/// The text of a logical line. It is passed the bytes of the line's first natural line at each call.
+#[derive(Drop)]
+pub struct LogicalLine {
+    // The text, where the bytes aren't it.
+    text: TextBuffer,
+    is_kept: bool,
+    // Where the lines after an open one are decoded.
+    decoded: TextBuffer,
+}
+
+impl LogicalLine {
+    /// No text. It takes no memory yet.
+    pub fn new(alloc: Global) -> LogicalLine
+        ensures text { result.text ≡ [] }
+        ensures kept { result.is_kept ≡ true }
+    {
+        LogicalLine {
+            text: TextBuffer::new(alloc),
+            is_kept: true,
+            decoded: TextBuffer::new(alloc),
+        }
+    }
+
+    /// The text.
+    #[inline(always)]
+    pub fn as_str<'a>(&'a self, bytes: &'a [u8]) -> &'a str
+        requires { self.now.is_kept ≡ false → IsUtf8 bytes.now }
+        ensures { result.now ≡ text_with self.now bytes.now }
+    {
+        if self.is_kept {
+            self.text.as_str()
+        } else {
+            // SAFETY: where no text is kept, the bytes are text.
+            unsafe { str::from_utf8_unchecked(bytes) }
+        }
+    }
+
+    /// Makes it the line whose bytes are its text.
+    #[inline(always)]
+    pub fn lend(&mut self)
+        ensures { self.new ≡ record self.old { is_kept = false } }
+    {
+        self.is_kept = false;
+    }
+
+    /// Makes it the line of these bytes, and returns whether the next line is joined to it.
+    ///
+    /// Where it is, the backslash that says so is taken off. `is_ascii` and `has_backslash` are what is known of the bytes.
+    pub fn begin(
+        &mut self,
+        encoding: Encoding,
+        is_ascii: bool,
+        has_backslash: bool,
+        bytes: &[u8],
+    ) -> Result<bool, AllocError>
+        requires ascii { is_ascii ≡ true → IsAsciiLine (encoding_of encoding) bytes.now }
+        requires backslash { has_backslash ≡ false → holds_backslash bytes.now ≡ false }
+        ensures begins { Begins (encoding_of encoding) bytes.now result self.new }
+        ensures lacks { OnErr result (self.new.is_kept ≡ true) }
+    {
+        self.keep(encoding, is_ascii, bytes)?;
+        if !has_backslash {
+            return Ok(false);
+        }
+        self.open(bytes)
+    }
+
+    /// Joins the line of these bytes to it, and returns whether the next line is joined too.
+    pub fn join(
+        &mut self,
+        encoding: Encoding,
+        is_ascii: bool,
+        bytes: &[u8],
+    ) -> Result<bool, AllocError>
+        requires { is_ascii ≡ true → IsAsciiLine (encoding_of encoding) bytes.now }
+        ensures adds { AddsLine (encoding_of encoding) bytes.now (chars self.old.text) result (chars self.new.text) }
+        ensures same { self.new.is_kept ≡ self.old.is_kept }
+    {
+        if is_ascii {
+            // SAFETY: ASCII is text.
+            return self.add(unsafe { str::from_utf8_unchecked(bytes) });
+        }
+        if let Some(line) = as_text(encoding, bytes) {
+            return self.add(line);
+        }
+        self.decoded.clear();
+        self.decoded.push_decoded(encoding, bytes)?;
+        self.text.push_text(addition(self.decoded.as_str()))?;
+        Ok(is_open(self.decoded.as_str()))
+    }
+
+    // Joins a text to it.
+    fn add(&mut self, line: &str) -> Result<bool, AllocError>
+        ensures adds { AddsText (chars line.now) (chars self.old.text) result (chars self.new.text) }
+        ensures same { self.new.is_kept ≡ self.old.is_kept }
+    {
+        self.text.push_text(addition(line))?;
+        Ok(is_open(line))
+    }
+
+    // Keeps the text of a line, unless its bytes are its text.
+    fn keep(&mut self, encoding: Encoding, is_ascii: bool, bytes: &[u8]) -> Result<(), AllocError>
+        requires { is_ascii ≡ true → IsAsciiLine (encoding_of encoding) bytes.now }
+        ensures keeps { OnOk result (KeepsText (encoding_of encoding) bytes.now self.new.is_kept self.new.text) }
+        ensures lacks { OnErr result (self.new.is_kept ≡ true) }
+    {
+        self.is_kept = !is_ascii && !is_utf_8(encoding, bytes);
+        if self.is_kept {
+            self.text.clear();
+            self.text.push_decoded(encoding, bytes)?;
+        }
+        Ok(())
+    }
+
+    // Takes off the backslash that opens the line, and returns whether one does.
+    fn open(&mut self, bytes: &[u8]) -> Result<bool, AllocError>
+        requires { self.old.is_kept ≡ false → IsUtf8 bytes.now }
+        ensures opens { Opens bytes.now self.old result self.new }
+        ensures lacks { OnErr result (self.new.is_kept ≡ true) }
+    {
+        let line = self.as_str(bytes);
+        if is_comment_line(line) || !is_open(line) {
+            return Ok(false);
+        }
+        if self.is_kept {
+            self.close();
+            return Ok(true);
+        }
+        self.is_kept = true;
+        self.text.clear();
+        // SAFETY: no text was kept, so the bytes are text.
+        let line = unsafe { str::from_utf8_unchecked(bytes) };
+        self.text.push_text(without_open_backslash(line))?;
+        Ok(true)
+    }
+
+    // Takes off the backslash that opens the text that is kept.
+    fn close(&mut self)
+        ensures closes { chars self.new.text ≡ without_open_backslash (chars self.old.text) }
+        ensures same { self.new.is_kept ≡ self.old.is_kept }
+    {
+        let length = without_open_backslash(self.text.as_str()).len();
+        self.text.truncate(length);
+    }
+}
+
+// Whether bytes are text in UTF-8, where that is their encoding.
+fn is_utf_8(encoding: Encoding, bytes: &[u8]) -> bool
+    ensures { result ≡ true → IsUtf8 bytes.now × (chars bytes.now ≡ decoded_line (encoding_of encoding) bytes.now) }
+{
+    match encoding {
+        Encoding::UTF_8 => as_text(encoding, bytes).is_some(),
+        Encoding::WINDOWS_1252 | Encoding::UTF_16LE | Encoding::UTF_16BE => false,
+    }
+}

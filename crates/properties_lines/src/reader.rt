@@ -1,0 +1,230 @@
+//! The natural lines of a reader, one after another, as bytes that are not decoded yet.
+
+ghost use Rattle.std.specs.Prelude.{◌≡◌, ◌+◌, ◌<◌, ◌^◌, None, Some, true, []};
+ghost use Rattle.std.specs.Option.{is_some};
+ghost use Rattle.counted_io.specs.Streams.{IsSameReader};
+ghost use Rattle.properties_format.specs.ItemsToCome.{start};
+ghost use Rattle.properties_text.specs.Encoding.{encoding_of};
+ghost use Rattle.properties_lines.specs.LineReader.{Finds, Reads, ScansHeld, lines_left};
+
+use crate::error::LineError;
+use crate::input::InputBuffer;
+use crate::scanner::{Scan, Scanner};
+use counted_io::CountedRead;
+use properties_text::encoding::Encoding;
+use std::alloc::Global;
+use std::marker::Model;
+use std::mem;
+
+// What a read gave.
+#[derive(Clone, Copy)]
+enum Read {
+    // More bytes.
+    Bytes,
+    // None, since the input ended.
+    End,
+    // An error, which is kept.
+    Failed,
+}
+
+/// Reads the natural lines of an input, one after another. It is passed its reader at each call.
+///
+/// Why no line came is kept until [`take_error`](LineReader::take_error) takes it.
+#[derive(Drop)]
+pub struct LineReader {
+    input: InputBuffer,
+    scanner: Scanner,
+    error: Option<LineError>,
+}
+
+impl Model for LineReader {
+    ghost use Rattle.std.specs.Prelude.{◌≡◌, ◌≢◌, ◌-◌, true, None, length};
+    ghost use Rattle.properties_lines.specs.Scanner.{standing, bytes_of, Fits};
+    ghost use Rattle.properties_lines.specs.LineReader.{Finder};
+
+    ghost Value = { Finder };
+
+    ghost view = { λ s. record {
+      state = standing s.scanner s.input.held;
+      line = bytes_of s.input.held s.scanner.line;
+      is_ascii = s.scanner.line.is_ascii;
+      has_backslash = s.scanner.line.has_backslash;
+      waiting = length s.input.held - s.scanner.at;
+      error = s.error;
+    } };
+
+    ghost invariant = { λ s. Fits s.scanner s.input.held × (s.error ≢ None → s.scanner.is_done ≡ true) };
+}
+
+impl LineReader {
+    /// At the start of an input. It takes no memory yet.
+    pub fn new(alloc: Global, encoding: Encoding) -> LineReader
+        ensures state { result.state ≡ start (encoding_of encoding) }
+        ensures line { result.line ≡ [] }
+        ensures error { result.error ≡ None }
+    {
+        LineReader {
+            input: InputBuffer::new(alloc),
+            scanner: Scanner::new(encoding),
+            error: None,
+        }
+    }
+
+    /// The bytes of the line that was found last, without its line end.
+    #[inline(always)]
+    pub fn line(&self) -> &[u8]
+        ensures { result.now ≡ self.now.line }
+    {
+        let line = self.scanner.line();
+        &self.input.held()[line.start..line.end]
+    }
+
+    /// Whether that line is ASCII characters of one byte each.
+    #[inline(always)]
+    pub fn is_ascii(&self) -> bool
+        ensures { result ≡ self.now.is_ascii }
+    {
+        self.scanner.line().is_ascii
+    }
+
+    /// Whether one of its bytes is a backslash's.
+    #[inline(always)]
+    pub fn has_backslash(&self) -> bool
+        ensures { result ≡ self.now.has_backslash }
+    {
+        self.scanner.line().has_backslash
+    }
+
+    /// The number of that line, or 0 before the first.
+    #[inline(always)]
+    pub fn number(&self) -> usize
+        ensures { result ≡ self.now.state.passed }
+    {
+        self.scanner.number()
+    }
+
+    /// The encoding of that line, or the one asked for while it isn't decided.
+    #[inline(always)]
+    pub fn encoding(&self) -> Encoding
+        ensures { encoding_of result ≡ self.now.state.encoding }
+    {
+        self.scanner.encoding()
+    }
+
+    // Counts on from so many lines, so that a test comes to the last number.
+    #[cfg(test)]
+    fn count_from(&mut self, passed: usize)
+        ensures { self.new ≡ record self.old { state = record self.old.state { passed = passed } } }
+    {
+        self.scanner.count_from(passed);
+    }
+
+    /// Ends the reading for good.
+    pub fn end(&mut self)
+        ensures { self.new ≡ record self.old { state = record self.old.state { is_done = true } } }
+    {
+        self.scanner.end();
+    }
+
+    /// Ends the reading for good, and keeps why.
+    #[inline(never)]
+    pub fn fail(&mut self, error: LineError)
+        ensures { self.new ≡ record self.old { state = record self.old.state { is_done = true }; error = Some error } }
+    {
+        self.scanner.end();
+        self.error = Some(error);
+    }
+
+    /// Why no line came, where it isn't for the end of the input. It is taken once.
+    pub fn take_error(&mut self) -> Option<LineError>
+        ensures error { result ≡ self.old.error }
+        ensures taken { self.new ≡ record self.old { error = None } }
+    {
+        mem::replace(&mut self.error, None)
+    }
+
+    /// Whether such an error is kept.
+    pub fn has_failed(&self) -> bool
+        ensures { result ≡ is_some self.now.error }
+    {
+        self.error.is_some()
+    }
+
+    /// Finds the next line, and returns whether there is one. Where there is none, the reading has ended for good.
+    ///
+    /// A line that a CR ends is found at once: an LF that comes next belongs to its end.
+    #[inline(always)]
+    pub fn find_line<R: CountedRead>(&mut self, reader: &mut R) -> bool
+        ensures finds { Finds R.CountedRead self.old reader.old result self.new reader.new }
+        ensures same_reader { IsSameReader R.CountedRead reader.old reader.new }
+        ensures nearer { result ≡ true → lines_left self.new.state < lines_left self.old.state }
+        ensures fits { self.old.state.passed < 2 ^ 64 }
+    {
+        let _number = self.number();
+        match self.scan(false) {
+            Scan::Line => true,
+            Scan::More | Scan::End | Scan::TooMany => self.read_line(reader),
+        }
+    }
+
+    // Finds the next line, which may have to be read.
+    #[inline(never)]
+    fn read_line<R: CountedRead>(&mut self, reader: &mut R) -> bool
+        ensures finds { Finds R.CountedRead self.old reader.old result self.new reader.new }
+        ensures same_reader { IsSameReader R.CountedRead reader.old reader.new }
+        ensures nearer { result ≡ true → lines_left self.new.state < lines_left self.old.state }
+    {
+        let mut ended = false;
+        'reads: loop {
+            match self.scan(ended) {
+                Scan::Line => return true,
+                Scan::More => {}
+                Scan::End => return false,
+                Scan::TooMany => {
+                    self.fail(LineError::TooManyLines);
+                    return false;
+                }
+            }
+            match self.read(reader) {
+                Read::Bytes => {}
+                Read::End => ended = true,
+                Read::Failed => return false,
+            }
+        }
+    }
+
+    // Looks for a line among the bytes that are held.
+    #[inline(always)]
+    fn scan(&mut self, ended: bool) -> Scan
+        ensures { ScansHeld self.old ended result self.new }
+    {
+        self.scanner.next(self.input.held(), ended)
+    }
+
+    // Reads once.
+    fn read<R: CountedRead>(&mut self, reader: &mut R) -> Read
+        requires numbered { self.old.state.passed + 1 < 2 ^ 64 }
+        ensures reads { Reads R.CountedRead self.old reader.old result self.new reader.new }
+        ensures same_reader { IsSameReader R.CountedRead reader.old reader.new }
+        ensures fits { self.old.waiting < 2 ^ 64 }
+    {
+        let _length = self.input.held().len();
+        let Ok(gone) = self.input.make_room(self.scanner.place()) else {
+            self.fail(LineError::Memory);
+            return Read::Failed;
+        };
+        self.scanner.let_go(gone);
+        match self.input.fill(reader) {
+            Ok(0) => Read::End,
+            Ok(_) => Read::Bytes,
+            Err(error) => {
+                let number = self.scanner.number() + 1;
+                self.fail(LineError::Io(number, error));
+                Read::Failed
+            }
+        }
+    }
+}
+
+#[cfg(test)]
+mod tests;

@@ -1,0 +1,527 @@
+//! Natural lines among bytes that the caller holds. It reads nothing, takes no memory and can't fail.
+
+ghost use Rattle.std.specs.Prelude.{List, ℕ, ◌≡◌, ◌↔◌, ◌+◌, ◌-◌, ◌≤◌, true, false, [], length, take, drop, get_or};
+ghost use Rattle.std.specs.Str.{IsAscii};
+ghost use Rattle.byte_blocks.specs.Classes.{is_plain_end};
+ghost use Rattle.properties_format.specs.Text.{backslash, is_line_end, line_feed};
+ghost use Rattle.properties_format.specs.Encoding.{ascii_bytes};
+ghost use Rattle.properties_format.specs.ItemsToCome.{start};
+ghost use Rattle.properties_format.specs.Reading.ReaderSteps.{after_decided};
+ghost use Rattle.properties_text.specs.Encoding.{encoding_of};
+ghost use Rattle.properties_text.specs.Decoding.{TellsBom};
+ghost use Rattle.properties_text.specs.Escaping.{holds_backslash};
+ghost use Rattle.properties_lines.specs.LineSearch.{unit_size, IsFirstLineEnd};
+ghost use Rattle.properties_lines.specs.Scanner.{Fits, Scans, Settles, IsReady, IsFresh, IsBefore, Searches, TakesLine, TakesLast, PassesFeed, IsTold, IsFeed, TellsFeed, standing, front_after, is_undecided};
+ghost use Rattle.properties_lines.specs.declared.scanner.Front.TheVariants.{Mark, Feed, Nothing};
+
+use crate::search::{LineEnd, find_line_end, unit_size, whole_units};
+use byte_blocks::{ByteClass, LineEnds, PastAscii, PlainEnds};
+use memchr::memchr;
+use properties_text::characters::is_line_end;
+use properties_text::encoding::Encoding;
+use properties_text::encoding::byte_order_mark::{ByteOrderMark, byte_order_mark};
+use std::simd::prelude::*;
+
+/// What comes next.
+#[derive(Clone, Copy)]
+pub enum Scan {
+    /// A line, which [`line`](Scanner::line) tells of.
+    Line,
+    /// More bytes decide it: no line end is held.
+    More,
+    /// Nothing: the last line was given.
+    End,
+    /// A line for which there is no number.
+    TooMany,
+}
+
+/// What may stand before the next line.
+#[derive(Clone, Copy)]
+pub enum Front {
+    /// A byte order mark, at the start of an input.
+    Mark,
+    /// An LF that is of the line end before, which is a CR.
+    Feed,
+    /// Nothing.
+    Nothing,
+}
+
+/// A natural line among the bytes that are held.
+#[derive(Clone, Copy)]
+pub struct RawLine {
+    /// The place of its first byte.
+    pub start: usize,
+    /// The place after its last byte, where its line ending stands.
+    pub end: usize,
+    /// Whether its bytes are ASCII characters, one by one.
+    pub is_ascii: bool,
+    /// Whether one of its bytes is a backslash's.
+    pub has_backslash: bool,
+}
+
+/// Where a scan stands between two lines. It is passed the bytes that are held at each call.
+#[derive(Clone, Copy)]
+pub struct Scanner {
+    // The encoding in force, or the one asked for while the byte order mark isn't decided.
+    encoding: Encoding,
+    front: Front,
+    is_done: bool,
+    // The number of the line that was found last.
+    passed: usize,
+    // The place after it, from which the scan goes on.
+    at: usize,
+    // How many bytes from there on are known to be whole units without a line end.
+    searched: usize,
+    line: RawLine,
+}
+
+impl Scanner {
+    /// At the start of an input, where a byte order mark may stand.
+    pub fn new(encoding: Encoding) -> Scanner
+        ensures stands { standing result [] ≡ start (encoding_of encoding) }
+        ensures fits { Fits result [] }
+        ensures place { result.at ≡ 0 }
+        ensures line { (result.line.start ≡ 0) × (result.line.end ≡ 0) }
+    {
+        Scanner {
+            encoding,
+            front: Front::Mark,
+            is_done: false,
+            passed: 0,
+            at: 0,
+            searched: 0,
+            line: RawLine {
+                start: 0,
+                end: 0,
+                is_ascii: true,
+                has_backslash: false,
+            },
+        }
+    }
+
+    /// After the byte order mark of an input in this encoding.
+    pub fn in_body(encoding: Encoding) -> Scanner
+        ensures stands { (held : List ℕ) → standing result held ≡ record (start (encoding_of encoding)) { is_decided = true; held = held } }
+        ensures fits { (held : List ℕ) → Fits result held }
+        ensures place { result.at ≡ 0 }
+        ensures encoding { result.encoding ≡ encoding }
+    {
+        Scanner {
+            front: Front::Nothing,
+            ..Scanner::new(encoding)
+        }
+    }
+
+    /// The encoding in force, or the one asked for while the byte order mark isn't decided.
+    #[inline(always)]
+    pub fn encoding(&self) -> Encoding
+        ensures { result ≡ self.now.encoding }
+    {
+        self.encoding
+    }
+
+    /// The line that was found last.
+    #[inline(always)]
+    pub fn line(&self) -> &RawLine
+        ensures { result.now ≡ self.now.line }
+    {
+        &self.line
+    }
+
+    /// The number of that line, or 0 before the first.
+    #[inline(always)]
+    pub fn number(&self) -> usize
+        ensures { result ≡ self.now.passed }
+    {
+        self.passed
+    }
+
+    /// The place after that line and its line ending, as far as this is held.
+    #[inline(always)]
+    pub fn place(&self) -> usize
+        ensures { result ≡ self.now.at }
+    {
+        self.at
+    }
+
+    // Counts on from so many lines, so that a test comes to the last number.
+    #[cfg(test)]
+    pub(crate) fn count_from(&mut self, passed: usize)
+        ensures { self.new ≡ record self.old { passed = passed } }
+    {
+        self.passed = passed;
+    }
+
+    /// Ends the scan for good.
+    pub fn end(&mut self)
+        ensures { self.new ≡ record self.old { is_done = true } }
+    {
+        self.is_done = true;
+    }
+
+    /// So many bytes at the front of those that are held are let go, and the last line with them.
+    pub fn let_go(&mut self, count: usize)
+        requires { count ≤ self.old.at }
+        ensures { self.new ≡ record self.old { at = self.old.at - count; line = record self.old.line { start = 0; end = 0 } } }
+    {
+        self.at -= count;
+        self.line.start = 0;
+        self.line.end = 0;
+    }
+
+    /// Finds the next line of the bytes that are held. `ended` says that no others come.
+    #[inline(always)]
+    pub fn next(&mut self, held: &[u8], ended: bool) -> Scan
+        requires { Fits self.old held.now }
+        ensures { Scans self.old held.now ended result self.new }
+    {
+        if self.is_done {
+            return Scan::End;
+        }
+        if self.passed == usize::MAX {
+            return Scan::TooMany;
+        }
+        if !self.settle(held, ended) {
+            return Scan::More;
+        }
+        if self.search(held) {
+            return Scan::Line;
+        }
+        if !ended {
+            return Scan::More;
+        }
+        self.take_last(held);
+        Scan::Line
+    }
+
+    // Passes the byte order mark, or the LF of a CR before, unless more bytes decide it.
+    #[inline(always)]
+    fn settle(&mut self, held: &[u8], ended: bool) -> bool
+        requires fits { Fits self.old held.now }
+        requires live { self.old.is_done ≡ false }
+        ensures { Settles self.old held.now ended result self.new }
+    {
+        if let Front::Nothing = self.front {
+            return true;
+        }
+        self.pass_front(held, ended)
+    }
+
+    #[inline(never)]
+    fn pass_front(&mut self, held: &[u8], ended: bool) -> bool
+        requires fits { Fits self.old held.now }
+        requires live { self.old.is_done ≡ false }
+        ensures { Settles self.old held.now ended result self.new }
+    {
+        match self.front {
+            Front::Nothing => true,
+            Front::Mark => self.decide(held, ended),
+            Front::Feed => self.pass_feed(held, ended),
+        }
+    }
+
+    fn decide(&mut self, held: &[u8], ended: bool) -> bool
+        requires fits { Fits self.old held.now }
+        requires live { self.old.is_done ≡ false }
+        requires mark { self.old.front ≡ Mark }
+        ensures { Settles self.old held.now ended result self.new }
+    {
+        let mark = byte_order_mark(&held[self.at..]);
+        if !ended && is_undecided(mark) {
+            return false;
+        }
+        self.take_mark(held, mark);
+        true
+    }
+
+    // Passes the byte order mark, where there is one.
+    fn take_mark(&mut self, held: &[u8], mark: ByteOrderMark)
+        requires fits { Fits self.old held.now }
+        requires front { self.old.front ≡ Mark }
+        requires tells { TellsBom (drop self.old.at held.now) mark }
+        ensures stands { standing self.new held.now ≡ after_decided (standing self.old held.now) }
+        ensures within { self.new.at ≤ length held.now }
+        ensures same { self.new ≡ record self.old { encoding = self.new.encoding; front = Nothing; at = self.new.at } }
+    {
+        let _length = held.len();
+        if let ByteOrderMark::Present(encoding, length) = mark {
+            self.encoding = encoding;
+            self.at += length;
+        }
+        self.front = Front::Nothing;
+    }
+
+    fn pass_feed(&mut self, held: &[u8], ended: bool) -> bool
+        requires fits { Fits self.old held.now }
+        requires live { self.old.is_done ≡ false }
+        requires feed { self.old.front ≡ Feed }
+        ensures { Settles self.old held.now ended result self.new }
+    {
+        let Some(count) = feed_size(self.encoding, &held[self.at..], ended) else {
+            return false;
+        };
+        self.at += count;
+        self.front = Front::Nothing;
+        true
+    }
+
+    // Searches for the end of the line, and takes the line up to it where it is held.
+    #[inline(always)]
+    fn search(&mut self, held: &[u8]) -> bool
+        requires { IsReady self.old held.now }
+        ensures { Searches self.old held.now result self.new }
+    {
+        match self.encoding {
+            Encoding::WINDOWS_1252 | Encoding::UTF_8 if self.searched == 0 => self.search_bytes(
+                held,
+            ),
+            _ => self.search_on(held),
+        }
+    }
+
+    // Searches a line from its start on, where a unit is one byte, sixteen bytes at once.
+    #[inline(always)]
+    fn search_bytes(&mut self, held: &[u8]) -> bool
+        requires ready { IsReady self.old held.now }
+        requires fresh { IsFresh self.old }
+        ensures { Searches self.old held.now result self.new }
+    {
+        let bytes = &held[self.at..];
+        // The processor foresees this branch, so it needn't wait for a blank line's end to go on with the next line.
+        if !bytes.is_empty() && is_line_end(char::from(bytes[0])) {
+            self.take(held, 0, true, false);
+            return true;
+        }
+        let mut at = 0;
+        let mut is_ascii = true;
+        while bytes.len() - at >= 16 {
+            let v = u8x16::from_slice(&bytes[at..]);
+            let past = PastAscii::marks(v);
+            if let Some(first) = PlainEnds::marks(v).first() {
+                let is_ascii = is_ascii && past.is_clear_before(first);
+                return self.take_plain(held, at + first, is_ascii);
+            }
+            is_ascii = is_ascii && past.is_clear();
+            at += 16;
+        }
+        self.searched = at;
+        self.search_on(held)
+    }
+
+    // Takes the line whose end is at this place, or searches on where a backslash stands there.
+    #[inline(always)]
+    fn take_plain(&mut self, held: &[u8], size: usize, is_ascii: bool) -> bool
+        requires ready { IsReady self.old held.now }
+        requires fresh { IsFresh self.old }
+        requires before { IsBefore (drop self.old.at held.now) size is_ascii }
+        requires unescaped { holds_backslash (take size (drop self.old.at held.now)) ≡ false }
+        requires stops { is_plain_end (get_or (drop self.old.at held.now) size 0) ≡ true }
+        ensures { Searches self.old held.now result self.new }
+    {
+        if !is_line_end(char::from(held[self.at + size])) {
+            return self.search_escaped(held, size, is_ascii);
+        }
+        self.take(held, size, is_ascii, false);
+        true
+    }
+
+    // Searches a line on from its first backslash, where a unit is one byte.
+    #[inline(never)]
+    fn search_escaped(&mut self, held: &[u8], from: usize, is_ascii_before: bool) -> bool
+        requires ready { IsReady self.old held.now }
+        requires fresh { IsFresh self.old }
+        requires before { IsBefore (drop self.old.at held.now) from is_ascii_before }
+        requires escaped { get_or (drop self.old.at held.now) from 0 ≡ backslash }
+        ensures { Searches self.old held.now result self.new }
+    {
+        let bytes = &held[self.at..];
+        let mut at = from;
+        let mut is_ascii = is_ascii_before;
+        while bytes.len() - at >= 16 {
+            let v = u8x16::from_slice(&bytes[at..]);
+            let count = LineEnds::marks(v).front();
+            is_ascii = is_ascii && PastAscii::marks(v).is_clear_before(count);
+            at += count;
+            if count < 16 {
+                self.take(held, at, is_ascii, true);
+                return true;
+            }
+        }
+        self.searched = at;
+        self.search_on(held)
+    }
+
+    // Takes a line of so many bytes, where a unit is one byte.
+    #[inline(always)]
+    fn take(&mut self, held: &[u8], size: usize, is_ascii: bool, has_backslash: bool)
+        requires ready { IsReady self.old held.now }
+        requires fresh { IsFresh self.old }
+        requires before { IsBefore (drop self.old.at held.now) size is_ascii }
+        requires told { has_backslash ≡ holds_backslash (take size (drop self.old.at held.now)) }
+        requires ends { is_line_end (get_or (drop self.old.at held.now) size 0) ≡ true }
+        ensures { TakesLine self.old held.now self.new }
+    {
+        let start = self.at;
+        let end = start + size;
+        self.line = RawLine {
+            start,
+            end,
+            is_ascii,
+            has_backslash,
+        };
+        self.passed += 1;
+        self.at = end + 1;
+        if held[end] == b'\r' {
+            self.pass_byte_feed(held);
+        }
+    }
+
+    // Passes the LF that belongs to a CR before, where a unit is one byte.
+    #[inline(always)]
+    fn pass_byte_feed(&mut self, held: &[u8])
+        requires within { self.old.at ≤ length held.now }
+        requires settled { self.old.front ≡ Nothing }
+        ensures { PassesFeed self.old held.now self.new }
+    {
+        if self.at == held.len() {
+            self.front = Front::Feed;
+        } else if held[self.at] == b'\n' {
+            self.at += 1;
+        }
+    }
+
+    // Searches on after the bytes that were searched, whatever a unit is.
+    #[inline(never)]
+    fn search_on(&mut self, held: &[u8]) -> bool
+        requires { IsReady self.old held.now }
+        ensures { Searches self.old held.now result self.new }
+    {
+        let bytes = &held[self.at..];
+        match find_line_end(self.encoding, bytes, self.searched) {
+            Some(end) => {
+                self.take_found(held, end);
+                true
+            }
+            None => {
+                self.searched = whole_units(self.encoding, bytes.len());
+                false
+            }
+        }
+    }
+
+    // Takes the line up to an end that was found.
+    fn take_found(&mut self, held: &[u8], found: LineEnd)
+        requires ready { IsReady self.old held.now }
+        requires found { IsFirstLineEnd (encoding_of self.old.encoding) (drop self.old.at held.now) found }
+        ensures { TakesLine self.old held.now self.new }
+    {
+        let start = self.at;
+        let end = start + found.at;
+        let size = unit_size(self.encoding);
+        let after = &held[end + size..];
+        let feed = feed_of(self.encoding, found.is_cr, after);
+        self.front = front_after(found.is_cr, after.len() < size);
+        self.at = end + size + feed;
+        self.passed += 1;
+        self.searched = 0;
+        self.line = raw_line(self.encoding, held, start, end);
+    }
+
+    // Takes the last line.
+    #[inline(never)]
+    fn take_last(&mut self, held: &[u8])
+        requires { IsReady self.old held.now }
+        ensures { TakesLast self.old held.now self.new }
+    {
+        let end = held.len();
+        self.line = raw_line(self.encoding, held, self.at, end);
+        self.at = end;
+        self.passed += 1;
+        self.searched = 0;
+        self.is_done = true;
+    }
+}
+
+// The line between these places.
+fn raw_line(encoding: Encoding, held: &[u8], start: usize, end: usize) -> RawLine
+    requires ordered { start ≤ end }
+    requires within { end ≤ length held.now }
+    ensures start { result.start ≡ start }
+    ensures end { result.end ≡ end }
+    ensures told { IsTold (encoding_of encoding) (take (end - start) (drop start held.now)) result }
+{
+    let bytes = &held[start..end];
+    RawLine {
+        start,
+        end,
+        is_ascii: is_ascii(encoding, bytes),
+        has_backslash: memchr(b'\\', bytes).is_some(),
+    }
+}
+
+fn is_ascii(encoding: Encoding, bytes: &[u8]) -> bool
+    ensures { (result ≡ true) ↔ (unit_size (encoding_of encoding) ≡ 1) × IsAscii bytes.now }
+{
+    match encoding {
+        Encoding::WINDOWS_1252 | Encoding::UTF_8 => byte_blocks::find::<PastAscii>(bytes).is_none(),
+        Encoding::UTF_16LE | Encoding::UTF_16BE => false,
+    }
+}
+
+// What may stand before the line after a line end, where it ends what is held or doesn't.
+#[inline(always)]
+fn front_after(is_cr: bool, is_last: bool) -> Front
+    ensures { result ≡ front_after is_cr is_last }
+{
+    if is_cr && is_last {
+        Front::Feed
+    } else {
+        Front::Nothing
+    }
+}
+
+// How many bytes the LF has that stands after a CR.
+fn feed_of(encoding: Encoding, is_cr: bool, after: &[u8]) -> usize
+    ensures { IsFeed (encoding_of encoding) is_cr after.now result }
+{
+    let feed = line_feed_of(encoding);
+    if is_cr && after.starts_with(feed) {
+        feed.len()
+    } else {
+        0
+    }
+}
+
+// The bytes of an LF.
+fn line_feed_of(encoding: Encoding) -> &'static [u8]
+    ensures { result.now ≡ ascii_bytes (encoding_of encoding) line_feed }
+{
+    match encoding {
+        Encoding::WINDOWS_1252 | Encoding::UTF_8 => b"\n",
+        Encoding::UTF_16LE => b"\n\0",
+        Encoding::UTF_16BE => b"\0\n",
+    }
+}
+
+// How many bytes an LF at the front has, or none where others stand there; unless more bytes decide it.
+fn feed_size(encoding: Encoding, held: &[u8], ended: bool) -> Option<usize>
+    ensures { TellsFeed (encoding_of encoding) held.now ended result }
+{
+    let feed = line_feed_of(encoding);
+    if held.starts_with(feed) {
+        Some(feed.len())
+    } else if held.len() < feed.len() && !ended {
+        None
+    } else {
+        Some(0)
+    }
+}
+
+fn is_undecided(mark: ByteOrderMark) -> bool
+    ensures { result ≡ is_undecided mark }
+{
+    matches!(mark, ByteOrderMark::Undecided)
+}
+
+#[cfg(test)]
+mod tests;

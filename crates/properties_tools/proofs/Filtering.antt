@@ -1,0 +1,154 @@
+-- Items that go from a reader to a sink, one after another.
+use Rattle.std.proofs.Common.{◌≡◌, ◌++◌, ℕ, false, List, [], ◌∷◌, sym, ◌∙◌, inl, inr, subst, append-nil}
+use Rattle.std.specs.Prelude.{Bool, ◌⊎◌, Result, Ok, Err}
+use Rattle.counted_io.specs.Streams.{Reader, Sink}
+use Rattle.properties_format.specs.Encoding.{Encoding}
+use Rattle.properties_format.specs.ItemsToCome.{ReaderState, start}
+use Rattle.properties_format.specs.Entries.{Content, comment, pair, Entry, item, malformed, read_fault, AreItems}
+use Rattle.properties_format.specs.Items.{IsItems}
+use Rattle.properties_format.specs.Lines.{end}
+use Rattle.properties_format.specs.Pairs.{pairs_in, ArePairsOfScalars}
+use Rattle.properties_format.specs.Reading.ItemsToCome.{items_to_come}
+use Rattle.properties_format.proofs.Items.Unique.{items_of-meets}
+use Rattle.java_properties.specs.PropertiesIter.{Reading}
+use Rattle.java_properties.specs.GivenItems.{GivesEntry, GivesNone, GivesMalformed, GivesError}
+use Rattle.java_properties.specs.PropertiesWriter.{Writing, Flushes, HasFlushedSink, RefusesFlush, FailsInFlush}
+use Rattle.java_properties.specs.ReadLines.{BeginsItems}
+use Rattle.java_properties.specs.declared.error.PropertiesError.{PropertiesError}
+use Rattle.java_properties.proofs.Readings.{Comes, Collected, collected-start, collected-next, collected-none, collected-malformed, collected-error}
+use Rattle.properties_tools.specs.Filter.{pair_writer, HasScalars, WritesIfPair, HasFiltered, StopsInWriting, Filters}
+use Rattle.properties_tools.proofs.Pairs.{HasWrittenPairs, pairs-none, pairs-comment, pairs-more, pairs-live, pairs-fail, pairs-refused, pairs-flushed, pairs-flush, pairs-flush-failed}
+
+-- the content of an entry
+pub same-content : {number number' : ℕ} {content content' : Content} → item number content ≡ item number' content' → content ≡ content'
+same-content h = cc
+
+-- one item more
+AreItems-more : (xs : List Entry) (number : ℕ) (content : Content) → AreItems xs → AreItems (xs ++ (item number content ∷ []))
+AreItems-more [] number content h = tt
+AreItems-more (item n c ∷ xs) number content h = AreItems-more xs number content h
+AreItems-more (malformed kind n ∷ xs) number content h = absurd h
+AreItems-more (read_fault n ∷ xs) number content h = absurd h
+
+-- the texts of pairs are of scalar values, one more among them
+scalars-more : (xs : List Entry) (number : ℕ) (content : Content) → ArePairsOfScalars (pairs_in xs) → HasScalars content → ArePairsOfScalars (pairs_in (xs ++ (item number content ∷ [])))
+scalars-more [] number (comment text) h q = tt
+scalars-more [] number (pair key value) h q = (q, tt)
+scalars-more (item n (comment text) ∷ xs) number content h q = scalars-more xs number content h q
+scalars-more (item n (pair key value) ∷ xs) number content h q = (h.0, scalars-more xs number content h.1 q)
+scalars-more (malformed kind n ∷ xs) number content h q = scalars-more xs number content h q
+scalars-more (read_fault n ∷ xs) number content h q = scalars-more xs number content h q
+
+-- The items that came were all that the reader gave so far, and their pairs were written.
+pub record HasPassed {R W : Type 0} (reader : Reader R) (sink : Sink W) (e : Encoding) (only : Bool) (input : R) (output : W) (it : Reading R) (w : Writing W) : Type 0 where
+  pub items : List Entry
+  pub whole : AreItems items
+  pub scalars : ArePairsOfScalars (pairs_in items)
+  pub bytes : List ℕ
+  pub collected : Collected reader e input bytes items it.state it.reader
+  pub pairs : HasWrittenPairs sink e only output items w
+
+-- before the first item
+pub passed-none : {R W : Type 0} (reader : Reader R) (sink : Sink W) (e : Encoding) (only : Bool) (it : Reading R) (w : Writing W) → it.state ≡ start e
+    → w ≡ pair_writer e only w.sink → HasPassed reader sink e only it.reader w.sink it w
+passed-none reader sink e only it w fresh new = record {
+  items = [];
+  whole = tt;
+  scalars = tt;
+  bytes = [];
+  collected = subst (λ s. Collected reader e it.reader [] [] s it.reader) (sym fresh) (collected-start e it.reader);
+  pairs = subst (λ v. HasWrittenPairs sink e only w.sink [] v) (sym new) (pairs-none sink e only w.sink);
+}
+
+-- what came so far is a beginning of the items
+begins : {e : Encoding} {bytes : List ℕ} {items : List Entry} {at_end : Bool} {s : ReaderState} → Comes e bytes items at_end s → BeginsItems e bytes items at_end
+begins {e} {bytes} {items} {s = s} (Comes.going_on g m) =
+    inl (λ d ending. (items_to_come s d ending, subst (IsItems e (bytes ++ d) ending) (m d ending) (items_of-meets e (bytes ++ d) ending)))
+begins {e} {bytes} {items} (Comes.at_last d k m) =
+    inr (k, ([], subst (IsItems e bytes end) (m ∙ sym (append-nil items)) (items_of-meets e bytes end)))
+
+module _ {R W : Type 0} {reader : Reader R} {sink : Sink W} {e : Encoding} {only : Bool} {input : R} {output : W} {it : Reading R} {w : Writing W} where
+  -- An item came, and was written if it is a pair.
+  pub passed-more : {next : Reading R} (new : Writing W) (number : ℕ) (content : Content) → HasPassed reader sink e only input output it w
+      → GivesEntry reader it.state it.reader (item number content) next.state next.reader → WritesIfPair sink w content (Ok tt) new
+      → HasScalars content → HasPassed reader sink e only input output next new
+  passed-more new number content h n k q = record {
+    items = h.items ++ (item number content ∷ []);
+    whole = AreItems-more h.items number content h.whole;
+    scalars = scalars-more h.items number content h.scalars q;
+    bytes = h.bytes ++ n.bytes;
+    collected = collected-next h.collected n;
+    pairs = written content k;
+  }
+    where
+      written : (c : Content) → WritesIfPair sink w c (Ok tt) new → HasWrittenPairs sink e only output (h.items ++ (item number c ∷ [])) new
+      written (comment text) k = rw k.1 (pairs-comment number text h.pairs)
+      written (pair key value) k = pairs-more number key value h.pairs k
+
+module _ {R W : Type 0} {reader : Reader R} {sink : Sink W} {e : Encoding} {only : Bool} {input : R} {output : W} {it : Reading R} {w : Writing W} {to : R} where
+  -- reading stopped, and the sink was flushed
+  pub stops-reading : {error : PropertiesError} (new : Writing W) (flush : Result Unit PropertiesError) → HasPassed reader sink e only input output it w
+      → it.state.is_done ≡ false → GivesMalformed reader it.state it.reader error to ⊎ GivesError reader it.state it.reader error to
+      → Flushes sink w flush new → Filters reader sink e only input output (Err error) to new.sink
+  stops-reading new flush h live k f = (
+    h.items,
+    record {
+      scalars = h.scalars;
+      stops = inl (record {
+        whole = h.whole;
+        stops = elim k [ inl m ↦ inl (collected-malformed h.collected live m) | inr j ↦ inr (collected-error h.collected live j) ];
+        written = pairs-flush new flush h.pairs f;
+      });
+    },
+  )
+
+module _ {R W : Type 0} {reader : Reader R} {sink : Sink W} {e : Encoding} {only : Bool} {input : R} {output : W} {it : Reading R} {w : Writing W} {after : ReaderState} {to : R} where
+  -- A pair came, and was not written.
+  pub stops-writing : {error : PropertiesError} (new : Writing W) (number : ℕ) (content : Content) → HasPassed reader sink e only input output it w
+      → GivesEntry reader it.state it.reader (item number content) after to → WritesIfPair sink w content (Err error) new
+      → Filters reader sink e only input output (Err error) to new.sink
+  stops-writing {error = error} new number content h n k = (h.items, record { scalars = h.scalars; stops = inr (inl (by-content content (begins came.comes) k)) })
+    where
+      came : Collected reader e input (h.bytes ++ n.bytes) (h.items ++ (item number content ∷ [])) after to
+      came = collected-next h.collected n
+
+      by-content : (c : Content) → BeginsItems e (h.bytes ++ n.bytes) (h.items ++ (item number c ∷ [])) (reader.at_end to)
+          → WritesIfPair sink w c (Err error) new
+          → StopsInWriting reader sink e only input output h.items error to new.sink
+      by-content (comment text) b k = absurd (let same = k.0 in cc)
+      by-content (pair key value) b k = record {
+        number = number;
+        key = key;
+        value = value;
+        whole = h.whole;
+        bytes = h.bytes ++ n.bytes;
+        read = came.read;
+        begins = b;
+        fails = elim k [ inl refused ↦ inr (pairs-refused key value h.pairs refused) | inr failed ↦ inl (pairs-fail key value h.pairs failed) ];
+      }
+
+  -- no item came any more, and the sink was flushed
+  filtered : {new : Writing W} → HasPassed reader sink e only input output it w → GivesNone reader it.state it.reader after to
+      → HasFlushedSink sink w new → HasFiltered reader sink e only input output to new.sink
+  filtered h n f =
+      let k = pairs-flushed h.pairs f in
+      record { items = h.items; whole = h.whole; scalars = h.scalars; reads = collected-none h.collected n; written = k.0; flushed = k.1 }
+
+  -- or the flush failed
+  stops-flush : {error : PropertiesError} (new : Writing W) → HasPassed reader sink e only input output it w
+      → GivesNone reader it.state it.reader after to → RefusesFlush w error new ⊎ FailsInFlush sink w error new → Filters reader sink e only input output (Err error) to new.sink
+  stops-flush new h n (inl k) = absurd (let live = pairs-live h.pairs in let failed = k.failed in cc)
+  stops-flush new h n (inr k) = (
+    h.items,
+    record {
+      scalars = h.scalars;
+      stops = inr (inr (record { whole = h.whole; reads = collected-none h.collected n; fails = pairs-flush-failed h.pairs k }));
+    },
+  )
+
+  -- what is returned where no item comes any more
+  pub returns : (new : Writing W) (result : Result Unit PropertiesError) → HasPassed reader sink e only input output it w
+      → GivesNone reader it.state it.reader after to → Flushes sink w result new
+      → Filters reader sink e only input output result to new.sink
+  returns new (Ok done) h n f = filtered h n f
+  returns new (Err error) h n f = stops-flush new h n f

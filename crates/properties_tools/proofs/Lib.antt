@@ -1,0 +1,13 @@
+pub mod Shown
+pub mod Pairs
+pub mod Filtering
+pub mod Lent
+pub mod FilterErrors
+pub mod Settled
+pub mod AsciiOnly
+pub mod Asking
+pub mod Taking
+pub mod Words
+pub mod EditErrors
+pub mod Looking
+pub mod Granting

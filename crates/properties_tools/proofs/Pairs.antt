@@ -1,0 +1,138 @@
+-- Pairs that are written one after another.
+use Rattle.std.proofs.Common.{◌≡◌, ◌⊎◌, ◌+◌, ◌^◌, ◌==◌, ◌++◌, ℕ, Bool, true, false, List, [], ◌∷◌, refl, ap, sym, ◌∙◌, inl, inr, append-nil, add-zero, zero-add, arith}
+use Rattle.std.specs.Prelude.{Result, Ok, Err}
+use Rattle.counted_io.specs.Streams.{Sink, HasWritten}
+use Rattle.counted_io.proofs.Streams.{faulted-more, written-flushed}
+use Rattle.properties_format.specs.Printing.{printed}
+use Rattle.properties_format.specs.Encoding.{Encoding, output_encoding}
+use Rattle.properties_format.specs.Entries.{comment, pair, Entry, item, malformed, read_fault}
+use Rattle.properties_format.specs.Writing.{pair_call, is_accepted, settings_after, line_count_after}
+use Rattle.java_properties.specs.Calls.{HasMade}
+use Rattle.java_properties.specs.Errors.{kind_of, IsBareError}
+use Rattle.java_properties.specs.PropertiesWriter.{Writing, next_line, HasWrittenLine, RefusesLine, FailsInLine, IsRefusedBy, Flushes, HasFlushedSink, FailsInFlush}
+use Rattle.java_properties.specs.declared.error.ErrorKind.{ErrorKind}
+use Rattle.java_properties.specs.declared.error.ErrorKind.TheVariants as kind
+use Rattle.java_properties.specs.declared.error.PropertiesError.{PropertiesError}
+use Rattle.java_properties.proofs.Calls.Made.{made-none, pair-made, made-more}
+use Rattle.properties_tools.specs.Filter.{settings_with, pair_writer, pair_calls, pair_count, pair_lines, next_pair_line, TakesAndFlushes, FailsInPair, FailsAfterPairs, RefusesPair}
+
+-- the pairs of two lists of entries
+pub pair_calls-append : (xs ys : List Entry) → pair_calls (xs ++ ys) ≡ pair_calls xs ++ pair_calls ys
+pair_calls-append [] ys = refl
+pair_calls-append (item number (comment text) ∷ xs) ys = pair_calls-append xs ys
+pair_calls-append (item number (pair key value) ∷ xs) ys = ap (λ v. pair_call key value ∷ v) (pair_calls-append xs ys)
+pair_calls-append (malformed kind number ∷ xs) ys = pair_calls-append xs ys
+pair_calls-append (read_fault number ∷ xs) ys = pair_calls-append xs ys
+
+-- a new writer takes every pair
+pub pair-accepted : (only : Bool) (key value : List ℕ) → is_accepted (settings_with only) (pair_call key value) ≡ true
+pair-accepted only [] value = refl
+pair-accepted only (c ∷ key) value = refl
+
+-- pairs change no setting
+settings-kept : (only : Bool) (entries : List Entry) → settings_after (settings_with only) (pair_calls entries) ≡ settings_with only
+settings-kept only [] = refl
+settings-kept only (item number (comment text) ∷ entries) = settings-kept only entries
+settings-kept only (item number (pair key value) ∷ entries) = settings-kept only entries
+settings-kept only (malformed kind number ∷ entries) = settings-kept only entries
+settings-kept only (read_fault number ∷ entries) = settings-kept only entries
+
+-- each pair is one line
+lines-counted : (only : Bool) (n : ℕ) (entries : List Entry) → line_count_after (settings_with only) n (pair_calls entries) ≡ n + pair_count entries
+lines-counted only n [] = sym (add-zero n)
+lines-counted only n (item number (comment text) ∷ entries) = lines-counted only n entries
+lines-counted only n (item number (pair [] value) ∷ entries) = rw (lines-counted only (n + 1) entries) (omega arith)
+lines-counted only n (item number (pair (c ∷ key) value) ∷ entries) = rw (lines-counted only (n + 1) entries) (omega arith)
+lines-counted only n (malformed kind number ∷ entries) = lines-counted only n entries
+lines-counted only n (read_fault number ∷ entries) = lines-counted only n entries
+
+-- a pair is refused by want of line numbers or of memory alone
+refused-kind : {W : Type 0} (only : Bool) (w : Writing W) (key value : List ℕ) (k : ErrorKind) → w.failed ≡ false → w.settings ≡ settings_with only
+    → IsRefusedBy k w (pair key value) → (k ≡ kind.Memory) ⊎ ((k ≡ kind.TooManyLines) × (w.lines + 1 ≡ 2 ^ 64))
+refused-kind only w key value kind.Failed live same reason = absurd (cc)
+refused-kind only w key value kind.EmptyKey live same reason = absurd (let yes = pair-accepted only key value in cc)
+refused-kind only w key value kind.TooManyLines live same reason = inr (refl, reason.2)
+refused-kind only w key value kind.Memory live same reason = inl refl
+refused-kind only w key value other live same reason = absurd reason
+
+-- The pairs of these items were written by a new writer, which is now this one.
+pub record HasWrittenPairs {W : Type 0} (sink : Sink W) (e : Encoding) (only : Bool) (output : W) (items : List Entry) (w : Writing W) : Type 0 where
+  pub made : HasMade sink (pair_writer e only output) (pair_calls items) w
+
+bare : {k l : ErrorKind} {error : PropertiesError} → l ≡ k → IsBareError l error → IsBareError k error
+bare same is = record { its_kind = is.its_kind ∙ same; its_line = is.its_line; its_cause = is.its_cause; its_text = is.its_text }
+
+module _ {W : Type 0} {sink : Sink W} {e : Encoding} {only : Bool} {output : W} where
+  -- a comment is not written
+  pub pairs-comment : {items : List Entry} {w : Writing W} (number : ℕ) (text : List ℕ) → HasWrittenPairs sink e only output items w
+      → HasWrittenPairs sink e only output (items ++ (item number (comment text) ∷ [])) w
+  pairs-comment {items = items} number text h = record { made = rw (pair_calls-append, append-nil) h.made }
+
+  -- a pair is
+  pub pairs-more : {items : List Entry} {w new : Writing W} (number : ℕ) (key value : List ℕ) → HasWrittenPairs sink e only output items w
+      → HasWrittenLine sink w (pair key value) new → HasWrittenPairs sink e only output (items ++ (item number (pair key value) ∷ [])) new
+  pairs-more number key value h k = record { made = rw pair_calls-append (made-more h.made (pair-made key value k)) }
+
+  -- the bytes that the sink took
+  pub pairs-written : {items : List Entry} {w : Writing W} → HasWrittenPairs sink e only output items w → HasWritten sink output (pair_lines e only items) w.sink
+  pairs-written h = h.made.written
+
+  -- the writer has not failed, and is set as at first
+  pub pairs-live : {items : List Entry} {w : Writing W} → HasWrittenPairs sink e only output items w → w.failed ≡ false
+  pairs-live h = ap (λ (v : Writing W). v.failed) h.made.after
+
+  pub pairs-settings : {items : List Entry} {w : Writing W} → HasWrittenPairs sink e only output items w → w.settings ≡ settings_with only
+  pairs-settings {items = items} h = ap (λ (v : Writing W). v.settings) h.made.after ∙ settings-kept only items
+
+  pairs-lines : {items : List Entry} {w : Writing W} → HasWrittenPairs sink e only output items w → w.lines ≡ pair_count items
+  pairs-lines {items = items} h = ap (λ (v : Writing W). v.lines) h.made.after ∙ lines-counted only 0 items ∙ zero-add (pair_count items)
+
+  pairs-next : {items : List Entry} {w : Writing W} (key value : List ℕ) → HasWrittenPairs sink e only output items w
+      → next_line w (pair key value) ≡ next_pair_line e only items key value
+  pairs-next {items = items} {w = w} key value h =
+      ap (λ a. printed a w.settings (w.lines == 0) (pair key value)) (ap (λ (v : Writing W). v.encoding) h.made.after)
+      ∙ ap (λ s. printed (output_encoding e) s (w.lines == 0) (pair key value)) (pairs-settings h)
+      ∙ ap (λ n. printed (output_encoding e) (settings_with only) (n == 0) (pair key value)) (pairs-lines h)
+
+  -- a write failed
+  pub pairs-fail : {items : List Entry} {w new : Writing W} {error : PropertiesError} (key value : List ℕ) → HasWrittenPairs sink e only output items w
+      → FailsInLine sink w (pair key value) error new → FailsInPair sink e only output items key value error new.sink
+  pairs-fail key value h k = record {
+    part = k.sent.part;
+    begins = rw (pairs-next key value h) at k.sent.begins;
+    faulted = faulted-more (pairs-written h) k.sent.faulted;
+    cause = k.cause;
+    given = k.sent.given;
+    is = rw (pairs-lines h) at k.is;
+  }
+
+  -- a pair was refused, and nothing was written
+  pub pairs-refused : {items : List Entry} {w new : Writing W} {error : PropertiesError} (key value : List ℕ) → HasWrittenPairs sink e only output items w
+      → RefusesLine w (pair key value) error new → RefusesPair sink e only output items error new.sink
+  pairs-refused {w = w} {error = error} key value h k = record {
+    written = rw k.same (pairs-written h);
+    is = elim (refused-kind only w key value (kind_of error) (pairs-live h) (pairs-settings h) k.reason) [
+      | inl is ↦ inl (bare is k.is)
+      | inr is ↦ inr (bare is.0 k.is, ap (λ n. n + 1) (sym (pairs-lines h)) ∙ is.1)
+    ];
+  }
+
+  -- the flush after the last pair
+  pub pairs-flushed : {items : List Entry} {w new : Writing W} → HasWrittenPairs sink e only output items w → HasFlushedSink sink w new
+      → HasWritten sink output (pair_lines e only items) new.sink × (sink.is_flushed new.sink ≡ true)
+  pairs-flushed h k = (written-flushed (pairs-written h) k.flushed, k.flushed.flushed)
+
+  pub pairs-flush-failed : {items : List Entry} {w new : Writing W} {error : PropertiesError} → HasWrittenPairs sink e only output items w
+      → FailsInFlush sink w error new → FailsAfterPairs sink e only output items error new.sink
+  pairs-flush-failed {w = w} h k = record { middle = w.sink; written = pairs-written h; source = k.cause; flushed = k.flushed; is = k.is }
+
+  -- a flush whose result is dropped
+  pub pairs-flush : {items : List Entry} {w : Writing W} (new : Writing W) (result : Result Unit PropertiesError) → HasWrittenPairs sink e only output items w
+      → Flushes sink w result new → TakesAndFlushes sink output (pair_lines e only items) new.sink
+  pairs-flush new (Ok done) h k = inl (pairs-flushed h k)
+  pairs-flush new (Err error) h (inl k) = absurd (let live = pairs-live h in let failed = k.failed in cc)
+  pairs-flush {w = w} new (Err error) h (inr k) = inr (w.sink, pairs-written h, (k.cause, k.flushed))
+
+-- before the first pair
+pub pairs-none : {W : Type 0} (sink : Sink W) (e : Encoding) (only : Bool) (output : W) → HasWrittenPairs sink e only output [] (pair_writer e only output)
+pairs-none sink e only output = record { made = made-none (pair_writer e only output) }

@@ -1,0 +1,5 @@
+pub mod Arguments
+pub mod Messages
+pub mod Filter
+pub mod Propfilter
+pub mod Propedit

@@ -1,0 +1,78 @@
+-- What `propfilter` does, over any streams.
+use Rattle.std.specs.Prelude.{◌≡◌, ◌⊎◌, ℕ, Bool, true, false, List, [], ◌∷◌, Option, Some, None, Result, Ok, Err, codes}
+use Rattle.counted_io.specs.Streams.{Reader, Sink}
+use Rattle.properties_format.specs.Encoding.{Encoding, windows_1252}
+use Rattle.properties_format.specs.Names.{name_of}
+use Rattle.java_properties.specs.declared.error.PropertiesError.{PropertiesError}
+use Rattle.properties_text.specs.Encoding.{encoding_of}
+use Rattle.properties_tools.specs.Filter.{Filters}
+use Rattle.properties_tools.specs.Messages.{said_line, HasSaid, SaysOf}
+use Rattle.properties_tools.specs.declared.propfilter.Asked.{Asked}
+
+-- what it prints where its arguments are none of its own
+abbrev pub usage : List ℕ
+usage = codes "usage: propfilter [windows-1252|utf-8|utf-16le|utf-16be [ascii]]"
+
+-- what it prints where an argument isn't UTF-8
+abbrev pub not_utf_8 : List ℕ
+not_utf_8 = codes "propfilter: an argument is not UTF-8"
+
+-- ---- arguments
+
+-- the word that asks for ASCII alone
+abbrev pub ascii_word : List ℕ
+ascii_word = codes "ascii"
+
+-- the arguments ask for this encoding, and for ASCII alone or not: none for windows-1252, and one by its name, which the word for ASCII alone may follow
+abbrev pub Asks : List (List ℕ) → Encoding → Bool → Type 0
+Asks [] e only = (e ≡ windows_1252) × (only ≡ false)
+Asks (name ∷ []) e only = (name ≡ name_of e) × (only ≡ false)
+Asks (name ∷ (word ∷ [])) e only = (name ≡ name_of e) × (word ≡ ascii_word) × (only ≡ true)
+Asks (name ∷ (word ∷ (other ∷ others))) e only = ⊥
+
+-- an encoding, and whether ASCII alone is asked for
+abbrev pub asked_of : Asked → Encoding × Bool
+asked_of asked = (encoding_of asked.encoding, asked.ascii_only)
+
+-- what they ask for, where they ask for something
+abbrev pub IsAsked : List (List ℕ) → Option (Encoding × Bool) → Type 0
+IsAsked arguments None = (e : Encoding) (only : Bool) → Asks arguments e only → ⊥
+IsAsked arguments (Some asked) = Asks arguments asked.0 asked.1
+
+-- the encoding of this name, where it is one, with ASCII alone beside it, or not
+abbrev pub IsNamedWith : List ℕ → Bool → Option (Encoding × Bool) → Type 0
+IsNamedWith name only None = (e : Encoding) → name ≡ name_of e → ⊥
+IsNamedWith name only (Some asked) = (name ≡ name_of asked.0) × (asked.1 ≡ only)
+
+-- ---- the program
+
+-- the status of what filtering returned
+abbrev pub status_of : Result Unit PropertiesError → ℕ
+status_of (Ok done) = 0
+status_of (Err error) = 1
+
+-- The input was filtered to the output in the encoding that was asked for, to ASCII alone where that was asked for, and an error was said on `errors`.
+pub record HasRun {R W E : Type 0} (reader : Reader R) (sink : Sink W) (error_sink : Sink E) (arguments : List (List ℕ)) (input : R) (output : W) (errors : E)
+    (status : ℕ) (input' : R) (output' : W) (errors' : E) : Type 0 where
+  pub encoding : Encoding
+  pub only : Bool
+  pub asked : Asks arguments encoding only
+  pub result : Result Unit PropertiesError
+  pub filters : Filters reader sink encoding only input output result input' output'
+  pub answer : status ≡ status_of result
+  pub says : SaysOf error_sink errors result errors'
+
+-- The arguments ask for nothing that there is: nothing was read or written, and the usage was said on `errors`.
+pub record RefusesArguments {R W E : Type 0} (error_sink : Sink E) (arguments : List (List ℕ)) (input : R) (output : W) (errors : E)
+    (status : ℕ) (input' : R) (output' : W) (errors' : E) : Type 0 where
+  pub unasked : (e : Encoding) (only : Bool) → Asks arguments e only → ⊥
+  pub answer : status ≡ 2
+  pub unread : input' ≡ input
+  pub unwritten : output' ≡ output
+  pub says : HasSaid error_sink errors (said_line usage) errors'
+
+-- What the program does with these arguments.
+abbrev pub Runs : {R W E : Type 0} → Reader R → Sink W → Sink E → List (List ℕ) → R → W → E → ℕ → R → W → E → Type 0
+Runs reader sink error_sink arguments input output errors status input' output' errors' =
+    HasRun reader sink error_sink arguments input output errors status input' output' errors'
+    ⊎ RefusesArguments error_sink arguments input output errors status input' output' errors'

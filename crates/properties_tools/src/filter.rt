@@ -1,0 +1,169 @@
+// The pairs of a reader, to a sink.
+
+ghost use Rattle.std.specs.Prelude.{◌≡◌, true, false};
+ghost use Rattle.counted_io.specs.Streams.{IsSameReader, IsSameSink};
+ghost use Rattle.properties_format.specs.ItemsToCome.{start};
+ghost use Rattle.properties_text.specs.Encoding.{encoding_of};
+ghost use Rattle.java_properties.specs.LentItems.{said_by, found_content, IsFoundIn};
+ghost use Rattle.properties_tools.specs.Filter.{pair_writer, Filters, FiltersToAscii, Settles, HasScalars, WritesIfPair};
+
+use counted_io::{CountedRead, CountedWrite};
+use java_properties::{
+    ContentRef, Encoding, Found, PropertiesError, PropertiesIter, PropertiesWriter,
+};
+use std::alloc::Global;
+
+/// Reads the items of an input in this encoding, and writes each pair as one line in its output encoding. Comments are
+/// dropped.
+///
+/// A byte order mark changes how the input is read, and never how the pairs are written. At a reader's error the pairs
+/// before it have been written, and the sink is flushed once.
+///
+/// To filter, in the output encoding, what was written changes no byte of it.
+///
+/// ```text
+/// let mut input: &[u8] = b"# a comment\nb = 2\na";
+/// let mut output = Counted::new(Vec::new(alloc));
+/// filter(alloc, &mut input, &mut output, Encoding::WINDOWS_1252)?;
+/// // The sink holds `b=2` and `a=`, each ended by a line feed.
+/// ```
+pub fn filter<R: CountedRead, W: CountedWrite>(
+    alloc: Global,
+    input: &mut R,
+    writer: &mut W,
+    encoding: Encoding,
+) -> Result<(), PropertiesError>
+    ensures filters { let e = encoding_of encoding in
+        Filters R.CountedRead W.CountedWrite e false input.old writer.old result input.new writer.new }
+    ensures settles { let e = encoding_of encoding in
+        Settles R.CountedRead W.CountedWrite e input.old writer.old result input.new writer.new }
+    ensures same_reader { IsSameReader R.CountedRead input.old input.new }
+    ensures same_sink { IsSameSink W.CountedWrite writer.old writer.new }
+{
+    filter_with(alloc, input, writer, encoding, false)
+}
+
+/// Does as [`filter`], and writes every character past U+007F as an escape, also where the output encoding has it.
+///
+/// What is written is ASCII alone, and is read back the same in windows-1252 and in UTF-8.
+///
+/// ```text
+/// let mut input: &[u8] = b"a=caf\xe9";
+/// let mut output = Counted::new(Vec::new(alloc));
+/// filter_ascii(alloc, &mut input, &mut output, Encoding::WINDOWS_1252)?;
+/// // The sink holds `a=caf\u00e9` and a line feed.
+/// ```
+pub fn filter_ascii<R: CountedRead, W: CountedWrite>(
+    alloc: Global,
+    input: &mut R,
+    writer: &mut W,
+    encoding: Encoding,
+) -> Result<(), PropertiesError>
+    ensures filters { let e = encoding_of encoding in
+        Filters R.CountedRead W.CountedWrite e true input.old writer.old result input.new writer.new }
+    ensures ascii { let e = encoding_of encoding in
+        FiltersToAscii R.CountedRead W.CountedWrite e input.old writer.old result input.new writer.new }
+    ensures same_reader { IsSameReader R.CountedRead input.old input.new }
+    ensures same_sink { IsSameSink W.CountedWrite writer.old writer.new }
+{
+    filter_with(alloc, input, writer, encoding, true)
+}
+
+fn filter_with<R: CountedRead, W: CountedWrite>(
+    alloc: Global,
+    input: &mut R,
+    writer: &mut W,
+    encoding: Encoding,
+    ascii_only: bool,
+) -> Result<(), PropertiesError>
+    ensures filters { let e = encoding_of encoding in
+        Filters R.CountedRead W.CountedWrite e ascii_only
+        input.old writer.old result input.new writer.new }
+    ensures same_reader { IsSameReader R.CountedRead input.old input.new }
+    ensures same_sink { IsSameSink W.CountedWrite writer.old writer.new }
+{
+    let mut items = PropertiesIter::new_with_encoding(alloc, input, encoding)?;
+    let mut lines = PropertiesWriter::new_with_encoding(alloc, writer, encoding)?;
+    lines.set_ascii_only(ascii_only);
+    let result = write_pairs(&mut items, &mut lines);
+    let _ = items.into_inner();
+    let _ = lines.into_inner();
+    result
+}
+
+// Both are new, and of one encoding; the writer may be set to ASCII alone.
+fn write_pairs<R: CountedRead, W: CountedWrite>(
+    items: &mut PropertiesIter<R>,
+    lines: &mut PropertiesWriter<W>,
+) -> Result<(), PropertiesError>
+    requires reading { items.old.state ≡ start items.old.state.encoding }
+    requires writing { let only = lines.old.settings.ascii_only in
+        lines.old ≡ pair_writer items.old.state.encoding only lines.old.sink }
+    ensures filters { let e = items.old.state.encoding in
+        let input = items.old.reader in
+        let only = lines.old.settings.ascii_only in
+        let output = lines.old.sink in
+        Filters R.CountedRead W.CountedWrite e only
+        input output result items.new.reader lines.new.sink }
+    ensures same_reader { IsSameReader R.CountedRead items.old.reader items.new.reader }
+    ensures same_sink { IsSameSink W.CountedWrite lines.old.sink lines.new.sink }
+{
+    while let Some(found) = items.advance() {
+        match found {
+            Ok(found) => write_found(items, found, &mut *lines)?,
+            Err(error) => {
+                // The reader's error is returned, whatever the flush says.
+                let _ = lines.flush();
+                return Err(error);
+            }
+        }
+    }
+    lines.finish()
+}
+
+// Writes the item that was found last, where it is a pair.
+fn write_found<R: CountedRead, W: CountedWrite>(
+    items: &PropertiesIter<R>,
+    found: Found,
+    lines: &mut PropertiesWriter<W>,
+) -> Result<(), PropertiesError>
+    requires { IsFoundIn items.now.line found }
+    ensures writes { let content = found_content items.now.line found.content in
+        WritesIfPair W.CountedWrite lines.old content result lines.new }
+    ensures scalars { HasScalars (found_content items.now.line found.content) }
+    ensures same_sink { IsSameSink W.CountedWrite lines.old.sink lines.new.sink }
+{
+    write_if_pair(lines, items.get(found).content())?;
+    Ok(())
+}
+
+fn write_if_pair<W: CountedWrite>(
+    lines: &mut PropertiesWriter<W>,
+    content: &ContentRef<'_>,
+) -> Result<(), PropertiesError>
+    ensures writes { WritesIfPair W.CountedWrite lines.old (said_by content.now) result lines.new }
+    ensures scalars { HasScalars (said_by content.now) }
+    ensures same_sink { IsSameSink W.CountedWrite lines.old.sink lines.new.sink }
+{
+    has_scalars(content);
+    match content {
+        ContentRef::KVPair(key, value) => {
+            lines.write(key.as_str(), value.as_str())?;
+            Ok(())
+        }
+        ContentRef::Comment(_) => Ok(()),
+    }
+}
+
+// The texts of a pair are of scalar values, as all texts are, which this tells a proof. It does nothing.
+fn has_scalars(content: &ContentRef<'_>)
+    ensures { HasScalars (said_by content.now) }
+{
+    if let ContentRef::KVPair(key, value) = content {
+        let _ = key.as_str();
+        let _ = value.as_str();
+    }
+}
+
+#[cfg(test)]
+mod tests;

@@ -1,0 +1,18 @@
+//! What the programs `propfilter` and `propedit` do, over any streams.
+//!
+//! [`filter::filter`] copies the pairs of a reader to a sink, one per line. [`propfilter::run`] and [`propedit::run`] are
+//! all of the programs but their `main`s.
+//!
+//! ```text
+//! let mut input: &[u8] = b"# a comment\nb = 2\na";
+//! let mut output = Counted::new(Vec::new(alloc));
+//! filter(alloc, &mut input, &mut output, Encoding::WINDOWS_1252)?;
+//! // The sink holds `b=2` and `a=`, each ended by a line feed.
+//! ```
+#![tactic(auto)]
+
+pub mod arguments;
+pub mod filter;
+pub mod messages;
+pub mod propedit;
+pub mod propfilter;

@@ -1,0 +1,41 @@
+// Lines on a stream of errors.
+
+ghost use Rattle.std.specs.Prelude.{IfSome};
+ghost use Rattle.counted_io.specs.Streams.{IsSameSink};
+ghost use Rattle.java_properties.specs.DisplayTexts.{error_display};
+ghost use Rattle.properties_tools.specs.Messages.{HasSaid, SaysIfRoom};
+
+use counted_io::{CountedWrite, send};
+use java_properties::PropertiesError;
+use std::alloc::Global;
+
+/// Prints a line on `errors` and flushes it. What can't be printed is dropped: there is nowhere left to print it.
+///
+/// ```text
+/// let mut errors = Counted::new(Vec::new(alloc));
+/// say(&mut errors, "no such key\n");
+/// ```
+pub fn say<E: CountedWrite>(errors: &mut E, line: &str)
+    ensures says { HasSaid E.CountedWrite errors.old line.now errors.new }
+    ensures same_sink { IsSameSink E.CountedWrite errors.old errors.new }
+{
+    let _ = send(errors, line.as_bytes());
+    let _ = errors.flush_counted();
+}
+
+/// Prints the text of an error on `errors` as a line, if there is memory for the line, and flushes it. What can't be
+/// printed is dropped.
+///
+/// ```text
+/// let mut errors = Counted::new(Vec::new(alloc));
+/// let error = PropertiesError::from(io::Error::from(ErrorKind::NotFound));
+/// say_error(alloc, &mut errors, error);
+/// ```
+pub fn say_error<E: CountedWrite>(alloc: Global, errors: &mut E, error: PropertiesError)
+    ensures says { IfSome (error_display error) (λ text. SaysIfRoom E.CountedWrite errors.old text errors.new) }
+    ensures same_sink { IsSameSink E.CountedWrite errors.old errors.new }
+{
+    if let Ok(line) = format!(in alloc; "{error}\n") {
+        say(errors, line.as_str());
+    }
+}
