@@ -137,8 +137,9 @@ def entries(crate):
                 inside = None
             derive = re.match(r"#\[derive\((.*)\)\]", line)
             if derive:
-                name = re.search(r"(?:struct|enum) (\w+)", "\n".join(lines[at:]))[1]
-                implements.setdefault(name, []).extend(derive[1].split(", "))
+                public, name = re.search(r"^(pub(?:\(crate\))? )?(?:struct|enum) (\w+)", "\n".join(lines[at:]), re.M).groups()
+                if public:
+                    implements.setdefault(name, []).extend(derive[1].split(", "))
             public = ITEM.match(line)
             if not public or public[2] in ("mod", "use"):
                 continue
@@ -157,17 +158,17 @@ def page():
     out = [
         "# Public names",
         "",
-        "`docs/api.py` makes this page from the sources, and `docs/api.py --check` compares it with them. What a type implements stands",
-        "in a comment after it, and the module of a name that isn't at its crate's root in a comment before it. Contracts are left out:",
-        "they stand at the functions, and docs/PROMISES.md explains them.",
+        "`docs/api.py` makes this page from the sources, and `docs/api.py --check` compares it with them. A comment after a type names",
+        "what it implements, and a comment before a name its module, if that isn't the crate's root. Contracts are left out: they are",
+        "beside the functions, and docs/PROMISES.md explains them.",
     ]
     for crate in CRATES:
         items, methods, implements = entries(crate)
         out += ["", f"## `{crate}`", ""]
         if crate == "java_properties":
-            out += ["`Encoding` of `properties_text` is handed on. The three laws stand in the module `laws`; they do nothing when they run.", ""]
+            out += ["`Encoding` of `properties_text` is re-exported. The functions of the module `laws` do nothing when they run; their contracts are laws.", ""]
         if crate == "properties_text":
-            out += ["What is done with a single line, in the modules `encoding`, `escape`, `parse` and others. Most callers need `Encoding` alone.", ""]
+            out += ["Calls for a single line, in the modules `encoding`, `escape`, `parse` and others. Most callers only need `Encoding`.", ""]
         out.append("```rust")
         for name, module in sorted(items, key=lambda item: (item[0].lower(), item[1])):
             out += items[name, module]

@@ -17,13 +17,13 @@ HEAD = """// Examples of doc comments, each as a test.
 use byte_blocks::{Byte, Either, LineEnds, find};
 use counted_io::{Counted, CountedRead, CountedWrite, ScriptedReader, ScriptedSink, SinkFault, Tail, send};
 use java_properties::{
-    Call, ContentRef, Document, Edit, Encoding, LineContent, LineEnding, PropertiesError, PropertiesIter, PropertiesWriter,
-    edit_all, laws, read, read_lines, read_sorted, read_source, remove_key, run_calls, set_key, write, write_sorted,
-    write_source,
+    Call, Cause, ContentRef, Document, Edit, Encoding, LineContent, LineEnding, PropertiesError, PropertiesIter,
+    PropertiesWriter, edit_all, key_lines, laws, malformed_escapes, read, read_lines, read_sorted, read_source, remove_key, run_calls,
+    set_key, write, write_sorted, write_source,
 };
 use properties_text::encoding::{OutputEncoding, TextBuffer};
 use properties_text::escape::unescape;
-use properties_text::print::{LineBuffer, Place, Repertoire, print_text};
+use properties_text::print::{LineBuffer, Place, Repertoire, print_text, print_value};
 use properties_tools::arguments::words;
 use properties_tools::filter::{filter, filter_ascii};
 use properties_tools::messages::{say, say_error};

@@ -59,14 +59,22 @@ mkdir -p crates/readme/src
 block 'rust' README.md >crates/readme/src/main.rt
 block 'stdout' README.md >"$work/wanted_of_readme"
 echo 'readme: counted_io java_properties' >>crates.txt
+mkdir -p crates/value_of/src
+block 'rust tool' docs/CALLING.md >crates/value_of/src/main.rt
+echo 'value_of: counted_io java_properties' >>crates.txt
 
+# A crate, its standard input, what it must print, and what else rt try takes.
 try() {
-    (cd "crates/$1" && rt try <"$2" >"$work/printed" 2>"$work/said") || { cat "$work/said"; exit 1; }
-    diff "$3" "$work/printed"
-    echo "$1 prints what the page says"
+    name=$1 input=$2 wanted=$3
+    shift 3
+    (cd "crates/$name" && rt try "$@" <"$input" >"$work/printed" 2>"$work/said") || { cat "$work/said"; exit 1; }
+    diff "$wanted" "$work/printed"
+    echo "$name prints what the page says"
 }
 try my_program "$PWD/crates/my_program/stdin" "$work/wanted"
 try readme /dev/null "$work/wanted_of_readme"
+echo 8080 >"$work/port"
+try value_of /dev/null "$work/port" --data app.properties="$PWD/crates/my_program/stdin" -- app.properties port
 mkdir -p crates/examples/src
 "$top/docs/examples.py" >crates/examples/src/lib.rt
 # The examples are of two crates more, which callers of the library don't need.

@@ -14,4 +14,5 @@ pub mod lookup;
 pub mod migrate;
 pub mod ordered;
 pub mod pairs;
+pub mod replace;
 pub mod settings;

@@ -1,15 +1,13 @@
 // A linter that prints `file:line: message`.
 
-use java_properties::{Encoding, LineContent, PropertiesError, PropertiesIter, malformed_escapes};
+use java_properties::{Encoding, PropertiesError, key_lines, malformed_escapes};
 use std::alloc::Global;
-use std::collections::BTreeMap;
 use std::fs::File;
 use std::io;
 use std::io::Read;
 use std::rt::Files;
 
-/// What is wrong with a file of this name: every malformed escape, and the keys that stand twice before the first of
-/// them.
+/// What is wrong with a file of this name: every malformed escape, and every key that stands twice.
 pub fn lint(alloc: Global, name: &str, source: &[u8]) -> Result<Vec<String>, PropertiesError> {
     let mut messages = Vec::new(alloc);
     let mut input = source;
@@ -23,19 +21,13 @@ pub fn lint(alloc: Global, name: &str, source: &[u8]) -> Result<Vec<String>, Pro
         messages.push(format!(in alloc; "{name}:{number}: {kind}{place}")?)?;
     }
     let mut input = source;
-    let mut seen: BTreeMap<String, usize> = BTreeMap::new(alloc);
-    for item in PropertiesIter::new_with_encoding(alloc, &mut input, Encoding::UTF_8)? {
-        let Ok(line) = item else {
-            return Ok(messages);
-        };
-        let number = line.line_number();
-        if let LineContent::KVPair(key, _) = line.consume_content() {
-            if let Some(first) = seen.insert(key, number)? {
-                let message = format!(in alloc;
-                    "{name}:{number}: this key stands in line {first} too"
-                )?;
-                messages.push(message)?;
-            }
+    for key in &key_lines(alloc, &mut input, Encoding::UTF_8)? {
+        let (number, first) = (key.line_number, key.first);
+        if first != number {
+            let message = format!(in alloc;
+                "{name}:{number}: this key stands in line {first} too"
+            )?;
+            messages.push(message)?;
         }
     }
     Ok(messages)
@@ -78,6 +70,8 @@ mod tests {
             "my.properties:1: Malformed \\uxxxx encoding: not hex. in a comment",
             "my.properties:5: Malformed \\uxxxx encoding: not hex.",
             "my.properties:6: Malformed \\uxxxx encoding: invalid character.",
+            "my.properties:4: this key stands in line 2 too",
+            "my.properties:8: this key stands in line 2 too",
         ];
         assert_eq!(rt; messages.len(), wanted.len());
         for (message, text) in messages.iter().zip(wanted) {

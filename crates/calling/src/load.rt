@@ -39,10 +39,10 @@ impl LoadError {
             LoadError::UnknownKey(number) => format!(in alloc; "{name}:{number}: unknown key"),
             LoadError::BadPort(number) => format!(in alloc; "{name}:{number}: port is no number"),
             LoadError::Unreadable(error) => {
-                let (kind, cause) = (error.kind(), error.cause());
+                let reason = error.reason();
                 match error.line_number() {
-                    Some(number) => format!(in alloc; "{name}:{number}: {kind} ({cause})"),
-                    None => format!(in alloc; "{name}: {kind} ({cause})"),
+                    Some(number) => format!(in alloc; "{name}:{number}: {reason}"),
+                    None => format!(in alloc; "{name}: {reason}"),
                 }
             }
         }
@@ -109,7 +109,7 @@ mod tests {
             (b"hots = a\n", "s:1: unknown key"),
             (
                 b"\nhost = \\u00\n",
-                "s:2: Malformed \\uxxxx encoding: not enough digits. (no other error)",
+                "s:2: Malformed \\uxxxx encoding: not enough digits.",
             ),
         ];
         for (bytes, wanted) in rows {

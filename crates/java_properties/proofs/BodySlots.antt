@@ -1,6 +1,7 @@
 pub mod Put
 -- Slots in one array, and the cells that they are.
 pub mod Stacks
+pub mod Keys
 pub mod Parsed
 pub mod Bytes
 pub mod TwoParts

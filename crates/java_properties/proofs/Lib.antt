@@ -9,6 +9,7 @@ pub mod LentItems
 pub mod Told
 pub mod Readings
 pub mod MalformedEscapes
+pub mod KeyLines
 pub mod ReadInto
 pub mod TextMaps
 pub mod BodyGroups

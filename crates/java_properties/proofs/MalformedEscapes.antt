@@ -11,6 +11,7 @@ use Rattle.properties_format.specs.Lines.{end, fault, Line, numbered_lines}
 use Rattle.properties_format.specs.Reading.Encoding.{decoded_of}
 use Rattle.properties_format.specs.Reading.Lines.{lines_of}
 use Rattle.properties_format.specs.Groups.{IsGroups, AreWhole, IsWhole, IsUnfinished, is_comment_line, lines_in, joined, first_number}
+use Rattle.properties_format.specs.Reading.Groups.{groups_of}
 use Rattle.properties_format.specs.Escapes.{Malformed, not_enough_digits, not_hex, invalid_character}
 use Rattle.properties_format.specs.Items.{broken}
 use Rattle.properties_format.specs.Entries.{read_fault}
@@ -19,6 +20,8 @@ use Rattle.properties_format.specs.ItemsToCome.{ReaderState, start}
 use Rattle.properties_format.specs.Reading.ItemsToCome.{last_to_come}
 use Rattle.properties_format.specs.MalformedEscapes.{escapes_from}
 use Rattle.properties_format.specs.Reading.MalformedEscapes.{escapes_in, malformed_escapes_of}
+use Rattle.properties_format.proofs.Groups.Meets.{groups_of-meets}
+use Rattle.properties_format.proofs.Groups.Only.{groups_of-only}
 use Rattle.properties_format.proofs.ItemsToCome.Lines.{natural-done}
 use Rattle.properties_format.proofs.MalformedEscapes.{malformed_escapes_of-meets, malformed_escapes_of-only, escapes_in-groups, escapes_in-push, natural-start, fault-last, cut-line}
 use Rattle.properties_lines.specs.LineReader.{Passes}
@@ -105,7 +108,7 @@ pub pushes-none : {Z : Type 0} (line : List ℕ) (number : ℕ) (found : Option 
     → PushesMalformed number (chars line) old (Ok tt) old
 pushes-none line number found old h = sym (ap (λ v. old.items ++ told_escapes v) (none-in line number found h) ∙ append-nil old.items)
 
-broken-in : (line : List ℕ) (number : ℕ) (how : escape.Malformed) → FindsIn line number (Err (unescape.Malformed how))
+pub broken-in : (line : List ℕ) (number : ℕ) (how : escape.Malformed) → FindsIn line number (Err (unescape.Malformed how))
     → (k : Malformed) × (outcome_of (chars line) ≡ broken k) × (malformed_kind (malformed_in how) ≡ malformed_kind k)
 broken-in line number how h =
     let k = malformed_in how in
@@ -146,7 +149,7 @@ pub record Found {R : Type 0} (reader : Reader R) (e : Encoding) (from : R) (fou
   pub escapes : found ≡ told_escapes (escapes_in groups)
 
 module _ {R : Type 0} {reader : Reader R} where
-  collected-start : (e : Encoding) (from : R) → Collected reader e from [] (start e) from
+  pub collected-start : (e : Encoding) (from : R) → Collected reader e from [] (start e) from
   collected-start e from = record {
     bytes = [];
     read = read-none from;
@@ -160,7 +163,7 @@ module _ {R : Type 0} {reader : Reader R} where
   found-start e from found state h k = rw (h, k) (record { groups = []; collected = collected-start e from; escapes = refl })
 
   -- one group more came
-  collected-next : {e : Encoding} {from to next : R} {gs : List (List Line)} {s : ReaderState} (number : ℕ) (new : Joiner) → Collected reader e from gs s to
+  pub collected-next : {e : Encoding} {from to next : R} {gs : List (List Line)} {s : ReaderState} (number : ℕ) (new : Joiner) → Collected reader e from gs s to
       → (n : JoinsNext reader s to number new next) → Collected reader e from (gs ++ (n.group.first ∷ n.group.others) ∷ []) new.state next
   collected-next {e} {gs = gs} number new h n =
       let group = n.group.first ∷ n.group.others in
@@ -183,27 +186,32 @@ module _ {R : Type 0} {reader : Reader R} where
     escapes = found-push h.groups (n.group.first ∷ n.group.others) number (chars new.line) old found h.escapes n.group.number n.group.text k;
   }
 
-  -- no more came
-  pub found-all : {e : Encoding} {from to next : R} {found : List MalformedEscape} {s : ReaderState} → Found reader e from found s to → s.is_done ≡ true → next ≡ to
-      → FindsAll reader e from found next
-  found-all {e} {from} {to} {found = found} {s} h d same = rw same (by-passes h.collected.passes)
+  -- no more came: these are the groups of the bytes
+  pub collected-groups : {e : Encoding} {from to : R} {gs : List (List Line)} {s : ReaderState} (h : Collected reader e from gs s to) → s.is_done ≡ true
+      → gs ≡ groups_of (numbered_lines (lines_of (decoded_of e h.bytes)) end) end
+  collected-groups {e} {gs = gs} {s = s} h d = by-passes h.passes
     where
-      by-passes : Passes (start e) h.collected.bytes (lines_in h.groups) s → FindsAll reader e from found to
+      by-passes : Passes (start e) h.bytes (lines_in gs) s → gs ≡ groups_of (numbered_lines (lines_of (decoded_of e h.bytes)) end) end
       by-passes (Passes.going_on g reads) = absurd (cc)
       by-passes (Passes.at_last g gives) =
-          let bytes = h.collected.bytes in
-          let lines : numbered_lines (lines_of (decoded_of e bytes)) end ≡ lines_in h.groups =
-          sym (natural-start e bytes end) ∙ gives.natural ∙ ap (λ v. lines_in h.groups ++ v) (natural-done s [] end d).0 ∙ append-nil (lines_in h.groups) in
-          let P : List Line → Type 0 = λ v. IsGroups v end h.groups in
-          record {
-            bytes = bytes;
-            escapes = malformed_escapes_of e bytes;
-            read = h.collected.read;
-            ended = h.collected.ended d;
-            are = malformed_escapes_of-meets e bytes;
-            only = malformed_escapes_of-only e bytes;
-            is = h.escapes ∙ ap told_escapes (escapes_in-groups e bytes h.groups (subst P (sym lines) h.collected.grouped));
-          }
+          let lines : numbered_lines (lines_of (decoded_of e h.bytes)) end ≡ lines_in gs =
+          sym (natural-start e h.bytes end) ∙ gives.natural ∙ ap (λ v. lines_in gs ++ v) (natural-done s [] end d).0 ∙ append-nil (lines_in gs) in
+          let P : List Line → Type 0 = λ v. IsGroups v end gs in
+          groups_of-only (numbered_lines (lines_of (decoded_of e h.bytes)) end) end gs (subst P (sym lines) h.grouped)
+
+  pub found-all : {e : Encoding} {from to next : R} {found : List MalformedEscape} {s : ReaderState} → Found reader e from found s to → s.is_done ≡ true → next ≡ to
+      → FindsAll reader e from found next
+  found-all {e} h d same =
+      let bytes = h.collected.bytes in
+      rw same (record {
+        bytes = bytes;
+        escapes = malformed_escapes_of e bytes;
+        read = h.collected.read;
+        ended = h.collected.ended d;
+        are = malformed_escapes_of-meets e bytes;
+        only = malformed_escapes_of-only e bytes;
+        is = h.escapes ∙ ap (λ v. told_escapes (escapes_in v)) (collected-groups h.collected d) ∙ ap told_escapes (escapes_in-groups e bytes _ (groups_of-meets (numbered_lines (lines_of (decoded_of e bytes)) end) end));
+      })
 
   -- a read failed
   found-fault : {e : Encoding} {from to next : R} {found : List MalformedEscape} {s : ReaderState} {why : LineError} {error : PropertiesError}

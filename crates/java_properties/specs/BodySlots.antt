@@ -1,4 +1,5 @@
 -- The slots of a source in one array, as an editor holds them.
+pub mod Keys
 pub mod Parsed
 pub mod Put
 pub mod Removal

@@ -12,6 +12,8 @@ use Rattle.java_properties.specs.declared.error.ErrorKind.TheVariants as kind
 use Rattle.java_properties.specs.declared.error.Cause.{Cause}
 use Rattle.java_properties.specs.declared.error.Cause.TheVariants as cause
 use Rattle.java_properties.specs.declared.error.PropertiesError.{PropertiesError}
+use Rattle.java_properties.specs.declared.error.Reason.{Reason}
+use Rattle.java_properties.specs.declared.error.Reason.TheVariants as reason
 
 -- ---- errors
 
@@ -49,6 +51,12 @@ abbrev pub cause_display : Cause → Option (List ℕ)
 cause_display cause.None = Some (codes "no other error")
 cause_display (cause.Io error) = None
 cause_display cause.NotHex = Some (codes "not a hexadecimal digit")
+
+-- a kind in words, and the text that was refused in quotes
+abbrev pub reason_display : Reason → Option (List ℕ)
+reason_display (reason.Io error) = None
+reason_display (reason.Refused kind text) = Some (description kind) ++? Some (codes ": ") ++? debug_str text.now
+reason_display (reason.Kind kind) = Some (description kind)
 
 -- ---- lines and line endings
 

@@ -1,7 +1,9 @@
 -- A document: a source that stays open for edits, and what its calls do.
-use Rattle.std.specs.Prelude.{◌≡◌, ℕ, List, [], Option, Result, Ok, Err}
+use Rattle.std.specs.Prelude.{◌≡◌, ℕ, Bool, true, false, List, [], map, Option, Some, None, Result, Ok, Err}
+use Rattle.std.specs.Borrow.{Bor}
+use Rattle.std.specs.Str.{chars}
 use Rattle.properties_format.specs.Encoding.{Encoding}
-use Rattle.properties_format.specs.Maps.{HasValue}
+use Rattle.properties_format.specs.Maps.{HasKeys, HasValue}
 use Rattle.properties_format.specs.Edited.{IsEditAllResult}
 use Rattle.java_properties.specs.Editing.{AreMade, IsRefusal, IsSet, IsRemoved}
 use Rattle.java_properties.specs.declared.error.PropertiesError.{PropertiesError}
@@ -21,11 +23,25 @@ abbrev pub PutsInto : {E : Type 0} → List ℕ → List ℕ → OpenDocument �
 PutsInto key value old (Ok done) new = (new.encoding ≡ old.encoding) × IsSet old.encoding old.bytes key value new.bytes
 PutsInto key value old (Err error) new = new ≡ old
 
--- A key was removed.
-pub record RemovesFrom (key : List ℕ) (old new : OpenDocument) : Type 0 where
-  pub encoding : new.encoding ≡ old.encoding
-  pub removed : IsRemoved old.encoding old.bytes key new.bytes
-
 -- Read in its encoding, a document has this value under a key: that of the last pair with the key, or none.
 abbrev pub HasValueAt : OpenDocument → List ℕ → Option (List ℕ) → Type 0
 HasValueAt d key value = HasValue d.encoding d.bytes key value
+
+-- Whether a pair has the key.
+abbrev pub TellsKey : OpenDocument → List ℕ → Bool → Type 0
+TellsKey d key true = (value : List ℕ) × HasValueAt d key (Some value)
+TellsKey d key false = HasValueAt d key None
+
+-- A key was removed, and whether a pair had it was told.
+pub record RemovesFrom (key : List ℕ) (old : OpenDocument) (was_there : Bool) (new : OpenDocument) : Type 0 where
+  pub encoding : new.encoding ≡ old.encoding
+  pub removed : IsRemoved old.encoding old.bytes key new.bytes
+  pub told : TellsKey old key was_there
+
+-- the characters of texts that are lent
+abbrev pub characters_of : List (Bor (List ℕ)) → List (List ℕ)
+characters_of texts = map (λ text. chars text.now) texts
+
+-- Read in its encoding, a document has these keys, each once, in the order of their first pairs.
+abbrev pub HasKeysInOrder : OpenDocument → List (Bor (List ℕ)) → Type 0
+HasKeysInOrder d keys = HasKeys d.encoding d.bytes (characters_of keys)

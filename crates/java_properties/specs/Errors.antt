@@ -14,6 +14,8 @@ use Rattle.java_properties.specs.declared.error.Cause.{Cause}
 use Rattle.java_properties.specs.declared.error.ErrorKind.TheVariants as kind
 use Rattle.java_properties.specs.declared.error.Cause.TheVariants as cause
 use Rattle.java_properties.specs.declared.error.PropertiesError.{PropertiesError}
+use Rattle.java_properties.specs.declared.error.Reason.{Reason}
+use Rattle.java_properties.specs.declared.error.Reason.TheVariants as reason
 use Rattle.std.specs.declared.io.Error.{Error}
 
 abbrev pub kind_of : PropertiesError → ErrorKind
@@ -29,6 +31,16 @@ cause_of e = e.cause
 -- the characters of the text that was refused, where one was
 abbrev pub refused_of : PropertiesError → Option (List ℕ)
 refused_of e = option_map (λ text. chars (string_bytes text)) e.refused
+
+-- no stream failed with an error of its own
+abbrev pub NoStreamError : PropertiesError → Type 0
+NoStreamError e = (source : Error) → cause_of e ≡ cause.Io source → ⊥
+
+-- The reason of an error: the stream's own error where it came from one; else its kind, with the text that was refused where one was.
+abbrev pub IsReason : PropertiesError → Reason → Type 0
+IsReason e (reason.Io error) = cause_of e ≡ cause.Io error.now
+IsReason e (reason.Refused kind text) = (kind ≡ kind_of e) × (refused_of e ≡ Some (chars text.now)) × NoStreamError e
+IsReason e (reason.Kind kind) = (kind ≡ kind_of e) × (refused_of e ≡ None) × NoStreamError e
 
 -- An error of this kind, line and cause, where no text was refused.
 pub record IsError (kind : ErrorKind) (line : Option ℕ) (cause : Cause) (error : PropertiesError) : Type 0 where

@@ -12,6 +12,7 @@ pub mod GivenItems
 pub mod LentItems
 pub mod ReadLines
 pub mod MalformedEscapes
+pub mod KeyLines
 pub mod ReadInto
 pub mod Maps
 pub mod BodyLines

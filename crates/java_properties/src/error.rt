@@ -4,8 +4,8 @@ ghost use Rattle.std.specs.Prelude.{◌≡◌, Some, None};
 ghost use Rattle.std.specs.Str.{chars};
 ghost use Rattle.std.specs.String.{string_bytes};
 ghost use Rattle.properties_text.specs.Escaping.{malformed_in};
-ghost use Rattle.java_properties.specs.Errors.{kind_of, line_of, cause_of, cause_by, cause_of_write, IsError, IsBareError, IsMalformed, SaysUnresolved, SaysLineError, IsStreamError, RefusesText, malformed_kind};
-ghost use Rattle.java_properties.specs.DisplayTexts.{description, cause_display, error_display};
+ghost use Rattle.java_properties.specs.Errors.{kind_of, line_of, cause_of, cause_by, cause_of_write, IsError, IsBareError, IsMalformed, SaysUnresolved, SaysLineError, IsStreamError, RefusesText, malformed_kind, IsReason};
+ghost use Rattle.java_properties.specs.DisplayTexts.{description, cause_display, error_display, reason_display};
 ghost use Rattle.java_properties.specs.declared.error.ErrorKind.TheVariants.{Io, BadCommentPrefix, BadKvSeparator, EmptyKey, TooManyLines, Failed, Memory, Unsupported};
 
 use properties_lines::error::LineError;
@@ -16,10 +16,12 @@ use std::{fmt, io};
 
 /// What kind of error it is.
 ///
-/// It prints its kind in words and no line, for messages that name the line themselves.
+/// It prints itself in words, without a line.
 ///
 /// ```text
-/// println!(rt; "{name}:{number}: {}", error.kind())?;
+/// for escape in &malformed_escapes(alloc, &mut input, Encoding::UTF_8)? {
+///     println!(rt; "{}: {}", escape.line_number, escape.kind)?;
+/// }
 /// ```
 #[derive(Clone, Copy, Debug, PartialEq, Eq)]
 pub enum ErrorKind {
@@ -49,10 +51,13 @@ pub enum ErrorKind {
 
 /// What an error came from.
 ///
-/// It prints the stream's own error, as `entity not found`, where a stream failed.
+/// It prints the stream's own error, as `entity not found`, where a stream failed. [`PropertiesError::reason`] is for
+/// messages.
 ///
 /// ```text
-/// println!(rt; "{path}: {}", error.cause())?;
+/// if let Cause::Io(fault) = error.cause() {
+///     assert_eq!(rt; fault.kind(), io::ErrorKind::NotFound);
+/// }
 /// ```
 #[derive(Debug, Drop)]
 pub enum Cause {
@@ -62,6 +67,20 @@ pub enum Cause {
     Io(io::Error),
     /// A character that is no hexadecimal digit.
     NotHex,
+}
+
+/// Why a call failed, without a line: what a message says after the names of the file and of the line.
+///
+/// It prints the stream's own error where a stream failed with one, and else the kind in words, with the text that was
+/// refused where one was.
+#[derive(Clone, Copy, Debug)]
+pub enum Reason<'a> {
+    /// The error of a stream that failed.
+    Io(&'a io::Error),
+    /// What a text was refused as, and the text.
+    Refused(ErrorKind, &'a str),
+    /// The kind says all.
+    Kind(ErrorKind),
 }
 
 /// Why a call failed, and in which line.
@@ -103,6 +122,27 @@ impl PropertiesError {
         ensures { result ≡ cause_of self }
     {
         self.cause
+    }
+
+    /// Why it failed, without a line, for messages that name the line themselves.
+    ///
+    /// ```text
+    /// match error.line_number() {
+    ///     Some(number) => println!(rt; "{path}:{number}: {}", error.reason())?,
+    ///     None => println!(rt; "{path}: {}", error.reason())?,
+    /// }
+    /// // As `my.properties:3: Malformed \uxxxx encoding: not hex.`, or `my.properties: entity not found`.
+    /// ```
+    pub fn reason(&self) -> Reason<'_>
+        ensures { IsReason self.now result }
+    {
+        match &self.cause {
+            Cause::Io(error) => Reason::Io(error),
+            Cause::None | Cause::NotHex => match &self.refused {
+                Some(text) => Reason::Refused(self.kind, text.as_str()),
+                None => Reason::Kind(self.kind),
+            },
+        }
     }
 
     // A stream failed, in the line of this number if it was in one.
@@ -314,6 +354,18 @@ impl fmt::Display for Cause {
             Cause::None => write!(f, "no other error"),
             Cause::Io(error) => write!(f, "{error}"),
             Cause::NotHex => write!(f, "not a hexadecimal digit"),
+        }
+    }
+}
+
+impl fmt::Display for Reason<'_> {
+    ghost output = { reason_display };
+
+    fn fmt<W: fmt::Write>(&self, f: &mut fmt::Formatter<W>) -> fmt::Result {
+        match self {
+            Reason::Io(error) => write!(f, "{error}"),
+            Reason::Refused(kind, text) => write!(f, "{kind}: {text:?}"),
+            Reason::Kind(kind) => write!(f, "{kind}"),
         }
     }
 }

@@ -24,10 +24,10 @@ mod maps;
 mod writer;
 
 pub use edit::{Document, Edit, edit_all, read_source, remove_key, set_key, write_source};
-pub use error::{Cause, ErrorKind, PropertiesError};
+pub use error::{Cause, ErrorKind, PropertiesError, Reason};
 pub use iter::{
-    ContentRef, Found, LineRef, MalformedEscape, PropertiesIter, Stopped, malformed_escapes,
-    read_lines,
+    ContentRef, Found, KeyLine, LineRef, MalformedEscape, PropertiesIter, Stopped, key_lines,
+    malformed_escapes, read_lines,
 };
 pub use line::{Line, LineContent};
 pub use maps::{read, read_sorted, write, write_sorted};

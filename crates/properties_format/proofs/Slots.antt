@@ -14,3 +14,4 @@ pub mod GuardCells
 pub mod PushCells
 pub mod Links
 pub mod Removing
+pub mod Keys

@@ -15,4 +15,5 @@ pub mod Laws
 pub mod Unended
 pub mod Sizes
 pub mod Steps
+pub mod Walks
 pub mod Endings

@@ -1,6 +1,6 @@
--- The map of an input: each key that a pair of it has, with the value of its last pair.
+-- The map of an input: each key that a pair of it has, with the value of its last pair; and its keys in their order.
 -- Source: java.util.Properties of Java SE 7, load (a later pair with a key takes the place of an earlier one).
-use Rattle.std.specs.Prelude.{◌≡◌, ◌≢◌, ℕ, List, [], ◌∷◌, ◌++◌, Option, Some, None}
+use Rattle.std.specs.Prelude.{◌≡◌, ◌≢◌, ◌↔◌, ℕ, List, [], ◌∷◌, ◌++◌, Option, Some, None, Contains, AllPairs}
 use Rattle.properties_format.specs.Encoding.{Encoding}
 use Rattle.properties_format.specs.Entries.{comment, pair, Entry, item, malformed, read_fault, AreItems}
 use Rattle.properties_format.specs.Items.{IsItems}
@@ -37,3 +37,27 @@ pub record HasValue (e : Encoding) (source key : List ℕ) (value : Option (List
   pub items : IsItems e source end entries
   pub whole : AreItems entries
   pub is : IsValue entries key value
+
+-- ---- the keys
+
+-- The first pair with one key stands before each pair with another: there are entries without the other key, and then that pair.
+pub record StandsBefore (entries : List Entry) (key other : List ℕ) : Type 0 where
+  pub before : List Entry
+  pub number : ℕ
+  pub value : List ℕ
+  pub after : List Entry
+  pub division : entries ≡ before ++ (item number (pair key value) ∷ after)
+  pub none_before : HasNoPair other before
+  pub apart : key ≢ other
+
+-- These are the keys that a pair has, each once, in the order of their first pairs.
+pub record AreKeys (entries : List Entry) (keys : List (List ℕ)) : Type 0 where
+  pub each : (key : List ℕ) → Contains keys key ↔ ((value : List ℕ) × IsLastValue entries key value)
+  pub in_order : AllPairs (StandsBefore entries) keys
+
+-- The keys of a source, none of whose entries is malformed.
+pub record HasKeys (e : Encoding) (source : List ℕ) (keys : List (List ℕ)) : Type 0 where
+  pub entries : List Entry
+  pub items : IsItems e source end entries
+  pub whole : AreItems entries
+  pub are : AreKeys entries keys

@@ -19,3 +19,4 @@ pub mod Edited
 pub mod Valued
 pub mod Slots
 pub mod Cells
+pub mod Keys

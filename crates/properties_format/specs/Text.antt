@@ -1,7 +1,7 @@
 -- Bytes, characters, and the kinds of characters that the format knows.
 -- A text is the list of its characters, and a character is the number of its code point.
 -- Source: java.util.Properties of Java SE 7, load; The Unicode Standard, section 3.9, D76 (scalar values).
-use Rattle.std.specs.Prelude.{ℕ, ◌<◌, ◌≤◌, ◌==◌, ◌||◌, ◌⊎◌, Bool, List, [], ◌∷◌, if◌then◌else◌}
+use Rattle.std.specs.Prelude.{ℕ, ◌<◌, ◌≤◌, ◌==◌, ◌&&◌, ◌||◌, ◌⊎◌, Bool, true, List, [], ◌∷◌, if◌then◌else◌}
 
 -- a byte
 abbrev pub byte : ℕ → Type 0
@@ -50,6 +50,11 @@ replacement = 0xfffd
 -- a blank: a space, a tab or a form feed, and no other white space
 abbrev pub is_blank : ℕ → Bool
 is_blank c = c == space || (c == tab || c == form_feed)
+
+-- a text of blanks, or of nothing
+abbrev pub is_blanks : List ℕ → Bool
+is_blanks [] = true
+is_blanks (c ∷ cs) = is_blank c && is_blanks cs
 
 -- the text without the blanks that it begins with
 abbrev pub without_leading_blanks : List ℕ → List ℕ

@@ -1,7 +1,7 @@
 -- A source with the value of a key set in place: the last pair with the key keeps its bytes up to where what stands between key and value ends, and its line ending.
 -- Source: java.util.Properties of Java SE 7, setProperty and load (a later pair takes the place of an earlier one; how a key, what stands after it, and a value are told apart).
 use Rattle.std.specs.Prelude.{◌≡◌, ◌⊎◌, ℕ, ◌==◌, ◌&&◌, ◌||◌, Bool, true, false, if◌then◌else◌, List, [], ◌∷◌, ◌++◌, None, unwrap_or}
-use Rattle.properties_format.specs.Text.{LineEnding, lf, line_ending_text, space, backslash, equals_sign, is_blank, is_separator, is_comment_sign}
+use Rattle.properties_format.specs.Text.{LineEnding, lf, line_ending_text, space, backslash, equals_sign, is_blank, is_blanks, is_separator, is_comment_sign}
 use Rattle.properties_format.specs.Encoding.{Encoding, byte_order_mark}
 use Rattle.properties_format.specs.Cut.{IsDecodedLine}
 use Rattle.properties_format.specs.Groups.{is_open, joined}
@@ -10,7 +10,6 @@ use Rattle.properties_format.specs.Entries.{pair}
 use Rattle.properties_format.specs.Items.{given, IsOutcome}
 use Rattle.properties_format.specs.Printing.{in_key_or_value, unit_escape, spelt, spelt_key, encoded_text}
 use Rattle.properties_format.specs.Writing.{is_empty}
-use Rattle.properties_format.specs.Reading.Settings.{is_blanks}
 use Rattle.properties_format.specs.Body.{HeldLine, AreGroupsOf, HasKey, NoneHasKey, as_lines, held_in, group_bytes, groups_bytes, ending_bytes, last_ending}
 use Rattle.properties_format.specs.Edited.{bom_of, final_group, is_empty_line, is_left_open, EditResult, IsEditResult}
 

@@ -1,12 +1,12 @@
 -- What a list of calls to a writer writes, and what it is to be read back as.
 -- Source: java.util.Properties of Java SE 7, store, which writes one comment or one pair a line.
 use Rattle.std.specs.Prelude.{◌≡◌, All, ℕ, ◌+◌, ◌==◌, ◌&&◌, not, Bool, true, false, if◌then◌else◌, List, [], ◌∷◌, ◌++◌, Option, Some, None}
-use Rattle.properties_format.specs.Text.{scalar, LineEnding, backslash, is_comment_sign}
+use Rattle.properties_format.specs.Text.{scalar, LineEnding, backslash, is_blanks, is_comment_sign}
 use Rattle.properties_format.specs.Encoding.{Encoding}
 use Rattle.properties_format.specs.Reading.Split.{trimmed}
 use Rattle.properties_format.specs.Entries.{Content, comment, pair, Entry, item}
 use Rattle.properties_format.specs.Settings.{Settings, IsGoodPrefix, IsGoodSeparator}
-use Rattle.properties_format.specs.Reading.Settings.{is_blanks, is_good_prefix, is_good_separator}
+use Rattle.properties_format.specs.Reading.Settings.{is_good_prefix, is_good_separator}
 use Rattle.properties_format.specs.Printing.{printed}
 
 -- a call: a comment or a pair to write, a setting to change, a flush, or ASCII alone turned on or off

@@ -5,14 +5,13 @@ use Rattle.properties_format.specs.Text as text
 use Rattle.properties_format.specs.Encoding.{Encoding, InForce, windows_1252, utf_8, utf_16le, utf_16be, IsAligned}
 use Rattle.properties_format.specs.Cut.{units}
 use Rattle.properties_format.specs.Reading.Lines.{begins_with_lf}
-use Rattle.properties_format.specs.ItemsToCome.{ReaderState, start}
 use Rattle.properties_format.specs.Body.{HeldLine}
 use Rattle.properties_format.specs.Reading.Body.{held_lines_of}
 use Rattle.properties_format.proofs.Edited.Steps.{held_lines-line, held_lines-last}
 use Rattle.properties_text.specs.Encoding.{encoding_of}
 use Rattle.properties_lines.specs.LineSearch.{unit_size}
 use Rattle.properties_lines.specs.HeldLines.{held_line, StandsInBody, lines_left}
-use Rattle.properties_lines.specs.Scanner.{is_decided, after_cr, standing, front_of, Fits, bytes_of, EndsWhole, IsCutOff, GivesLine}
+use Rattle.properties_lines.specs.Scanner.{is_decided, standing, front_of, bytes_of, EndsWhole, IsCutOff, GivesLine}
 use Rattle.properties_lines.specs.declared.scanner.Front.{Front}
 use Rattle.properties_lines.specs.declared.scanner.Front.TheVariants.{Mark, Feed, Nothing}
 use Rattle.properties_lines.specs.declared.scanner.RawLine.{RawLine}
@@ -49,18 +48,6 @@ cut-lines e body line next h = by h.ending refl
         ∙ rw k refl
 
 -- ---- a scanner in a body
-
--- it stands there at first
-pub starts-body : (s : Scanner) (e : Encoding) (body : List ℕ) → Fits s body → standing s body ≡ record (start e) { is_decided = true; held = body }
-    → StandsInBody s body
-starts-body s e body h k =
-    let decided : is_decided s.front ≡ true = ap (λ v. let w : ReaderState = v in w.is_decided) k in
-    let after : after_cr s.front ≡ false = ap (λ v. let w : ReaderState = v in w.after_cr) k in
-    record {
-      fits = h;
-      decided = λ w. let x : is_decided Mark ≡ true = subst (λ v. is_decided v ≡ true) w decided in absurd (cc);
-      alone = λ w. let x : after_cr Feed ≡ false = subst (λ v. after_cr v ≡ false) w after in absurd (cc);
-    }
 
 -- it goes on where it stands
 body-front : (s : Scanner) (body : List ℕ) → StandsInBody s body → front_of (standing s body) ≡ record { encoding = encoding_of s.encoding; body = drop s.at body }

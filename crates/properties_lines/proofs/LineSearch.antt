@@ -1,13 +1,12 @@
 -- The steps of a search for a line end among undecoded bytes.
-use Rattle.std.proofs.Common.{inl, inr, ◌≡◌, ◌<◌, ◌≤◌, ◌+◌, ◌-◌, ◌%◌, ◌==◌, ℕ, suc, zero, true, false, Bool, List, [], ◌∷◌, ◌++◌, take, drop, length, get_or}
+use Rattle.std.proofs.Common.{◌≡◌, ◌<◌, ◌≤◌, ◌+◌, ◌-◌, ◌%◌, ◌==◌, ℕ, suc, zero, true, false, Bool, List, [], ◌∷◌, ◌++◌, take, drop, length, get_or}
 use Rattle.std.proofs.Common.{drop-cons, length-append, length-drop, refl, sym, ap, subst, ◌∙◌, arith}
 use Rattle.std.specs.Prelude.{Option, Some, None, option_map}
 use Rattle.std.proofs.Math.Seq.{take-add}
-use Rattle.std.proofs.lemmas.Bool.{false_from_ne_true, cases_lt}
+use Rattle.std.proofs.lemmas.Bool.{false_from_ne_true}
 use Rattle.std.proofs.lemmas.List.{take-append-drop, take_rest, length-take-le, take-append-le, get_or-drop}
 use Rattle.std.proofs.lemmas.Bool.Decides.{nat_tests}
 use Rattle.std.proofs.lemmas.Grind.{common_steps}
-use Rattle.byte_blocks.proofs.Searching.{none-in_block, first-in_block, long-block}
 use Rattle.memchr.specs.Find.{Nowhere, NoneBefore, Passes, IsFirst, IsFirstByte}
 use Rattle.properties_format.specs.Text.{carriage_return, is_line_end}
 use Rattle.properties_format.specs.Lines.{HoldsNoLineEnd}
@@ -124,27 +123,6 @@ read-from d from k h = let is : from + (k - from) ≡ k = omega arith in get_or-
 nowhere-from : (d : List ℕ) (from count to : ℕ) → Nowhere (Passes is_line_end (drop from d)) 0 count → to ≤ from + count
     → Nowhere (Passes is_line_end d) from to
 nowhere-from d from count to h le k low high is = h (k - from) (omega arith) (omega arith) (ap is_line_end (read-from d from k low) ∙ is)
-
--- ---- Blocks of sixteen.
-
--- A search goes on where another found none.
-pub first-on : (bytes : List ℕ) (from at : ℕ) (found : Option ℕ) → from ≤ at → Nowhere (Passes is_line_end bytes) from at → IsFirst (Passes is_line_end bytes) at (length bytes) found
-    → IsFirst (Passes is_line_end bytes) from (length bytes) found
-first-on bytes from at None low none h = λ k i j p. elim (cases_lt k at) [
-  | inl l ↦ none k i l p
-  | inr l ↦ h k l j p
-]
-first-on bytes from at (Some place) low none h = (
-  record {
-    low = omega (arith, low, h.0.low);
-    high = h.0.high;
-    before = λ k i j p. elim (cases_lt k at) [
-      | inl l ↦ none k i l p
-      | inr l ↦ h.0.before k l j p
-    ];
-  },
-  h.1,
-)
 
 -- what was found in the bytes from a place on
 pub first-from : (d : List ℕ) (from : ℕ) (found : Option ℕ) → IsFirstByte is_line_end (take (length d - from) (drop from d)) found
@@ -314,27 +292,3 @@ searched-hit e bytes from hit size s h =
     let two : at % 2 ≡ 0 = omega arith in
     let whole : at % unit_size e ≡ 0 = subst (λ n. at % n ≡ 0) (sym size) two in
     searched-up_to e bytes from at s (λ k l r. h.before k l (omega arith)) (omega arith) (omega arith) whole
-
--- a search goes on after a block without such a byte
-pub searched-block : (e : Encoding) (bytes : List ℕ) (at : ℕ) → unit_size e ≡ 2 → IsSearched e bytes at → at + 16 ≤ length bytes
-    → IsFirstByte is_line_end (take 16 (drop at bytes)) None → IsSearched e bytes (at + 16)
-searched-block e bytes at size s within none =
-    let even : at % 2 ≡ 0 = subst (λ n. at % n ≡ 0) size (searched-size e bytes at s) in
-    let two : (at + 16) % 2 ≡ 0 = omega arith in
-    searched-up_to e bytes at (at + 16) s
-    (none-in_block is_line_end bytes at at 16 at within (omega arith) (λ k low high p. absurd (omega (arith, low, high))) none)
-    (omega arith) within (subst (λ n. (at + 16) % n ≡ 0) (sym size) two)
-
--- a unit of a block in which such a byte stands, up to which there is none
-pub record IsUnitThere (e : Encoding) (bytes : List ℕ) (end at : ℕ) : Type 0 where
-  pub searched : IsSearched e bytes at
-  pub within : at + 2 ≤ end
-
-pub unit-there : (e : Encoding) (bytes : List ℕ) (at end first : ℕ) → unit_size e ≡ 2 → IsSearched e bytes at → at + 16 ≤ end → end ≤ length bytes
-    → IsFirstByte is_line_end (take 16 (drop at bytes)) (Some first) → IsUnitThere e bytes end (at + first - (at + first) % 2)
-unit-there e bytes at end first size s room held is =
-    let within : at + 16 ≤ length bytes = omega (arith, room, held) in
-    let small : first < 16 = omega (arith, is.0.high, long-block bytes at 16 within) in
-    let even : at % 2 ≡ 0 = subst (λ n. at % n ≡ 0) size (searched-size e bytes at s) in
-    let found = first-in_block is_line_end bytes at at 16 at first (omega arith) within (omega arith) (λ k low high p. absurd (omega (arith, low, high))) is in
-    record { searched = searched-hit e bytes at (at + first) size s found.0; within = omega (arith, even, room, small) }

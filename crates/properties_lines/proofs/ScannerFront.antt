@@ -1,7 +1,9 @@
 -- What may stand before the line that a scanner comes to.
-use Rattle.std.proofs.Common.{◌≡◌, ◌<◌, ◌≤◌, ◌+◌, ◌-◌, ℕ, Bool, true, false, List, [], ◌∷◌, ◌++◌, drop, length, refl, sym, ap, subst, ◌∙◌, length-append, length-drop, arith}
+use Rattle.std.proofs.Common.{inl, inr, ◌≡◌, ◌<◌, ◌≤◌, ◌+◌, ◌-◌, ◌*◌, ℕ, Bool, true, false, List, [], ◌∷◌, ◌++◌, drop, length, refl, sym, ap, ap₂, subst, ◌∙◌, length-append, length-drop, arith}
+use Rattle.std.proofs.lemmas.Bool.{cases_Bool, eqb-true}
 use Rattle.std.proofs.lemmas.List.{drop-drop, drop-append-le}
 use Rattle.properties_format.specs.Text.{line_feed}
+use Rattle.properties_format.specs.Utf16.{low_first, high_first}
 use Rattle.properties_format.specs.Encoding.{Encoding, InForce, windows_1252, utf_8, utf_16le, utf_16be, ascii_bytes}
 use Rattle.properties_format.specs.Lines as format
 use Rattle.properties_format.specs.Lines.{InputEnd, end, more}
@@ -13,14 +15,13 @@ use Rattle.properties_format.specs.Reading.ItemsToCome.{natural_to_come}
 use Rattle.properties_format.specs.Reading.ReaderSteps.{Gives, ReadsLines, HoldsNoEnd, after_decided, after_passed, next_line}
 use Rattle.properties_format.proofs.ItemsToCome.Lines.{gives-decided, gives-decided_last, gives-passed_none, gives-passed_last, gives-passed_lf, gives-last, natural-more}
 use Rattle.properties_format.proofs.ItemsToCome.Entries.{gives-on}
-use Rattle.properties_format.proofs.Cut.Units.{units-ascii}
 use Rattle.properties_format.proofs.ItemsToCome.Waiting.{waiting-no_end}
 use Rattle.properties_text.specs.Encoding.{encoding_of}
 use Rattle.properties_text.specs.Decoding.{TellsBom}
 use Rattle.properties_text.specs.declared.encoding.byte_order_mark.ByteOrderMark.{ByteOrderMark}
 use Rattle.properties_text.specs.declared.encoding.byte_order_mark.ByteOrderMark.TheVariants.{Present, Absent, Undecided}
 use Rattle.properties_lines.specs.LineSearch.{unit_size, IsSearched}
-use Rattle.properties_lines.specs.Scanner.{is_decided, after_cr, standing, front_of, without_feed, Fits, Comes, IsAlike, TellsSize, stands, none, is_undecided}
+use Rattle.properties_lines.specs.Scanner.{is_decided, after_cr, standing, front_of, without_feed, Fits, Comes, IsAlike, Settles, PassesFeed, feed_size, is_undecided}
 use Rattle.properties_lines.specs.declared.scanner.Front.TheVariants.{Mark, Feed, Nothing}
 use Rattle.properties_lines.specs.declared.scanner.Scanner.{Scanner}
 use Rattle.properties_lines.proofs.LineSearch.{nothing_searched, searched-grown, length-ascii_bytes, half-unit}
@@ -39,7 +40,7 @@ fits-grown s held d h =
     }
 
 -- where none were searched, any bytes were
-pub searched-none : (e : Encoding) (bytes : List ℕ) (count : ℕ) → count ≡ 0 → IsSearched e bytes count
+searched-none : (e : Encoding) (bytes : List ℕ) (count : ℕ) → count ≡ 0 → IsSearched e bytes count
 searched-none e bytes count h = subst (IsSearched e bytes) (sym h) (nothing_searched e bytes)
 
 -- ---- bytes are let go
@@ -50,11 +51,7 @@ let_go s count = record s { at = s.at - count; line = record s.line { start = 0;
 rest-let_go : (s : Scanner) (held : List ℕ) (count : ℕ) → count ≤ s.at → drop (s.at - count) (drop count held) ≡ drop s.at held
 rest-let_go s held count h = let at : count + (s.at - count) ≡ s.at = omega (arith, h) in drop-drop (s.at - count) count held ∙ ap (λ n. drop n held) at
 
--- with those that are left the scanner stands where it stood
-pub stands-let_go : (s : Scanner) (held : List ℕ) (count : ℕ) → count ≤ s.at → standing (let_go s count) (drop count held) ≡ standing s held
-stands-let_go s held count h = ap (λ v. let w : ReaderState = record (standing s held) { held = v } in w) (rest-let_go s held count h)
-
--- and may be called with them
+-- with those that are left the scanner may be called
 pub fits-let_go : (s : Scanner) (held : List ℕ) (count : ℕ) → count ≤ s.at → Fits s held → Fits (let_go s count) (drop count held)
 fits-let_go s held count h k = record {
   within = omega (arith, h, k.within, length-drop count held);
@@ -98,12 +95,47 @@ comes-passed true s d h k = record {
   gives = λ x ending m. let P : List ℕ → Type 0 = λ v. Gives s v [] (after_passed s s.held) v ending in subst P (sym m.0) (gives-passed_last s ending d h);
 }
 
-comes-feed : (ended : Bool) (s : ReaderState) (count : ℕ) → s.is_decided ≡ true → s.after_cr ≡ true → TellsSize s.encoding s.held ended count
-    → Comes ended s [] (after_passed s (drop count s.held))
-comes-feed ended s count d a (stands le h) = record { gives = λ x ending m. gives-passed_lf s (drop count s.held) x ending d a h }
-comes-feed ended s count d a (none zero h k) =
-    let P : ℕ → Type 0 = λ n. Comes ended s [] (after_passed s (drop n s.held)) in
-    subst P (sym zero) (comes-passed ended s d h k)
+-- an LF at the front is its bytes
+pub feed-first : (e : Encoding) (d : List ℕ) → begins_with_lf (units e d) ≡ true → d ≡ ascii_bytes e line_feed ++ drop (unit_size e) d
+feed-first windows_1252 [] h = absurd (cc h)
+feed-first windows_1252 (b ∷ d) h = ap (λ v. v ∷ d) (eqb-true b line_feed h)
+feed-first utf_8 [] h = absurd (cc h)
+feed-first utf_8 (b ∷ d) h = ap (λ v. v ∷ d) (eqb-true b line_feed h)
+feed-first utf_16le [] h = absurd (cc h)
+feed-first utf_16le (a ∷ []) h = absurd (cc h)
+feed-first utf_16le (a ∷ b ∷ d) h =
+    let unit : b * 0x100 + a ≡ 10 = eqb-true (low_first a b) line_feed h in
+    let low : a ≡ line_feed = omega (arith, unit) in
+    let high : b ≡ 0 = omega (arith, unit) in
+    ap₂ (λ v w. v ∷ w ∷ d) low high
+feed-first utf_16be [] h = absurd (cc h)
+feed-first utf_16be (a ∷ []) h = absurd (cc h)
+feed-first utf_16be (a ∷ b ∷ d) h =
+    let unit : a * 0x100 + b ≡ 10 = eqb-true (high_first a b) line_feed h in
+    let high : a ≡ 0 = omega (arith, unit) in
+    let low : b ≡ line_feed = omega (arith, unit) in
+    ap₂ (λ v w. v ∷ w ∷ d) high low
+
+-- and within those that are held
+feed-within : (e : Encoding) (d : List ℕ) → feed_size e d ≤ length d
+feed-within e d = elim (cases_Bool (begins_with_lf (units e d))) [
+  | inl h ↦
+      let all = ap length (feed-first e d h) in
+      let size : unit_size e ≤ length d = omega (arith, all, length-append (ascii_bytes e line_feed) (drop (unit_size e) d), length-ascii_bytes e line_feed) in
+      rw h size
+  | inr h ↦ rw h (omega arith)
+]
+
+comes-feed : (ended : Bool) (s : ReaderState) → s.is_decided ≡ true → s.after_cr ≡ true → (ended ≡ false → unit_size s.encoding ≤ length s.held)
+    → Comes ended s [] (after_passed s (drop (feed_size s.encoding s.held) s.held))
+comes-feed ended s d a k = elim (cases_Bool (begins_with_lf (units s.encoding s.held))) [
+  | inl h ↦
+      let passed : Comes ended s [] (after_passed s (drop (unit_size s.encoding) s.held)) = record {
+        gives = λ x ending m. gives-passed_lf s (drop (unit_size s.encoding) s.held) x ending d a (feed-first s.encoding s.held h);
+      } in
+      rw h passed
+  | inr h ↦ rw h (comes-passed ended s d h k)
+]
 
 pub comes-last : (s t : ReaderState) → HoldsNoEnd s → t.is_done ≡ true → Comes true s (next_line s s.held ∷ []) t
 comes-last s t h k = record {
@@ -163,7 +195,7 @@ decides old new held ended h d waits is le same =
 -- ---- an LF of the line end before
 
 -- bytes that are shorter than a unit hold no line end
-pub short-none : (e : Encoding) (d : List ℕ) → length d < unit_size e → HoldsNoLineEndUnit e d
+short-none : (e : Encoding) (d : List ℕ) → length d < unit_size e → HoldsNoLineEndUnit e d
 short-none windows_1252 [] h = tt
 short-none windows_1252 (b ∷ d) h = absurd (omega arith)
 short-none utf_8 [] h = tt
@@ -171,46 +203,52 @@ short-none utf_8 (b ∷ d) h = absurd (omega arith)
 short-none utf_16le d h = half-unit utf_16le d refl h
 short-none utf_16be d h = half-unit utf_16be d refl h
 
-pub awaits-unit : (s : Scanner) (held : List ℕ) → s.is_done ≡ false → s.front ≡ Feed → length (drop s.at held) < unit_size (encoding_of s.encoding)
+awaits-unit : (s : Scanner) (held : List ℕ) → s.is_done ≡ false → s.front ≡ Feed → length (drop s.at held) < unit_size (encoding_of s.encoding)
     → natural_to_come (standing s held) [] more ≡ []
 awaits-unit s held g a short =
     let t = standing s held in
     (natural-more t (record { going = g; decided = ap is_decided a; none = short-none t.encoding t.held short })).0
 
-size-within : {e : Encoding} {held : List ℕ} {ended : Bool} {count : ℕ} → TellsSize e held ended count → count ≤ length held
-size-within (stands le h) = le
-size-within (none zero h k) = omega arith
-
-without-feed : {e : Encoding} {held : List ℕ} {ended : Bool} {count : ℕ} → TellsSize e held ended count → without_feed e held ≡ drop count held
-without-feed {e} {held} {count = count} (stands le h) =
-    let first : begins_with_lf (units e held) ≡ true = ap (λ v. begins_with_lf (units e v)) h ∙ ap begins_with_lf (units-ascii e line_feed (drop count held)) in
-    let size : unit_size e ≡ count =
-    omega (arith, ap length h, length-append (ascii_bytes e line_feed) (drop count held), length-ascii_bytes e line_feed, length-drop count held) in
-    rw first (ap (λ n. drop n held) size)
-without-feed {e} {held} {count = count} (none zero h k) = rw h (ap (λ n. drop n held) (sym zero))
+without-feed : (e : Encoding) (d : List ℕ) → without_feed e d ≡ drop (feed_size e d) d
+without-feed e d = elim (cases_Bool (begins_with_lf (units e d))) [
+  | inl h ↦ rw h refl
+  | inr h ↦ rw h refl
+]
 
 front-after : (s : ReaderState) → s.is_decided ≡ true → s.after_cr ≡ true → front_of s ≡ record { encoding = s.encoding; body = without_feed s.encoding s.held }
 front-after s d a = rw (d, a) refl
 
 -- it is passed, where it is there
-pub passes-feed : (old : Scanner) (held : List ℕ) (ended : Bool) (count : ℕ) → Fits old held → old.front ≡ Feed
-    → TellsSize (encoding_of old.encoding) (drop old.at held) ended count → IsAlike old held ended (record old { front = Nothing; at = old.at + count })
-passes-feed old held ended count h a k =
+passes-feed : (old : Scanner) (held : List ℕ) (ended : Bool) → Fits old held → old.front ≡ Feed
+    → (ended ≡ false → unit_size (encoding_of old.encoding) ≤ length (drop old.at held))
+    → IsAlike old held ended (record old { front = Nothing; at = old.at + feed_size (encoding_of old.encoding) (drop old.at held) })
+passes-feed old held ended h a k =
     let s = standing old held in
+    let count = feed_size s.encoding s.held in
     let decided : s.is_decided ≡ true = ap is_decided a in
     let after : s.after_cr ≡ true = ap after_cr a in
     let rest : drop count (drop old.at held) ≡ drop (old.at + count) held = drop-drop count old.at held in
     let fresh : old.searched ≡ 0 = h.fresh (λ w. absurd (cc (a, w))) in
     let P : Bool → List ℕ → Type 0 = λ b v. Comes ended s [] (record s { is_decided = b; held = v; after_cr = false }) in
-    let passed : P s.is_decided (drop count s.held) = comes-feed ended s count decided after k in
+    let passed : P s.is_decided (drop count s.held) = comes-feed ended s decided after k in
     record {
       comes = subst (λ v. P true v) rest (subst (λ b. P b (drop count s.held)) decided passed);
       same = refl;
       fits = record {
-        within = omega (arith, size-within k, length-drop old.at held, h.within);
+        within = omega (arith, feed-within s.encoding s.held, length-drop old.at held, h.within);
         searched = searched-none _ _ old.searched fresh;
         fresh = λ w. fresh;
         line = h.line;
       };
-      front = front-after s decided after ∙ ap (λ v. let w : InForce = record { encoding = s.encoding; body = v } in w) (without-feed k ∙ rest);
+      front = front-after s decided after ∙ ap (λ v. let w : InForce = record { encoding = s.encoding; body = v } in w) (without-feed s.encoding s.held ∙ rest);
     }
+
+-- unless more bytes decide whether it comes
+pub settles-feed : (old new : Scanner) (held : List ℕ) (ended passed : Bool) → Fits old held → old.is_done ≡ false → old.front ≡ Feed
+    → PassesFeed (record old { front = Nothing }) held ended passed new → Settles old held ended passed new
+settles-feed old new held ended true h g a k =
+    let P : Scanner → Type 0 = λ v. IsAlike old held ended v in
+    subst P (sym k.1) (passes-feed old held ended h a k.0)
+settles-feed old new held ended false h g a k =
+    let same : new ≡ old = k.2 ∙ ap (λ v. let w : Scanner = record old { front = v } in w) (sym a) in
+    (k.0, same, awaits-unit old held g a k.1, λ w. absurd (cc (a, w)))

@@ -1,10 +1,11 @@
 -- How a scanner searches for the end of a line, and takes the line up to it.
 use Rattle.std.proofs.Common.{inl, inr, ◌≡◌, ◌↔◌, ◌<◌, ◌≤◌, ◌+◌, ◌-◌, ◌==◌, ◌||◌, ℕ, zero, suc, Bool, true, false, List, [], ◌∷◌, ◌++◌, take, drop, length, get_or, map, refl, sym, ap, ap₂, subst, ◌∙◌, append_assoc, length-append, length-drop, arith}
-use Rattle.std.specs.Prelude.{nat_lt, Option, Some, None, is_some}
+use Rattle.std.specs.Prelude.{Option, Some, None, is_some, Result, Ok, Err, IfOk}
+use Rattle.std.specs.Str.{IsAscii}
 use Rattle.std.specs.List.{All}
 use Rattle.std.proofs.Math.Bool.{or-true}
 use Rattle.std.proofs.Math.Seq.{drop-append_seam}
-use Rattle.std.proofs.lemmas.Bool.{cases_Bool, ltb-true, ltb-false, or_from, or_parts, false_from_ne_true, eq-eqb, ne_eqb, leb-true, cases_lt}
+use Rattle.std.proofs.lemmas.Bool.{cases_Bool, or_from, or_parts, false_from_ne_true, eq-eqb, eqb-true, leb-true, cases_lt}
 use Rattle.std.proofs.lemmas.List.{drop-drop, length-take-le, get_or-take, get_or-drop, length-map, take-take}
 use Rattle.std.proofs.lemmas.List.Elements.{All-get_or, All-head, All-tail, All-take, All-weaker}
 use Rattle.std.proofs.lemmas.Str.Ascii.{IsAscii-from_all, All-from_ascii}
@@ -28,13 +29,14 @@ use Rattle.properties_text.specs.Encoding.{encoding_of}
 use Rattle.properties_text.specs.Escaping.{holds_backslash}
 use Rattle.properties_text.proofs.Blocks.{ascii-before}
 use Rattle.properties_lines.specs.LineSearch.{unit_size, IsFirstLineEnd, end_character}
-use Rattle.properties_lines.specs.Scanner.{standing, IsTold, EndsWhole, bytes_of, line_of, IsReady, IsFresh, IsBefore, TakesLine, IsFeed, IsFeedByte, PassesFeed, Searches, stands, none, front_after, is_decided, after_cr}
+use Rattle.properties_lines.specs.Scanner.{standing, IsTold, EndsWhole, bytes_of, line_of, IsReady, IsFresh, IsBefore, FindsByte, TakesLine, PassesFeed, feed_size, Searches, is_decided, after_cr}
+use Rattle.properties_lines.specs.declared.search.LineEnd.{LineEnd}
 use Rattle.properties_lines.specs.declared.scanner.Front.{Front}
 use Rattle.properties_lines.specs.declared.scanner.Front.TheVariants.{Feed, Nothing}
 use Rattle.properties_lines.specs.declared.scanner.RawLine.{RawLine}
 use Rattle.properties_lines.specs.declared.scanner.Scanner.{Scanner}
-use Rattle.properties_lines.proofs.ScannerFront.{some-units}
-use Rattle.properties_lines.proofs.LineSearch.{nothing_searched, length-ascii_bytes, one-byte, found-byte, searched-bytes}
+use Rattle.properties_lines.proofs.ScannerFront.{some-units, feed-first}
+use Rattle.properties_lines.proofs.LineSearch.{nothing_searched, length-ascii_bytes, found-byte, searched-bytes}
 
 -- ---- what is known of a line
 
@@ -44,7 +46,7 @@ none-holds (b ∷ bytes) h =
     or_from (b == backslash) (holds_backslash bytes) (false_from_ne_true (b == backslash) (h 0 (omega arith) (omega arith)))
     (none-holds bytes (λ k low high. h (suc k) (omega arith) (omega arith)))
 
-pub one-holds : (bytes : List ℕ) (k : ℕ) → k < length bytes → (get_or bytes k 0 == backslash) ≡ true → holds_backslash bytes ≡ true
+one-holds : (bytes : List ℕ) (k : ℕ) → k < length bytes → (get_or bytes k 0 == backslash) ≡ true → holds_backslash bytes ≡ true
 one-holds [] k h e = absurd (omega arith)
 one-holds (b ∷ bytes) zero h e = ap (λ v. v || holds_backslash bytes) e
 one-holds (b ∷ bytes) (suc k) h e = ap (λ v. (b == backslash) || v) (one-holds bytes k (omega arith) e) ∙ or-true (b == backslash)
@@ -67,82 +69,91 @@ decided-left t lines held is_after h reads =
     let P : Bool → Type 0 = λ v. ReadsLines t [] lines (record t { is_decided = v; held = held; passed = t.passed + 1; after_cr = is_after }) in
     subst P h reads
 
-enough : (n size feed : ℕ) → feed ≡ size → feed ≤ n → nat_lt n size ≡ false
-enough n size feed h k = elim (cases_Bool (nat_lt n size)) [
-  | inl few ↦ absurd (omega (arith, ltb-true n size few, h, k))
-  | inr some ↦ some
-]
+-- what stands after the first unit of a line end, as far as it is held
+pub data Tail (e : Encoding) (after : List ℕ) : Type 0 where
+  of_lf : Tail e after
+  of_cr : begins_with_lf (units e after) ≡ false → unit_size e ≤ length after → Tail e after
+  of_crlf : begins_with_lf (units e after) ≡ true → Tail e after
+  of_last_cr : length after < unit_size e → Tail e after
 
-take-reads : (t : ReaderState) (l after : List ℕ) (is_cr : Bool) (feed : ℕ) → HoldsLine t l (end_character is_cr) after → IsFeed t.encoding is_cr after feed
-    → ReadsLines t [] (next_line t l ∷ []) (left t (front_after is_cr (nat_lt (length after) (unit_size t.encoding))) (drop feed after))
-take-reads t l after false feed h (stands is size le k) = absurd (cc is)
-take-reads t l after false feed h (none empty k) =
-    let took = lines-take t l line_feed after h in
-    let P : ℕ → Type 0 = λ n. ReadsLines t [] (next_line t l ∷ []) (left t Nothing (drop n after)) in
-    subst P (sym empty) (decided-left t (next_line t l ∷ []) after false h.decided took)
-take-reads t l after true feed h (stands is size le k) =
-    let took = lines-take t l carriage_return after h in
+abbrev is_cr_of : {e : Encoding} {after : List ℕ} → Tail e after → Bool
+is_cr_of of_lf = false
+is_cr_of (of_cr h le) = true
+is_cr_of (of_crlf h) = true
+is_cr_of (of_last_cr few) = true
+
+abbrev front_at : {e : Encoding} {after : List ℕ} → Tail e after → Front
+front_at of_lf = Nothing
+front_at (of_cr h le) = Nothing
+front_at (of_crlf h) = Nothing
+front_at (of_last_cr few) = Feed
+
+abbrev feed_at : {e : Encoding} {after : List ℕ} → Tail e after → ℕ
+feed_at of_lf = 0
+feed_at (of_cr h le) = 0
+feed_at {e = e} (of_crlf h) = unit_size e
+feed_at (of_last_cr few) = 0
+
+take-reads : (t : ReaderState) (l after : List ℕ) (r : Tail t.encoding after) → HoldsLine t l (end_character (is_cr_of r)) after
+    → ReadsLines t [] (next_line t l ∷ []) (left t (front_at r) (drop (feed_at r) after))
+take-reads t l after of_lf h = decided-left t (next_line t l ∷ []) after false h.decided (lines-take t l line_feed after h)
+take-reads t l after (of_cr k le) h =
     let u : ReaderState = after_line t carriage_return after in
-    let P : Bool → Type 0 = λ v. ReadsLines t [] (next_line t l ∷ []) (left t (front_after true v) (drop feed after)) in
-    subst P (sym (enough (length after) (unit_size t.encoding) feed size le))
-    (decided-left t (next_line t l ∷ []) (drop feed after) false h.decided (lines-then took (lines-passed_lf u (drop feed after) h.decided refl k)))
-take-reads t l after true feed h (none empty k) =
-    let took = lines-take t l carriage_return after h in
+    decided-left t (next_line t l ∷ []) after false h.decided
+    (lines-then (lines-take t l carriage_return after h) (lines-passed_none u h.decided (some-units t.encoding after le) k))
+take-reads t l after (of_crlf k) h =
     let u : ReaderState = after_line t carriage_return after in
-    let few = nat_lt (length after) (unit_size t.encoding) in
-    let P : ℕ → Type 0 = λ n. ReadsLines t [] (next_line t l ∷ []) (left t (front_after true few) (drop n after)) in
-    let Q : Bool → Type 0 = λ v. ReadsLines t [] (next_line t l ∷ []) (left t (front_after true v) after) in
-    subst P (sym empty) (elim (cases_Bool few) [
-      | inl e ↦ subst Q (sym e) (decided-left t (next_line t l ∷ []) after true h.decided took)
-      | inr e ↦
-          let le : unit_size t.encoding ≤ length after = ltb-false (length after) (unit_size t.encoding) e in
-          subst Q (sym e)
-          (decided-left t (next_line t l ∷ []) after false h.decided (lines-then took (lines-passed_none u h.decided (some-units t.encoding after le) (k refl))))
-    ])
+    let rest = drop (unit_size t.encoding) after in
+    decided-left t (next_line t l ∷ []) rest false h.decided
+    (lines-then (lines-take t l carriage_return after h) (lines-passed_lf u rest h.decided refl (feed-first t.encoding after k)))
+take-reads t l after (of_last_cr few) h = decided-left t (next_line t l ∷ []) after true h.decided (lines-take t l carriage_return after h)
 
 -- ---- the line ending
 
 -- it stands before what comes after the LF that belongs to a CR
-record EndsAs (e : Encoding) (is_cr : Bool) (after : List ℕ) (feed : ℕ) : Type 0 where
+record EndsAs (e : Encoding) (after : List ℕ) (r : Tail e after) : Type 0 where
   pub by : text.LineEnding
-  pub stands : ascii_bytes e (end_character is_cr) ++ after ≡ line_ending_bytes e by ++ drop feed after
-  pub whole : EndsWhole e (Some by) (drop feed after)
-  pub within : feed ≤ length after
+  pub stands : ascii_bytes e (end_character (is_cr_of r)) ++ after ≡ line_ending_bytes e by ++ drop (feed_at r) after
+  pub whole : EndsWhole e (Some by) (drop (feed_at r) after)
+  pub within : feed_at r ≤ length after
 
-ends-as : (e : Encoding) (is_cr : Bool) (after : List ℕ) (feed : ℕ) → IsFeed e is_cr after feed → EndsAs e is_cr after feed
-ends-as e false after feed (stands is size le k) = absurd (cc is)
-ends-as e false after feed (none empty k) = record {
-  by = text.lf;
-  stands = ap (λ n. ascii_bytes e line_feed ++ drop n after) (sym empty);
-  whole = tt;
-  within = omega (arith, empty);
-}
-ends-as e true after feed (stands is size le k) = record {
-  by = text.crlf;
-  stands = ap (λ v. ascii_bytes e carriage_return ++ v) k ∙ sym (append_assoc (ascii_bytes e carriage_return) (ascii_bytes e line_feed) (drop feed after));
-  whole = tt;
-  within = le;
-}
-ends-as e true after feed (none empty k) =
-    let P : ℕ → Type 0 = λ n. begins_with_lf (units e (drop n after)) ≡ false in
+short-feed : (e : Encoding) (d : List ℕ) → length d < unit_size e → begins_with_lf (units e d) ≡ false
+short-feed windows_1252 [] h = refl
+short-feed windows_1252 (b ∷ d) h = absurd (omega arith)
+short-feed utf_8 [] h = refl
+short-feed utf_8 (b ∷ d) h = absurd (omega arith)
+short-feed utf_16le [] h = refl
+short-feed utf_16le (a ∷ []) h = refl
+short-feed utf_16le (a ∷ b ∷ d) h = absurd (omega arith)
+short-feed utf_16be [] h = refl
+short-feed utf_16be (a ∷ []) h = refl
+short-feed utf_16be (a ∷ b ∷ d) h = absurd (omega arith)
+
+ends-as : (e : Encoding) (after : List ℕ) (r : Tail e after) → EndsAs e after r
+ends-as e after of_lf = record { by = text.lf; stands = refl; whole = tt; within = omega arith }
+ends-as e after (of_cr k le) = record { by = text.cr; stands = refl; whole = k; within = omega arith }
+ends-as e after (of_crlf k) =
+    let rest = drop (unit_size e) after in
+    let first = feed-first e after k in
     record {
-      by = text.cr;
-      stands = ap (λ n. ascii_bytes e carriage_return ++ drop n after) (sym empty);
-      whole = subst P (sym empty) (k refl);
-      within = omega (arith, empty);
+      by = text.crlf;
+      stands = ap (λ v. ascii_bytes e carriage_return ++ v) first ∙ sym (append_assoc (ascii_bytes e carriage_return) (ascii_bytes e line_feed) rest);
+      whole = tt;
+      within = omega (arith, ap length first, length-append (ascii_bytes e line_feed) rest, length-ascii_bytes e line_feed);
     }
+ends-as e after (of_last_cr few) = record { by = text.cr; stands = refl; whole = short-feed e after few; within = omega arith }
 
-front-decided : (is_cr is_last : Bool) → is_decided (front_after is_cr is_last) ≡ true
-front-decided true true = refl
-front-decided true false = refl
-front-decided false is_last = refl
+front-decided : {e : Encoding} {after : List ℕ} (r : Tail e after) → is_decided (front_at r) ≡ true
+front-decided of_lf = refl
+front-decided (of_cr h le) = refl
+front-decided (of_crlf h) = refl
+front-decided (of_last_cr few) = refl
 
-front-short : (is_cr : Bool) (n size : ℕ) → front_after is_cr (nat_lt n size) ≡ Feed → n < size
-front-short true n size h = elim (cases_Bool (nat_lt n size)) [
-  | inl few ↦ ltb-true n size few
-  | inr some ↦ absurd (let e : Nothing ≡ Feed = ap (front_after true) (sym some) ∙ h in cc e)
-]
-front-short false n size h = absurd (cc h)
+front-short : {e : Encoding} {after : List ℕ} (r : Tail e after) → front_at r ≡ Feed → feed_at r ≡ 0 × length after < unit_size e
+front-short of_lf h = absurd (cc h)
+front-short (of_cr k le) h = absurd (cc h)
+front-short (of_crlf k) h = absurd (cc h)
+front-short (of_last_cr few) h = (refl, few)
 
 is-end : (is_cr : Bool) → is_line_end (end_character is_cr) ≡ true
 is-end true = refl
@@ -159,61 +170,60 @@ after-end e d rest at c h k =
 
 -- ---- a line is taken
 
-abbrev pub line_at : Scanner → ℕ → Bool → Bool → RawLine
+abbrev line_at : Scanner → ℕ → Bool → Bool → RawLine
 line_at s n is_ascii has_backslash = record { start = s.at; end = s.at + n; is_ascii = is_ascii; has_backslash = has_backslash }
 
 abbrev pub taken : Scanner → Front → ℕ → RawLine → Scanner
 taken s front at line = record s { front = front; passed = s.passed + 1; at = at; searched = 0; line = line }
 
-pub takes-line : (s : Scanner) (held : List ℕ) (n feed : ℕ) (is_cr is_ascii has_backslash : Bool) → IsReady s held
-    → IsFirstLineEnd (encoding_of s.encoding) (drop s.at held) (record { at = n; is_cr = is_cr })
-    → let after = drop (s.at + n + unit_size (encoding_of s.encoding)) held in
-    IsFeed (encoding_of s.encoding) is_cr after feed
+takes-line : (s : Scanner) (held : List ℕ) (n unit : ℕ) (is_ascii has_backslash : Bool)
+    → let after = drop (s.at + n + unit) held in
+    (r : Tail (encoding_of s.encoding) after) → IsReady s held
+    → IsFirstLineEnd (encoding_of s.encoding) (drop s.at held) (record { at = n; is_cr = is_cr_of r }) → unit ≡ unit_size (encoding_of s.encoding)
     → IsTold (encoding_of s.encoding) (take n (drop s.at held)) (line_at s n is_ascii has_backslash)
-    → TakesLine s held (taken s (front_after is_cr (nat_lt (length after) (unit_size (encoding_of s.encoding))))
-    (s.at + n + unit_size (encoding_of s.encoding) + feed) (line_at s n is_ascii has_backslash))
-takes-line s held n feed is_cr is_ascii has_backslash ready found k told =
+    → TakesLine s held (taken s (front_at r) (s.at + n + unit + feed_at r) (line_at s n is_ascii has_backslash))
+takes-line s held n unit is_ascii has_backslash r ready found size told =
     let e = encoding_of s.encoding in
     let bytes = drop s.at held in
     let l = take n bytes in
-    let from = s.at + n + unit_size e in
+    let from = s.at + n + unit in
     let after = drop from held in
     let line = line_at s n is_ascii has_backslash in
-    let front = front_after is_cr (nat_lt (length after) (unit_size e)) in
-    let new = taken s front (from + feed) line in
+    let feed = feed_at r in
+    let new = taken s (front_at r) (from + feed) line in
     let t = standing s held in
-    let ending = ends-as e is_cr after feed k in
+    let ending = ends-as e after r in
+    let c = end_character (is_cr_of r) in
     let long : length bytes ≡ length held - s.at = length-drop s.at held in
-    let place : s.at + (n + unit_size e) ≡ from = omega arith in
+    let place : s.at + (n + unit_size e) ≡ from = omega (arith, size) in
     let rest : after ≡ found.rest =
     ap (λ m. drop m held) (sym place) ∙ sym (drop-drop (n + unit_size e) s.at held)
-    ∙ after-end e bytes found.rest n (end_character is_cr) (omega (arith, found.within)) found.stands in
-    let holds : HoldsLine t l (end_character is_cr) after = record {
+    ∙ after-end e bytes found.rest n c (omega (arith, found.within)) found.stands in
+    let holds : HoldsLine t l c after = record {
       going = ready.live;
       decided = ap is_decided ready.settled;
       passed = ap after_cr ready.settled;
-      held = found.stands ∙ ap (λ v. l ++ (ascii_bytes e (end_character is_cr) ++ v)) (sym rest);
-      ends = is-end is_cr;
+      held = found.stands ∙ ap (λ v. l ++ (ascii_bytes e c ++ v)) (sym rest);
+      ends = is-end (is_cr_of r);
       aligned = found.aligned;
       none = found.none_before;
     } in
     let count : s.at + n - s.at ≡ n = omega arith in
     let whole : bytes_of held line ≡ l = ap (λ m. take m bytes) count in
-    let further : from + feed ≡ feed + from = omega arith in
     let left-is : drop feed after ≡ drop (from + feed) held = drop-drop feed from held in
-    let reads = take-reads t l after is_cr feed holds k in
-    let R : List ℕ → Type 0 = λ v. ReadsLines t [] (record { number = s.passed + 1; text = decoded_line e v } ∷ []) (left t front (drop feed after)) in
-    let S : List ℕ → Type 0 = λ v. ReadsLines t [] (line_of held new ∷ []) (left t front v) in
+    let reads = take-reads t l after r holds in
+    let R : List ℕ → Type 0 = λ v. ReadsLines t [] (record { number = s.passed + 1; text = decoded_line e v } ∷ []) (left t (front_at r) (drop feed after)) in
+    let S : List ℕ → Type 0 = λ v. ReadsLines t [] (line_of held new ∷ []) (left t (front_at r) v) in
     let Ends : List ℕ → Type 0 = λ v. EndsWhole e (Some ending.by) v in
     let Tells : List ℕ → Type 0 = λ v. IsTold e v line in
     let room : length after ≡ length held - from = length-drop from held in
-    let within : from + feed ≤ length held = omega (arith, room, ending.within, found.within, long, ready.fits.within) in
+    let within : from + feed ≤ length held = omega (arith, room, ending.within, found.within, size, long, ready.fits.within) in
     record {
       comes = subst S left-is (subst R (sym whole) reads);
       cut = record {
         ending = Some ending.by;
         ordered = (omega arith, omega arith, within);
-        stands = found.stands ∙ ap (λ v. l ++ (ascii_bytes e (end_character is_cr) ++ v)) (sym rest) ∙ ap (λ v. l ++ v) ending.stands
+        stands = found.stands ∙ ap (λ v. l ++ (ascii_bytes e c ++ v)) (sym rest) ∙ ap (λ v. l ++ v) ending.stands
             ∙ ap₂ (λ v w. v ++ (line_ending_bytes e ending.by ++ w)) (sym whole) left-is;
         aligned = inr (subst (IsAligned e) (sym whole) found.aligned);
         none = subst (HoldsNoLineEndUnit e) (sym whole) found.none_before;
@@ -222,8 +232,8 @@ takes-line s held n feed is_cr is_ascii has_backslash ready found k told =
       ended = λ w. absurd (cc w);
       starts = refl;
       same = refl;
-      decided = front-decided is_cr (nat_lt (length after) (unit_size e));
-      short = λ w. omega (arith, front-short is_cr (length after) (unit_size e) w, length-drop (from + feed) held, room);
+      decided = front-decided r;
+      short = λ w. let few = front-short r w in omega (arith, few.0, few.1, length-drop (from + feed) held, room);
       fits = record {
         within = within;
         searched = nothing_searched e (drop (from + feed) held);
@@ -233,55 +243,62 @@ takes-line s held n feed is_cr is_ascii has_backslash ready found k told =
       told = subst Tells (sym whole) told;
     }
 
+-- the scanner after a line and its line end
+abbrev after_line_end : Scanner → ℕ → ℕ → Bool → Bool → Scanner
+after_line_end s n unit is_ascii has_backslash = record s { passed = s.passed + 1; at = s.at + n + unit; line = line_at s n is_ascii has_backslash }
+
+-- what is known where a line is taken
+pub record IsTaken (s : Scanner) (held : List ℕ) (end : LineEnd) (unit : ℕ) (is_ascii has_backslash : Bool) : Type 0 where
+  pub ready : IsReady s held
+  pub nothing : s.searched ≡ 0
+  pub found : IsFirstLineEnd (encoding_of s.encoding) (drop s.at held) end
+  pub size : unit ≡ unit_size (encoding_of s.encoding)
+  pub ascii : (is_ascii ≡ true) ↔ (unit ≡ 1) × IsAscii (take end.at (drop s.at held))
+  pub backslash : has_backslash ≡ holds_backslash (take end.at (drop s.at held))
+
+takes : (s : Scanner) (held : List ℕ) (end : LineEnd) (unit feed : ℕ) (front : Front) (is_ascii has_backslash : Bool)
+    → IsTaken s held end unit is_ascii has_backslash
+    → let after = drop (s.at + end.at + unit) held in
+    (r : Tail (encoding_of s.encoding) after) → end.is_cr ≡ is_cr_of r → front ≡ front_at r → feed ≡ feed_at r
+    → TakesLine s held (record s { front = front; passed = s.passed + 1; at = s.at + end.at + unit + feed; line = line_at s end.at is_ascii has_backslash })
+takes s held end unit feed front is_ascii has_backslash h r cr at-front at-feed =
+    let e = encoding_of s.encoding in
+    let line = line_at s end.at is_ascii has_backslash in
+    let First : Bool → Type 0 = λ v. IsFirstLineEnd e (drop s.at held) (record { at = end.at; is_cr = v }) in
+    let Ascii : ℕ → Type 0 = λ m. (is_ascii ≡ true) ↔ (m ≡ 1) × IsAscii (take end.at (drop s.at held)) in
+    let told : IsTold e (take end.at (drop s.at held)) line = record { ascii = subst Ascii h.size h.ascii; backslash = h.backslash } in
+    let done = takes-line s held end.at unit is_ascii has_backslash r h.ready (subst First cr h.found) h.size told in
+    let P : Front → ℕ → ℕ → Type 0 = λ f m n. TakesLine s held (record s { front = f; passed = s.passed + 1; at = s.at + end.at + unit + m; searched = n; line = line }) in
+    let fed : P (front_at r) feed 0 = subst (λ m. P (front_at r) m 0) (sym at-feed) done in
+    let fronted : P front feed 0 = subst (λ f. P f feed 0) (sym at-front) fed in
+    subst (λ n. P front feed n) (sym h.nothing) fronted
+
+-- up to a line end that is an LF
+pub takes-lf : (s : Scanner) (held : List ℕ) (end : LineEnd) (unit : ℕ) (is_ascii has_backslash : Bool) → IsTaken s held end unit is_ascii has_backslash → end.is_cr ≡ false
+    → TakesLine s held (after_line_end s end.at unit is_ascii has_backslash)
+takes-lf s held end unit is_ascii has_backslash h lf =
+    let same : s.at + end.at + unit + 0 ≡ s.at + end.at + unit = omega arith in
+    let P : ℕ → Type 0 = λ m. TakesLine s held (record s { passed = s.passed + 1; at = m; line = line_at s end.at is_ascii has_backslash }) in
+    subst P same (takes s held end unit 0 s.front is_ascii has_backslash h of_lf lf h.ready.settled refl)
+
+-- or a CR, with the LF after it
+pub takes-cr : (s new : Scanner) (held : List ℕ) (end : LineEnd) (unit : ℕ) (is_ascii has_backslash passed : Bool) → IsTaken s held end unit is_ascii has_backslash
+    → end.is_cr ≡ true → PassesFeed (after_line_end s end.at unit is_ascii has_backslash) held false passed new → TakesLine s held new
+takes-cr s new held end unit is_ascii has_backslash true h cr k =
+    let e = encoding_of s.encoding in
+    let after = drop (s.at + end.at + unit) held in
+    let P : Scanner → Type 0 = λ v. TakesLine s held v in
+    subst P (sym k.1) (elim (cases_Bool (begins_with_lf (units e after))) [
+      | inl b ↦ takes s held end unit (feed_size e after) s.front is_ascii has_backslash h (of_crlf b) cr h.ready.settled (rw b refl)
+      | inr b ↦ takes s held end unit (feed_size e after) s.front is_ascii has_backslash h (of_cr b (k.0 refl)) cr h.ready.settled (rw b refl)
+    ])
+takes-cr s new held end unit is_ascii has_backslash false h cr k =
+    let same : s.at + end.at + unit + 0 ≡ s.at + end.at + unit = omega arith in
+    let P : Scanner → Type 0 = λ v. TakesLine s held v in
+    let Q : ℕ → Type 0 = λ m. TakesLine s held (record s { front = Feed; passed = s.passed + 1; at = m; line = line_at s end.at is_ascii has_backslash }) in
+    subst P (sym k.2) (subst Q same (takes s held end unit 0 Feed is_ascii has_backslash h (of_last_cr k.1) cr refl refl))
+
 -- ---- where a unit is one byte
-
--- the bytes are those of a character
-pub byte-first : (e : Encoding) (bytes : List ℕ) (c : ℕ) → unit_size e ≡ 1 → 0 < length bytes → get_or bytes 0 0 ≡ c → bytes ≡ ascii_bytes e c ++ drop 1 bytes
-byte-first e [] c size h is = absurd (omega arith)
-byte-first e (b ∷ bytes) c size h is = ap (λ v. v ∷ bytes) is ∙ ap (λ v. v ++ bytes) (sym (one-byte e c size))
-
-byte-units : (e : Encoding) (bytes : List ℕ) → unit_size e ≡ 1 → units e bytes ≡ bytes
-byte-units windows_1252 bytes size = refl
-byte-units utf_8 bytes size = refl
-byte-units utf_16le bytes size = absurd (omega (arith, size))
-byte-units utf_16be bytes size = absurd (omega (arith, size))
-
-no-feed : (bytes : List ℕ) → (get_or bytes 0 0 == line_feed) ≡ false → begins_with_lf bytes ≡ false
-no-feed [] h = refl
-no-feed (b ∷ bytes) h = h
-
-abbrev pub fed : Scanner → ℕ → Front → Scanner
-fed s count front = record s { front = front; at = s.at + count }
-
-passes : (s : Scanner) (held : List ℕ) (feed : ℕ) (few : Bool) → nat_lt (length (drop s.at held)) 1 ≡ few → IsFeedByte true (drop s.at held) feed
-    → PassesFeed s held (fed s feed (front_after true few))
-passes s held feed few h is = record { feed = feed; is = is; same = ap (λ v. fed s feed (front_after true v)) (sym h) }
-
-some-left : (s : Scanner) (held : List ℕ) → s.at < length held → nat_lt (length (drop s.at held)) 1 ≡ false
-some-left s held h = enough (length (drop s.at held)) 1 1 refl (omega (arith, h, length-drop s.at held))
-
-first-left : (s : Scanner) (held : List ℕ) → get_or (drop s.at held) 0 0 ≡ get_or held s.at 0
-first-left s held = let place : s.at + 0 ≡ s.at = omega arith in get_or-drop s.at held 0 0 ∙ ap (λ n. get_or held n 0) place
-
--- an LF is passed
-pub passes-feed : (s : Scanner) (held : List ℕ) → s.at < length held → s.front ≡ Nothing → get_or held s.at 0 ≡ line_feed → PassesFeed s held (fed s 1 s.front)
-passes-feed s held h settled is =
-    let bytes = drop s.at held in
-    let some : 0 < length bytes = omega (arith, h, length-drop s.at held) in
-    let first : get_or bytes 0 0 ≡ line_feed = first-left s held ∙ is in
-    let P : Front → Type 0 = λ v. PassesFeed s held (fed s 1 v) in
-    subst P (sym settled) (passes s held 1 false (some-left s held h) (λ e size. stands refl (sym size) some (byte-first e bytes line_feed size some first)))
-
--- another byte isn't
-pub passes-none : (s : Scanner) (held : List ℕ) → s.at < length held → s.front ≡ Nothing → (get_or held s.at 0 == line_feed) ≡ false → PassesFeed s held s
-passes-none s held h settled is =
-    let bytes = drop s.at held in
-    let first : (get_or bytes 0 0 == line_feed) ≡ false = ap (λ b. b == line_feed) (first-left s held) ∙ is in
-    let P : Front → Type 0 = λ v. PassesFeed s held (fed s 0 v) in
-    let Q : ℕ → Type 0 = λ n. PassesFeed s held (record s { at = n }) in
-    let same : s.at + 0 ≡ s.at = omega arith in
-    subst Q same (subst P (sym settled)
-    (passes s held 0 false (some-left s held h) (λ e size. none refl (λ cr. ap begins_with_lf (byte-units e bytes size) ∙ no-feed bytes first))))
 
 -- before the first byte that ends a line
 clear-nowhere : (bytes : List ℕ) (n : ℕ) → n < length bytes → All (λ b. is_line_end b ≡ false) (take n bytes) → Nowhere (Passes is_line_end bytes) 0 n
@@ -292,62 +309,16 @@ clear-nowhere bytes n within clear k low high e = absurd (cc (before k high, e))
         let one = All-get_or (λ b. is_line_end b ≡ false) (take n bytes) k 0 (omega (arith, h, length-take-le n bytes (omega (arith, within)))) clear in
         subst (λ b. is_line_end b ≡ false) (get_or-take n bytes k 0 h) one
 
-takes-byte : (s : Scanner) (held : List ℕ) (n feed : ℕ) (is_cr is_ascii has_backslash : Bool) → IsReady s held → IsFresh s → IsBefore (drop s.at held) n is_ascii
-    → has_backslash ≡ holds_backslash (take n (drop s.at held)) → is_line_end (get_or (drop s.at held) n 0) ≡ true → (get_or (drop s.at held) n 0 == carriage_return) ≡ is_cr
-    → IsFeed (encoding_of s.encoding) is_cr (drop (s.at + n + 1) held) feed
-    → TakesLine s held (record s {
-      front = front_after is_cr (nat_lt (length (drop (s.at + n + 1) held)) 1);
-      passed = s.passed + 1;
-      at = s.at + n + 1 + feed;
-      line = line_at s n is_ascii has_backslash;
-    })
-takes-byte s held n feed is_cr is_ascii has_backslash ready fresh before holds ends is k =
-    let e = encoding_of s.encoding in
-    let bytes = drop s.at held in
-    let line = line_at s n is_ascii has_backslash in
-    let nowhere = clear-nowhere bytes n before.within before.clear in
-    let First : Bool → Type 0 = λ v. IsFirstLineEnd e bytes (record { at = n; is_cr = v }) in
-    let found = subst First is
-    (found-byte e bytes 0 n fresh.size (nothing_searched e bytes) (record { low = omega arith; high = before.within; before = nowhere }) ends) in
-    let told : IsTold e (take n bytes) line = record {
-      ascii = (λ t. (fresh.size, IsAscii-from_all (take n bytes) (before.ascii.0 t)), λ h. before.ascii.1 (All-from_ascii (take n bytes) h.1));
-      backslash = holds;
-    } in
-    let P : ℕ → Type 0 = λ size. IsFeed e is_cr (drop (s.at + n + size) held) feed
-    → TakesLine s held (taken s (front_after is_cr (nat_lt (length (drop (s.at + n + size) held)) size)) (s.at + n + size + feed) line) in
-    let takes = subst P fresh.size (λ f. takes-line s held n feed is_cr is_ascii has_backslash ready found f told) k in
-    let Q : ℕ → Type 0 = λ m. TakesLine s held (record s {
-      front = front_after is_cr (nat_lt (length (drop (s.at + n + 1) held)) 1);
-      passed = s.passed + 1;
-      at = s.at + n + 1 + feed;
-      searched = m;
-      line = line;
-    }) in
-    subst Q (sym fresh.nothing) takes
+-- the first byte that ends a line is the first line end
+pub found-end : (e : Encoding) (bytes : List ℕ) (n : ℕ) → unit_size e ≡ 1 → n < length bytes → All (λ b. is_line_end b ≡ false) (take n bytes)
+    → is_line_end (get_or bytes n 0) ≡ true → IsFirstLineEnd e bytes (record { at = n; is_cr = get_or bytes n 0 == carriage_return })
+found-end e bytes n size within clear ends =
+    found-byte e bytes 0 n size (nothing_searched e bytes) (record { low = omega arith; high = within; before = clear-nowhere bytes n within clear }) ends
 
--- up to a line end that is a CR
-pub takes-cr : (s new : Scanner) (held : List ℕ) (n : ℕ) (is_ascii has_backslash : Bool) → IsReady s held → IsFresh s → IsBefore (drop s.at held) n is_ascii
-    → has_backslash ≡ holds_backslash (take n (drop s.at held)) → is_line_end (get_or (drop s.at held) n 0) ≡ true → get_or held (s.at + n) 0 ≡ carriage_return
-    → PassesFeed (record s { passed = s.passed + 1; at = s.at + n + 1; line = line_at s n is_ascii has_backslash }) held new → TakesLine s held new
-takes-cr s new held n is_ascii has_backslash ready fresh before holds ends is passes =
-    let c = get_or (drop s.at held) n 0 in
-    let cr : (c == carriage_return) ≡ true = eq-eqb c carriage_return (get_or-drop s.at held n 0 ∙ is) in
-    let P : Scanner → Type 0 = λ v. TakesLine s held v in
-    subst P (sym passes.same)
-    (takes-byte s held n passes.feed true is_ascii has_backslash ready fresh before holds ends cr (passes.is (encoding_of s.encoding) fresh.size))
-
--- or isn't
-pub takes-lf : (s : Scanner) (held : List ℕ) (n : ℕ) (is_ascii has_backslash : Bool) → IsReady s held → IsFresh s → IsBefore (drop s.at held) n is_ascii
-    → has_backslash ≡ holds_backslash (take n (drop s.at held)) → is_line_end (get_or (drop s.at held) n 0) ≡ true → (get_or held (s.at + n) 0 ≡ carriage_return → ⊥)
-    → TakesLine s held (record s { passed = s.passed + 1; at = s.at + n + 1; line = line_at s n is_ascii has_backslash })
-takes-lf s held n is_ascii has_backslash ready fresh before holds ends not_cr =
-    let c = get_or (drop s.at held) n 0 in
-    let lf : (c == carriage_return) ≡ false = ne_eqb c carriage_return (λ e. not_cr (sym (get_or-drop s.at held n 0) ∙ e)) in
-    let takes = takes-byte s held n 0 false is_ascii has_backslash ready fresh before holds ends lf (none refl (λ e. absurd (cc e))) in
-    let P : Front → Type 0 = λ v. TakesLine s held (record s { front = v; passed = s.passed + 1; at = s.at + n + 1 + 0; line = line_at s n is_ascii has_backslash }) in
-    let Q : ℕ → Type 0 = λ m. TakesLine s held (record s { passed = s.passed + 1; at = m; line = line_at s n is_ascii has_backslash }) in
-    let same : s.at + n + 1 + 0 ≡ s.at + n + 1 = omega arith in
-    subst Q same (subst P (sym ready.settled) takes)
+-- and the bytes before it are told
+pub told-ascii : (bytes : List ℕ) (n unit : ℕ) (is_ascii : Bool) → unit ≡ 1 → (is_ascii ≡ true) ↔ All (λ b. b < 0x80) (take n bytes)
+    → (is_ascii ≡ true) ↔ (unit ≡ 1) × IsAscii (take n bytes)
+told-ascii bytes n unit is_ascii size h = (λ t. (size, IsAscii-from_all (take n bytes) (h.0 t)), λ k. h.1 (All-from_ascii (take n bytes) k.1))
 
 -- ---- sixteen bytes at once
 
@@ -441,7 +412,7 @@ searches-on s new held at false h = record { none = h.none; same = h.same }
 -- ---- after a backslash
 
 -- where a line ends after it
-pub past-escape : (bytes : List ℕ) (from at : ℕ) → from ≤ at → get_or bytes from 0 ≡ backslash → is_line_end (get_or bytes at 0) ≡ true → from < at
+past-escape : (bytes : List ℕ) (from at : ℕ) → from ≤ at → get_or bytes from 0 ≡ backslash → is_line_end (get_or bytes at 0) ≡ true → from < at
 past-escape bytes from at le escaped ends = elim (cases_lt from at) [
   | inl h ↦ h
   | inr h ↦
@@ -451,14 +422,21 @@ past-escape bytes from at le escaped ends = elim (cases_lt from at) [
 ]
 
 -- it is of the line
-pub holds-escape : (bytes : List ℕ) (from at : ℕ) → from < at → at ≤ length bytes → get_or bytes from 0 ≡ backslash → true ≡ holds_backslash (take at bytes)
+holds-escape : (bytes : List ℕ) (from at : ℕ) → from < at → at ≤ length bytes → get_or bytes from 0 ≡ backslash → true ≡ holds_backslash (take at bytes)
 holds-escape bytes from at low within escaped =
     let here : get_or (take at bytes) from 0 ≡ backslash = get_or-take at bytes from 0 low ∙ escaped in
     sym (one-holds (take at bytes) from (omega (arith, low, length-take-le at bytes within)) (eq-eqb (get_or (take at bytes) from 0) backslash here))
 
+-- up to the line end after it
+pub told-escaped : (bytes : List ℕ) (from : ℕ) (found : Result (ℕ × Bool) ℕ) → FindsByte is_line_end bytes found → IfOk found (λ end. from ≤ end.0)
+    → get_or bytes from 0 ≡ backslash → IfOk found (λ end. true ≡ holds_backslash (take end.0 bytes))
+told-escaped bytes from (Ok end) h le escaped =
+    holds-escape bytes from end.0 (past-escape bytes from end.0 le escaped h.2) (omega (arith, h.1)) escaped
+told-escaped bytes from (Err searched) h le escaped = tt
+
 -- ---- before the first byte that ends a plain text
 
-pub plain-clear : (text : List ℕ) → All (λ b. is_plain_end b ≡ false) text → All (λ b. is_line_end b ≡ false) text
+plain-clear : (text : List ℕ) → All (λ b. is_plain_end b ≡ false) text → All (λ b. is_line_end b ≡ false) text
 plain-clear text h = All-weaker (λ b. is_plain_end b ≡ false) (λ b. is_line_end b ≡ false) (λ b e. (or_parts (is_line_end b) (b == backslash) e).0) text h
 
 pub plain-unescaped : (text : List ℕ) → All (λ b. is_plain_end b ≡ false) text → holds_backslash text ≡ false
@@ -466,3 +444,20 @@ plain-unescaped [] h = refl
 plain-unescaped (b ∷ text) h =
     let first = or_parts (is_line_end b) (b == backslash) (All-head (λ b. is_plain_end b ≡ false) b text h) in
     or_from (b == backslash) (holds_backslash text) first.1 (plain-unescaped text (All-tail (λ b. is_plain_end b ≡ false) b text h))
+
+pub plain-before : (bytes : List ℕ) (n : ℕ) (is_ascii : Bool) → IsBefore is_plain_end bytes n is_ascii → IsBefore is_line_end bytes n is_ascii
+plain-before bytes n is_ascii h = record { within = h.within; clear = plain-clear (take n bytes) h.clear; ascii = h.ascii }
+
+-- where it isn't a backslash, it ends the line
+pub plain-found : (bytes : List ℕ) (n : ℕ) (is_ascii : Bool) → FindsByte is_plain_end bytes (Ok (n, is_ascii)) → (get_or bytes n 0 ≡ backslash → ⊥)
+    → FindsByte is_line_end bytes (Ok (n, is_ascii))
+plain-found bytes n is_ascii h other =
+    let b = get_or bytes n 0 in
+    let either : (is_line_end b || (b == backslash)) ≡ true = h.2 in (
+      plain-before bytes n is_ascii h.0,
+      h.1,
+      elim (cases_Bool (is_line_end b)) [
+        | inl ends ↦ ends
+        | inr none ↦ absurd (other (eqb-true b backslash (subst (λ v. (v || (b == backslash)) ≡ true) none either)))
+      ],
+    )

@@ -7,7 +7,6 @@ use Rattle.properties_format.specs.Encoding.{Encoding, InForce}
 use Rattle.properties_format.specs.Lines.{more}
 use Rattle.properties_format.specs.Cut.{HoldsNoLineEndUnit}
 use Rattle.properties_format.specs.Reading.Cut.{decoded_line}
-use Rattle.properties_format.specs.Reading.ItemsToCome.{natural_to_come}
 use Rattle.properties_format.specs.Reading.ReaderSteps.{HoldsNoEnd}
 use Rattle.properties_format.proofs.ItemsToCome.Lines.{natural-more}
 use Rattle.properties_text.specs.Encoding.{encoding_of}
@@ -171,9 +170,3 @@ pub asks-for_more : (old mid new : Scanner) (held : List ℕ) → Fits old held 
 asks-for_more old mid new held f g n h k =
     let P : Scanner → Type 0 = λ v. AsksForMore old held v in
     subst P (sym k.same) (more-of old mid held f g n h (no-end g h k))
-
--- ---- what is told is exact
-
--- More bytes are never asked for where a line end is held.
-pub line-not-more : (old new : Scanner) (held : List ℕ) → GivesLine old held false new → natural_to_come (standing old held) [] more ≡ [] → ⊥
-line-not-more old new held g nothing = let first = (g.comes.gives [] more tt).natural in cc

@@ -2,12 +2,11 @@
 --
 -- A scanner holds no bytes. With the bytes that its caller holds it stands where a reader does, and the format says what
 -- comes there.
-use Rattle.std.specs.Prelude.{◌≡◌, ◌≢◌, ◌⊎◌, ◌↔◌, ℕ, ◌+◌, ◌-◌, ◌^◌, ◌<◌, ◌≤◌, nat_lt, Bool, true, false, if◌then◌else◌, List, [], ◌∷◌, ◌++◌, take, drop, length, Option, Some, None}
+use Rattle.std.specs.Prelude.{◌≡◌, ◌≢◌, ◌⊎◌, ◌↔◌, ℕ, ◌+◌, ◌-◌, ◌^◌, ◌<◌, ◌≤◌, Bool, true, false, if◌then◌else◌, List, [], ◌∷◌, ◌++◌, take, drop, length, get_or, Option, Some, None, Result, Ok, Err}
 use Rattle.std.specs.List.{All}
 use Rattle.std.specs.Str.{IsAscii}
 use Rattle.properties_format.specs.Text as text
-use Rattle.properties_format.specs.Text.{line_feed, is_line_end}
-use Rattle.properties_format.specs.Encoding.{Encoding, InForce, IsAligned, ascii_bytes, byte_order_mark}
+use Rattle.properties_format.specs.Encoding.{Encoding, InForce, IsAligned, byte_order_mark}
 use Rattle.properties_format.specs.Lines as format
 use Rattle.properties_format.specs.Lines.{InputEnd, end, more}
 use Rattle.properties_format.specs.Cut.{units, HoldsNoLineEndUnit, line_ending_bytes}
@@ -170,14 +169,18 @@ abbrev pub Settles : Scanner → List ℕ → Bool → Bool → Scanner → Type
 Settles old held ended true new = IsAlike old held ended new
 Settles old held ended false new = (ended ≡ false) × (new ≡ old) × (natural_to_come (standing old held) [] more ≡ []) × (old.front ≢ Nothing)
 
--- An LF is at the front, of so many bytes; or none is, as far as can be known.
-pub data TellsSize (e : Encoding) (held : List ℕ) (ended : Bool) (count : ℕ) : Type 0 where
-  stands : count ≤ length held → held ≡ ascii_bytes e line_feed ++ drop count held → TellsSize e held ended count
-  none : count ≡ 0 → begins_with_lf (units e held) ≡ false → (ended ≡ false → unit_size e ≤ length held) → TellsSize e held ended count
+-- how many bytes an LF at the front has, or none where others stand there
+abbrev pub feed_size : Encoding → List ℕ → ℕ
+feed_size e d = if begins_with_lf (units e d) then unit_size e else 0
 
-abbrev pub TellsFeed : Encoding → List ℕ → Bool → Option ℕ → Type 0
-TellsFeed e held ended (Some count) = TellsSize e held ended count
-TellsFeed e held ended None = (ended ≡ false) × (length held < unit_size e)
+-- An LF, which belongs to the CR before, is passed where it is there; or more bytes decide whether it comes, and the scanner
+-- waits for it.
+abbrev pub PassesFeed : Scanner → List ℕ → Bool → Bool → Scanner → Type 0
+PassesFeed old held ended true new =
+    (ended ≡ false → unit_size (encoding_of old.encoding) ≤ length (drop old.at held))
+    × (new ≡ record old { at = old.at + feed_size (encoding_of old.encoding) (drop old.at held) })
+PassesFeed old held ended false new =
+    (ended ≡ false) × (length (drop old.at held) < unit_size (encoding_of old.encoding)) × (new ≡ record old { front = Feed })
 
 -- ---- the search
 
@@ -221,34 +224,17 @@ pub record TakesLast (old : Scanner) (held : List ℕ) (new : Scanner) : Type 0 
   pub ends : new.line.end ≡ length held
   pub told : IsTold (encoding_of old.encoding) (drop old.at held) new.line
 
--- No byte before this place, which is among the bytes, ends a line; and whether they are ASCII.
-pub record IsBefore (bytes : List ℕ) (at : ℕ) (is_ascii : Bool) : Type 0 where
-  pub within : at < length bytes
-  pub clear : All (λ b. is_line_end b ≡ false) (take at bytes)
+-- No byte before this place passes the test; and whether they are ASCII.
+pub record IsBefore (test : ℕ → Bool) (bytes : List ℕ) (at : ℕ) (is_ascii : Bool) : Type 0 where
+  pub within : at ≤ length bytes
+  pub clear : All (λ b. test b ≡ false) (take at bytes)
   pub ascii : (is_ascii ≡ true) ↔ All (λ b. b < 0x80) (take at bytes)
 
--- ---- line ends
-
--- what may stand before the line after a line end
-abbrev pub front_after : Bool → Bool → Front
-front_after true true = Feed
-front_after true false = Nothing
-front_after false is_last = Nothing
-
--- An LF of so many bytes stands after a line end that is a CR; or none does that belongs to it.
-pub data IsFeed (e : Encoding) (is_cr : Bool) (after : List ℕ) (feed : ℕ) : Type 0 where
-  stands : is_cr ≡ true → feed ≡ unit_size e → feed ≤ length after → after ≡ ascii_bytes e line_feed ++ drop feed after → IsFeed e is_cr after feed
-  none : feed ≡ 0 → (is_cr ≡ true → begins_with_lf (units e after) ≡ false) → IsFeed e is_cr after feed
-
--- where a unit is one byte
-abbrev pub IsFeedByte : Bool → List ℕ → ℕ → Type 0
-IsFeedByte is_cr after feed = (e : Encoding) → unit_size e ≡ 1 → IsFeed e is_cr after feed
-
--- The scanner, which stands after a CR of one byte, passed the LF that belongs to it.
-pub record PassesFeed (old : Scanner) (held : List ℕ) (new : Scanner) : Type 0 where
-  pub feed : ℕ
-  pub is : IsFeedByte true (drop old.at held) feed
-  pub same : new ≡ record old { front = front_after true (nat_lt (length (drop old.at held)) 1); at = old.at + feed }
+-- The first byte that passes the test stands at this place, and whether those before it are ASCII; or none stands before this
+-- place.
+abbrev pub FindsByte : (ℕ → Bool) → List ℕ → Result (ℕ × Bool) ℕ → Type 0
+FindsByte test bytes (Ok found) = IsBefore test bytes found.0 found.1 × (found.0 < length bytes) × (test (get_or bytes found.0 0) ≡ true)
+FindsByte test bytes (Err searched) = (searched ≤ length bytes) × All (λ b. test b ≡ false) (take searched bytes)
 
 -- more bytes decide whether a byte order mark is there
 abbrev pub is_undecided : ByteOrderMark → Bool

@@ -1,18 +1,18 @@
 //! Natural lines among bytes that the caller holds. It reads nothing, takes no memory and can't fail.
 
-ghost use Rattle.std.specs.Prelude.{List, ℕ, ◌≡◌, ◌↔◌, ◌+◌, ◌-◌, ◌≤◌, true, false, [], length, take, drop, get_or};
+ghost use Rattle.std.specs.Prelude.{List, ℕ, ◌≡◌, ◌↔◌, ◌+◌, ◌-◌, ◌<◌, ◌≤◌, ◌^◌, true, false, [], length, take, drop, get_or, IfOk};
 ghost use Rattle.std.specs.Str.{IsAscii};
-ghost use Rattle.byte_blocks.specs.Classes.{is_plain_end};
-ghost use Rattle.properties_format.specs.Text.{backslash, is_line_end, line_feed};
-ghost use Rattle.properties_format.specs.Encoding.{ascii_bytes};
+ghost use Rattle.properties_format.specs.Text.{backslash, is_line_end};
+ghost use Rattle.properties_format.specs.Cut.{units};
+ghost use Rattle.properties_format.specs.Reading.Lines.{begins_with_lf};
 ghost use Rattle.properties_format.specs.ItemsToCome.{start};
 ghost use Rattle.properties_format.specs.Reading.ReaderSteps.{after_decided};
 ghost use Rattle.properties_text.specs.Encoding.{encoding_of};
 ghost use Rattle.properties_text.specs.Decoding.{TellsBom};
 ghost use Rattle.properties_text.specs.Escaping.{holds_backslash};
 ghost use Rattle.properties_lines.specs.LineSearch.{unit_size, IsFirstLineEnd};
-ghost use Rattle.properties_lines.specs.Scanner.{Fits, Scans, Settles, IsReady, IsFresh, IsBefore, Searches, TakesLine, TakesLast, PassesFeed, IsTold, IsFeed, TellsFeed, standing, front_after, is_undecided};
-ghost use Rattle.properties_lines.specs.declared.scanner.Front.TheVariants.{Mark, Feed, Nothing};
+ghost use Rattle.properties_lines.specs.Scanner.{Fits, Scans, Settles, PassesFeed, IsReady, IsFresh, IsBefore, FindsByte, Searches, TakesLine, TakesLast, standing, is_undecided};
+ghost use Rattle.properties_lines.specs.declared.scanner.Front.TheVariants.{Mark, Nothing};
 
 use crate::search::{LineEnd, find_line_end, unit_size, whole_units};
 use byte_blocks::{ByteClass, LineEnds, PastAscii, PlainEnds};
@@ -216,7 +216,10 @@ impl Scanner {
         match self.front {
             Front::Nothing => true,
             Front::Mark => self.decide(held, ended),
-            Front::Feed => self.pass_feed(held, ended),
+            Front::Feed => {
+                self.front = Front::Nothing;
+                self.pass_feed(held, unit_size(self.encoding), ended)
+            }
         }
     }
 
@@ -251,17 +254,21 @@ impl Scanner {
         self.front = Front::Nothing;
     }
 
-    fn pass_feed(&mut self, held: &[u8], ended: bool) -> bool
-        requires fits { Fits self.old held.now }
-        requires live { self.old.is_done ≡ false }
-        requires feed { self.old.front ≡ Feed }
-        ensures { Settles self.old held.now ended result self.new }
+    // Passes the LF that belongs to a CR before, unless more bytes decide whether it comes.
+    #[inline(always)]
+    fn pass_feed(&mut self, held: &[u8], unit: usize, ended: bool) -> bool
+        requires within { self.old.at ≤ length held.now }
+        requires unit { unit ≡ unit_size (encoding_of self.old.encoding) }
+        ensures { PassesFeed self.old held.now ended result self.new }
     {
-        let Some(count) = feed_size(self.encoding, &held[self.at..], ended) else {
+        let after = &held[self.at..];
+        if after.len() < unit && !ended {
+            self.front = Front::Feed;
             return false;
-        };
-        self.at += count;
-        self.front = Front::Nothing;
+        }
+        if begins_with_feed(self.encoding, unit, after) {
+            self.at += unit;
+        }
         true
     }
 
@@ -279,7 +286,7 @@ impl Scanner {
         }
     }
 
-    // Searches a line from its start on, where a unit is one byte, sixteen bytes at once.
+    // Searches a line from its start on, where a unit is one byte.
     #[inline(always)]
     fn search_bytes(&mut self, held: &[u8]) -> bool
         requires ready { IsReady self.old held.now }
@@ -289,40 +296,15 @@ impl Scanner {
         let bytes = &held[self.at..];
         // The processor foresees this branch, so it needn't wait for a blank line's end to go on with the next line.
         if !bytes.is_empty() && is_line_end(char::from(bytes[0])) {
-            self.take(held, 0, true, false);
-            return true;
+            return self.take_found(held, Ok((0, true)), false);
         }
-        let mut at = 0;
-        let mut is_ascii = true;
-        while bytes.len() - at >= 16 {
-            let v = u8x16::from_slice(&bytes[at..]);
-            let past = PastAscii::marks(v);
-            if let Some(first) = PlainEnds::marks(v).first() {
-                let is_ascii = is_ascii && past.is_clear_before(first);
-                return self.take_plain(held, at + first, is_ascii);
-            }
-            is_ascii = is_ascii && past.is_clear();
-            at += 16;
+        match search_blocks::<PlainEnds>(bytes, 0, true) {
+            Ok((size, is_ascii)) if bytes[size] == b'\\' => self.search_escaped(
+                held, size, is_ascii,
+            ),
+            Ok(end) => self.take_found(held, Ok(end), false),
+            Err(searched) => self.take_found(held, Err(searched), false),
         }
-        self.searched = at;
-        self.search_on(held)
-    }
-
-    // Takes the line whose end is at this place, or searches on where a backslash stands there.
-    #[inline(always)]
-    fn take_plain(&mut self, held: &[u8], size: usize, is_ascii: bool) -> bool
-        requires ready { IsReady self.old held.now }
-        requires fresh { IsFresh self.old }
-        requires before { IsBefore (drop self.old.at held.now) size is_ascii }
-        requires unescaped { holds_backslash (take size (drop self.old.at held.now)) ≡ false }
-        requires stops { is_plain_end (get_or (drop self.old.at held.now) size 0) ≡ true }
-        ensures { Searches self.old held.now result self.new }
-    {
-        if !is_line_end(char::from(held[self.at + size])) {
-            return self.search_escaped(held, size, is_ascii);
-        }
-        self.take(held, size, is_ascii, false);
-        true
     }
 
     // Searches a line on from its first backslash, where a unit is one byte.
@@ -330,63 +312,40 @@ impl Scanner {
     fn search_escaped(&mut self, held: &[u8], from: usize, is_ascii_before: bool) -> bool
         requires ready { IsReady self.old held.now }
         requires fresh { IsFresh self.old }
-        requires before { IsBefore (drop self.old.at held.now) from is_ascii_before }
+        requires before { IsBefore is_line_end (drop self.old.at held.now) from is_ascii_before }
         requires escaped { get_or (drop self.old.at held.now) from 0 ≡ backslash }
         ensures { Searches self.old held.now result self.new }
     {
         let bytes = &held[self.at..];
-        let mut at = from;
-        let mut is_ascii = is_ascii_before;
-        while bytes.len() - at >= 16 {
-            let v = u8x16::from_slice(&bytes[at..]);
-            let count = LineEnds::marks(v).front();
-            is_ascii = is_ascii && PastAscii::marks(v).is_clear_before(count);
-            at += count;
-            if count < 16 {
-                self.take(held, at, is_ascii, true);
-                return true;
-            }
-        }
-        self.searched = at;
-        self.search_on(held)
+        let found = search_blocks::<LineEnds>(bytes, from, is_ascii_before);
+        self.take_found(held, found, true)
     }
 
-    // Takes a line of so many bytes, where a unit is one byte.
+    // Takes the line up to the end that was found, or searches on, where a unit is one byte.
     #[inline(always)]
-    fn take(&mut self, held: &[u8], size: usize, is_ascii: bool, has_backslash: bool)
+    fn take_found(
+        &mut self,
+        held: &[u8],
+        found: Result<(usize, bool), usize>,
+        has_backslash: bool,
+    ) -> bool
         requires ready { IsReady self.old held.now }
         requires fresh { IsFresh self.old }
-        requires before { IsBefore (drop self.old.at held.now) size is_ascii }
-        requires told { has_backslash ≡ holds_backslash (take size (drop self.old.at held.now)) }
-        requires ends { is_line_end (get_or (drop self.old.at held.now) size 0) ≡ true }
-        ensures { TakesLine self.old held.now self.new }
+        requires found { FindsByte is_line_end (drop self.old.at held.now) found }
+        requires told { IfOk found (λ end. has_backslash ≡ holds_backslash (take end.0 (drop self.old.at held.now))) }
+        ensures { Searches self.old held.now result self.new }
     {
-        let start = self.at;
-        let end = start + size;
-        self.line = RawLine {
-            start,
-            end,
-            is_ascii,
-            has_backslash,
-        };
-        self.passed += 1;
-        self.at = end + 1;
-        if held[end] == b'\r' {
-            self.pass_byte_feed(held);
-        }
-    }
-
-    // Passes the LF that belongs to a CR before, where a unit is one byte.
-    #[inline(always)]
-    fn pass_byte_feed(&mut self, held: &[u8])
-        requires within { self.old.at ≤ length held.now }
-        requires settled { self.old.front ≡ Nothing }
-        ensures { PassesFeed self.old held.now self.new }
-    {
-        if self.at == held.len() {
-            self.front = Front::Feed;
-        } else if held[self.at] == b'\n' {
-            self.at += 1;
+        match found {
+            Ok((size, is_ascii)) => {
+                let is_cr = held[self.at + size] == b'\r';
+                let end = LineEnd { at: size, is_cr };
+                self.take(held, end, 1, is_ascii, has_backslash);
+                true
+            }
+            Err(searched) => {
+                self.searched = searched;
+                self.search_on(held)
+            }
         }
     }
 
@@ -397,34 +356,34 @@ impl Scanner {
         ensures { Searches self.old held.now result self.new }
     {
         let bytes = &held[self.at..];
-        match find_line_end(self.encoding, bytes, self.searched) {
-            Some(end) => {
-                self.take_found(held, end);
-                true
-            }
-            None => {
-                self.searched = whole_units(self.encoding, bytes.len());
-                false
-            }
-        }
+        let Some(end) = find_line_end(self.encoding, bytes, self.searched) else {
+            self.searched = whole_units(self.encoding, bytes.len());
+            return false;
+        };
+        let line = &bytes[..end.at];
+        let unit = unit_size(self.encoding);
+        let is_ascii = is_ascii(self.encoding, line);
+        self.searched = 0;
+        self.take(held, end, unit, is_ascii, has_backslash(line));
+        true
     }
 
-    // Takes the line up to an end that was found.
-    fn take_found(&mut self, held: &[u8], found: LineEnd)
+    // Takes the line up to this line end, whose first unit has so many bytes.
+    #[inline(always)]
+    fn take(&mut self, held: &[u8], end: LineEnd, unit: usize, is_ascii: bool, has_backslash: bool)
         requires ready { IsReady self.old held.now }
-        requires found { IsFirstLineEnd (encoding_of self.old.encoding) (drop self.old.at held.now) found }
+        requires nothing { self.old.searched ≡ 0 }
+        requires found { IsFirstLineEnd (encoding_of self.old.encoding) (drop self.old.at held.now) end }
+        requires unit { unit ≡ unit_size (encoding_of self.old.encoding) }
+        requires ascii { (is_ascii ≡ true) ↔ (unit ≡ 1) × IsAscii (take end.at (drop self.old.at held.now)) }
+        requires backslash { has_backslash ≡ holds_backslash (take end.at (drop self.old.at held.now)) }
         ensures { TakesLine self.old held.now self.new }
     {
-        let start = self.at;
-        let end = start + found.at;
-        let size = unit_size(self.encoding);
-        let after = &held[end + size..];
-        let feed = feed_of(self.encoding, found.is_cr, after);
-        self.front = front_after(found.is_cr, after.len() < size);
-        self.at = end + size + feed;
-        self.passed += 1;
-        self.searched = 0;
-        self.line = raw_line(self.encoding, held, start, end);
+        let place = self.at + end.at;
+        self.pass_line(place, place + unit, is_ascii, has_backslash);
+        if end.is_cr {
+            self.pass_feed(held, unit, false);
+        }
     }
 
     // Takes the last line.
@@ -433,30 +392,62 @@ impl Scanner {
         requires { IsReady self.old held.now }
         ensures { TakesLast self.old held.now self.new }
     {
+        let line = &held[self.at..];
         let end = held.len();
-        self.line = raw_line(self.encoding, held, self.at, end);
-        self.at = end;
-        self.passed += 1;
+        let is_ascii = is_ascii(self.encoding, line);
+        self.pass_line(end, end, is_ascii, has_backslash(line));
         self.searched = 0;
         self.is_done = true;
     }
+
+    // Takes the line up to `end`. The scan goes on at `next`.
+    #[inline(always)]
+    fn pass_line(&mut self, end: usize, next: usize, is_ascii: bool, has_backslash: bool)
+        requires { self.old.passed + 1 < 2 ^ 64 }
+        ensures { self.new ≡ record self.old { passed = self.old.passed + 1; at = next; line = record { start = self.old.at; end = end; is_ascii = is_ascii; has_backslash = has_backslash } } }
+    {
+        self.line = RawLine {
+            start: self.at,
+            end,
+            is_ascii,
+            has_backslash,
+        };
+        self.passed += 1;
+        self.at = next;
+    }
 }
 
-// The line between these places.
-fn raw_line(encoding: Encoding, held: &[u8], start: usize, end: usize) -> RawLine
-    requires ordered { start ≤ end }
-    requires within { end ≤ length held.now }
-    ensures start { result.start ≡ start }
-    ensures end { result.end ≡ end }
-    ensures told { IsTold (encoding_of encoding) (take (end - start) (drop start held.now)) result }
+// The first byte of the class, found sixteen bytes at once: how many stand before it, and whether those are ASCII. Or among
+// how many there is none.
+#[inline(always)]
+fn search_blocks<C: ByteClass>(
+    bytes: &[u8],
+    from: usize,
+    is_ascii_before: bool,
+) -> Result<(usize, bool), usize>
+    requires { IsBefore C.holds bytes.now from is_ascii_before }
+    ensures finds { FindsByte C.holds bytes.now result }
+    ensures on { IfOk result (λ end. from ≤ end.0) }
 {
-    let bytes = &held[start..end];
-    RawLine {
-        start,
-        end,
-        is_ascii: is_ascii(encoding, bytes),
-        has_backslash: memchr(b'\\', bytes).is_some(),
+    let mut at = from;
+    let mut is_ascii = is_ascii_before;
+    while bytes.len() - at >= 16 {
+        let v = u8x16::from_slice(&bytes[at..]);
+        let past = PastAscii::marks(v);
+        if let Some(first) = C::marks(v).first() {
+            let is_ascii = is_ascii && past.is_clear_before(first);
+            return Ok((at + first, is_ascii));
+        }
+        is_ascii = is_ascii && past.is_clear();
+        at += 16;
     }
+    Err(at)
+}
+
+fn has_backslash(bytes: &[u8]) -> bool
+    ensures { result ≡ holds_backslash bytes.now }
+{
+    memchr(b'\\', bytes).is_some()
 }
 
 fn is_ascii(encoding: Encoding, bytes: &[u8]) -> bool
@@ -468,52 +459,17 @@ fn is_ascii(encoding: Encoding, bytes: &[u8]) -> bool
     }
 }
 
-// What may stand before the line after a line end, where it ends what is held or doesn't.
+// Whether the first unit is an LF.
 #[inline(always)]
-fn front_after(is_cr: bool, is_last: bool) -> Front
-    ensures { result ≡ front_after is_cr is_last }
+fn begins_with_feed(encoding: Encoding, unit: usize, bytes: &[u8]) -> bool
+    requires { unit ≡ unit_size (encoding_of encoding) }
+    ensures { result ≡ begins_with_lf (units (encoding_of encoding) bytes.now) }
 {
-    if is_cr && is_last {
-        Front::Feed
-    } else {
-        Front::Nothing
-    }
-}
-
-// How many bytes the LF has that stands after a CR.
-fn feed_of(encoding: Encoding, is_cr: bool, after: &[u8]) -> usize
-    ensures { IsFeed (encoding_of encoding) is_cr after.now result }
-{
-    let feed = line_feed_of(encoding);
-    if is_cr && after.starts_with(feed) {
-        feed.len()
-    } else {
-        0
-    }
-}
-
-// The bytes of an LF.
-fn line_feed_of(encoding: Encoding) -> &'static [u8]
-    ensures { result.now ≡ ascii_bytes (encoding_of encoding) line_feed }
-{
-    match encoding {
-        Encoding::WINDOWS_1252 | Encoding::UTF_8 => b"\n",
-        Encoding::UTF_16LE => b"\n\0",
-        Encoding::UTF_16BE => b"\0\n",
-    }
-}
-
-// How many bytes an LF at the front has, or none where others stand there; unless more bytes decide it.
-fn feed_size(encoding: Encoding, held: &[u8], ended: bool) -> Option<usize>
-    ensures { TellsFeed (encoding_of encoding) held.now ended result }
-{
-    let feed = line_feed_of(encoding);
-    if held.starts_with(feed) {
-        Some(feed.len())
-    } else if held.len() < feed.len() && !ended {
-        None
-    } else {
-        Some(0)
+    match (unit, encoding, bytes) {
+        (1, _, [b'\n', ..])
+        | (2, Encoding::UTF_16LE, [b'\n', 0, ..])
+        | (2, Encoding::UTF_16BE, [0, b'\n', ..]) => true,
+        _ => false,
     }
 }
 

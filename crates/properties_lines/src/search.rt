@@ -1,19 +1,14 @@
 // The search for line ends among undecoded bytes.
 
 ghost use Rattle.std.specs.Prelude.{◌≡◌, ◌≤◌, length, take};
-ghost use Rattle.memchr.specs.Find.{IsFirst, Passes};
-ghost use Rattle.properties_format.specs.Text.{is_line_end};
 ghost use Rattle.properties_format.specs.Lines.{HoldsNoLineEnd};
 ghost use Rattle.properties_text.specs.Encoding.{encoding_of};
 ghost use Rattle.properties_lines.specs.LineSearch.{unit_size, whole_units, IsSearched, IsLineEndUnit};
 ghost use Rattle.properties_lines.specs.LineSearch.{FindsLineEnd, FindsLineEndByte};
 
-use byte_blocks::{LineEnds, find_in_block};
+use byte_blocks::{LineEnds, find};
 use memchr::memchr2;
 use properties_text::encoding::Encoding;
-
-// Up to how many bytes away this search looks for a line end. Past that, a search by larger steps pays.
-const NEAR: usize = 128;
 
 /// Where a line end stands among undecoded bytes.
 #[derive(Clone, Copy, Debug, PartialEq, Eq)]
@@ -62,7 +57,8 @@ pub fn find_in_bytes(bytes: &[u8], from: usize) -> Option<LineEnd>
     requires none_before { HoldsNoLineEnd (take from bytes.now) }
     ensures { FindsLineEndByte bytes.now result }
 {
-    let at = find_end_byte(bytes, from)?;
+    let offset = memchr2(b'\n', b'\r', &bytes[from..])?;
+    let at = from + offset;
     let is_cr = bytes[at] == b'\r';
     Some(LineEnd { at, is_cr })
 }
@@ -74,32 +70,9 @@ pub fn find_in_units(encoding: Encoding, bytes: &[u8], from: usize) -> Option<Li
     requires searched { IsSearched (encoding_of encoding) bytes.now from }
     ensures { FindsLineEnd (encoding_of encoding) bytes.now result }
 {
-    let near = from + (bytes.len() - from).min(NEAR);
     let mut searched = from;
-    while near - searched >= 16 {
-        let Some(first) = find_in_block::<LineEnds>(bytes, searched) else {
-            searched += 16;
-            continue;
-        };
+    'hits: while let Some(first) = find::<LineEnds>(&bytes[searched..]) {
         let hit = searched + first;
-        let unit = hit - hit % 2;
-        if let Some(is_cr) = line_end_unit(encoding, bytes[unit], bytes[unit + 1]) {
-            return Some(LineEnd { at: unit, is_cr });
-        }
-        searched = unit + 2;
-    }
-    search_units(encoding, bytes, searched)
-}
-
-// The same, past the blocks that are near.
-#[inline(never)]
-fn search_units(encoding: Encoding, bytes: &[u8], from: usize) -> Option<LineEnd>
-    requires size { unit_size (encoding_of encoding) ≡ 2 }
-    requires searched { IsSearched (encoding_of encoding) bytes.now from }
-    ensures { FindsLineEnd (encoding_of encoding) bytes.now result }
-{
-    let mut searched = from;
-    'hits: while let Some(hit) = find_end_byte(bytes, searched) {
         let at = hit - hit % 2;
         if bytes.len() - at < 2 {
             return None;
@@ -110,31 +83,6 @@ fn search_units(encoding: Encoding, bytes: &[u8], from: usize) -> Option<LineEnd
         searched = at + 2;
     }
     None
-}
-
-// The place of the first byte like a CR or an LF, from this place on. Where it is near, and not among the last bytes, it is
-// found without a call.
-#[inline]
-fn find_end_byte(bytes: &[u8], from: usize) -> Option<usize>
-    requires { from ≤ length bytes.now }
-    ensures { IsFirst (Passes is_line_end bytes.now) from (length bytes.now) result }
-{
-    let mut at = from;
-    while at - from < NEAR && bytes.len() - at >= 16 {
-        if let Some(first) = find_in_block::<LineEnds>(bytes, at) {
-            return Some(at + first);
-        }
-        at += 16;
-    }
-    search_end_byte(bytes, at)
-}
-
-fn search_end_byte(bytes: &[u8], from: usize) -> Option<usize>
-    requires { from ≤ length bytes.now }
-    ensures { IsFirst (Passes is_line_end bytes.now) from (length bytes.now) result }
-{
-    let offset = memchr2(b'\n', b'\r', &bytes[from..])?;
-    Some(from + offset)
 }
 
 // Whether a unit of two bytes is a CR, where it is a line end.

@@ -1,5 +1,6 @@
 pub mod Bytes
 pub mod Characters
+pub mod Values
 pub mod Escapes
 pub mod Keys
 pub mod Vectors

@@ -1,8 +1,10 @@
 -- What is appended for a text, by where it stands.
-use Rattle.std.specs.Prelude.{◌≡◌, ℕ, ◌*◌, ◌≤◌, nat_lt, ◌==◌, length, take, Bool, false, if◌then◌else◌, List, [], ◌∷◌, ◌++◌, Result, OnOk}
+use Rattle.std.specs.Prelude.{◌≡◌, ℕ, ◌*◌, ◌≤◌, nat_lt, ◌==◌, length, take, Bool, false, if◌then◌else◌, List, [], ◌∷◌, ◌++◌, Option, Some, None, Result, OnOk}
 use Rattle.std.specs.Str.{chars}
 use Rattle.properties_format.specs.Printing as format
 use Rattle.properties_format.specs.Text.{tab, line_feed, form_feed, space, backslash}
+use Rattle.properties_format.specs.Encoding.{Encoding}
+use Rattle.properties_format.specs.Valued.{spelt_inside}
 use Rattle.properties_text.specs.Encoding.{output_of}
 use Rattle.properties_text.specs.declared.encoding.encode.OutputEncoding.TheVariants.{Windows1252}
 use Rattle.properties_text.specs.declared.print.Repertoire.{Repertoire}
@@ -32,6 +34,11 @@ text_bytes r place text = format.encoded_text (output_of r.encoding) (format.spe
 
 abbrev pub key_bytes : Repertoire → Bool → List ℕ → List ℕ
 key_bytes r first key = format.encoded_text (output_of r.encoding) (format.spelt_key (output_of r.encoding) r.ascii_only first key)
+
+-- a character inside a value that is set in place, where there is one
+abbrev pub held_text : Encoding → Option ℕ → List ℕ
+held_text e None = []
+held_text e (Some c) = spelt_inside e c
 
 -- ---- bytes of an output encoding
 

@@ -1,15 +1,17 @@
 //! Texts as they are printed.
 
-ghost use Rattle.std.specs.Prelude.{◌≡◌, true, ◌++◌, ◌∷◌, ◌<◌, ◌≤◌, ◌||◌, not, nat_lt, [], is_some, unwrap_or, length, IfOk, OnOk, OnErr};
+ghost use Rattle.std.specs.Prelude.{◌≡◌, true, false, ◌++◌, ◌∷◌, ◌<◌, ◌≤◌, ◌||◌, not, nat_lt, [], is_some, unwrap_or, length, IfOk, OnOk, OnErr};
 ghost use Rattle.std.specs.Str.{chars};
 ghost use Rattle.properties_format.specs.Text.{backslash};
 ghost use Rattle.properties_format.specs.Encoding.{encoded};
 ghost use Rattle.properties_format.specs.Printing.{unicode_escape, literal, spelt, spelt_text, encoded_text, is_bom_like, with_first_escaped, spelt_key, in_key_or_value, in_comment};
+ghost use Rattle.properties_format.specs.Valued.{spelt_inside, spelt_first, spelt_last, spelt_rest, spelt_value};
 ghost use Rattle.properties_text.specs.Encoding.{output_of};
 ghost use Rattle.properties_text.specs.declared.encoding.encode.OutputEncoding.TheVariants.{Windows1252};
 ghost use Rattle.properties_text.specs.declared.print.Place.TheVariants.{KeyOrValue};
-ghost use Rattle.properties_text.specs.Printing.{all_of_windows_1252, AppendsOnOk, character_bytes, text_bytes, key_bytes, spelt_byte};
+ghost use Rattle.properties_text.specs.Printing.{all_of_windows_1252, AppendsOnOk, character_bytes, text_bytes, key_bytes, spelt_byte, held_text};
 
+use crate::characters::{is_comment_sign, is_separator};
 use crate::encoding::{OutputEncoding, byte_of, encode_run, is_ascii};
 use crate::line_buffer::make_room;
 use bytes::print_bytes;
@@ -219,6 +221,128 @@ pub fn print_key(
         return print_with_first_escaped(line, repertoire, key);
     }
     print_text(line, repertoire, Place::KeyOrValue, key)
+}
+
+/// Appends the bytes of a value as people lay it out, after blanks alone or after a separator.
+///
+/// Spaces, separators and comment signs stand as they are, but for the ends. A first space takes a backslash, and after
+/// blanks alone a first separator takes one too. A last space is `\u0020`, which an editor that trims lines leaves.
+/// Everything else is printed as [`print_text`] prints a value. Past U+007F only what the encoding lacks is escaped, so
+/// ASCII alone isn't asked for.
+///
+/// ```text
+/// print_value(&mut line, repertoire, false, " a:b ")?; // appends `\ a:b\u0020`
+/// ```
+pub fn print_value(
+    line: &mut LineBuffer,
+    repertoire: Repertoire,
+    after_blanks: bool,
+    text: &str,
+) -> Result<(), AllocError>
+    requires { repertoire.ascii_only ≡ false }
+    ensures { let e = output_of repertoire.encoding in
+        let value = spelt_value e after_blanks (chars text.now) in
+        AppendsOnOk line.old (encoded_text e value) result line.new }
+{
+    let mut characters = text.chars();
+    let Some(first) = characters.next() else {
+        return Ok(());
+    };
+    let rest = characters.as_str();
+    if rest.is_empty() && first == ' ' {
+        return print_escape(line, ' ');
+    }
+    print_first_of_value(line, repertoire, after_blanks, first)?;
+    print_rest_of_value(line, repertoire, rest)
+}
+
+// The first character of a value.
+fn print_first_of_value(
+    line: &mut LineBuffer,
+    repertoire: Repertoire,
+    after_blanks: bool,
+    first: char,
+) -> Result<(), AllocError>
+    requires { repertoire.ascii_only ≡ false }
+    ensures { let e = output_of repertoire.encoding in
+        let text = spelt_first e after_blanks first in
+        AppendsOnOk line.old (encoded_text e text) result line.new }
+{
+    if first == ' ' || (after_blanks && is_separator(first)) {
+        return print_in_key_or_value(line, repertoire, first);
+    }
+    print_in_value(line, repertoire, first)
+}
+
+// The characters after the first. Each is held until the next one shows that it isn't the last.
+fn print_rest_of_value(
+    line: &mut LineBuffer,
+    repertoire: Repertoire,
+    rest: &str,
+) -> Result<(), AllocError>
+    requires { repertoire.ascii_only ≡ false }
+    ensures { let e = output_of repertoire.encoding in
+        let text = spelt_rest e (chars rest.now) in
+        AppendsOnOk line.old (encoded_text e text) result line.new }
+{
+    let mut held = None;
+    for character in rest.chars() {
+        print_held(line, repertoire, held)?;
+        held = Some(character);
+    }
+    match held {
+        Some(last) => print_last_of_value(line, repertoire, last),
+        None => Ok(()),
+    }
+}
+
+// The character that is held, where there is one.
+fn print_held(
+    line: &mut LineBuffer,
+    repertoire: Repertoire,
+    held: Option<char>,
+) -> Result<(), AllocError>
+    requires { repertoire.ascii_only ≡ false }
+    ensures { let e = output_of repertoire.encoding in
+        AppendsOnOk line.old (encoded_text e (held_text e held)) result line.new }
+{
+    match held {
+        Some(character) => print_in_value(line, repertoire, character),
+        None => Ok(()),
+    }
+}
+
+// The last character of a value.
+#[tactic(auto, using(crate::proofs::Printing::Values::last_space))]
+fn print_last_of_value(
+    line: &mut LineBuffer,
+    repertoire: Repertoire,
+    last: char,
+) -> Result<(), AllocError>
+    requires { repertoire.ascii_only ≡ false }
+    ensures { let e = output_of repertoire.encoding in
+        AppendsOnOk line.old (encoded_text e (spelt_last e last)) result line.new }
+{
+    if last == ' ' {
+        return print_escape(line, last);
+    }
+    print_in_value(line, repertoire, last)
+}
+
+// A character inside a value.
+fn print_in_value(
+    line: &mut LineBuffer,
+    repertoire: Repertoire,
+    character: char,
+) -> Result<(), AllocError>
+    requires { repertoire.ascii_only ≡ false }
+    ensures { let e = output_of repertoire.encoding in
+        AppendsOnOk line.old (encoded_text e (spelt_inside e character)) result line.new }
+{
+    if character == ' ' || is_separator(character) || is_comment_sign(character) {
+        return print_literal(line, repertoire, character);
+    }
+    print_in_key_or_value(line, repertoire, character)
 }
 
 /// Appends a text as it is, in UTF-8, or nothing where memory runs out.

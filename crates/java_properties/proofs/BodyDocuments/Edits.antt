@@ -1,10 +1,11 @@
 -- A document after an edit: it is one again, and its bytes are those that the edit makes.
 use Rattle.std.proofs.Common.{◌≡◌, ℕ, ◌==◌, true, List, [], ◌∷◌, ◌++◌, All, refl, ap, ap₂, sym, ◌∙◌, subst, inl, inr}
-use Rattle.std.specs.Prelude.{Option, Some, None, take, drop, not, bytes_eq, if◌then◌else◌}
+use Rattle.std.specs.Prelude.{Option, Some, None, Result, Ok, Err, IfOk, take, drop, not, bytes_eq, if◌then◌else◌}
+use Rattle.std.specs.Borrow.{Bor}
 use Rattle.std.specs.Option.{option_map}
 use Rattle.std.specs.Map.{update}
 use Rattle.std.specs.BTreeMap.{BTreeMap, IsOrdered}
-use Rattle.std.specs.Global.{Global}
+use Rattle.std.specs.Global.{Global, Vec}
 use Rattle.std.specs.String.{string_cmp}
 use Rattle.std.specs.declared.string.String.{String}
 use Rattle.std.proofs.lemmas.Bool.{cases_Bool}
@@ -21,17 +22,20 @@ use Rattle.properties_format.specs.Edited.{Edit, put, remove, edited, IsScalarEd
 use Rattle.properties_format.specs.Reading.Body.{entries_in, held_groups_of}
 use Rattle.properties_format.specs.Reading.Edited.{AreSound, edit_made, edits_made, key_set, key_removed, result_of}
 use Rattle.properties_format.specs.Reading.Items.{items_of}
+use Rattle.properties_format.specs.Reading.Keys.{slot_keys}
 use Rattle.properties_format.specs.Reading.Slots.{slots_of, slots_edited, slots_after}
 use Rattle.properties_format.proofs.Body.Numbers.{items_of-groups}
 use Rattle.properties_format.proofs.Changed.Laws.{IsReadable, edits-say}
 use Rattle.properties_format.proofs.Changed.Read.{readable}
 use Rattle.properties_format.proofs.Edited.Results.{edit_all_result-meets, edits_made-meets, result-editable, result_by-edited}
-use Rattle.properties_format.proofs.Items.Unique.{items_of-meets}
+use Rattle.properties_format.proofs.Items.Unique.{items_of-meets, items_of-only}
 use Rattle.properties_format.proofs.Slots.Edits.{edits_made-slots}
+use Rattle.properties_format.proofs.Slots.Keys.{pair_keys, are-keys, slots-keys}
 use Rattle.properties_format.proofs.Slots.WellEnded.{slots_after-well_ended}
 use Rattle.java_properties.specs.BodyDocuments.{document_bytes, open_document, IsDocument}
 use Rattle.java_properties.specs.BodySlots.{Holds, HoldsIn, HoldsSome, Changes, KeepsAll, PutsKey, left_without}
-use Rattle.java_properties.specs.Documents.{OpenDocument}
+use Rattle.java_properties.specs.BodySlots.Keys.{FindsKeys}
+use Rattle.java_properties.specs.Documents.{OpenDocument, HasKeysInOrder, characters_of}
 use Rattle.java_properties.specs.Editing.{AreMade, IsSet, IsRemoved}
 use Rattle.java_properties.specs.Maps.{Entries, characters, value_at}
 use Rattle.java_properties.specs.Sources.{IsInForce}
@@ -187,6 +191,33 @@ taken-from d i slots values key changed same ordered =
           (λ entries items. (removed.edit.reads reads.entries entries reads.items items).readable) same ordered;
       removed = removed;
     }
+
+-- ---- the keys of a document
+
+-- The keys of its slots are those of its pairs,
+keys-are : (d : Inside) → IsDocument d → (keys : List (Bor (List ℕ))) → FindsKeys d.slots keys → HasKeysInOrder (open_document d) keys
+keys-are d i keys finds =
+    let e = encoding_of d.encoding in
+    let bytes = document_bytes d in
+    let items = items_of e bytes end in
+    let whole : AreItems items = subst AreItems (items_of-only e bytes end i.values.entries i.values.items) i.values.whole in
+    let made = bytes-are d i in
+    let slots = slots_after e d.source.items i.edits in
+    let same : pair_keys items ≡ slot_keys slots.list =
+    ap (λ v. pair_keys (items_of e v end)) made
+    ∙ slots-keys e d.source.items i.edits (editable i.in_force i.editable) i.scalar (subst (λ v. AreItems (items_of e v end)) made whole) in
+    record {
+      entries = items;
+      items = items_of-meets e bytes end;
+      whole = whole;
+      are = are-keys items (slot_keys slots.list) (characters_of keys) same (finds (drop d.opened.start d.source.items) slots i.slots);
+    }
+
+-- where there was memory for them.
+pub keys-made : {E : Type 0} (d : Inside) → IsDocument d → (r : Result (Vec (Bor (List ℕ))) E) → IfOk r (λ keys. FindsKeys d.slots keys.items)
+    → IfOk r (λ keys. HasKeysInOrder (open_document d) keys.items)
+keys-made d i (Ok keys) h = keys-are d i keys.items h
+keys-made d i (Err error) h = h
 
 -- ---- a document that stays
 

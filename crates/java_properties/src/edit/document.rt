@@ -5,7 +5,7 @@ ghost use Rattle.std.specs.Option.{option_map};
 ghost use Rattle.std.specs.Str.{chars};
 ghost use Rattle.properties_format.specs.Laws.{SplittingCommutes};
 ghost use Rattle.properties_text.specs.Encoding.{encoding_of};
-ghost use Rattle.java_properties.specs.Documents.{HasValueAt, OpensDocument, PutsInto, RemovesFrom};
+ghost use Rattle.java_properties.specs.Documents.{HasKeysInOrder, HasValueAt, OpensDocument, PutsInto, RemovesFrom, TellsKey};
 
 use crate::edit::slots::Slots;
 use crate::edit::source::Source;
@@ -18,15 +18,15 @@ use std::marker::Model;
 
 /// A source that stays open for edits.
 ///
-/// For a program that changes keys one at a time and looks at values in between, as an editor with a window does: `get`,
-/// `put` and `remove` don't read the source again. What is removed keeps its memory until the document is dropped. For
-/// a list of edits that is known beforehand, [`edit_all`](crate::edit_all) needs less.
+/// For a program that changes keys one at a time and looks at values in between, as an editor with a window does: no
+/// call but `parse` reads the source. What is removed keeps its memory until the document is dropped. For a list of
+/// edits that is known beforehand, [`edit_all`](crate::edit_all) needs less.
 ///
 /// ```text
 /// let mut document = Document::parse(alloc, b"# the front door\nport = 80\n", Encoding::UTF_8)?;
 /// assert_eq!(rt; document.get("port"), Some("80"));
 /// document.put("port", "8080")?;
-/// document.remove("host");
+/// assert!(rt; !document.remove("host"));
 /// let bytes = document.to_bytes(alloc)?;
 /// // They are `# the front door`, a line feed, `port=8080` and a line feed.
 /// ```
@@ -91,6 +91,32 @@ impl Document {
         Some(self.values.get(key)?.as_str())
     }
 
+    /// Whether a pair has the key.
+    ///
+    /// ```text
+    /// let document = Document::parse(alloc, b"port = 80\n", Encoding::UTF_8)?;
+    /// assert!(rt; document.contains_key("port"));
+    /// assert!(rt; !document.contains_key("host"));
+    /// ```
+    pub fn contains_key(&self, key: &str) -> bool
+        ensures { TellsKey self.now (chars key.now) result }
+    {
+        self.get(key).is_some()
+    }
+
+    /// Its keys in the order of the file, each once: a key that several pairs have comes where the first of them stands.
+    ///
+    /// ```text
+    /// let document = Document::parse(alloc, b"b = 1\na = 2\nb = 3\n", Encoding::UTF_8)?;
+    /// let keys = document.keys(alloc)?;
+    /// assert!(rt; keys.as_slice() == ["b", "a"].as_slice());
+    /// ```
+    pub fn keys(&self, alloc: Global) -> Result<Vec<&str>, AllocError>
+        ensures { IfOk result (λ keys. HasKeysInOrder self.now keys.items) }
+    {
+        self.slots.keys(alloc)
+    }
+
     /// Sets a key to a value, as [`set_key`](crate::set_key) does. Where memory runs out, nothing changes.
     pub fn put(&mut self, key: &str, value: &str) -> Result<(), AllocError>
         ensures { PutsInto (chars key.now) (chars value.now) self.old result self.new }
@@ -105,14 +131,14 @@ impl Document {
         }
     }
 
-    /// Removes a key, as [`remove_key`](crate::remove_key) does. It takes no memory.
-    pub fn remove(&mut self, key: &str)
-        ensures { RemovesFrom (chars key.now) self.old self.new }
+    /// Removes a key, as [`remove_key`](crate::remove_key) does, and says whether a pair had it. It takes no memory.
+    pub fn remove(&mut self, key: &str) -> bool
+        ensures { RemovesFrom (chars key.now) self.old result self.new }
     {
         let is_marked = self.opened.start != 0;
         let body = &self.source[self.opened.start..];
         self.slots.remove(self.alloc, body, is_marked, key);
-        self.values.remove(key);
+        self.values.remove(key).is_some()
     }
 
     /// The file after the edits: what wasn't edited stands as it was.

@@ -16,6 +16,7 @@ use std::alloc::{AllocError, Global};
 use std::collections::BTreeMap;
 
 mod bytes;
+mod keys;
 mod parse;
 mod places;
 mod put;

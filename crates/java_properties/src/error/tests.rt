@@ -47,3 +47,26 @@ fn prints_causes(rt: HostRuntime) -> Result<(), Fail> {
     assert_eq!(rt; Cause::None.to_string(alloc)?.as_str(), "no other error");
     Ok(())
 }
+
+#[test]
+fn prints_reasons(rt: HostRuntime) -> Result<(), Fail> {
+    let alloc = rt.alloc();
+    let refused = PropertiesError::bad_kv_separator(String::from_str(alloc, "x\n")?);
+    let rows = [
+        (
+            PropertiesError::from(io::Error::from(io::ErrorKind::NotFound)),
+            "entity not found",
+        ),
+        (PropertiesError::write_fault(Some(2), None), "I/O error"),
+        (
+            PropertiesError::malformed(4, Malformed::NotHex),
+            "Malformed \\uxxxx encoding: not hex.",
+        ),
+        (refused, "Bad key/value separator: \"x\\n\""),
+        (PropertiesError::failed(), "The writer has failed."),
+    ];
+    for (error, wanted) in &rows {
+        assert_eq!(rt; error.reason().to_string(alloc)?.as_str(), *wanted);
+    }
+    Ok(())
+}

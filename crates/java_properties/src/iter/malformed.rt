@@ -17,7 +17,9 @@ use std::alloc::Global;
 /// The first malformed escape of a logical line.
 ///
 /// ```text
-/// println!(rt; "{name}:{}: {}", escape.line_number, escape.kind)?;
+/// for escape in &malformed_escapes(alloc, &mut input, Encoding::UTF_8)? {
+///     println!(rt; "{name}:{}: {}", escape.line_number, escape.kind)?;
+/// }
 /// ```
 #[derive(Clone, Copy, Debug, PartialEq, Eq)]
 pub struct MalformedEscape {

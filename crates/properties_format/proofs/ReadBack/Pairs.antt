@@ -2,7 +2,7 @@
 use Rattle.std.proofs.Common.{◌≡◌, ◌≢◌, ℕ, ◌==◌, ◌&&◌, ◌||◌, Bool, true, false, List, [], ◌∷◌, ◌++◌, map, refl, ap, sym, ◌∙◌, inl, inr, append_assoc, eqb-true, ap₂}
 use Rattle.std.specs.List.{AllByRecursion}
 use Rattle.std.proofs.lemmas.Bool.{cases_Bool, cond-true, cond-false, or_cases}
-use Rattle.properties_format.specs.Text.{scalar, backslash, is_blank, is_line_end, is_separator}
+use Rattle.properties_format.specs.Text.{scalar, backslash, is_blank, is_blanks, is_line_end, is_separator}
 use Rattle.properties_format.specs.Encoding.{Encoding}
 use Rattle.properties_format.specs.Lines.{HoldsNoLineEnd}
 use Rattle.properties_format.specs.Groups.{is_open}
@@ -13,7 +13,6 @@ use Rattle.properties_format.specs.Entries.{Content, pair}
 use Rattle.properties_format.specs.Items.{given}
 use Rattle.properties_format.specs.Reading.Items.{pair_outcome, split_outcome, outcome_of}
 use Rattle.properties_format.specs.Settings.{IsGoodSeparator, IsSignedSeparator}
-use Rattle.properties_format.specs.Reading.Settings.{is_blanks}
 use Rattle.properties_format.specs.Printing.{in_key_or_value, unicode_escape, spelt_text, is_bom_like, with_first_escaped, spelt_key}
 use Rattle.properties_format.specs.Writing.{HoldsNoBackslash}
 use Rattle.properties_format.proofs.Lines.Plain.{plain-append}

@@ -2,12 +2,11 @@
 use Rattle.std.proofs.Common.{◌≡◌, ℕ, ◌<◌, ◌==◌, ◌&&◌, ◌||◌, not, Bool, true, false, if◌then◌else◌, List, [], ◌∷◌, ◌++◌, refl, ap, ◌∙◌, inl, inr, append_assoc, arith, lit<, ne_eqb}
 use Rattle.std.specs.Prelude.{Some, None, unwrap_or}
 use Rattle.std.proofs.lemmas.Bool.{cases_Bool, cond-true, cond-false, and_left}
-use Rattle.properties_format.specs.Text.{backslash, is_comment_sign}
+use Rattle.properties_format.specs.Text.{backslash, is_blanks, is_comment_sign}
 use Rattle.properties_format.specs.Encoding.{Encoding, begins_with, begins_like_bom, utf_8_bom, utf_16be_bom, utf_16le_bom}
 use Rattle.properties_format.specs.Split.{AreBlanks}
 use Rattle.properties_format.specs.Entries.{Content, comment, pair}
 use Rattle.properties_format.specs.Settings.{Settings, IsGoodPrefix, IsGoodSeparator}
-use Rattle.properties_format.specs.Reading.Settings.{is_blanks}
 use Rattle.properties_format.specs.Printing.{in_key_or_value, in_prefix, spelt_text, encoded_text, is_bom_like, with_first_escaped, spelt_key, printed_text}
 use Rattle.properties_format.specs.Writing.{Call, comment_call, pair_call, prefix_call, separator_call, ending_call, flush_call, ascii_only_call, is_empty, settings_after_call, lines_with, AreOfScalars, AreGoodSettings}
 use Rattle.properties_format.proofs.Printing.Characters.{encoded-ascii, encoded_text-append, blank-ascii, good_separator-ascii}

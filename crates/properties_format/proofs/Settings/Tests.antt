@@ -2,11 +2,11 @@
 use Rattle.std.proofs.Common.{◌≡◌, ℕ, ◌==◌, ◌&&◌, ◌||◌, not, true, false, List, [], ◌∷◌, ◌++◌, refl, ap, sym, ◌∙◌, inl, inr}
 use Rattle.std.specs.Bool.{Decides}
 use Rattle.std.proofs.lemmas.Bool.{cases_Bool, cond-true, cond-false, and_parts, and_from, or_cases, or_left, or_right, not-true, not_from_false, eqb-true}
-use Rattle.properties_format.specs.Text.{is_blank, is_line_end, is_comment_sign, is_separator}
+use Rattle.properties_format.specs.Text.{is_blank, is_blanks, is_line_end, is_comment_sign, is_separator}
 use Rattle.properties_format.specs.Lines.{HoldsNoLineEnd}
 use Rattle.properties_format.specs.Split.{AreBlanks}
 use Rattle.properties_format.specs.Settings.{IsGoodPrefix, IsSignedSeparator, IsGoodSeparator}
-use Rattle.properties_format.specs.Reading.Settings.{is_blanks, holds_no_line_end, is_good_prefix, is_signed_separator, is_good_separator}
+use Rattle.properties_format.specs.Reading.Settings.{holds_no_line_end, is_good_prefix, is_signed_separator, is_good_separator}
 use Rattle.properties_format.specs.Writing.{tail_of}
 use Rattle.properties_format.proofs.Split.Unique.{sign-full, separator-full}
 

@@ -131,13 +131,22 @@ pub record AreReached (e : Encoding) (source : List ℕ) (edits : List Edit) (gs
   pub groups : List (List HeldLine)
   pub in_turn : AreInTurn (byte_order_mark e source).encoding groups
   pub whole : edits_made e source edits ≡ bom_of source ++ groups_bytes groups
+  pub in_force : byte_order_mark e (bom_of source ++ groups_bytes groups) ≡ record { encoding = (byte_order_mark e source).encoding; body = groups_bytes groups }
   pub slots : slots_of groups ≡ slots_after_edits (byte_order_mark e source).encoding (begins_like_bom source) edits (slots_of gs)
 
 -- edits whose texts are of scalar values have such groups, from any groups in turn on
 reach : (e : Encoding) (source : List ℕ) (edits : List Edit) (gs : List (List HeldLine)) → is_editable (byte_order_mark e source).encoding ≡ true
     → AreScalarEdits edits → AreOf e source gs → AreReached e source edits gs
 reach e source [] gs ok k a =
-    record { groups = gs; in_turn = a.in_turn; whole = source-whole e source ∙ ap (λ v. bom_of source ++ v) (sym a.bytes); slots = refl }
+    let f = (byte_order_mark e source).encoding in
+    let whole = source-whole e source ∙ ap (λ v. bom_of source ++ v) (sym a.bytes) in
+    record {
+      groups = gs;
+      in_turn = a.in_turn;
+      whole = whole;
+      in_force = ap (byte_order_mark e) (sym whole) ∙ ap (λ v. let w : InForce = record { encoding = f; body = v } in w) (sym a.bytes);
+      slots = refl;
+    }
 reach e source (edit ∷ edits) gs ok k a =
     let f = (byte_order_mark e source).encoding in
     let marked = begins_like_bom source in
@@ -151,6 +160,9 @@ reach e source (edit ∷ edits) gs ok k a =
       groups = n.groups;
       in_turn = subst (λ v. AreInTurn v n.groups) same n.in_turn;
       whole = ap (λ v. edits_made e v edits) (sym m.whole) ∙ n.whole ∙ ap (λ v. v ++ groups_bytes n.groups) bom.0;
+      in_force = ap (λ v. byte_order_mark e (v ++ groups_bytes n.groups)) (sym bom.0)
+          ∙ n.in_force
+          ∙ ap (λ v. let w : InForce = record { encoding = v; body = groups_bytes n.groups } in w) same;
       slots = n.slots ∙ ap₂ (λ u v. slots_after_edits u v edits (slots_of m.groups)) same bom.1 ∙ ap (slots_after_edits f marked edits) m.slots;
     }
 

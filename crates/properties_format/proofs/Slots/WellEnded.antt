@@ -17,7 +17,7 @@ use Rattle.properties_format.proofs.Slots.Merged.{AreInTurn, empty-is}
 use Rattle.properties_format.proofs.Slots.Edits.{reached}
 
 -- an empty line is no pair
-empty-key : (e : Encoding) (o : Option LineEnding) (g : List HeldLine) → AreLinesBy e o g → unended_bytes g ≡ [] → (slot_of g).key ≡ None
+pub empty-key : (e : Encoding) (o : Option LineEnding) (g : List HeldLine) → AreLinesBy e o g → unended_bytes g ≡ [] → (slot_of g).key ≡ None
 empty-key e o [] a k = absurd a
 empty-key e o (h ∷ []) a k =
     ap (λ v. key_told (outcome_of (joined (record { number = 0; text = v } ∷ [])))) (a.1 ∙ ap (decoded_line e) k ∙ decoded-nil e) ∙ ap key_told outcome-empty

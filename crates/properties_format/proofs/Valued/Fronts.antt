@@ -144,7 +144,7 @@ some-length (c ∷ x) h = omega arith
 -- ---- two divisions of one text
 
 -- the shorter front of two is the front of the longer
-split-longer : (p v a j : List ℕ) → a ++ j ≡ p ++ v → length p ≤ length a → (r : List ℕ) × (a ≡ p ++ r) × (v ≡ r ++ j)
+pub split-longer : (p v a j : List ℕ) → a ++ j ≡ p ++ v → length p ≤ length a → (r : List ℕ) × (a ≡ p ++ r) × (v ≡ r ++ j)
 split-longer [] v a j s l = (a, refl, sym s)
 split-longer (c ∷ p) v [] j s l = absurd (omega arith)
 split-longer (c ∷ p) v (d ∷ a) j s l =

@@ -2,7 +2,7 @@
 use Rattle.std.proofs.Common.{◌≡◌, ◌≢◌, ℕ, true, false, List, [], ◌∷◌, ◌++◌, Option, Some, None, refl, ap, ap₂, sym, ◌∙◌, inl, inr, append_assoc, append-nil, subst}
 use Rattle.std.specs.Prelude.{All}
 use Rattle.std.proofs.lemmas.Bool.{cases_Bool, cond-true, cond-false}
-use Rattle.properties_format.specs.Text.{scalar, LineEnding, lf, line_ending_text}
+use Rattle.properties_format.specs.Text.{scalar, LineEnding, lf, line_ending_text, is_blanks}
 use Rattle.properties_format.specs.Encoding.{Encoding}
 use Rattle.properties_format.specs.Lines.{Ended}
 use Rattle.properties_format.specs.Groups.{IsWhole, joined}
@@ -10,7 +10,6 @@ use Rattle.properties_format.specs.Entries.{Content, pair}
 use Rattle.properties_format.specs.Items.{given}
 use Rattle.properties_format.specs.Printing.{encoded_text, spelt_key}
 use Rattle.properties_format.specs.Writing.{is_empty}
-use Rattle.properties_format.specs.Reading.Settings.{is_blanks}
 use Rattle.properties_format.specs.Body.{HeldLine, as_lines, as_groups, held_in, AreGroupsOf, group_bytes, groups_bytes, ending_bytes, last_ending, HasKey, NoneHasKey}
 use Rattle.properties_format.specs.Edited.{final_group, is_editable}
 use Rattle.properties_format.specs.Changed.{IsSetIn}

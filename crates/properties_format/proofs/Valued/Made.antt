@@ -111,6 +111,25 @@ last_between-some [] g after key value h k =
 last_between-some (f ∷ before) g after key value h k =
     ap (λ v. or_else v (between_told (split_of (joined (as_lines f))) (joined (as_lines f)))) (last_between-some before g after key value h k)
 
+-- nothing before a text is the text
+or_else-none : (a : Option (List ℕ)) → or_else a None ≡ a
+or_else-none None = refl
+or_else-none (Some x) = refl
+
+-- the first of three
+or_else-three : (a b c : Option (List ℕ)) → or_else (or_else a b) c ≡ or_else a (or_else b c)
+or_else-three None b c = refl
+or_else-three (Some x) b c = refl
+
+-- One more group: its own separator where it is a pair, and else that of the last pair before it.
+pub last_between-push : (gs : List (List HeldLine)) (g : List HeldLine)
+    → last_between (gs ++ g ∷ []) ≡ or_else (between_told (split_of (joined (as_lines g))) (joined (as_lines g))) (last_between gs)
+last_between-push [] g = sym (or_else-none (between_told (split_of (joined (as_lines g))) (joined (as_lines g))))
+last_between-push (f ∷ gs) g =
+    let told = between_told (split_of (joined (as_lines f))) (joined (as_lines f)) in
+    ap (λ v. or_else v told) (last_between-push gs g)
+    ∙ or_else-three (between_told (split_of (joined (as_lines g))) (joined (as_lines g))) (last_between gs) told
+
 -- the separator is what is computed
 new_separator-only : (groups : List (List HeldLine)) (key separator : List ℕ) → IsNewSeparator groups key separator
     → separator ≡ separator_by key (last_between groups)
@@ -127,6 +146,7 @@ data LastPair (gs : List (List HeldLine)) : Type 0 where
       → NoPairs after
       → LastPair gs
 
+-- groups have a last pair, or none
 last_pair : (gs : List (List HeldLine)) → LastPair gs
 last_pair [] = none tt
 last_pair (g ∷ gs) = in-front (last_pair gs)

@@ -2,11 +2,10 @@
 use Rattle.std.proofs.Common.{◌≡◌, ◌⊎◌, ◌<◌, ℕ, ◌==◌, ◌||◌, true, false, List, [], ◌∷◌, ◌++◌, refl, ap, sym, ◌∙◌, inl, inr, append_assoc, append-nil, lit<, subst}
 use Rattle.std.specs.Prelude.{unwrap_or}
 use Rattle.std.proofs.lemmas.Bool.{cases_Bool, and_parts, and_from, or_cases, or_left, or_right, false_from_ne_true}
-use Rattle.properties_format.specs.Text.{equals_sign, LineEnding, lf, line_ending_text}
+use Rattle.properties_format.specs.Text.{equals_sign, LineEnding, lf, line_ending_text, is_blanks}
 use Rattle.properties_format.specs.Encoding.{Encoding, byte_order_mark, begins_with, begins_like_bom, utf_8_bom, utf_16be_bom, utf_16le_bom}
 use Rattle.properties_format.specs.Printing.{encoded_text, spelt_key}
 use Rattle.properties_format.specs.Writing.{is_empty}
-use Rattle.properties_format.specs.Reading.Settings.{is_blanks}
 use Rattle.properties_format.specs.Body.{HeldLine, held_in, ending_bytes, group_bytes, groups_bytes, last_ending}
 use Rattle.properties_format.specs.Edited.{final_group, is_empty_line, is_left_open, is_editable}
 use Rattle.properties_format.specs.Valued.{spelt_value, value_text, IsFrontOf, IsRevalued, ending_among, ending_in, parted_by, IsNewSeparator, IsAdded, IsValueSet}

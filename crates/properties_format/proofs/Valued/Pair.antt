@@ -2,7 +2,7 @@
 use Rattle.std.proofs.Common.{◌≡◌, ◌≢◌, ℕ, true, false, List, [], ◌∷◌, ◌++◌, Option, None, refl, ap, ap₂, sym, ◌∙◌, append_assoc, append-nil, lit<, subst}
 use Rattle.std.specs.Prelude.{All, unwrap_or}
 use Rattle.std.proofs.lemmas.List.Elements.{recursion_from_All}
-use Rattle.properties_format.specs.Text.{scalar, equals_sign, LineEnding}
+use Rattle.properties_format.specs.Text.{scalar, equals_sign, LineEnding, is_blanks}
 use Rattle.properties_format.specs.Encoding.{Encoding}
 use Rattle.properties_format.specs.Lines.{HoldsNoLineEnd}
 use Rattle.properties_format.specs.Cut.{IsDecodedLine}
@@ -11,7 +11,6 @@ use Rattle.properties_format.specs.Groups.{is_open, is_comment_line, IsWhole, jo
 use Rattle.properties_format.specs.Split.{Logical, AreBlanks}
 use Rattle.properties_format.specs.Escapes.{Means}
 use Rattle.properties_format.specs.Printing.{encoded_text}
-use Rattle.properties_format.specs.Reading.Settings.{is_blanks}
 use Rattle.properties_format.specs.Body.{HeldLine, as_lines, group_bytes, HasKey}
 use Rattle.properties_format.specs.Edited.{is_editable}
 use Rattle.properties_format.specs.Valued.{value_text, IsFrontOf, HasPair}

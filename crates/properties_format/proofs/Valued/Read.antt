@@ -147,6 +147,20 @@ pair-bytes e group between front f =
     ∙ ap (λ v. front ++ v) (ended-whole (record { bytes = f.tail; text = f.line.text; ending = f.line.ending }) f.more)
     ∙ ap (λ o. front ++ (after_front f.line f.tail f.more ++ ending_bytes o)) (same-ending f.line f.tail f.more ∙ sym (ap last_ending f.division ∙ last-ending f.kept f.line f.more))
 
+-- The front of a pair stands before its last line ending.
+pub front-unended : (e : Encoding) (group : List HeldLine) (between front : List ℕ) (f : IsFrontOf e group between front)
+    → unended_bytes group ≡ front ++ after_front f.line f.tail f.more
+front-unended e [] between front f = absurd (none f.kept f.division)
+  where
+    none : (kept : List HeldLine) → [] ≡ kept ++ f.line ∷ f.more → ⊥
+    none [] q = absurd (cc)
+    none (i ∷ kept) q = absurd (cc)
+front-unended e (i ∷ is) between front f =
+    let by = ending_bytes (last_ending (i ∷ is)) in
+    let after = after_front f.line f.tail f.more in
+    append_cancel_right (unended_bytes (i ∷ is)) (front ++ after) by
+    (sym (ended-whole i is) ∙ pair-bytes e (i ∷ is) between front f ∙ sym (append_assoc front after by))
+
 -- a source with such a pair in it, divided around its value
 around-source : (e : Encoding) (source : List ℕ) (before : List (List HeldLine)) (group : List HeldLine) (after : List (List HeldLine)) (between front : List ℕ)
     (f : IsFrontOf (byte_order_mark e source).encoding group between front) → (byte_order_mark e source).body ≡ groups_bytes (before ++ group ∷ after)

@@ -2,14 +2,13 @@
 use Rattle.std.proofs.Common.{◌≡◌, ◌≢◌, ◌⊎◌, ◌<◌, ℕ, ◌==◌, not, Bool, true, false, List, [], ◌∷◌, ◌++◌, Option, refl, ap, ap₂, sym, ◌∙◌, inl, inr, append_assoc, append-nil, lit<, subst, eqb-true}
 use Rattle.std.specs.Prelude.{unwrap_or, if◌then◌else◌}
 use Rattle.std.proofs.lemmas.Bool.{cases_Bool}
-use Rattle.properties_format.specs.Text.{backslash, equals_sign, LineEnding, is_blank, is_separator, is_comment_sign}
+use Rattle.properties_format.specs.Text.{backslash, equals_sign, LineEnding, is_blank, is_blanks, is_separator, is_comment_sign}
 use Rattle.properties_format.specs.Encoding.{Encoding}
 use Rattle.properties_format.specs.Reading.Cut.{decoded_line}
 use Rattle.properties_format.specs.Groups.{is_open, is_comment_line, EndsClosed, AreOpen, IsWhole, joined}
 use Rattle.properties_format.specs.Split.{AreBlanks, begins, ends, KeyUnit, plain, escaped, last, units_before, AreUnits, IsKey, IsBetween, nothing, blanks, separator, IsPair}
 use Rattle.properties_format.specs.Reading.Split.{ends_key}
 use Rattle.properties_format.specs.Printing.{encoded_text}
-use Rattle.properties_format.specs.Reading.Settings.{is_blanks}
 use Rattle.properties_format.specs.Body.{HeldLine, as_lines}
 use Rattle.properties_format.specs.Edited.{is_editable}
 use Rattle.properties_format.specs.Valued.{spelt_value, value_text, IsFrontOf}

@@ -3,7 +3,7 @@ use Rattle.std.proofs.Common.{◌≡◌, ◌≢◌, ℕ, ◌&&◌, Bool, true, f
 use Rattle.std.specs.Prelude.{All}
 use Rattle.std.proofs.lemmas.Bool.{cases_Bool, cond-true, cond-false, and_left}
 use Rattle.std.proofs.lemmas.List.Elements.{recursion_from_All}
-use Rattle.properties_format.specs.Text.{scalar, equals_sign, LineEnding, is_blank, is_separator}
+use Rattle.properties_format.specs.Text.{scalar, equals_sign, LineEnding, is_blank, is_blanks, is_separator}
 use Rattle.properties_format.specs.Encoding.{Encoding}
 use Rattle.properties_format.specs.Lines.{HoldsNoLineEnd, Line}
 use Rattle.properties_format.specs.Cut.{IsDecodedLine}
@@ -14,7 +14,6 @@ use Rattle.properties_format.specs.Escapes.{Spelling, spelling_text, spelt_chara
 use Rattle.properties_format.specs.Settings.{IsGoodSeparator}
 use Rattle.properties_format.specs.Printing.{spelt_key, encoded_text}
 use Rattle.properties_format.specs.Writing.{is_empty}
-use Rattle.properties_format.specs.Reading.Settings.{is_blanks}
 use Rattle.properties_format.specs.Body.{HeldLine, as_lines}
 use Rattle.properties_format.specs.Edited.{is_editable}
 use Rattle.properties_format.specs.Valued.{spelt_value, shortened_after, separator_after, IsNewSeparator, IsFrontOf, HasPair}

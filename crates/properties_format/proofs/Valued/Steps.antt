@@ -21,6 +21,7 @@ record IsDivided (first : Bool) (text p r : List ℕ) : Type 0 where
   whole : text ≡ ((indented first text).indent ++ p) ++ (r ++ open_backslash text)
   size : head_size first text p ≡ length ((indented first text).indent ++ p)
 
+-- each text is divided so
 divided : (first : Bool) (text p r : List ℕ) → added_by first text ≡ p ++ r → IsDivided first text p r
 divided first text p r s =
     let i = indented first text in

@@ -40,12 +40,13 @@ unended-held e [] last = refl
 unended-held e (l ∷ []) last = refl
 unended-held e (l ∷ m ∷ ls) last = ap (λ v. record { bytes = l.text; text = decoded_line e l.text; ending = Some l.by } ∷ v) (unended-held e (m ∷ ls) last)
 
--- ended lines but the last, and the text of that one
+-- ended lines but the last
 abbrev all_but_last : List Ended → List Ended
 all_but_last [] = []
 all_but_last (l ∷ []) = []
 all_but_last (l ∷ m ∷ ls) = l ∷ all_but_last (m ∷ ls)
 
+-- that text
 abbrev last_text : List Ended → List ℕ
 last_text [] = []
 last_text (l ∷ []) = l.text
@@ -57,11 +58,12 @@ unended-ended : (e : Encoding) (l : Ended) (ls : List Ended)
 unended-ended e l [] = refl
 unended-ended e l (m ∷ ls) = ap (λ v. record { bytes = l.text; text = decoded_line e l.text; ending = Some l.by } ∷ v) (unended-ended e m ls)
 
--- and lines of a text
+-- where the first of them is no lone LF, none is without the last
 first-stays : (m : Ended) (ls : List Ended) → BeginsWithNoLoneLf (m ∷ ls) → BeginsWithNoLoneLf (all_but_last (m ∷ ls))
 first-stays m [] h = tt
 first-stays m (n ∷ ls) h = h
 
+-- so they are lines of a text
 unended-lines : (l : Ended) (ls : List Ended) → AreLines (l ∷ ls) [] → AreLines (all_but_last (l ∷ ls)) (last_text (l ∷ ls))
 unended-lines l [] h = h.0
 unended-lines l (m ∷ ls) h = (h.0, (λ k. first-stays m ls (h.1 k)), unended-lines m ls h.2)
@@ -140,6 +142,7 @@ record IsAlikeLine (line : HeldLine) (more : List HeldLine) : Type 0 where
   bytes : other.bytes ≡ line.bytes
   text : other.text ≡ line.text
 
+-- each line has such a one
 alike-line : (line : HeldLine) (more : List HeldLine) → IsAlikeLine line more
 alike-line line [] = record { other = record { bytes = line.bytes; text = line.text; ending = None }; rest = []; lines = refl; bytes = refl; text = refl }
 alike-line line (i ∷ more) = record { other = line; rest = without_ending (i ∷ more); lines = refl; bytes = refl; text = refl }
@@ -195,9 +198,10 @@ unended-front e g key value ok d h =
     unended-decoded (i ∷ []) q = q
     unended-decoded (i ∷ j ∷ g) q = (q.0, unended-decoded (j ∷ g) q.1)
 
--- And so is what stands between key and value, and whether it has a value.
+-- And so is what stands between key and value.
 pub unended-between : (g : List HeldLine) → between_of (without_ending g) ≡ between_of g
 unended-between g = ap between_in (unended-joined g)
 
+-- and whether it has a value
 pub unended-value : (value : List ℕ) (g : List HeldLine) → has_value value (without_ending g) ≡ has_value value g
 unended-value value g = ap (λ v. is_pair_to value (outcome_of v)) (unended-joined g)

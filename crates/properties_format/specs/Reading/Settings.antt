@@ -1,12 +1,8 @@
 -- How prefixes and separators are tested.
 use Rattle.std.specs.Prelude.{ℕ, ◌&&◌, ◌||◌, not, Bool, true, false, if◌then◌else◌, List, [], ◌∷◌}
-use Rattle.properties_format.specs.Text.{is_blank, is_line_end, is_comment_sign, is_separator}
+use Rattle.properties_format.specs.Text.{is_blank, is_blanks, is_line_end, is_comment_sign, is_separator}
 
--- whether the text is blanks, and whether it holds no line end
-abbrev pub is_blanks : List ℕ → Bool
-is_blanks [] = true
-is_blanks (c ∷ cs) = is_blank c && is_blanks cs
-
+-- whether the text holds no line end
 abbrev pub holds_no_line_end : List ℕ → Bool
 holds_no_line_end [] = true
 holds_no_line_end (c ∷ cs) = not (is_line_end c) && holds_no_line_end cs

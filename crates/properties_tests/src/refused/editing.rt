@@ -239,6 +239,23 @@ fn a_key_of_a_document_is_removed_without_memory(rt: HostRuntime) -> Result<(), 
     check_document(&rt, rt.alloc(), Change::Remove("a"), b"k=1\n")
 }
 
+// How many keys a document has.
+fn key_count(alloc: Global, document: &Document) -> Result<usize, AllocError> {
+    let keys = document.keys(alloc)?;
+    Ok(keys.len())
+}
+
+#[test]
+fn the_keys_of_a_document_are_told_or_refused(rt: HostRuntime) -> Result<(), PropertiesError> {
+    let document = opened(&rt, rt.alloc())?;
+    let count = match key_count(rt.alloc(), &document) {
+        Ok(count) => count,
+        Err(_) => key_count(rt.alloc(), &document)?,
+    };
+    assert_eq!(rt; count, 2);
+    Ok(())
+}
+
 // A malformed escape is told as that, or Memory is, and never another error.
 fn check_malformed(rt: &impl Abort, alloc: Global, call: Call<'_>) {
     let source = b"\xe9=1\nk=\xe9\\u12".as_slice();

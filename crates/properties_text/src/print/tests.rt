@@ -134,6 +134,35 @@ fn prints_keys_that_are_no_byte_order_mark(rt: HostRuntime) -> Result<(), Fail> 
 }
 
 #[test]
+fn prints_values_as_people_lay_them_out(rt: HostRuntime) -> Result<(), Fail> {
+    let rows: [(Repertoire, bool, &str, &[u8]); 12] = [
+        (UTF_8, false, "", b""),
+        (UTF_8, false, "https://x:1/a  b#c!", b"https://x:1/a  b#c!"),
+        (UTF_8, false, " ", b"\\u0020"),
+        (UTF_8, false, "  a  ", b"\\  a \\u0020"),
+        (UTF_8, false, "=x", b"=x"),
+        (UTF_8, true, "=x:", b"\\=x:"),
+        (UTF_8, true, ":", b"\\:"),
+        (UTF_8, true, "#", b"#"),
+        (UTF_8, true, "#a\tb\\\n", b"#a\\tb\\\\\\n"),
+        (UTF_8, false, "\x01\x7f", b"\\u0001\x7f"),
+        (UTF_8, false, "\u{e9} \u{e9}", b"\xc3\xa9 \xc3\xa9"),
+        (
+            WINDOWS_1252,
+            false,
+            "\u{20ac}\u{1f41e}",
+            b"\x80\\ud83d\\udc1e",
+        ),
+    ];
+    for (repertoire, after_blanks, value, wanted) in rows {
+        let mut line = LineBuffer::new(rt.alloc());
+        print_value(&mut line, repertoire, after_blanks, value)?;
+        assert_eq!(rt; line.as_slice(), wanted);
+    }
+    Ok(())
+}
+
+#[test]
 fn prints_raw_texts(rt: HostRuntime) -> Result<(), Fail> {
     let mut line = LineBuffer::new(rt.alloc());
     print_raw(&mut line, "a")?;

@@ -5,7 +5,7 @@ use crate::outcome::Outcome;
 use crate::reading::items_after;
 use crate::shown::{compare, reading_of, told};
 use crate::writing::text;
-use java_properties::{Document, Encoding, read_sorted};
+use java_properties::{Document, Encoding, LineContent, read_lines, read_sorted};
 use std::alloc::{AllocError, Global};
 
 /// The document is its source, and then what its changes make of it. Returns what is seen of it besides its bytes: the
@@ -29,7 +29,7 @@ pub fn check_document(
             }
             check_values(alloc, encoding, &document, outcome)?;
             for step in steps {
-                take_step(alloc, &mut document, step, &mut seen)?;
+                take_step(alloc, &mut document, step, &mut seen, outcome)?;
                 check_values(alloc, encoding, &document, outcome)?;
             }
             let bytes = document.to_bytes(alloc)?;
@@ -52,10 +52,17 @@ fn take_step(
     document: &mut Document,
     step: &Clause,
     seen: &mut String,
+    outcome: &mut Outcome,
 ) -> Result<(), Halt> {
     match (step.word.as_str(), step.texts.as_slice()) {
         ("put", [key, value]) => document.put(text(key)?, text(value)?)?,
-        ("remove", [key]) => document.remove(text(key)?),
+        ("remove", [key]) => {
+            let key = text(key)?;
+            let was_there = document.contains_key(key);
+            if document.remove(key) != was_there {
+                outcome.fail(format!(in alloc; "a document tells another removal of {key:?}")?);
+            }
+        }
         ("get", [key]) => match document.get(text(key)?) {
             Some(value) => seen.push_str(format!(in alloc; "; {value:?}")?.as_str())?,
             None => seen.push_str("; none")?,
@@ -65,7 +72,7 @@ fn take_step(
     Ok(())
 }
 
-// Its keys have the values that a reader of its bytes finds.
+// Its keys are those that a reader of its bytes finds, in the same order, and have the same values.
 fn check_values(
     alloc: Global,
     encoding: Encoding,
@@ -81,8 +88,30 @@ fn check_values(
                     outcome.fail(format!(in alloc; "a document has another value of {key:?}")?);
                 }
             }
+            let wanted = keys_of(alloc, encoding, bytes.as_slice())?;
+            let keys = document.keys(alloc)?;
+            let mut both = keys.iter().zip(&wanted);
+            if keys.len() != wanted.len() || both.any(|(key, wanted)| *key != wanted.as_str()) {
+                outcome.fail(String::from_str(alloc, "a document has other keys")?);
+            }
         }
         Err(_) => outcome.fail(String::from_str(alloc, "a document isn't read")?),
     }
     Ok(())
+}
+
+// The keys of these bytes, each where it stands first.
+fn keys_of(alloc: Global, encoding: Encoding, bytes: &[u8]) -> Result<Vec<String>, AllocError> {
+    let mut keys: Vec<String> = Vec::new(alloc);
+    let mut input = bytes;
+    if let Ok(lines) = read_lines(alloc, &mut input, encoding) {
+        for line in &lines {
+            if let LineContent::KVPair(key, _) = line.content() {
+                if !keys.contains(key) {
+                    keys.push(key.clone()?)?;
+                }
+            }
+        }
+    }
+    Ok(keys)
 }

@@ -26,6 +26,7 @@ pub struct Item {
 }
 
 impl Item {
+    /// A comment or a pair that was read.
     pub fn of_line(alloc: Global, line: &Line) -> Result<Item, AllocError> {
         let number = line.line_number();
         match line.content() {
@@ -40,6 +41,7 @@ impl Item {
         }
     }
 
+    /// A pair in the line of this number.
     pub fn of_pair(
         alloc: Global,
         number: usize,
@@ -55,6 +57,7 @@ impl Item {
         })
     }
 
+    /// An error of reading: an I/O error, or any other. Its number is 0 where it names no line.
     pub fn of_error(alloc: Global, error: &PropertiesError) -> Result<Item, AllocError> {
         Ok(Item {
             number: error.line_number().unwrap_or(0),
@@ -66,6 +69,7 @@ impl Item {
         })
     }
 
+    /// The I/O error that is wanted in the line of this number.
     pub fn of_fault(
         alloc: Global,
         number: usize,
@@ -78,6 +82,7 @@ impl Item {
         })
     }
 
+    /// The same item with texts of its own.
     pub fn copy(&self, alloc: Global) -> Result<Item, AllocError> {
         Ok(Item {
             number: self.number,

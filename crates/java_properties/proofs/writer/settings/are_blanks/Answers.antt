@@ -2,7 +2,7 @@ use Rattle.std.proofs.Common.{◌&&◌, true, false, refl, ap, sym, ◌∙◌}
 use Rattle.std.specs.Str.{chars}
 use Rattle.std.specs.Str.Iter.{chars_rest}
 use Rattle.std.proofs.lemmas.Str.{IsUtf8-past_char}
-use Rattle.properties_format.specs.Reading.Settings.{is_blanks}
+use Rattle.properties_format.specs.Text.{is_blanks}
 use Rattle.java_properties.proofs.Settings.Tests.{past_first, past_last}
 use Rattle.java_properties.proofs.writer.settings.are_blanks.Goals as goal
 

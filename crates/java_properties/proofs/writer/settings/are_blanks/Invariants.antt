@@ -1,7 +1,7 @@
 use Rattle.std.proofs.Common.{◌≡◌}
 use Rattle.std.specs.Str.{IsUtf8, chars}
 use Rattle.std.specs.Str.Iter.{chars_rest}
-use Rattle.properties_format.specs.Reading.Settings.{is_blanks}
+use Rattle.properties_format.specs.Text.{is_blanks}
 use Rattle.java_properties.proofs.writer.settings.are_blanks.Given as goal
 
 abbrev pub invariant-loop-character : goal.invariant-loop-character

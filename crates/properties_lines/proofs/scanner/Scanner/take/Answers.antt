@@ -1,12 +1,27 @@
-use Rattle.properties_lines.proofs.ScannerSearch.{takes-cr, takes-lf}
+use Rattle.properties_lines.proofs.ScannerSearch.{IsTaken, takes-lf, takes-cr}
 use Rattle.properties_lines.proofs.scanner.Scanner.take.Goals as goal
 
-pub returns-then-held-end-eq13 : goal.returns-then-held-end-eq13
-returns-then-held-end-eq13 c =
-    takes-cr c.args.self.now c.pass_byte_feed.new.self c.args.held.now c.args.size c.args.is_ascii c.args.has_backslash c.requires.ready c.requires.fresh c.requires.before
-    c.requires.told c.requires.ends c.if-held-end-eq13.true c.pass_byte_feed.ensures
+pub returns-then-end : goal.returns-then-end
+returns-then-end c =
+    let taken : IsTaken c.args.self.now c.args.held.now c.args.end c.args.unit c.args.is_ascii c.args.has_backslash = record {
+      ready = c.requires.ready;
+      nothing = c.requires.nothing;
+      found = c.requires.found;
+      size = c.requires.unit;
+      ascii = c.requires.ascii;
+      backslash = c.requires.backslash;
+    } in
+    let passed = rw c.pass_line.ensures at c.pass_feed.ensures in
+    takes-cr c.args.self.now c.pass_feed.new.self c.args.held.now c.args.end c.args.unit c.args.is_ascii c.args.has_backslash c.pass_feed.result taken c.if-end.true passed
 
-pub returns-else-held-end-eq13 : goal.returns-else-held-end-eq13
-returns-else-held-end-eq13 c =
-    takes-lf c.args.self.now c.args.held.now c.args.size c.args.is_ascii c.args.has_backslash c.requires.ready c.requires.fresh c.requires.before
-    c.requires.told c.requires.ends c.if-held-end-eq13.false
+pub returns-else-end : goal.returns-else-end
+returns-else-end c =
+    let taken : IsTaken c.args.self.now c.args.held.now c.args.end c.args.unit c.args.is_ascii c.args.has_backslash = record {
+      ready = c.requires.ready;
+      nothing = c.requires.nothing;
+      found = c.requires.found;
+      size = c.requires.unit;
+      ascii = c.requires.ascii;
+      backslash = c.requires.backslash;
+    } in
+    rw c.pass_line.ensures (takes-lf c.args.self.now c.args.held.now c.args.end c.args.unit c.args.is_ascii c.args.has_backslash taken c.if-end.false)

@@ -1,31 +1,29 @@
-use Rattle.std.proofs.Common.{◌+◌, ◌-◌, ◌≡◌, ℕ, take, drop, length, ap₂, sym, subst, arith}
-use Rattle.std.specs.Prelude.{nat_lt}
-use Rattle.std.proofs.lemmas.List.{take_rest}
+use Rattle.std.proofs.Common.{◌==◌, ℕ, drop, refl, subst}
+use Rattle.std.proofs.lemmas.List.{get_or-drop}
+use Rattle.properties_format.specs.Text.{carriage_return}
 use Rattle.properties_text.specs.Encoding.{encoding_of}
-use Rattle.properties_lines.specs.LineSearch.{unit_size}
-use Rattle.properties_lines.specs.Scanner.{IsTold, TakesLine, front_after}
-use Rattle.properties_lines.specs.declared.scanner.RawLine.{RawLine}
-use Rattle.properties_lines.proofs.ScannerSearch.{takes-line, line_at, taken}
+use Rattle.properties_lines.specs.LineSearch.{IsFirstLineEnd}
+use Rattle.properties_lines.proofs.ScannerSearch.{found-end, told-ascii, ready-on, searches-on}
 use Rattle.properties_lines.proofs.scanner.Scanner.take_found.Goals as goal
 
-pub returns : goal.returns
-returns c =
+pub take-requires-clause-found : goal.take-requires-clause-found
+take-requires-clause-found c =
     let s = c.args.self.now in
-    let held = c.args.held.now in
-    let n = c.args.found.at in
-    let size = unit_size (encoding_of s.encoding) in
-    let line = c.raw_line-self.result in
-    let from = s.at + n + size in
-    let rest = take_rest held from in
-    let feed = rw rest at (rw c.unit_size-size.ensures at c.feed_of-feed.ensures) in
-    let count : s.at + n - s.at ≡ n = omega arith in
-    let Tells : ℕ → Type 0 = λ m. IsTold (encoding_of s.encoding) (take m (drop s.at held)) line in
-    let tells : IsTold (encoding_of s.encoding) (take n (drop s.at held)) line =
-    subst Tells count c.raw_line-self.ensures.told in
-    let place : ℕ → ℕ → RawLine = λ a b. record { start = a; end = b; is_ascii = line.is_ascii; has_backslash = line.has_backslash } in
-    let same : line ≡ line_at s n line.is_ascii line.has_backslash = ap₂ place c.raw_line-self.ensures.start c.raw_line-self.ensures.end in
-    let front = front_after c.args.found.is_cr (nat_lt (length (drop from held)) size) in
-    let P : RawLine → Type 0 = λ v. TakesLine s held (taken s front (from + c.feed_of-feed.result) v) in
-    let takes = takes-line s held n c.feed_of-feed.result c.args.found.is_cr line.is_ascii line.has_backslash c.requires.ready c.requires.found feed
-    (record { ascii = tells.ascii; backslash = tells.backslash }) in
-    rw (c.front_after-self.ensures, c.unit_size-size.ensures, rest) (subst P (sym same) takes)
+    let bytes = drop s.at c.args.held.now in
+    let n = c.in-Ok.size in
+    let found = rw c.in-Ok.is at c.requires.found in
+    let P : ℕ → Type 0 = λ v. IsFirstLineEnd (encoding_of s.encoding) bytes (record { at = n; is_cr = v == carriage_return }) in
+    subst P (get_or-drop s.at c.args.held.now n 0) (found-end (encoding_of s.encoding) bytes n c.requires.fresh.size found.1 found.0.clear found.2)
+
+pub take-requires-clause-ascii : goal.take-requires-clause-ascii
+take-requires-clause-ascii c =
+    let found = rw c.in-Ok.is at c.requires.found in
+    told-ascii (drop c.args.self.now.at c.args.held.now) c.in-Ok.size 1 c.in-Ok.is_ascii refl found.0.ascii
+
+pub search_on-requires : goal.search_on-requires
+search_on-requires c =
+    let found = rw c.in-Err.is at c.requires.found in
+    ready-on c.args.self.now c.args.held.now c.in-Err.searched c.requires.ready c.requires.fresh found.0 found.1
+
+pub returns-in-Err : goal.returns-in-Err
+returns-in-Err c = searches-on c.args.self.now c.search_on.new.self c.args.held.now c.in-Err.searched c.search_on.result c.search_on.ensures

@@ -1,8 +1,12 @@
-use Rattle.std.proofs.Common.{refl, sym}
+use Rattle.std.proofs.Common.{refl, sym, ap, ◌∙◌}
 use Rattle.std.specs.Prelude.{None}
+use Rattle.std.specs.Option.{option_map}
 use Rattle.std.specs.Str.{chars}
 use Rattle.std.proofs.lemmas.List.{take_rest}
-use Rattle.java_properties.proofs.BodyDocuments.Calls.{value-updated}
+use Rattle.java_properties.specs.BodyDocuments.{open_document}
+use Rattle.java_properties.specs.Maps.{characters}
+use Rattle.java_properties.proofs.TextMaps.Values.{value_at_text_sorted}
+use Rattle.java_properties.proofs.BodyDocuments.Calls.{has-value, tells-key, value-updated}
 use Rattle.java_properties.proofs.BodyDocuments.Edits.{slots-in, taken-from}
 use Rattle.java_properties.proofs.edit.document.Document.remove.Goals as goal
 
@@ -26,4 +30,6 @@ returns c =
     let changes = rw (c.deref.ensures.value, take_rest d.source.items d.opened.start) at c.remove.ensures in
     let values = value-updated d.values c.remove-2.new.self key c.utf8.key None c.remove-2.ensures.updates in
     let taken = taken-from d c.self.invariant c.remove.new.self c.remove-2.new.self (chars key) changes values c.remove-2.ensures.ordered in
-    rw (sym c.self.view_is) (record { encoding = refl; removed = taken.removed })
+    let found = value_at_text_sorted d.values key c.utf8.key ∙ ap (option_map characters) (sym c.remove-2.ensures.value) in
+    let told = tells-key characters (open_document d) (chars key) c.remove-2.result (has-value d c.self.invariant (chars key) (option_map characters c.remove-2.result) found) in
+    rw (sym c.self.view_is, c.is_some.ensures) (record { encoding = refl; removed = taken.removed; told = told })

@@ -2,7 +2,7 @@ use Rattle.std.proofs.Common.{◌≡◌, not, true, false, ap, sym, ◌∙◌}
 use Rattle.std.specs.Str.{chars}
 use Rattle.properties_format.specs.Settings.{Settings}
 use Rattle.properties_format.specs.Writing.{is_empty}
-use Rattle.properties_format.specs.Reading.Settings.{is_blanks}
+use Rattle.properties_format.specs.Text.{is_blanks}
 use Rattle.java_properties.proofs.Settings.Tests.{is_empty-chars}
 use Rattle.java_properties.proofs.writer.settings.Settings.takes_key.Goals as goal
 

@@ -1,0 +1,411 @@
+-- How the keys of a whole input are found, logical line after logical line.
+use Rattle.std.proofs.Common.{◌≡◌, ◌≢◌, ℕ, Bool, true, false, List, [], ◌∷◌, ◌++◌, refl, sym, ap, ap₂, ◌∙◌, inl, inr, subst, map, append-nil, if◌then◌else◌}
+use Rattle.std.specs.Prelude.{◌⊎◌, Option, Some, None, Ok, Err, bytes_eq, cond}
+use Rattle.std.specs.Option.{option_map, unwrap_or}
+use Rattle.std.specs.Map.{update}
+use Rattle.std.specs.BTreeMap.{BTreeMap, UpdatesBy, get_by_text}
+use Rattle.std.specs.Cmp.Lexicographic.{slice_cmp}
+use Rattle.std.specs.Ordering.{nat_cmp}
+use Rattle.std.specs.Str.{chars, IsUtf8}
+use Rattle.std.specs.String.{string_bytes, string_cmp}
+use Rattle.std.specs.declared.string.String.{String}
+use Rattle.std.proofs.lemmas.Bool.{cases_Bool, false_from_ne_true}
+use Rattle.std.proofs.lemmas.List.{map-append}
+use Rattle.std.proofs.lemmas.Slice.Eq.{bytes_eq-Decides}
+use Rattle.counted_io.specs.Streams.{Reader}
+use Rattle.properties_format.specs.Encoding.{Encoding}
+use Rattle.properties_format.specs.Reading.Encoding.{decoded_of}
+use Rattle.properties_format.specs.Lines.{end, Line, numbered_lines}
+use Rattle.properties_format.specs.Reading.Lines.{lines_of}
+use Rattle.properties_format.specs.Groups.{joined, first_number}
+use Rattle.properties_format.specs.Reading.Groups.{groups_of}
+use Rattle.properties_format.specs.Entries.{comment, pair}
+use Rattle.properties_format.specs.Items.{Outcome, ignored, given, broken}
+use Rattle.properties_format.specs.Reading.Items.{outcome_of}
+use Rattle.properties_format.specs.Reading.Slots.{key_told}
+use Rattle.properties_format.specs.ItemsToCome.{ReaderState, start}
+use Rattle.properties_format.proofs.Encodings.Pieces.{decoded_of-meets, decoded_of-only}
+use Rattle.properties_format.proofs.Lines.Meets.{lines_of-meets}
+use Rattle.properties_format.proofs.Lines.Only.{lines_of-only}
+use Rattle.properties_format.proofs.Groups.Meets.{groups_of-meets}
+use Rattle.properties_format.proofs.Groups.Only.{groups_of-only}
+use Rattle.properties_format.proofs.Items.Unique.{outcome_of-meets, outcome_of-only}
+use Rattle.properties_lines.specs.LineJoiner.{Joiner, JoinsNext, JoinsError}
+use Rattle.properties_lines.specs.declared.error.LineError.{LineError}
+use Rattle.java_properties.specs.Errors.{IsBareError, SaysLineError}
+use Rattle.java_properties.specs.MalformedEscapes.{FailsToFind, StopsFinding}
+use Rattle.java_properties.specs.declared.error.ErrorKind.TheVariants as kind
+use Rattle.java_properties.specs.declared.error.PropertiesError.{PropertiesError}
+use Rattle.properties_text.specs.declared.escape.Malformed.{Malformed}
+use Rattle.properties_text.specs.declared.escape.UnescapeError.TheVariants as unescape
+use Rattle.java_properties.specs.LentItems.{FindsIn, found_content}
+use Rattle.java_properties.specs.Maps.{characters}
+use Rattle.java_properties.specs.declared.iter.found.Found as found
+use Rattle.java_properties.proofs.Items.{found-item}
+use Rattle.java_properties.proofs.TextMaps.Values.{at_chars-sorted, at_chars-updated}
+use Rattle.java_properties.specs.KeyLines.{KeyPlace, keys_from, AreKeysIn, AreKeys, HasNoKey, StandsFirst, KeyEntry, AreFirstsOf, AreKeyLines, said_key, said_keys, FindsAllKeys, number_at, KeepsFirst, AddsKeyLine, AddsIfKey, PushesKey}
+use Rattle.java_properties.specs.declared.iter.keys.KeyLine as code
+use Rattle.java_properties.proofs.MalformedEscapes.{Collected, collected-start, collected-next, collected-groups, found-error, found-lost, broken-in}
+
+-- ---- the keys, computed
+
+-- the key of a group, and those after it
+abbrev key_before : ℕ → Option (List ℕ) → List KeyPlace → List KeyPlace
+key_before number None rest = rest
+key_before number (Some key) rest = record { number = number; key = key } ∷ rest
+
+-- those of the groups
+abbrev pub keys_in : List (List Line) → List KeyPlace
+keys_in [] = []
+keys_in (g ∷ gs) = key_before (first_number g) (key_told (outcome_of (joined g))) (keys_in gs)
+
+same-from : (number : ℕ) (outcome : Outcome) (rest : List KeyPlace) → keys_from number outcome rest ≡ key_before number (key_told outcome) rest
+same-from number ignored rest = refl
+same-from number (given (comment text)) rest = refl
+same-from number (given (pair key value)) rest = refl
+same-from number (broken kind) rest = refl
+
+keys_in-meets : (gs : List (List Line)) → AreKeysIn gs (keys_in gs)
+keys_in-meets [] = refl
+keys_in-meets (g ∷ gs) =
+    (outcome_of (joined g), keys_in gs, outcome_of-meets (joined g), sym (same-from (first_number g) (outcome_of (joined g)) (keys_in gs)), keys_in-meets gs)
+
+keys_in-only : (gs : List (List Line)) (keys : List KeyPlace) → AreKeysIn gs keys → keys ≡ keys_in gs
+keys_in-only [] keys h = h
+keys_in-only (g ∷ gs) keys (outcome, rest, is, same, others) =
+    same
+    ∙ same-from (first_number g) outcome rest
+    ∙ ap₂ (λ v w. key_before (first_number g) (key_told v) w) (outcome_of-only (joined g) outcome is) (keys_in-only gs rest others)
+
+-- the groups of an input
+abbrev groups_in : Encoding → List ℕ → List (List Line)
+groups_in e bytes = groups_of (numbered_lines (lines_of (decoded_of e bytes)) end) end
+
+are_keys-meets : (e : Encoding) (bytes : List ℕ) → AreKeys e bytes (keys_in (groups_in e bytes))
+are_keys-meets e bytes =
+    let text = decoded_of e bytes in
+    let lines = lines_of text in
+    record {
+      text = text;
+      lines = lines;
+      groups = groups_in e bytes;
+      decoded = decoded_of-meets e bytes;
+      divided = lines_of-meets text;
+      grouped = groups_of-meets (numbered_lines lines end) end;
+      are_keys = keys_in-meets (groups_in e bytes);
+    }
+
+are_keys-only : (e : Encoding) (bytes : List ℕ) (keys : List KeyPlace) → AreKeys e bytes keys → keys ≡ keys_in (groups_in e bytes)
+are_keys-only e bytes keys h =
+    keys_in-only h.groups keys h.are_keys
+    ∙ ap keys_in (groups_of-only (numbered_lines h.lines end) end h.groups h.grouped)
+    ∙ ap (λ v. keys_in (groups_of (numbered_lines v end) end)) (lines_of-only h.text h.lines h.divided)
+    ∙ ap (λ v. keys_in (groups_of (numbered_lines (lines_of v) end) end)) (decoded_of-only e bytes h.text h.decoded)
+
+-- ---- where a key stands first
+
+-- the number of the first place with this key
+abbrev pub first_place : List KeyPlace → List ℕ → Option ℕ
+first_place [] key = None
+first_place (k ∷ ks) key = if bytes_eq k.key key then Some k.number else first_place ks key
+
+-- what is said of it
+abbrev Finds : List KeyPlace → List ℕ → Option ℕ → Type 0
+Finds keys key None = HasNoKey key keys
+Finds keys key (Some number) = StandsFirst keys key number
+
+finds-later : (k : KeyPlace) (ks : List KeyPlace) (key : List ℕ) (o : Option ℕ) → k.key ≢ key → Finds ks key o → Finds (k ∷ ks) key o
+finds-later k ks key None other h = (other, h)
+finds-later k ks key (Some number) other h =
+    record { before = k ∷ h.before; after = h.after; division = ap (λ v. k ∷ v) h.division; none = (other, h.none) }
+
+not_same : (x y : List ℕ) → bytes_eq x y ≡ false → x ≢ y
+not_same x y e q = let t = (bytes_eq-Decides x y).1 q in cc
+
+not_equal : (x y : List ℕ) → x ≢ y → bytes_eq x y ≡ false
+not_equal x y n = false_from_ne_true (bytes_eq x y) (λ t. n ((bytes_eq-Decides x y).0 t))
+
+finds-meets : (keys : List KeyPlace) (key : List ℕ) → Finds keys key (first_place keys key)
+finds-meets [] key = tt
+finds-meets (k ∷ ks) key = elim (cases_Bool (bytes_eq k.key key)) [
+  | inl same ↦
+      rw same (record { before = []; after = ks; division = ap (λ v. record { number = k.number; key = v } ∷ ks) ((bytes_eq-Decides k.key key).0 same); none = tt })
+  | inr other ↦ rw other (finds-later k ks key (first_place ks key) (not_same k.key key other) (finds-meets ks key))
+]
+
+first-in : (before : List KeyPlace) (number : ℕ) (key : List ℕ) (after : List KeyPlace) → HasNoKey key before
+    → first_place (before ++ (record { number = number; key = key } ∷ after)) key ≡ Some number
+first-in [] number key after h = let same = (bytes_eq-Decides key key).1 refl in rw same refl
+first-in (k ∷ before) number key after h = let other = not_equal k.key key h.0 in rw other (first-in before number key after h.1)
+
+first-only : (keys : List KeyPlace) (key : List ℕ) (number : ℕ) → StandsFirst keys key number → first_place keys key ≡ Some number
+first-only keys key number h = ap (λ v. first_place v key) h.division ∙ first-in h.before number key h.after h.none
+
+-- ---- each key with the number of its first place
+
+abbrev entry_of : List KeyPlace → KeyPlace → KeyEntry
+entry_of keys k = record { number = k.number; key = k.key; first = unwrap_or (first_place keys k.key) k.number }
+
+abbrev entries_among : List KeyPlace → List KeyPlace → List KeyEntry
+entries_among keys [] = []
+entries_among keys (k ∷ ks) = entry_of keys k ∷ entries_among keys ks
+
+abbrev pub key_entries : List KeyPlace → List KeyEntry
+key_entries keys = entries_among keys keys
+
+-- each of these has a first place among the keys
+abbrev AreAmong : List KeyPlace → List KeyPlace → Type 0
+AreAmong keys [] = Unit {0}
+AreAmong keys (k ∷ ks) = ((number : ℕ) × (first_place keys k.key ≡ Some number)) × AreAmong keys ks
+
+found-later : (k : KeyPlace) (keys : List KeyPlace) (key : List ℕ) (number : ℕ) → first_place keys key ≡ Some number
+    → (n : ℕ) × (first_place (k ∷ keys) key ≡ Some n)
+found-later k keys key number h = elim (cases_Bool (bytes_eq k.key key)) [
+  | inl same ↦ (k.number, rw same refl)
+  | inr other ↦ (number, rw other h)
+]
+
+among-later : (k : KeyPlace) (keys ks : List KeyPlace) → AreAmong keys ks → AreAmong (k ∷ keys) ks
+among-later k keys [] h = tt
+among-later k keys (l ∷ ks) h = (found-later k keys l.key h.0.0 h.0.1, among-later k keys ks h.1)
+
+among-all : (keys : List KeyPlace) → AreAmong keys keys
+among-all [] = tt
+among-all (k ∷ ks) = let same = (bytes_eq-Decides k.key k.key).1 refl in ((k.number, rw same refl), among-later k ks ks (among-all ks))
+
+entries-meets : (keys ks : List KeyPlace) → AreAmong keys ks → AreFirstsOf keys ks (entries_among keys ks)
+entries-meets keys [] h = refl
+entries-meets keys (k ∷ ks) h =
+    (unwrap_or (first_place keys k.key) k.number, entries_among keys ks, here (first_place keys k.key) h.0.1 (finds-meets keys k.key), refl, entries-meets keys ks h.1)
+  where
+    here : (o : Option ℕ) → o ≡ Some h.0.0 → Finds keys k.key o → StandsFirst keys k.key (unwrap_or o k.number)
+    here None is f = absurd (cc)
+    here (Some number) is f = f
+
+entries-only : (keys ks : List KeyPlace) (entries : List KeyEntry) → AreFirstsOf keys ks entries → entries ≡ entries_among keys ks
+entries-only keys [] entries h = h
+entries-only keys (k ∷ ks) entries (first, rest, stands, same, others) =
+    let found = first-only keys k.key first stands in
+    same
+    ∙ ap₂ (λ v w. record { number = k.number; key = k.key; first = v } ∷ w) (sym (ap (λ o. unwrap_or o k.number) found)) (entries-only keys ks rest others)
+
+-- what is computed are the keys of the input, and the only ones
+key_lines_of : Encoding → List ℕ → List KeyEntry
+key_lines_of e bytes = key_entries (keys_in (groups_in e bytes))
+
+key_lines_of-meets : (e : Encoding) (bytes : List ℕ) → AreKeyLines e bytes (key_lines_of e bytes)
+unfolding key_lines_of
+key_lines_of-meets e bytes =
+    let keys = keys_in (groups_in e bytes) in
+    record { keys = keys; are_keys = are_keys-meets e bytes; are_firsts = entries-meets keys keys (among-all keys) }
+
+key_lines_of-only : (e : Encoding) (bytes : List ℕ) (entries : List KeyEntry) → AreKeyLines e bytes entries → entries ≡ key_lines_of e bytes
+unfolding key_lines_of
+key_lines_of-only e bytes entries h = entries-only h.keys h.keys entries h.are_firsts ∙ ap key_entries (are_keys-only e bytes h.keys h.are_keys)
+
+-- ---- one key more
+
+-- the first of two, if there is one, else the second
+abbrev or_else : Option ℕ → Option ℕ → Option ℕ
+or_else (Some n) other = Some n
+or_else None other = other
+
+abbrev place_for : KeyPlace → List ℕ → Option ℕ
+place_for k key = if bytes_eq k.key key then Some k.number else None
+
+first-push : (ks : List KeyPlace) (k : KeyPlace) (key : List ℕ) → first_place (ks ++ k ∷ []) key ≡ or_else (first_place ks key) (place_for k key)
+first-push [] k key = refl
+first-push (l ∷ ks) k key = elim (cases_Bool (bytes_eq l.key key)) [
+  | inl same ↦ rw same refl
+  | inr other ↦ rw other (first-push ks k key)
+]
+
+-- where it stands first
+pub first-added : (ks : List KeyPlace) (k : KeyPlace) (key : List ℕ)
+    → first_place (ks ++ k ∷ []) key ≡ update bytes_eq (first_place ks) k.key (Some (unwrap_or (first_place ks k.key) k.number)) key
+first-added ks k key = first-push ks k key ∙ elim (cases_Bool (bytes_eq k.key key)) [ inl same ↦ here same | inr other ↦ there other ]
+  where
+    chosen : (o : Option ℕ) → or_else o (Some k.number) ≡ Some (unwrap_or o k.number)
+    chosen None = refl
+    chosen (Some n) = refl
+
+    here : bytes_eq k.key key ≡ true
+        → or_else (first_place ks key) (place_for k key) ≡ update bytes_eq (first_place ks) k.key (Some (unwrap_or (first_place ks k.key) k.number)) key
+    here same =
+        let is : k.key ≡ key = (bytes_eq-Decides k.key key).0 same in
+        rw same (chosen (first_place ks key) ∙ ap (λ v. Some (unwrap_or (first_place ks v) k.number)) (sym is))
+
+    kept : (o : Option ℕ) → or_else o None ≡ o
+    kept None = refl
+    kept (Some n) = refl
+
+    there : bytes_eq k.key key ≡ false
+        → or_else (first_place ks key) (place_for k key) ≡ update bytes_eq (first_place ks) k.key (Some (unwrap_or (first_place ks k.key) k.number)) key
+    there other = rw other (kept (first_place ks key))
+
+-- the keys that were there keep their first places
+entries-kept : (keys ks : List KeyPlace) (k : KeyPlace) → AreAmong keys ks → entries_among (keys ++ k ∷ []) ks ≡ entries_among keys ks
+entries-kept keys [] k h = refl
+entries-kept keys (l ∷ ks) k h =
+    ap₂ (λ v w. record { number = l.number; key = l.key; first = v } ∷ w) (ap (λ o. unwrap_or o l.number) same) (entries-kept keys ks k h.1)
+  where
+    found : first_place keys l.key ≡ Some h.0.0
+    found = h.0.1
+
+    same : first_place (keys ++ k ∷ []) l.key ≡ first_place keys l.key
+    same = first-push keys k l.key ∙ ap (λ o. or_else o (place_for k l.key)) found ∙ sym found
+
+entries-append : (keys xs ys : List KeyPlace) → entries_among keys (xs ++ ys) ≡ entries_among keys xs ++ entries_among keys ys
+entries-append keys [] ys = refl
+entries-append keys (x ∷ xs) ys = ap (λ v. entry_of keys x ∷ v) (entries-append keys xs ys)
+
+-- and the new one comes last
+entries-added : (ks : List KeyPlace) (k : KeyPlace)
+    → key_entries (ks ++ k ∷ []) ≡ key_entries ks ++ record { number = k.number; key = k.key; first = unwrap_or (first_place ks k.key) k.number } ∷ []
+entries-added ks k =
+    entries-append (ks ++ k ∷ []) ks (k ∷ [])
+    ∙ ap₂ (λ v w. v ++ record { number = k.number; key = k.key; first = w } ∷ []) (entries-kept ks ks k (among-all ks)) (ap (λ o. unwrap_or o k.number) last)
+  where
+    last : first_place (ks ++ k ∷ []) k.key ≡ Some (unwrap_or (first_place ks k.key) k.number)
+    last = first-added ks k k.key ∙ (let same = (bytes_eq-Decides k.key k.key).1 refl in rw same refl)
+
+-- ---- the line that is kept under a key
+
+update-at : {Z : Type 0} (entries : List (String Z × ℕ)) (key : List ℕ) (first : ℕ) → number_at entries key ≡ Some first
+    → (k : List ℕ) → number_at entries k ≡ update bytes_eq (number_at entries) key (Some first) k
+update-at entries key first h k = elim (cases_Bool (bytes_eq key k)) [
+  | inl same ↦ rw same (ap (number_at entries) (sym ((bytes_eq-Decides key k).0 same)) ∙ h)
+  | inr other ↦ rw other refl
+]
+
+-- a line that was kept
+pub kept-first : {Z : Type 0} (m : BTreeMap (String Z) ℕ) (key : List ℕ) (number first : ℕ) → IsUtf8 key → Some first ≡ get_by_text m key
+    → KeepsFirst number (chars key) m.entries m.entries first
+kept-first m key number first is found =
+    let at : number_at m.entries (chars key) ≡ Some first = at_chars-sorted m key is ∙ sym found in
+    record { is = sym (ap (λ o. unwrap_or o number) at); kept = update-at m.entries (chars key) first at }
+
+-- a new one
+pub new-first : {Z : Type 0} (m n : BTreeMap (String Z) ℕ) (key : List ℕ) (number : ℕ) → IsUtf8 key → None ≡ get_by_text m key
+    → UpdatesBy string_cmp (λ x. slice_cmp nat_cmp key (string_bytes x)) m n (Some number) → KeepsFirst number (chars key) m.entries n.entries number
+new-first m n key number is none updates = record {
+  is = sym (ap (λ o. unwrap_or o number) (at_chars-sorted m key is ∙ sym none));
+  kept = at_chars-updated m n key is (Some number) updates;
+}
+
+-- ---- a logical line
+
+-- what was found of it
+pub told-found : (line : List ℕ) (number : ℕ) (f : found.Found) → FindsIn line number (Ok (Some f))
+    → key_told (given (found_content line f.content)) ≡ key_told (outcome_of (chars line))
+told-found line number f h = ap key_told (sym (found-item line f h.1))
+
+-- a malformed escape
+pub told-broken : (line : List ℕ) (number : ℕ) (how : Malformed) → FindsIn line number (Err (unescape.Malformed how)) → None ≡ key_told (outcome_of (chars line))
+told-broken line number how h = let b = broken-in line number how h in sym (ap key_told b.1)
+
+-- ---- the reading
+
+keys_in-push : (gs : List (List Line)) (g : List Line)
+    → keys_in (gs ++ g ∷ []) ≡ keys_in gs ++ key_before (first_number g) (key_told (outcome_of (joined g))) []
+keys_in-push [] g = refl
+keys_in-push (h ∷ gs) g =
+    ap (key_before (first_number h) (key_told (outcome_of (joined h)))) (keys_in-push gs g)
+    ∙ before-append (key_told (outcome_of (joined h))) (keys_in gs) (key_before (first_number g) (key_told (outcome_of (joined g))) [])
+  where
+    before-append : (o : Option (List ℕ)) (xs ys : List KeyPlace) → key_before (first_number h) o (xs ++ ys) ≡ key_before (first_number h) o xs ++ ys
+    before-append None xs ys = refl
+    before-append (Some key) xs ys = refl
+
+-- These keys were found in the groups that came, and under each the number of its first line is kept.
+pub record FoundKeys {R Z : Type 0} (reader : Reader R) (e : Encoding) (from : R) (found : List code.KeyLine) (firsts : List (String Z × ℕ)) (state : ReaderState) (to : R) : Type 0 where
+  pub groups : List (List Line)
+  pub collected : Collected reader e from groups state to
+  pub entries : said_keys found ≡ key_entries (keys_in groups)
+  pub kept : (key : List ℕ) → number_at firsts key ≡ first_place (keys_in groups) key
+
+module _ {R Z : Type 0} {reader : Reader R} where
+  pub keys-start : (e : Encoding) (from : R) (found : List code.KeyLine) (firsts : List (String Z × ℕ)) (state : ReaderState) → found ≡ [] → firsts ≡ [] → state ≡ start e
+      → FoundKeys reader e from found firsts state from
+  keys-start e from found firsts state h i k = rw (h, i, k) (record { groups = []; collected = collected-start e from; entries = refl; kept = λ key. refl })
+
+  -- a logical line came
+  pub keys-next : {e : Encoding} {from to next : R} {old found : List code.KeyLine} {firsts firsts' : List (String Z × ℕ)} {s : ReaderState} (number : ℕ) (new : Joiner)
+      → FoundKeys reader e from old firsts s to → (n : JoinsNext reader s to number new next)
+      → PushesKey number (chars new.line) old firsts (Ok tt) found firsts' → FoundKeys reader e from found firsts' new.state next
+  keys-next {e} {from} {next = next} {old} {found} {firsts} {firsts'} number new h n a = by (key_told (outcome_of (chars new.line))) refl
+    where
+      g : List Line
+      g = n.group.first ∷ n.group.others
+
+      came : keys_in (h.groups ++ g ∷ []) ≡ keys_in h.groups ++ key_before number (key_told (outcome_of (chars new.line))) []
+      came =
+          keys_in-push h.groups g
+          ∙ ap₂ (λ m v. keys_in h.groups ++ key_before m (key_told (outcome_of v)) []) (sym n.group.number) (sym n.group.text)
+
+      -- without a key
+      skipped : key_told (outcome_of (chars new.line)) ≡ None → (found ≡ old) × (firsts' ≡ firsts) → FoundKeys reader e from found firsts' new.state next
+      skipped none kept =
+          let same : keys_in (h.groups ++ g ∷ []) ≡ keys_in h.groups =
+          came ∙ ap (λ o. keys_in h.groups ++ key_before number o []) none ∙ append-nil (keys_in h.groups) in
+          rw (kept.0, kept.1) (record {
+            groups = h.groups ++ g ∷ [];
+            collected = collected-next number new h.collected n;
+            entries = h.entries ∙ sym (ap key_entries same);
+            kept = λ q. h.kept q ∙ sym (ap (λ v. first_place v q) same);
+          })
+
+      -- with this key
+      added : (key : List ℕ) → key_told (outcome_of (chars new.line)) ≡ Some key → AddsKeyLine number key old found firsts firsts'
+          → FoundKeys reader e from found firsts' new.state next
+      added key told adds =
+          let k : KeyPlace = record { number = number; key = key } in
+          let same : keys_in (h.groups ++ g ∷ []) ≡ keys_in h.groups ++ k ∷ [] = came ∙ ap (λ o. keys_in h.groups ++ key_before number o []) told in
+          let first : adds.line.first ≡ unwrap_or (first_place (keys_in h.groups) key) number = adds.keeps.is ∙ ap (λ o. unwrap_or o number) (h.kept key) in
+          let says : said_key adds.line ≡ record { number = number; key = key; first = unwrap_or (first_place (keys_in h.groups) key) number } = cc (adds.says.0, adds.says.1, first) in
+          record {
+            groups = h.groups ++ g ∷ [];
+            collected = collected-next number new h.collected n;
+            entries =
+                ap said_keys adds.added
+                ∙ map-append said_key old (adds.line ∷ [])
+                ∙ ap₂ (λ v w. v ++ w ∷ []) h.entries says
+                ∙ sym (entries-added (keys_in h.groups) k)
+                ∙ sym (ap key_entries same);
+            kept = λ q.
+                adds.keeps.kept q
+                ∙ ap₂ (λ v w. cond (bytes_eq key q) (Some v) w) first (h.kept q)
+                ∙ sym (first-added (keys_in h.groups) k q)
+                ∙ sym (ap (λ v. first_place v q) same);
+          }
+
+      by : (o : Option (List ℕ)) → key_told (outcome_of (chars new.line)) ≡ o → FoundKeys reader e from found firsts' new.state next
+      by None told = skipped told (subst (λ o. AddsIfKey number o old found firsts firsts') told a)
+      by (Some key) told = added key told (subst (λ o. AddsIfKey number o old found firsts firsts') told a)
+
+  -- no more came
+  pub keys-all : {e : Encoding} {from to next : R} {found : List code.KeyLine} {firsts : List (String Z × ℕ)} {s : ReaderState} → FoundKeys reader e from found firsts s to
+      → s.is_done ≡ true → next ≡ to → FindsAllKeys reader e from found next
+  unfolding key_lines_of
+  keys-all {e} {found = found} h d same =
+      let bytes = h.collected.bytes in
+      let groups : h.groups ≡ groups_in e bytes = collected-groups h.collected d in
+      let is : said_keys found ≡ key_lines_of e bytes = h.entries ∙ ap (λ v. key_entries (keys_in v)) groups in
+      rw same (record {
+        bytes = bytes;
+        read = h.collected.read;
+        ended = h.collected.ended d;
+        are = subst (AreKeyLines e bytes) (sym is) (key_lines_of-meets e bytes);
+        only = λ others k. key_lines_of-only e bytes others k ∙ sym is;
+      })
+
+  -- no line came
+  pub keys-error : {e : Encoding} {from to next : R} {found : List code.KeyLine} {firsts : List (String Z × ℕ)} {s t : ReaderState} {why : LineError} {error : PropertiesError}
+      → FoundKeys reader e from found firsts s to → s.is_done ≡ false → JoinsError reader s to why t next → SaysLineError why error
+      → FailsToFind reader e from error next ⊎ StopsFinding reader e from error next
+  keys-error h live f says = found-error (record { groups = h.groups; collected = h.collected; escapes = refl }) live f says
+
+  -- there was no memory for a key
+  pub keys-lost : {e : Encoding} {from to next : R} {found : List code.KeyLine} {firsts : List (String Z × ℕ)} {s : ReaderState} {error : PropertiesError} (number : ℕ) (new : Joiner)
+      → FoundKeys reader e from found firsts s to → JoinsNext reader s to number new next → IsBareError kind.Memory error → StopsFinding reader e from error next
+  keys-lost number new h n is = found-lost number new (record { groups = h.groups; collected = h.collected; escapes = refl }) n is

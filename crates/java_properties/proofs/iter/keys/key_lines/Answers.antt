@@ -1,0 +1,53 @@
+use Rattle.std.proofs.Common.{◌≡◌, ◌∙◌, refl, ap, sym, subst, inl, inr}
+use Rattle.std.proofs.lemmas.Result.{err_from_is_err_and}
+use Rattle.properties_text.specs.Encoding.{encoding_of}
+use Rattle.properties_lines.specs.LineJoiner.{Joiner, Joining}
+use Rattle.java_properties.specs.Errors.{IsBareError, SaysLineError}
+use Rattle.java_properties.specs.declared.error.ErrorKind.TheVariants.{Memory}
+use Rattle.java_properties.specs.declared.error.PropertiesError.{PropertiesError}
+use Rattle.java_properties.proofs.KeyLines.{keys-start, keys-next, keys-all, keys-error, keys-lost}
+use Rattle.java_properties.proofs.iter.keys.key_lines.Goals as goal
+
+pub loop-number-init : goal.loop-number-init
+loop-number-init g c = record {
+  found = keys-start (encoding_of c.args.encoding) c.args.input.now _ _ _ c.new-keys.ensures.items c.new-firsts.ensures.empty (ap (λ v. let w : Joiner = v in w.state) c.new-lines.ensures.at);
+  error = c.new-lines.ensures.error;
+  ordered = c.new-firsts.ensures.ordered;
+  same_reader = refl;
+}
+
+pub loop-number-preserved : goal.loop-number-preserved
+loop-number-preserved g c =
+    let next = c.in-Some.ensures.joins.0 in
+    let pushed = rw c.line.ensures at c.in_ok-push_key.ensures.pushes in
+    record {
+      found = keys-next c.in-Some.number c.next_line.new.self.at c.loop-number.invariant.found next pushed;
+      error = c.in-Some.ensures.joins.2;
+      ordered = c.push_key.ensures.ordered;
+      same_reader = c.next_line.ensures.same_reader ∙ c.loop-number.invariant.same_reader;
+    }
+
+pub returns-in_err-push_key-clause-finds : goal.returns-in_err-push_key-clause-finds
+returns-in_err-push_key-clause-finds g c =
+    let next = c.in-Some.ensures.joins.0 in
+    let error = err_from_is_err_and c.from_residual.result c.from_residual.ensures.1 in
+    let P : PropertiesError → Type 0 = λ v. IsBareError Memory v in
+    rw error.1
+    (inr (keys-lost c.in-Some.number c.next_line.new.self.at c.loop-number.invariant.found next (subst P (sym error.2) c.in_err-push_key.ensures.pushes)))
+
+pub returns-in-Some-take_error-clause-finds : goal.returns-in-Some-take_error-clause-finds
+returns-in-Some-take_error-clause-finds g c = elim c.in_default.ensures.joins [
+  | inl k ↦
+      let none = ap (λ v. let w : Joining = v in w.error) k.1 ∙ c.loop-number.invariant.error in
+      absurd (cc (c.in-Some-take_error.is, c.take_error.ensures.error, none))
+  | inr k ↦
+      let same : k.error ≡ c.in-Some-take_error.error = cc (c.in-Some-take_error.is, c.take_error.ensures.error, k.kept) in
+      let says = subst (λ v. SaysLineError v c.from.result) (sym same) c.from.ensures in
+      keys-error c.loop-number.invariant.found k.live k.why says
+]
+
+pub returns-clause-finds : goal.returns-clause-finds
+returns-clause-finds g c = elim c.in_default.ensures.joins [
+  | inl k ↦ keys-all c.loop-number.invariant.found k.0 k.2
+  | inr k ↦ absurd (cc (c.take_error.ensures.error, k.kept))
+]

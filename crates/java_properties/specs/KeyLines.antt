@@ -1,0 +1,139 @@
+-- The keys of an input, each with its line and with the line in which the key stands first; and what finding them returns.
+-- Source: java.util.Properties of Java SE 7, load.
+use Rattle.std.specs.Prelude.{◌≡◌, ◌≢◌, ◌⊎◌, ℕ, true, List, [], ◌∷◌, ◌++◌, map, Option, Some, None, bytes_eq, Result, Ok, Err}
+use Rattle.std.specs.Option.{option_map, unwrap_or}
+use Rattle.std.specs.Map.{lookup, update}
+use Rattle.std.specs.declared.string.String.{String}
+use Rattle.std.specs.declared.vec.Vec.{Vec}
+use Rattle.counted_io.specs.Streams.{Reader, HasRead}
+use Rattle.properties_format.specs.Encoding.{Encoding, IsDecoded}
+use Rattle.properties_format.specs.Lines.{end, Line, Lines, IsLines, numbered_lines}
+use Rattle.properties_format.specs.Groups.{IsGroups, joined, first_number}
+use Rattle.properties_format.specs.Entries.{comment, pair}
+use Rattle.properties_format.specs.Items.{Outcome, ignored, given, broken, IsOutcome}
+use Rattle.properties_format.specs.Reading.Items.{outcome_of}
+use Rattle.properties_format.specs.Reading.Slots.{key_told}
+use Rattle.java_properties.specs.Errors.{IsBareError}
+use Rattle.java_properties.specs.Maps.{characters}
+use Rattle.java_properties.specs.MalformedEscapes.{FailsToFind, StopsFinding}
+use Rattle.java_properties.specs.declared.error.ErrorKind.TheVariants as kind
+use Rattle.java_properties.specs.declared.error.PropertiesError.{PropertiesError}
+use Rattle.java_properties.specs.declared.iter.keys.KeyLine as code
+
+-- ---- the keys of an input
+
+-- the key of a pair, and the number of the pair's first line
+pub record KeyPlace : Type 0 where
+  pub number : ℕ
+  pub key : List ℕ
+
+-- the keys of a logical line of this number and outcome, and of the lines after it: a pair has one, unless an escape of it is malformed
+abbrev pub keys_from : ℕ → Outcome → List KeyPlace → List KeyPlace
+keys_from number ignored rest = rest
+keys_from number (given (comment text)) rest = rest
+keys_from number (given (pair key value)) rest = record { number = number; key = key } ∷ rest
+keys_from number (broken kind) rest = rest
+
+-- These are the keys of the groups, in order.
+abbrev pub AreKeysIn : List (List Line) → List KeyPlace → Type 0
+AreKeysIn [] keys = keys ≡ []
+AreKeysIn (group ∷ groups) keys =
+    (outcome : Outcome) × (rest : List KeyPlace) × IsOutcome (joined group) outcome
+    × (keys ≡ keys_from (first_number group) outcome rest) × AreKeysIn groups rest
+
+-- The keys of an input in an encoding: it decodes to a text, the text has lines, the lines have groups, and these are their keys.
+pub record AreKeys (e : Encoding) (bytes : List ℕ) (keys : List KeyPlace) : Type 0 where
+  pub text : List ℕ
+  pub lines : Lines
+  pub groups : List (List Line)
+  pub decoded : IsDecoded e bytes text
+  pub divided : IsLines text lines
+  pub grouped : IsGroups (numbered_lines lines end) end groups
+  pub are_keys : AreKeysIn groups keys
+
+-- ---- where a key stands first
+
+-- none of the places has this key
+abbrev pub HasNoKey : List ℕ → List KeyPlace → Type 0
+HasNoKey key [] = Unit {0}
+HasNoKey key (k ∷ ks) = (k.key ≢ key) × HasNoKey key ks
+
+-- Of these places the first with this key has this number.
+pub record StandsFirst (keys : List KeyPlace) (key : List ℕ) (number : ℕ) : Type 0 where
+  pub before : List KeyPlace
+  pub after : List KeyPlace
+  pub division : keys ≡ before ++ (record { number = number; key = key } ∷ after)
+  pub none : HasNoKey key before
+
+-- a key, the number of its pair's first line, and that of the first pair with this key
+pub record KeyEntry : Type 0 where
+  pub number : ℕ
+  pub key : List ℕ
+  pub first : ℕ
+
+-- These are the keys at some of the places, each with the number of the first place with that key.
+abbrev pub AreFirstsOf : List KeyPlace → List KeyPlace → List KeyEntry → Type 0
+AreFirstsOf keys [] lines = lines ≡ []
+AreFirstsOf keys (k ∷ ks) lines =
+    (first : ℕ) × (rest : List KeyEntry) × StandsFirst keys k.key first
+    × (lines ≡ record { number = k.number; key = k.key; first = first } ∷ rest) × AreFirstsOf keys ks rest
+
+-- The keys of an input, each with its line and with the line in which it stands first.
+pub record AreKeyLines (e : Encoding) (bytes : List ℕ) (lines : List KeyEntry) : Type 0 where
+  pub keys : List KeyPlace
+  pub are_keys : AreKeys e bytes keys
+  pub are_firsts : AreFirstsOf keys keys lines
+
+-- ---- what finding them returns
+
+-- the same of the code, whose key is a text
+abbrev pub said_key : code.KeyLine → KeyEntry
+said_key line = record { number = line.line_number; key = characters line.key; first = line.first }
+
+abbrev pub said_keys : List code.KeyLine → List KeyEntry
+said_keys lines = map said_key lines
+
+-- The reader was read to its end, and these are the keys of its bytes, and the only ones.
+pub record FindsAllKeys {R : Type 0} (reader : Reader R) (e : Encoding) (from : R) (found : List code.KeyLine) (to : R) : Type 0 where
+  pub bytes : List ℕ
+  pub read : HasRead reader from bytes to
+  pub ended : reader.at_end to ≡ true
+  pub are : AreKeyLines e bytes (said_keys found)
+  pub only : (others : List KeyEntry) → AreKeyLines e bytes others → others ≡ said_keys found
+
+-- What finding them returns. Ok comes at the reader's own end alone.
+abbrev pub FindsKeys : {R Z : Type 0} → Reader R → Encoding → R → Result (Vec code.KeyLine Z) PropertiesError → R → Type 0
+FindsKeys reader e from (Ok found) to = FindsAllKeys reader e from found.items to
+FindsKeys reader e from (Err error) to = FailsToFind reader e from error to ⊎ StopsFinding reader e from error to
+
+-- ---- line by line
+
+-- the key of a logical line, where it is a pair without a malformed escape; or there was no memory
+abbrev pub TellsLineKey : {Z : Type 0} → List ℕ → Result (Option (String Z)) PropertiesError → Type 0
+TellsLineKey x (Ok told) = option_map characters told ≡ key_told (outcome_of x)
+TellsLineKey x (Err error) = IsBareError kind.Memory error
+
+-- the number that is kept under a key, which is given by its characters
+abbrev pub number_at : {Z : Type 0} → List (String Z × ℕ) → List ℕ → Option ℕ
+number_at entries key = lookup (λ k. bytes_eq key (characters k)) entries
+
+-- This is the number that is kept under a key, or where none is, the one that is kept from now on.
+pub record KeepsFirst {Z : Type 0} (number : ℕ) (key : List ℕ) (old new : List (String Z × ℕ)) (first : ℕ) : Type 0 where
+  pub is : first ≡ unwrap_or (number_at old key) number
+  pub kept : (k : List ℕ) → number_at new k ≡ update bytes_eq (number_at old) key (Some first) k
+
+-- The key comes last, with the number that is kept under it.
+pub record AddsKeyLine {Z : Type 0} (number : ℕ) (key : List ℕ) (old new : List code.KeyLine) (firsts firsts' : List (String Z × ℕ)) : Type 0 where
+  pub line : code.KeyLine
+  pub says : (line.line_number ≡ number) × (characters line.key ≡ key)
+  pub added : new ≡ old ++ line ∷ []
+  pub keeps : KeepsFirst number key firsts firsts' line.first
+
+abbrev pub AddsIfKey : {Z : Type 0} → ℕ → Option (List ℕ) → List code.KeyLine → List code.KeyLine → List (String Z × ℕ) → List (String Z × ℕ) → Type 0
+AddsIfKey number None old new firsts firsts' = (new ≡ old) × (firsts' ≡ firsts)
+AddsIfKey number (Some key) old new firsts firsts' = AddsKeyLine number key old new firsts firsts'
+
+-- What a logical line of this number and text adds; or there was no memory.
+abbrev pub PushesKey : {Z : Type 0} → ℕ → List ℕ → List code.KeyLine → List (String Z × ℕ) → Result Unit PropertiesError → List code.KeyLine → List (String Z × ℕ) → Type 0
+PushesKey number x old firsts (Ok done) new firsts' = AddsIfKey number (key_told (outcome_of x)) old new firsts firsts'
+PushesKey number x old firsts (Err error) new firsts' = IsBareError kind.Memory error

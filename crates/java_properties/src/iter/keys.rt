@@ -1,0 +1,161 @@
+// The keys of an input, each with its line.
+
+ghost use Rattle.std.specs.Prelude.{IfOk, OnOk};
+ghost use Rattle.std.specs.Str.{chars};
+ghost use Rattle.std.specs.String.{string_cmp};
+ghost use Rattle.std.specs.BTreeMap.{IsOrdered};
+ghost use Rattle.counted_io.specs.Streams.{IsSameReader};
+ghost use Rattle.properties_text.specs.Encoding.{encoding_of};
+ghost use Rattle.java_properties.specs.Maps.{characters};
+ghost use Rattle.java_properties.specs.KeyLines.{AddsKeyLine, FindsKeys, KeepsFirst, PushesKey, TellsLineKey};
+
+use crate::error::PropertiesError;
+use crate::iter::found::find_escaped;
+use counted_io::CountedRead;
+use properties_lines::joiner::LineJoiner;
+use properties_text::encoding::Encoding;
+use properties_text::escape::UnescapeError;
+use std::alloc::{AllocError, Global};
+use std::collections::BTreeMap;
+
+/// The key of a pair, with the number of the line in which the pair begins.
+///
+/// ```text
+/// for key in &key_lines(alloc, &mut input, Encoding::UTF_8)? {
+///     if key.first != key.line_number {
+///         println!(rt; "{name}:{}: the key of line {} again", key.line_number, key.first)?;
+///     }
+/// }
+/// ```
+#[derive(Clone, Debug, PartialEq, Eq, Drop)]
+pub struct KeyLine {
+    /// The number of the first natural line of the pair. Lines are numbered from 1.
+    pub line_number: usize,
+    /// The key.
+    pub key: String,
+    /// The number of the line in which the first pair with this key begins: its own, where no pair before has the key.
+    pub first: usize,
+}
+
+/// Reads an input to its end, and returns the key of each pair, in order. A pair with a malformed escape is left out.
+///
+/// An error is one of the reader, of numbers for lines, or of memory. A byte order mark at the front overrules the
+/// encoding.
+///
+/// ```text
+/// let mut input: &[u8] = b"# the front door\nport = 80\nhost = a\nport = 81";
+/// let keys = key_lines(alloc, &mut input, Encoding::UTF_8)?;
+/// // They are `port` in line 2, `host` in line 3, and `port` in line 4, which line 2 has first.
+/// ```
+pub fn key_lines<R: CountedRead>(
+    alloc: Global,
+    input: &mut R,
+    encoding: Encoding,
+) -> Result<Vec<KeyLine>, PropertiesError>
+    ensures finds { FindsKeys R.CountedRead (encoding_of encoding) input.old result input.new }
+    ensures same_reader { IsSameReader R.CountedRead input.old input.new }
+{
+    let mut lines = LineJoiner::new(alloc, encoding);
+    let mut keys = Vec::new(alloc);
+    let mut firsts = BTreeMap::new(alloc);
+    while let Some(number) = lines.next_line(input) {
+        push_key(alloc, &mut keys, &mut firsts, number, lines.line())?;
+    }
+    if let Some(error) = lines.take_error() {
+        return Err(PropertiesError::from(error));
+    }
+    Ok(keys)
+}
+
+// Appends the key of a logical line that begins in the line of this number, where it has one.
+fn push_key(
+    alloc: Global,
+    keys: &mut Vec<KeyLine>,
+    firsts: &mut BTreeMap<String, usize>,
+    line_number: usize,
+    line: &str,
+) -> Result<(), PropertiesError>
+    requires { IsOrdered string_cmp firsts.old }
+    ensures pushes { PushesKey line_number (chars line.now) keys.old.items firsts.old.entries result keys.new.items firsts.new.entries }
+    ensures ordered { IsOrdered string_cmp firsts.new }
+{
+    match key_in(alloc, line_number, line)? {
+        Some(key) => Ok(add_key(keys, firsts, line_number, key)?),
+        None => Ok(()),
+    }
+}
+
+// The key of a logical line, where it is a pair without a malformed escape.
+fn key_in(alloc: Global, line_number: usize, line: &str) -> Result<Option<String>, PropertiesError>
+    ensures { TellsLineKey (chars line.now) result }
+{
+    let found = match find_escaped(alloc, line_number, line) {
+        Ok(found) => found,
+        Err(UnescapeError::Malformed(_)) => return Ok(None),
+        Err(UnescapeError::Memory) => {
+            return Err(PropertiesError::unresolved(line_number, UnescapeError::Memory));
+        }
+    };
+    match found {
+        Some(found) => Ok(found.key(alloc, line)?),
+        None => Ok(None),
+    }
+}
+
+// Appends a key, and keeps its line where no pair before has it.
+fn add_key(
+    keys: &mut Vec<KeyLine>,
+    firsts: &mut BTreeMap<String, usize>,
+    line_number: usize,
+    key: String,
+) -> Result<(), AllocError>
+    requires { IsOrdered string_cmp firsts.old }
+    ensures adds { OnOk result (AddsKeyLine line_number (characters key) keys.old.items keys.new.items firsts.old.entries firsts.new.entries) }
+    ensures ordered { IsOrdered string_cmp firsts.new }
+{
+    let first = keep_first(firsts, line_number, &key)?;
+    keys.push(KeyLine {
+        line_number,
+        key,
+        first,
+    })?;
+    Ok(())
+}
+
+// The number of the line that is kept under a key. Where none is, it is this one, which is then kept.
+fn keep_first(
+    firsts: &mut BTreeMap<String, usize>,
+    line_number: usize,
+    key: &String,
+) -> Result<usize, AllocError>
+    requires { IsOrdered string_cmp firsts.old }
+    ensures keeps { IfOk result (KeepsFirst line_number (characters key.now) firsts.old.entries firsts.new.entries) }
+    ensures ordered { IsOrdered string_cmp firsts.new }
+{
+    if let Some(first) = firsts.get(key.as_str()) {
+        return Ok(*first);
+    }
+    firsts.insert(key.clone()?, line_number)?;
+    Ok(line_number)
+}
+
+#[cfg(test)]
+mod tests {
+    use super::*;
+    use std::test::Fail;
+
+    #[test]
+    fn finds_keys_past_malformed_lines(rt: HostRuntime) -> Result<(), Fail> {
+        let mut input: &[u8] = b"# C:\\users\na=1\nb\\\n c=2\na=\\u12\n\\u0061=3\n!x\n\na";
+        let keys = key_lines(rt.alloc(), &mut input, Encoding::UTF_8)?;
+        let mut found = Vec::new(rt.alloc());
+        for key in &keys {
+            found.push((key.line_number, key.key.as_str(), key.first))?;
+        }
+        assert_eq!(rt;
+            found.as_slice(),
+            [(2, "a", 2), (3, "bc", 3), (6, "a", 2), (9, "a", 2)].as_slice()
+        );
+        Ok(())
+    }
+}

@@ -1,0 +1,216 @@
+-- A walk along the lines of a pair's group to the end of its front: what is left of the text before the value, told by sizes in UTF-8.
+use Rattle.std.proofs.Common.{◌≡◌, ◌≢◌, ◌<◌, ◌≤◌, ℕ, ◌+◌, Bool, true, false, List, [], ◌∷◌, ◌++◌, length}
+use Rattle.std.proofs.Common.{take, drop, refl, inl, inr, ap, ap₂, sym, ◌∙◌, arith, append_assoc, append-nil, length-append, subst}
+use Rattle.std.specs.Prelude.{nat_le, if◌then◌else◌}
+use Rattle.std.specs.Str.{IsUtf8, chars, all_scalars, encode_utf8_all}
+use Rattle.std.proofs.Math.Utf8 as std_utf8
+use Rattle.std.proofs.Math.Seq.{take-append_seam, drop-append_seam}
+use Rattle.std.proofs.lemmas.Bool.{cases_Bool, and_parts, and_from}
+use Rattle.std.proofs.lemmas.List.{append_cancel_left, append_cancel_right}
+use Rattle.std.proofs.lemmas.Str.{encodes-append, length-le-encodes, encodes-chars, chars-encodes, scalars-chars}
+use Rattle.properties_format.specs.Text.{backslash}
+use Rattle.properties_format.specs.Encoding.{Encoding}
+use Rattle.properties_format.specs.Groups.{is_open, joined}
+use Rattle.properties_format.specs.Split.{AreBlanks, ends, IsPair}
+use Rattle.properties_format.specs.Reading.Split.{ends_key}
+use Rattle.properties_format.specs.Reading.Cut.{decoded_line}
+use Rattle.properties_format.specs.Body.{HeldLine, as_lines}
+use Rattle.properties_format.specs.Edited.{is_editable}
+use Rattle.properties_format.specs.Reading.Slots.{unended_bytes}
+use Rattle.properties_format.specs.Reading.Valued.{without_indent, added_by, before_value, front_in, front_of, between_of, ascii_count, after_ascii}
+use Rattle.properties_format.proofs.Body.Decoded.{decoded-nil}
+use Rattle.properties_format.proofs.Valued.Parts.{pair-line, before_value-pair}
+use Rattle.properties_format.proofs.Valued.Fronts.{indented, open-indent, open_backslash, shut-whole, joined_by, joined-by, none-left}
+use Rattle.properties_format.proofs.Valued.Fronts.{split-longer, MayEnd, ends-right, AreDecoded, pair-end, pair-some, pair-unmarked, no_lines-no_pair, front_of-meets}
+use Rattle.properties_format.proofs.Valued.Steps.{front_size-inside}
+use Rattle.properties_format.proofs.Valued.Read.{front-unended}
+
+-- ---- two fronts of one text, by their sizes
+
+-- how many bytes a text has in UTF-8
+abbrev pub utf8_size : List ℕ → ℕ
+utf8_size x = length (encode_utf8_all x)
+
+-- in two parts
+size-append : (x y : List ℕ) → utf8_size (x ++ y) ≡ utf8_size x + utf8_size y
+size-append x y = ap length (encodes-append x y) ∙ length-append (encode_utf8_all x) (encode_utf8_all y)
+
+-- the text of some bytes has as many
+pub size-text : (x : List ℕ) → IsUtf8 x → utf8_size (chars x) ≡ length x
+size-text x u = ap length (encodes-chars x u)
+
+-- two texts are of scalar values where both together are
+scalars-parts : (p y : List ℕ) → all_scalars (p ++ y) ≡ true → (all_scalars p ≡ true) × (all_scalars y ≡ true)
+scalars-parts [] y h = (refl, h)
+scalars-parts (c ∷ p) y h =
+    let m = and_parts (std_utf8.scalar c) (all_scalars (p ++ y)) h in
+    let n = scalars-parts p y m.1 in
+    (and_from (std_utf8.scalar c) (all_scalars p) m.0 n.0, n.1)
+
+-- Bytes that are cut where a text is: both parts are texts.
+pub record IsCutText (bytes : List ℕ) (at : ℕ) (front back : List ℕ) : Type 0 where
+  pub front_utf8 : IsUtf8 (take at bytes)
+  pub front_chars : chars (take at bytes) ≡ front
+  pub back_utf8 : IsUtf8 (drop at bytes)
+  pub back_chars : chars (drop at bytes) ≡ back
+
+-- They are cut so after as many bytes as the front of the text has.
+pub text-cut : (x p y : List ℕ) (at : ℕ) → IsUtf8 x → chars x ≡ p ++ y → at ≡ utf8_size p → IsCutText x at p y
+text-cut x p y at u s n =
+    let k = scalars-parts p y (ap all_scalars (sym s) ∙ scalars-chars x u) in
+    let w : x ≡ encode_utf8_all p ++ encode_utf8_all y = sym (encodes-chars x u) ∙ ap encode_utf8_all s ∙ encodes-append p y in
+    let f : take at x ≡ encode_utf8_all p = ap₂ take n w ∙ take-append_seam (encode_utf8_all p) (encode_utf8_all y) in
+    let b : drop at x ≡ encode_utf8_all y = ap₂ drop n w ∙ drop-append_seam (encode_utf8_all p) (encode_utf8_all y) in
+    record {
+      front_utf8 = (p, (k.0, sym f));
+      front_chars = ap chars f ∙ chars-encodes p k.0;
+      back_utf8 = (y, (k.1, sym b));
+      back_chars = ap chars b ∙ chars-encodes y k.1;
+    }
+
+-- what has no bytes has no characters
+no-size : (x : List ℕ) → utf8_size x ≡ 0 → x ≡ []
+no-size [] h = refl
+no-size (c ∷ x) h = let m = length-le-encodes (c ∷ x) in absurd (omega arith)
+
+-- the longer of two fronts of a text, where the other isn't longer: it is the other and more
+front-parts : (p v a j : List ℕ) → a ++ j ≡ p ++ v → utf8_size p ≤ utf8_size a → (r : List ℕ) × (a ≡ p ++ r) × (utf8_size a ≡ utf8_size p + utf8_size r)
+front-parts p v a j s l = elim (cases_Bool (nat_le (length p) (length a))) [
+  | inl k ↦ let m = split-longer p v a j s (grind (arith)) in (m.0, m.1, ap utf8_size m.1 ∙ size-append p m.0)
+  | inr k ↦
+      let m = split-longer a j p v (sym s) (grind (arith)) in
+      let t : utf8_size p ≡ utf8_size a + utf8_size m.0 = ap utf8_size m.1 ∙ size-append a m.0 in
+      let n : m.0 ≡ [] = no-size m.0 (omega arith) in
+      let same : p ≡ a = m.1 ∙ ap (λ w. a ++ w) n ∙ append-nil a in
+      ([], sym same ∙ sym (append-nil p), ap utf8_size (sym same ∙ sym (append-nil p)) ∙ size-append p [])
+]
+
+-- ---- what a line adds, in bytes
+
+-- A line that is open has a byte.
+pub open-some : (e : Encoding) (d x : List ℕ) → decoded_line e d ≡ x → is_open x ≡ true → 1 ≤ length d
+open-some e [] x s o = let m : is_open [] ≡ true = ap is_open (sym (decoded-nil e) ∙ s) ∙ o in absurd (cc)
+open-some e (b ∷ d) x s o = omega arith
+
+-- the backslash that leaves a line open is one byte, where there is one
+open-size : (o : Bool) → utf8_size (if o then backslash ∷ [] else []) ≡ (if o then 1 else 0)
+unfolding std_utf8.encode
+open-size true = refl
+open-size false = refl
+
+-- A line without its indent has as many bytes in UTF-8 as what it adds, and one more where it is open.
+pub added-size : (first : Bool) (x : List ℕ)
+    → utf8_size (without_indent first x) ≡ utf8_size (added_by first x) + (if is_open x then 1 else 0)
+added-size first x =
+    let y = without_indent first x in
+    ap utf8_size (shut-whole y)
+    ∙ size-append (added_by first x) (open_backslash y)
+    ∙ ap (λ n. utf8_size (added_by first x) + n) (open-size (is_open y) ∙ ap (λ o. if o then 1 else 0) (open-indent first x))
+
+-- ---- the walk
+
+-- A walk stands before these lines, of which the first is the first of the group or not: they add what is left of the text before the value, and the value.
+pub record StandsBefore (e : Encoding) (first : Bool) (lines : List HeldLine) (left value : List ℕ) : Type 0 where
+  pub decoded : AreDecoded e lines
+  pub adds : joined_by first lines ≡ left ++ value
+  pub may_end : MayEnd left value
+  pub some : left ≢ []
+
+-- It begins before all lines of the group.
+pub walk-begins : (e : Encoding) (group : List HeldLine) (key value : List ℕ) → AreDecoded e group → IsPair (joined (as_lines group)) key value
+    → StandsBefore e true group (before_value (joined (as_lines group))) value
+walk-begins e [] key value d h = absurd (no_lines-no_pair key value h)
+walk-begins e (i ∷ is) key value d h =
+    let line = joined (as_lines (i ∷ is)) in
+    let s = before_value-pair line key value h in
+    record {
+      decoded = d;
+      adds = sym (joined-by i is (pair-unmarked i is key value h)) ∙ pair-line line key value h ∙ ap (λ v. v ++ value) (sym s);
+      may_end = subst (λ v. MayEnd v value) (sym s) (pair-end line key value h);
+      some = λ q. pair-some line key value h (subst AreBlanks (sym (sym s ∙ q)) tt);
+    }
+
+-- It ends before the lines do.
+pub walk-ends : (e : Encoding) (first : Bool) (left value : List ℕ) → StandsBefore e first [] left value → ⊥
+walk-ends e first left value h = h.some (none-left left value (sym h.adds))
+
+-- In the last line no more is left than that line adds.
+pub walk-last : (e : Encoding) (first : Bool) (h : HeldLine) (left value : List ℕ) → StandsBefore e first (h ∷ []) left value
+    → utf8_size left ≤ utf8_size (added_by first h.text)
+walk-last e first h left value w =
+    let s : added_by first h.text ≡ left ++ value = sym (append-nil (added_by first h.text)) ∙ w.adds in
+    let t : utf8_size (added_by first h.text) ≡ utf8_size left + utf8_size value = ap utf8_size s ∙ size-append left value in
+    omega arith
+
+-- Where as much is left as a line adds, the front ends with what it adds.
+pub walk-here : (e : Encoding) (first : Bool) (h : HeldLine) (hs : List HeldLine) (left value : List ℕ) → StandsBefore e first (h ∷ hs) left value
+    → utf8_size left ≡ utf8_size (added_by first h.text)
+    → added_by first h.text ≡ left
+walk-here e first h hs left value w l =
+    let m = front-parts left value (added_by first h.text) (joined_by false hs) w.adds (omega arith) in
+    let sum = m.2 in
+    let none : m.0 ≡ [] = no-size m.0 (omega arith) in
+    m.1 ∙ ap (λ v. left ++ v) none ∙ append-nil left
+
+-- where it adds more, the front may end in it
+may-here : (p r j v : List ℕ) → (p ++ r) ++ j ≡ p ++ v → r ≢ [] → MayEnd p v → ends ends_key p ≡ true
+may-here p r j v s some (inl k) = k
+may-here p r j v s some (inr k) =
+    absurd (some (none-left r j (append_cancel_left p (r ++ j) [] (sym (append_assoc p r j) ∙ s ∙ ap (λ w. p ++ w) k))))
+
+-- Where less is left than a line adds, the front ends inside it: at the place after as many ASCII bytes as stand in the text of the line up to there.
+pub walk-inside : (e : Encoding) (first : Bool) (h : HeldLine) (hs : List HeldLine) (left value : List ℕ) → is_editable e ≡ true
+    → StandsBefore e first (h ∷ hs) left value → utf8_size left < utf8_size (added_by first h.text)
+    → (x y : List ℕ) → h.text ≡ x ++ y → without_indent first h.text ≡ left ++ y
+    → length (front_in e first left (h ∷ hs)) ≡ after_ascii (ascii_count x) h.bytes
+walk-inside e first h hs left value ok w l x y s t =
+    let m = front-parts left value (added_by first h.text) (joined_by false hs) w.adds (omega arith) in
+    let sum = m.2 in
+    let some : m.0 ≢ [] = λ q. let n : utf8_size m.0 ≡ 0 = ap utf8_size q in absurd (omega arith) in
+    let k = may-here left m.0 (joined_by false hs) value (ap (λ v. v ++ joined_by false hs) (sym m.1) ∙ w.adds) some w.may_end in
+    let i = indented first h.text in
+    let same : x ≡ i.indent ++ left =
+    append_cancel_right x (i.indent ++ left) y (sym s ∙ i.whole ∙ ap (λ v. i.indent ++ v) t ∙ sym (append_assoc i.indent left y)) in
+    front_size-inside e first h hs left m.0 ok w.decoded.0 m.1 k ∙ ap (λ v. after_ascii (ascii_count v) h.bytes) (sym same)
+
+-- What is left after a line, where more was left than it adds.
+pub record GoesOn (e : Encoding) (first : Bool) (h : HeldLine) (hs : List HeldLine) (left value : List ℕ) : Type 0 where
+  pub next : List ℕ
+  pub whole : left ≡ added_by first h.text ++ next
+  pub size : utf8_size left ≡ utf8_size (added_by first h.text) + utf8_size next
+  pub stands : StandsBefore e false hs next value
+
+-- Then the walk goes on past it.
+pub walk-on : (e : Encoding) (first : Bool) (h : HeldLine) (hs : List HeldLine) (left value : List ℕ) → StandsBefore e first (h ∷ hs) left value
+    → utf8_size (added_by first h.text) < utf8_size left → GoesOn e first h hs left value
+walk-on e first h hs left value w l =
+    let a = added_by first h.text in
+    let m = front-parts a (joined_by false hs) left value (sym w.adds) (omega arith) in
+    let sum = m.2 in
+    let some : m.0 ≢ [] = λ q. let n : utf8_size m.0 ≡ 0 = ap utf8_size q in absurd (omega arith) in
+    let rest : joined_by false hs ≡ m.0 ++ value =
+    append_cancel_left a (joined_by false hs) (m.0 ++ value) (w.adds ∙ ap (λ v. v ++ value) m.1 ∙ append_assoc a m.0 value) in
+    record {
+      next = m.0;
+      whole = m.1;
+      size = m.2;
+      stands = record { decoded = w.decoded.1; adds = rest; may_end = may-later m.0 some m.1 w.may_end; some = some };
+    }
+  where
+    may-later : (q : List ℕ) → q ≢ [] → left ≡ added_by first h.text ++ q → MayEnd left value → MayEnd q value
+    may-later q more t (inl z) = inl (sym (ends-right ends_key (added_by first h.text) q more) ∙ ap (ends ends_key) (sym t) ∙ z)
+    may-later q more t (inr z) = inr z
+
+-- the front of some bytes is no longer than they are
+front-less : (x y z : List ℕ) → x ≡ y ++ z → length y ≤ length x
+front-less x y z s =
+    let l : length x ≡ length (y ++ z) = ap length s in
+    let m = length-append y z in
+    omega arith
+
+-- The front is no longer than the group without its last line ending.
+pub front-within : (e : Encoding) (group : List HeldLine) (key value : List ℕ) → is_editable e ≡ true → AreDecoded e group → IsPair (joined (as_lines group)) key value
+    → length (front_of e group) ≤ length (unended_bytes group)
+front-within e group key value ok d h =
+    front-less (unended_bytes group) (front_of e group) _
+    (front-unended e group (between_of group) (front_of e group) (front_of-meets e group key value ok d h))
