@@ -1,4 +1,4 @@
-// Faults counted around any stream.
+// Counts the faults of any stream.
 
 ghost use Rattle.std.specs.Prelude.{◌≡◌, false};
 ghost use Rattle.std.specs.Io.{ReadsAtMost, WritesAtMost};
@@ -10,9 +10,9 @@ use crate::read::CountedRead;
 use crate::write::CountedWrite;
 use std::io::{self, Read, Write};
 
-/// A stream, beside the number of its faults.
+/// A stream with the number of its faults.
 ///
-/// It is at its end where its last read into a buffer with room gave no byte.
+/// It is at its end if its last read into a buffer with room returned no bytes.
 ///
 /// ```text
 /// let mut output = Counted::new(Vec::new(alloc));
@@ -43,7 +43,7 @@ impl<T> Counted<T> {
         }
     }
 
-    /// The stream inside.
+    /// Returns the inner stream.
     pub fn into_inner(self) -> T
         ensures { result ≡ counted_inner self }
     {
@@ -56,7 +56,7 @@ impl<T> Counted<T> {
         inner
     }
 
-    /// How many faults there were. At `usize::MAX` it stays.
+    /// Returns the number of faults. It saturates at `usize::MAX`.
     pub fn faults(&self) -> usize
         ensures { result ≡ counted_faults self.now }
     {

@@ -1,10 +1,10 @@
 //! Readers and sinks that count their faults.
 //!
-//! A contract can't say that a stream failed, since a failure is nothing that a value shows. A counted stream
-//! keeps a number that rises at each failure, so that a caller's contract can: an error of a call is told from an
-//! invented one by the count, which rose.
+//! A contract can't say that a stream failed, because no value shows the failure. A counted stream keeps a number that
+//! rises with each failure, so a contract can refer to it: a real error is distinguished from an invented one by the
+//! number, which rose.
 //!
-//! For tests and proofs, a scripted reader and a scripted sink cut, take and fail as a script says.
+//! For tests and proofs, a scripted reader and a scripted sink split, accept and fail as a script says.
 //!
 //! ```text
 //! let mut input = Counted::new(file);

@@ -8,22 +8,22 @@ ghost use Rattle.counted_io.specs.Faults.{CountsFault, ShowsEnd};
 
 use std::io::{self, Read};
 
-/// A reader whose failed reads are counted, and whose end is seen.
+/// A reader that counts its failed reads and shows whether it is at its end.
 ///
-/// The bytes that it hands over are those of [`Read`].
+/// The bytes that it returns are those of [`Read`].
 pub trait CountedRead: Read + Drop {
-    /// How many reads have failed. At `usize::MAX` it stays.
+    /// The number of failed reads. It saturates at `usize::MAX`.
     ghost faults: { Self → ℕ };
 
     /// Whether the reader is at its end.
     ghost at_end: { Self → Bool };
 
-    /// Which reference the reader is, where it is one, and then which one that lends on, and so forth: a call leaves
-    /// the references themselves in their places, so that their owners find what the calls left.
+    /// Which reference the reader is, if it is one, then which one the reader behind it is, and so on. A call leaves
+    /// the references themselves in place, so that their owners find what the calls left.
     ghost identity: { Self → List ℕ } = { λ _. [] };
 
-    /// What a call of `read_counted` may return: from a reader to a result and the reader after it. A caller that passes
-    /// an error on can show by it that the reader returned that error.
+    /// What a call of `read_counted` may return: a relation between a reader, a result and the reader after the call. A
+    /// caller that passes an error on can use it to show that the reader returned that error.
     ghost read_gives: { Self → Result ℕ Error → Self → Type 0 } = { λ _ _ _. Unit {0} };
 
     /// Does what `read` does.
@@ -37,7 +37,7 @@ pub trait CountedRead: Read + Drop {
         ensures same_reference { identity self.new ≡ identity self.old };
 }
 
-/// A slice has no faults, and is at its end where it is empty.
+/// A slice has no faults, and is at its end if it is empty.
 impl CountedRead for &[u8] {
     ghost faults = { λ _. 0 };
 

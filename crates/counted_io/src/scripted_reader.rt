@@ -1,4 +1,4 @@
-// A reader that reads from a script.
+// A reader that follows a script.
 
 ghost use Rattle.std.specs.Prelude.{◌≡◌, ◌<◌, Some, [], length, map, filter, vec_items, IsTrue, IsFalse, HoldsAt};
 ghost use Rattle.std.specs.List.{concat};
@@ -13,13 +13,13 @@ use std::io::{self, Read};
 /// What a [`ScriptedReader`] returns after its last piece.
 #[derive(Clone, Copy, Debug, PartialEq, Eq)]
 pub enum Tail {
-    /// The end of input.
+    /// The end of the input.
     End,
-    /// A fault of this kind, at every read.
+    /// An I/O error of this kind, at every read.
     Fault(io::ErrorKind),
 }
 
-/// A reader that hands over given bytes in given pieces, and then ends or fails.
+/// A reader that returns given bytes in given pieces, and then ends or fails.
 ///
 /// ```text
 /// let mut input = ScriptedReader::new(pieces, Tail::Fault(ErrorKind::Other));
@@ -37,7 +37,7 @@ pub struct ScriptedReader {
 }
 
 impl ScriptedReader {
-    /// Hands over `pieces` in order, at most one at a read, and passes over empty ones.
+    /// Creates a reader that returns `pieces` in order, at most one per read, and skips empty ones.
     pub fn new(pieces: Vec<Vec<u8>>, tail: Tail) -> ScriptedReader
         ensures pieces { pieces_left result ≡ filter has_bytes (map vec_items pieces.items) }
         ensures bytes { concat (pieces_left result) ≡ concat (map vec_items pieces.items) }
@@ -55,21 +55,22 @@ impl ScriptedReader {
         }
     }
 
-    /// How often it was read, whatever the read gave. At `usize::MAX` it stays.
+    /// Returns the number of reads, whatever they returned. It saturates at `usize::MAX`.
     pub fn reads(&self) -> usize
         ensures { result ≡ reader_reads self.now }
     {
         self.reads
     }
 
-    /// How many reads have failed. At `usize::MAX` it stays.
+    /// Returns the number of failed reads. It saturates at `usize::MAX`.
     pub fn faults(&self) -> usize
         ensures { result ≡ reader_faults self.now }
     {
         self.faults
     }
 
-    // Goes on to the first piece that has bytes left, and past the last one where none has.
+    // Advances to the first piece that has bytes left, or past the last piece if none has. Returns whether there is
+    // one.
     fn find_piece(&mut self) -> bool
         ensures pieces { pieces_left self.new ≡ pieces_left self.old }
         ensures same { self.new ≡ record self.old
@@ -88,7 +89,7 @@ impl ScriptedReader {
         false
     }
 
-    // What a read with room returns where no piece is left.
+    // Returns what a read into a buffer with room returns when no piece is left.
     fn answer_tail(&mut self) -> io::Result<usize>
         ensures answer { ReadAnswers [] (reader_tail self.old) 1 result }
         ensures faults { CountsFault (reader_faults self.old) (reader_faults self.new) result }
@@ -103,7 +104,7 @@ impl ScriptedReader {
         }
     }
 
-    // Hands over as many bytes of the piece at which it stands as fit.
+    // Copies as many bytes of the current piece as fit, and returns how many.
     fn read_piece(&mut self, buf: &mut [u8]) -> usize
         requires found { self.old.index < length self.old.pieces.items }
         requires has_bytes { HoldsAt (λ piece. self.old.place < length (vec_items piece))

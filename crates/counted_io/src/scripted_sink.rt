@@ -1,4 +1,4 @@
-// A sink that takes and fails by a script.
+// A sink that follows a script.
 
 ghost use Rattle.std.specs.Prelude.{◌≡◌, Some, None, [], false, length};
 ghost use Rattle.std.specs.Io.{WritesAtMost};
@@ -13,13 +13,13 @@ use std::io::{self, Write};
 /// How the chosen write of a [`ScriptedSink`] fails.
 #[derive(Clone, Copy, Debug, PartialEq, Eq)]
 pub enum SinkFault {
-    /// By an error of this kind.
+    /// With an error of this kind.
     Fault(io::ErrorKind),
-    /// By taking no byte.
+    /// By accepting no byte.
     Nothing,
 }
 
-/// A sink that keeps the bytes that it takes, takes them in small pieces, and fails at the call that was chosen.
+/// A sink that keeps the bytes that it accepts, accepts them in small pieces, and fails at a chosen write.
 ///
 /// ```text
 /// let mut output = ScriptedSink::new(alloc, 1, Some(3), SinkFault::Nothing);
@@ -39,8 +39,8 @@ pub struct ScriptedSink {
 }
 
 impl ScriptedSink {
-    /// Takes at most `most` bytes at a write, where 0 counts as 1. Of the writes, numbered from 1, number `fail_at`
-    /// alone fails as `how` says. The number stays at `usize::MAX`.
+    /// Creates a sink that accepts at most `most` bytes per write, where 0 counts as 1. Writes are numbered from 1, and
+    /// their number saturates at `usize::MAX`. Only the write with the number `fail_at` fails as `how` says.
     pub fn new(alloc: Global, most: usize, fail_at: Option<usize>, how: SinkFault) -> ScriptedSink
         ensures bytes { sink_bytes result ≡ [] }
         ensures plan { sink_plan result
@@ -61,7 +61,7 @@ impl ScriptedSink {
         }
     }
 
-    /// From now on each flush fails with this kind, or none fails.
+    /// Sets the kind of error with which each flush fails from now on. With `None`, no flush fails.
     pub fn set_flush_fault(&mut self, flush_fault: Option<io::ErrorKind>)
         ensures plan { sink_plan self.new
             ≡ record (sink_plan self.old) { flush_fault = flush_fault } }
@@ -73,21 +73,22 @@ impl ScriptedSink {
         self.flush_fault = flush_fault;
     }
 
-    /// The bytes that it took.
+    /// Returns the bytes that were accepted.
     pub fn bytes(&self) -> &[u8]
         ensures { result.now ≡ sink_bytes self.now }
     {
         &self.taken
     }
 
-    /// How many writes there were, whatever they gave. At `usize::MAX` it stays.
+    /// Returns the number of writes, whatever they returned. It saturates at `usize::MAX`.
     pub fn calls(&self) -> usize
         ensures { result ≡ sink_calls self.now }
     {
         self.calls
     }
 
-    /// How many faults there were: calls that failed, and writes that took no byte of some. At `usize::MAX` it stays.
+    /// Returns the number of faults: failed calls, and writes of some bytes that accepted none. It saturates at
+    /// `usize::MAX`.
     pub fn faults(&self) -> usize
         ensures { result ≡ sink_faults self.now }
     {
@@ -100,7 +101,7 @@ impl ScriptedSink {
         self.faults = self.faults.saturating_add(1);
     }
 
-    // Answers a write as `how` says.
+    // Fails a write as `how` says.
     fn fail(&mut self, bytes: &[u8]) -> io::Result<usize>
         ensures answer { FailsAs self.old.how result }
         ensures faults { CountsWrite self.old.faults self.new.faults result bytes.now }
@@ -120,7 +121,7 @@ impl ScriptedSink {
         }
     }
 
-    // Takes as many bytes as it may, or none where memory is refused.
+    // Accepts as many bytes as it may. Fails if there is no memory for them.
     fn take(&mut self, bytes: &[u8]) -> io::Result<usize>
         ensures answer { TakesMost self.old.most bytes.now result }
         ensures bytes { WriteAppends (Some (sink_bytes self.old)) (Some (sink_bytes self.new))

@@ -1,12 +1,12 @@
-// Bytes to a sink.
+// Sends bytes to a sink.
 
 ghost use Rattle.counted_io.specs.Streams.{Sends, IsSameSink};
 
 use crate::write::CountedWrite;
 use std::io;
 
-/// Sends all the bytes. At a fault a proper prefix of them was sent, and no call is made again: the error is the one
-/// of the write, or `None` where a write took no byte.
+/// Sends all the bytes. If a write fails, a proper prefix of them was sent, and no further write is made. The error is
+/// that of the write, or `None` if the write accepted no byte.
 ///
 /// ```text
 /// let mut output = Counted::new(Vec::new(alloc));

@@ -8,26 +8,26 @@ ghost use Rattle.counted_io.specs.Faults.{CountsFault, CountsWrite, flushed_afte
 
 use std::io::{self, Write};
 
-/// A sink whose faults are counted, and of which it is known whether it was flushed.
+/// A sink that counts its faults and shows whether it is flushed.
 ///
-/// A fault is a call that fails, or a write that takes no byte of a slice that has some. The bytes that it takes
+/// A fault is a call that fails, or a write that accepts no byte of a slice that has some. The bytes that it accepts
 /// are those of [`Write`].
 pub trait CountedWrite: Write + Drop {
-    /// How many faults there were. At `usize::MAX` it stays.
+    /// The number of faults. It saturates at `usize::MAX`.
     ghost faults: { Self → ℕ };
 
-    /// Whether no byte was taken since the last flush. A sink that was never flushed is not.
+    /// Whether the sink was flushed and has accepted no byte since.
     ghost is_flushed: { Self → Bool };
 
-    /// Which reference the sink is, where it is one, and then which one that lends on, and so forth: a call leaves
-    /// the references themselves in their places, so that their owners find what the calls left.
+    /// Which reference the sink is, if it is one, then which one the sink behind it is, and so on. A call leaves the
+    /// references themselves in place, so that their owners find what the calls left.
     ghost identity: { Self → List ℕ } = { λ _. [] };
 
-    /// What a call of `write_counted` may return: from a sink and bytes to a result and the sink after the call. A
-    /// caller that passes an error on can show by it that the sink returned that error.
+    /// What a call of `write_counted` may return: a relation between a sink, bytes, a result and the sink after the
+    /// call. A caller that passes an error on can use it to show that the sink returned that error.
     ghost write_gives: { Self → List ℕ → Result ℕ Error → Self → Type 0 } = { λ _ _ _ _. Unit {0} };
 
-    /// What a call of `flush_counted` may return.
+    /// What a call of `flush_counted` may return: a relation between a sink, a result and the sink after the call.
     ghost flush_gives: { Self → Result Unit Error → Self → Type 0 } = { λ _ _ _. Unit {0} };
 
     /// Does what `write` does.

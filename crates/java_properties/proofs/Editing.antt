@@ -60,13 +60,13 @@ use Rattle.java_properties.specs.Sources.{IsInForce}
 use Rattle.java_properties.proofs.BodyGroups.{front-of, no-bytes}
 use Rattle.java_properties.specs.declared.edit.place.BodySpan.{BodySpan}
 use Rattle.java_properties.specs.declared.edit.place.KeyPlace as place
-use Rattle.java_properties.specs.declared.edit.source.Source.{Source}
+use Rattle.java_properties.specs.declared.edit.source.BodyStart.{BodyStart}
 use Rattle.java_properties.specs.declared.error.PropertiesError.{PropertiesError}
 
 -- ---- a source that is open
 
 -- its byte order mark stands before its body
-pub bom-front : {source : List ℕ} {e : Encoding} {opened : Source} → IsInForce source e opened → bom_of source ≡ take opened.start source
+pub bom-front : {source : List ℕ} {e : Encoding} {opened : BodyStart} → IsInForce source e opened → bom_of source ≡ take opened.start source
 bom-front {source} {e} {opened} h =
     let body = drop opened.start source in
     let whole : source ≡ bom_of source ++ body = source-whole e source ∙ ap (λ v. let w : InForce = v in bom_of source ++ w.body) h.in_force in
@@ -77,7 +77,7 @@ bom-front {source} {e} {opened} h =
     sym (ap₂ take n whole ∙ front-of (bom_of source) body)
 
 -- what is read of a source is what its groups say
-groups-of : {source : List ℕ} {e : Encoding} {opened : Source} (made : List ℕ) → IsInForce source e opened → is_editable (encoding_of opened.encoding) ≡ true
+groups-of : {source : List ℕ} {e : Encoding} {opened : BodyStart} (made : List ℕ) → IsInForce source e opened → is_editable (encoding_of opened.encoding) ≡ true
     → result_of e source made ≡ result_by (entries_in 1 (held_groups_of (encoding_of opened.encoding) (drop opened.start source))) made
 groups-of {source} {e} {opened} made h ok =
     let editable = ap (λ v. let w : InForce = v in is_editable w.encoding) h.in_force ∙ ok in
@@ -85,7 +85,7 @@ groups-of {source} {e} {opened} made h ok =
     ∙ ap (λ v. result_by v made) (items_of-groups e source ∙ ap (λ v. let w : InForce = v in entries_in 1 (held_groups_of w.encoding w.body)) h.in_force)
 
 -- where none of them is malformed it has the result that is made
-pub result-made : {source : List ℕ} {e : Encoding} {opened : Source} (made : List ℕ) → IsInForce source e opened → is_editable (encoding_of opened.encoding) ≡ true
+pub result-made : {source : List ℕ} {e : Encoding} {opened : BodyStart} (made : List ℕ) → IsInForce source e opened → is_editable (encoding_of opened.encoding) ≡ true
     → AreSound (held_groups_of (encoding_of opened.encoding) (drop opened.start source)) → result_of e source made ≡ edited made
 result-made {source} {e} {opened} made h ok sound =
     let gs = held_groups_of (encoding_of opened.encoding) (drop opened.start source) in
@@ -93,12 +93,12 @@ result-made {source} {e} {opened} made h ok sound =
 
 -- ---- refusals
 
-not-unsupported : {e : Encoding} {source : List ℕ} {opened : Source} → IsInForce source e opened → is_editable (encoding_of opened.encoding) ≡ true
+not-unsupported : {e : Encoding} {source : List ℕ} {opened : BodyStart} → IsInForce source e opened → is_editable (encoding_of opened.encoding) ≡ true
     → is_editable (byte_order_mark e source).encoding ≡ false → ⊥
 not-unsupported h ok none = let yes = ap (λ v. let w : InForce = v in is_editable w.encoding) h.in_force ∙ ok in absurd (cc)
 
 -- the first fault of its groups is the refusal of a source
-pub refusal : {source : List ℕ} {e : Encoding} {opened : Source} {error : PropertiesError} (IsMeant : EditResult → Type 0) (made : List ℕ)
+pub refusal : {source : List ℕ} {e : Encoding} {opened : BodyStart} {error : PropertiesError} (IsMeant : EditResult → Type 0) (made : List ℕ)
     → IsInForce source e opened → is_editable (encoding_of opened.encoding) ≡ true
     → IsMeant (result_of e source made) → (IsMeant unsupported → is_editable (byte_order_mark e source).encoding ≡ false)
     → IsFaultOf (held_groups_of (encoding_of opened.encoding) (drop opened.start source)) error → IsRefusal IsMeant error
@@ -219,7 +219,7 @@ start-first : (body : List ℕ) (start : ℕ) → start ≤ length body → (sta
 start-first body start h = ap (λ n. n == 0) (sym (length-take-le start body h)) ∙ no-bytes (take start body)
 
 -- The source with the pair replaced is its result.
-pub replaced-result : {source : List ℕ} {e : Encoding} {opened : Source} {found : place.KeyPlace} (key value bytes : List ℕ) (pair : BodySpan) → IsInForce source e opened
+pub replaced-result : {source : List ℕ} {e : Encoding} {opened : BodyStart} {found : place.KeyPlace} (key value bytes : List ℕ) (pair : BodySpan) → IsInForce source e opened
     → is_editable (encoding_of opened.encoding) ≡ true → IsKeyFound (encoding_of opened.encoding) (drop opened.start source) key found → found.pair ≡ Some pair
     → bytes ≡ take (opened.start + pair.start) source
     ++ (pair_bytes (output_encoding (encoding_of opened.encoding)) (pair.start == 0) key value ++ drop (opened.start + pair.end) source)
@@ -250,7 +250,7 @@ replaced-result {source} {e} {opened} {found} key value bytes pair h ok k is mad
 -- ---- a pair is appended
 
 -- The source with the pair at its end is its result.
-pub appended-result : {source : List ℕ} {e : Encoding} {opened : Source} {found : place.KeyPlace} (key value bytes : List ℕ) → IsInForce source e opened
+pub appended-result : {source : List ℕ} {e : Encoding} {opened : BodyStart} {found : place.KeyPlace} (key value bytes : List ℕ) → IsInForce source e opened
     → is_editable (encoding_of opened.encoding) ≡ true → IsKeyFound (encoding_of opened.encoding) (drop opened.start source) key found → found.pair ≡ None
     → let parting = parted (added_ending source) found.closing in
     bytes ≡ source ++ (parting ++ (pair_bytes (output_encoding (encoding_of opened.encoding)) (is_empty (drop opened.start source ++ parting)) key value ++ line_feed ∷ []))
@@ -282,7 +282,7 @@ pub splitting : (e : Encoding) (source : List ℕ) → SplittingCommutes e sourc
 splitting e source = splitting-commutes e source
 
 -- a pair of a body stands within the source
-pub span-within : {source : List ℕ} {e : Encoding} {opened : Source} {found : place.KeyPlace} {key : List ℕ} (pair : BodySpan) → IsInForce source e opened
+pub span-within : {source : List ℕ} {e : Encoding} {opened : BodyStart} {found : place.KeyPlace} {key : List ℕ} (pair : BodySpan) → IsInForce source e opened
     → is_editable (encoding_of opened.encoding) ≡ true → IsKeyFound (encoding_of opened.encoding) (drop opened.start source) key found → found.pair ≡ Some pair
     → opened.start + pair.end ≤ length source
 span-within {source} {e} {opened} {found} {key} pair h ok k is =
@@ -335,13 +335,13 @@ no_bom-begins b = elim (cases_Bool (begins_with utf_8_bom b)) [
 ]
 
 -- a source starts with its body where it begins with no byte order mark,
-unmarked : {source : List ℕ} {e : Encoding} {opened : Source} → IsInForce source e opened → (opened.start == 0) ≡ not (begins_like_bom source)
+unmarked : {source : List ℕ} {e : Encoding} {opened : BodyStart} → IsInForce source e opened → (opened.start == 0) ≡ not (begins_like_bom source)
 unmarked {source} {e} {opened} h =
     let size : length (bom_of source) ≡ opened.start = ap length (bom-front h) ∙ length-take-le opened.start source h.within in
     ap (λ n. n == 0) (sym size) ∙ no_bom-begins source
 
 -- and doesn't where it begins with one
-marked : {source : List ℕ} {e : Encoding} {opened : Source} → IsInForce source e opened → not (opened.start == 0) ≡ begins_like_bom source
+marked : {source : List ℕ} {e : Encoding} {opened : BodyStart} → IsInForce source e opened → not (opened.start == 0) ≡ begins_like_bom source
 marked {source} {e} {opened} h = ap not (unmarked h) ∙ again (begins_like_bom source)
   where
     again : (b : Bool) → not (not b) ≡ b
@@ -362,7 +362,7 @@ removed-edits {e} {source} {key} {bytes} is =
     }
 
 -- The source with the parts that are left is its result.
-pub removed-result : {source : List ℕ} {e : Encoding} {opened : Source} (key bytes : List ℕ) (others : List BodySpan) → IsInForce source e opened
+pub removed-result : {source : List ℕ} {e : Encoding} {opened : BodyStart} (key bytes : List ℕ) (others : List BodySpan) → IsInForce source e opened
     → is_editable (encoding_of opened.encoding) ≡ true → AreOthersFound (encoding_of opened.encoding) (drop opened.start source) key others
     → bytes ≡ left_bytes source opened.start others → remove_key_result e source key ≡ edited bytes
 removed-result {source} {e} {opened} key bytes others h ok k made =
@@ -401,25 +401,25 @@ edits_in-more edits i d h = ap edits_in (take_more edits i d h) ∙ map-append e
 -- ---- edits of slots
 
 -- a source that is edited is in an encoding that is edited
-pub editable : {source : List ℕ} {e : Encoding} {opened : Source} → IsInForce source e opened → is_editable (encoding_of opened.encoding) ≡ true
+pub editable : {source : List ℕ} {e : Encoding} {opened : BodyStart} → IsInForce source e opened → is_editable (encoding_of opened.encoding) ≡ true
     → is_editable (byte_order_mark e source).encoding ≡ true
 editable h ok = ap (λ v. let w : InForce = v in is_editable w.encoding) h.in_force ∙ ok
 
 -- before any edits the slots are those of the body,
-pub slots-none : {source : List ℕ} {e : Encoding} {opened : Source} (slots : Slots) → IsInForce source e opened
+pub slots-none : {source : List ℕ} {e : Encoding} {opened : BodyStart} (slots : Slots) → IsInForce source e opened
     → Holds (drop opened.start source) slots (slots_of (held_groups_of (encoding_of opened.encoding) (drop opened.start source)))
     → Holds (drop opened.start source) slots (slots_after e source [])
 slots-none {source} {e} {opened} slots h holds =
     subst (Holds (drop opened.start source) slots) (sym (ap (λ v. let w : InForce = v in slots_of (held_groups_of w.encoding w.body)) h.in_force)) holds
 
 -- after any they hold what stands of it,
-pub slots-held : {source : List ℕ} {e : Encoding} {opened : Source} (body : List ℕ) (slots : Slots) (edits : List Edit) → IsInForce source e opened
+pub slots-held : {source : List ℕ} {e : Encoding} {opened : BodyStart} (body : List ℕ) (slots : Slots) (edits : List Edit) → IsInForce source e opened
     → is_editable (encoding_of opened.encoding) ≡ true → AreScalarEdits edits → Holds body slots (slots_after e source edits) → HoldsIn body slots
 slots-held {source} {e} {opened} body slots edits h ok scalar holds =
     record { slots = slots_after e source edits; holds = holds; well_ended = slots_after-well_ended e source edits (editable h ok) scalar }
 
 -- and one more edit is made to them.
-pub slots-more : {source : List ℕ} {e : Encoding} {opened : Source} (slots next : Slots) (edits : List Edit) (edit : Edit) → IsInForce source e opened
+pub slots-more : {source : List ℕ} {e : Encoding} {opened : BodyStart} (slots next : Slots) (edits : List Edit) (edit : Edit) → IsInForce source e opened
     → is_editable (encoding_of opened.encoding) ≡ true → AreScalarEdits edits → Holds (drop opened.start source) slots (slots_after e source edits)
     → Changes (drop opened.start source) (slots_edited (output_encoding (encoding_of opened.encoding)) (not (opened.start == 0)) edit) slots next
     → Holds (drop opened.start source) next (slots_after e source (edits ++ edit ∷ []))
@@ -434,7 +434,7 @@ slots-more {source} {e} {opened} slots next edits edit h ok scalar before change
     subst (Holds (drop opened.start source) next) more (change front (slots_after-well_ended e source edits (editable h ok) scalar) before)
 
 -- The bytes of the slots after edits are their result.
-pub slots-edits : {source : List ℕ} {e : Encoding} {opened : Source} (edits : List Edit) (bytes : List ℕ) → IsInForce source e opened
+pub slots-edits : {source : List ℕ} {e : Encoding} {opened : BodyStart} (edits : List Edit) (bytes : List ℕ) → IsInForce source e opened
     → is_editable (encoding_of opened.encoding) ≡ true → AreSound (held_groups_of (encoding_of opened.encoding) (drop opened.start source))
     → AreScalarEdits edits → bytes ≡ take opened.start source ++ slots_bytes (slots_after e source edits).list → AreMade e source edits bytes
 slots-edits {source} {e} {opened} edits bytes h ok sound scalar made =

@@ -30,12 +30,12 @@ use Rattle.java_properties.specs.declared.error.PropertiesError.{PropertiesError
 
 -- ---- a document
 
--- what slots come to, one after the other
+-- the bytes of these slots, one after the other
 abbrev pub all_written : List ℕ → List Slot → List ℕ
 all_written body [] = []
 all_written body (s ∷ ss) = written body s ++ all_written body ss
 
--- the bytes of a document: its byte order mark, and what its slots come to
+-- the bytes of a document: its byte order mark, and the bytes of its slots
 abbrev pub document_bytes : Inside → List ℕ
 document_bytes d =
     let start = d.opened.start in
@@ -52,8 +52,8 @@ pub record ReadsMapOf (e : Encoding) (bytes : List ℕ) (value_of : List ℕ →
   pub whole : AreItems entries
   pub is_map : IsMap entries value_of
 
--- The source is in force and sound, the slots are its slots after some edits, and the values are those of what the document
--- comes to.
+-- The source's encoding can be edited and nothing in it is malformed. The slots are its slots after some edits, and the
+-- values are those of the document's bytes.
 pub record IsDocument (d : Inside) : Type 0 where
   pub in_force : IsInForce d.source.items (encoding_of d.encoding) d.opened
   pub editable : is_editable (encoding_of d.opened.encoding) ≡ true
@@ -66,7 +66,7 @@ pub record IsDocument (d : Inside) : Type 0 where
 
 -- ---- a body with its values
 
--- the pair that a logical line is
+-- the pair that a logical line is, if it is one
 abbrev pub pair_told : Outcome → Option (List ℕ × List ℕ)
 pair_told ignored = None
 pair_told (given (comment text)) = None
@@ -77,22 +77,23 @@ pair_told (broken kind) = None
 abbrev pub pair_characters : {Y Z : Type 0} → String Y × String Z → List ℕ × List ℕ
 pair_characters p = (characters p.0, characters p.1)
 
--- The pair that a logical line is was told; or an error in the line of this number.
+-- The pair that a logical line is, if it is one, was returned; or an error in the line with this number.
 abbrev pub TellsPairOf : {Y Z : Type 0} → List ℕ → ℕ → Result (Option (String Y × String Z)) PropertiesError → Type 0
 TellsPairOf line number (Ok told) = IsSound (outcome_of line) × (option_map pair_characters told ≡ pair_told (outcome_of line))
 TellsPairOf line number (Err e) = IsNoItem number line e
 
--- the map with the value of a pair that was told, where one was
+-- the map with the value of the returned pair, if there is one
 abbrev pub updated_by : Option (List ℕ × List ℕ) → (List ℕ → Option (List ℕ)) → List ℕ → Option (List ℕ)
 updated_by None value_of k = value_of k
 updated_by (Some (key, value)) value_of k = update bytes_eq value_of key (Some value) k
 
--- The value of a pair that was told is kept, and its key is handed on.
+-- The value of the returned pair is stored, and a copy of its key is returned.
 pub record KeepsValue {X Y Z : Type 0} (told : Option (List ℕ × List ℕ)) (old new : Entries Y Z) (copy : Option (String X)) : Type 0 where
   pub copied : option_map characters copy ≡ option_map (λ p. p.0) told
   pub values : (k : List ℕ) → value_at new k ≡ updated_by told (value_at old) k
 
--- A body was read, in which nothing is malformed, into its slots and the values of its keys; or its first fault was found.
+-- A body without malformed escapes was read into its slots and the values of its keys; or its first malformed escape
+-- was found, or memory ran out.
 abbrev pub ParsesBody : {Y Z : Type 0} → Encoding → List ℕ → Result (Slots × BTreeMap (String Y) (String Z)) PropertiesError → Type 0
 ParsesBody e body (Ok (slots, values)) =
     ParsesSlots e body (Ok slots) × IsMap (entries_in 1 (held_groups_of e body)) (value_at values.entries) × IsOrdered string_cmp values
@@ -100,7 +101,7 @@ ParsesBody e body (Err error) = IsFaultOf (held_groups_of e body) error
 
 -- ---- a value that is changed
 
--- A value was put under a key, and what stood there is told; or there was no memory, and the values are what they were.
+-- A value was stored under a key, and the previous value is returned; or memory ran out, and the values are unchanged.
 abbrev pub PutsValue : {X Y Z E : Type 0} → List ℕ → List ℕ → Entries Y Z → Result (Option (String X)) E → Entries Y Z → Type 0
 PutsValue key value old (Ok before) new =
     ((k : List ℕ) → value_at new k ≡ update bytes_eq (value_at old) key (Some value) k)

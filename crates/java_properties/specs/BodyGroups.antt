@@ -1,4 +1,4 @@
--- The groups of a body that is held whole, one after another.
+-- The groups of a body that is held in memory, one after another.
 use Rattle.std.specs.Prelude.{◌≡◌, ℕ, ◌+◌, ◌-◌, ◌≤◌, Bool, true, false, if◌then◌else◌, List, [], ◌∷◌, take, drop, length}
 use Rattle.std.specs.Prelude.{◌⊎◌, Option, Some, None, Result, Ok, Err}
 use Rattle.std.specs.Str.{chars, IsUtf8}
@@ -17,9 +17,9 @@ use Rattle.java_properties.specs.BodyLines.{ending_in}
 use Rattle.java_properties.specs.declared.edit.groups.Group.{Group}
 use Rattle.java_properties.specs.declared.edit.groups.GroupReader.{GroupReader}
 
--- ---- where a reader stands
+-- ---- the position of a reader
 
--- It stands in the body, whose units are of one byte.
+-- The reader is positioned in the body, whose units are one byte long.
 pub record IsWithin (body : List ℕ) (s : GroupReader) : Type 0 where
   pub bytes : unit_size (encoding_of s.scanner.encoding) ≡ 1
   pub stands : StandsInBody s.scanner body
@@ -52,7 +52,7 @@ FindsLine body old (Err e) new = Unit {0}
 
 -- ---- groups
 
--- The lines stand in this span, before the next place.
+-- The lines are in this span, and the next group starts after them.
 pub record IsSpanOf (held : List HeldLine) (group : Group) (after : ℕ) : Type 0 where
   pub unended : group.end ≡ group.start + length (unended_bytes held)
   pub ending : ending_in group.ending ≡ last_ending held
@@ -64,13 +64,13 @@ pub record IsSpanOf (held : List HeldLine) (group : Group) (after : ℕ) : Type 
 abbrev pub text_of : List ℕ → GroupReader → Group → List ℕ
 text_of body s group = text_with s.line (take (group.end - group.start) (drop group.start body))
 
--- that line is text
+-- That line is valid text.
 pub record IsTextHeld (body : List ℕ) (s : GroupReader) (group : Group) : Type 0 where
   pub ordered : group.start ≤ group.end
   pub within : group.end ≤ length body
   pub text : s.line.is_kept ≡ false → IsUtf8 (take (group.end - group.start) (drop group.start body))
 
--- The next group came.
+-- The next group was returned.
 pub record TakesGroup (body : List ℕ) (old : GroupReader) (group : Group) (new : GroupReader) : Type 0 where
   pub held : List HeldLine
   pub live : old.scanner.is_done ≡ false
@@ -89,14 +89,15 @@ GivesGroup body old (Ok None) new = (old.scanner.is_done ≡ true) × (new ≡ o
 GivesGroup body old (Ok (Some group)) new = TakesGroup body old group new
 GivesGroup body old (Err e) new = Unit {0}
 
--- ---- joins
+-- ---- continuations
 
--- the groups from a group on that was read up to the lines that are left, which it goes on with if it is open
+-- the groups that begin with a group that was read so far, followed by the lines that are left, which continue the
+-- group if it is open
 abbrev pub groups_from : Bool → List HeldLine → List HeldLine → List (List HeldLine)
 groups_from true held rest = held_groups_after held rest
 groups_from false held rest = held ∷ held_groups_after [] rest
 
--- A group was read up to a line of it, whatever the reader was before that group.
+-- A group was read up to one of its lines, whatever the reader was before that group.
 pub record ReadsGroup (body : List ℕ) (old : GroupReader) (group : Group) (new : GroupReader) : Type 0 where
   pub first : HeldLine
   pub more : List HeldLine
@@ -111,7 +112,7 @@ pub record ReadsGroup (body : List ℕ) (old : GroupReader) (group : Group) (new
   pub held_text : IsTextHeld body new group
   pub text : chars (text_of body new group) ≡ joined (as_lines (first ∷ more))
 
--- It is read on: to a line that isn't open, or to the last one.
+-- The group was read further: to a line that isn't open, or to the last line.
 pub record JoinsGroup (body : List ℕ) (old : GroupReader) (group : Group) (joined : Group) (new : GroupReader) : Type 0 where
   pub whole : (before : GroupReader) → ReadsGroup body before group old → ReadsGroup body before joined new
   pub ended : joined.is_open ≡ false ⊎ new.scanner.is_done ≡ true

@@ -1,4 +1,4 @@
--- Which logical lines are pairs with a key, and where the last of them stands in a body.
+-- Which logical lines are pairs with a key, and where the last of these pairs is in a body.
 use Rattle.std.specs.Prelude.{◌≡◌, ◌⊎◌, ℕ, ◌+◌, Bool, if◌then◌else◌, List, [], ◌∷◌, ◌++◌, take, drop, ◌-◌, ◌==◌, ◌&&◌, ◌≤◌, length, Option, Some, None, Result, Ok, Err}
 use Rattle.std.specs.Str.{chars}
 use Rattle.std.specs.declared.vec.Vec.{Vec}
@@ -24,28 +24,29 @@ use Rattle.java_properties.specs.declared.error.ErrorKind.TheVariants as kind
 use Rattle.java_properties.specs.declared.error.PropertiesError.{PropertiesError}
 use Rattle.java_properties.specs.declared.iter.found.Found.{Found}
 
--- What was found in a logical line, where it isn't blank; or an error in the line of this number.
+-- What was found in a logical line, or `None` if it is blank; or an error in the line with this number.
 abbrev pub FindsItem : List ℕ → ℕ → Result (Option Found) PropertiesError → Type 0
 FindsItem line number (Ok None) = outcome_of (chars line) ≡ ignored
 FindsItem line number (Ok (Some found)) = IsFoundIn line found
 FindsItem line number (Err e) = IsNoItem number (chars line) e
 
--- It is told whether a logical line is a pair with this key; or an error in the line of this number.
+-- The result says whether a logical line is a pair with this key; or there is an error in the line with this number.
 abbrev pub TellsKey : List ℕ → List ℕ → ℕ → Result Bool PropertiesError → Type 0
 TellsKey line key number (Ok told) = IsSound (outcome_of line) × (told ≡ is_pair_with key (outcome_of line))
 TellsKey line key number (Err e) = IsNoItem number line e
 
--- ---- the first fault of a body
+-- ---- the first malformed escape of a body
 
--- The first fault of these groups is so malformed, and the error says how, in its line; or there was no memory.
+-- The first malformed escape of these groups is malformed in some way, and the error reports how and in which line; or
+-- memory ran out.
 abbrev pub IsFaultOf : List (List HeldLine) → PropertiesError → Type 0
 IsFaultOf groups e =
     ((how : Malformed) × (n : ℕ) × ((made : List ℕ) → result_by (entries_in 1 groups) made ≡ unreadable how n) × IsMalformed how n e)
     ⊎ IsBareError kind.Memory e
 
--- ---- where a key stands
+-- ---- where a key is
 
--- The last pair with the key stands in this span.
+-- The last pair with the key is in this span.
 pub record IsPlaceOf (key : List ℕ) (groups : List (List HeldLine)) (pair : BodySpan) : Type 0 where
   pub place : KeyPlace
   pub is : last_place key groups ≡ Some place
@@ -57,17 +58,17 @@ abbrev pub IsPlace : List ℕ → List (List HeldLine) → Option BodySpan → T
 IsPlace key groups None = last_place key groups ≡ None
 IsPlace key groups (Some pair) = IsPlaceOf key groups pair
 
--- what parts a new pair from a group, by whether it is an empty line, and whether it is left open
+-- what separates a new pair from a group, by whether the group is an empty line and whether it is left open
 abbrev pub closing_of : Bool → Bool → Closing
 closing_of is_empty is_open = if is_empty then closing.Nothing else (if is_open then closing.TwoEndings else closing.OneEnding)
 
--- the bytes of that, by a line ending
+-- the bytes of that separation, made of this line ending
 abbrev pub parted : List ℕ → Closing → List ℕ
 parted ending closing.Nothing = []
 parted ending closing.OneEnding = ending
 parted ending closing.TwoEndings = ending ++ ending
 
--- what is known of the key after one more group, which is a pair with it or not
+-- what is known of the key after one more group, which may be a pair with it
 abbrev pub found_after : place.KeyPlace → Group → Bool → place.KeyPlace
 found_after found group is_pair =
     record {
@@ -75,13 +76,13 @@ found_after found group is_pair =
       closing = closing_of group.is_empty group.is_open;
     }
 
--- A body was read, in which nothing is malformed, and it is found where the key stands.
+-- A body without malformed escapes was read, and the place of the key was found.
 pub record IsKeyFound (e : Encoding) (body key : List ℕ) (found : place.KeyPlace) : Type 0 where
   pub sound : AreSound (held_groups_of e body)
   pub pair : IsPlace key (held_groups_of e body) found.pair
   pub closing : (source : List ℕ) → parting source (final_group (held_groups_of e body)) ≡ parted (added_ending source) found.closing
 
--- What looking for a key finds.
+-- the result of searching for a key
 abbrev pub FindsKey : Encoding → List ℕ → List ℕ → Result place.KeyPlace PropertiesError → Type 0
 FindsKey e body key (Ok found) = IsKeyFound e body key found
 FindsKey e body key (Err error) = IsFaultOf (held_groups_of e body) error
@@ -93,25 +94,25 @@ abbrev pub spans_bytes : List ℕ → List BodySpan → List ℕ
 spans_bytes body [] = []
 spans_bytes body (s ∷ ss) = take (s.end - s.start) (drop s.start body) ++ spans_bytes body ss
 
--- these are parts of it
+-- These are parts of the body.
 abbrev pub AreWithin : List ℕ → List BodySpan → Type 0
 AreWithin body [] = Unit {0}
 AreWithin body (s ∷ ss) = (s.start ≤ s.end) × (s.end ≤ length body) × AreWithin body ss
 
--- a source with these parts of its body alone, and an LF before them where else they would begin like a byte order mark that
--- it has not
+-- a source with only these parts of its body, and an LF before them if they would begin like a byte order mark and the
+-- source has none
 abbrev pub left_bytes : List ℕ → ℕ → List BodySpan → List ℕ
 left_bytes source start others =
     let rest = spans_bytes (drop start source) others in
     take start source ++ ((if start == 0 && begins_like_bom rest then line_feed ∷ [] else []) ++ rest)
 
--- A body was read, in which nothing is malformed, and these parts of it are left without the key.
+-- A body without malformed escapes was read, and these parts of it are left without the key.
 pub record AreOthersFound (e : Encoding) (body key : List ℕ) (others : List BodySpan) : Type 0 where
   pub sound : AreSound (held_groups_of e body)
   pub within : AreWithin body others
   pub bytes : spans_bytes body others ≡ without key (held_groups_of e body)
 
--- What looking for what is left finds.
+-- the result of searching for the parts that are left
 abbrev pub FindsOthers : {Z : Type 0} → Encoding → List ℕ → List ℕ → Result (Vec BodySpan Z) PropertiesError → Type 0
 FindsOthers e body key (Ok others) = AreOthersFound e body key others.items
 FindsOthers e body key (Err error) = IsFaultOf (held_groups_of e body) error

@@ -37,7 +37,7 @@ use Rattle.java_properties.specs.declared.writer.settings.LineEnding.{LineEnding
 abbrev pub slot_bytes : List ℕ → Slot → List ℕ
 slot_bytes body slot = take (slot.kept.end - slot.kept.start) (drop slot.kept.start body) ++ slot.added.items
 
--- The slot is this cell. Which key it has, the cell alone says.
+-- The slot is this cell. The slot doesn't determine the cell's key.
 pub record IsCell (body : List ℕ) (slot : Slot) (cell : Cell) : Type 0 where
   pub bytes : cell.slot.bytes ≡ slot_bytes body slot
   pub ending : cell.slot.ending ≡ ending_in slot.ending
@@ -53,21 +53,21 @@ AreCells body (s ∷ ss) (c ∷ cs) = IsCell body s c × AreCells body ss cs
 
 -- ---- the array
 
--- a cell that is no slot's
+-- a cell that belongs to no slot
 abbrev pub no_cell : Cell
 no_cell = record { slot = empty_slot None; alive = false }
 
--- the numbers kept under a key, which is given by its characters
+-- the indices stored under a key, given by its characters
 abbrev pub stack_at : {Y : Type 0} → List (String Y × Vec ℕ) → List ℕ → List ℕ
 stack_at entries key = option_map_or (λ v. v.items) (lookup (λ k. bytes_eq key (characters k)) entries) []
 
--- what becomes of the last slot where a pair comes after it
+-- what happens to the last slot when a pair is appended after it
 abbrev pub closing_in : Closing → LineEnding → format.Closing
 closing_in closing.Nothing by = left_out
 closing_in closing.OneEnding by = ended_by (ending_of by)
 closing_in closing.TwoEndings by = closed_by (ending_of by)
 
--- The slots are these cells. The first of them is kept for an LF in front, and the last is left.
+-- The slots are these cells. The first is reserved for an LF in front, and the last is left.
 pub record HoldsCells (body : List ℕ) (s : Slots) (cells : List Cell) : Type 0 where
   pub cells_are : AreCells body s.slots.items cells
   pub linked : length s.links.items ≡ length cells
@@ -80,7 +80,7 @@ pub record HoldsCells (body : List ℕ) (s : Slots) (cells : List Cell) : Type 0
   pub others : 1 < length cells
   pub ordered : IsOrdered string_cmp s.places
 
--- The slots are these cells, whichever of them are left and whatever places are kept.
+-- The slots are these cells, except that nothing is said about the indices of keys or about the last cell.
 pub record LooseCells (body : List ℕ) (s : Slots) (cells : List Cell) : Type 0 where
   pub cells_are : AreCells body s.slots.items cells
   pub linked : length s.links.items ≡ length cells
@@ -89,37 +89,37 @@ pub record LooseCells (body : List ℕ) (s : Slots) (cells : List Cell) : Type 0
   pub first_is : (k : ℕ) → k < s.first → (get_or cells k no_cell).alive ≡ false
   pub guard : (get_or cells 0 no_cell).slot ≡ empty_slot (Some text.lf)
 
--- What is left of the slots is this.
+-- These are the slots that are left.
 pub record Holds (body : List ℕ) (s : Slots) (m : format.Slots) : Type 0 where
   pub cells : List Cell
   pub holds : HoldsCells body s cells
   pub list : m.list ≡ live cells
   pub closing : m.closing ≡ closing_in s.closing s.parting
 
--- It is so of some slots of this body, which are well ended,
+-- What is left of the slots are some slots of this body, which are well ended.
 pub record HoldsIn (body : List ℕ) (s : Slots) : Type 0 where
   pub slots : format.Slots
   pub holds : Holds body s slots
   pub well_ended : IsWellEnded slots
 
--- or of any body.
+-- What is left of the slots are some slots of some body, which are well ended.
 pub record HoldsSome (s : Slots) : Type 0 where
   pub body : List ℕ
   pub holds : HoldsIn body s
 
--- What is left of the slots is changed so.
+-- What is left of the slots is changed in this way.
 abbrev pub Changes : List ℕ → (format.Slots → format.Slots) → Slots → Slots → Type 0
 Changes body change old new = (m : format.Slots) → IsWellEnded m → Holds body old m → Holds body new (change m)
 
 -- ---- one more slot
 
--- A slot comes last.
+-- A slot was appended.
 pub record Pushes (old : Slots) (slot : Slot) (new : Slots) : Type 0 where
   pub slots : new.slots.items ≡ old.slots.items ++ slot ∷ []
   pub links : new.links.items ≡ old.links.items ++ (length old.slots.items + 1) ∷ []
   pub same : new ≡ record old { slots = new.slots; links = new.links }
 
--- A slot without bytes and without a line ending comes last.
+-- A slot without bytes and without a line ending was appended.
 pub record PushesEmpty (old new : Slots) : Type 0 where
   pub slot : Slot
   pub is : (body : List ℕ) → IsCell body slot (record { slot = empty_slot None; alive = true })
@@ -130,58 +130,58 @@ pub record PushesEmpty (old new : Slots) : Type 0 where
 
 -- ---- the first slot
 
--- The first cell that is left has this number.
+-- The first cell that is left has this index.
 pub record IsFirstLeft (cells : List Cell) (n : ℕ) : Type 0 where
   pub inside : n < length cells
   pub left : (get_or cells n no_cell).alive ≡ true
   pub none_before : (k : ℕ) → k < n → (get_or cells k no_cell).alive ≡ false
 
--- It is found, and what the slots are stays.
+-- The first slot that is left was found, and the slots are unchanged.
 pub record FindsFirst (old : Slots) (n : ℕ) (new : Slots) : Type 0 where
   pub finds : (body : List ℕ) (cells : List Cell) → HoldsCells body old cells → IsFirstLeft cells n × HoldsCells body new cells
   pub same : new ≡ record old { first = new.first }
 
 -- ---- edits
 
--- A key is put.
+-- A key was set.
 abbrev pub PutsKey : Encoding → List ℕ → List ℕ → Slots → Slots → Type 0
 PutsKey e key value old new = (body : List ℕ) → Changes body (λ m. slots_put_at e key value m (last_slot key m.list)) old new
 
--- Nothing is changed of what is left of the slots.
+-- What is left of the slots is unchanged.
 abbrev pub KeepsAll : Slots → Slots → Type 0
 KeepsAll old new = (body : List ℕ) → Changes body (λ m. m) old new
 
--- A key is put; or there was no memory, and what is left of the slots stays.
+-- A key was set; or memory ran out, and what is left of the slots is unchanged.
 abbrev pub PutsOrKeeps : {E : Type 0} → Encoding → List ℕ → List ℕ → Slots → Result Unit E → Slots → Type 0
 PutsOrKeeps e key value old (Ok done) new = PutsKey e key value old new
 PutsOrKeeps e key value old (Err error) new = KeepsAll old new
 
--- A key is removed, from a body before which a byte order mark stands or not.
+-- the slots after a key is removed; `marked` says whether a byte order mark comes before the body
 abbrev pub left_without : Bool → List ℕ → format.Slots → format.Slots
 left_without marked key m =
     record { list = slots_guarded marked (slots_without key m.list); closing = if last_has key m.list then left_out else m.closing }
 
 -- ---- the slots of a body
 
--- The key of a logical line is told, where it is a pair; or an error in the line of this number.
+-- The key of a logical line was returned if the line is a pair; or there is an error in the line with this number.
 abbrev pub TellsKeyOf : {Y : Type 0} → List ℕ → ℕ → Result (Option (String Y)) PropertiesError → Type 0
 TellsKeyOf line number (Ok key) = IsSound (outcome_of line) × (option_map characters key ≡ key_told (outcome_of line))
 TellsKeyOf line number (Err e) = IsNoItem number line e
 
--- A body was read, in which nothing is malformed, into its slots; or its first fault was found.
+-- A body without malformed escapes was read into its slots; or its first malformed escape was found, or memory ran out.
 abbrev pub ParsesSlots : Encoding → List ℕ → Result Slots PropertiesError → Type 0
 ParsesSlots e body (Ok s) = AreSound (held_groups_of e body) × Holds body s (slots_of (held_groups_of e body))
 ParsesSlots e body (Err error) = IsFaultOf (held_groups_of e body) error
 
 -- ---- the slots of a key
 
--- the number is the last of these
+-- The index is the last of these.
 abbrev pub IsLastOf : List ℕ → Option ℕ → Type 0
 IsLastOf stack None = stack ≡ []
 IsLastOf stack (Some n) = (before : List ℕ) × (stack ≡ before ++ n ∷ [])
 
 -- ---- the bytes of a slot
 
--- what a slot comes to in the bytes that are made: nothing, where it isn't left
+-- the bytes that a slot adds to the output: none if it isn't left
 abbrev pub written : List ℕ → Slot → List ℕ
 written body slot = if slot.is_left then slot_bytes body slot ++ ending_bytes (ending_in slot.ending) else []

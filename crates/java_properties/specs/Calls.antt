@@ -1,4 +1,4 @@
--- Lists of calls of a writer, and what making them does.
+-- Lists of a writer's calls, and the effect of making them.
 use Rattle.std.specs.Prelude.{◌≡◌, ◌⊎◌, Bool, true, false, if◌then◌else◌, List, [], ◌∷◌, ◌++◌, map, Result, Ok, Err, is_some, string_bytes, vec_items}
 use Rattle.std.specs.Global.{Vec}
 use Rattle.std.specs.Str.{chars}
@@ -27,7 +27,7 @@ call_in (AsciiOnly on) = format.ascii_only_call on
 abbrev pub calls_in : List Call → List format.Call
 calls_in calls = map call_in calls
 
--- both are the same call, with the same texts
+-- Both are the same call, with the same texts.
 abbrev pub IsSameCall : Call → Call → Type 0
 IsSameCall (Comment x) (Comment y) = string_bytes x ≡ string_bytes y
 IsSameCall (Pair k v) (Pair l w) = (string_bytes k ≡ string_bytes l) × (string_bytes v ≡ string_bytes w)
@@ -40,7 +40,7 @@ IsSameCall call other = ⊥
 
 -- ---- calls that were made
 
--- the writer after the calls, if none of them failed, with this sink
+-- the writer after the calls, with this sink, if none of them failed
 abbrev pub after_calls : {W : Type 0} → Writing W → List format.Call → W → Writing W
 after_calls w calls sink = record w {
   sink = sink;
@@ -48,14 +48,14 @@ after_calls w calls sink = record w {
   lines = format.line_count_after w.settings w.lines calls;
 }
 
--- whether a flush comes after all lines of the calls, or came before them and they have none
+-- whether the sink is flushed after the calls: by a flush after all their lines, or before them if they write no line
 abbrev pub flushed_after : Settings → Bool → List format.Call → Bool
 flushed_after s flushed [] = flushed
 flushed_after s flushed (format.flush_call ∷ calls) = flushed_after s true calls
 flushed_after s flushed (call ∷ calls) =
     flushed_after (format.settings_after_call s call) (if is_some (format.written_line s call) then false else flushed) calls
 
--- when a call is made, by whether a write failed before: a line or a flush only where none did, and a setting always
+-- when a call can be made: a line or a flush only if no write failed before, a setting always
 abbrev pub MayMake : Bool → format.Call → Type 0
 MayMake failed (format.comment_call text) = failed ≡ false
 MayMake failed (format.pair_call key value) = failed ≡ false
@@ -69,7 +69,8 @@ abbrev pub MayMakeAll : Bool → List format.Call → Type 0
 MayMakeAll failed [] = Unit {0}
 MayMakeAll failed (call ∷ calls) = MayMake failed call × MayMakeAll failed calls
 
--- The calls were made, and none failed: no line or flush is among them if a write failed before, the sink has what they write, and is flushed where they flushed it after their last line.
+-- The calls were made, and none failed. If a write failed before, no line or flush is among them. The sink has what
+-- they write, and it is flushed if they flush it after their last line.
 pub record HasMade {W : Type 0} (sink : Sink W) (old : Writing W) (calls : List format.Call) (new : Writing W) : Type 0 where
   pub live : MayMakeAll old.failed calls
   pub written : HasWritten sink old.sink (format.wrote old.encoding old.settings old.lines calls) new.sink
@@ -78,25 +79,26 @@ pub record HasMade {W : Type 0} (sink : Sink W) (old : Writing W) (calls : List 
 
 -- ---- one call
 
--- the errors that say that a call was not accepted
+-- the kinds of error that mean that a call was not accepted
 abbrev pub is_not_accepted : ErrorKind → Bool
 is_not_accepted kind.BadCommentPrefix = true
 is_not_accepted kind.BadKvSeparator = true
 is_not_accepted kind.EmptyKey = true
 is_not_accepted other = false
 
--- whether a call was accepted, of what it returned, or the error that ends the calls
+-- From the result of a call: whether it was accepted, or the error that ends the run.
 abbrev pub SaysAccepted : Result Unit PropertiesError → Result Bool PropertiesError → Type 0
 SaysAccepted (Ok done) result = result ≡ Ok true
 SaysAccepted (Err error) result = result ≡ (if is_not_accepted (kind_of error) then Ok false else Err error)
 
--- The call was made, and this says whether it was accepted. One that writes no line and is no flush leaves the sink as it was.
+-- The call was made, and the answer says whether it was accepted. A call that writes no line and is no flush leaves the
+-- sink unchanged.
 pub record HasMadeCall {W : Type 0} (sink : Sink W) (old : Writing W) (call : format.Call) (accepted : Bool) (new : Writing W) : Type 0 where
   pub answer : accepted ≡ format.is_accepted old.settings call
   pub made : HasMade sink old (call ∷ []) new
   pub quiet : is_some (format.written_line old.settings call) ≡ false → (call ≡ format.flush_call → ⊥) → new.sink ≡ old.sink
 
--- how a call fails: a setter only where memory runs out
+-- how a call fails: a setter only if memory runs out
 abbrev pub Fails : {W : Type 0} → Sink W → Writing W → format.Call → PropertiesError → Writing W → Type 0
 Fails sink old (format.comment_call text) error new = WritesLine sink old (comment text) (Err error) new
 Fails sink old (format.pair_call key value) error new = WritesLine sink old (pair key value) (Err error) new
@@ -106,7 +108,7 @@ Fails sink old (format.ending_call ending) error new = ⊥
 Fails sink old format.flush_call error new = Flushes sink old (Err error) new
 Fails sink old (format.ascii_only_call on) error new = ⊥
 
--- The call failed, by an error that doesn't say that it was not accepted.
+-- The call failed with an error other than those that mean that it was not accepted.
 pub record FailsInCall {W : Type 0} (sink : Sink W) (old : Writing W) (call : format.Call) (error : PropertiesError) (new : Writing W) : Type 0 where
   pub fails : Fails sink old call error new
   pub final : is_not_accepted (kind_of error) ≡ false
@@ -117,12 +119,12 @@ MakesCall sink old call (Err error) new = FailsInCall sink old call error new
 
 -- ---- all calls
 
--- All calls were made, and it is said of each whether it was accepted.
+-- All calls were made, and there is an answer for each that says whether it was accepted.
 pub record HasRun {W : Type 0} (sink : Sink W) (old : Writing W) (calls : List format.Call) (answers : List Bool) (new : Writing W) : Type 0 where
   pub answered : answers ≡ format.answers old.settings calls
   pub made : HasMade sink old calls new
 
--- A call failed, and those before it were made.
+-- A call failed, and the calls before it were made.
 pub record StopsAtCall {W : Type 0} (sink : Sink W) (old : Writing W) (calls : List format.Call) (error : PropertiesError) (new : Writing W) : Type 0 where
   pub before : List format.Call
   pub call : format.Call
@@ -132,11 +134,11 @@ pub record StopsAtCall {W : Type 0} (sink : Sink W) (old : Writing W) (calls : L
   pub made : HasMade sink old before middle
   pub fails : FailsInCall sink middle call error new
 
--- What running calls does. Where memory for the answers runs out, none is made.
+-- The effect of running calls. If memory for the answers runs out, none is made.
 abbrev pub RunsCalls : {W : Type 0} → Sink W → Writing W → List format.Call → Result (Vec Bool) PropertiesError → Writing W → Type 0
 RunsCalls sink old calls (Ok answers) new = HasRun sink old calls (vec_items answers) new
 RunsCalls sink old calls (Err error) new = Refuses kind.Memory old error new ⊎ StopsAtCall sink old calls error new
 
--- where a write failed before, the sink isn't touched
+-- If a write failed before, the sink is unchanged.
 abbrev pub LeavesFailed : {W : Type 0} → Writing W → Writing W → Type 0
 LeavesFailed old new = old.failed ≡ true → new.sink ≡ old.sink

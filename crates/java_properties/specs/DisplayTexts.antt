@@ -1,4 +1,4 @@
--- What is printed of errors, lines and line endings. Where a text that is printed in quotes is not ASCII, nothing is said.
+-- How errors, lines and line endings are printed. Nothing is specified if a text that is printed in quotes isn't ASCII.
 use Rattle.std.specs.Prelude.{ℕ, List, [], Option, None, Some, codes, string_bytes}
 use Rattle.std.specs.Option.{option_map}
 use Rattle.std.specs.Fmt.{◌++?◌, decimal, debug_str}
@@ -17,7 +17,7 @@ use Rattle.java_properties.specs.declared.error.Reason.TheVariants as reason
 
 -- ---- errors
 
--- what kind of error it is, in words
+-- the kind of an error in words
 abbrev pub description : ErrorKind → List ℕ
 description kind.Io = codes "I/O error"
 description kind.NotEnoughDigits = codes "Malformed \\uxxxx encoding: not enough digits."
@@ -31,7 +31,7 @@ description kind.Failed = codes "The writer has failed."
 description kind.Memory = codes "Out of memory."
 description kind.Unsupported = codes "Encoding can't be edited."
 
--- the text that was refused, where one was
+-- the refused text, if there is one
 abbrev pub refused_display : Option (List ℕ) → Option (List ℕ)
 refused_display None = Some []
 refused_display (Some text) = Some (codes ": ") ++? debug_str text
@@ -40,19 +40,19 @@ abbrev pub place_display : Option ℕ → List ℕ
 place_display None = codes "unknown"
 place_display (Some number) = decimal number
 
--- the description and the refused text, and then ` (line_number = N)`
+-- the description and the refused text, followed by ` (line_number = N)`
 abbrev pub error_display : PropertiesError → Option (List ℕ)
 error_display e =
     Some (description e.kind) ++? refused_display (option_map string_bytes e.refused)
     ++? Some (codes " (line_number = ") ++? Some (place_display e.line_number) ++? Some (codes ")")
 
--- of a stream's own error nothing is said
+-- Nothing is specified about a stream's own error.
 abbrev pub cause_display : Cause → Option (List ℕ)
 cause_display cause.None = Some (codes "no other error")
 cause_display (cause.Io error) = None
 cause_display cause.NotHex = Some (codes "not a hexadecimal digit")
 
--- a kind in words, and the text that was refused in quotes
+-- a kind in words, followed by the refused text in quotes, if there is one
 abbrev pub reason_display : Reason → Option (List ℕ)
 reason_display (reason.Io error) = None
 reason_display (reason.Refused kind text) = Some (description kind) ++? Some (codes ": ") ++? debug_str text.now

@@ -1,4 +1,4 @@
--- A document: a source that stays open for edits, and what its calls do.
+-- A document: a source that is kept open for edits, and the effects of its calls.
 use Rattle.std.specs.Prelude.{◌≡◌, ℕ, Bool, true, false, List, [], map, Option, Some, None, Result, Ok, Err}
 use Rattle.std.specs.Borrow.{Bor}
 use Rattle.std.specs.Str.{chars}
@@ -8,22 +8,23 @@ use Rattle.properties_format.specs.Edited.{IsEditAllResult}
 use Rattle.java_properties.specs.Editing.{AreMade, IsRefusal, IsSet, IsRemoved}
 use Rattle.java_properties.specs.declared.error.PropertiesError.{PropertiesError}
 
--- A document as its callers see it: the encoding that was asked for, and the bytes that the document comes to.
+-- A document as its callers see it: the requested encoding, and the document's bytes.
 pub record OpenDocument : Type 0 where
   pub encoding : Encoding
   pub bytes : List ℕ
 
--- A source was opened as it stands; or it is refused as one that is edited.
+-- A source was opened unchanged; or it was refused, as `edit_all` refuses it.
 abbrev pub OpensDocument : Encoding → List ℕ → Result OpenDocument PropertiesError → Type 0
 OpensDocument e source (Ok d) = (d ≡ record { encoding = e; bytes = source }) × AreMade e source [] source
 OpensDocument e source (Err error) = IsRefusal (IsEditAllResult e source []) error
 
--- A key was set to a value; or there was no memory, and the document is what it was.
+-- A key was set to a value; or memory ran out, and the document is unchanged.
 abbrev pub PutsInto : {E : Type 0} → List ℕ → List ℕ → OpenDocument → Result Unit E → OpenDocument → Type 0
 PutsInto key value old (Ok done) new = (new.encoding ≡ old.encoding) × IsSet old.encoding old.bytes key value new.bytes
 PutsInto key value old (Err error) new = new ≡ old
 
--- Read in its encoding, a document has this value under a key: that of the last pair with the key, or none.
+-- Read in its encoding, a document has this value for a key: that of the last pair with the key, or none if no pair has
+-- it.
 abbrev pub HasValueAt : OpenDocument → List ℕ → Option (List ℕ) → Type 0
 HasValueAt d key value = HasValue d.encoding d.bytes key value
 
@@ -32,13 +33,13 @@ abbrev pub TellsKey : OpenDocument → List ℕ → Bool → Type 0
 TellsKey d key true = (value : List ℕ) × HasValueAt d key (Some value)
 TellsKey d key false = HasValueAt d key None
 
--- A key was removed, and whether a pair had it was told.
+-- A key was removed, and the result says whether a pair had it.
 pub record RemovesFrom (key : List ℕ) (old : OpenDocument) (was_there : Bool) (new : OpenDocument) : Type 0 where
   pub encoding : new.encoding ≡ old.encoding
   pub removed : IsRemoved old.encoding old.bytes key new.bytes
   pub told : TellsKey old key was_there
 
--- the characters of texts that are lent
+-- the characters of borrowed texts
 abbrev pub characters_of : List (Bor (List ℕ)) → List (List ℕ)
 characters_of texts = map (λ text. chars text.now) texts
 

@@ -1,4 +1,4 @@
--- What an editor returns.
+-- The results of edits.
 use Rattle.std.specs.Prelude.{◌≡◌, ◌⊎◌, ℕ, List, Result, Ok, Err, map, string_bytes}
 use Rattle.std.specs.Str.{chars}
 use Rattle.std.specs.Global.{Vec}
@@ -13,14 +13,14 @@ use Rattle.java_properties.specs.declared.edit.Edit.TheVariants.{Put, Remove}
 use Rattle.java_properties.specs.declared.error.ErrorKind.TheVariants as kind
 use Rattle.java_properties.specs.declared.error.PropertiesError.{PropertiesError}
 
--- Why a source isn't edited, where this says which results are meant: its encoding is not one that is edited, and only then;
--- or its first malformed escape; or there was no memory.
+-- Why a source isn't edited, given which results are meant: its encoding can't be edited; or it has a first malformed
+-- escape; or, in an encoding that can be edited, memory ran out.
 abbrev pub IsRefusal : (EditResult → Type 0) → PropertiesError → Type 0
 IsRefusal IsMeant e =
     (IsMeant unsupported × IsBareError kind.Unsupported e)
     ⊎ (((how : Malformed) × (n : ℕ) × IsMeant (unreadable how n) × IsMalformed how n e) ⊎ ¬ (IsMeant unsupported) × IsBareError kind.Memory e)
 
--- These bytes are the result that is meant, and no others are. They read as the source after the edit.
+-- These bytes are the result that is meant, and the only one. They read as the source after the edit.
 pub record IsEdit (IsMeant : EditResult → Type 0) (Reads : List ℕ → Type 0) (bytes : List ℕ) : Type 0 where
   pub result : IsMeant (edited bytes)
   pub only : (other : EditResult) → IsMeant other → other ≡ edited bytes
@@ -28,7 +28,7 @@ pub record IsEdit (IsMeant : EditResult → Type 0) (Reads : List ℕ → Type 0
 
 -- ---- a key
 
--- The source with a key set: what its result is and reads as; and every group but the last pair with the key stands in it.
+-- The source with a key set: its result, how it reads, and that it keeps every group but the last pair with the key.
 pub record IsSet (e : Encoding) (source key value bytes : List ℕ) : Type 0 where
   pub edit : IsEdit (IsSetKeyResult e source key value) (ReadsAfter (IsSetIn key value) (map_edited (put key value)) e source) bytes
   pub keeps : KeepsOthers (AreOthersThanLast key) e source bytes
@@ -37,7 +37,7 @@ abbrev pub SetsKey : Encoding → List ℕ → List ℕ → List ℕ → Result 
 SetsKey e source key value (Ok bytes) = IsSet e source key value bytes.items
 SetsKey e source key value (Err error) = IsRefusal (IsSetKeyResult e source key value) error
 
--- The source without a key: what its result is and reads as; and every group that is no pair with the key stands in it.
+-- The source without a key: its result, how it reads, and that it keeps every group that isn't a pair with the key.
 pub record IsRemoved (e : Encoding) (source key bytes : List ℕ) : Type 0 where
   pub edit : IsEdit (IsRemoveKeyResult e source key) (ReadsAfter (IsRemovedIn key) (map_edited (remove key)) e source) bytes
   pub keeps : KeepsOthers (AreOthers key) e source bytes
@@ -46,7 +46,7 @@ abbrev pub RemovesKey : Encoding → List ℕ → List ℕ → Result (Vec ℕ) 
 RemovesKey e source key (Ok bytes) = IsRemoved e source key bytes.items
 RemovesKey e source key (Err error) = IsRefusal (IsRemoveKeyResult e source key) error
 
--- ---- edits in turn
+-- ---- lists of edits
 
 abbrev pub edit_in : Edit → format.Edit
 edit_in (Put key value) = put (chars (string_bytes key)) (chars (string_bytes value))
@@ -55,7 +55,7 @@ edit_in (Remove key) = remove (chars (string_bytes key))
 abbrev pub edits_in : List Edit → List format.Edit
 edits_in edits = map edit_in edits
 
--- The source after edits: what its result is and reads as.
+-- The source after edits: its result, and how it reads.
 abbrev pub AreMade : Encoding → List ℕ → List format.Edit → List ℕ → Type 0
 AreMade e source edits bytes = IsEdit (IsEditAllResult e source edits) (ReadsAfter (AreEditedIn edits) (map_after edits) e source) bytes
 
@@ -63,7 +63,7 @@ abbrev pub EditsAll : Encoding → List ℕ → List format.Edit → Result (Vec
 EditsAll e source edits (Ok bytes) = AreMade e source edits bytes.items
 EditsAll e source edits (Err error) = IsRefusal (IsEditAllResult e source edits) error
 
--- both are the same edit, with the same texts
+-- Both are the same edit, with the same texts.
 abbrev pub IsSameEdit : Edit → Edit → Type 0
 IsSameEdit (Put k v) (Put l w) = (string_bytes k ≡ string_bytes l) × (string_bytes v ≡ string_bytes w)
 IsSameEdit (Remove k) (Remove l) = string_bytes k ≡ string_bytes l

@@ -16,11 +16,11 @@ abbrev pub entry_content : Content → format.Content
 entry_content (Comment text) = format.comment (chars text.now)
 entry_content (KVPair key value) = format.pair (chars key.now) (chars value.now)
 
--- the writer that the engine is, beside its sink
+-- the writer that an engine and a sink form
 abbrev pub writing : {W : Type 0} → Engine → W → Writing W
 writing engine sink = record { sink = sink; encoding = output_of engine.encoding; settings = engine.settings; lines = engine.lines; failed = engine.failed }
 
--- what a line may hold as it stands
+-- what a line can contain without escapes
 abbrev pub repertoire_of : Engine → Repertoire
 repertoire_of engine = record { encoding = engine.encoding; ascii_only = engine.settings.ascii_only }
 
@@ -28,7 +28,7 @@ repertoire_of engine = record { encoding = engine.encoding; ascii_only = engine.
 abbrev pub line_bytes : Engine → format.Content → List ℕ
 line_bytes engine line = printed (output_of engine.encoding) engine.settings (engine.lines == 0) line
 
--- those of what the line says, without the line ending
+-- the bytes of the line's content, without the line ending
 abbrev pub content_bytes : Engine → format.Content → List ℕ
 content_bytes engine (format.comment text) =
     text_bytes (repertoire_of engine) place.Prefix engine.settings.comment_prefix ++ text_bytes (repertoire_of engine) place.Comment text

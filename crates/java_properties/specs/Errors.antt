@@ -1,4 +1,4 @@
--- What a contract sees of an error.
+-- Errors as contracts see them.
 use Rattle.std.specs.Prelude.{◌≡◌, ◌⊎◌, ℕ, List, Option, Some, None}
 use Rattle.std.specs.Option.{option_map}
 use Rattle.std.specs.Str.{chars}
@@ -21,54 +21,55 @@ use Rattle.std.specs.declared.io.Error.{Error}
 abbrev pub kind_of : PropertiesError → ErrorKind
 kind_of e = e.kind
 
--- the number of its line, where it has one
+-- the line number of an error, if it has one
 abbrev pub line_of : PropertiesError → Option ℕ
 line_of e = e.line_number
 
 abbrev pub cause_of : PropertiesError → Cause
 cause_of e = e.cause
 
--- the characters of the text that was refused, where one was
+-- the characters of the refused text, if there is one
 abbrev pub refused_of : PropertiesError → Option (List ℕ)
 refused_of e = option_map (λ text. chars (string_bytes text)) e.refused
 
--- no stream failed with an error of its own
+-- No stream failed with an error of its own.
 abbrev pub NoStreamError : PropertiesError → Type 0
 NoStreamError e = (source : Error) → cause_of e ≡ cause.Io source → ⊥
 
--- The reason of an error: the stream's own error where it came from one; else its kind, with the text that was refused where one was.
+-- The reason of an error: the stream's own error if it has one as its cause; otherwise its kind, with the refused text
+-- if there is one.
 abbrev pub IsReason : PropertiesError → Reason → Type 0
 IsReason e (reason.Io error) = cause_of e ≡ cause.Io error.now
 IsReason e (reason.Refused kind text) = (kind ≡ kind_of e) × (refused_of e ≡ Some (chars text.now)) × NoStreamError e
 IsReason e (reason.Kind kind) = (kind ≡ kind_of e) × (refused_of e ≡ None) × NoStreamError e
 
--- An error of this kind, line and cause, where no text was refused.
+-- An error with this kind, line and cause, and without a refused text.
 pub record IsError (kind : ErrorKind) (line : Option ℕ) (cause : Cause) (error : PropertiesError) : Type 0 where
   pub its_kind : kind_of error ≡ kind
   pub its_line : line_of error ≡ line
   pub its_cause : cause_of error ≡ cause
   pub its_text : refused_of error ≡ None
 
--- an error of this kind, of no line, that came from nothing else
+-- an error of this kind, without a line and without a cause
 abbrev pub IsBareError : ErrorKind → PropertiesError → Type 0
 IsBareError kind error = IsError kind None cause.None error
 
--- a stream failed so, in this line if it is of one
+-- A stream failed with this error, in this line if there is one.
 abbrev pub IsStreamError : Option ℕ → Error → PropertiesError → Type 0
 IsStreamError line source error = IsError kind.Io line (cause.Io source) error
 
--- what a write that failed is the cause of: the sink's own error, or none where no byte was taken
+-- the cause of a failed write: the sink's own error, or none if the sink took no byte
 abbrev pub cause_of_write : Option Error → Cause
 cause_of_write Option.None = cause.None
 cause_of_write (Option.Some source) = cause.Io source
 
--- the same cause, but where it is a stream that failed, it failed so
+-- the same cause, but with this stream's error if the cause is a stream's error
 abbrev pub cause_by : Error → Cause → Cause
 cause_by source cause.None = cause.None
 cause_by source (cause.Io given) = cause.Io source
 cause_by source cause.NotHex = cause.NotHex
 
--- the kind that malformed escapes are, and what they came from
+-- the kind of error for a malformed escape, and its cause
 abbrev pub malformed_kind : Malformed → ErrorKind
 malformed_kind not_enough_digits = kind.NotEnoughDigits
 malformed_kind not_hex = kind.NotHex
@@ -79,33 +80,33 @@ malformed_cause not_enough_digits = cause.None
 malformed_cause not_hex = cause.NotHex
 malformed_cause invalid_character = cause.None
 
--- escapes of this line are so malformed
+-- An escape in this line is malformed in this way.
 abbrev pub IsMalformed : Malformed → ℕ → PropertiesError → Type 0
 IsMalformed malformed line error = IsError (malformed_kind malformed) (Some line) (malformed_cause malformed) error
 
--- escapes of this line aren't resolved for this reason
+-- The escapes in this line can't be resolved for this reason.
 abbrev pub SaysUnresolved : UnescapeError → ℕ → PropertiesError → Type 0
 SaysUnresolved (unescape.Malformed malformed) line error = IsMalformed (malformed_in malformed) line error
 SaysUnresolved unescape.Memory line error = IsBareError kind.Memory error
 
--- The text breaks, and the error says how, in this line; or there was no memory.
+-- The text is malformed, and the error reports how, in this line; or memory ran out.
 abbrev pub IsUnresolved : List ℕ → ℕ → PropertiesError → Type 0
 IsUnresolved text line error = ((malformed : Malformed) × Breaks text malformed × IsMalformed malformed line error) ⊎ IsBareError kind.Memory error
 
--- no line came for this reason
+-- No line was returned for this reason.
 abbrev pub SaysLineError : LineError → PropertiesError → Type 0
 SaysLineError (why.Io number source) error = IsStreamError (Some number) source error
 SaysLineError why.TooManyLines error = IsBareError kind.TooManyLines error
 SaysLineError why.Memory error = IsBareError kind.Memory error
 
--- A text was refused, and the error of this kind has it: no line, and nothing that it came from.
+-- A text was refused, and the error of this kind holds it. The error has no line and no cause.
 pub record RefusesText (kind : ErrorKind) (text : List ℕ) (error : PropertiesError) : Type 0 where
   pub its_kind : kind_of error ≡ kind
   pub its_line : line_of error ≡ None
   pub its_cause : cause_of error ≡ cause.None
   pub its_text : refused_of error ≡ Some text
 
--- A call was refused by an error of this kind, and changed nothing.
+-- A call was refused with an error of this kind and changed nothing.
 pub record Refuses {S : Type 0} (kind : ErrorKind) (old : S) (error : PropertiesError) (new : S) : Type 0 where
   pub is : IsBareError kind error
   pub same : new ≡ old

@@ -1,4 +1,5 @@
--- What the item reader gives, by the items to come as they are computed. Page PropertiesIter says it by divisions.
+-- What the item reader returns, in terms of the items to come as they are computed. Page PropertiesIter states the same
+-- in terms of divisions.
 use Rattle.std.specs.Prelude.{◌≡◌, ◌⊎◌, ℕ, Bool, true, false, List, [], ◌∷◌, ◌++◌, Option, Some, None, Result, Ok, Err}
 use Rattle.std.specs.declared.io.Error.{Error}
 use Rattle.counted_io.specs.Streams.{Reader, HasRead, HasFailed}
@@ -18,23 +19,23 @@ use Rattle.java_properties.specs.declared.error.ErrorKind.TheVariants as kind
 use Rattle.java_properties.specs.declared.error.PropertiesError.{PropertiesError}
 use Rattle.java_properties.specs.declared.line.Line.{Line}
 
--- Why a logical line gave no item: its escapes are malformed, or there was no memory.
+-- Why a logical line has no item: its escapes are malformed, or memory ran out.
 abbrev pub IsNoItem : ℕ → List ℕ → PropertiesError → Type 0
 IsNoItem number text e =
     ((kind : Malformed) × (outcome_of text ≡ broken kind) × IsMalformed kind number e) ⊎ IsBareError kind.Memory e
 
--- After the bytes that were read this entry comes, whatever comes after them, and then what the new state gives; or it is
--- the last, and the input ended.
+-- The bytes that were read give this entry first, whatever comes after them, and then what the new state gives; or it
+-- is the last entry, and the input ended.
 pub data Gives (old : ReaderState) (bytes : List ℕ) (entry : Entry) (new : ReaderState) : Type 0 where
   going_on : new.is_done ≡ false → ReadsEntry old bytes entry new → Gives old bytes entry new
   at_last : new.is_done ≡ true → items_to_come old bytes end ≡ entry ∷ [] → Gives old bytes entry new
 
--- The same of malformed escapes, after which nothing comes.
+-- As `Gives`, for malformed escapes, after which nothing comes.
 pub data BreaksOff (old : ReaderState) (bytes : List ℕ) (entry : Entry) (at_end : Bool) : Type 0 where
   before_all : ((d : List ℕ) (ending : InputEnd) → items_to_come old (bytes ++ d) ending ≡ entry ∷ []) → BreaksOff old bytes entry at_end
   at_last : at_end ≡ true → items_to_come old bytes end ≡ entry ∷ [] → BreaksOff old bytes entry at_end
 
--- An item came. Where what was held gave it already, nothing was read.
+-- An item was returned. If the bytes already held determined it, nothing was read.
 pub record GivesEntry {R : Type 0} (reader : Reader R) (old : ReaderState) (from : R) (entry : Entry) (new : ReaderState) (to : R) : Type 0 where
   pub bytes : List ℕ
   pub read : HasRead reader from bytes to
@@ -44,7 +45,7 @@ pub record GivesEntry {R : Type 0} (reader : Reader R) (old : ReaderState) (from
   pub ended : new.is_done ≡ true → reader.at_end to ≡ true
   pub lazy : IsLazyItems old from bytes to
 
--- No item comes any more: the input ended, or the iterator was at its end and reads nothing.
+-- No more items come: the input ended, or the iterator was already at its end and reads nothing.
 pub record GivesNone {R : Type 0} (reader : Reader R) (old : ReaderState) (from : R) (new : ReaderState) (to : R) : Type 0 where
   pub bytes : List ℕ
   pub read : HasRead reader from bytes to
@@ -53,7 +54,7 @@ pub record GivesNone {R : Type 0} (reader : Reader R) (old : ReaderState) (from 
   pub idle : old.is_done ≡ true → (new ≡ old) × (to ≡ from) × (bytes ≡ [])
   pub ended : old.is_done ≡ false → reader.at_end to ≡ true
 
--- Malformed escapes came, in the logical line that begins at this number.
+-- An escape was malformed in the logical line that begins in the line with this number.
 pub record GivesMalformed {R : Type 0} (reader : Reader R) (old : ReaderState) (from : R) (e : PropertiesError) (to : R) : Type 0 where
   pub bytes : List ℕ
   pub number : ℕ
@@ -63,7 +64,8 @@ pub record GivesMalformed {R : Type 0} (reader : Reader R) (old : ReaderState) (
   pub breaks : BreaksOff old bytes (malformed kind number) (reader.at_end to)
   pub lazy : IsLazyItems old from bytes to
 
--- A read failed, and nothing but that fault is left to come. It is named by the line that it cut, also in a join.
+-- A read failed, and nothing but this I/O error is left to come. Its line number is that of the line that was cut off,
+-- also in a continuation.
 pub record GivesFault {R : Type 0} (reader : Reader R) (old : ReaderState) (from : R) (e : PropertiesError) (to : R) : Type 0 where
   pub bytes : List ℕ
   pub error : Error
@@ -81,7 +83,7 @@ pub record GivesTooMany {R : Type 0} (reader : Reader R) (old : ReaderState) (fr
   pub is : IsBareError kind.TooManyLines e
   pub lazy : IsLazyItems old from bytes to
 
--- There was no memory.
+-- Memory ran out.
 pub record GivesNoRoom {R : Type 0} (reader : Reader R) (old : ReaderState) (from : R) (e : PropertiesError) (to : R) : Type 0 where
   pub bytes : List ℕ
   pub read : HasRead reader from bytes to
@@ -92,7 +94,7 @@ pub record GivesNoRoom {R : Type 0} (reader : Reader R) (old : ReaderState) (fro
 abbrev pub GivesError : {R : Type 0} → Reader R → ReaderState → R → PropertiesError → R → Type 0
 GivesError reader old from e to = GivesFault reader old from e to ⊎ (GivesTooMany reader old from e to ⊎ GivesNoRoom reader old from e to)
 
--- What the next item is, and what asking for it leaves. After `None` and after an error the iterator is at its end.
+-- The next item, and the state after requesting it. After `None` and after an error the iterator is at its end.
 abbrev pub GivesItem : {R : Type 0} → Reader R → ReaderState → R → Option (Result Line PropertiesError) → ReaderState → R → Type 0
 GivesItem reader old from None new to = GivesNone reader old from new to
 GivesItem reader old from (Some (Ok line)) new to = GivesEntry reader old from (entry_of line) new to

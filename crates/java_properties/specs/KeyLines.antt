@@ -1,5 +1,5 @@
--- The keys of an input, each with its line and with the line in which the key stands first; and what finding them returns.
--- Source: java.util.Properties of Java SE 7, load.
+-- The keys of an input, each with its line number and the number of the line where the key comes first; and the result
+-- of finding them. Source: java.util.Properties of Java SE 7, load.
 use Rattle.std.specs.Prelude.{◌≡◌, ◌≢◌, ◌⊎◌, ℕ, true, List, [], ◌∷◌, ◌++◌, map, Option, Some, None, bytes_eq, Result, Ok, Err}
 use Rattle.std.specs.Option.{option_map, unwrap_or}
 use Rattle.std.specs.Map.{lookup, update}
@@ -27,7 +27,8 @@ pub record KeyPlace : Type 0 where
   pub number : ℕ
   pub key : List ℕ
 
--- the keys of a logical line of this number and outcome, and of the lines after it: a pair has one, unless an escape of it is malformed
+-- the keys of a logical line with this number and outcome, followed by those of the lines after it: a pair has one,
+-- unless one of its escapes is malformed
 abbrev pub keys_from : ℕ → Outcome → List KeyPlace → List KeyPlace
 keys_from number ignored rest = rest
 keys_from number (given (comment text)) rest = rest
@@ -41,7 +42,8 @@ AreKeysIn (group ∷ groups) keys =
     (outcome : Outcome) × (rest : List KeyPlace) × IsOutcome (joined group) outcome
     × (keys ≡ keys_from (first_number group) outcome rest) × AreKeysIn groups rest
 
--- The keys of an input in an encoding: it decodes to a text, the text has lines, the lines have groups, and these are their keys.
+-- The keys of an input in an encoding: it decodes to a text, the text has lines, the lines have groups, and these are
+-- their keys.
 pub record AreKeys (e : Encoding) (bytes : List ℕ) (keys : List KeyPlace) : Type 0 where
   pub text : List ℕ
   pub lines : Lines
@@ -51,21 +53,21 @@ pub record AreKeys (e : Encoding) (bytes : List ℕ) (keys : List KeyPlace) : Ty
   pub grouped : IsGroups (numbered_lines lines end) end groups
   pub are_keys : AreKeysIn groups keys
 
--- ---- where a key stands first
+-- ---- where a key comes first
 
--- none of the places has this key
+-- None of the places has this key.
 abbrev pub HasNoKey : List ℕ → List KeyPlace → Type 0
 HasNoKey key [] = Unit {0}
 HasNoKey key (k ∷ ks) = (k.key ≢ key) × HasNoKey key ks
 
--- Of these places the first with this key has this number.
+-- The first of these places with this key has this number.
 pub record StandsFirst (keys : List KeyPlace) (key : List ℕ) (number : ℕ) : Type 0 where
   pub before : List KeyPlace
   pub after : List KeyPlace
   pub division : keys ≡ before ++ (record { number = number; key = key } ∷ after)
   pub none : HasNoKey key before
 
--- a key, the number of its pair's first line, and that of the first pair with this key
+-- a key, the number of its pair's first line, and the number of the first pair with this key
 pub record KeyEntry : Type 0 where
   pub number : ℕ
   pub key : List ℕ
@@ -78,22 +80,22 @@ AreFirstsOf keys (k ∷ ks) lines =
     (first : ℕ) × (rest : List KeyEntry) × StandsFirst keys k.key first
     × (lines ≡ record { number = k.number; key = k.key; first = first } ∷ rest) × AreFirstsOf keys ks rest
 
--- The keys of an input, each with its line and with the line in which it stands first.
+-- The keys of an input, each with its line number and the number of the line where it comes first.
 pub record AreKeyLines (e : Encoding) (bytes : List ℕ) (lines : List KeyEntry) : Type 0 where
   pub keys : List KeyPlace
   pub are_keys : AreKeys e bytes keys
   pub are_firsts : AreFirstsOf keys keys lines
 
--- ---- what finding them returns
+-- ---- the result of finding them
 
--- the same of the code, whose key is a text
+-- the entry of the code's record, whose key is a text
 abbrev pub said_key : code.KeyLine → KeyEntry
 said_key line = record { number = line.line_number; key = characters line.key; first = line.first }
 
 abbrev pub said_keys : List code.KeyLine → List KeyEntry
 said_keys lines = map said_key lines
 
--- The reader was read to its end, and these are the keys of its bytes, and the only ones.
+-- The reader was read to its end. These are the keys of its bytes, and the only ones.
 pub record FindsAllKeys {R : Type 0} (reader : Reader R) (e : Encoding) (from : R) (found : List code.KeyLine) (to : R) : Type 0 where
   pub bytes : List ℕ
   pub read : HasRead reader from bytes to
@@ -101,28 +103,28 @@ pub record FindsAllKeys {R : Type 0} (reader : Reader R) (e : Encoding) (from : 
   pub are : AreKeyLines e bytes (said_keys found)
   pub only : (others : List KeyEntry) → AreKeyLines e bytes others → others ≡ said_keys found
 
--- What finding them returns. Ok comes at the reader's own end alone.
+-- The result of finding the keys. Ok is returned only at the reader's own end.
 abbrev pub FindsKeys : {R Z : Type 0} → Reader R → Encoding → R → Result (Vec code.KeyLine Z) PropertiesError → R → Type 0
 FindsKeys reader e from (Ok found) to = FindsAllKeys reader e from found.items to
 FindsKeys reader e from (Err error) to = FailsToFind reader e from error to ⊎ StopsFinding reader e from error to
 
 -- ---- line by line
 
--- the key of a logical line, where it is a pair without a malformed escape; or there was no memory
+-- the key of a logical line, if it is a pair without a malformed escape; or memory ran out
 abbrev pub TellsLineKey : {Z : Type 0} → List ℕ → Result (Option (String Z)) PropertiesError → Type 0
 TellsLineKey x (Ok told) = option_map characters told ≡ key_told (outcome_of x)
 TellsLineKey x (Err error) = IsBareError kind.Memory error
 
--- the number that is kept under a key, which is given by its characters
+-- the number recorded for a key, given by its characters
 abbrev pub number_at : {Z : Type 0} → List (String Z × ℕ) → List ℕ → Option ℕ
 number_at entries key = lookup (λ k. bytes_eq key (characters k)) entries
 
--- This is the number that is kept under a key, or where none is, the one that is kept from now on.
+-- This is the number recorded for a key; if there was none, it is this line's number, which is recorded from now on.
 pub record KeepsFirst {Z : Type 0} (number : ℕ) (key : List ℕ) (old new : List (String Z × ℕ)) (first : ℕ) : Type 0 where
   pub is : first ≡ unwrap_or (number_at old key) number
   pub kept : (k : List ℕ) → number_at new k ≡ update bytes_eq (number_at old) key (Some first) k
 
--- The key comes last, with the number that is kept under it.
+-- The key was appended, with the number recorded for it.
 pub record AddsKeyLine {Z : Type 0} (number : ℕ) (key : List ℕ) (old new : List code.KeyLine) (firsts firsts' : List (String Z × ℕ)) : Type 0 where
   pub line : code.KeyLine
   pub says : (line.line_number ≡ number) × (characters line.key ≡ key)
@@ -133,7 +135,7 @@ abbrev pub AddsIfKey : {Z : Type 0} → ℕ → Option (List ℕ) → List code.
 AddsIfKey number None old new firsts firsts' = (new ≡ old) × (firsts' ≡ firsts)
 AddsIfKey number (Some key) old new firsts firsts' = AddsKeyLine number key old new firsts firsts'
 
--- What a logical line of this number and text adds; or there was no memory.
+-- What a logical line with this number and text adds; or memory ran out.
 abbrev pub PushesKey : {Z : Type 0} → ℕ → List ℕ → List code.KeyLine → List (String Z × ℕ) → Result Unit PropertiesError → List code.KeyLine → List (String Z × ℕ) → Type 0
 PushesKey number x old firsts (Ok done) new firsts' = AddsIfKey number (key_told (outcome_of x)) old new firsts firsts'
 PushesKey number x old firsts (Err error) new firsts' = IsBareError kind.Memory error

@@ -1,4 +1,4 @@
--- What a contract sees of items that are lent, and of what is found of them before that.
+-- Borrowed items as contracts see them, and what is found of them before they are borrowed.
 use Rattle.std.specs.Prelude.{◌≡◌, ◌⊎◌, ℕ, Bool, true, false, not, List, Option, Some, None, Result, Ok, Err}
 use Rattle.std.specs.Option.{is_some}
 use Rattle.std.specs.Str.{chars}
@@ -41,9 +41,9 @@ use Rattle.properties_text.specs.declared.parse.ParsedSpans.{ParsedSpans}
 use Rattle.properties_text.specs.declared.parse.ParsedSpans.TheVariants as spans
 use Rattle.properties_text.specs.declared.parse.Span.{Span}
 
--- ---- lent items
+-- ---- borrowed items
 
--- the entry that a lent item is
+-- the entry of a borrowed item
 abbrev pub said_by : ContentRef → Content
 said_by (lent.Comment text) = entry.comment (chars (cow_str_bytes text))
 said_by (lent.KVPair key value) = entry.pair (chars (cow_str_bytes key)) (chars (cow_str_bytes value))
@@ -55,14 +55,14 @@ abbrev pub is_borrowed : {Z : Type 0} → CowStr Z → Bool
 is_borrowed (Borrowed text) = true
 is_borrowed (Owned text) = false
 
--- Of this logical line each text is borrowed exactly where its slice of the line holds no backslash.
+-- In this logical line, each text is borrowed if and only if its slice of the line contains no backslash.
 abbrev pub BorrowsPlain : List ℕ → ContentRef → Type 0
 BorrowsPlain line (lent.Comment text) = (raw : List ℕ) × IsSplit line (split.comment raw) × (is_borrowed text ≡ not (holds_backslash raw))
 BorrowsPlain line (lent.KVPair key value) =
     (raw_key : List ℕ) × (raw_value : List ℕ) × IsSplit line (split.pair raw_key raw_value)
     × (is_borrowed key ≡ not (holds_backslash raw_key)) × (is_borrowed value ≡ not (holds_backslash raw_value))
 
--- The texts of an item are those of a lent one.
+-- The texts of an item equal those of a borrowed item.
 abbrev pub IsCopyOf : ContentRef → LineContent → Type 0
 IsCopyOf (lent.Comment text) (own.Comment copy) = string_bytes copy ≡ cow_str_bytes text
 IsCopyOf (lent.Comment text) (own.KVPair key value) = ⊥
@@ -70,7 +70,7 @@ IsCopyOf (lent.KVPair key value) (own.Comment copy) = ⊥
 IsCopyOf (lent.KVPair key value) (own.KVPair key_copy value_copy) =
     (string_bytes key_copy ≡ cow_str_bytes key) × (string_bytes value_copy ≡ cow_str_bytes value)
 
--- The item of a lent one; or there was no memory for it.
+-- The owned copy of a borrowed item; or memory ran out.
 abbrev pub IsLineOf : LineRef → Result Line PropertiesError → Type 0
 IsLineOf line (Ok copy) = (number_of copy ≡ line.line_number) × IsCopyOf line.content (content_of copy)
 IsLineOf line (Err e) = IsBareError kind.Memory e
@@ -81,7 +81,7 @@ IsContentOf content (Err e) = IsBareError kind.Memory e
 
 -- ---- what was found
 
--- the bytes of a text: of its slice of the line, or of what its escapes were resolved to
+-- the bytes of a text: its slice of the line, or the text with its escapes resolved
 abbrev pub bytes_of : {Z : Type 0} → List ℕ → Option (String Z) → List ℕ
 bytes_of slice None = slice
 bytes_of slice (Some text) = string_bytes text
@@ -101,7 +101,7 @@ abbrev pub spans_of : FoundContent → ParsedSpans
 spans_of (found.Comment text) = spans.Comment text.span
 spans_of (found.KVPair key value) = spans.KVPair key.span value.span
 
--- The text is what a slice of the line means, and was resolved exactly where that holds a backslash.
+-- The text is what a slice of the line means. It was resolved if and only if the slice contains a backslash.
 pub record IsTextIn (line : List ℕ) (text : FoundText) : Type 0 where
   pub span : IsSpan line text.span
   pub means : Means (chars (bytes_in line text.span)) (chars (found_bytes line text))
@@ -116,35 +116,36 @@ pub record IsFoundIn (line : List ℕ) (found : Found) : Type 0 where
   pub slices : IsSplit (chars line) (in_characters (spanned line (Some (spans_of found.content))))
   pub texts : AreTextsIn line found.content
 
--- The text of this span of the line; or why there is none.
+-- The text of this span of the line; or why it can't be resolved.
 abbrev pub FindsText : List ℕ → Span → Result FoundText UnescapeError → Type 0
 FindsText line span (Ok text) = (text.span ≡ span) × IsTextIn line text
 FindsText line span (Err e) = IsRefused (chars (bytes_in line span)) e
 
--- The texts of these spans of the line; or why there are none, whatever the line's number. Of a pair the key breaks first.
+-- The texts of these spans of the line; or why they can't be resolved, whatever the line's number. In a pair, a
+-- malformed key is reported before a malformed value.
 abbrev pub FindsContent : List ℕ → ParsedSpans → Result FoundContent UnescapeError → Type 0
 FindsContent line spans (Ok content) = (spans_of content ≡ spans) × AreTextsIn line content
 FindsContent line spans (Err e) = (number : ℕ) (error : PropertiesError) → SaysUnresolved e number error → IsNoItem number (chars line) error
 
--- What was found in a logical line, where it isn't blank; or why its texts aren't resolved, whatever its number.
+-- What was found in a logical line, or `None` if it is blank; or why its texts can't be resolved, whatever its number.
 abbrev pub FindsIn : List ℕ → ℕ → Result (Option Found) UnescapeError → Type 0
 FindsIn line number (Ok None) = outcome_of (chars line) ≡ ignored
 FindsIn line number (Ok (Some found)) = (found.line_number ≡ number) × IsFoundIn line found
 FindsIn line number (Err e) = (number : ℕ) (error : PropertiesError) → SaysUnresolved e number error → IsNoItem number (chars line) error
 
--- the same of a line without a backslash
+-- what was found in a logical line without a backslash
 abbrev pub FindsPlain : List ℕ → ℕ → Option Found → Type 0
 FindsPlain line number None = outcome_of (chars line) ≡ ignored
 FindsPlain line number (Some found) = (found.line_number ≡ number) × IsFoundIn line found
 
--- What was found is an item; or there was no memory for it, and the reading ended.
+-- What was found is now an owned item; or memory for it ran out, and the reading ended.
 abbrev pub Owns : Joiner → Found → Result Line PropertiesError → Joiner → Type 0
 Owns old found (Ok line) new = (entry_of line ≡ found_entry old.line found) × (new ≡ old)
 Owns old found (Err e) new = IsBareError kind.Memory e × (new ≡ record old { state = record old.state { is_done = true } })
 
 -- ---- the calls
 
--- What the next item is, as it is found, and what looking for it leaves. After `None` and after an error the iterator is
+-- The next item as it is found, and the state after searching for it. After `None` and after an error the iterator is
 -- at its end.
 abbrev pub FindsItem : {R : Type 0} → Reader R → ReaderState → R → Option (Result Found PropertiesError) → Joiner → R → Type 0
 FindsItem reader old from None new to = given.GivesNone reader old from new.state to
@@ -152,7 +153,7 @@ FindsItem reader old from (Some (Ok found)) new to = given.GivesEntry reader old
 FindsItem reader old from (Some (Err e)) new to =
     (old.is_done ≡ false) × (new.state.is_done ≡ true) × (given.GivesMalformed reader old from e to ⊎ given.GivesError reader old from e to)
 
--- the same of an iterator, said by divisions
+-- The next item of an iterator as it is found, in terms of divisions.
 abbrev pub AdvancesTo : {R : Type 0} → Reader R → Reading R → Option (Result Found PropertiesError) → Reading R → Type 0
 AdvancesTo reader old None new = GivesNone reader old.state old.reader new.state new.reader
 AdvancesTo reader old (Some (Ok found)) new =
@@ -161,12 +162,12 @@ AdvancesTo reader old (Some (Err e)) new =
     (old.state.is_done ≡ false) × (new.state.is_done ≡ true)
     × (GivesMalformed reader old.state old.reader e new.reader ⊎ GivesError reader old.state old.reader e new.reader)
 
--- It keeps the reader that it was made of.
+-- The iterator keeps the reader that it was created with.
 abbrev pub AdvanceGives : {R : Type 0} → Reader R → Reading R → Option (Result Found PropertiesError) → Reading R → Type 0
 AdvanceGives reader old answer new =
     AdvancesTo reader old answer new × IsSameReader reader old.reader new.reader
 
--- What the next item is, as it is lent, and what lending it leaves.
+-- The next item as it is borrowed, and the state after that.
 abbrev pub LendsItem : {R : Type 0} → Reader R → Reading R → Option (Result LineRef PropertiesError) → Reading R → Type 0
 LendsItem reader old None new = GivesNone reader old.state old.reader new.state new.reader
 LendsItem reader old (Some (Ok line)) new =
@@ -175,6 +176,6 @@ LendsItem reader old (Some (Err e)) new =
     (old.state.is_done ≡ false) × (new.state.is_done ≡ true)
     × (GivesMalformed reader old.state old.reader e new.reader ⊎ GivesError reader old.state old.reader e new.reader)
 
--- It is the next item, by what some reading of the iterator's reader gave.
+-- It is the next item, according to some state of the iterator after the call.
 abbrev pub NextRefGives : {R : Type 0} → Reader R → Reading R → Option (Result LineRef PropertiesError) → Type 0
 NextRefGives {R} reader old answer = (new : Reading R) × LendsItem reader old answer new × IsSameReader reader old.reader new.reader

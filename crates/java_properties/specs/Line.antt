@@ -1,4 +1,4 @@
--- What a contract sees of an item: when two are the same, and which comes first.
+-- Items as contracts see them: when two are equal, and how they are ordered.
 use Rattle.std.specs.Prelude.{◌≡◌, ℕ, List, [], ◌∷◌}
 use Rattle.std.specs.String.{string_bytes}
 use Rattle.std.specs.Ordering.{nat_cmp, on, then_cmp}
@@ -8,14 +8,14 @@ use Rattle.java_properties.specs.declared.line.LineContent.{LineContent}
 use Rattle.java_properties.specs.declared.line.LineContent.TheVariants.{Comment, KVPair}
 use Rattle.java_properties.specs.declared.line.Line.{Line}
 
--- the number of the line in which it begins
+-- the number of the line that the item begins in
 abbrev pub number_of : Line → ℕ
 number_of l = l.line_number
 
 abbrev pub content_of : Line → LineContent
 content_of l = l.content
 
--- which kind of item comes first: 0 for a comment and 1 for a pair
+-- the order of the kinds: 0 for a comment and 1 for a pair
 abbrev pub rank : LineContent → ℕ
 rank (Comment text) = 0
 rank (KVPair key value) = 1
@@ -25,17 +25,17 @@ abbrev pub texts : LineContent → List (List ℕ)
 texts (Comment text) = string_bytes text ∷ []
 texts (KVPair key value) = string_bytes key ∷ (string_bytes value ∷ [])
 
--- both are comments or both are pairs, and their texts are the same
+-- Both are comments or both are pairs, and their texts are equal.
 abbrev pub IsSameContent : LineContent → LineContent → Type 0
 IsSameContent x y = (rank x ≡ rank y) × (texts x ≡ texts y)
 
 abbrev pub IsSameLine : Line → Line → Type 0
 IsSameLine l m = (number_of l ≡ number_of m) × IsSameContent (content_of l) (content_of m)
 
--- Comments come before pairs. Of two comments, and of two pairs, the bytes of the texts decide.
+-- Comments order before pairs. Two comments, or two pairs, are ordered by the bytes of their texts.
 abbrev pub content_order : LineContent → LineContent → Ordering
 content_order = then_cmp (on rank nat_cmp) (on texts (slice_cmp (slice_cmp nat_cmp)))
 
--- The number decides, and at equal numbers the content.
+-- Lines are ordered by number, then by content.
 abbrev pub line_order : Line → Line → Ordering
 line_order = then_cmp (on number_of nat_cmp) (on content_of content_order)

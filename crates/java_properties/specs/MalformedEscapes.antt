@@ -1,4 +1,4 @@
--- What looking for malformed escapes returns, and what it leaves of the reader.
+-- The result of searching for malformed escapes, and the reader afterwards.
 use Rattle.std.specs.Prelude.{◌≡◌, ◌⊎◌, ℕ, true, List, [], ◌++◌, map, Some, Result, Ok, Err}
 use Rattle.std.specs.declared.io.Error.{Error}
 use Rattle.std.specs.declared.vec.Vec.{Vec}
@@ -14,14 +14,14 @@ use Rattle.java_properties.specs.declared.error.ErrorKind.TheVariants as kind
 use Rattle.java_properties.specs.declared.error.PropertiesError.{PropertiesError}
 use Rattle.java_properties.specs.declared.iter.malformed.MalformedEscape.{MalformedEscape}
 
--- an escape of the format, as the code has it
+-- an escape of the format, as the code represents it
 abbrev pub told_escape : format.MalformedEscape → MalformedEscape
 told_escape escape = record { line_number = escape.number; kind = malformed_kind escape.kind; in_comment = escape.in_comment }
 
 abbrev pub told_escapes : List format.MalformedEscape → List MalformedEscape
 told_escapes escapes = map told_escape escapes
 
--- The reader was read to its end, and these are the malformed escapes of its bytes, and the only ones.
+-- The reader was read to its end. These are the malformed escapes of its bytes, and the only ones.
 pub record FindsAll {R : Type 0} (reader : Reader R) (e : Encoding) (from : R) (found : List MalformedEscape) (to : R) : Type 0 where
   pub bytes : List ℕ
   pub escapes : List format.MalformedEscape
@@ -31,7 +31,7 @@ pub record FindsAll {R : Type 0} (reader : Reader R) (e : Encoding) (from : R) (
   pub only : (others : List format.MalformedEscape) → AreMalformedEscapes e bytes others → others ≡ escapes
   pub is : found ≡ told_escapes escapes
 
--- A read failed in the line of this number, by the reader's own error.
+-- A read failed in the line with this number, with the reader's own error.
 pub record FailsToFind {R : Type 0} (reader : Reader R) (e : Encoding) (from : R) (error : PropertiesError) (to : R) : Type 0 where
   pub bytes : List ℕ
   pub cause : Error
@@ -40,18 +40,18 @@ pub record FailsToFind {R : Type 0} (reader : Reader R) (e : Encoding) (from : R
   pub is : IsStreamError (Some number) cause error
   pub cut : IsCutLine e bytes number
 
--- So many lines were read that there was no number for another, or there was no memory.
+-- There was no number for another line after those that were read, or memory ran out.
 pub record StopsFinding {R : Type 0} (reader : Reader R) (e : Encoding) (from : R) (error : PropertiesError) (to : R) : Type 0 where
   pub bytes : List ℕ
   pub read : HasRead reader from bytes to
   pub is : IsBareError kind.TooManyLines error × PassesAll (start e) bytes ⊎ IsBareError kind.Memory error
 
--- What looking for them returns. Ok comes at the reader's own end alone.
+-- The result of searching for malformed escapes. Ok is returned only at the reader's own end.
 abbrev pub FindsMalformed : {R Z : Type 0} → Reader R → Encoding → R → Result (Vec MalformedEscape Z) PropertiesError → R → Type 0
 FindsMalformed reader e from (Ok found) to = FindsAll reader e from found.items to
 FindsMalformed reader e from (Err error) to = FailsToFind reader e from error to ⊎ StopsFinding reader e from error to
 
--- What a logical line of this number and text adds; or there was no memory.
+-- What a logical line with this number and text adds; or memory ran out.
 abbrev pub PushesMalformed : {Z : Type 0} → ℕ → List ℕ → Vec MalformedEscape Z → Result Unit PropertiesError → Vec MalformedEscape Z → Type 0
 PushesMalformed number x old (Ok done) new = new.items ≡ old.items ++ told_escapes (escapes_from number x (outcome_of x) [])
 PushesMalformed number x old (Err error) new = IsBareError kind.Memory error

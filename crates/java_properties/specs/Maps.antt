@@ -1,4 +1,4 @@
--- Maps of texts: what reading one and writing one does. A map is seen as its entries, whatever its type.
+-- Maps of texts: the effects of reading and writing one. A map is seen as its entries, whatever its type.
 use Rattle.std.specs.Prelude.{◌≡◌, ◌⊎◌, ℕ, true, List, [], ◌∷◌, ◌++◌, map, Option, Result, Ok, Err, bytes_eq, string_bytes}
 use Rattle.std.specs.Option.{option_map}
 use Rattle.std.specs.Str.{chars}
@@ -33,7 +33,7 @@ use Rattle.java_properties.specs.declared.line.Line.{Line}
 abbrev pub characters : {Z : Type 0} → String Z → List ℕ
 characters text = chars (string_bytes text)
 
--- the entries of a map, in the order in which it keeps them
+-- the entries of a map, in the order in which it holds them
 abbrev pub Entries : Type 0 → Type 0 → Type 0
 Entries Y Z = List (String Y × String Z)
 
@@ -41,7 +41,7 @@ Entries Y Z = List (String Y × String Z)
 abbrev pub value_at : {Y Z : Type 0} → Entries Y Z → List ℕ → Option (List ℕ)
 value_at entries key = option_map characters (lookup (λ k. bytes_eq key (characters k)) entries)
 
--- A pair puts its value under its key, where there is memory, and a comment changes nothing.
+-- A pair sets the value of its key, if there is memory. A comment changes nothing.
 abbrev pub InsertsIfPair : {Y Z : Type 0} → Entries Y Z → Content → Result Unit PropertiesError → Entries Y Z → Type 0
 InsertsIfPair old content (Err error) new = IsBareError kind.Memory error
 InsertsIfPair old (comment text) (Ok done) new = new ≡ old
@@ -49,24 +49,25 @@ InsertsIfPair old (pair key value) (Ok done) new = (k : List ℕ) → value_at n
 
 -- ---- reading
 
--- The input was read to its end, no escape is malformed, and the map has each key that a pair has, with the value of its last pair.
+-- The input was read to its end, and no escape is malformed. The map has each key that some pair has, with the value of
+-- the last such pair.
 pub record HasReadMap {R Y Z : Type 0} (reader : Reader R) (e : Encoding) (from : R) (entries : Entries Y Z) (to : R) : Type 0 where
   pub lines : List Line
   pub reads : ReadsWhole reader e from (entries_in lines) to
   pub values : (key : List ℕ) → HasValue e reads.bytes key (value_at entries key)
 
--- The input was read to its end, no escape is malformed, and this is the value of the key, or none where no pair has it.
+-- The input was read to its end, and no escape is malformed. This is the value of the key, or none if no pair has it.
 pub record ReadsValue {R : Type 0} (reader : Reader R) (e : Encoding) (from : R) (key : List ℕ) (value : Option (List ℕ)) (to : R) : Type 0 where
   pub items : List Entry
   pub reads : ReadsWhole reader e from items to
   pub has_value : HasValue e reads.bytes key value
 
--- What reading a map returns, and what it leaves of the reader. Ok comes at the reader's own end alone.
+-- The result of reading a map, and the reader afterwards. Ok is returned only at the reader's own end.
 abbrev pub ReadsMap : {R Y Z S : Type 0} → Reader R → R → Result (HashMap (String Y) (String Z) S) PropertiesError → R → Type 0
 ReadsMap reader from (Ok m) to = HasReadMap reader windows_1252 from m.entries to
 ReadsMap reader from (Err error) to = StopsReading reader windows_1252 from error to
 
--- The same of a sorted map, in any encoding.
+-- The result of reading a sorted map in any encoding, and the reader afterwards.
 abbrev pub ReadsSorted : {R Y Z : Type 0} → Reader R → Encoding → R → Result (BTreeMap (String Y) (String Z)) PropertiesError → R → Type 0
 ReadsSorted reader e from (Ok m) to = HasReadMap reader e from m.entries to
 ReadsSorted reader e from (Err error) to = StopsReading reader e from error to
@@ -98,12 +99,12 @@ call_for texts = pair_call (chars texts.0) (chars texts.1)
 abbrev pub calls_for : List Texts → List Call
 calls_for pairs = map call_for pairs
 
--- The lines of these pairs were written, in order, by the settings of a new writer, and the sink is flushed.
+-- The lines of these pairs were written, in order, with the settings of a new writer, and the sink is flushed.
 pub record HasWrittenPairs {W : Type 0} (sink : Sink W) (a : Encoding) (pairs : List Texts) (old new : W) : Type 0 where
   pub written : HasWritten sink old (wrote a default_settings 0 (calls_for pairs)) new
   pub flushed : sink.is_flushed new ≡ true
 
--- Writing stopped, as a new writer stops that is asked for these pairs in order and then for a flush.
+-- Writing stopped as it stops for a new writer that is asked to write these pairs in order and then to flush.
 pub record StopsInPairs {W : Type 0} (sink : Sink W) (a : Encoding) (pairs : List Texts) (old : W) (error : PropertiesError) (new : W) : Type 0 where
   pub writer : Writing W
   pub stops : StopsAtCall sink (new_writer a old) (calls_for pairs ++ (flush_call ∷ [])) error writer
@@ -125,7 +126,7 @@ pub record StopsInMap {W Y Z : Type 0} (sink : Sink W) (a : Encoding) (entries :
   pub in_order : AreInOrder entries pairs
   pub stops : StopsInPairs sink a pairs old error new
 
--- What writing a map does. Where memory runs out for the order of the pairs, the sink isn't touched.
+-- The effect of writing a map. If memory for sorting the pairs runs out, the sink is unchanged.
 abbrev pub WritesMap : {W Y Z : Type 0} → Sink W → Encoding → Entries Y Z → W → Result Unit PropertiesError → W → Type 0
 WritesMap sink a entries old (Ok done) new = HasWrittenMap sink a entries old new
 WritesMap sink a entries old (Err error) new = Refuses kind.Memory old error new ⊎ StopsInMap sink a entries old error new
@@ -136,13 +137,13 @@ WritesMap sink a entries old (Err error) new = Refuses kind.Memory old error new
 abbrev pub character_pair : Texts → Pair
 character_pair texts = (chars texts.0, chars texts.1)
 
--- the items of these pairs, one a line from the first line on
+-- the items of these pairs, one per line from the first line on
 abbrev pub items_for : List Texts → List Entry
 items_for pairs = items_after 0 (map character_pair pairs)
 
--- The sink took bytes that are read back, by themselves and in the encoding that was written, as the map's pairs in order,
--- one a line. They have no other items, so none is malformed. The map of these items is the one that was written: each key
--- has its value, and no other key has one.
+-- The bytes that the sink took read back, on their own and in the encoding that was written, as the map's pairs in
+-- order, one per line. They have no other items, so none is malformed. The map of these items is the one that was
+-- written: each key has its value, and no other key has one.
 pub record IsMapReadBack {W Y Z : Type 0} (sink : Sink W) (a : Encoding) (entries : Entries Y Z) (old new : W) : Type 0 where
   pub bytes : List ℕ
   pub written : HasWritten sink old bytes new
@@ -152,9 +153,9 @@ pub record IsMapReadBack {W Y Z : Type 0} (sink : Sink W) (a : Encoding) (entrie
   pub only : (others : List Entry) → IsItems a bytes end others → others ≡ items_for pairs
   pub is_map : IsMap (items_for pairs) (value_at entries)
 
--- Writing stopped, as a new writer stops that is asked for the map's pairs in order and then for a flush: what the calls
--- before the one that failed wrote is read back as their pairs, one a line, and as nothing else. What the sink took after
--- that, which is a part of the next line at most, is what the call says that failed.
+-- Writing stopped as it stops for a new writer that is asked to write the map's pairs in order and then to flush. What
+-- the calls before the failed one wrote reads back as their pairs, one per line, and as nothing else. What the sink
+-- took after that, at most a part of the next line, is determined by the call that failed.
 pub record IsMapReadBackBefore {W Y Z : Type 0} (sink : Sink W) (a : Encoding) (entries : Entries Y Z) (old : W) (error : PropertiesError) (new : W) : Type 0 where
   pub pairs : List Texts
   pub in_order : AreInOrder entries pairs
@@ -162,8 +163,8 @@ pub record IsMapReadBackBefore {W Y Z : Type 0} (sink : Sink W) (a : Encoding) (
   pub stops : IsReadBackBefore sink (new_writer a old) (calls_for pairs ++ (flush_call ∷ [])) error writer
   pub sink_after : new ≡ writer.sink
 
--- What writing a map says of reading it: what was written whole is read back. Where memory runs out for the order of the
--- pairs, the sink isn't touched.
+-- What writing a map means for reading it: what was written completely reads back. If memory for sorting the pairs runs
+-- out, the sink is unchanged.
 abbrev pub MapReadsBack : {W Y Z : Type 0} → Sink W → Encoding → Entries Y Z → W → Result Unit PropertiesError → W → Type 0
 MapReadsBack sink a entries old (Ok done) new = IsMapReadBack sink a entries old new
 MapReadsBack sink a entries old (Err error) new = Refuses kind.Memory old error new ⊎ IsMapReadBackBefore sink a entries old error new

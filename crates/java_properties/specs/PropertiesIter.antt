@@ -1,4 +1,5 @@
--- What a contract sees of the iterator over items, and what its calls give and leave. proofs/Told has the same of the items to come as they are computed.
+-- The iterator over items as contracts see it, and the results and effects of its calls. proofs/Told states the same in
+-- terms of the items to come as they are computed.
 use Rattle.std.specs.Prelude.{◌≡◌, ◌⊎◌, ℕ, ◌+◌, ◌^◌, Bool, true, false, List, [], ◌∷◌, ◌++◌, Option, Some, None, Result, Ok, Err, string_bytes}
 use Rattle.std.specs.Str.{chars}
 use Rattle.std.specs.declared.io.Error.{Error}
@@ -17,13 +18,13 @@ use Rattle.java_properties.specs.declared.line.Line.{Line}
 use Rattle.java_properties.specs.declared.line.LineContent.{LineContent}
 use Rattle.java_properties.specs.declared.line.LineContent.TheVariants.{Comment, KVPair}
 
--- an iterator: its reader, where it stands, and the logical line that came last, in UTF-8
+-- an iterator: its reader, its state, and the logical line that it read last, in UTF-8
 pub record Reading (R : Type 0) : Type 0 where
   pub reader : R
   pub state : ReaderState
   pub line : List ℕ
 
--- the entry that a line is
+-- the entry of a line
 abbrev pub said : LineContent → Content
 said (Comment text) = entry.comment (chars (string_bytes text))
 said (KVPair key value) = entry.pair (chars (string_bytes key)) (chars (string_bytes value))
@@ -31,7 +32,8 @@ said (KVPair key value) = entry.pair (chars (string_bytes key)) (chars (string_b
 abbrev pub entry_of : Line → Entry
 entry_of line = item (number_of line) (said (content_of line))
 
--- These bytes hold some lines at their front, and whatever comes after them, the old state goes on after those lines as the new one does.
+-- These bytes have some lines at their front. Whatever comes after them, the old state continues after those lines as
+-- the new one does.
 pub record PassesSome (old : ReaderState) (bytes : List ℕ) (new : ReaderState) : Type 0 where
   pub lines : List format.Line
   pub first : LinesComeFirst old bytes lines new
@@ -42,22 +44,22 @@ pub record PassesAll (old : ReaderState) (bytes : List ℕ) : Type 0 where
   pub passes : PassesSome old bytes last
   pub passed : last.passed + 1 ≡ 2 ^ 64
 
--- Nothing was read; or what was held gave no item, so that reading had to go on.
+-- Nothing was read; or the bytes already held determined no item, so a read was needed.
 abbrev pub IsLazyItems : {R : Type 0} → ReaderState → R → List ℕ → R → Type 0
 IsLazyItems old from bytes to = ((to ≡ from) × (bytes ≡ [])) ⊎ IsItemsToCome old [] more []
 
--- After the bytes that were read this entry comes, whatever comes after them, and then what the new state gives; or it is
--- the last, and the input ended.
+-- The bytes that were read give this entry first, whatever comes after them, and then what the new state gives; or it
+-- is the last entry, and the input ended.
 pub data Gives (old : ReaderState) (bytes : List ℕ) (entry : Entry) (new : ReaderState) : Type 0 where
   going_on : new.is_done ≡ false → ComesFirst old bytes entry new → Gives old bytes entry new
   at_last : new.is_done ≡ true → IsItemsToCome old bytes end (entry ∷ []) → Gives old bytes entry new
 
--- The same of malformed escapes, after which nothing comes.
+-- As `Gives`, for malformed escapes, after which nothing comes.
 pub data BreaksOff (old : ReaderState) (bytes : List ℕ) (entry : Entry) (at_end : Bool) : Type 0 where
   before_all : ((d : List ℕ) (ending : InputEnd) → IsItemsToCome old (bytes ++ d) ending (entry ∷ [])) → BreaksOff old bytes entry at_end
   at_last : at_end ≡ true → IsItemsToCome old bytes end (entry ∷ []) → BreaksOff old bytes entry at_end
 
--- An item came. Where what was held gave it already, nothing was read.
+-- An item was returned. If the bytes already held determined it, nothing was read.
 pub record GivesEntry {R : Type 0} (reader : Reader R) (old : ReaderState) (from : R) (entry : Entry) (new : ReaderState) (to : R) : Type 0 where
   pub bytes : List ℕ
   pub read : HasRead reader from bytes to
@@ -67,7 +69,7 @@ pub record GivesEntry {R : Type 0} (reader : Reader R) (old : ReaderState) (from
   pub ended : new.is_done ≡ true → reader.at_end to ≡ true
   pub lazy : IsLazyItems old from bytes to
 
--- No item comes any more: the input ended, or the iterator was at its end and reads nothing.
+-- No more items come: the input ended, or the iterator was already at its end and reads nothing.
 pub record GivesNone {R : Type 0} (reader : Reader R) (old : ReaderState) (from : R) (new : ReaderState) (to : R) : Type 0 where
   pub bytes : List ℕ
   pub read : HasRead reader from bytes to
@@ -76,7 +78,7 @@ pub record GivesNone {R : Type 0} (reader : Reader R) (old : ReaderState) (from 
   pub idle : old.is_done ≡ true → (new ≡ old) × (to ≡ from) × (bytes ≡ [])
   pub ended : old.is_done ≡ false → reader.at_end to ≡ true
 
--- Malformed escapes came, in the logical line that begins at this number.
+-- An escape was malformed in the logical line that begins in the line with this number.
 pub record GivesMalformed {R : Type 0} (reader : Reader R) (old : ReaderState) (from : R) (e : PropertiesError) (to : R) : Type 0 where
   pub bytes : List ℕ
   pub number : ℕ
@@ -86,7 +88,8 @@ pub record GivesMalformed {R : Type 0} (reader : Reader R) (old : ReaderState) (
   pub breaks : BreaksOff old bytes (malformed kind number) (reader.at_end to)
   pub lazy : IsLazyItems old from bytes to
 
--- A read failed, and nothing but that fault is left to come. It is named by the line that it cut, also in a join.
+-- A read failed, and nothing but this I/O error is left to come. Its line number is that of the line that was cut off,
+-- also in a continuation.
 pub record GivesFault {R : Type 0} (reader : Reader R) (old : ReaderState) (from : R) (e : PropertiesError) (to : R) : Type 0 where
   pub bytes : List ℕ
   pub error : Error
@@ -104,7 +107,7 @@ pub record GivesTooMany {R : Type 0} (reader : Reader R) (old : ReaderState) (fr
   pub is : IsBareError kind.TooManyLines e
   pub lazy : IsLazyItems old from bytes to
 
--- There was no memory.
+-- Memory ran out.
 pub record GivesNoRoom {R : Type 0} (reader : Reader R) (old : ReaderState) (from : R) (e : PropertiesError) (to : R) : Type 0 where
   pub bytes : List ℕ
   pub read : HasRead reader from bytes to
@@ -115,14 +118,14 @@ pub record GivesNoRoom {R : Type 0} (reader : Reader R) (old : ReaderState) (fro
 abbrev pub GivesError : {R : Type 0} → Reader R → ReaderState → R → PropertiesError → R → Type 0
 GivesError reader old from e to = GivesFault reader old from e to ⊎ (GivesTooMany reader old from e to ⊎ GivesNoRoom reader old from e to)
 
--- What the next item is, and what asking for it leaves. After `None` and after an error the iterator is at its end.
+-- The next item, and the state after requesting it. After `None` and after an error the iterator is at its end.
 abbrev pub GivesItem : {R : Type 0} → Reader R → ReaderState → R → Option (Result Line PropertiesError) → ReaderState → R → Type 0
 GivesItem reader old from None new to = GivesNone reader old from new to
 GivesItem reader old from (Some (Ok line)) new to = GivesEntry reader old from (entry_of line) new to
 GivesItem reader old from (Some (Err e)) new to =
     (old.is_done ≡ false) × (new.is_done ≡ true) × (GivesMalformed reader old from e to ⊎ GivesError reader old from e to)
 
--- the same of an iterator, which keeps the reader that it was made of
+-- The next item of an iterator, which keeps the reader that it was created with.
 abbrev pub NextGives : {R : Type 0} → Reader R → Reading R → Option (Result Line PropertiesError) → Reading R → Type 0
 NextGives reader old answer new =
     GivesItem reader old.state old.reader answer new.state new.reader × IsSameReader reader old.reader new.reader

@@ -1,4 +1,4 @@
--- A writer as its callers see it, and what its calls do.
+-- A writer as its callers see it, and the effects of its calls.
 use Rattle.std.specs.Prelude.{◌≡◌, ◌⊎◌, ◌+◌, ◌^◌, ◌<◌, ◌==◌, ℕ, Bool, true, false, List, Option, Some, None, Result, Ok, Err}
 use Rattle.std.specs.declared.io.Error.{Error}
 use Rattle.counted_io.specs.Streams.{Sink, HasWritten, HasSentPart, HasFlushed, HasFailedFlush}
@@ -22,34 +22,35 @@ pub record Writing (W : Type 0) : Type 0 where
   pub lines : ℕ
   pub failed : Bool
 
--- a new one, before its first line
+-- a new writer, before its first line
 abbrev pub new_writer : {W : Type 0} → Encoding → W → Writing W
 new_writer encoding sink = record { sink = sink; encoding = encoding; settings = default_settings; lines = 0; failed = false }
 
 -- ---- a line
 
--- the call that asks for a line
+-- the call that writes a line
 abbrev pub call_of : Content → Call
 call_of (comment text) = comment_call text
 call_of (pair key value) = pair_call key value
 
--- the bytes of a line, if it is written next
+-- the bytes of a line, if it is the next one written
 abbrev pub next_line : {W : Type 0} → Writing W → Content → List ℕ
 next_line w line = printed w.encoding w.settings (w.lines == 0) line
 
--- The writer takes the line: no write failed before, the settings let it be written, and it has a number.
+-- The writer accepts the line: no write failed before, the settings allow the line, and it has a number.
 pub record TakesLine {W : Type 0} (w : Writing W) (line : Content) : Type 0 where
   pub live : w.failed ≡ false
   pub accepted : is_accepted w.settings (call_of line) ≡ true
   pub numbered : w.lines + 1 < 2 ^ 64
 
--- The line was written after the bytes that the sink had, and is counted. Nothing else changed.
+-- The line was written after the bytes that the sink had, and was counted. Nothing else changed.
 pub record HasWrittenLine {W : Type 0} (sink : Sink W) (old : Writing W) (line : Content) (new : Writing W) : Type 0 where
   pub takes : TakesLine old line
   pub written : HasWritten sink old.sink (next_line old line) new.sink
   pub after : new ≡ record old { sink = new.sink; lines = old.lines + 1 }
 
--- when a line is refused by an error of this kind: a write failed before, the pair has an empty key before blanks alone, there are no more line numbers, or memory ran out
+-- when a line is refused with an error of this kind: a write failed before, a pair has an empty key and the separator
+-- consists only of blanks, there are no more line numbers, or memory ran out
 abbrev pub IsRefusedBy : {W : Type 0} → ErrorKind → Writing W → Content → Type 0
 IsRefusedBy kind.Failed w line = w.failed ≡ true
 IsRefusedBy kind.EmptyKey w line = (w.failed ≡ false) × (is_accepted w.settings (call_of line) ≡ false)
@@ -63,7 +64,8 @@ pub record RefusesLine {W : Type 0} (old : Writing W) (line : Content) (error : 
   pub is : IsBareError (kind_of error) error
   pub same : new ≡ old
 
--- A write failed: the sink has a proper prefix of the line, the error has the number of the line and what the sink said, and the writer has failed. Nothing else changed.
+-- A write failed. The sink has a proper prefix of the line, the error holds the line number and the sink's error, and
+-- the writer has failed. Nothing else changed.
 pub record FailsInLine {W : Type 0} (sink : Sink W) (old : Writing W) (line : Content) (error : PropertiesError) (new : Writing W) : Type 0 where
   pub takes : TakesLine old line
   pub cause : Option Error
@@ -71,25 +73,25 @@ pub record FailsInLine {W : Type 0} (sink : Sink W) (old : Writing W) (line : Co
   pub is : IsError kind.Io (Some (old.lines + 1)) (cause_of_write cause) error
   pub after : new ≡ record old { sink = new.sink; failed = true }
 
--- What asking for a line does.
+-- the effect of writing a line
 abbrev pub WritesLine : {W : Type 0} → Sink W → Writing W → Content → Result Unit PropertiesError → Writing W → Type 0
 WritesLine sink old line (Ok done) new = HasWrittenLine sink old line new
 WritesLine sink old line (Err error) new = RefusesLine old line error new ⊎ FailsInLine sink old line error new
 
 -- ---- a flush
 
--- The sink is flushed and took no byte, and nothing else changed.
+-- The sink was flushed and took no byte. Nothing else changed.
 pub record HasFlushedSink {W : Type 0} (sink : Sink W) (old new : Writing W) : Type 0 where
   pub live : old.failed ≡ false
   pub flushed : HasFlushed sink old.sink new.sink
   pub after : new ≡ record old { sink = new.sink }
 
--- A write failed before, so the sink isn't touched.
+-- A write failed before, so the sink is unchanged.
 pub record RefusesFlush {W : Type 0} (old : Writing W) (error : PropertiesError) (new : Writing W) : Type 0 where
   pub failed : old.failed ≡ true
   pub refuses : Refuses kind.Failed old error new
 
--- The flush failed: the sink took no byte, the error has what the sink said, and nothing else changed.
+-- The flush failed. The sink took no byte, the error holds the sink's error, and nothing else changed.
 pub record FailsInFlush {W : Type 0} (sink : Sink W) (old : Writing W) (error : PropertiesError) (new : Writing W) : Type 0 where
   pub live : old.failed ≡ false
   pub cause : Error
@@ -97,7 +99,7 @@ pub record FailsInFlush {W : Type 0} (sink : Sink W) (old : Writing W) (error : 
   pub is : IsStreamError None cause error
   pub after : new ≡ record old { sink = new.sink }
 
--- What a flush does.
+-- the effect of a flush
 abbrev pub Flushes : {W : Type 0} → Sink W → Writing W → Result Unit PropertiesError → Writing W → Type 0
 Flushes sink old (Ok done) new = HasFlushedSink sink old new
 Flushes sink old (Err error) new = RefusesFlush old error new ⊎ FailsInFlush sink old error new
@@ -108,7 +110,8 @@ Flushes sink old (Err error) new = RefusesFlush old error new ⊎ FailsInFlush s
 abbrev pub with_settings : {W : Type 0} → Writing W → Settings → Writing W
 with_settings w settings = record w { settings = settings }
 
--- What the setters do: a good text is set, a bad one is refused with the text in the error, and where memory ran out nothing changes either.
+-- The effects of the setters: a good text is set; a bad one is refused, and the error holds it; if memory runs out,
+-- nothing changes either.
 abbrev pub SetsPrefix : {W : Type 0} → Writing W → List ℕ → Result Unit PropertiesError → Writing W → Type 0
 SetsPrefix old prefix =
     SetsText (IsGoodPrefix prefix) kind.BadCommentPrefix prefix old (with_settings old (with_prefix old.settings prefix))

@@ -1,4 +1,4 @@
--- What reading an input to its end returns, and what it leaves of the reader.
+-- The result of reading an input to its end, and the reader afterwards.
 use Rattle.std.specs.Prelude.{◌≡◌, ◌⊎◌, ℕ, Bool, true, List, [], ◌∷◌, ◌++◌, map, Some, Result, Ok, Err}
 use Rattle.std.specs.declared.io.Error.{Error}
 use Rattle.std.specs.declared.vec.Vec.{Vec}
@@ -21,7 +21,8 @@ use Rattle.java_properties.specs.declared.line.Line.{Line}
 abbrev pub entries_in : List Line → List Entry
 entries_in lines = map entry_of lines
 
--- The bytes have these items and no others, whose numbers ascend; each step of their reading exists and is unique; and the lines of the bytes, each decoded by itself, are those of the decoded text.
+-- The bytes have these items and no others, with ascending numbers. Each step of their reading exists and is unique.
+-- The lines of the bytes, each decoded separately, are those of the decoded text.
 pub record IsReading (e : Encoding) (bytes : List ℕ) (ending : InputEnd) (entries : List Entry) : Type 0 where
   pub items : IsItems e bytes ending entries
   pub only : (others : List Entry) → IsItems e bytes ending others → others ≡ entries
@@ -36,7 +37,8 @@ BeginsItems e bytes entries at_end =
     ((d : List ℕ) (ending : InputEnd) → (others : List Entry) × IsItems e (bytes ++ d) ending (entries ++ others))
     ⊎ (at_end ≡ true) × ((others : List Entry) × IsItems e bytes end (entries ++ others))
 
--- The same of a reading: whatever comes after the bytes, or where the reader is at its end, the items begin with these, are the only ones, and are read in one way.
+-- The reading of the bytes begins with these items, whatever comes after them, or as the whole input if the reader is
+-- at its end: the items are the only ones, and are read in one way.
 abbrev pub BeginsReading : Encoding → List ℕ → List Entry → Bool → Type 0
 BeginsReading e bytes entries at_end =
     ((d : List ℕ) (ending : InputEnd) → (others : List Entry) × IsReading e (bytes ++ d) ending (entries ++ others))
@@ -49,7 +51,7 @@ pub record ReadsWhole {R : Type 0} (reader : Reader R) (e : Encoding) (from : R)
   pub ended : reader.at_end to ≡ true
   pub reading : IsReading e bytes end entries
 
--- Malformed escapes came after these items, in the logical line that begins at this number.
+-- After these items, an escape was malformed in the logical line that begins in the line with this number.
 pub record StopsMalformed {R : Type 0} (reader : Reader R) (e : Encoding) (from : R) (entries : List Entry) (error : PropertiesError) (to : R) : Type 0 where
   pub bytes : List ℕ
   pub number : ℕ
@@ -59,7 +61,7 @@ pub record StopsMalformed {R : Type 0} (reader : Reader R) (e : Encoding) (from 
   pub reading : ((d : List ℕ) (ending : InputEnd) → IsReading e (bytes ++ d) ending (entries ++ malformed how number ∷ []))
       ⊎ (reader.at_end to ≡ true) × IsReading e bytes end (entries ++ malformed how number ∷ [])
 
--- A read failed after these items, in the line of this number, by the reader's own error.
+-- After these items, a read failed in the line with this number, with the reader's own error.
 pub record StopsFailed {R : Type 0} (reader : Reader R) (e : Encoding) (from : R) (entries : List Entry) (error : PropertiesError) (to : R) : Type 0 where
   pub bytes : List ℕ
   pub cause : Error
@@ -68,7 +70,7 @@ pub record StopsFailed {R : Type 0} (reader : Reader R) (e : Encoding) (from : R
   pub is : IsStreamError (Some number) cause error
   pub reading : IsReading e bytes fault (entries ++ read_fault number ∷ [])
 
--- So many lines were read that there was no number for another, or there was no memory: what was read begins with these
+-- There was no number for another line after those that were read, or memory ran out. What was read begins with these
 -- items.
 pub record StopsEarly {R : Type 0} (reader : Reader R) (e : Encoding) (from : R) (entries : List Entry) (error : PropertiesError) (to : R) : Type 0 where
   pub bytes : List ℕ
@@ -76,7 +78,7 @@ pub record StopsEarly {R : Type 0} (reader : Reader R) (e : Encoding) (from : R)
   pub is : IsBareError kind.TooManyLines error × PassesAll (start e) bytes ⊎ IsBareError kind.Memory error
   pub begins : BeginsReading e bytes entries (reader.at_end to)
 
--- What reading a whole input returns. Ok comes at the reader's own end alone.
+-- The result of reading a whole input. Ok is returned only at the reader's own end.
 abbrev pub ReadsLines : {R Z : Type 0} → Reader R → Encoding → R → Result (Vec Line Z) Stopped → R → Type 0
 ReadsLines reader e from (Ok lines) to = ReadsWhole reader e from (entries_in lines.items) to
 ReadsLines reader e from (Err stopped) to =
@@ -84,7 +86,7 @@ ReadsLines reader e from (Err stopped) to =
     ⊎ (StopsFailed reader e from (entries_in stopped.lines.items) stopped.error to
     ⊎ StopsEarly reader e from (entries_in stopped.lines.items) stopped.error to)
 
--- Reading stopped after these items: at malformed escapes, at a fault, or since memory ran out or the numbers for lines.
+-- Reading stopped after some items: at a malformed escape, at an I/O error, or because memory or line numbers ran out.
 pub record StopsReading {R : Type 0} (reader : Reader R) (e : Encoding) (from : R) (error : PropertiesError) (to : R) : Type 0 where
   pub lines : List Line
   pub stops : StopsMalformed reader e from (entries_in lines) error to

@@ -1,4 +1,4 @@
--- What a writer is set to, and what its setters do.
+-- The settings of a writer, and the effects of its setters.
 use Rattle.std.specs.Prelude.{◌≡◌, ◌⊎◌, ℕ, Bool, true, List, Option, Some, None, Result, Ok, Err}
 use Rattle.std.specs.Str.{chars}
 use Rattle.std.specs.String.{string_bytes}
@@ -15,13 +15,13 @@ use Rattle.java_properties.specs.declared.writer.settings.LineEnding.{LineEnding
 use Rattle.java_properties.specs.declared.writer.settings.LineEnding.TheVariants.{CR, LF, CRLF}
 use Rattle.java_properties.specs.declared.writer.settings.Settings.TheInside.{Inside}
 
--- the line ending that it stands for
+-- the line ending that the code's value represents
 abbrev pub ending_of : LineEnding → text.LineEnding
 ending_of CR = text.cr
 ending_of LF = text.lf
 ending_of CRLF = text.crlf
 
--- the characters of a prefix and of a separator, which are the defaults where none was set
+-- the characters of the prefix and of the separator, which have their defaults if none was set
 abbrev pub prefix_of : {Z : Type 0} → Option (String Z) → List ℕ
 prefix_of None = default_settings.comment_prefix
 prefix_of (Some text) = chars (string_bytes text)
@@ -33,7 +33,8 @@ separator_of (Some text) = chars (string_bytes text)
 abbrev pub settings_of : Inside → Settings
 settings_of s = record { comment_prefix = prefix_of s.comment_prefix; kv_separator = separator_of s.kv_separator; line_ending = ending_of s.line_ending; ascii_only = s.ascii_only }
 
--- The prefix and the separator are always good, and it is known whether the separator is blanks alone.
+-- The prefix and the separator are always good, and `separator_is_blank` says whether the separator consists only of
+-- blanks.
 pub record AreGood (s : Inside) : Type 0 where
   pub prefix : is_good_prefix (prefix_of s.comment_prefix) ≡ true
   pub separator : is_good_separator (separator_of s.kv_separator) ≡ true
@@ -54,18 +55,19 @@ with_ending s ending = record s { line_ending = ending_of ending }
 abbrev pub with_ascii_only : Settings → Bool → Settings
 with_ascii_only s on = record s { ascii_only = on }
 
--- The text is good, and was set: nothing else changed.
+-- The text is good and was set. Nothing else changed.
 pub record HasSet {S : Type 0} (IsGood : Type 0) (set new : S) : Type 0 where
   pub good : IsGood
   pub after : new ≡ set
 
--- The text is bad: the error of this kind has it, and nothing changed.
+-- The text is bad. The error of this kind holds it, and nothing changed.
 pub record RefusesBad {S : Type 0} (IsGood : Type 0) (kind : ErrorKind) (text : List ℕ) (old : S) (error : PropertiesError) (new : S) : Type 0 where
   pub bad : IsGood → ⊥
   pub refuses : RefusesText kind text error
   pub same : new ≡ old
 
--- What setting a text does that leads from `old` to `set`: a good one is set, a bad one is refused; or memory ran out.
+-- The effect of setting a text, where success leads from `old` to `set`: a good text is set, a bad one is refused; or
+-- memory ran out.
 abbrev pub SetsText : {S : Type 0} → Type 0 → ErrorKind → List ℕ → S → S → Result Unit PropertiesError → S → Type 0
 SetsText IsGood kind text old set (Ok done) new = HasSet IsGood set new
 SetsText IsGood bad text old set (Err error) new = RefusesBad IsGood bad text old error new ⊎ Refuses kind.Memory old error new

@@ -1,19 +1,19 @@
--- What is edited of a source.
+-- The part of a source that is edited.
 use Rattle.std.specs.Prelude.{◌≡◌, ℕ, ◌≤◌, true, false, List, drop, length, Result, Ok, Err}
 use Rattle.properties_format.specs.Encoding as format
 use Rattle.properties_format.specs.Edited.{is_editable}
 use Rattle.properties_text.specs.Encoding.{encoding_of}
 use Rattle.java_properties.specs.Errors.{IsBareError}
-use Rattle.java_properties.specs.declared.edit.source.Source.{Source}
+use Rattle.java_properties.specs.declared.edit.source.BodyStart.{BodyStart}
 use Rattle.java_properties.specs.declared.error.ErrorKind.TheVariants as kind
 use Rattle.java_properties.specs.declared.error.PropertiesError.{PropertiesError}
 
--- The body of a source starts there, and is in this encoding.
-pub record IsInForce (source : List ℕ) (e : format.Encoding) (opened : Source) : Type 0 where
+-- The body of a source starts at this position and has this encoding.
+pub record IsInForce (source : List ℕ) (e : format.Encoding) (opened : BodyStart) : Type 0 where
   pub in_force : format.byte_order_mark e source ≡ record { encoding = encoding_of opened.encoding; body = drop opened.start source }
   pub within : opened.start ≤ length source
 
--- A source is opened, or its encoding is one in which none is edited.
-abbrev pub OpensSource : List ℕ → format.Encoding → Result Source PropertiesError → Type 0
+-- A source was opened; or its encoding can't be edited.
+abbrev pub OpensSource : List ℕ → format.Encoding → Result BodyStart PropertiesError → Type 0
 OpensSource source e (Ok opened) = IsInForce source e opened × (is_editable (encoding_of opened.encoding) ≡ true)
 OpensSource source e (Err error) = (is_editable (format.byte_order_mark e source).encoding ≡ false) × IsBareError kind.Unsupported error

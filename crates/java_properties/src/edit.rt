@@ -1,4 +1,4 @@
-//! Keys of a file set and removed, while every other byte stays.
+//! Sets and removes keys of a file, and keeps every other byte.
 
 ghost use Rattle.std.specs.Str.{chars};
 ghost use Rattle.properties_format.specs.Laws.{SplittingCommutes};
@@ -18,28 +18,28 @@ mod streams;
 mod values;
 
 pub use crate::edit::document::Document;
-use crate::edit::kept::find_others;
+use crate::edit::kept::spans_without_key;
 use crate::edit::place::find_key;
-use crate::edit::result::{appended, others_alone, replaced};
+use crate::edit::result::{appended, reduced_to, replaced};
 use crate::edit::slots::Slots;
-use crate::edit::source::Source;
+use crate::edit::source::BodyStart;
 pub use crate::edit::streams::{read_source, write_source};
 use crate::error::PropertiesError;
 use properties_text::encoding::Encoding;
 use std::alloc::Global;
 
-/// The source with a key set to a value.
+/// Returns the source with a key set to a value.
 ///
-/// The last pair with the key is replaced by the printed pair, which takes over its line ending. Where there is none, the
-/// pair comes last, with a line feed. Before it comes a line ending where the last line has none, or two where a backslash
-/// leaves that line open: CRs where the source ends in one, and else LFs. Every other byte stays as it is, a byte order
-/// mark included.
+/// If a pair has the key, the last such pair is replaced by the printed pair, which keeps the line ending. Otherwise
+/// the pair is appended, with a line feed. Before an appended pair comes a line ending if the last line has none, or
+/// two if a backslash leaves that line open: CRs if the source ends in a CR, otherwise LFs. Every other byte stays as
+/// it is, including a byte order mark.
 ///
-/// Keys are compared with their escapes resolved. At the front of a file a key that begins like a byte order mark has its
-/// first character escaped.
+/// Keys are compared with their escapes resolved. If a key at the front of a file begins like a byte order mark, its
+/// first character is escaped.
 ///
-/// UTF-16 is refused, and so is a source with a malformed escape anywhere: the error is the one that reading the source
-/// would return.
+/// UTF-16 is refused. A source with a malformed escape anywhere is refused with the error that reading the source would
+/// return.
 ///
 /// ```text
 /// let source = b"# the front door\nport = 80\n";
@@ -57,7 +57,7 @@ pub fn set_key(
     ensures splitting { SplittingCommutes (encoding_of encoding) source.now }
 {
     // UTF-16 is refused before any line is read.
-    let opened = Source::open(source, encoding)?;
+    let opened = BodyStart::open(source, encoding)?;
     let place = find_key(alloc, opened.encoding, &source[opened.start..], key)?;
     let bytes = match place.pair {
         Some(pair) => replaced(alloc, source, opened, pair, key, value)?,
@@ -66,14 +66,14 @@ pub fn set_key(
     Ok(bytes)
 }
 
-/// The source without a key.
+/// Returns the source without the pairs that have a key.
 ///
-/// Every pair with the key is left out, together with its line endings, also where it goes on over several lines. Every other
-/// byte stays as it is. Only where the source has no byte order mark, and the rest would begin like one, a line feed comes
-/// before it.
+/// Every pair with the key is left out together with its line endings, even if it spans several lines. Every other byte
+/// stays as it is, with one exception: if the source has no byte order mark and the rest would begin like one, a line
+/// feed is inserted before it.
 ///
-/// UTF-16 is refused, and so is a source with a malformed escape anywhere: the error is the one that reading the source
-/// would return.
+/// UTF-16 is refused. A source with a malformed escape anywhere is refused with the error that reading the source would
+/// return.
 ///
 /// ```text
 /// let source = b"# the front door\nport = 80\nhost = a\n";
@@ -89,29 +89,29 @@ pub fn remove_key(
     ensures removes { RemovesKey (encoding_of encoding) source.now (chars key.now) result }
     ensures splitting { SplittingCommutes (encoding_of encoding) source.now }
 {
-    let opened = Source::open(source, encoding)?;
-    let others = find_others(alloc, opened.encoding, &source[opened.start..], key)?;
-    let bytes = others_alone(alloc, source, opened, &others)?;
+    let opened = BodyStart::open(source, encoding)?;
+    let others = spans_without_key(alloc, opened.encoding, &source[opened.start..], key)?;
+    let bytes = reduced_to(alloc, source, opened, &others)?;
     Ok(bytes)
 }
 
-/// A change of a key.
+/// An edit of one key.
 #[derive(Debug, Clone, PartialEq, Eq, Drop)]
 pub enum Edit {
-    /// Set a key to a value, as [`set_key`] does.
+    /// Sets a key to a value, as [`set_key`] does.
     Put(String, String),
-    /// Remove a key, as [`remove_key`] does.
+    /// Removes a key, as [`remove_key`] does.
     Remove(String),
 }
 
-/// The source after these edits, in order: each is made to what the one before it gave.
+/// Returns the source after these edits, in order: each edit applies to the result of the one before it.
 ///
-/// Without edits it is a copy of the source. The source is read once, and the result is made once: the time is that of
-/// the sizes of the source and of the edits together. Beside that, the key of each pair and of each edit is looked for
-/// among the others, which takes a few comparisons for each doubling of their number.
+/// Without edits, the result is a copy of the source. The source is read once and the result is built once, so the time
+/// is proportional to the size of the source and the edits together. In addition, the key of each pair and of each edit
+/// is looked up among the others, which takes a few comparisons for each doubling of their number.
 ///
-/// UTF-16 is refused, and so is a source with a malformed escape anywhere: the error is the one that reading the source
-/// would return.
+/// UTF-16 is refused. A source with a malformed escape anywhere is refused with the error that reading the source would
+/// return.
 ///
 /// ```text
 /// let edits = vec![in alloc; Edit::Put(port, value), Edit::Remove(host)]?;
@@ -126,7 +126,7 @@ pub fn edit_all(
     ensures edits { EditsAll (encoding_of encoding) source.now (edits_in edits.now) result }
     ensures splitting { SplittingCommutes (encoding_of encoding) source.now }
 {
-    let opened = Source::open(source, encoding)?;
+    let opened = BodyStart::open(source, encoding)?;
     let body = &source[opened.start..];
     let is_marked = opened.start != 0;
     let mut slots = Slots::parse(alloc, opened.encoding, body)?;

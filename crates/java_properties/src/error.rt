@@ -1,4 +1,4 @@
-// Why a call fails.
+// The errors of this crate.
 
 ghost use Rattle.std.specs.Prelude.{◌≡◌, Some, None};
 ghost use Rattle.std.specs.Str.{chars};
@@ -14,9 +14,9 @@ use std::alloc::{AllocError, AllocFailed};
 use std::error::Error;
 use std::{fmt, io};
 
-/// What kind of error it is.
+/// The kind of an error.
 ///
-/// It prints itself in words, without a line.
+/// It prints as a description in words, without a line number.
 ///
 /// ```text
 /// for escape in &malformed_escapes(alloc, &mut input, Encoding::UTF_8)? {
@@ -27,32 +27,32 @@ use std::{fmt, io};
 pub enum ErrorKind {
     /// A read, a write or a flush failed.
     Io,
-    /// Fewer than four characters come after a `\u`.
+    /// Fewer than four characters follow a `\u`.
     NotEnoughDigits,
-    /// One of the four characters after a `\u` is no hexadecimal digit.
+    /// One of the four characters after a `\u` isn't a hexadecimal digit.
     NotHex,
-    /// An escape stands for a surrogate that has no partner.
+    /// An escape encodes a surrogate that has no partner.
     InvalidCharacter,
-    /// The prefix is none that makes a comment.
+    /// The text isn't a valid comment prefix.
     BadCommentPrefix,
-    /// The separator is none that ends a key.
+    /// The text isn't a valid separator of keys and values.
     BadKvSeparator,
-    /// A key is empty where the separator is blanks alone, so that the value would be read as the key.
+    /// The key is empty and the separator consists only of blanks, so the value would be read as the key.
     EmptyKey,
-    /// A line has no number, since `usize::MAX` lines stand before it.
+    /// A line has no number, because `usize::MAX` lines come before it.
     TooManyLines,
-    /// A write failed before, so that the sink ends in a part of a line.
+    /// An earlier write failed, so the sink may end in a partial line.
     Failed,
     /// Memory ran out.
     Memory,
-    /// The encoding can't be edited.
+    /// Sources in this encoding can't be edited.
     Unsupported,
 }
 
-/// What an error came from.
+/// The cause of an error.
 ///
-/// It prints the stream's own error, as `entity not found`, where a stream failed. [`PropertiesError::reason`] is for
-/// messages.
+/// If a stream failed, it prints as the stream's own error, such as `entity not found`. Use [`PropertiesError::reason`]
+/// for messages.
 ///
 /// ```text
 /// if let Cause::Io(fault) = error.cause() {
@@ -61,32 +61,32 @@ pub enum ErrorKind {
 /// ```
 #[derive(Debug, Drop)]
 pub enum Cause {
-    /// The kind says all.
+    /// There is no further cause: the kind says everything.
     None,
-    /// A stream that failed.
+    /// The error of the stream that failed.
     Io(io::Error),
-    /// A character that is no hexadecimal digit.
+    /// A character isn't a hexadecimal digit.
     NotHex,
 }
 
-/// Why a call failed, without a line: what a message says after the names of the file and of the line.
+/// Why a call failed, without a line number: the part of a message that follows the file name and the line number.
 ///
-/// It prints the stream's own error where a stream failed with one, and else the kind in words, with the text that was
-/// refused where one was.
+/// If a stream failed with an error, it prints as the stream's own error. Otherwise it prints as the kind in words,
+/// followed by the refused text if there is one.
 #[derive(Clone, Copy, Debug)]
 pub enum Reason<'a> {
-    /// The error of a stream that failed.
+    /// The error of the stream that failed.
     Io(&'a io::Error),
-    /// What a text was refused as, and the text.
+    /// The kind of the error, and the text that was refused.
     Refused(ErrorKind, &'a str),
-    /// The kind says all.
+    /// The kind says everything.
     Kind(ErrorKind),
 }
 
 /// Why a call failed, and in which line.
 ///
-/// It prints its kind in words and its line, as `I/O error (line_number = 3)`, and the text that was refused, where
-/// one was.
+/// It prints as the kind in words, the refused text if there is one, and the line number, as in
+/// `I/O error (line_number = 3)`. A missing line number prints as `unknown`.
 #[derive(Debug, Drop)]
 pub struct PropertiesError {
     kind: ErrorKind,
@@ -96,35 +96,35 @@ pub struct PropertiesError {
 }
 
 impl PropertiesError {
-    /// The number of the line, where the error is one of a line. Lines are numbered from 1.
+    /// Returns the number of the line that the error belongs to, if there is one. Lines are numbered from 1.
     pub fn line_number(&self) -> Option<usize>
         ensures { result ≡ line_of self.now }
     {
         self.line_number
     }
 
-    /// What kind of error it is.
+    /// Returns the kind of the error.
     pub fn kind(&self) -> ErrorKind
         ensures { result ≡ kind_of self.now }
     {
         self.kind
     }
 
-    /// What it came from.
+    /// Returns the cause of the error.
     pub fn cause(&self) -> &Cause
         ensures { result.now ≡ cause_of self.now }
     {
         &self.cause
     }
 
-    /// What it came from, taken out of it, so that a stream's own error can be handed on.
+    /// Converts the error into its cause, for example to pass on a stream's own error.
     pub fn into_cause(self) -> Cause
         ensures { result ≡ cause_of self }
     {
         self.cause
     }
 
-    /// Why it failed, without a line, for messages that name the line themselves.
+    /// Returns why the call failed, without a line number, for messages that name the line themselves.
     ///
     /// ```text
     /// match error.line_number() {
@@ -145,7 +145,7 @@ impl PropertiesError {
         }
     }
 
-    // A stream failed, in the line of this number if it was in one.
+    // A stream failed, in the line with this number if one is given.
     fn io(line_number: Option<usize>, cause: Cause) -> PropertiesError
         ensures { IsError Io line_number cause result }
     {
@@ -156,7 +156,8 @@ impl PropertiesError {
         }
     }
 
-    /// A write failed, in the line of this number if it was of one: by this error, or by taking no byte.
+    /// A write failed, in the line with this number if one is given. `error` is the sink's error, or `None` if the sink
+    /// accepted no byte.
     pub(crate) fn write_fault(
         line_number: Option<usize>,
         error: Option<io::Error>,
@@ -170,7 +171,8 @@ impl PropertiesError {
         PropertiesError::io(line_number, cause)
     }
 
-    /// The same error, but where a stream failed it failed so.
+    /// Replaces the cause by this stream's error if the cause is a stream's error. Otherwise returns the error
+    /// unchanged.
     pub(crate) fn caused_by(self, error: io::Error) -> PropertiesError
         ensures { result ≡ record self { cause = cause_by error (cause_of self) } }
     {
@@ -183,7 +185,7 @@ impl PropertiesError {
         }
     }
 
-    /// Escapes in the line of this number aren't resolved.
+    /// Resolving the escapes in the line with this number failed: an escape is malformed, or memory ran out.
     pub(crate) fn unresolved(line_number: usize, error: UnescapeError) -> PropertiesError
         ensures { SaysUnresolved error line_number result }
     {
@@ -195,7 +197,7 @@ impl PropertiesError {
         }
     }
 
-    // In the line of this number an escape is malformed in this way.
+    // An escape in the line with this number is malformed in this way.
     fn malformed(line_number: usize, malformed: Malformed) -> PropertiesError
         ensures { IsMalformed (malformed_in malformed) line_number result }
     {
@@ -212,35 +214,35 @@ impl PropertiesError {
         PropertiesError::bare(ErrorKind::TooManyLines)
     }
 
-    /// A write failed before.
+    /// An earlier write failed.
     pub(crate) fn failed() -> PropertiesError
         ensures { IsBareError Failed result }
     {
         PropertiesError::bare(ErrorKind::Failed)
     }
 
-    /// Sources in UTF-16 aren't edited.
+    /// Sources in UTF-16 can't be edited.
     pub(crate) fn unsupported() -> PropertiesError
         ensures { IsBareError Unsupported result }
     {
         PropertiesError::bare(ErrorKind::Unsupported)
     }
 
-    /// An empty key can't be written before blanks alone.
+    /// An empty key can't be written before a separator that consists only of blanks.
     pub(crate) fn empty_key() -> PropertiesError
         ensures { IsBareError EmptyKey result }
     {
         PropertiesError::bare(ErrorKind::EmptyKey)
     }
 
-    /// This text makes no comment.
+    /// The text isn't a valid comment prefix.
     pub(crate) fn bad_comment_prefix(prefix: String) -> PropertiesError
         ensures { RefusesText BadCommentPrefix (chars (string_bytes prefix)) result }
     {
         PropertiesError::refused(ErrorKind::BadCommentPrefix, prefix)
     }
 
-    /// This text ends no key.
+    /// The text isn't a valid separator of keys and values.
     pub(crate) fn bad_kv_separator(separator: String) -> PropertiesError
         ensures { RefusesText BadKvSeparator (chars (string_bytes separator)) result }
     {
@@ -371,7 +373,7 @@ impl fmt::Display for Reason<'_> {
 }
 
 impl ErrorKind {
-    /// The kind of escapes that are malformed in this way.
+    /// Returns the kind of an escape that is malformed in this way.
     pub(crate) fn malformed(malformed: Malformed) -> ErrorKind
         ensures { result ≡ malformed_kind (malformed_in malformed) }
     {

@@ -1,4 +1,4 @@
-// The items of a file, one after another.
+// Iterates over the comments and pairs of a file.
 
 ghost use Rattle.std.specs.Prelude.{◌≡◌, ◌<◌, [], IsOkAnd, OnSome};
 ghost use Rattle.std.specs.Str.{chars};
@@ -31,10 +31,9 @@ use std::alloc::Global;
 use std::marker::Model;
 pub use whole::{Stopped, read_lines};
 
-/// The comments and the pairs of a file, in order, each under the number of its line.
+/// The comments and pairs of a file, in order, each with its line number.
 ///
-/// A file that can't be read further gives an error, which is the last item. After it, and after `None`, nothing
-/// is read.
+/// An error is the last item. After an error, and after `None`, nothing more is read.
 ///
 /// ```text
 /// let mut input: &[u8] = b"# greetings\nhello = world";
@@ -58,16 +57,16 @@ impl<R> Model for PropertiesIter<R> {
 }
 
 impl<R: CountedRead> PropertiesIter<R> {
-    /// Reads windows-1252, unless a byte order mark says another encoding. It reads nothing yet, and takes no memory
-    /// before the first item is asked for.
+    /// Creates an iterator that reads windows-1252, unless a byte order mark selects another encoding. It reads nothing
+    /// and allocates nothing until the first item is requested.
     pub fn new(alloc: Global, input: R) -> Result<PropertiesIter<R>, PropertiesError>
         ensures { IsOkAnd result (λ it. it ≡ record { reader = input; state = start windows_1252; line = [] }) }
     {
         PropertiesIter::new_with_encoding(alloc, input, Encoding::WINDOWS_1252)
     }
 
-    /// Reads this encoding, unless a byte order mark says another one. It reads nothing yet, and takes no memory
-    /// before the first item is asked for.
+    /// Creates an iterator that reads this encoding, unless a byte order mark selects another one. It reads nothing and
+    /// allocates nothing until the first item is requested.
     pub fn new_with_encoding(
         alloc: Global,
         input: R,
@@ -81,10 +80,11 @@ impl<R: CountedRead> PropertiesIter<R> {
         })
     }
 
-    /// The next item, lent until the next call, as `next` would have returned it; or an error, or `None`.
+    /// Returns the next item, borrowed until the next call, with the content that `next` would have returned; an error;
+    /// or `None` at the end.
     ///
-    /// It takes memory only for texts whose escapes have to be resolved, and for lines that don't stand in the input as
-    /// they are. The two calls may be mixed.
+    /// Besides its input buffer, it allocates only for texts whose escapes must be resolved, and for lines whose text
+    /// isn't in the input byte for byte. You can mix calls of `next_ref` and `next`.
     pub fn next_ref(&mut self) -> Option<Result<LineRef<'_>, PropertiesError>>
         ensures { NextRefGives R.CountedRead self.old result }
     {
@@ -94,10 +94,10 @@ impl<R: CountedRead> PropertiesIter<R> {
         }
     }
 
-    /// Comes to the next item, which [`get`](Self::get) then lends; or an error, or `None`.
+    /// Advances to the next item, which [`get`](Self::get) then borrows; or returns an error, or `None` at the end.
     ///
-    /// The two calls are `next_ref` in two steps, for loops that are proved of: what was found borrows nothing, so a
-    /// caller knows where the iterator stands.
+    /// Together, the two calls do what `next_ref` does, for loops that are proved. The returned value borrows nothing,
+    /// so a proof can still refer to the iterator's state.
     ///
     /// ```text
     /// while let Some(found) = items.advance() {
@@ -112,7 +112,7 @@ impl<R: CountedRead> PropertiesIter<R> {
         self.items.advance(&mut self.reader)
     }
 
-    /// The item that [`advance`](Self::advance) has found, lent until the next call.
+    /// Returns the item that [`advance`](Self::advance) found, borrowed until the next call.
     pub fn get(&self, found: Found) -> LineRef<'_>
         requires { IsFoundIn self.now.line found }
         ensures item { lent_entry result ≡ found_entry self.now.line found }
@@ -121,14 +121,15 @@ impl<R: CountedRead> PropertiesIter<R> {
         self.items.get(found)
     }
 
-    /// The reader, after the bytes that were read so far.
+    /// Returns a reference to the reader, which is positioned after the bytes that were read so far.
     pub fn get_ref(&self) -> &R
         ensures { result.now ≡ self.now.reader }
     {
         &self.reader
     }
 
-    /// The reader, after the bytes that were read so far.
+    /// Returns the reader, positioned after the bytes that were read so far. The iterator reads ahead, so the reader
+    /// may be past the last item.
     pub fn into_inner(self) -> R
         ensures { result ≡ self.reader }
     {

@@ -1,7 +1,7 @@
-//! The three laws of the format and the laws of its edits, for the proofs of callers.
+//! The three laws of the format and the laws of its edits, for use in callers' proofs.
 //!
-//! The functions do nothing: each has a law as its contract. The contracts of [`read_lines`](crate::read_lines) and
-//! [`run_calls`](crate::run_calls) say the same of one run.
+//! The functions do nothing: each states a law as its contract. The contracts of [`read_lines`](crate::read_lines) and
+//! [`run_calls`](crate::run_calls) state the same of a single run.
 
 ghost use Rattle.std.specs.Prelude.{ℕ, List};
 ghost use Rattle.properties_format.specs.Encoding.{Encoding, IsPieces, IsDecoded};
@@ -18,10 +18,11 @@ ghost use Rattle.properties_format.specs.EditLaws.{SettingGivesTheValue, Removin
 ghost use Rattle.properties_format.specs.EditLaws.{NoEditsChangeNothing, OneEditIsItsCall, ListsOfEditsFollow};
 ghost use Rattle.properties_format.specs.Laws.{HasOne, HasOneReading, ReadingInvertsWriting, EqualBytesOfEqualPairs, WritingAnewChangesNothing, MapIsReadBack, SplittingCommutes, LineEndsPartPieces};
 
-/// One reading: what an input says exists and is unique, step by step and for each way in which it goes on.
+/// Reading is unique: what an input means exists and is unique, at each step and for each way in which the input ends.
 ///
-/// Bytes have one list of pieces and one text, a text one list of lines, lines one division into groups. A line that
-/// was put together is one of blank, a comment and a pair, in one way. A text means one text, or breaks in one way.
+/// Bytes have exactly one list of pieces and one decoded text. A text has one list of lines, and lines divide into
+/// groups in one way. A joined line is a blank line, a comment or a pair, in one way. A text with escapes means one
+/// text, or is malformed in one way.
 ///
 /// ```text
 /// laws::one_reading();
@@ -37,11 +38,12 @@ pub fn one_reading()
     ensures meaning { (text : List ℕ) → HasOne (IsMeaning text) }
 {}
 
-/// Reading inverts writing: what a writer's calls wrote, with no line before it, has one item for each line and no
-/// other, each pair unchanged, each comment as its prefix's tail and its text without the blanks at the ends.
+/// Reading inverts writing. If no line was written before, what a writer's calls write has exactly one item for each
+/// line: each pair unchanged, and each comment as the part of its prefix after the comment sign followed by its text,
+/// without the blanks at the ends.
 ///
-/// Under one setting two lists of pairs so write equal bytes exactly if they are equal, reading pairs and writing them
-/// anew changes no byte, and the map of pairs with keys of their own has exactly these pairs.
+/// With the same settings, two lists of pairs write equal bytes if and only if they are equal. Reading pairs and
+/// writing them again changes no byte. If no two pairs have the same key, their map has exactly these pairs.
 ///
 /// ```text
 /// laws::reading_inverts_writing();
@@ -54,10 +56,10 @@ pub fn reading_inverts_writing()
     ensures map { (e : Encoding) (s : Settings) (ps : List Pair) → MapIsReadBack e s ps }
 {}
 
-/// Splitting commutes with decoding, in every encoding: the lines of bytes, each decoded by itself, are the lines of
-/// the decoded text, broken sequences and lone surrogates included.
+/// Splitting commutes with decoding, in every encoding: the lines of the bytes, each decoded separately, are the lines
+/// of the decoded text. This includes broken sequences and lone surrogates.
 ///
-/// It follows from one cut: a CR or an LF where a unit may begin parts the pieces before it from those after it.
+/// It follows from one fact: a CR or LF where a unit may begin separates the pieces before it from the pieces after it.
 ///
 /// ```text
 /// laws::splitting_commutes_with_decoding();
@@ -68,12 +70,12 @@ pub fn splitting_commutes_with_decoding()
     ensures parts { (e : Encoding) (before : List ℕ) (c : ℕ) (after : List ℕ) → LineEndsPartPieces e before c after }
 {}
 
-/// What edits come to, whatever the source: removing a key that no pair has changes no byte; setting a key twice is
-/// setting it once, to the later value; after a key is set the map has its value, after it is removed none, and every
-/// other key has what it had.
+/// The effects of edits, for every source. Removing a key that no pair has changes no byte. Setting a key twice is the
+/// same as setting it once, to the later value. After a key is set, the map has its value; after a key is removed, the
+/// map has no value for it. Every other key keeps its value.
 ///
-/// No edits give the source back. A list of one edit is the call for that edit, and one list of edits after another is
-/// the second list on what the first gave.
+/// An empty list of edits returns the source. A list of one edit is the same as the call for that edit. Two lists of
+/// edits, concatenated, give what the second list makes of the first list's result.
 ///
 /// ```text
 /// laws::editing();

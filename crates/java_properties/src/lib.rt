@@ -1,7 +1,7 @@
-//! Java properties files, read and written.
+//! Reads, writes and edits Java `.properties` files.
 //!
-//! [`PropertiesIter`] reads the comments and the pairs of a file, each under the number of its line.
-//! [`PropertiesWriter`] writes them.
+//! [`PropertiesIter`] reads the comments and pairs of a file, each with its line number. [`PropertiesWriter`] writes
+//! comments and pairs. [`set_key`], [`remove_key`], [`edit_all`] and [`Document`] edit the pairs of a file.
 //!
 //! ```text
 //! for item in PropertiesIter::new(alloc, &mut input)? {

@@ -1,4 +1,4 @@
-// The items of a file.
+// Comments and pairs with their line numbers.
 
 ghost use Rattle.std.specs.Prelude.{◌≡◌};
 ghost use Rattle.java_properties.specs.Line.{number_of, content_of};
@@ -6,20 +6,21 @@ ghost use Rattle.java_properties.specs.DisplayTexts.{content_display, line_displ
 
 use std::fmt;
 
-/// What a line says.
+/// The content of a [`Line`]: a comment or a pair.
 ///
-/// Comments come before pairs. Of two comments, and of two pairs, the bytes of the texts decide.
+/// Comments order before pairs. Two comments are ordered by the bytes of their texts. Two pairs are ordered by the
+/// bytes of their keys, then by the bytes of their values.
 #[derive(Debug, Clone, PartialEq, Eq, PartialOrd, Ord, Hash, Drop)]
 pub enum LineContent {
-    /// The text of a comment, without its comment sign and the blanks around it.
+    /// The text of a comment, without the comment sign and without the blanks around the text.
     Comment(String),
     /// A key and its value.
     KVPair(String, String),
 }
 
-/// A comment or a pair, with the number of the line in which it begins. Lines are numbered from 1.
+/// A comment or a pair, with the number of the line that it begins in. Lines are numbered from 1.
 ///
-/// The number decides which of two comes first, and at equal numbers the content.
+/// Values of this type are ordered by line number, then by content.
 #[derive(Clone, Debug, PartialEq, Eq, PartialOrd, Ord, Hash, Drop)]
 pub struct Line {
     line_number: usize,
@@ -37,21 +38,21 @@ impl Line {
         }
     }
 
-    /// The number of the line in which it begins.
+    /// Returns the number of the line that the comment or pair begins in.
     pub fn line_number(&self) -> usize
         ensures { result ≡ number_of self.now }
     {
         self.line_number
     }
 
-    /// What the line says.
+    /// Returns the comment or pair.
     pub fn content(&self) -> &LineContent
         ensures { result.now ≡ content_of self.now }
     {
         &self.content
     }
 
-    /// What the line says, taken out of it.
+    /// Converts the line into its comment or pair.
     pub fn consume_content(self) -> LineContent
         ensures { result ≡ content_of self }
     {

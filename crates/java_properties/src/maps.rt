@@ -1,4 +1,4 @@
-// Maps, read and written whole.
+// Reads and writes whole maps.
 
 ghost use Rattle.std.specs.Prelude.{IfOk};
 ghost use Rattle.counted_io.specs.Streams.{IsSameReader, IsSameSink};
@@ -19,14 +19,14 @@ pub use sorted::{read_sorted, write_sorted};
 use std::alloc::{AllocError, Global};
 use std::collections::HashMap;
 
-/// Reads an input in windows-1252 to its end, and returns the value of each key.
+/// Reads an input in windows-1252 to its end and returns the value of each key.
 ///
-/// Of two pairs with the same key the later one counts. A byte order mark at the front overrules the encoding. An
-/// error of the input is returned, and no map.
+/// If several pairs have the same key, the last one counts. A byte order mark at the front overrides the encoding. If
+/// the input has an error, it returns the error and no map.
 ///
-/// Bytes of UTF-8 without a mark are read as other characters, and no error comes. And std's `HashMap` has a fixed
-/// seed: whoever writes a file can pick keys that all collide, and then this takes time that grows with the square of
-/// their number. For other encodings, and for files of strangers, there is [`read_sorted`].
+/// Without a byte order mark, UTF-8 characters past U+007F are read as other characters, and no error is returned.
+/// Also, std's `HashMap` has a fixed seed: the author of a file can pick keys that all collide, and reading then takes
+/// time that grows with the square of their number. For other encodings and for untrusted files, use [`read_sorted`].
 ///
 /// ```text
 /// let mut input: &[u8] = b"# greetings\nhello = world";
@@ -49,7 +49,7 @@ pub fn read<R: CountedRead>(
     Ok(map)
 }
 
-// Puts the value of a pair under its key.
+// Inserts the value of a pair under its key. Ignores comments.
 fn insert_if_pair(
     map: &mut HashMap<String, String>,
     content: LineContent,
@@ -65,10 +65,10 @@ fn insert_if_pair(
     }
 }
 
-/// Writes each entry of a map as one line, in windows-1252 and by the settings of a new writer, and flushes the sink.
+/// Writes each entry of a map as one line, in windows-1252 and with the settings of a new writer, and flushes the sink.
 ///
-/// The keys ascend by their UTF-8 bytes. What was written is read back as the same map. [`write_sorted`] writes other
-/// encodings.
+/// The keys are in ascending order of their UTF-8 bytes. What is written reads back as the same map. For other
+/// encodings, use [`write_sorted`].
 ///
 /// ```text
 /// let mut output = Counted::new(Vec::new(alloc));
@@ -95,7 +95,7 @@ pub fn write<W: CountedWrite>(
     )
 }
 
-// Writes these pairs in turn, by the settings of a new writer, and flushes the sink.
+// Writes these pairs in order, with the settings of a new writer, and flushes the sink.
 fn write_pairs<W: CountedWrite>(
     alloc: Global,
     writer: &mut W,
@@ -113,7 +113,7 @@ fn write_pairs<W: CountedWrite>(
     engine.flush(writer)
 }
 
-// The entries of a map, by the bytes of their keys.
+// Returns the entries of a map, ordered by the bytes of their keys.
 fn pairs_in_order<'a>(
     alloc: Global,
     map: &'a HashMap<String, String>,
@@ -124,7 +124,7 @@ fn pairs_in_order<'a>(
     for (key, value) in map {
         pairs.push((key, value))?;
     }
-    // No two keys are the same, so the values decide nothing.
+    // No two keys are equal, so the values don't affect the order.
     pairs.sort_unstable();
     Ok(pairs)
 }

@@ -1,4 +1,4 @@
-// Comments and pairs, written line by line.
+// Writes comments and pairs line by line.
 
 ghost use Rattle.std.specs.Prelude.{◌≡◌, IsOkAnd};
 ghost use Rattle.std.specs.Str.{chars};
@@ -25,9 +25,8 @@ pub use settings::LineEnding;
 
 /// Writes comments and pairs to a sink, one per line.
 ///
-/// A line is built whole before its first byte goes out. After a fault of the sink in a line, the sink holds a part
-/// of that line, and the writer has failed: nothing more is sent, and lines and flushes are refused by the kind
-/// Failed.
+/// Each line is built completely before its first byte is sent. If the sink fails within a line, it may hold a part of
+/// that line, and the writer has failed: it sends nothing more, and refuses lines and flushes with the kind `Failed`.
 ///
 /// ```text
 /// let mut output = Counted::new(Vec::new(alloc));
@@ -54,18 +53,18 @@ impl<W> Model for PropertiesWriter<W> {
 }
 
 impl<W: CountedWrite> PropertiesWriter<W> {
-    /// Writes windows-1252. What it can't encode is written as escapes.
+    /// Creates a writer of windows-1252. Characters that it can't encode are written as escapes.
     ///
-    /// It writes nothing yet, and takes no memory before the first line.
+    /// It writes nothing and allocates nothing before it is used.
     pub fn new(alloc: Global, writer: W) -> Result<PropertiesWriter<W>, PropertiesError>
         ensures { IsOkAnd result (λ made. made ≡ new_writer windows_1252 writer) }
     {
         PropertiesWriter::new_with_encoding(alloc, writer, Encoding::WINDOWS_1252)
     }
 
-    /// Writes the output encoding of this one: windows-1252 or UTF-8. It writes no byte order mark.
+    /// Creates a writer of the output encoding of `encoding`: windows-1252 or UTF-8. It writes no byte order mark.
     ///
-    /// It writes nothing yet, and takes no memory before the first line.
+    /// It writes nothing and allocates nothing before it is used.
     pub fn new_with_encoding(
         alloc: Global,
         writer: W,
@@ -80,7 +79,7 @@ impl<W: CountedWrite> PropertiesWriter<W> {
         })
     }
 
-    // The same as if so many lines had been written.
+    // Creates a writer of windows-1252 as if this many lines had been written.
     #[cfg(test)]
     fn after_lines(alloc: Global, writer: W, lines: usize) -> PropertiesWriter<W>
         ensures { result ≡ record (new_writer windows_1252 writer) { lines = lines } }
@@ -95,12 +94,12 @@ impl<W: CountedWrite> PropertiesWriter<W> {
 
     /// Writes a comment as one line: the prefix, the text and the line ending.
     ///
-    /// A line ending in the text is written as an escape, so the comment stays one line.
+    /// Line endings in the text are written as escapes, so the comment stays on one line.
     pub fn write_comment(&mut self, comment: &str) -> Result<(), PropertiesError>
         ensures writes { WritesLine W.CountedWrite self.old (entry.comment (chars comment.now)) result self.new }
         ensures same_sink { IsSameSink W.CountedWrite self.old.sink self.new.sink }
     {
-        // `Ok` is made anew, since to pass an answer on copies the room for its error.
+        // `Ok` is built anew, because passing the result on would copy the space for its error.
         self.engine
             .write_line(&mut self.sink, Content::Comment(comment))?;
         Ok(())
@@ -108,45 +107,45 @@ impl<W: CountedWrite> PropertiesWriter<W> {
 
     /// Writes a pair as one line: the key, the separator, the value and the line ending.
     ///
-    /// An empty key under a separator of blanks alone is refused, since its value would be read as the key.
+    /// An empty key is refused if the separator consists only of blanks, because its value would be read as the key.
     pub fn write(&mut self, key: &str, value: &str) -> Result<(), PropertiesError>
         ensures writes { let line = entry.pair (chars key.now) (chars value.now) in
             WritesLine W.CountedWrite self.old line result self.new }
         ensures same_sink { IsSameSink W.CountedWrite self.old.sink self.new.sink }
     {
-        // `Ok` is made anew, since to pass an answer on copies the room for its error.
+        // `Ok` is built anew, because passing the result on would copy the space for its error.
         self.engine
             .write_line(&mut self.sink, Content::KVPair(key, value))?;
         Ok(())
     }
 
-    /// What comments begin with from here on: blanks or none, then `#` or `!`, then any text without line endings.
-    /// At the start it is `# `.
+    /// Sets what comments begin with from now on: optional blanks, then `#` or `!`, then any text without line endings.
+    /// Any other prefix is refused. The default is `# `.
     pub fn set_comment_prefix(&mut self, prefix: &str) -> Result<(), PropertiesError>
         ensures { SetsPrefix self.old (chars prefix.now) result self.new }
     {
         self.engine.settings.set_comment_prefix(prefix)
     }
 
-    /// What stands between keys and values from here on: blanks or none, one `=` or `:`, blanks or none; or blanks
-    /// alone. At the start it is `=`.
+    /// Sets what comes between keys and values from now on: optional blanks, one `=` or `:`, optional blanks; or one or
+    /// more blanks. Any other separator is refused. The default is `=`.
     pub fn set_kv_separator(&mut self, separator: &str) -> Result<(), PropertiesError>
         ensures { SetsSeparator self.old (chars separator.now) result self.new }
     {
         self.engine.settings.set_kv_separator(separator)
     }
 
-    /// What ends lines from here on. At the start it is LF.
+    /// Sets what ends lines from now on. The default is LF.
     pub fn set_line_ending(&mut self, line_ending: LineEnding)
         ensures { SetsEnding self.old line_ending self.new }
     {
         self.engine.settings.set_line_ending(line_ending);
     }
 
-    /// Whether every character past U+007F is written as an escape from here on, also where the encoding has it. At
-    /// the start it is not.
+    /// Sets whether every character past U+007F is written as an escape from now on, even if the encoding has it. By
+    /// default it isn't.
     ///
-    /// Lines that are written so hold ASCII alone, and are read back the same in windows-1252 and in UTF-8.
+    /// Lines written with this setting contain ASCII only, and read back the same in windows-1252 and in UTF-8.
     ///
     /// ```text
     /// writer.set_ascii_only(true);
@@ -166,8 +165,8 @@ impl<W: CountedWrite> PropertiesWriter<W> {
         self.engine.flush(&mut self.sink)
     }
 
-    /// Flushes the sink. It is called after the last line, so that a sink that keeps bytes back hands them on. More
-    /// lines may follow all the same.
+    /// Flushes the sink. Call it after the last line, so that a sink that buffers bytes passes them on. You can still
+    /// write lines afterwards.
     pub fn finish(&mut self) -> Result<(), PropertiesError>
         ensures flushes { Flushes W.CountedWrite self.old result self.new }
         ensures same_sink { IsSameSink W.CountedWrite self.old.sink self.new.sink }
@@ -175,11 +174,11 @@ impl<W: CountedWrite> PropertiesWriter<W> {
         self.flush()
     }
 
-    /// Tells a proof that the writer is good, as every writer is: its encoding is one that is written, and its settings
-    /// are good ones. It does nothing.
+    /// Gives a proof the fact that the writer is good, as every writer is: its encoding is one that can be written, and
+    /// its settings are good. It does nothing at run time.
     ///
-    /// [`laws::reading_inverts_writing`](crate::laws::reading_inverts_writing) speaks of good settings, so after this
-    /// call it can be applied to a writer that is at hand.
+    /// [`laws::reading_inverts_writing`](crate::laws::reading_inverts_writing) is about good settings, so after this
+    /// call a proof can apply it to this writer.
     ///
     /// ```text
     /// writer.tell_settings_are_good();
@@ -192,14 +191,14 @@ impl<W: CountedWrite> PropertiesWriter<W> {
         self.engine.settings.tell_they_are_good();
     }
 
-    /// The sink, with what was written so far.
+    /// Returns a reference to the sink, with what was written so far.
     pub fn get_ref(&self) -> &W
         ensures { result.now ≡ self.now.sink }
     {
         &self.sink
     }
 
-    /// The sink, with what was written so far.
+    /// Returns the sink, with what was written so far.
     pub fn into_inner(self) -> W
         ensures { result ≡ self.sink }
     {

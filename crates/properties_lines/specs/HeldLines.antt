@@ -1,4 +1,4 @@
--- The natural lines of a body that is held whole, as a scanner gives them.
+-- The natural lines of a body that is held in memory, as a scanner finds them.
 use Rattle.std.specs.Prelude.{◌≡◌, ◌≢◌, ℕ, false, if◌then◌else◌, List, [], drop, Option}
 use Rattle.properties_format.specs.Text as text
 use Rattle.properties_format.specs.Encoding.{Encoding}
@@ -13,11 +13,11 @@ use Rattle.properties_lines.specs.declared.scanner.Front.TheVariants.{Mark, Feed
 use Rattle.properties_lines.specs.declared.scanner.RawLine.{RawLine}
 use Rattle.properties_lines.specs.declared.scanner.Scanner.{Scanner}
 
--- the line that these bytes of the body are
+-- the line that consists of these bytes of the body
 abbrev pub held_line : Encoding → List ℕ → RawLine → Option text.LineEnding → HeldLine
 held_line e body line ending = record { bytes = bytes_of body line; text = decoded_line e (bytes_of body line); ending = ending }
 
--- The scanner stands after the byte order mark, and no LF comes that is of the line end before.
+-- The scanner is past the byte order mark, and no LF comes next that belongs to the line ending before it.
 pub record StandsInBody (s : Scanner) (body : List ℕ) : Type 0 where
   pub fits : Fits s body
   pub decided : s.front ≢ Mark

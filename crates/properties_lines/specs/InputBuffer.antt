@@ -1,25 +1,25 @@
--- What a read into the buffer of undecoded bytes does.
+-- The effect of a read into the buffer of undecoded bytes.
 use Rattle.std.specs.Prelude.{◌≡◌, ℕ, ◌+◌, ◌<◌, ◌≤◌, true, List, [], ◌++◌, length, take, drop, Result, Ok, Err}
 use Rattle.std.specs.declared.io.Error.{Error}
 use Rattle.counted_io.specs.Streams.{Reader, HasRead, HasFailed}
 
--- the bytes that are held, and for how many there is room after them
+-- the bytes that are held, and the size of the free space after them
 pub record Buffer : Type 0 where
   pub held : List ℕ
   pub room : ℕ
 
--- There is room after the bytes that are held, of which some at the front were let go, at most so many.
+-- There is free space after the bytes that are held. Some bytes at the front were released, at most `count`.
 pub record HasRoom (count : ℕ) (old : Buffer) (gone : ℕ) (new : Buffer) : Type 0 where
   pub most : gone ≤ count
   pub held : new.held ≡ drop gone old.held
   pub room : 0 < new.room
 
--- Room was made, or there is no memory for it.
+-- Space was made, or memory ran out.
 abbrev pub MakesRoom : {E : Type 0} → ℕ → Buffer → Result ℕ E → Buffer → Type 0
 MakesRoom count old (Ok gone) new = HasRoom count old gone new
 MakesRoom count old (Err e) new = new.held ≡ old.held
 
--- these bytes were read, and are held after the others; where there are none, the reader is at its end
+-- These bytes were read, and are held after the others. If there are none, the reader is at its end.
 pub record HasFilled {R : Type 0} (reader : Reader R) (held : List ℕ) (old : R) (held' : List ℕ) (new : R) (count : ℕ) : Type 0 where
   pub bytes : List ℕ
   pub read : HasRead reader old bytes new
@@ -27,12 +27,12 @@ pub record HasFilled {R : Type 0} (reader : Reader R) (held : List ℕ) (old : R
   pub counted : count ≡ length bytes
   pub ended : bytes ≡ [] → reader.at_end new ≡ true
 
--- One read: its bytes are held after those that were, or it failed.
+-- One read: its bytes are held after those already held, or it failed.
 abbrev pub Fills : {R : Type 0} → Reader R → List ℕ → R → Result ℕ Error → List ℕ → R → Type 0
 Fills reader held old (Ok count) held' new = HasFilled reader held old held' new count
 Fills reader held old (Err e) held' new = (held' ≡ held) × HasFailed reader old [] e new
 
--- this many bytes were read, and stand from the place on
+-- This many bytes were read, and are in the buffer from this place on.
 pub record HasReadAt {R : Type 0} (reader : Reader R) (place : ℕ) (buffer : List ℕ) (old : R) (count : ℕ) (buffer' : List ℕ) (new : R) : Type 0 where
   pub bytes : List ℕ
   pub read : HasRead reader old bytes new
@@ -41,7 +41,7 @@ pub record HasReadAt {R : Type 0} (reader : Reader R) (place : ℕ) (buffer : Li
   pub within : place + count ≤ length buffer
   pub ended : bytes ≡ [] → reader.at_end new ≡ true
 
--- one read into the room from a place of a buffer on
+-- one read into the space from a place in a buffer on
 abbrev pub ReadsAt : {R : Type 0} → Reader R → ℕ → List ℕ → R → Result ℕ Error → List ℕ → R → Type 0
 ReadsAt reader place buffer old (Ok count) buffer' new = HasReadAt reader place buffer old count buffer' new
 ReadsAt reader place buffer old (Err e) buffer' new = (take place buffer' ≡ take place buffer) × HasFailed reader old [] e new

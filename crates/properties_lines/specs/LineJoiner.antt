@@ -1,4 +1,4 @@
--- What a contract sees of the joiner of lines, and what its calls give and leave.
+-- The joiner of lines as contracts see it, and the results and effects of its calls.
 use Rattle.std.specs.Prelude.{◌≡◌, ◌⊎◌, ◌++◌, ℕ, Bool, true, false, List, [], ◌∷◌, Option, Some, None}
 use Rattle.std.specs.Str.{chars, IsUtf8}
 use Rattle.std.specs.declared.io.Error.{Error}
@@ -20,18 +20,18 @@ use Rattle.properties_lines.specs.declared.logical.LogicalLine.{LogicalLine}
 use Rattle.properties_lines.specs.declared.error.LineError.TheVariants as why
 use Rattle.properties_lines.specs.declared.error.LineError.{LineError}
 
--- where it stands, and the text of the line that came last, in UTF-8
+-- its state, and the text of the line that was joined last, in UTF-8
 pub record Joiner : Type 0 where
   pub state : ReaderState
   pub line : List ℕ
 
--- that, whether the line may hold a backslash, and why no line came
+-- the joiner, whether the line may contain a backslash, and the error that is kept
 pub record Joining : Type 0 where
   pub at : Joiner
   pub has_backslash : Bool
   pub error : Option LineError
 
--- that line under a number
+-- that line with a number
 abbrev pub numbered_line : ℕ → Joiner → format.Line
 numbered_line number joiner = record { number = number; text = chars joiner.line }
 
@@ -41,16 +41,18 @@ line_text finder = decoded_line finder.state.encoding finder.line
 
 -- ---- logical lines
 
--- Nothing was read; or what was held gave no item, so that reading had to go on.
+-- Nothing was read; or the bytes already held determined no item, so a read was needed.
 abbrev pub IsLazyItems : {R : Type 0} → ReaderState → R → List ℕ → R → Type 0
 IsLazyItems old from bytes to = ((to ≡ from) × (bytes ≡ [])) ⊎ (items_to_come old [] more ≡ [])
 
--- After the bytes that were read this logical line comes, whatever comes after it; or it is the last, and the input ended.
+-- The bytes that were read give this logical line first, whatever comes after them; or it is the last line, and the
+-- input ended.
 pub data Comes (old : ReaderState) (bytes : List ℕ) (line : format.Line) (new : ReaderState) : Type 0 where
   going_on : new.is_done ≡ false → ReadsLogical old bytes line new → Comes old bytes line new
   at_last : new.is_done ≡ true → items_to_come old bytes end ≡ followed line.number (outcome_of line.text) [] → Comes old bytes line new
 
--- A read failed, and nothing but that fault is left to come. It is named by the line that it cut, also in a join.
+-- A read failed, and nothing but this I/O error is left to come. Its line number is that of the line that was cut off,
+-- also in a continuation.
 pub record JoinsFault {R : Type 0} (reader : Reader R) (old : ReaderState) (from : R) (e : LineError) (to : R) : Type 0 where
   pub bytes : List ℕ
   pub error : Error
@@ -68,7 +70,7 @@ pub record JoinsTooMany {R : Type 0} (reader : Reader R) (old : ReaderState) (fr
   pub is : e ≡ why.TooManyLines
   pub lazy : IsLazyItems old from bytes to
 
--- There was no memory.
+-- Memory ran out.
 pub record JoinsNoRoom {R : Type 0} (reader : Reader R) (old : ReaderState) (from : R) (e : LineError) (to : R) : Type 0 where
   pub bytes : List ℕ
   pub read : HasRead reader from bytes to
@@ -78,20 +80,20 @@ pub record JoinsNoRoom {R : Type 0} (reader : Reader R) (old : ReaderState) (fro
 abbrev pub JoinsError : {R : Type 0} → Reader R → ReaderState → R → LineError → ReaderState → R → Type 0
 JoinsError reader old from e new to = JoinsFault reader old from e to ⊎ (JoinsTooMany reader old from e new to ⊎ JoinsNoRoom reader old from e to)
 
--- ---- joins
+-- ---- continuations
 
--- a join of this text under some number
+-- an unfinished logical line with this text and number
 abbrev pub join_of : ℕ → List ℕ → Option format.Line
 join_of number text = Some (record { number = number; text = text })
 
--- The join has come from the first text to the second, and is still open; or the input ended in it.
+-- The unfinished line grew from the first text to the second and is still open; or the input ended in it.
 pub data Pends (old : ReaderState) (old_text bytes text : List ℕ) (new : ReaderState) : Type 0 where
   going_on : new.is_done ≡ false → ((number : ℕ) (d : List ℕ) (ending : InputEnd)
       → entries_pending (join_of number old_text) old (bytes ++ d) ending ≡ entries_pending (join_of number text) new d ending) → Pends old old_text bytes text new
   at_last : new.is_done ≡ true → ((number : ℕ) → entries_pending (join_of number old_text) old bytes end ≡ entries_pending (join_of number text) new [] end)
       → Pends old old_text bytes text new
 
--- The join is the second text.
+-- The finished line has the second text.
 pub data Closes (old : ReaderState) (old_text bytes text : List ℕ) (new : ReaderState) : Type 0 where
   going_on : new.is_done ≡ false → ((number : ℕ) (d : List ℕ) (ending : InputEnd)
       → entries_pending (join_of number old_text) old (bytes ++ d) ending ≡ followed number (outcome_of text) (items_to_come new d ending))
@@ -99,29 +101,29 @@ pub data Closes (old : ReaderState) (old_text bytes text : List ℕ) (new : Read
   at_last : new.is_done ≡ true → ((number : ℕ) → entries_pending (join_of number old_text) old bytes end ≡ followed number (outcome_of text) [])
       → Closes old old_text bytes text new
 
--- Open lines were added to a join.
+-- Open lines were joined to an unfinished line.
 pub record AddsOpen (old : ReaderState) (old_text bytes text : List ℕ) (new : ReaderState) : Type 0 where
   pub lines : List format.Line
   pub passes : Passes old bytes lines new
   pub are_open : AreOpen lines
   pub is : text ≡ old_text ++ joined_after lines
 
--- These lines end a group that open lines begin; or they are open too, and the input ended.
+-- These lines end a group that begins with open lines; or they are open too, and the input ended.
 abbrev pub EndJoin : List format.Line → ReaderState → Type 0
 EndJoin lines new = ((l : format.Line) → is_open l.text ≡ true → EndsClosed l lines) ⊎ (new.is_done ≡ true) × AreOpen lines
 
--- The last lines of a join were added to it.
+-- The last lines of a logical line were joined to it.
 pub record AddsLast (old : ReaderState) (old_text bytes text : List ℕ) (new : ReaderState) : Type 0 where
   pub lines : List format.Line
   pub passes : Passes old bytes lines new
   pub end_join : EndJoin lines new
   pub is : text ≡ old_text ++ joined_after lines
 
--- Nothing was read; or what was held did not close the join.
+-- Nothing was read; or the bytes already held did not finish the line.
 abbrev pub IsLazyJoin : {R : Type 0} → ReaderState → R → List ℕ → List ℕ → R → Type 0
 IsLazyJoin old from text bytes to = ((to ≡ from) × (bytes ≡ [])) ⊎ ((number : ℕ) → entries_pending (join_of number text) old [] more ≡ [])
 
--- Lines were added to a join.
+-- Lines were joined to an unfinished line.
 pub record GoesOn {R : Type 0} (reader : Reader R) (old : ReaderState) (from : R) (old_text bytes text : List ℕ) (new : ReaderState) (to : R) : Type 0 where
   pub read : HasRead reader from bytes to
   pub pends : Pends old old_text bytes text new
@@ -132,7 +134,7 @@ pub record GoesOn {R : Type 0} (reader : Reader R) (old : ReaderState) (from : R
   pub idle : old.is_done ≡ true → (bytes ≡ []) × (to ≡ from)
   pub lazy : IsLazyJoin old from old_text bytes to
 
--- The join was read to its end.
+-- The logical line was read to its end.
 pub record JoinsAll {R : Type 0} (reader : Reader R) (old : ReaderState) (from : R) (old_text text : List ℕ) (new : ReaderState) (to : R) : Type 0 where
   pub bytes : List ℕ
   pub read : HasRead reader from bytes to
@@ -144,7 +146,7 @@ pub record JoinsAll {R : Type 0} (reader : Reader R) (old : ReaderState) (from :
   pub idle : old.is_done ≡ true → (bytes ≡ []) × (to ≡ from)
   pub lazy : IsLazyJoin old from old_text bytes to
 
--- A read failed in the join, which is lost.
+-- A read failed in the unfinished line, which is lost.
 pub record JoinFault {R : Type 0} (reader : Reader R) (old : ReaderState) (from : R) (old_text : List ℕ) (e : LineError) (to : R) : Type 0 where
   pub bytes : List ℕ
   pub error : Error
@@ -162,7 +164,7 @@ pub record JoinTooMany {R : Type 0} (reader : Reader R) (old : ReaderState) (fro
   pub is : e ≡ why.TooManyLines
   pub lazy : IsLazyJoin old from old_text bytes to
 
--- There was no memory.
+-- Memory ran out.
 pub record JoinNoRoom {R : Type 0} (reader : Reader R) (old : ReaderState) (from : R) (old_text : List ℕ) (e : LineError) (to : R) : Type 0 where
   pub bytes : List ℕ
   pub read : HasRead reader from bytes to
@@ -173,7 +175,7 @@ abbrev pub JoinError : {R : Type 0} → Reader R → ReaderState → R → List 
 JoinError reader old from old_text e new to =
     JoinFault reader old from old_text e to ⊎ (JoinTooMany reader old from old_text e new to ⊎ JoinNoRoom reader old from old_text e to)
 
--- It couldn't be read to its end, and the reading ended for good: why is kept.
+-- The line couldn't be read to its end. The reading ended permanently, and the error is kept.
 pub record JoinsNone {R : Type 0} (reader : Reader R) (old : Finder) (from : R) (old_text : List ℕ) (new : Finder) (to : R) : Type 0 where
   pub live : old.state.is_done ≡ false
   pub done : new.state.is_done ≡ true
@@ -181,13 +183,13 @@ pub record JoinsNone {R : Type 0} (reader : Reader R) (old : Finder) (from : R) 
   pub kept : new.error ≡ Some error
   pub why : JoinError reader old.state from old_text error new.state to
 
--- What reading a join to its end does.
+-- the effect of reading a logical line to its end
 abbrev pub JoinsOn : {R : Type 0} → Reader R → Finder → R → List ℕ → Bool → Finder → R → List ℕ → Type 0
 JoinsOn reader old from old_text true new to text = JoinsAll reader old.state from old_text text new.state to × (new.error ≡ None)
 JoinsOn reader old from old_text false new to text = JoinsNone reader old from old_text new to
 
--- The line is a group of natural lines, joined, under the number of the first; it is whole, or it is the last, and the
--- input ended.
+-- The line is a group of natural lines, joined, with the number of the first. It is complete; or it is the last line,
+-- and the input ended.
 pub record JoinsGroup (old : ReaderState) (bytes : List ℕ) (line : format.Line) (new : ReaderState) : Type 0 where
   pub first : format.Line
   pub others : List format.Line
@@ -196,7 +198,7 @@ pub record JoinsGroup (old : ReaderState) (bytes : List ℕ) (line : format.Line
   pub text : line.text ≡ joined (first ∷ others)
   pub ends : IsWhole (first ∷ others) ⊎ (new.is_done ≡ true) × IsUnfinished (first ∷ others)
 
--- A logical line came.
+-- A logical line was returned.
 pub record JoinsNext {R : Type 0} (reader : Reader R) (old : ReaderState) (from : R) (number : ℕ) (new : Joiner) (to : R) : Type 0 where
   pub bytes : List ℕ
   pub read : HasRead reader from bytes to
@@ -207,7 +209,7 @@ pub record JoinsNext {R : Type 0} (reader : Reader R) (old : ReaderState) (from 
   pub ended : new.state.is_done ≡ true → reader.at_end to ≡ true
   pub lazy : IsLazyItems old from bytes to
 
--- None came, and the reading ended for good: why is kept until it is taken.
+-- No line was returned, and the reading ended permanently. The error is kept until it is returned.
 pub record StopsJoining {R : Type 0} (reader : Reader R) (old : Joining) (from : R) (new : Joining) (to : R) : Type 0 where
   pub live : old.at.state.is_done ≡ false
   pub done : new.at.state.is_done ≡ true
@@ -215,7 +217,7 @@ pub record StopsJoining {R : Type 0} (reader : Reader R) (old : Joining) (from :
   pub kept : new.error ≡ Some error
   pub why : JoinsError reader old.at.state from error new.at.state to
 
--- What coming to the next logical line does. At its end for good nothing is read.
+-- The effect of advancing to the next logical line. After the permanent end, nothing is read.
 abbrev pub Joins : {R : Type 0} → Reader R → Joining → R → Option ℕ → Joining → R → Type 0
 Joins reader old from None new to =
     (old.at.state.is_done ≡ true) × (new ≡ old) × (to ≡ from) ⊎ StopsJoining reader old from new to
@@ -229,7 +231,8 @@ Joins reader old from (Some number) new to =
 abbrev pub joiner_of : Finder → LogicalLine → Joiner
 joiner_of lines line = record { state = lines.state; line = text_with line lines.line }
 
--- The natural line that was found, under this number, is a logical line by itself, or with the lines that were joined to it.
+-- The natural line that was found, with this number, is a logical line on its own or with the lines that were joined to
+-- it.
 pub record ReadsWhole {R : Type 0} (reader : Reader R) (old : Finder) (from : R) (number : ℕ) (lines : Finder) (line : LogicalLine) (to : R) : Type 0 where
   pub number_is : number ≡ old.state.passed
   pub error : lines.error ≡ None
@@ -237,7 +240,7 @@ pub record ReadsWhole {R : Type 0} (reader : Reader R) (old : Finder) (from : R)
   pub comes : {S : ReaderState} {start : R} → finder.FindsNext reader S start number old from → JoinsNext reader S start number (joiner_of lines line) to
   pub plain : holds_backslash old.line ≡ false → holds_backslash (chars (text_with line lines.line)) ≡ false
 
--- It isn't, and the reading ended for good.
+-- It isn't, and the reading ended permanently.
 pub record ReadsNone {R : Type 0} (reader : Reader R) (old : Finder) (from : R) (lines : Finder) (line : LogicalLine) (to : R) : Type 0 where
   pub done : lines.state.is_done ≡ true
   pub error : LineError

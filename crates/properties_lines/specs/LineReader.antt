@@ -1,4 +1,4 @@
--- What a contract sees of a reader of natural lines, and what its calls give and leave.
+-- The reader of natural lines as contracts see it, and the results and effects of its calls.
 use Rattle.std.specs.Prelude.{◌≡◌, ◌⊎◌, ◌+◌, ◌-◌, ◌^◌, ◌<◌, ◌≤◌, ◌++◌, length, ℕ, Bool, true, false, if◌then◌else◌, List, [], ◌∷◌, Option, Some, None}
 use Rattle.std.specs.declared.io.Error.{Error}
 use Rattle.counted_io.specs.Streams.{Reader, HasRead, HasFailed}
@@ -19,8 +19,8 @@ use Rattle.properties_lines.specs.declared.scanner.Scan.{Scan}
 use Rattle.properties_lines.specs.declared.scanner.Scan.TheVariants as scan
 use Rattle.properties_lines.specs.declared.scanner.Scan.TheVariants.{Line, More, TooMany}
 
--- where it stands, the bytes of the line that it found last and what is known of them, how many bytes were read and not
--- passed, and why no line came
+-- its state, the bytes of the line that it found last and what is known of them, how many bytes were read but not
+-- passed, and the error that is kept
 pub record Finder : Type 0 where
   pub state : ReaderState
   pub line : List ℕ
@@ -29,26 +29,26 @@ pub record Finder : Type 0 where
   pub waiting : ℕ
   pub error : Option LineError
 
--- what the scan saw of that line is so
+-- What is known of that line is true.
 abbrev pub IsToldOf : Finder → Type 0
 IsToldOf f = (start end : ℕ) → IsTold f.state.encoding f.line (record { start = start; end = end; is_ascii = f.is_ascii; has_backslash = f.has_backslash })
 
--- no more lines come than there are numbers for them
+-- an upper bound for the number of lines to come: the line numbers that are left
 abbrev pub lines_left : ReaderState → ℕ
 lines_left s = if s.is_done then 0 else 2 ^ 64 - s.passed
 
--- whether a byte order mark, or an LF of the line end before, may come next
+-- whether a byte order mark, or an LF of the line ending before, may come next
 abbrev pub awaits_front : ReaderState → Bool
 awaits_front s = if s.is_decided then s.after_cr else true
 
--- no more reads come before the next line: memory has no place for more bytes that wait, and what may stand before it is
--- passed once
+-- an upper bound for the number of reads before the next line: memory can't hold more waiting bytes, and what may come
+-- before the line is skipped only once
 abbrev pub reads_left : Finder → ℕ
 reads_left f = (if awaits_front f.state then 2 ^ 64 else 0) + (2 ^ 64 - f.waiting)
 
 -- ---- reading on
 
--- Nothing was read; or what was held gave no line, so that reading had to go on.
+-- Nothing was read; or the bytes already held determined no line, so a read was needed.
 abbrev pub IsLazy : {R : Type 0} → ReaderState → R → List ℕ → R → Type 0
 IsLazy old from r to = ((to ≡ from) × (r ≡ [])) ⊎ (natural_to_come old [] more ≡ [])
 
@@ -60,14 +60,14 @@ pub record Along {R : Type 0} (reader : Reader R) (old : ReaderState) (from : R)
   pub done : new.is_done ≡ old.is_done
   pub lazy : IsLazy old from bytes to
 
--- The reader is at its end, and what is held gives no line that a line end ends.
+-- The reader is at its end, and no line with a line ending is held.
 pub record IsAtEnd {R : Type 0} (reader : Reader R) (state : ReaderState) (at : R) : Type 0 where
   pub ended : reader.at_end at ≡ true
   pub none : natural_to_come state [] more ≡ []
   pub live : state.is_done ≡ false
   pub numbered : state.passed + 1 < 2 ^ 64
 
--- There was no memory.
+-- Memory ran out.
 pub record HasNoRoom {R : Type 0} (reader : Reader R) (old : ReaderState) (from : R) (to : R) : Type 0 where
   pub bytes : List ℕ
   pub read : HasRead reader from bytes to
@@ -75,7 +75,7 @@ pub record HasNoRoom {R : Type 0} (reader : Reader R) (old : ReaderState) (from 
 
 -- ---- one read
 
--- the line that was found last is let go, or stays
+-- The line that was found last is released or kept.
 abbrev pub LetsGo : Finder → Finder → Type 0
 LetsGo old new = (new.line ≡ old.line) ⊎ (new.line ≡ [])
 
@@ -87,19 +87,19 @@ pub record ReadsBytes {R : Type 0} (reader : Reader R) (old : Finder) (from : R)
   pub error : new.error ≡ old.error
   pub line : LetsGo old new
 
--- The reading ended for good, for this reason.
+-- The reading ended permanently, with this error.
 pub record HasFailedFor (old : Finder) (e : LineError) (new : Finder) : Type 0 where
   pub done : new.state.is_done ≡ true
   pub error : new.error ≡ Some e
   pub line : LetsGo old new
 
--- why a read gave nothing: it failed in the line that is held so far, or there was no memory for it
+-- why a read returned nothing: it failed in the line that is held so far, or memory for it ran out
 abbrev pub IsReadError : {R : Type 0} → Reader R → Finder → R → LineError → R → Type 0
 IsReadError reader old from (why.Io number error) to = (number ≡ old.state.passed + 1) × HasFailed reader from [] error to
 IsReadError reader old from why.TooManyLines to = ⊥
 IsReadError reader old from why.Memory to = to ≡ from
 
--- What a read gives: some bytes, the end of the input, or an error.
+-- The result of a read: some bytes, the end of the input, or an error.
 abbrev pub Reads : {R : Type 0} → Reader R → Finder → R → Read → Finder → R → Type 0
 Reads reader old from Bytes new to = (bytes : List ℕ) × (0 < length bytes) × ReadsBytes reader old from bytes new to
 Reads reader old from End new to = ReadsBytes reader old from [] new to × (reader.at_end to ≡ true)
@@ -107,12 +107,12 @@ Reads reader old from Failed new to = (e : LineError) × IsReadError reader old 
 
 -- ---- finding lines
 
--- These lines come first, whatever comes after the bytes that were read; or they are all, and the input ended.
+-- These lines come first, whatever comes after the bytes that were read; or they are all lines, and the input ended.
 pub data Passes (old : ReaderState) (bytes : List ℕ) (lines : List format.Line) (new : ReaderState) : Type 0 where
   going_on : new.is_done ≡ false → ReadsLines old bytes lines new → Passes old bytes lines new
   at_last : new.is_done ≡ true → Gives old bytes lines new [] end → Passes old bytes lines new
 
--- These bytes hold some lines at their front, and whatever comes after them, the old state goes on after those lines as
+-- These bytes have some lines at their front. Whatever comes after them, the old state continues after those lines as
 -- the new one does.
 pub record PassesSome (old : ReaderState) (bytes : List ℕ) (new : ReaderState) : Type 0 where
   pub lines : List format.Line
@@ -124,7 +124,7 @@ pub record PassesAll (old : ReaderState) (bytes : List ℕ) : Type 0 where
   pub passes : PassesSome old bytes last
   pub passed : last.passed + 1 ≡ 2 ^ 64
 
--- the line that was found, decoded, under its number
+-- the line that was found, decoded, with this number
 abbrev pub found_line : ℕ → Finder → format.Line
 found_line number finder = record { number = number; text = characters (pieces_of finder.state.encoding finder.line) }
 
@@ -139,7 +139,7 @@ pub record FindsNext {R : Type 0} (reader : Reader R) (old : ReaderState) (from 
   pub ended : new.state.is_done ≡ true → reader.at_end to ≡ true
   pub lazy : IsLazy old from bytes to
 
--- A read failed in the line of this number, and nothing but that fault is left to come.
+-- A read failed in the line with this number, and nothing but this I/O error is left to come.
 pub record FindsFault {R : Type 0} (reader : Reader R) (old : ReaderState) (from : R) (e : LineError) (to : R) : Type 0 where
   pub bytes : List ℕ
   pub error : Error
@@ -155,7 +155,7 @@ pub record FindsTooMany {R : Type 0} (old : ReaderState) (from : R) (e : LineErr
   pub is : e ≡ why.TooManyLines
   pub untouched : to ≡ from
 
--- There was no memory.
+-- Memory ran out.
 pub record FindsNoRoom {R : Type 0} (reader : Reader R) (old : ReaderState) (from : R) (e : LineError) (to : R) : Type 0 where
   pub room : HasNoRoom reader old from to
   pub is : e ≡ why.Memory
@@ -164,21 +164,21 @@ pub record FindsNoRoom {R : Type 0} (reader : Reader R) (old : ReaderState) (fro
 abbrev pub FindsError : {R : Type 0} → Reader R → ReaderState → R → LineError → ReaderState → R → Type 0
 FindsError reader old from e new to = FindsFault reader old from e to ⊎ (FindsTooMany old from e new to ⊎ FindsNoRoom reader old from e to)
 
--- No line was found, and the reading ended for good: why is kept until it is taken.
+-- No line was found, and the reading ended permanently. The error is kept until it is returned.
 pub record FindsNone {R : Type 0} (reader : Reader R) (old : Finder) (from : R) (new : Finder) (to : R) : Type 0 where
   pub live : old.state.is_done ≡ false
   pub error : LineError
   pub why : FindsError reader old.state from error new.state to
   pub failed : HasFailedFor old error new
 
--- What finding the next line does. At its end for good the reader reads nothing.
+-- The effect of finding the next line. After the permanent end, nothing is read.
 abbrev pub Finds : {R : Type 0} → Reader R → Finder → R → Bool → Finder → R → Type 0
 Finds reader old from true new to = FindsNext reader old.state from new.state.passed new to × IsToldOf new × (new.error ≡ None)
 Finds reader old from false new to = (old.state.is_done ≡ true) × (new ≡ old) × (to ≡ from) ⊎ FindsNone reader old from new to
 
--- ---- looking among the bytes that are held
+-- ---- searching the bytes that are held
 
--- A line is held, or the input ended after it.
+-- A line is held with its end, or as the last line of the input.
 pub record HoldsLine (old : Finder) (ended : Bool) (new : Finder) : Type 0 where
   pub live : old.state.is_done ≡ false
   pub number : new.state.passed ≡ old.state.passed + 1
@@ -188,7 +188,7 @@ pub record HoldsLine (old : Finder) (ended : Bool) (new : Finder) : Type 0 where
   pub told : IsToldOf new
   pub error : new.error ≡ None
 
--- None is held with its end.
+-- No line is held with its end.
 pub record HoldsNone (old new : Finder) : Type 0 where
   pub live : old.state.is_done ≡ false
   pub numbered : old.state.passed + 1 < 2 ^ 64

@@ -1,4 +1,4 @@
--- What a search for a line end among undecoded bytes finds.
+-- The result of searching for a line ending among undecoded bytes.
 use Rattle.std.specs.Prelude.{◌≡◌, ℕ, ◌+◌, ◌-◌, ◌%◌, ◌≤◌, Bool, true, false, List, [], ◌∷◌, ◌++◌, take, length}
 use Rattle.std.specs.Prelude.{Option, Some, None}
 use Rattle.properties_format.specs.Text.{line_feed, carriage_return}
@@ -6,14 +6,14 @@ use Rattle.properties_format.specs.Encoding.{Encoding, windows_1252, utf_8, utf_
 use Rattle.properties_format.specs.Cut.{HoldsNoLineEndUnit}
 use Rattle.properties_lines.specs.declared.search.LineEnd.{LineEnd}
 
--- how many bytes a unit is
+-- the number of bytes in a unit
 abbrev pub unit_size : Encoding → ℕ
 unit_size windows_1252 = 1
 unit_size utf_8 = 1
 unit_size utf_16le = 2
 unit_size utf_16be = 2
 
--- the most of so many bytes that are whole units
+-- how many of `n` bytes form whole units
 abbrev pub whole_units : Encoding → ℕ → ℕ
 whole_units e n = n - n % unit_size e
 
@@ -23,12 +23,12 @@ pub record IsSearched (e : Encoding) (bytes : List ℕ) (from : ℕ) : Type 0 wh
   pub aligned : IsAligned e (take from bytes)
   pub none_before : HoldsNoLineEndUnit e (take from bytes)
 
--- the character of a line end that is a CR or an LF
+-- the character of a CR or an LF
 abbrev pub end_character : Bool → ℕ
 end_character true = carriage_return
 end_character false = line_feed
 
--- The line end stands in the bytes at its place: before it are whole units, none of which is a CR or an LF.
+-- The line ending is at its place in the bytes. Before it are whole units, none of which is a CR or an LF.
 pub record IsFirstLineEnd (e : Encoding) (bytes : List ℕ) (end : LineEnd) : Type 0 where
   pub rest : List ℕ
   pub stands : bytes ≡ take end.at bytes ++ (ascii_bytes e (end_character end.is_cr) ++ rest)
@@ -36,16 +36,16 @@ pub record IsFirstLineEnd (e : Encoding) (bytes : List ℕ) (end : LineEnd) : Ty
   pub none_before : HoldsNoLineEndUnit e (take end.at bytes)
   pub within : end.at + unit_size e ≤ length bytes
 
--- the first line end of the bytes, where they hold any
+-- the first line ending of the bytes, if there is one
 abbrev pub FindsLineEnd : Encoding → List ℕ → Option LineEnd → Type 0
 FindsLineEnd e bytes None = HoldsNoLineEndUnit e bytes
 FindsLineEnd e bytes (Some end) = IsFirstLineEnd e bytes end
 
--- the same, in each encoding whose units are bytes
+-- the first line ending of the bytes, if there is one, in each encoding whose units are bytes
 abbrev pub FindsLineEndByte : List ℕ → Option LineEnd → Type 0
 FindsLineEndByte bytes found = (e : Encoding) → unit_size e ≡ 1 → FindsLineEnd e bytes found
 
--- whether a unit of these two bytes is a CR, where it is a line end
+-- whether a unit of these two bytes is a CR, or `None` if it isn't a line ending
 abbrev pub IsLineEndUnit : Encoding → ℕ → ℕ → Option Bool → Type 0
 IsLineEndUnit e first second None = HoldsNoLineEndUnit e (first ∷ second ∷ [])
 IsLineEndUnit e first second (Some is_cr) = ascii_bytes e (end_character is_cr) ≡ first ∷ second ∷ []

@@ -1,4 +1,4 @@
--- What is kept of the text of a line, and what lines are joined to.
+-- The text of a logical line, kept or joined.
 use Rattle.std.specs.Prelude.{◌≡◌, ◌⊎◌, ◌++◌, ℕ, Bool, true, false, if◌then◌else◌, List, Result, Ok, Err}
 use Rattle.std.specs.Str.{chars, IsAscii, IsUtf8}
 use Rattle.properties_format.specs.Encoding.{Encoding}
@@ -7,46 +7,46 @@ use Rattle.properties_format.specs.Reading.Cut.{decoded_line}
 use Rattle.properties_lines.specs.LineSearch.{unit_size}
 use Rattle.properties_lines.specs.declared.logical.LogicalLine.{LogicalLine}
 
--- the text, which is kept or else the bytes of the only line
+-- the text: the kept text, or else the bytes of the only natural line
 abbrev pub text_with : LogicalLine → List ℕ → List ℕ
 text_with line bytes = if line.is_kept then line.text else bytes
 
--- The bytes are ASCII characters, one by one.
+-- The bytes are ASCII characters of one byte each.
 abbrev pub IsAsciiLine : Encoding → List ℕ → Type 0
 IsAsciiLine e bytes = (unit_size e ≡ 1) × IsAscii bytes
 
--- The bytes of a line are decoded, and their text is kept; or the bytes are the text.
+-- The bytes of a line were decoded, and their text is kept; or the bytes are the text.
 abbrev pub KeepsText : Encoding → List ℕ → Bool → List ℕ → Type 0
 KeepsText e bytes true text = chars text ≡ decoded_line e bytes
 KeepsText e bytes false text = IsUtf8 bytes × (chars bytes ≡ decoded_line e bytes)
 
--- A text is added to a join, and it is told whether it is open.
+-- A text was joined to an unfinished line, and the result says whether it is open.
 abbrev pub AddsText : {E : Type 0} → List ℕ → List ℕ → Result Bool E → List ℕ → Type 0
 AddsText line old (Ok told) new = (told ≡ is_open line) × (new ≡ old ++ addition line)
 AddsText line old (Err error) new = Unit {0}
 
--- A line is.
+-- A line was joined to an unfinished line, and the result says whether it is open.
 abbrev pub AddsLine : {E : Type 0} → Encoding → List ℕ → List ℕ → Result Bool E → List ℕ → Type 0
 AddsLine e bytes old answer new = AddsText (decoded_line e bytes) old answer new
 
--- A line is no join: it is a comment, or it isn't open.
+-- No line is joined to this one: it is a comment, or it isn't open.
 abbrev pub StandsAlone : List ℕ → Type 0
 StandsAlone text = (is_comment_line text ≡ true) ⊎ (is_open text ≡ false)
 
--- The text of a line is kept without the backslash that opens it.
+-- The text of a line is kept without the backslash that leaves it open.
 pub record OpensJoin (text : List ℕ) (new : LogicalLine) : Type 0 where
   pub other : is_comment_line text ≡ false
   pub opens : is_open text ≡ true
   pub kept : new.is_kept ≡ true
   pub closed : chars new.text ≡ without_open_backslash text
 
--- Whether the line opens a join, whose backslash is taken off.
+-- The result says whether the line is left open. If so, the backslash that leaves it open was removed.
 abbrev pub Opens : {E : Type 0} → List ℕ → LogicalLine → Result Bool E → LogicalLine → Type 0
 Opens bytes old (Ok true) new = OpensJoin (chars (text_with old bytes)) new
 Opens bytes old (Ok false) new = StandsAlone (chars (text_with old bytes)) × (new ≡ old)
 Opens bytes old (Err error) new = Unit {0}
 
--- Whether the line of these bytes opens a join. Where it doesn't, its text is had.
+-- The result says whether the line with these bytes is left open. If it isn't, its text is available.
 abbrev pub Begins : {E : Type 0} → Encoding → List ℕ → Result Bool E → LogicalLine → Type 0
 Begins e bytes (Ok true) new = OpensJoin (decoded_line e bytes) new
 Begins e bytes (Ok false) new = StandsAlone (decoded_line e bytes) × KeepsText e bytes new.is_kept new.text

@@ -1,7 +1,7 @@
--- What a contract sees of a scanner of natural lines, and what its calls give and leave.
+-- The scanner of natural lines as contracts see it, and the results and effects of its calls.
 --
--- A scanner holds no bytes. With the bytes that its caller holds it stands where a reader does, and the format says what
--- comes there.
+-- A scanner holds no bytes. Together with the bytes that its caller holds, it has the state of a reader, and the format
+-- says what comes next in that state.
 use Rattle.std.specs.Prelude.{◌≡◌, ◌≢◌, ◌⊎◌, ◌↔◌, ℕ, ◌+◌, ◌-◌, ◌^◌, ◌<◌, ◌≤◌, Bool, true, false, if◌then◌else◌, List, [], ◌∷◌, ◌++◌, take, drop, length, get_or, Option, Some, None, Result, Ok, Err}
 use Rattle.std.specs.List.{All}
 use Rattle.std.specs.Str.{IsAscii}
@@ -27,21 +27,21 @@ use Rattle.properties_lines.specs.declared.scanner.Scanner.{Scanner}
 use Rattle.properties_lines.specs.declared.scanner.Scan.{Scan}
 use Rattle.properties_lines.specs.declared.scanner.Scan.TheVariants.{Line, More, End, TooMany}
 
--- ---- where a scanner stands
+-- ---- the state of a scanner
 
--- whether it is known what encoding is in force
+-- whether the encoding in force is known
 abbrev pub is_decided : Front → Bool
 is_decided Mark = false
 is_decided Feed = true
 is_decided Nothing = true
 
--- whether the line end before is a CR whose LF may still come
+-- whether the line ending before is a CR whose LF may still come
 abbrev pub after_cr : Front → Bool
 after_cr Mark = false
 after_cr Feed = true
 after_cr Nothing = false
 
--- with these bytes it is a reader that holds those from its place on
+-- the reader state of a scanner with these bytes: a reader that holds those from the scanner's place on
 abbrev pub standing : Scanner → List ℕ → ReaderState
 standing s held = record {
   encoding = encoding_of s.encoding;
@@ -56,8 +56,8 @@ standing s held = record {
 abbrev pub bytes_of : List ℕ → RawLine → List ℕ
 bytes_of held line = take (line.end - line.start) (drop line.start held)
 
--- The scanner may be called with these bytes: it stands among them, those that were searched hold no line end, and the
--- line that was found last is within them. None were searched while something may stand before the line.
+-- The scanner may be called with these bytes: its place is among them, the searched bytes contain no line ending, and
+-- the line that was found last is within them. While something may come before the line, no byte is searched.
 pub record Fits (s : Scanner) (held : List ℕ) : Type 0 where
   pub within : s.at ≤ length held
   pub searched : IsSearched (encoding_of s.encoding) (drop s.at held) s.searched
@@ -66,20 +66,22 @@ pub record Fits (s : Scanner) (held : List ℕ) : Type 0 where
 
 -- ---- what comes
 
--- After the bytes that are held any others may come, and any ending; where they were the last, nothing, and the input ends.
+-- Any bytes and any ending may come after the bytes that are held; or, if these were the last, nothing comes, and the
+-- input ends.
 abbrev pub MayCome : Bool → List ℕ → InputEnd → Type 0
 MayCome false d ending = Unit {0}
 MayCome true d ending = (d ≡ []) × (ending ≡ end)
 
--- Whatever may come, the reader first gives these lines, and after them what it gives from there.
+-- Whatever may come, the reader first gives these lines, and after them what the new state gives.
 pub record Comes (ended : Bool) (old : ReaderState) (lines : List format.Line) (new : ReaderState) : Type 0 where
   pub gives : (d : List ℕ) (ending : InputEnd) → MayCome ended d ending → Gives old d lines new d ending
 
--- an LF at the front, as what belongs to a CR before it, is left out
+-- the bytes without an LF at the front, which belongs to a CR before it
 abbrev pub without_feed : Encoding → List ℕ → List ℕ
 without_feed e d = if begins_with_lf (units e d) then drop (unit_size e) d else d
 
--- the encoding in force where nothing else comes, and the bytes after a byte order mark, or after an LF of the line end before
+-- the encoding in force if nothing else comes, and the bytes after a byte order mark, or after an LF of the line ending
+-- before
 abbrev pub front_of : ReaderState → InForce
 front_of s =
     if s.is_decided then record { encoding = s.encoding; body = if s.after_cr then without_feed s.encoding s.held else s.held }
@@ -87,24 +89,25 @@ front_of s =
 
 -- ---- a line
 
--- What is known of a line: whether it is ASCII characters of one byte each, and whether it holds a backslash's byte.
+-- What is known of a line: whether it consists of ASCII characters of one byte each, and whether one of its bytes is
+-- the byte of a backslash.
 pub record IsTold (e : Encoding) (bytes : List ℕ) (line : RawLine) : Type 0 where
   pub ascii : (line.is_ascii ≡ true) ↔ (unit_size e ≡ 1) × IsAscii bytes
   pub backslash : line.has_backslash ≡ holds_backslash bytes
 
--- its bytes, where there is one
+-- the bytes of a line ending, if there is one
 abbrev pub ending_bytes : Encoding → Option text.LineEnding → List ℕ
 ending_bytes e None = []
 ending_bytes e (Some by) = line_ending_bytes e by
 
--- where a line ending is held whole, as far as the bytes after it tell: no LF stands after a CR
+-- when a line ending is complete, as far as the bytes after it show: no LF comes after a CR
 abbrev pub EndsWhole : Encoding → Option text.LineEnding → List ℕ → Type 0
 EndsWhole e None rest = rest ≡ []
 EndsWhole e (Some text.lf) rest = Unit {0}
 EndsWhole e (Some text.crlf) rest = Unit {0}
 EndsWhole e (Some text.cr) rest = begins_with_lf (units e rest) ≡ false
 
--- The bytes that are held from the line's start on are cut into the line, its line ending and a rest, which begins at
+-- The bytes that are held from the line's start on consist of the line, its line ending and a rest, which begins at
 -- this place.
 pub record IsCutOff (e : Encoding) (held : List ℕ) (line : RawLine) (next : ℕ) : Type 0 where
   pub ending : Option text.LineEnding
@@ -114,13 +117,13 @@ pub record IsCutOff (e : Encoding) (held : List ℕ) (line : RawLine) (next : �
   pub none : HoldsNoLineEndUnit e (bytes_of held line)
   pub whole : EndsWhole e ending (drop next held)
 
--- the line that a scanner found last, decoded, under its number
+-- the line that a scanner found last, decoded, with its number
 abbrev pub line_of : List ℕ → Scanner → format.Line
 line_of held s = record { number = s.passed; text = decoded_line (encoding_of s.encoding) (bytes_of held s.line) }
 
--- ---- what a call gives
+-- ---- the result of a call
 
--- A line comes, and then what comes from the place after it on.
+-- A line was found, and what comes from the place after it on follows.
 pub record GivesLine (old : Scanner) (held : List ℕ) (ended : Bool) (new : Scanner) : Type 0 where
   pub live : old.is_done ≡ false
   pub number : new.passed ≡ old.passed + 1
@@ -134,9 +137,9 @@ pub record GivesLine (old : Scanner) (held : List ℕ) (ended : Bool) (new : Sca
   pub fits : Fits new held
   pub told : IsTold (encoding_of new.encoding) (bytes_of held new.line) new.line
 
--- No line end is held, so that no line comes before more bytes do; and with those what comes stays the same. The scanner
--- stays at its place, unless it passed what stands before the line. All that is held was searched, unless something may
--- stand there still.
+-- No line ending is held, so no line comes until more bytes do. What comes with them stays the same. The scanner keeps
+-- its place, unless it skipped what comes before the line. All bytes that are held were searched, unless something may
+-- still come before the line.
 pub record AsksForMore (old : Scanner) (held : List ℕ) (new : Scanner) : Type 0 where
   pub live : old.is_done ≡ false
   pub numbered : old.passed + 1 < 2 ^ 64
@@ -149,16 +152,17 @@ pub record AsksForMore (old : Scanner) (held : List ℕ) (new : Scanner) : Type 
   pub fits : Fits new held
   pub saw : new.front ≡ Nothing → new.searched ≡ whole_units (encoding_of new.encoding) (length (drop new.at held))
 
--- What a call gives. More bytes are asked for only where others may come.
+-- The result of a call. More bytes are requested only if more may come.
 abbrev pub Scans : Scanner → List ℕ → Bool → Scan → Scanner → Type 0
 Scans old held ended Line new = GivesLine old held ended new
 Scans old held ended More new = (ended ≡ false) × AsksForMore old held new
 Scans old held ended End new = (old.is_done ≡ true) × (new ≡ old)
 Scans old held ended TooMany new = (old.is_done ≡ false) × (old.passed + 1 ≡ 2 ^ 64) × (new ≡ old)
 
--- ---- what may stand before a line
+-- ---- what may come before a line
 
--- It is passed; or more bytes decide whether it is there, and no line end is held.
+-- What may come before the line was skipped; or more bytes are needed to decide whether it is there, and no line ending
+-- is held.
 pub record IsAlike (old : Scanner) (held : List ℕ) (ended : Bool) (new : Scanner) : Type 0 where
   pub comes : Comes ended (standing old held) [] (standing new held)
   pub same : new ≡ record old { encoding = new.encoding; front = Nothing; at = new.at }
@@ -169,12 +173,12 @@ abbrev pub Settles : Scanner → List ℕ → Bool → Bool → Scanner → Type
 Settles old held ended true new = IsAlike old held ended new
 Settles old held ended false new = (ended ≡ false) × (new ≡ old) × (natural_to_come (standing old held) [] more ≡ []) × (old.front ≢ Nothing)
 
--- how many bytes an LF at the front has, or none where others stand there
+-- the size of an LF at the front, or 0 if there is none
 abbrev pub feed_size : Encoding → List ℕ → ℕ
 feed_size e d = if begins_with_lf (units e d) then unit_size e else 0
 
--- An LF, which belongs to the CR before, is passed where it is there; or more bytes decide whether it comes, and the scanner
--- waits for it.
+-- An LF that belongs to the CR before it was skipped if it is there; or more bytes are needed to decide, and the
+-- scanner waits for them.
 abbrev pub PassesFeed : Scanner → List ℕ → Bool → Bool → Scanner → Type 0
 PassesFeed old held ended true new =
     (ended ≡ false → unit_size (encoding_of old.encoding) ≤ length (drop old.at held))
@@ -184,19 +188,19 @@ PassesFeed old held ended false new =
 
 -- ---- the search
 
--- A line may be sought: the scan goes on, there is a number for the line, and nothing stands before it.
+-- A line may be searched for: the scan hasn't ended, there is a number for the line, and nothing may come before it.
 pub record IsReady (s : Scanner) (held : List ℕ) : Type 0 where
   pub fits : Fits s held
   pub live : s.is_done ≡ false
   pub numbered : s.passed + 1 < 2 ^ 64
   pub settled : s.front ≡ Nothing
 
--- It is sought from its first byte on, and a unit is one byte.
+-- The search begins at the line's first byte, and units are one byte long.
 pub record IsFresh (s : Scanner) : Type 0 where
   pub size : unit_size (encoding_of s.encoding) ≡ 1
   pub nothing : s.searched ≡ 0
 
--- A line was taken up to its line end.
+-- A line was taken up to its line ending.
 pub record TakesLine (old : Scanner) (held : List ℕ) (new : Scanner) : Type 0 where
   pub comes : ReadsLines (standing old held) [] (line_of held new ∷ []) (standing new held)
   pub cut : IsCutOff (encoding_of old.encoding) held new.line new.at
@@ -208,7 +212,7 @@ pub record TakesLine (old : Scanner) (held : List ℕ) (new : Scanner) : Type 0 
   pub fits : Fits new held
   pub told : IsTold (encoding_of old.encoding) (bytes_of held new.line) new.line
 
--- No line end is held, and all was searched.
+-- No line ending is held, and all whole units were searched.
 pub record LacksEnd (old : Scanner) (held : List ℕ) (new : Scanner) : Type 0 where
   pub none : HoldsNoLineEndUnit (encoding_of old.encoding) (drop old.at held)
   pub same : new ≡ record old { searched = whole_units (encoding_of old.encoding) (length (drop old.at held)) }
@@ -224,19 +228,19 @@ pub record TakesLast (old : Scanner) (held : List ℕ) (new : Scanner) : Type 0 
   pub ends : new.line.end ≡ length held
   pub told : IsTold (encoding_of old.encoding) (drop old.at held) new.line
 
--- No byte before this place passes the test; and whether they are ASCII.
+-- No byte before this place passes the test, and `is_ascii` says whether these bytes are ASCII.
 pub record IsBefore (test : ℕ → Bool) (bytes : List ℕ) (at : ℕ) (is_ascii : Bool) : Type 0 where
   pub within : at ≤ length bytes
   pub clear : All (λ b. test b ≡ false) (take at bytes)
   pub ascii : (is_ascii ≡ true) ↔ All (λ b. b < 0x80) (take at bytes)
 
--- The first byte that passes the test stands at this place, and whether those before it are ASCII; or none stands before this
--- place.
+-- The first byte that passes the test is at this place, and the result says whether those before it are ASCII; or no
+-- byte before this place passes it.
 abbrev pub FindsByte : (ℕ → Bool) → List ℕ → Result (ℕ × Bool) ℕ → Type 0
 FindsByte test bytes (Ok found) = IsBefore test bytes found.0 found.1 × (found.0 < length bytes) × (test (get_or bytes found.0 0) ≡ true)
 FindsByte test bytes (Err searched) = (searched ≤ length bytes) × All (λ b. test b ≡ false) (take searched bytes)
 
--- more bytes decide whether a byte order mark is there
+-- whether more bytes are needed to decide if there is a byte order mark
 abbrev pub is_undecided : ByteOrderMark → Bool
 is_undecided (Present encoding length) = false
 is_undecided Absent = false

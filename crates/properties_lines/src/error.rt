@@ -1,4 +1,4 @@
-// Why no line comes.
+// Why the next line can't be returned.
 
 ghost use Rattle.std.specs.Prelude.{◌≡◌};
 ghost use Rattle.properties_lines.specs.declared.error.LineError.TheVariants.{Memory};
@@ -6,12 +6,12 @@ ghost use Rattle.properties_lines.specs.declared.error.LineError.TheVariants.{Me
 use std::alloc::AllocError;
 use std::io;
 
-/// Why no line comes.
+/// Why the next line can't be returned.
 #[derive(Debug, Drop)]
 pub enum LineError {
-    /// A read failed in the line of this number.
+    /// A read failed in the line with this number.
     Io(usize, io::Error),
-    /// A line has no number, since `usize::MAX` lines stand before it.
+    /// A line has no number, because `usize::MAX` lines come before it.
     TooManyLines,
     /// Memory ran out.
     Memory,

@@ -9,13 +9,13 @@ use std::alloc::{AllocError, Global};
 use std::io;
 use std::marker::Model;
 
-// How many bytes the buffer grows by.
+// The number of bytes by which the buffer grows.
 const ROOM: usize = 1 << 16;
 
-/// The bytes that were read and are still held, in one buffer that grows where they fill it.
+/// The bytes that were read and are still held, in one buffer that grows when they fill it.
 #[derive(Drop)]
 pub struct InputBuffer {
-    // The bytes up to `filled` are held. The others are room.
+    // The bytes up to `filled` are held. The others are free space.
     bytes: Vec<u8>,
     filled: usize,
 }
@@ -29,7 +29,7 @@ impl Model for InputBuffer {
 }
 
 impl InputBuffer {
-    /// No bytes. It takes no memory yet.
+    /// Returns a buffer without bytes. Allocates nothing.
     pub fn new(alloc: Global) -> InputBuffer
         ensures { result.held ≡ [] }
     {
@@ -39,7 +39,7 @@ impl InputBuffer {
         }
     }
 
-    /// The bytes that are held.
+    /// Returns the bytes that are held.
     #[inline(always)]
     pub fn held(&self) -> &[u8]
         ensures { result.now ≡ self.now.held }
@@ -47,9 +47,10 @@ impl InputBuffer {
         &self.bytes[..self.filled]
     }
 
-    /// Makes room for a read, and returns how many bytes at the front were let go: none, or all that may go.
+    /// Makes room for a read. The first `count` bytes may be released. Returns how many were: 0 or `count`.
     ///
-    /// Bytes move down only where at least half of the buffer may go, so that each moves once on average.
+    /// The bytes move down only if more than half of the buffer can be released, so that each byte moves once on
+    /// average.
     pub fn make_room(&mut self, count: usize) -> Result<usize, AllocError>
         requires { count ≤ length self.old.held }
         ensures { MakesRoom count self.old result self.new }
@@ -61,13 +62,14 @@ impl InputBuffer {
             self.move_down(count);
             return Ok(count);
         }
-        // The vector's capacity doubles all the same. Only what is read next is cleared.
+        // The vector's capacity still doubles. Only the space of the next read is cleared.
         let size = self.bytes.len().saturating_add(ROOM);
         self.bytes.resize(size, 0)?;
         Ok(0)
     }
 
-    /// One read, whose bytes are held after the others. Where it gives none the reader is at its end.
+    /// Reads once, and holds the bytes after those that are already held. If a read returns none, the reader is at its
+    /// end.
     pub fn fill<R: CountedRead>(&mut self, reader: &mut R) -> io::Result<usize>
         requires { 0 < self.old.room }
         ensures fills { Fills R.CountedRead self.old.held reader.old result self.new.held reader.new }
@@ -78,7 +80,7 @@ impl InputBuffer {
         Ok(count)
     }
 
-    // Lets go of so many bytes at the front.
+    // Releases the first `count` bytes.
     fn move_down(&mut self, count: usize)
         requires { count ≤ length self.old.held }
         ensures held { self.new.held ≡ drop count self.old.held }
@@ -89,7 +91,7 @@ impl InputBuffer {
     }
 }
 
-// One read into the bytes from this place on.
+// Reads once, into the bytes from this position on.
 fn read_at<R: CountedRead>(bytes: &mut [u8], place: usize, reader: &mut R) -> io::Result<usize>
     requires { place < length bytes.old }
     ensures reads { ReadsAt R.CountedRead place bytes.old reader.old result bytes.new reader.new }

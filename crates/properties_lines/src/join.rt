@@ -1,4 +1,4 @@
-// How natural lines are joined. Blanks, comment signs and backslashes are ASCII, so a line is looked at by its bytes.
+// How natural lines are joined. Blanks, comment signs and backslashes are ASCII, so lines are examined by their bytes.
 
 ghost use Rattle.std.specs.Prelude.{◌≡◌};
 ghost use Rattle.std.specs.Str.{chars};
@@ -9,7 +9,7 @@ use properties_text::characters::is_comment_sign;
 use properties_text::escape::count_ending_backslashes;
 use properties_text::parse::leading_blanks;
 
-/// Whether the first character that is no blank is a comment sign.
+/// Returns whether the first character that isn't a blank is a comment sign.
 pub fn is_comment_line(text: &str) -> bool
     ensures { result ≡ is_comment_line (chars text.now) }
 {
@@ -20,14 +20,14 @@ pub fn is_comment_line(text: &str) -> bool
     }
 }
 
-/// Whether the last of the backslashes that a line ends in stands for itself, so that the next line goes on with it.
+/// Returns whether the line ends in an odd number of backslashes, of which the last one leaves it open.
 pub fn is_open(text: &str) -> bool
     ensures { result ≡ is_open (chars text.now) }
 {
     count_ending_backslashes(text) % 2 == 1
 }
 
-/// The line without the backslash that opens it, where it is open.
+/// Returns the line without the backslash that leaves it open, if there is one.
 pub fn without_open_backslash(text: &str) -> &str
     ensures { chars result.now ≡ without_open_backslash (chars text.now) }
 {
@@ -38,7 +38,7 @@ pub fn without_open_backslash(text: &str) -> &str
     }
 }
 
-/// What a line adds to an open one before it.
+/// Returns what a line adds to an open line before it.
 pub fn addition(text: &str) -> &str
     ensures { chars result.now ≡ addition (chars text.now) }
 {

@@ -1,4 +1,4 @@
-// Natural lines, joined to logical ones.
+// Joins natural lines into logical lines.
 
 ghost use Rattle.std.specs.Prelude.{◌≡◌, ◌<◌, ◌≤◌, ◌^◌, false, true, None, [], OnSome};
 ghost use Rattle.std.specs.Option.{is_some};
@@ -18,14 +18,14 @@ use properties_text::encoding::Encoding;
 use std::alloc::Global;
 use std::marker::Model;
 
-/// Joins the natural lines of an input to its logical lines, one after another.
+/// Joins the natural lines of an input into its logical lines, one after another.
 ///
-/// A logical line of one natural line is lent from the input, where its bytes are its text. Why no line came is kept until
-/// [`take_error`](LineJoiner::take_error) takes it.
+/// A logical line of one natural line is borrowed from the input if its bytes are its text. An error is kept until
+/// [`take_error`](LineJoiner::take_error) returns it.
 #[derive(Drop)]
 pub struct LineJoiner {
     lines: LineReader,
-    // The logical line that came last, over the bytes of the natural line that was found last.
+    // The logical line that was joined last, over the bytes of the natural line that was found last.
     line: LogicalLine,
     has_backslash: bool,
 }
@@ -43,7 +43,7 @@ impl Model for LineJoiner {
 }
 
 impl LineJoiner {
-    /// At the start of an input. It takes no memory yet.
+    /// Starts at the beginning of an input. Allocates nothing.
     pub fn new(alloc: Global, encoding: Encoding) -> LineJoiner
         ensures at { result.at ≡ record { state = start (encoding_of encoding); line = [] } }
         ensures error { result.error ≡ None }
@@ -55,7 +55,7 @@ impl LineJoiner {
         }
     }
 
-    /// The logical line that came last.
+    /// Returns the logical line that was joined last.
     #[inline(always)]
     pub fn line(&self) -> &str
         ensures { result.now ≡ self.now.at.line }
@@ -63,7 +63,7 @@ impl LineJoiner {
         self.line.as_str(self.lines.line())
     }
 
-    /// Whether that line may hold a backslash: it does, or its first natural line did.
+    /// Returns whether that line may contain a backslash: it does, or its first natural line did.
     #[inline(always)]
     pub fn has_backslash(&self) -> bool
         ensures { result ≡ self.now.has_backslash }
@@ -71,15 +71,16 @@ impl LineJoiner {
         self.has_backslash
     }
 
-    /// Ends the reading for good.
+    /// Ends the reading permanently.
     pub fn end(&mut self)
         ensures state { self.new.at ≡ record self.old.at { state = record self.old.at.state { is_done = true } } }
+        ensures backslash { self.new.has_backslash ≡ self.old.has_backslash }
         ensures error { self.new.error ≡ self.old.error }
     {
         self.lines.end();
     }
 
-    /// Why no line came, where it isn't for the end of the input. It is taken once.
+    /// Returns the error that ended the reading, if there is one and it wasn't returned before.
     pub fn take_error(&mut self) -> Option<LineError>
         ensures error { result ≡ self.old.error }
         ensures taken { self.new ≡ record self.old { error = None } }
@@ -87,8 +88,8 @@ impl LineJoiner {
         self.lines.take_error()
     }
 
-    /// Comes to the next logical line, and returns the number of its first natural line. Where there is none, the reading
-    /// has ended for good.
+    /// Advances to the next logical line and returns the number of its first natural line. If it returns `None`, the
+    /// reading has ended permanently.
     #[inline(always)]
     pub fn next_line<R: CountedRead>(&mut self, reader: &mut R) -> Option<usize>
         ensures joins { Joins R.CountedRead self.old reader.old result self.new reader.new }
@@ -109,7 +110,7 @@ impl LineJoiner {
     }
 }
 
-// Makes the natural line that was found a logical one, to which those that go on with it are joined.
+// Makes the natural line that was found a logical line, and joins the lines that continue it.
 #[inline(never)]
 fn read_rest<R: CountedRead>(
     lines: &mut LineReader,
@@ -144,7 +145,8 @@ fn read_rest<R: CountedRead>(
     }
 }
 
-// Joins the lines after an open one to it, up to one that isn't open, or to the end of the input.
+// Joins the following lines to an open line, up to and including the first one that isn't open, or up to the end of the
+// input. Returns `false` if it fails.
 fn join_lines<R: CountedRead>(
     lines: &mut LineReader,
     line: &mut LogicalLine,

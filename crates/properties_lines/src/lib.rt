@@ -1,9 +1,10 @@
-//! The lines of properties files: from a reader's bytes to logical lines under their numbers.
+//! The lines of properties files: from a reader's bytes to numbered logical lines.
 //!
-//! [`Scanner`](scanner::Scanner) finds the natural lines among bytes that are held, undecoded.
-//! [`LogicalLine`](logical::LogicalLine) joins those that a backslash leaves open, and decodes a line only where its bytes
-//! aren't its text. Whoever holds all bytes uses these two. Over a reader, [`LineReader`](reader::LineReader) and
-//! [`LineJoiner`](joiner::LineJoiner) do; why no line comes is a [`LineError`](error::LineError).
+//! [`Scanner`](scanner::Scanner) finds the natural lines among undecoded bytes that are held in memory.
+//! [`LogicalLine`](logical::LogicalLine) joins the lines that a backslash leaves open, and decodes a line only if its
+//! bytes aren't its text. Use these two if you hold all the bytes. Over a reader, use
+//! [`LineReader`](reader::LineReader) and [`LineJoiner`](joiner::LineJoiner). A [`LineError`](error::LineError) says
+//! why the next line can't be returned.
 #![tactic(auto)]
 
 pub mod error;

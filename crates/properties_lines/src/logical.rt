@@ -1,11 +1,12 @@
-//! The text of a logical line: the bytes of its only natural line where they are text, and else what that line is decoded
-//! to, or what several lines are joined to.
+//! The text of a logical line: the bytes of its only natural line if they are its text, otherwise the decoded text of
+//! that line or the joined text of several lines.
 
-ghost use Rattle.std.specs.Prelude.{◌≡◌, [], false, true, OnErr, OnOk};
+ghost use Rattle.std.specs.Prelude.{◌≡◌, [], false, true, Ok, OnErr, OnOk};
 ghost use Rattle.std.specs.Str.{IsUtf8, chars};
 ghost use Rattle.properties_format.specs.Groups.{without_open_backslash};
 ghost use Rattle.properties_format.specs.Reading.Cut.{decoded_line};
 ghost use Rattle.properties_text.specs.Encoding.{encoding_of};
+ghost use Rattle.properties_text.specs.Decoding.{IsText};
 ghost use Rattle.properties_text.specs.Escaping.{holds_backslash};
 ghost use Rattle.properties_lines.specs.LogicalLine.{KeepsText, AddsLine, AddsText, Begins, Opens, text_with, IsAsciiLine};
 
@@ -13,18 +14,19 @@ use crate::join::{addition, is_comment_line, is_open, without_open_backslash};
 use properties_text::encoding::{Encoding, TextBuffer, as_text};
 use std::alloc::{AllocError, Global};
 
-/// The text of a logical line. It is passed the bytes of the line's first natural line at each call.
+/// The text of a logical line. If the bytes of its only natural line are its text, it keeps no text: the bytes are
+/// passed to [`as_str`](LogicalLine::as_str).
 #[derive(Drop)]
 pub struct LogicalLine {
-    // The text, where the bytes aren't it.
+    // The text, if it isn't the bytes of the natural line.
     text: TextBuffer,
     is_kept: bool,
-    // Where the lines after an open one are decoded.
+    // The buffer in which the lines after an open line are decoded.
     decoded: TextBuffer,
 }
 
 impl LogicalLine {
-    /// No text. It takes no memory yet.
+    /// Returns an empty text. Allocates nothing.
     pub fn new(alloc: Global) -> LogicalLine
         ensures text { result.text ≡ [] }
         ensures kept { result.is_kept ≡ true }
@@ -36,7 +38,7 @@ impl LogicalLine {
         }
     }
 
-    /// The text.
+    /// Returns the text: the kept text, or `bytes` if none is kept.
     #[inline(always)]
     pub fn as_str<'a>(&'a self, bytes: &'a [u8]) -> &'a str
         requires { self.now.is_kept ≡ false → IsUtf8 bytes.now }
@@ -45,12 +47,12 @@ impl LogicalLine {
         if self.is_kept {
             self.text.as_str()
         } else {
-            // SAFETY: where no text is kept, the bytes are text.
+            // SAFETY: if no text is kept, the bytes are UTF-8.
             unsafe { str::from_utf8_unchecked(bytes) }
         }
     }
 
-    /// Makes it the line whose bytes are its text.
+    /// Makes this a line whose bytes are its text.
     #[inline(always)]
     pub fn lend(&mut self)
         ensures { self.new ≡ record self.old { is_kept = false } }
@@ -58,9 +60,10 @@ impl LogicalLine {
         self.is_kept = false;
     }
 
-    /// Makes it the line of these bytes, and returns whether the next line is joined to it.
+    /// Makes this the line with these bytes, and returns whether the next line is joined to it.
     ///
-    /// Where it is, the backslash that says so is taken off. `is_ascii` and `has_backslash` are what is known of the bytes.
+    /// If so, the backslash that leaves it open is removed. `is_ascii` and `has_backslash` say what is known about the
+    /// bytes.
     pub fn begin(
         &mut self,
         encoding: Encoding,
@@ -71,6 +74,7 @@ impl LogicalLine {
         requires ascii { is_ascii ≡ true → IsAsciiLine (encoding_of encoding) bytes.now }
         requires backslash { has_backslash ≡ false → holds_backslash bytes.now ≡ false }
         ensures begins { Begins (encoding_of encoding) bytes.now result self.new }
+        ensures needed { result ≡ Ok false → self.new.is_kept ≡ true → ¬ (IsText (encoding_of encoding) bytes.now) }
         ensures lacks { OnErr result (self.new.is_kept ≡ true) }
     {
         self.keep(encoding, is_ascii, bytes)?;
@@ -80,7 +84,7 @@ impl LogicalLine {
         self.open(bytes)
     }
 
-    /// Joins the line of these bytes to it, and returns whether the next line is joined too.
+    /// Joins the line with these bytes to this one, and returns whether the next line is joined too.
     pub fn join(
         &mut self,
         encoding: Encoding,
@@ -92,7 +96,7 @@ impl LogicalLine {
         ensures same { self.new.is_kept ≡ self.old.is_kept }
     {
         if is_ascii {
-            // SAFETY: ASCII is text.
+            // SAFETY: ASCII is UTF-8.
             return self.add(unsafe { str::from_utf8_unchecked(bytes) });
         }
         if let Some(line) = as_text(encoding, bytes) {
@@ -104,7 +108,7 @@ impl LogicalLine {
         Ok(is_open(self.decoded.as_str()))
     }
 
-    // Joins a text to it.
+    // Joins a decoded line to this one, and returns whether the next line is joined too.
     fn add(&mut self, line: &str) -> Result<bool, AllocError>
         ensures adds { AddsText (chars line.now) (chars self.old.text) result (chars self.new.text) }
         ensures same { self.new.is_kept ≡ self.old.is_kept }
@@ -117,9 +121,10 @@ impl LogicalLine {
     fn keep(&mut self, encoding: Encoding, is_ascii: bool, bytes: &[u8]) -> Result<(), AllocError>
         requires { is_ascii ≡ true → IsAsciiLine (encoding_of encoding) bytes.now }
         ensures keeps { OnOk result (KeepsText (encoding_of encoding) bytes.now self.new.is_kept self.new.text) }
+        ensures needed { self.new.is_kept ≡ true → ¬ (IsText (encoding_of encoding) bytes.now) }
         ensures lacks { OnErr result (self.new.is_kept ≡ true) }
     {
-        self.is_kept = !is_ascii && !is_utf_8(encoding, bytes);
+        self.is_kept = !is_ascii && as_text(encoding, bytes).is_none();
         if self.is_kept {
             self.text.clear();
             self.text.push_decoded(encoding, bytes)?;
@@ -127,7 +132,7 @@ impl LogicalLine {
         Ok(())
     }
 
-    // Takes off the backslash that opens the line, and returns whether one does.
+    // Removes the backslash that leaves the line open, and returns whether there was one.
     fn open(&mut self, bytes: &[u8]) -> Result<bool, AllocError>
         requires { self.old.is_kept ≡ false → IsUtf8 bytes.now }
         ensures opens { Opens bytes.now self.old result self.new }
@@ -143,28 +148,18 @@ impl LogicalLine {
         }
         self.is_kept = true;
         self.text.clear();
-        // SAFETY: no text was kept, so the bytes are text.
+        // SAFETY: no text was kept, so the bytes are UTF-8.
         let line = unsafe { str::from_utf8_unchecked(bytes) };
         self.text.push_text(without_open_backslash(line))?;
         Ok(true)
     }
 
-    // Takes off the backslash that opens the text that is kept.
+    // Removes the backslash that leaves the kept text open.
     fn close(&mut self)
         ensures closes { chars self.new.text ≡ without_open_backslash (chars self.old.text) }
         ensures same { self.new.is_kept ≡ self.old.is_kept }
     {
         let length = without_open_backslash(self.text.as_str()).len();
         self.text.truncate(length);
-    }
-}
-
-// Whether bytes are text in UTF-8, where that is their encoding.
-fn is_utf_8(encoding: Encoding, bytes: &[u8]) -> bool
-    ensures { result ≡ true → IsUtf8 bytes.now × (chars bytes.now ≡ decoded_line (encoding_of encoding) bytes.now) }
-{
-    match encoding {
-        Encoding::UTF_8 => as_text(encoding, bytes).is_some(),
-        Encoding::WINDOWS_1252 | Encoding::UTF_16LE | Encoding::UTF_16BE => false,
     }
 }

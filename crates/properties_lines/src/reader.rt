@@ -1,4 +1,4 @@
-//! The natural lines of a reader, one after another, as bytes that are not decoded yet.
+//! The natural lines of a reader, one after another, as undecoded bytes.
 
 ghost use Rattle.std.specs.Prelude.{◌≡◌, ◌+◌, ◌<◌, ◌^◌, None, Some, true, []};
 ghost use Rattle.std.specs.Option.{is_some};
@@ -16,20 +16,20 @@ use std::alloc::Global;
 use std::marker::Model;
 use std::mem;
 
-// What a read gave.
+// The result of a read.
 #[derive(Clone, Copy)]
 enum Read {
     // More bytes.
     Bytes,
-    // None, since the input ended.
+    // No bytes, because the input ended.
     End,
     // An error, which is kept.
     Failed,
 }
 
-/// Reads the natural lines of an input, one after another. It is passed its reader at each call.
+/// Reads the natural lines of an input, one after another. The reader is passed to each call that reads.
 ///
-/// Why no line came is kept until [`take_error`](LineReader::take_error) takes it.
+/// An error is kept until [`take_error`](LineReader::take_error) returns it.
 #[derive(Drop)]
 pub struct LineReader {
     input: InputBuffer,
@@ -57,7 +57,7 @@ impl Model for LineReader {
 }
 
 impl LineReader {
-    /// At the start of an input. It takes no memory yet.
+    /// Starts at the beginning of an input. Allocates nothing.
     pub fn new(alloc: Global, encoding: Encoding) -> LineReader
         ensures state { result.state ≡ start (encoding_of encoding) }
         ensures line { result.line ≡ [] }
@@ -70,7 +70,7 @@ impl LineReader {
         }
     }
 
-    /// The bytes of the line that was found last, without its line end.
+    /// Returns the bytes of the line that was found last, without its line ending.
     #[inline(always)]
     pub fn line(&self) -> &[u8]
         ensures { result.now ≡ self.now.line }
@@ -79,7 +79,7 @@ impl LineReader {
         &self.input.held()[line.start..line.end]
     }
 
-    /// Whether that line is ASCII characters of one byte each.
+    /// Returns whether that line consists of ASCII characters of one byte each.
     #[inline(always)]
     pub fn is_ascii(&self) -> bool
         ensures { result ≡ self.now.is_ascii }
@@ -87,7 +87,7 @@ impl LineReader {
         self.scanner.line().is_ascii
     }
 
-    /// Whether one of its bytes is a backslash's.
+    /// Returns whether one of that line's bytes is the byte of a backslash.
     #[inline(always)]
     pub fn has_backslash(&self) -> bool
         ensures { result ≡ self.now.has_backslash }
@@ -95,7 +95,7 @@ impl LineReader {
         self.scanner.line().has_backslash
     }
 
-    /// The number of that line, or 0 before the first.
+    /// Returns the number of that line, or 0 before the first line.
     #[inline(always)]
     pub fn number(&self) -> usize
         ensures { result ≡ self.now.state.passed }
@@ -103,7 +103,7 @@ impl LineReader {
         self.scanner.number()
     }
 
-    /// The encoding of that line, or the one asked for while it isn't decided.
+    /// Returns the encoding of that line, or the requested encoding while it isn't decided.
     #[inline(always)]
     pub fn encoding(&self) -> Encoding
         ensures { encoding_of result ≡ self.now.state.encoding }
@@ -111,7 +111,7 @@ impl LineReader {
         self.scanner.encoding()
     }
 
-    // Counts on from so many lines, so that a test comes to the last number.
+    // Sets the number of lines found, so that a test can reach the last number.
     #[cfg(test)]
     fn count_from(&mut self, passed: usize)
         ensures { self.new ≡ record self.old { state = record self.old.state { passed = passed } } }
@@ -119,14 +119,14 @@ impl LineReader {
         self.scanner.count_from(passed);
     }
 
-    /// Ends the reading for good.
+    /// Ends the reading permanently.
     pub fn end(&mut self)
         ensures { self.new ≡ record self.old { state = record self.old.state { is_done = true } } }
     {
         self.scanner.end();
     }
 
-    /// Ends the reading for good, and keeps why.
+    /// Ends the reading permanently, and keeps this error.
     #[inline(never)]
     pub fn fail(&mut self, error: LineError)
         ensures { self.new ≡ record self.old { state = record self.old.state { is_done = true }; error = Some error } }
@@ -135,7 +135,7 @@ impl LineReader {
         self.error = Some(error);
     }
 
-    /// Why no line came, where it isn't for the end of the input. It is taken once.
+    /// Returns the error that ended the reading, if there is one and it wasn't returned before.
     pub fn take_error(&mut self) -> Option<LineError>
         ensures error { result ≡ self.old.error }
         ensures taken { self.new ≡ record self.old { error = None } }
@@ -143,16 +143,16 @@ impl LineReader {
         mem::replace(&mut self.error, None)
     }
 
-    /// Whether such an error is kept.
+    /// Returns whether an error is kept.
     pub fn has_failed(&self) -> bool
         ensures { result ≡ is_some self.now.error }
     {
         self.error.is_some()
     }
 
-    /// Finds the next line, and returns whether there is one. Where there is none, the reading has ended for good.
+    /// Finds the next line and returns whether there is one. If there is none, the reading has ended permanently.
     ///
-    /// A line that a CR ends is found at once: an LF that comes next belongs to its end.
+    /// A line that ends in a CR is found at once: an LF that comes next belongs to the same line ending.
     #[inline(always)]
     pub fn find_line<R: CountedRead>(&mut self, reader: &mut R) -> bool
         ensures finds { Finds R.CountedRead self.old reader.old result self.new reader.new }
@@ -167,7 +167,7 @@ impl LineReader {
         }
     }
 
-    // Finds the next line, which may have to be read.
+    // Finds the next line, and reads if necessary.
     #[inline(never)]
     fn read_line<R: CountedRead>(&mut self, reader: &mut R) -> bool
         ensures finds { Finds R.CountedRead self.old reader.old result self.new reader.new }
@@ -193,7 +193,7 @@ impl LineReader {
         }
     }
 
-    // Looks for a line among the bytes that are held.
+    // Searches for a line among the bytes that are held.
     #[inline(always)]
     fn scan(&mut self, ended: bool) -> Scan
         ensures { ScansHeld self.old ended result self.new }

@@ -1,4 +1,4 @@
-//! Natural lines among bytes that the caller holds. It reads nothing, takes no memory and can't fail.
+//! Finds natural lines among bytes that the caller holds. It reads nothing, allocates nothing and can't fail.
 
 ghost use Rattle.std.specs.Prelude.{List, ℕ, ◌≡◌, ◌↔◌, ◌+◌, ◌-◌, ◌<◌, ◌≤◌, ◌^◌, true, false, [], length, take, drop, get_or, IfOk};
 ghost use Rattle.std.specs.Str.{IsAscii};
@@ -22,25 +22,25 @@ use properties_text::encoding::Encoding;
 use properties_text::encoding::byte_order_mark::{ByteOrderMark, byte_order_mark};
 use std::simd::prelude::*;
 
-/// What comes next.
+/// The result of a scan.
 #[derive(Clone, Copy)]
 pub enum Scan {
-    /// A line, which [`line`](Scanner::line) tells of.
+    /// A line, which [`line`](Scanner::line) describes.
     Line,
-    /// More bytes decide it: no line end is held.
+    /// More bytes are needed: no line ending is held.
     More,
-    /// Nothing: the last line was given.
+    /// No line: the scan has ended.
     End,
-    /// A line for which there is no number.
+    /// A line without a number, because `usize::MAX` lines come before it.
     TooMany,
 }
 
-/// What may stand before the next line.
+/// What may come before the next line.
 #[derive(Clone, Copy)]
 pub enum Front {
     /// A byte order mark, at the start of an input.
     Mark,
-    /// An LF that is of the line end before, which is a CR.
+    /// An LF that belongs to the line ending before it, which is a CR.
     Feed,
     /// Nothing.
     Nothing,
@@ -49,34 +49,34 @@ pub enum Front {
 /// A natural line among the bytes that are held.
 #[derive(Clone, Copy)]
 pub struct RawLine {
-    /// The place of its first byte.
+    /// The position of its first byte.
     pub start: usize,
-    /// The place after its last byte, where its line ending stands.
+    /// The position after its last byte, where its line ending begins.
     pub end: usize,
-    /// Whether its bytes are ASCII characters, one by one.
+    /// Whether it consists of ASCII characters of one byte each.
     pub is_ascii: bool,
-    /// Whether one of its bytes is a backslash's.
+    /// Whether one of its bytes is the byte of a backslash.
     pub has_backslash: bool,
 }
 
-/// Where a scan stands between two lines. It is passed the bytes that are held at each call.
+/// The state of a scan between two lines. The bytes that are held are passed to each call that needs them.
 #[derive(Clone, Copy)]
 pub struct Scanner {
-    // The encoding in force, or the one asked for while the byte order mark isn't decided.
+    // The encoding in force, or the requested one while the byte order mark isn't decided.
     encoding: Encoding,
     front: Front,
     is_done: bool,
     // The number of the line that was found last.
     passed: usize,
-    // The place after it, from which the scan goes on.
+    // The position after that line, where the scan continues.
     at: usize,
-    // How many bytes from there on are known to be whole units without a line end.
+    // How many bytes from there on are known to be whole units without a line ending.
     searched: usize,
     line: RawLine,
 }
 
 impl Scanner {
-    /// At the start of an input, where a byte order mark may stand.
+    /// Starts at the beginning of an input, where a byte order mark may be.
     pub fn new(encoding: Encoding) -> Scanner
         ensures stands { standing result [] ≡ start (encoding_of encoding) }
         ensures fits { Fits result [] }
@@ -99,7 +99,7 @@ impl Scanner {
         }
     }
 
-    /// After the byte order mark of an input in this encoding.
+    /// Starts after the byte order mark of an input in this encoding.
     pub fn in_body(encoding: Encoding) -> Scanner
         ensures stands { (held : List ℕ) → standing result held ≡ record (start (encoding_of encoding)) { is_decided = true; held = held } }
         ensures fits { (held : List ℕ) → Fits result held }
@@ -112,7 +112,7 @@ impl Scanner {
         }
     }
 
-    /// The encoding in force, or the one asked for while the byte order mark isn't decided.
+    /// Returns the encoding in force, or the requested one while the byte order mark isn't decided.
     #[inline(always)]
     pub fn encoding(&self) -> Encoding
         ensures { result ≡ self.now.encoding }
@@ -120,7 +120,7 @@ impl Scanner {
         self.encoding
     }
 
-    /// The line that was found last.
+    /// Returns the line that was found last.
     #[inline(always)]
     pub fn line(&self) -> &RawLine
         ensures { result.now ≡ self.now.line }
@@ -128,7 +128,7 @@ impl Scanner {
         &self.line
     }
 
-    /// The number of that line, or 0 before the first.
+    /// Returns the number of that line, or 0 before the first line.
     #[inline(always)]
     pub fn number(&self) -> usize
         ensures { result ≡ self.now.passed }
@@ -136,7 +136,7 @@ impl Scanner {
         self.passed
     }
 
-    /// The place after that line and its line ending, as far as this is held.
+    /// Returns the position after that line and its line ending, as far as the line ending is held.
     #[inline(always)]
     pub fn place(&self) -> usize
         ensures { result ≡ self.now.at }
@@ -144,7 +144,7 @@ impl Scanner {
         self.at
     }
 
-    // Counts on from so many lines, so that a test comes to the last number.
+    // Sets the number of lines found, so that a test can reach the last number.
     #[cfg(test)]
     pub(crate) fn count_from(&mut self, passed: usize)
         ensures { self.new ≡ record self.old { passed = passed } }
@@ -152,14 +152,14 @@ impl Scanner {
         self.passed = passed;
     }
 
-    /// Ends the scan for good.
+    /// Ends the scan permanently.
     pub fn end(&mut self)
         ensures { self.new ≡ record self.old { is_done = true } }
     {
         self.is_done = true;
     }
 
-    /// So many bytes at the front of those that are held are let go, and the last line with them.
+    /// Records that the first `count` bytes of those that are held are released, and the last line with them.
     pub fn let_go(&mut self, count: usize)
         requires { count ≤ self.old.at }
         ensures { self.new ≡ record self.old { at = self.old.at - count; line = record self.old.line { start = 0; end = 0 } } }
@@ -169,7 +169,7 @@ impl Scanner {
         self.line.end = 0;
     }
 
-    /// Finds the next line of the bytes that are held. `ended` says that no others come.
+    /// Finds the next line among the bytes that are held. `ended` says that no more bytes come.
     #[inline(always)]
     pub fn next(&mut self, held: &[u8], ended: bool) -> Scan
         requires { Fits self.old held.now }
@@ -194,7 +194,7 @@ impl Scanner {
         Scan::Line
     }
 
-    // Passes the byte order mark, or the LF of a CR before, unless more bytes decide it.
+    // Skips the byte order mark, or the LF after a CR. Returns `false` if more bytes are needed to decide.
     #[inline(always)]
     fn settle(&mut self, held: &[u8], ended: bool) -> bool
         requires fits { Fits self.old held.now }
@@ -237,7 +237,7 @@ impl Scanner {
         true
     }
 
-    // Passes the byte order mark, where there is one.
+    // Skips the byte order mark, if there is one.
     fn take_mark(&mut self, held: &[u8], mark: ByteOrderMark)
         requires fits { Fits self.old held.now }
         requires front { self.old.front ≡ Mark }
@@ -254,7 +254,8 @@ impl Scanner {
         self.front = Front::Nothing;
     }
 
-    // Passes the LF that belongs to a CR before, unless more bytes decide whether it comes.
+    // Skips the LF that belongs to the CR before it, if there is one. Returns `false` if more bytes are needed to
+    // decide.
     #[inline(always)]
     fn pass_feed(&mut self, held: &[u8], unit: usize, ended: bool) -> bool
         requires within { self.old.at ≤ length held.now }
@@ -272,7 +273,7 @@ impl Scanner {
         true
     }
 
-    // Searches for the end of the line, and takes the line up to it where it is held.
+    // Searches for the end of the line, and takes the line if its end is held. Returns whether it is.
     #[inline(always)]
     fn search(&mut self, held: &[u8]) -> bool
         requires { IsReady self.old held.now }
@@ -286,7 +287,7 @@ impl Scanner {
         }
     }
 
-    // Searches a line from its start on, where a unit is one byte.
+    // Searches a line from its start on, where units are one byte long.
     #[inline(always)]
     fn search_bytes(&mut self, held: &[u8]) -> bool
         requires ready { IsReady self.old held.now }
@@ -294,7 +295,8 @@ impl Scanner {
         ensures { Searches self.old held.now result self.new }
     {
         let bytes = &held[self.at..];
-        // The processor foresees this branch, so it needn't wait for a blank line's end to go on with the next line.
+        // The processor predicts this branch, so it needn't wait for a blank line's end before it continues with the
+        // next line.
         if !bytes.is_empty() && is_line_end(char::from(bytes[0])) {
             return self.take_found(held, Ok((0, true)), false);
         }
@@ -307,7 +309,7 @@ impl Scanner {
         }
     }
 
-    // Searches a line on from its first backslash, where a unit is one byte.
+    // Continues to search a line from its first backslash on, where units are one byte long.
     #[inline(never)]
     fn search_escaped(&mut self, held: &[u8], from: usize, is_ascii_before: bool) -> bool
         requires ready { IsReady self.old held.now }
@@ -321,7 +323,7 @@ impl Scanner {
         self.take_found(held, found, true)
     }
 
-    // Takes the line up to the end that was found, or searches on, where a unit is one byte.
+    // Takes the line up to the end that was found, or continues to search, where units are one byte long.
     #[inline(always)]
     fn take_found(
         &mut self,
@@ -349,7 +351,7 @@ impl Scanner {
         }
     }
 
-    // Searches on after the bytes that were searched, whatever a unit is.
+    // Continues to search after the bytes that were searched, whatever the size of a unit.
     #[inline(never)]
     fn search_on(&mut self, held: &[u8]) -> bool
         requires { IsReady self.old held.now }
@@ -368,7 +370,7 @@ impl Scanner {
         true
     }
 
-    // Takes the line up to this line end, whose first unit has so many bytes.
+    // Takes the line up to this line ending, whose first unit is `unit` bytes long.
     #[inline(always)]
     fn take(&mut self, held: &[u8], end: LineEnd, unit: usize, is_ascii: bool, has_backslash: bool)
         requires ready { IsReady self.old held.now }
@@ -386,7 +388,7 @@ impl Scanner {
         }
     }
 
-    // Takes the last line.
+    // Takes the last line, and ends the scan.
     #[inline(never)]
     fn take_last(&mut self, held: &[u8])
         requires { IsReady self.old held.now }
@@ -400,7 +402,7 @@ impl Scanner {
         self.is_done = true;
     }
 
-    // Takes the line up to `end`. The scan goes on at `next`.
+    // Takes the line up to `end`. The scan continues at `next`.
     #[inline(always)]
     fn pass_line(&mut self, end: usize, next: usize, is_ascii: bool, has_backslash: bool)
         requires { self.old.passed + 1 < 2 ^ 64 }
@@ -417,8 +419,8 @@ impl Scanner {
     }
 }
 
-// The first byte of the class, found sixteen bytes at once: how many stand before it, and whether those are ASCII. Or among
-// how many there is none.
+// Finds the first byte of the class, sixteen bytes at a time. Returns how many bytes come before it and whether they
+// are ASCII; or, as an error, a number of bytes at the front among which there is none.
 #[inline(always)]
 fn search_blocks<C: ByteClass>(
     bytes: &[u8],
@@ -459,7 +461,7 @@ fn is_ascii(encoding: Encoding, bytes: &[u8]) -> bool
     }
 }
 
-// Whether the first unit is an LF.
+// Returns whether the first unit is an LF.
 #[inline(always)]
 fn begins_with_feed(encoding: Encoding, unit: usize, bytes: &[u8]) -> bool
     requires { unit ≡ unit_size (encoding_of encoding) }

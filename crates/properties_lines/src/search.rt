@@ -1,4 +1,4 @@
-// The search for line ends among undecoded bytes.
+// Searches for line endings among undecoded bytes.
 
 ghost use Rattle.std.specs.Prelude.{◌≡◌, ◌≤◌, length, take};
 ghost use Rattle.properties_format.specs.Lines.{HoldsNoLineEnd};
@@ -10,16 +10,16 @@ use byte_blocks::{LineEnds, find};
 use memchr::memchr2;
 use properties_text::encoding::Encoding;
 
-/// Where a line end stands among undecoded bytes.
+/// The position of a line ending among undecoded bytes.
 #[derive(Clone, Copy, Debug, PartialEq, Eq)]
 pub struct LineEnd {
-    /// The place of its first byte.
+    /// The position of its first byte.
     pub at: usize,
-    /// Whether it is a CR. An LF may come after it and be of the same line end.
+    /// Whether it is a CR. An LF after it may belong to the same line ending.
     pub is_cr: bool,
 }
 
-/// How many bytes a unit is.
+/// Returns the number of bytes in a unit.
 pub fn unit_size(encoding: Encoding) -> usize
     ensures { result ≡ unit_size (encoding_of encoding) }
 {
@@ -29,16 +29,16 @@ pub fn unit_size(encoding: Encoding) -> usize
     }
 }
 
-/// How many of so many bytes are whole units.
+/// Returns how many of `length` bytes form whole units.
 ///
-/// Where a search found no line end among them, the next goes on from there, over these bytes and more.
+/// If a search found no line ending among them, the next search, over these bytes and more, continues there.
 pub fn whole_units(encoding: Encoding, length: usize) -> usize
     ensures { result ≡ whole_units (encoding_of encoding) length }
 {
     length - length % unit_size(encoding)
 }
 
-/// The first CR or LF among the units of the bytes. Those before `from` are whole units that hold none.
+/// Finds the first CR or LF among the units of the bytes. The bytes before `from` are whole units that contain none.
 #[inline(always)]
 pub fn find_line_end(encoding: Encoding, bytes: &[u8], from: usize) -> Option<LineEnd>
     requires { IsSearched (encoding_of encoding) bytes.now from }
@@ -50,7 +50,7 @@ pub fn find_line_end(encoding: Encoding, bytes: &[u8], from: usize) -> Option<Li
     }
 }
 
-// The first CR or LF where a unit is one byte.
+// Finds the first CR or LF, where units are one byte long.
 #[inline(always)]
 pub fn find_in_bytes(bytes: &[u8], from: usize) -> Option<LineEnd>
     requires within { from ≤ length bytes.now }
@@ -63,7 +63,8 @@ pub fn find_in_bytes(bytes: &[u8], from: usize) -> Option<LineEnd>
     Some(LineEnd { at, is_cr })
 }
 
-// The first CR or LF where a unit is two bytes: a byte like one counts only in a unit whose other byte is zero.
+// Finds the first CR or LF, where units are two bytes long. The byte of a CR or LF counts only in a unit whose other
+// byte is zero.
 #[inline(never)]
 pub fn find_in_units(encoding: Encoding, bytes: &[u8], from: usize) -> Option<LineEnd>
     requires size { unit_size (encoding_of encoding) ≡ 2 }
@@ -85,7 +86,7 @@ pub fn find_in_units(encoding: Encoding, bytes: &[u8], from: usize) -> Option<Li
     None
 }
 
-// Whether a unit of two bytes is a CR, where it is a line end.
+// Returns whether a two-byte unit is a CR, or `None` if it isn't a line ending.
 fn line_end_unit(encoding: Encoding, first: u8, second: u8) -> Option<bool>
     requires { unit_size (encoding_of encoding) ≡ 2 }
     ensures { IsLineEndUnit (encoding_of encoding) first second result }

@@ -1,4 +1,4 @@
-// The words that a program is called with.
+// The arguments of a program.
 
 ghost use Rattle.std.specs.Prelude.{◌≡◌, IfOk};
 ghost use Rattle.std.specs.Vec.Iter.{into_iter_items};
@@ -8,7 +8,8 @@ use std::alloc::{AllocError, Global};
 use std::env::Args;
 use std::io::{self, ErrorKind};
 
-/// The words after a program's name, of what `env::args` returned, or `None` where one of them isn't UTF-8.
+/// Returns the words after a program's name, from what `env::args` returned, or `None` if one of the arguments isn't
+/// UTF-8.
 ///
 /// ```text
 /// let Some(words) = words(alloc, env::args(&rt))? else {

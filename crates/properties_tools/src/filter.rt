@@ -1,4 +1,4 @@
-// The pairs of a reader, to a sink.
+// Copies the pairs of a reader to a sink.
 
 ghost use Rattle.std.specs.Prelude.{◌≡◌, true, false};
 ghost use Rattle.counted_io.specs.Streams.{IsSameReader, IsSameSink};
@@ -13,13 +13,13 @@ use java_properties::{
 };
 use std::alloc::Global;
 
-/// Reads the items of an input in this encoding, and writes each pair as one line in its output encoding. Comments are
-/// dropped.
+/// Reads the items of an input in this encoding, and writes each pair as one line in the output encoding of `encoding`.
+/// Comments are dropped.
 ///
-/// A byte order mark changes how the input is read, and never how the pairs are written. At a reader's error the pairs
-/// before it have been written, and the sink is flushed once.
+/// A byte order mark changes how the input is read, but never how the pairs are written. If the reading ends with an
+/// error, the pairs before it have been written, and the sink is flushed once.
 ///
-/// To filter, in the output encoding, what was written changes no byte of it.
+/// Filtering the output again, in the output encoding, changes no byte of it.
 ///
 /// ```text
 /// let mut input: &[u8] = b"# a comment\nb = 2\na";
@@ -43,9 +43,9 @@ pub fn filter<R: CountedRead, W: CountedWrite>(
     filter_with(alloc, input, writer, encoding, false)
 }
 
-/// Does as [`filter`], and writes every character past U+007F as an escape, also where the output encoding has it.
+/// Does what [`filter`] does, and writes every character past U+007F as an escape, even if the output encoding has it.
 ///
-/// What is written is ASCII alone, and is read back the same in windows-1252 and in UTF-8.
+/// The output contains ASCII only, and reads back the same in windows-1252 and in UTF-8.
 ///
 /// ```text
 /// let mut input: &[u8] = b"a=caf\xe9";
@@ -91,7 +91,7 @@ fn filter_with<R: CountedRead, W: CountedWrite>(
     result
 }
 
-// Both are new, and of one encoding; the writer may be set to ASCII alone.
+// Both must be new and have the same encoding. The writer may be set to ASCII-only output.
 fn write_pairs<R: CountedRead, W: CountedWrite>(
     items: &mut PropertiesIter<R>,
     lines: &mut PropertiesWriter<W>,
@@ -112,7 +112,7 @@ fn write_pairs<R: CountedRead, W: CountedWrite>(
         match found {
             Ok(found) => write_found(items, found, &mut *lines)?,
             Err(error) => {
-                // The reader's error is returned, whatever the flush says.
+                // The error of the reading is returned, whatever the flush returns.
                 let _ = lines.flush();
                 return Err(error);
             }
@@ -121,7 +121,7 @@ fn write_pairs<R: CountedRead, W: CountedWrite>(
     lines.finish()
 }
 
-// Writes the item that was found last, where it is a pair.
+// Writes the item that was found last, if it is a pair.
 fn write_found<R: CountedRead, W: CountedWrite>(
     items: &PropertiesIter<R>,
     found: Found,
@@ -155,7 +155,8 @@ fn write_if_pair<W: CountedWrite>(
     }
 }
 
-// The texts of a pair are of scalar values, as all texts are, which this tells a proof. It does nothing.
+// Gives a proof the fact that the texts of a pair consist of scalar values, as all texts do. It does nothing at run
+// time.
 fn has_scalars(content: &ContentRef<'_>)
     ensures { HasScalars (said_by content.now) }
 {

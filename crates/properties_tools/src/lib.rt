@@ -1,7 +1,7 @@
 //! What the programs `propfilter` and `propedit` do, over any streams.
 //!
-//! [`filter::filter`] copies the pairs of a reader to a sink, one per line. [`propfilter::run`] and [`propedit::run`] are
-//! all of the programs but their `main`s.
+//! [`filter::filter`] copies the pairs of a reader to a sink, one per line. [`propfilter::run`] and [`propedit::run`]
+//! are the programs without their `main` functions.
 //!
 //! ```text
 //! let mut input: &[u8] = b"# a comment\nb = 2\na";

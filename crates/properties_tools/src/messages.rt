@@ -1,4 +1,4 @@
-// Lines on a stream of errors.
+// Prints lines on an error stream.
 
 ghost use Rattle.std.specs.Prelude.{IfSome};
 ghost use Rattle.counted_io.specs.Streams.{IsSameSink};
@@ -9,7 +9,8 @@ use counted_io::{CountedWrite, send};
 use java_properties::PropertiesError;
 use std::alloc::Global;
 
-/// Prints a line on `errors` and flushes it. What can't be printed is dropped: there is nowhere left to print it.
+/// Prints a line on `errors` and flushes it. What can't be printed is dropped, because there is nowhere left to print
+/// it.
 ///
 /// ```text
 /// let mut errors = Counted::new(Vec::new(alloc));

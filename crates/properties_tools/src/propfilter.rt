@@ -18,18 +18,19 @@ const USAGE: &str = "usage: propfilter [windows-1252|utf-8|utf-16le|utf-16be [as
 
 const NOT_UTF_8: &str = "propfilter: an argument is not UTF-8\n";
 
-// What arguments ask for.
+// What the arguments ask for.
 #[derive(Clone, Copy)]
 struct Asked {
     encoding: Encoding,
     ascii_only: bool,
 }
 
-/// Filters `input` to `output` in the encoding that the arguments name, and returns the exit status: 0, or 1 at an
-/// error, whose text goes to `errors` as a line.
+/// Filters `input` to `output` in the encoding that the arguments name, and returns the exit status: 0, or 1 after an
+/// error, whose text is printed as a line on `errors`.
 ///
-/// Without arguments the encoding is windows-1252. A second argument `ascii` asks for ASCII alone. Other arguments print
-/// the usage on `errors`: the status is 2, and nothing is read. What can't be printed on `errors` is dropped.
+/// Without arguments, the encoding is windows-1252. The second argument `ascii` asks for ASCII-only output. With any
+/// other arguments, it prints the usage on `errors`, returns 2 and reads nothing. What can't be printed on `errors` is
+/// dropped.
 ///
 /// ```text
 /// let mut input: &[u8] = b"b = 2";
@@ -65,7 +66,7 @@ pub fn run<R: CountedRead, W: CountedWrite, E: CountedWrite>(
 
 /// Prints on `errors` that an argument isn't UTF-8, and returns the exit status of an error, 1.
 ///
-/// For a `main` that can't have its arguments as texts. What can't be printed is dropped.
+/// Use it in a `main` that can't get its arguments as texts. What can't be printed is dropped.
 ///
 /// ```text
 /// let mut errors = Counted::new(Vec::new(alloc));
@@ -80,7 +81,7 @@ pub fn refuse_bytes<E: CountedWrite>(errors: &mut E) -> u8
     1
 }
 
-// Says the usage, and returns the status of arguments that ask for nothing that there is.
+// Prints the usage, and returns the exit status for invalid arguments.
 fn refuse<E: CountedWrite>(errors: &mut E) -> u8
     ensures answer { result ≡ 2 }
     ensures says { HasSaid E.CountedWrite errors.old (said_line usage) errors.new }

@@ -1,4 +1,4 @@
-//! A line's bytes to a text of its own.
+//! Decodes the bytes of a line into a text of its own.
 
 ghost use Rattle.std.specs.Prelude.{◌≡◌, ◌↔◌, IfOk};
 ghost use Rattle.std.specs.Str.{chars};
@@ -11,10 +11,10 @@ use properties_text::encoding::{Encoding, TextBuffer, as_text};
 use std::alloc::{AllocError, Global};
 use std::borrow::CowStr;
 
-/// The text of some bytes by themselves, as of one line. It is lent where the bytes are that text already, as those of
-/// UTF-16 never are.
+/// Returns the text of these bytes, decoded on their own, such as those of one line. It is borrowed if and only if the
+/// bytes are that text already, which bytes of UTF-16 never are.
 ///
-/// What is no character of the encoding is U+FFFD, as often as the WHATWG Encoding Standard says.
+/// Bytes that form no character of the encoding become U+FFFD, as many times as the WHATWG Encoding Standard says.
 ///
 /// ```text
 /// let text = decode_line(alloc, Encoding::WINDOWS_1252, b"caf\xe9")?; // `café`, owned

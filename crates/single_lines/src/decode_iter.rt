@@ -18,21 +18,21 @@ use std::alloc::{AllocError, Global};
 use std::marker::Model;
 use std::{io, mem};
 
-// How the input goes on after the bytes that are held.
+// How the input continues after the bytes that are held.
 #[derive(Drop)]
 enum Ending {
-    // Bytes may come.
+    // More bytes may come.
     More,
-    // None come.
+    // No more bytes come.
     End,
-    // A read failed by this error, which was not given yet.
+    // A read failed with this error, which hasn't been returned yet.
     Fault(io::Error),
 }
 
-// What is held between two characters. It is passed its reader at each call.
+// The state between two characters. The reader is passed to each call that reads.
 #[derive(Drop)]
 struct CharacterDecoder {
-    // The one asked for, or the one in force once the byte order mark is decided.
+    // The requested encoding, or the one in force once the byte order mark is decided.
     encoding: Encoding,
     is_decided: bool,
     bytes: ReadAhead,
@@ -40,7 +40,7 @@ struct CharacterDecoder {
 }
 
 impl CharacterDecoder {
-    // The next character or the read fault, or `None` where none come.
+    // Returns the next character, the error of a failed read, or `None` at the end.
     fn next_character<R: CountedRead>(&mut self, reader: &mut R) -> Option<Result<char, io::Error>>
         ensures decodes { DecodesNext R.CountedRead
             (decoding reader.old self.old) result (decoding reader.new self.new) }
@@ -55,7 +55,7 @@ impl CharacterDecoder {
         Some(Err(error))
     }
 
-    // The read fault, if it was not given yet. No bytes come after it.
+    // Returns the error of a failed read if it hasn't been returned yet. No bytes come after it.
     fn take_fault(&mut self) -> Option<io::Error>
         ensures after { self.new ≡ record self.old { ending = End } }
         ensures fault { ShowsFault self.old.ending result }
@@ -66,7 +66,7 @@ impl CharacterDecoder {
         }
     }
 
-    // Takes the byte order mark off, where it is not decided yet.
+    // Removes the byte order mark, if it isn't decided yet.
     fn decide<R: CountedRead>(&mut self, reader: &mut R)
         ensures decodes { ReadsOn R.CountedRead reader.old self.old reader.new self.new }
         ensures decided { self.new.is_decided ≡ true }
@@ -79,7 +79,7 @@ impl CharacterDecoder {
         self.take_byte_order_mark();
     }
 
-    // Reads until the byte order mark is decided, or until no bytes come.
+    // Reads until the byte order mark is decided, or until no more bytes come.
     fn settle_byte_order_mark<R: CountedRead>(&mut self, reader: &mut R)
         requires { self.old.is_decided ≡ false }
         ensures decodes { ReadsOn R.CountedRead reader.old self.old reader.new self.new }
@@ -97,7 +97,7 @@ impl CharacterDecoder {
         }
     }
 
-    // Takes the byte order mark off, if there is one.
+    // Removes the byte order mark, if there is one.
     fn take_byte_order_mark(&mut self)
         requires undecided { self.old.is_decided ≡ false }
         requires settled { (is_over self.old.ending ≡ true) ⊎ (awaits_bom self.old.bytes ≡ false) }
@@ -111,7 +111,7 @@ impl CharacterDecoder {
         self.is_decided = true;
     }
 
-    // Reads until the first piece is decided, or until no bytes come.
+    // Reads until the first piece is decided, or until no more bytes come.
     fn settle<R: CountedRead>(&mut self, reader: &mut R)
         requires { self.old.is_decided ≡ true }
         ensures decodes { ReadsOn R.CountedRead reader.old self.old reader.new self.new }
@@ -126,7 +126,7 @@ impl CharacterDecoder {
         }
     }
 
-    // Whether there is no piece yet, or bytes that come may change the first.
+    // Returns whether there is no piece yet, or more bytes may change the first one.
     fn waits(&self) -> bool
         ensures { result ≡ waits (undecoded self.now) }
     {
@@ -136,7 +136,7 @@ impl CharacterDecoder {
         }
     }
 
-    // The character of the first piece, if there is one.
+    // Removes the first piece and returns its character, if there is one.
     fn take_character(&mut self) -> Option<char>
         requires decided { self.old.is_decided ≡ true }
         requires settled { (is_over self.old.ending ≡ true) ⊎ (waits (undecoded self.old) ≡ false) }
@@ -148,7 +148,7 @@ impl CharacterDecoder {
         Some(piece.character)
     }
 
-    // Reads once, where bytes may come, and says whether any came.
+    // Reads once if more bytes may come, and returns whether any came.
     fn read<R: CountedRead>(&mut self, reader: &mut R) -> bool
         requires { length self.old.bytes < room }
         ensures decodes { ReadsOn R.CountedRead reader.old self.old reader.new self.new }
@@ -174,7 +174,8 @@ impl CharacterDecoder {
     }
 }
 
-/// The characters of a reader, after its byte order mark. A read fault comes after those of the bytes before it.
+/// The characters of a reader, after its byte order mark. The error of a failed read comes after the characters of the
+/// bytes before it.
 #[derive(Drop)]
 pub struct DecodeIter<R> {
     reader: R,
@@ -188,7 +189,7 @@ impl<R> Model for DecodeIter<R> {
 }
 
 impl<R: CountedRead> DecodeIter<R> {
-    /// At the start of a reader, of which nothing is read yet. It takes no memory later.
+    /// Starts at the beginning of a reader, and reads nothing yet. Later calls allocate nothing.
     pub fn new(alloc: Global, reader: R, encoding: Encoding) -> Result<DecodeIter<R>, AllocError>
         ensures { IfOk result
             (λ it. it ≡ record { reader = reader; undecoded = fresh (encoding_of encoding) }) }

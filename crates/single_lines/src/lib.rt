@@ -1,7 +1,7 @@
-//! One line at a time, each as a text of its own, and the characters of a reader, one by one.
+//! Reads one line at a time, each as a text of its own, and the characters of a reader, one by one.
 //!
-//! They show the format another way than the reader, which decodes a line as a whole, finds its parts as spans and joins
-//! lines that it holds. Tests alone use them.
+//! These modules show the format in another way than the library's reader, which decodes a whole line at once, finds
+//! its parts as spans, and joins lines that it holds. Only tests use them.
 #![tactic(auto)]
 
 pub mod decode;

@@ -1,4 +1,4 @@
-//! Logical lines, over any natural lines. Only tests call it: a reader joins the lines that it holds.
+//! Joins any natural lines into logical lines. Only tests use it: the library's reader joins lines that it holds.
 
 ghost use Rattle.std.specs.Prelude.{◌≡◌, true, false};
 ghost use Rattle.std.specs.Iterator.{count_unless, IsFinite};
@@ -8,11 +8,12 @@ use crate::natural::NaturalLine;
 use properties_lines::error::LineError;
 use properties_lines::join::{addition, is_comment_line, is_open};
 
-/// A line with the number of the first natural line that it is joined of.
+/// A logical line, with the number of its first natural line.
 #[derive(Drop)]
 pub struct LogicalLine(pub usize, pub String);
 
-/// The logical lines of natural lines, up to an error. What stands open at their end is the last line.
+/// The logical lines of natural lines, up to an error. If the natural lines end while a line is open, it is the last
+/// line.
 #[derive(Drop)]
 pub struct LogicalLines<I> {
     lines: I,
@@ -20,7 +21,7 @@ pub struct LogicalLines<I> {
 }
 
 impl<I: Iterator<Item = Result<NaturalLine, LineError>>> LogicalLines<I> {
-    /// Joins these lines. None is asked for yet.
+    /// Joins these lines. Requests none of them yet.
     pub fn new(lines: I) -> LogicalLines<I>
         ensures start { result ≡ record { lines = lines; is_done = false } }
         ensures joins { JoinsEach I.next_gives result }
@@ -31,7 +32,8 @@ impl<I: Iterator<Item = Result<NaturalLine, LineError>>> LogicalLines<I> {
         }
     }
 
-    // The line that begins with this one. No line comes after it, unless its last natural line is found.
+    // Returns the logical line that begins with this natural line. Lines come after it only if its last natural line is
+    // found.
     fn join(&mut self, first: NaturalLine) -> Result<LogicalLine, LineError>
         requires can { I.can_next self.old.lines }
         requires finite { IsFinite (I.remaining self.old.lines) }

@@ -1,4 +1,4 @@
-//! Natural lines: those that a line end ends, and the last one.
+//! Natural lines: each ends in a line ending or at the end of the input.
 
 ghost use Rattle.std.specs.Prelude.{◌≡◌, None, IfOk, string_bytes};
 ghost use Rattle.std.specs.Str.{chars};
@@ -18,11 +18,11 @@ use std::alloc::{AllocError, Global};
 use std::borrow::CowStr;
 use std::marker::Model;
 
-/// A line with its number, which counts from 1, and without its line end.
+/// A line without its line ending, with its number. Lines are numbered from 1.
 #[derive(Drop)]
 pub struct NaturalLine(pub usize, pub String);
 
-/// The natural lines of a reader, decoded. Tests alone call it.
+/// The natural lines of a reader, decoded. Only tests use it.
 #[derive(Drop)]
 pub struct NaturalLines<R> {
     reader: R,
@@ -39,7 +39,7 @@ impl<R> Model for NaturalLines<R> {
 }
 
 impl<R: CountedRead> NaturalLines<R> {
-    /// At the start of a reader, of which nothing is read yet.
+    /// Starts at the beginning of a reader, and reads nothing yet.
     pub fn new(alloc: Global, reader: R, encoding: Encoding) -> NaturalLines<R>
         ensures { result ≡ record { reader = reader; state = start (encoding_of encoding) } }
     {
@@ -73,7 +73,7 @@ impl<R: CountedRead> Iterator for NaturalLines<R> {
     }
 }
 
-// The text of the line that was found.
+// Returns the text of the line that was found.
 fn line_text(alloc: Global, lines: &LineReader) -> Result<String, AllocError>
     ensures { IfOk result (λ text. chars (string_bytes text) ≡ line_text lines.now) }
 {

@@ -1,4 +1,4 @@
-//! A logical line, cut into its parts.
+//! Splits a logical line into its parts.
 
 ghost use Rattle.std.specs.Prelude.{◌≡◌, Some};
 ghost use Rattle.std.specs.Str.{chars};
@@ -13,13 +13,13 @@ use properties_text::parse::{ParsedSpans, parse_spans};
 pub enum ParsedLine<'a> {
     /// The text after the comment sign, without the blanks around it.
     Comment(&'a str),
-    /// The key, and the value with the blanks that end it.
+    /// The key, and the value including the blanks at its end.
     KVPair(&'a str, &'a str),
 }
 
-/// The comment or the pair of a line, or `None` where the line is blanks alone.
+/// Returns the comment or pair of a line, or `None` if the line has no character but blanks.
 ///
-/// Line ends are characters like others here.
+/// Line endings are treated like any other character.
 ///
 /// ```text
 /// if let Some(ParsedLine::KVPair(key, value)) = parse_line(r"a\ key : a\tvalue") {
@@ -34,7 +34,7 @@ pub fn parse_line(line: &str) -> Option<ParsedLine<'_>>
     Some(cut(spans, line))
 }
 
-// The parts of the line in which these spans were found.
+// Returns the parts of the line that these spans were found in.
 fn cut(spans: ParsedSpans, line: &str) -> ParsedLine<'_>
     requires { AreSpans line.now (Some spans) }
     ensures { parsed (Some result) ≡ spanned line.now (Some spans) }

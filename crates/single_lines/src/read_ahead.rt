@@ -1,4 +1,4 @@
-// The bytes that were read and not decoded.
+// Bytes that were read but not decoded yet.
 
 ghost use Rattle.std.specs.Prelude.{◌≡◌, ℕ, ◌<◌, ◌≤◌, ◌+◌, ◌-◌, List, [], take, drop, length, IfOk};
 ghost use Rattle.counted_io.specs.Streams.{IsSameReader};
@@ -9,10 +9,10 @@ use std::alloc::{AllocError, Global};
 use std::io;
 use std::marker::Model;
 
-// How many bytes the buffer has.
+// The size of the buffer in bytes.
 const ROOM: usize = 8192;
 
-/// The bytes that were read and not decoded, in a buffer that is taken once.
+/// Bytes that were read but not decoded yet, in a buffer that is allocated once.
 #[derive(Drop)]
 pub struct ReadAhead {
     buffer: Vec<u8>,
@@ -29,7 +29,7 @@ impl Model for ReadAhead {
 }
 
 impl ReadAhead {
-    /// No bytes yet.
+    /// Returns a buffer without bytes.
     pub fn new(alloc: Global) -> Result<ReadAhead, AllocError>
         ensures { IfOk result (λ s. s ≡ []) }
     {
@@ -41,14 +41,14 @@ impl ReadAhead {
         })
     }
 
-    /// The bytes.
+    /// Returns the bytes.
     pub fn bytes(&self) -> &[u8]
         ensures { result.now ≡ self.now }
     {
         &self.buffer[self.start..self.end]
     }
 
-    /// Passes over the first bytes.
+    /// Skips the first `count` bytes.
     pub fn skip(&mut self, count: usize)
         requires { count ≤ length self.old }
         ensures { self.new ≡ drop count self.old }
@@ -56,7 +56,7 @@ impl ReadAhead {
         self.start += count;
     }
 
-    /// Reads once, and says how many bytes came.
+    /// Reads once and returns how many bytes came.
     pub fn read<R: CountedRead>(&mut self, reader: &mut R) -> io::Result<usize>
         requires { length self.old < room }
         ensures reads { ReadsMore R.CountedRead reader.old self.old result reader.new self.new }
@@ -76,7 +76,7 @@ impl ReadAhead {
     }
 }
 
-// Brings the bytes from a place to another to the front.
+// Moves the bytes between these positions to the front.
 fn move_down(buffer: &mut [u8], start: usize, end: usize)
     requires order { start ≤ end }
     requires within { end ≤ length buffer.old }
@@ -85,7 +85,7 @@ fn move_down(buffer: &mut [u8], start: usize, end: usize)
     buffer.copy_within(start..end, 0);
 }
 
-// Reads once, from a place on.
+// Reads once, into the buffer from this position on.
 fn read_after<R: CountedRead>(reader: &mut R, buffer: &mut [u8], place: usize) -> io::Result<usize>
     requires { place < length buffer.old }
     ensures reads { ReadsMore R.CountedRead reader.old (take place buffer.old)

@@ -1,4 +1,4 @@
--- The keys of slots, as they are lent.
+-- The keys of slots, borrowed.
 use Rattle.std.specs.Prelude.{ℕ, List, map, Option}
 use Rattle.std.specs.Borrow.{Bor}
 use Rattle.std.specs.Option.{option_map}
@@ -10,11 +10,11 @@ use Rattle.java_properties.specs.BodySlots.{Holds, HoldsCells}
 use Rattle.java_properties.specs.Documents.{characters_of}
 use Rattle.java_properties.specs.declared.edit.slots.Slots.{Slots}
 
--- the characters of the key that stands at a place, where one does
+-- the characters of the key at a place, if there is one
 abbrev pub key_at : Option (Bor (List ℕ)) → Option (List ℕ)
 key_at place = option_map (λ key. chars key.now) place
 
--- At the place of each slot stands the key whose first pair it is.
+-- At the place of each slot is the key whose first pair it is.
 abbrev pub ArePlaced : Slots → List (Option (Bor (List ℕ))) → Type 0
 ArePlaced s firsts = (body : List ℕ) (cells : List Cell) → HoldsCells body s cells → AreFirsts cells (map key_at firsts)
 

@@ -14,11 +14,11 @@ use Rattle.java_properties.specs.declared.edit.groups.Group.{Group}
 use Rattle.java_properties.specs.declared.edit.slots.Slot.{Slot}
 use Rattle.java_properties.specs.declared.edit.slots.Slots.{Slots}
 
--- the cell that is kept for an LF in front
+-- the cell that is reserved for an LF in front
 abbrev pub guard_cell : Cell
 guard_cell = record { slot = empty_slot (Some text.lf); alive = false }
 
--- The slots are these cells, of which the first is kept for an LF in front.
+-- The slots are these cells. The first is reserved for an LF in front.
 pub record HoldsParsed (body : List ℕ) (s : Slots) (cells : List Cell) : Type 0 where
   pub cells_are : AreCells body s.slots.items cells
   pub linked : length s.links.items ≡ length cells
@@ -29,21 +29,21 @@ pub record HoldsParsed (body : List ℕ) (s : Slots) (cells : List Cell) : Type 
   pub some : 0 < length cells
   pub ordered : IsOrdered string_cmp s.places
 
--- No group was read.
+-- No group was read yet.
 abbrev pub HoldsGuard : Slots → Type 0
 HoldsGuard s = (body : List ℕ) → HoldsParsed body s (guard_cell ∷ [])
 
--- whether the key that was told, where one was, is this one
+-- whether there is a key and it is this one
 abbrev pub is_told : List ℕ → Option (List ℕ) → Bool
 is_told key None = false
 is_told key (Some told) = bytes_eq key told
 
--- The number comes last of those of the key that was told, where one was.
+-- If there is a key, the index was appended to its indices.
 abbrev pub AddsKey : {Y : Type 0} → Option (List ℕ) → ℕ → List (String Y × Vec ℕ) → List (String Y × Vec ℕ) → Type 0
 AddsKey told place old new = (key : List ℕ)
     → stack_at new key ≡ (if is_told key told then stack_at old key ++ place ∷ [] else stack_at old key)
 
--- The slot of a group comes last, under the key that was told, where it is a pair.
+-- The slot of a group was appended, with its key if the group is a pair.
 pub record AddsGroup (body : List ℕ) (group : Group) (told : Option (List ℕ)) (old new : Slots) : Type 0 where
   pub slot : Slot
   pub kept : slot.kept ≡ record { start = group.start; end = group.end }

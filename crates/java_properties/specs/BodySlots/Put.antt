@@ -1,4 +1,4 @@
--- A key put into slots in one array: what each step on the way does.
+-- Setting a key in slots that are kept in one array: what each step does.
 use Rattle.std.specs.Prelude.{◌≡◌, ℕ, ◌+◌, ◌-◌, ◌≤◌, ◌==◌, Bool, if◌then◌else◌, List, length, get_or, set}
 use Rattle.std.specs.Prelude.{Option}
 use Rattle.std.specs.Vec.{vec_len, vec_capacity}
@@ -11,19 +11,19 @@ use Rattle.java_properties.specs.declared.edit.place.Closing.TheVariants as clos
 use Rattle.java_properties.specs.declared.edit.slots.Slot.{Slot}
 use Rattle.java_properties.specs.declared.edit.slots.Slots.{Slots}
 
--- ---- in the place of another
+-- ---- replacing a pair
 
 -- the cell with these bytes, under a key
 abbrev pub cell_with : List ℕ → Option (List ℕ) → Cell → Cell
 cell_with bytes key c = record { slot = record { bytes = bytes; ending = c.slot.ending; key = key }; alive = c.alive }
 
--- The slot has other bytes.
+-- The slot has these bytes now.
 abbrev pub RefillsSlot : List ℕ → Slot → Slot → Type 0
 RefillsSlot bytes old new =
     (body : List ℕ) (key : Option (List ℕ)) (cell : Cell) → IsCell body old cell
     → IsCell body new (cell_with bytes key cell)
 
--- The slot in this place has other bytes. If it is the last one, an LF parts it from a pair that comes after it.
+-- The slot at this index has these bytes now. If it is the last slot, an LF separates it from a pair appended after it.
 pub record Refills (old : Slots) (place : ℕ) (bytes : List ℕ) (new : Slots) : Type 0 where
   pub before : Slot
   pub slot : Slot
@@ -34,34 +34,34 @@ pub record Refills (old : Slots) (place : ℕ) (bytes : List ℕ) (new : Slots) 
       ≡ (if place + 1 == length old.slots.items then ended_by text.lf else closing_in old.closing old.parting)
   pub same : new ≡ record old { slots = new.slots; closing = new.closing; parting = new.parting }
 
--- ---- after all others
+-- ---- appending a pair
 
--- The slot is closed, before a pair that comes after it.
+-- The slot is closed before a pair comes after it.
 abbrev pub ClosesSlot : format.Closing → Slot → Slot → Type 0
 ClosesSlot closing old new =
     (body : List ℕ) (cell : Cell) → IsCell body old cell → IsCell body new (closed_cell closing cell)
 
--- It is found whether a pair after the last slot would be the first, and what the slots are stays.
+-- The result says whether a pair after the last slot would be the first. The slots are unchanged.
 pub record FindsNextFirst (old : Slots) (result : Bool) (new : Slots) : Type 0 where
   pub finds : (body : List ℕ) (cells : List Cell) → HoldsCells body old cells
       → (result ≡ is_first (closed_slots (closing_in old.closing old.parting) (live cells)))
       × HoldsCells body new cells
   pub same : new ≡ record old { first = new.first }
 
--- ---- the memory for that
+-- ---- reserved memory
 
--- The slots and the links stay what they are.
+-- The slots and the links are unchanged.
 pub record KeepsParts (old new : Slots) : Type 0 where
   pub cells : (body : List ℕ) (cells : List Cell) → AreCells body old.slots.items cells → AreCells body new.slots.items cells
   pub links : new.links.items ≡ old.links.items
   pub same : new ≡ record old { slots = new.slots; links = new.links }
 
--- There is room for so many more slots,
+-- Space is reserved for this many more slots.
 pub record HasRoom (n : ℕ) (s : Slots) : Type 0 where
   pub slots : vec_len s.slots + n ≤ vec_capacity s.slots
   pub links : vec_len s.links + n ≤ vec_capacity s.links
 
--- and for a line ending after the bytes of the last one, where it is to be closed by one.
+-- If the last slot must be closed by two line endings, space for one of them is reserved after the slot's bytes.
 abbrev pub HasRoomToClose : Slots → Type 0
 HasRoomToClose s =
     (d : Slot) → s.closing ≡ closing.TwoEndings

@@ -1,4 +1,4 @@
-// A source that stays open for edits.
+// A source that is kept open for edits.
 
 ghost use Rattle.std.specs.Prelude.{◌≡◌, IfOk};
 ghost use Rattle.std.specs.Option.{option_map};
@@ -8,7 +8,7 @@ ghost use Rattle.properties_text.specs.Encoding.{encoding_of};
 ghost use Rattle.java_properties.specs.Documents.{HasKeysInOrder, HasValueAt, OpensDocument, PutsInto, RemovesFrom, TellsKey};
 
 use crate::edit::slots::Slots;
-use crate::edit::source::Source;
+use crate::edit::source::BodyStart;
 use crate::edit::values::{put_value, restore_value};
 use crate::error::PropertiesError;
 use properties_text::encoding::Encoding;
@@ -16,11 +16,11 @@ use std::alloc::{AllocError, Global};
 use std::collections::BTreeMap;
 use std::marker::Model;
 
-/// A source that stays open for edits.
+/// A source that is kept open for edits.
 ///
-/// For a program that changes keys one at a time and looks at values in between, as an editor with a window does: no
-/// call but `parse` reads the source. What is removed keeps its memory until the document is dropped. For a list of
-/// edits that is known beforehand, [`edit_all`](crate::edit_all) needs less.
+/// Use it in a program that changes keys one at a time and looks at values in between, such as an editor with a window:
+/// only `parse` reads the source. What is removed keeps its memory until the document is dropped. For a list of edits
+/// that is known beforehand, [`edit_all`](crate::edit_all) needs less memory.
 ///
 /// ```text
 /// let mut document = Document::parse(alloc, b"# the front door\nport = 80\n", Encoding::UTF_8)?;
@@ -34,10 +34,10 @@ use std::marker::Model;
 pub struct Document {
     alloc: Global,
     source: Vec<u8>,
-    // The encoding that was asked for, of which contracts speak. No code reads it.
+    // The requested encoding, which contracts refer to. No code reads it.
     encoding: Encoding,
-    // What is in force.
-    opened: Source,
+    // The encoding in force, and where the body starts.
+    opened: BodyStart,
     slots: Slots,
     // The value of each key.
     values: BTreeMap<String, String>,
@@ -58,8 +58,8 @@ impl Model for Document {
 impl Document {
     /// Opens a copy of a source.
     ///
-    /// UTF-16 is refused, and so is a source with a malformed escape anywhere: the error is the one that reading the
-    /// source would return.
+    /// UTF-16 is refused. A source with a malformed escape anywhere is refused with the error that reading the source
+    /// would return.
     pub fn parse(
         alloc: Global,
         source: &[u8],
@@ -68,7 +68,7 @@ impl Document {
         ensures opens { OpensDocument (encoding_of encoding) source.now result }
         ensures splitting { SplittingCommutes (encoding_of encoding) source.now }
     {
-        let opened = Source::open(source, encoding)?;
+        let opened = BodyStart::open(source, encoding)?;
         let (slots, values) = Slots::parse_with_values(
             alloc,
             opened.encoding,
@@ -84,14 +84,14 @@ impl Document {
         })
     }
 
-    /// The value of a key: that of the last pair with it, or none where no pair has it.
+    /// Returns the value of a key: that of the last pair with the key, or `None` if no pair has it.
     pub fn get(&self, key: &str) -> Option<&str>
         ensures { HasValueAt self.now (chars key.now) (option_map (λ value. chars value.now) result) }
     {
         Some(self.values.get(key)?.as_str())
     }
 
-    /// Whether a pair has the key.
+    /// Returns whether a pair has the key.
     ///
     /// ```text
     /// let document = Document::parse(alloc, b"port = 80\n", Encoding::UTF_8)?;
@@ -104,7 +104,8 @@ impl Document {
         self.get(key).is_some()
     }
 
-    /// Its keys in the order of the file, each once: a key that several pairs have comes where the first of them stands.
+    /// Returns the keys in the order of the file, each once. A key that several pairs have is in the position of the
+    /// first of them.
     ///
     /// ```text
     /// let document = Document::parse(alloc, b"b = 1\na = 2\nb = 3\n", Encoding::UTF_8)?;
@@ -117,7 +118,7 @@ impl Document {
         self.slots.keys(alloc)
     }
 
-    /// Sets a key to a value, as [`set_key`](crate::set_key) does. Where memory runs out, nothing changes.
+    /// Sets a key to a value, as [`set_key`](crate::set_key) does. If memory runs out, nothing changes.
     pub fn put(&mut self, key: &str, value: &str) -> Result<(), AllocError>
         ensures { PutsInto (chars key.now) (chars value.now) self.old result self.new }
     {
@@ -131,7 +132,7 @@ impl Document {
         }
     }
 
-    /// Removes a key, as [`remove_key`](crate::remove_key) does, and says whether a pair had it. It takes no memory.
+    /// Removes a key, as [`remove_key`](crate::remove_key) does, and returns whether a pair had it. Allocates nothing.
     pub fn remove(&mut self, key: &str) -> bool
         ensures { RemovesFrom (chars key.now) self.old result self.new }
     {
@@ -141,7 +142,7 @@ impl Document {
         self.values.remove(key).is_some()
     }
 
-    /// The file after the edits: what wasn't edited stands as it was.
+    /// Returns the file after the edits. What wasn't edited is unchanged.
     pub fn to_bytes(&self, alloc: Global) -> Result<Vec<u8>, AllocError>
         ensures { IfOk result (λ bytes. bytes.items ≡ self.now.bytes) }
     {

@@ -1,4 +1,4 @@
-// The groups of a body that is held whole, one after another: logical lines, and the spans of their bytes.
+// Iterates over the groups of a body that is held in memory: logical lines, with the spans of their bytes.
 
 ghost use Rattle.std.specs.Prelude.{◌≡◌, ℕ, List, false, IfOk};
 ghost use Rattle.properties_lines.specs.HeldLines.{StandsInBody};
@@ -14,30 +14,30 @@ use std::alloc::{AllocError, Global};
 /// A group of a body, as a span of its bytes.
 #[derive(Clone, Copy)]
 pub struct Group {
-    /// The number of its first line.
+    /// The number of the group's first line.
     pub number: usize,
-    /// The place of its first byte.
+    /// The position of its first byte.
     pub start: usize,
-    /// The place after the bytes of its last line, where the line ending of that line stands.
+    /// The position after the bytes of its last line, where that line's ending begins.
     pub end: usize,
     /// The line ending of its last line.
     pub ending: Option<LineEnding>,
     /// Whether it is left open, so that a line after it would be joined to it.
     pub is_open: bool,
-    /// Whether it is one line without bytes.
+    /// Whether it is a single line without bytes.
     pub is_empty: bool,
 }
 
-/// Reads the groups of a body, which is passed at each call.
+/// Reads the groups of a body that is passed to each call.
 #[derive(Drop)]
 pub struct GroupReader {
     scanner: Scanner,
-    // The logical line of the group that came last.
+    // The logical line of the group that was returned last.
     line: LogicalLine,
 }
 
 impl GroupReader {
-    /// Before the first group of a body, whose units are of one byte.
+    /// Starts before the first group of a body. The encoding's units are one byte long.
     pub fn new(alloc: Global, encoding: Encoding) -> GroupReader
         ensures encoding { result.scanner.encoding ≡ encoding }
         ensures start { result.scanner.at ≡ 0 }
@@ -51,7 +51,7 @@ impl GroupReader {
         }
     }
 
-    /// The logical line of the group that came last.
+    /// Returns the logical line of the group that was returned last.
     pub fn line<'a>(&'a self, body: &'a [u8], group: Group) -> &'a str
         requires { IsTextHeld body.now self.now group }
         ensures { result.now ≡ text_of body.now self.now group }
@@ -59,14 +59,14 @@ impl GroupReader {
         self.line.as_str(&body[group.start..group.end])
     }
 
-    /// The place after the group that came last.
+    /// Returns the position after the group that was returned last.
     pub fn place(&self) -> usize
         ensures { result ≡ self.now.scanner.at }
     {
         self.scanner.place()
     }
 
-    /// The next group, or `None` after the last one.
+    /// Returns the next group, or `None` after the last one.
     pub fn next(&mut self, body: &[u8]) -> Result<Option<Group>, AllocError>
         requires { IsWithin body.now self.old }
         ensures { GivesGroup body.now self.old result self.new }
@@ -93,7 +93,7 @@ impl GroupReader {
         Ok(Some(joined))
     }
 
-    // Joins the lines after an open one, of which the group is, up to one that isn't open.
+    // Joins the following lines to a group that is open, up to and including the first line that isn't open.
     fn join(&mut self, body: &[u8], group: Group) -> Result<Group, AllocError>
         requires { IsWithin body.now self.old }
         ensures { IfOk result (λ joined. JoinsGroup body.now self.old group joined self.new) }
@@ -116,7 +116,7 @@ impl GroupReader {
         Ok(joined)
     }
 
-    // Finds the next line, and returns whether there is one.
+    // Finds the next line and returns whether there is one.
     fn find_line(&mut self, body: &[u8]) -> Result<bool, AllocError>
         requires { IsWithin body.now self.old }
         ensures { FindsLine body.now self.old result self.new }
@@ -124,13 +124,13 @@ impl GroupReader {
         match self.scanner.next(body, true) {
             Scan::Line => Ok(true),
             Scan::End => Ok(false),
-            // No memory holds a body of so many lines.
+            // No memory can hold a body with that many lines.
             Scan::More | Scan::TooMany => Err(AllocError),
         }
     }
 }
 
-// The line ending that these bytes are.
+// Returns the line ending that these bytes form.
 fn ending_of(bytes: &[u8]) -> Option<LineEnding>
     ensures { IsEndingOf bytes.now result }
 {

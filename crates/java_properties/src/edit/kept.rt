@@ -1,4 +1,4 @@
-// What is left of a body without the pairs with a key.
+// What remains of a body without the pairs that have a key.
 
 ghost use Rattle.std.specs.Prelude.{◌≡◌};
 ghost use Rattle.std.specs.Str.{chars};
@@ -13,8 +13,9 @@ use crate::error::PropertiesError;
 use properties_text::encoding::Encoding;
 use std::alloc::Global;
 
-/// The parts of a body that are left, in order, where the pairs with a key are taken out. Its units are of one byte.
-pub fn find_others(
+/// Returns the parts of a body that remain, in order, when the pairs with a key are removed. The encoding's units are
+/// one byte long.
+pub fn spans_without_key(
     alloc: Global,
     encoding: Encoding,
     body: &[u8],

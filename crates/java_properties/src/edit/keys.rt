@@ -1,4 +1,4 @@
-// Which logical lines are pairs with a key.
+// The keys and pairs of logical lines.
 
 ghost use Rattle.std.specs.Str.{chars};
 ghost use Rattle.java_properties.specs.BodyKeys.{FindsItem, TellsKey};
@@ -10,7 +10,8 @@ use crate::iter::found::{Found, find_escaped, find_plain};
 use properties_text::escape::has_backslash;
 use std::alloc::Global;
 
-/// Whether a logical line is a pair with this key; or why its escapes aren't resolved, in the line of this number.
+/// Returns whether a logical line is a pair with this key. Fails if an escape in the line, which has this number, is
+/// malformed, or if memory runs out.
 pub fn has_key(alloc: Global, number: usize, line: &str, key: &str) -> Result<bool, PropertiesError>
     ensures { TellsKey (chars line.now) (chars key.now) number result }
 {
@@ -20,7 +21,8 @@ pub fn has_key(alloc: Global, number: usize, line: &str, key: &str) -> Result<bo
     }
 }
 
-/// The key of a logical line, where it is a pair; or why its escapes aren't resolved, in the line of this number.
+/// Returns the key of a logical line, or `None` if it isn't a pair. Fails if an escape in the line, which has this
+/// number, is malformed, or if memory runs out.
 pub fn key_of(alloc: Global, number: usize, line: &str) -> Result<Option<String>, PropertiesError>
     ensures { TellsKeyOf (chars line.now) number result }
 {
@@ -30,7 +32,8 @@ pub fn key_of(alloc: Global, number: usize, line: &str) -> Result<Option<String>
     }
 }
 
-/// The pair that a logical line is, where it is one; or why its escapes aren't resolved, in the line of this number.
+/// Returns the key and value of a logical line, or `None` if it isn't a pair. Fails if an escape in the line, which has
+/// this number, is malformed, or if memory runs out.
 pub fn pair_of(
     alloc: Global,
     number: usize,
@@ -44,7 +47,7 @@ pub fn pair_of(
     }
 }
 
-// The item of a logical line, where it isn't blank.
+// Finds the item of a logical line. Returns `None` if the line is blank.
 fn find_item(alloc: Global, number: usize, line: &str) -> Result<Option<Found>, PropertiesError>
     ensures { FindsItem line.now number result }
 {

@@ -6,7 +6,7 @@ ghost use Rattle.java_properties.specs.BodyLines.{ending_in};
 
 use crate::writer::LineEnding;
 
-/// How many bytes a line ending has.
+/// Returns the number of bytes in a line ending.
 pub fn ending_size(ending: Option<LineEnding>) -> usize
     ensures { result ≡ length (ending_bytes (ending_in ending)) }
 {
@@ -17,7 +17,7 @@ pub fn ending_size(ending: Option<LineEnding>) -> usize
     }
 }
 
-/// The bytes of a line ending.
+/// Returns the bytes of a line ending.
 pub fn ending_bytes(ending: Option<LineEnding>) -> &'static [u8]
     ensures { result.now ≡ ending_bytes (ending_in ending) }
 {

@@ -1,4 +1,4 @@
-// Where a key stands in a body.
+// Where a key is in a body.
 
 ghost use Rattle.std.specs.Prelude.{◌≡◌, ◌++◌};
 ghost use Rattle.std.specs.Str.{chars};
@@ -19,31 +19,31 @@ use std::alloc::Global;
 pub struct KeyPlace {
     /// The pair, without its last line ending.
     pub pair: Option<BodySpan>,
-    /// What parts a new pair from the last group.
+    /// What separates a new pair from the last group.
     pub closing: Closing,
 }
 
 /// A part of a body, as a span of its bytes.
 #[derive(Clone, Copy)]
 pub struct BodySpan {
-    /// The place of its first byte.
+    /// The position of its first byte.
     pub start: usize,
-    /// The place after its last byte.
+    /// The position after its last byte.
     pub end: usize,
 }
 
-/// What parts a new pair from the last group of a body.
+/// What separates a new pair from the last group of a body.
 #[derive(Clone, Copy)]
 pub enum Closing {
     /// Nothing, after an empty line.
     Nothing,
-    /// A line ending.
+    /// One line ending.
     OneEnding,
     /// Two line endings, after a line that a backslash leaves open.
     TwoEndings,
 }
 
-/// Looks for a key in a body, whose units are of one byte.
+/// Searches a body for a key. The encoding's units are one byte long.
 pub fn find_key(
     alloc: Global,
     encoding: Encoding,
@@ -67,7 +67,7 @@ pub fn find_key(
 }
 
 impl KeyPlace {
-    // What is known after this group, which is a pair with the key or not.
+    // Returns what is known after this group. `is_pair` says whether the group is a pair with the key.
     fn after(self, group: Group, is_pair: bool) -> KeyPlace
         ensures { result ≡ found_after self group is_pair }
     {
@@ -86,7 +86,7 @@ impl KeyPlace {
     }
 }
 
-/// What parts a new pair from this group.
+/// Returns what separates a new pair from this group.
 pub fn closing_after(group: Group) -> Closing
     ensures { result ≡ closing_of group.is_empty group.is_open }
 {
@@ -99,7 +99,8 @@ pub fn closing_after(group: Group) -> Closing
     }
 }
 
-/// The line endings that part a new pair from the last group of a source: CRs where the source ends in one, and else LFs.
+/// Returns the line endings that separate a new pair from the last group of a source: CRs if the source ends in a CR,
+/// otherwise LFs.
 pub fn parting(source: &[u8], closing: Closing) -> &'static [u8]
     ensures { result.now ≡ parted (added_ending source.now) closing }
 {
@@ -112,7 +113,7 @@ pub fn parting(source: &[u8], closing: Closing) -> &'static [u8]
     }
 }
 
-/// Whether these bytes end in a CR.
+/// Returns whether these bytes end in a CR.
 pub fn ends_in_cr(source: &[u8]) -> bool
     ensures { result ≡ ends_in_cr source.now }
 {

@@ -12,17 +12,17 @@ ghost use Rattle.properties_text.specs.Encoding.{encoding_of};
 ghost use Rattle.properties_text.specs.Printing.{AppendsOnOk};
 
 use crate::edit::place::{BodySpan, Closing, parting};
-use crate::edit::source::Source;
+use crate::edit::source::BodyStart;
 use properties_text::encoding::byte_order_mark::{ByteOrderMark, byte_order_mark};
 use properties_text::encoding::{Encoding, OutputEncoding};
 use properties_text::print::{LineBuffer, Place, Repertoire, print_key, print_raw, print_text};
 use std::alloc::{AllocError, Global};
 
-/// The source with a printed pair in the place of this one.
+/// Returns the source with this pair replaced by a printed pair.
 pub fn replaced(
     alloc: Global,
     source: &[u8],
-    opened: Source,
+    opened: BodyStart,
     pair: BodySpan,
     key: &str,
     value: &str,
@@ -41,11 +41,12 @@ pub fn replaced(
     concatenated(alloc, front, line.as_slice(), back)
 }
 
-/// The source with a printed pair at its end, which is parted so from what stands before it.
+/// Returns the source with a printed pair and a line feed appended. `closing` says what separates the pair from the
+/// bytes before it.
 pub fn appended(
     alloc: Global,
     source: &[u8],
-    opened: Source,
+    opened: BodyStart,
     closing: Closing,
     key: &str,
     value: &str,
@@ -65,12 +66,12 @@ pub fn appended(
     concatenated(alloc, source, parting, line.as_slice())
 }
 
-/// The source with these parts of its body alone. An LF comes before them where they would begin like a byte order mark, and
-/// the source begins with none.
-pub fn others_alone(
+/// Returns the source with only these parts of its body. An LF comes before them if they would begin like a byte order
+/// mark and the source doesn't begin with one.
+pub fn reduced_to(
     alloc: Global,
     source: &[u8],
-    opened: Source,
+    opened: BodyStart,
     others: &[BodySpan],
 ) -> Result<Vec<u8>, AllocError>
     requires within { opened.start ≤ length source.now }
@@ -82,13 +83,13 @@ pub fn others_alone(
     bytes.extend_from_slice(&source[..opened.start])?;
     push_spans(&mut bytes, body, others)?;
     if opened.start == 0 && begins_like_bom(&bytes) {
-        // It seldom comes to this, so the bytes are moved.
+        // This is rare, so the bytes are moved.
         bytes.insert(0, b'\n')?;
     }
     Ok(bytes)
 }
 
-// How many bytes a byte order mark, an LF and these parts have, at most.
+// Returns an upper bound on the size of a byte order mark of this size, an LF and these parts.
 fn size_with(mark: usize, spans: &[BodySpan]) -> usize {
     let mut size = mark.saturating_add(1);
     for span in spans {
@@ -131,7 +132,8 @@ fn are_empty(rest: &[u8], parting: &[u8]) -> bool
     rest.is_empty() && parting.is_empty()
 }
 
-// Appends a pair without a line ending. One that is `first` in a body isn't to be taken for a byte order mark.
+// Appends a pair without a line ending. A pair that is `first` in a body is printed so that it isn't taken for a byte
+// order mark.
 fn print_pair(
     line: &mut LineBuffer,
     encoding: Encoding,
@@ -151,7 +153,8 @@ fn print_pair(
     print_text(line, repertoire, Place::KeyOrValue, value)
 }
 
-/// A pair as it is printed, without a line ending. One that is `first` in a body isn't to be taken for a byte order mark.
+/// Returns a pair as it is printed, without a line ending. A pair that is `first` in a body is printed so that it isn't
+/// taken for a byte order mark.
 pub fn printed_pair(
     alloc: Global,
     encoding: Encoding,
@@ -167,7 +170,7 @@ pub fn printed_pair(
     concatenated(alloc, line.as_slice(), b"", b"")
 }
 
-// The bytes of three slices, one after the other. Their memory is taken before the first of them is copied.
+// Concatenates three slices. Their memory is allocated before the first of them is copied.
 fn concatenated(
     alloc: Global,
     front: &[u8],

@@ -1,4 +1,4 @@
-// The groups of a source as slots in one array: edits change the slots, and the bytes are made once.
+// The groups of a source as slots in one array. Edits change the slots, and the bytes are built once.
 
 ghost use Rattle.std.specs.Prelude.{OnOk};
 ghost use Rattle.properties_format.specs.Edited.{Edit};
@@ -22,38 +22,38 @@ mod places;
 mod put;
 mod remove;
 
-/// What stands of a group after the edits so far.
+/// What remains of a group after the edits so far.
 #[derive(Drop)]
 pub struct Slot {
     /// The part of the body that it keeps.
     kept: BodySpan,
     /// The bytes after that part: a printed pair, or a line ending that closes an open line.
     added: Vec<u8>,
-    /// Its last line ending, of which the last slot has none.
+    /// Its last line ending. The last slot has none.
     ending: Option<LineEnding>,
-    /// Whether it stands in what is left.
+    /// Whether it is part of what is left.
     is_left: bool,
 }
 
-/// The groups of a body that is held whole, as slots in their order.
+/// The groups of a body that is held in memory, as slots in order.
 ///
-/// The first slot is kept for an LF that may have to stand before all others. The last slot is always left.
+/// The first slot is reserved for an LF that may have to come before all others. The last slot is always left.
 #[derive(Drop)]
 pub struct Slots {
     slots: Vec<Slot>,
-    // For each slot a later one, or their number: none between the two is left.
+    // For each slot, the index of a later slot, or the number of slots. No slot between the two is left.
     links: Vec<usize>,
-    // The slots of the pairs with each key, in order, but for those that aren't left.
+    // For each key, the indices of its pairs' slots, in order, without the slots that aren't left.
     places: BTreeMap<String, Vec<usize>>,
-    // None before this slot is left.
+    // No slot before this one is left.
     first: usize,
-    // What parts a new pair from the last slot, and its line endings.
+    // What separates a new pair from the last slot, and the line ending for it.
     closing: Closing,
     parting: LineEnding,
 }
 
 impl Slots {
-    /// Makes an edit; `is_marked` says that a byte order mark stands before the body.
+    /// Applies an edit. `is_marked` says whether a byte order mark comes before the body.
     pub fn make(
         &mut self,
         alloc: Global,

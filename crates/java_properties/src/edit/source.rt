@@ -1,4 +1,4 @@
-// What is edited of a source: the body after its byte order mark, in the encoding in force.
+// The part of a source that is edited: the body after the byte order mark, in the encoding in force.
 
 ghost use Rattle.properties_text.specs.Encoding.{encoding_of};
 ghost use Rattle.java_properties.specs.Sources.{IsInForce, OpensSource};
@@ -7,18 +7,18 @@ use crate::error::PropertiesError;
 use properties_text::encoding::Encoding;
 use properties_text::encoding::byte_order_mark::{ByteOrderMark, byte_order_mark};
 
-/// What is known of a source before it is edited.
+/// What is known about a source before it is edited.
 #[derive(Clone, Copy)]
-pub struct Source {
+pub struct BodyStart {
     /// The encoding in force.
     pub encoding: Encoding,
-    /// Where the body starts, after the byte order mark.
+    /// The position where the body starts, after any byte order mark.
     pub start: usize,
 }
 
-impl Source {
-    /// A source that is read in this encoding, unless a byte order mark says another one. UTF-16 is refused.
-    pub fn open(source: &[u8], encoding: Encoding) -> Result<Source, PropertiesError>
+impl BodyStart {
+    /// Opens a source in this encoding, unless a byte order mark selects another one. UTF-16 is refused.
+    pub fn open(source: &[u8], encoding: Encoding) -> Result<BodyStart, PropertiesError>
         ensures { OpensSource source.now (encoding_of encoding) result }
     {
         let opened = in_force(source, encoding);
@@ -29,12 +29,12 @@ impl Source {
     }
 }
 
-// The encoding in force, and where the body starts.
-fn in_force(source: &[u8], encoding: Encoding) -> Source
+// Returns the encoding in force and the position where the body starts.
+fn in_force(source: &[u8], encoding: Encoding) -> BodyStart
     ensures { IsInForce source.now (encoding_of encoding) result }
 {
     match byte_order_mark(source) {
-        ByteOrderMark::Present(encoding, start) => Source { encoding, start },
-        ByteOrderMark::Absent | ByteOrderMark::Undecided => Source { encoding, start: 0 },
+        ByteOrderMark::Present(encoding, start) => BodyStart { encoding, start },
+        ByteOrderMark::Absent | ByteOrderMark::Undecided => BodyStart { encoding, start: 0 },
     }
 }

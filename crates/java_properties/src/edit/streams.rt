@@ -1,4 +1,4 @@
-// Sources that come from a reader, and go to a sink.
+// Reads sources from a reader and writes them to a sink.
 
 ghost use Rattle.std.specs.Prelude.{◌≡◌, ◌<◌, [], length, false, Some, IfErr, IfOk};
 ghost use Rattle.std.specs.Io.{ReadsAtMost};
@@ -15,13 +15,13 @@ use properties_text::encoding::Encoding;
 use std::alloc::{AllocError, Global};
 use std::io::{self, ErrorKind, Read};
 
-// How many bytes are read at once, at most.
+// The maximum number of bytes in one read.
 const BLOCK: usize = 1 << 16;
 
-/// All that a reader gives to its end: the source of an edit.
+/// Reads to the end of a reader and returns all its bytes: the source of an edit.
 ///
-/// Where a read fails, the error is the one that reading the items of this input would return: that of a malformed escape
-/// before the fault, or else the fault, under the number of its line. The encoding is used for that alone.
+/// If a read fails, the error is the one that reading the items of this input would return: that of a malformed escape
+/// before the failure, or else the I/O error with its line number. The encoding is used only for this.
 ///
 /// ```text
 /// let source = read_source(alloc, &mut input, Encoding::UTF_8)?;
@@ -46,7 +46,7 @@ fn cleared(alloc: Global, size: usize) -> Result<Vec<u8>, AllocError>
     vec![in alloc; 0; size]
 }
 
-// The same, by way of a block.
+// Does what `read_source` does, with this block as the buffer for reads.
 fn read_through<R: CountedRead>(
     alloc: Global,
     reader: &mut R,
@@ -76,7 +76,7 @@ fn read_through<R: CountedRead>(
     }
 }
 
-// Reads all items, and drops them.
+// Reads all items and drops them.
 fn pass_items<R: CountedRead>(
     alloc: Global,
     reader: &mut R,
@@ -92,7 +92,7 @@ fn pass_items<R: CountedRead>(
     Ok(())
 }
 
-// A reader that fails after some bytes, each time.
+// A reader that returns some bytes and then fails on every read.
 #[derive(Drop)]
 struct Broken<'a> {
     left: &'a [u8],
@@ -130,10 +130,10 @@ impl CountedRead for Broken<'_> {
     }
 }
 
-/// Writes all the bytes, and flushes the sink.
+/// Writes all the bytes and flushes the sink.
 ///
-/// The errors are those of a [`PropertiesWriter`](crate::PropertiesWriter), without a line: where a write fails, the sink has a
-/// proper prefix of the bytes.
+/// The errors are those of a [`PropertiesWriter`](crate::PropertiesWriter), without a line number. If a write fails,
+/// the sink has received a proper prefix of the bytes.
 ///
 /// ```text
 /// let mut output = Counted::new(Vec::new(alloc));

@@ -1,4 +1,4 @@
-// The values of keys that stay open.
+// The values of the keys of an open document.
 
 ghost use Rattle.std.specs.Prelude.{◌≡◌, ℕ, List, IfOk, OnOk, bytes_eq, true, if◌then◌else◌};
 ghost use Rattle.std.specs.Option.{is_some, option_map};
@@ -11,7 +11,7 @@ ghost use Rattle.java_properties.specs.BodyDocuments.{KeepsValue, PutsValue, pai
 use std::alloc::{AllocError, Global};
 use std::collections::BTreeMap;
 
-/// Keeps the value of a pair, where there is one, and returns a copy of its key.
+/// Stores the value of a pair under its key, if there is a pair, and returns a copy of the key.
 pub fn keep_value(
     alloc: Global,
     values: &mut BTreeMap<String, String>,
@@ -29,7 +29,7 @@ pub fn keep_value(
     Ok(Some(copy))
 }
 
-/// Puts a value under a key, and returns the one that stood there.
+/// Stores a value under a key and returns the previous one.
 pub fn put_value(
     alloc: Global,
     values: &mut BTreeMap<String, String>,
@@ -45,7 +45,7 @@ pub fn put_value(
     Ok(values.insert(key, value)?)
 }
 
-/// Puts back what stood under a key, or nothing where nothing did.
+/// Restores the previous value of a key, or removes the key if it had none.
 pub fn restore_value(values: &mut BTreeMap<String, String>, key: &str, before: Option<String>)
     requires ordered { IsOrdered string_cmp values.old }
     requires there { is_some (value_at values.old.entries (chars key.now)) ≡ true }

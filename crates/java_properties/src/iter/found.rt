@@ -1,4 +1,4 @@
-// What is found of an item before it is lent: it borrows nothing, so that reading can go on around it.
+// Items that are found but not yet borrowed. A found item borrows nothing, so reading can continue while it is held.
 
 ghost use Rattle.std.specs.Prelude.{◌≡◌, Some, None, false, not, bytes_eq, IfOk};
 ghost use Rattle.std.specs.Option.{is_some, option_map};
@@ -20,10 +20,9 @@ use properties_text::parse::{ParsedSpans, Span, parse_spans};
 use std::alloc::{AllocError, Global};
 use std::borrow::CowStr;
 
-/// An item that [`advance`](crate::PropertiesIter::advance) has found, for
-/// [`get`](crate::PropertiesIter::get).
+/// An item that [`advance`](crate::PropertiesIter::advance) found, to be passed to [`get`](crate::PropertiesIter::get).
 ///
-/// It borrows nothing: it holds where the texts stand in the line that the iterator keeps, and the texts whose
+/// It borrows nothing. It holds the positions of the texts in the line that the iterator keeps, and the texts whose
 /// escapes had to be resolved.
 #[derive(Drop)]
 pub struct Found {
@@ -40,11 +39,12 @@ enum FoundContent {
 #[derive(Drop)]
 struct FoundText {
     span: Span,
-    // The text with its escapes resolved, where its slice of the line holds a backslash.
+    // The text with its escapes resolved, if its slice of the line contains a backslash.
     resolved: Option<String>,
 }
 
-/// What a logical line is that begins in the line of this number, where it isn't blank; or why its escapes aren't resolved.
+/// Finds the item of a logical line that begins in the line with this number. Returns `None` if the logical line is
+/// blank, and an error if its escapes can't be resolved.
 pub(crate) fn find_escaped(
     alloc: Global,
     line_number: usize,
@@ -62,7 +62,8 @@ pub(crate) fn find_escaped(
     }))
 }
 
-/// The same of a line without a backslash, which takes no memory.
+/// Finds the item of a logical line without a backslash that begins in the line with this number. Returns `None` if the
+/// logical line is blank. Allocates nothing.
 #[inline(always)]
 pub(crate) fn find_plain(line_number: usize, line: &str) -> Option<Found>
     requires { holds_backslash (chars line.now) ≡ false }
@@ -128,7 +129,7 @@ fn find_text(alloc: Global, line: &str, span: Span) -> Result<FoundText, Unescap
 }
 
 impl Found {
-    /// The item, cut out of the line in which it was found.
+    /// Returns the item, with its texts cut out of the line that it was found in.
     pub(crate) fn cut(self, line: &str) -> LineRef<'_>
         requires { IsFoundIn line.now self }
         ensures item { lent_entry result ≡ found_entry line.now self }
@@ -141,7 +142,7 @@ impl Found {
         LineRef::new(line_number, content.cut(line))
     }
 
-    /// Whether it is a pair with this key.
+    /// Returns whether the item is a pair with this key.
     pub(crate) fn has_key(&self, line: &str, key: &str) -> bool
         requires { IsFoundIn line.now self.now }
         ensures { result ≡ is_pair_with (chars key.now) (given (found_content line.now self.now.content)) }
@@ -154,7 +155,7 @@ impl Found {
 }
 
 impl Found {
-    /// A copy of its key, where it is a pair.
+    /// Returns a copy of the key, or `None` if the item is a comment.
     pub(crate) fn key(&self, alloc: Global, line: &str) -> Result<Option<String>, AllocError>
         requires { IsFoundIn line.now self.now }
         ensures { IfOk result (λ key. option_map characters key ≡ key_told (given (found_content line.now self.now.content))) }
@@ -165,7 +166,7 @@ impl Found {
         }
     }
 
-    /// Copies of its key and its value, where it is a pair.
+    /// Returns copies of the key and the value, or `None` if the item is a comment.
     pub(crate) fn pair(
         &self,
         alloc: Global,
@@ -201,7 +202,7 @@ impl FoundContent {
 }
 
 impl FoundText {
-    // A text that holds no escape.
+    // A text without escapes.
     fn verbatim(span: Span) -> FoundText
         ensures { result ≡ record { span = span; resolved = None } }
     {
@@ -211,7 +212,7 @@ impl FoundText {
         }
     }
 
-    // Whether it is this text.
+    // Returns whether the found text equals `text`.
     fn is(&self, line: &str, text: &str) -> bool
         requires { IsTextIn line.now self.now }
         ensures { result ≡ bytes_eq (chars (found_bytes line.now self.now)) (chars text.now) }
@@ -222,7 +223,7 @@ impl FoundText {
         }
     }
 
-    // A copy of it.
+    // Returns a copy of the text.
     fn copied(&self, alloc: Global, line: &str) -> Result<String, AllocError>
         requires { IsTextIn line.now self.now }
         ensures { IfOk result (λ text. characters text ≡ chars (found_bytes line.now self.now)) }

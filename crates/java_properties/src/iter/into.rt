@@ -1,4 +1,4 @@
-// The pairs of a reader, to a closure.
+// Passes the pairs of a reader to a closure.
 
 ghost use Rattle.java_properties.specs.ReadInto.{CallableOnPairs, ReadsInto};
 
@@ -8,7 +8,7 @@ use crate::line::LineContent;
 use counted_io::CountedRead;
 
 impl<R: CountedRead> PropertiesIter<R> {
-    /// Reads to the end, and calls `f` on the key and the value of each pair that comes, in order.
+    /// Reads to the end and calls `f` with the key and the value of each remaining pair, in order.
     ///
     /// An error of the input ends the reading. It is returned after the calls for the pairs before it. In both cases
     /// the iterator is at its end afterwards.

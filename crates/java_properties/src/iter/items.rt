@@ -1,4 +1,4 @@
-// Items, one after another, from a reader that is passed at each call.
+// Reads items one after another from a reader that is passed to each call.
 
 ghost use Rattle.std.specs.Prelude.{◌≡◌, ◌<◌, None, [], OnSome};
 ghost use Rattle.std.specs.Str.{chars};
@@ -20,7 +20,7 @@ use properties_text::encoding::Encoding;
 use std::alloc::Global;
 use std::marker::Model;
 
-/// What is held between two items.
+/// The state between two items.
 #[derive(Drop)]
 pub struct ItemReader {
     lines: LineJoiner,
@@ -36,7 +36,7 @@ impl Model for ItemReader {
 }
 
 impl ItemReader {
-    /// At the start of an input. It takes no memory yet.
+    /// Returns the state at the start of an input. Allocates nothing.
     pub fn new(alloc: Global, encoding: Encoding) -> ItemReader
         ensures { result ≡ record { state = start (encoding_of encoding); line = [] } }
     {
@@ -46,7 +46,7 @@ impl ItemReader {
         }
     }
 
-    /// Comes to the next item, and returns what was found of it; an error; or `None` where no more come.
+    /// Advances to the next item and returns what was found; an error; or `None` at the end.
     pub fn advance<R: CountedRead>(
         &mut self,
         reader: &mut R,
@@ -76,7 +76,7 @@ impl ItemReader {
         Some(Err(PropertiesError::from(error)))
     }
 
-    /// The item that was found last.
+    /// Returns the item that was found last.
     pub fn get(&self, found: Found) -> LineRef<'_>
         requires { IsFoundIn self.now.line found }
         ensures item { lent_entry result ≡ found_entry self.now.line found }
@@ -85,7 +85,7 @@ impl ItemReader {
         found.cut(self.lines.line())
     }
 
-    /// The next item with texts of its own, an error, or `None` where no more come.
+    /// Returns the next item with owned texts; an error; or `None` at the end.
     pub fn next_item<R: CountedRead>(
         &mut self,
         reader: &mut R,
@@ -100,7 +100,7 @@ impl ItemReader {
         }
     }
 
-    // The item that was found last, with texts of its own. Where there is no memory for them, the reading ends.
+    // Returns the item that was found last, with owned texts. If there is no memory for them, the reading ends.
     fn own(&mut self, found: Found) -> Result<Line, PropertiesError>
         requires { IsFoundIn self.old.line found }
         ensures { Owns self.old found result self.new }

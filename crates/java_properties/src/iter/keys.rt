@@ -1,4 +1,4 @@
-// The keys of an input, each with its line.
+// The keys of an input, each with its line number.
 
 ghost use Rattle.std.specs.Prelude.{IfOk, OnOk};
 ghost use Rattle.std.specs.Str.{chars};
@@ -18,7 +18,7 @@ use properties_text::escape::UnescapeError;
 use std::alloc::{AllocError, Global};
 use std::collections::BTreeMap;
 
-/// The key of a pair, with the number of the line in which the pair begins.
+/// The key of a pair, with the number of the line that the pair begins in.
 ///
 /// ```text
 /// for key in &key_lines(alloc, &mut input, Encoding::UTF_8)? {
@@ -29,18 +29,19 @@ use std::collections::BTreeMap;
 /// ```
 #[derive(Clone, Debug, PartialEq, Eq, Drop)]
 pub struct KeyLine {
-    /// The number of the first natural line of the pair. Lines are numbered from 1.
+    /// The number of the pair's first natural line. Lines are numbered from 1.
     pub line_number: usize,
     /// The key.
     pub key: String,
-    /// The number of the line in which the first pair with this key begins: its own, where no pair before has the key.
+    /// The number of the line that the first pair with this key begins in. It equals `line_number` if no earlier pair
+    /// has the key.
     pub first: usize,
 }
 
-/// Reads an input to its end, and returns the key of each pair, in order. A pair with a malformed escape is left out.
+/// Reads an input to its end and returns the key of each pair, in order. Pairs with a malformed escape are left out.
 ///
-/// An error is one of the reader, of numbers for lines, or of memory. A byte order mark at the front overrules the
-/// encoding.
+/// It fails if the reader fails, if there are too many lines to number, or if memory runs out. A byte order mark at the
+/// front overrides the encoding.
 ///
 /// ```text
 /// let mut input: &[u8] = b"# the front door\nport = 80\nhost = a\nport = 81";
@@ -67,7 +68,7 @@ pub fn key_lines<R: CountedRead>(
     Ok(keys)
 }
 
-// Appends the key of a logical line that begins in the line of this number, where it has one.
+// Appends the key of a logical line that begins in the line with this number, if it has one.
 fn push_key(
     alloc: Global,
     keys: &mut Vec<KeyLine>,
@@ -85,7 +86,7 @@ fn push_key(
     }
 }
 
-// The key of a logical line, where it is a pair without a malformed escape.
+// Returns the key of a logical line if it is a pair without a malformed escape.
 fn key_in(alloc: Global, line_number: usize, line: &str) -> Result<Option<String>, PropertiesError>
     ensures { TellsLineKey (chars line.now) result }
 {
@@ -102,7 +103,7 @@ fn key_in(alloc: Global, line_number: usize, line: &str) -> Result<Option<String
     }
 }
 
-// Appends a key, and keeps its line where no pair before has it.
+// Appends a key, and records its line number if no earlier pair has the key.
 fn add_key(
     keys: &mut Vec<KeyLine>,
     firsts: &mut BTreeMap<String, usize>,
@@ -122,7 +123,7 @@ fn add_key(
     Ok(())
 }
 
-// The number of the line that is kept under a key. Where none is, it is this one, which is then kept.
+// Returns the line number that is recorded for a key. If there is none, records and returns this one.
 fn keep_first(
     firsts: &mut BTreeMap<String, usize>,
     line_number: usize,

@@ -1,4 +1,4 @@
-// Items that are lent.
+// Borrowed items.
 
 ghost use Rattle.std.specs.Prelude.{◌≡◌};
 ghost use Rattle.java_properties.specs.LentItems.{IsLineOf, IsContentOf};
@@ -8,18 +8,18 @@ use crate::line::{Line, LineContent};
 use std::alloc::Global;
 use std::borrow::CowStr;
 
-/// What a lent line says.
+/// The content of a borrowed line: a comment or a pair.
 ///
-/// A text that holds no escape is borrowed from what was read, and one that holds escapes is owned.
+/// A text without escapes is borrowed from the line that was read. A text with escapes is owned.
 #[derive(Drop)]
 pub enum ContentRef<'a> {
-    /// The text of a comment, without its comment sign and the blanks around it.
+    /// The text of a comment, without the comment sign and without the blanks around the text.
     Comment(CowStr<'a>),
     /// A key and its value.
     KVPair(CowStr<'a>, CowStr<'a>),
 }
 
-/// A comment or a pair, with the number of the line in which it begins, lent by the iterator until its next call.
+/// A comment or a pair, with the number of the line that it begins in, borrowed from the iterator until its next call.
 ///
 /// ```text
 /// let mut input: &[u8] = b"greeting = hello\\tworld";
@@ -48,21 +48,21 @@ impl<'a> LineRef<'a> {
         }
     }
 
-    /// The number of the line in which it begins.
+    /// Returns the number of the line that the comment or pair begins in.
     pub fn line_number(&self) -> usize
         ensures { result ≡ self.now.line_number }
     {
         self.line_number
     }
 
-    /// What the line says.
+    /// Returns the comment or pair.
     pub fn content(&self) -> &ContentRef<'a>
         ensures { result.now ≡ self.now.content }
     {
         &self.content
     }
 
-    /// The same with texts of its own, as `next` would have returned it.
+    /// Returns a copy with owned texts, as `next` would have returned it.
     pub fn to_line(&self, alloc: Global) -> Result<Line, PropertiesError>
         ensures { IsLineOf self.now result }
     {
@@ -76,7 +76,7 @@ impl<'a> LineRef<'a> {
         }
     }
 
-    // The same, which copies the texts that are borrowed alone.
+    // Converts the line into one with owned texts. Copies only the texts that are borrowed.
     pub(crate) fn into_line(self, alloc: Global) -> Result<Line, PropertiesError>
         ensures { IsLineOf self.entry result }
     {

@@ -1,4 +1,4 @@
-// The malformed escapes of an input.
+// Finds the malformed escapes of an input.
 
 ghost use Rattle.std.specs.Str.{chars};
 ghost use Rattle.counted_io.specs.Streams.{IsSameReader};
@@ -23,7 +23,7 @@ use std::alloc::Global;
 /// ```
 #[derive(Clone, Copy, Debug, PartialEq, Eq)]
 pub struct MalformedEscape {
-    /// The number of the first natural line of the logical one. Lines are numbered from 1.
+    /// The number of the logical line's first natural line. Lines are numbered from 1.
     pub line_number: usize,
     /// How it is malformed: `NotEnoughDigits`, `NotHex` or `InvalidCharacter`.
     pub kind: ErrorKind,
@@ -31,10 +31,10 @@ pub struct MalformedEscape {
     pub in_comment: bool,
 }
 
-/// Reads an input to its end, and returns the first malformed escape of each logical line that has one, in order.
+/// Reads an input to its end and returns the first malformed escape of each logical line that has one, in order.
 ///
-/// An error is one of the reader, of numbers for lines, or of memory. A byte order mark at the front overrules the
-/// encoding.
+/// It fails if the reader fails, if there are too many lines to number, or if memory runs out. A byte order mark at the
+/// front overrides the encoding.
 ///
 /// ```text
 /// let mut input: &[u8] = b"# C:\\users\na = \\u00e9\nb = \\u12";
@@ -61,7 +61,7 @@ pub fn malformed_escapes<R: CountedRead>(
     Ok(escapes)
 }
 
-// Appends the first malformed escape of a logical line that begins in the line of this number, where it has one.
+// Appends the first malformed escape of a logical line that begins in the line with this number, if it has one.
 fn push_malformed(
     alloc: Global,
     escapes: &mut Vec<MalformedEscape>,

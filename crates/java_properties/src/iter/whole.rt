@@ -1,4 +1,4 @@
-// All items of an input.
+// Reads all items of an input.
 
 ghost use Rattle.counted_io.specs.Streams.{IsSameReader};
 ghost use Rattle.java_properties.specs.ReadLines.{ReadsLines};
@@ -11,9 +11,9 @@ use counted_io::CountedRead;
 use properties_text::encoding::Encoding;
 use std::alloc::Global;
 
-/// Why a reading ended early, and the items before that.
+/// Why a reading ended early, and the items before the error.
 ///
-/// Where memory ran out, the items are the first ones before that point.
+/// If memory ran out, they are the first items of the input, up to that point.
 #[derive(Debug, Drop)]
 pub struct Stopped {
     /// The items before the error.
@@ -22,9 +22,9 @@ pub struct Stopped {
     pub error: PropertiesError,
 }
 
-/// Reads an input to its end, and returns all its items: each comment and each pair, under the number of its line.
+/// Reads an input to its end and returns all its items: each comment and each pair, with its line number.
 ///
-/// A byte order mark at the front overrules the encoding.
+/// A byte order mark at the front overrides the encoding.
 ///
 /// ```text
 /// let mut input: &[u8] = b"# greetings\nhello = world";

@@ -1,4 +1,4 @@
-// Sorted maps, read and written whole in any encoding.
+// Reads and writes whole sorted maps in any encoding.
 
 ghost use Rattle.std.specs.Prelude.{IfOk};
 ghost use Rattle.std.specs.String.{string_cmp};
@@ -18,11 +18,11 @@ use properties_text::encoding::{Encoding, OutputEncoding};
 use std::alloc::{AllocError, Global};
 use std::collections::BTreeMap;
 
-/// Reads an input in this encoding to its end, and returns the value of each key, the keys in order.
+/// Reads an input in this encoding to its end and returns the value of each key, in the order of the keys.
 ///
-/// It is [`read`](crate::read) for any encoding, and into a map that stays fast whatever the keys are: use it for
-/// files of strangers. Of two pairs with the same key the later one counts. A byte order mark at the front overrules
-/// the encoding. An error of the input is returned, and no map.
+/// It does what [`read`](crate::read) does, for any encoding, and its map stays fast whatever the keys are: use it for
+/// untrusted files. If several pairs have the same key, the last one counts. A byte order mark at the front overrides
+/// the encoding. If the input has an error, it returns the error and no map.
 ///
 /// ```text
 /// let mut input: &[u8] = b"hello = world\ncafe = caf\xc3\xa9";
@@ -47,7 +47,7 @@ pub fn read_sorted<R: CountedRead>(
     Ok(map)
 }
 
-// Puts the value of a pair under its key.
+// Inserts the value of a pair under its key. Ignores comments.
 fn insert_if_pair(
     map: &mut BTreeMap<String, String>,
     content: LineContent,
@@ -65,12 +65,12 @@ fn insert_if_pair(
     }
 }
 
-/// Writes each entry of a map as one line, in the output encoding of this one and by the settings of a new writer, and
-/// flushes the sink.
+/// Writes each entry of a map as one line, in the output encoding of `encoding` and with the settings of a new writer,
+/// and flushes the sink.
 ///
-/// The output encoding is windows-1252 or UTF-8: a form of UTF-16 is read and never written. What was written is read
-/// back, in the output encoding, as the same map. The lines are those of a loop that writes the entries by a
-/// [`PropertiesWriter`](crate::PropertiesWriter); write them so where comments are wanted too.
+/// The output encoding is windows-1252 or UTF-8: UTF-16 can be read but is never written. What is written reads back,
+/// in the output encoding, as the same map. A loop that writes the entries with a
+/// [`PropertiesWriter`](crate::PropertiesWriter) writes the same lines; use such a loop if you also want comments.
 ///
 /// ```text
 /// let mut output = Counted::new(Vec::new(alloc));
@@ -93,7 +93,7 @@ pub fn write_sorted<W: CountedWrite>(
     write_pairs(alloc, writer, &pairs, OutputEncoding::from(encoding))
 }
 
-// The entries of a map, in its order.
+// Returns the entries of a map, in its order.
 fn pairs_of<'a>(
     alloc: Global,
     map: &'a BTreeMap<String, String>,

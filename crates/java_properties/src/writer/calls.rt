@@ -1,4 +1,4 @@
-// Calls of a writer as values.
+// A writer's calls as values.
 
 ghost use Rattle.counted_io.specs.Streams.{IsSameSink};
 ghost use Rattle.java_properties.specs.Calls.{calls_in, call_in, SaysAccepted, MakesCall, RunsCalls, LeavesFailed};
@@ -13,32 +13,32 @@ use std::alloc::Global;
 /// A call of a writer: a line, a setting or a flush.
 #[derive(Debug, Clone, PartialEq, Eq, Drop)]
 pub enum Call {
-    /// Write a comment.
+    /// Writes a comment.
     Comment(String),
-    /// Write a key and its value.
+    /// Writes a key and its value.
     Pair(String, String),
-    /// Set the prefix of comments.
+    /// Sets the comment prefix.
     Prefix(String),
-    /// Set the separator of keys and values.
+    /// Sets the separator between keys and values.
     Separator(String),
-    /// Set the line ending.
+    /// Sets the line ending.
     Ending(LineEnding),
-    /// Flush the sink.
+    /// Flushes the sink.
     Flush,
-    /// Set whether every character past U+007F is escaped.
+    /// Sets whether every character past U+007F is escaped.
     AsciiOnly(bool),
 }
 
 /// Makes the calls in order, and returns for each whether it was accepted.
 ///
-/// A bad prefix, a bad separator and an empty key under a separator of blanks are not accepted, change nothing, and
-/// the calls go on. Any other error ends them and is returned: the calls before it have been made.
+/// A bad prefix, a bad separator, and an empty key under a separator of blanks are not accepted: they change nothing,
+/// and the calls after them are made. Any other error ends the run and is returned; the calls before it have been made.
 ///
-/// Where all calls are pairs and all are accepted, no other list of pairs writes the same bytes by the same settings, and
-/// reading these pairs and writing them anew changes no byte.
+/// If all calls are pairs and all are accepted, no other list of pairs writes the same bytes with the same settings,
+/// and reading these pairs and writing them again changes no byte.
 ///
-/// Where the first call is `AsciiOnly(true)` and none is `AsciiOnly(false)`, every byte that is written is ASCII, and
-/// what is written reads back the same in windows-1252 and in UTF-8.
+/// If the first call is `AsciiOnly(true)` and none is `AsciiOnly(false)`, every byte that is written is ASCII, and what
+/// is written reads back the same in windows-1252 and in UTF-8.
 ///
 /// ```text
 /// let calls = vec![in alloc; Call::Ending(LineEnding::CRLF), Call::Pair(key, value), Call::Flush]?;
@@ -60,7 +60,7 @@ pub fn run_calls<W: CountedWrite>(
     let mut answers = Vec::with_capacity(alloc, calls.len())?;
     for call in calls {
         let accepted = run_call(call, writer)?;
-        // There is room for an answer to each call.
+        // There is reserved space for an answer to each call.
         answers.push(accepted).unwrap();
     }
     Ok(answers)
@@ -91,7 +91,7 @@ fn run_call<W: CountedWrite>(
     }
 }
 
-// Whether the call was accepted, or the error that ends the calls.
+// Returns whether the call was accepted, or the error that ends the run.
 fn was_accepted(done: Result<(), PropertiesError>) -> Result<bool, PropertiesError>
     ensures { SaysAccepted done result }
 {

@@ -17,7 +17,7 @@ use properties_text::encoding::OutputEncoding;
 use properties_text::print::{LineBuffer, Place, Repertoire, print_key, print_raw, print_text};
 use std::alloc::{AllocError, Global};
 
-/// What a line is to say.
+/// The content of a line to write.
 #[derive(Clone, Copy)]
 pub enum Content<'a> {
     /// A comment.
@@ -26,22 +26,22 @@ pub enum Content<'a> {
     KVPair(&'a str, &'a str),
 }
 
-/// What a writer holds between two lines. It is passed its sink at each call.
+/// The state of a writer between two lines. The sink is passed to each call.
 #[derive(Drop)]
 pub struct Engine {
-    // The line that is built, which keeps its memory for the next.
+    // The line under construction. Its memory is reused for the next line.
     line: LineBuffer,
-    // How many lines were written.
+    // The number of lines written.
     lines: usize,
     // Whether a write failed.
     failed: bool,
     encoding: OutputEncoding,
-    /// What the next line is written by.
+    /// The settings for the next line.
     pub settings: Settings,
 }
 
 impl Engine {
-    /// Before the first line.
+    /// Creates the state before the first line.
     pub fn new(alloc: Global, encoding: OutputEncoding) -> Engine
         ensures encoding { result.encoding ≡ encoding }
         ensures settings { result.settings ≡ default_settings }
@@ -57,7 +57,7 @@ impl Engine {
         }
     }
 
-    /// Counts on from so many lines, so that a test comes to the last number.
+    /// Sets the number of lines written, so that a test can reach the last number.
     #[cfg(test)]
     pub fn count_from(&mut self, lines: usize)
         ensures { self.new ≡ record self.old { lines = lines } }
@@ -65,7 +65,7 @@ impl Engine {
         self.lines = lines;
     }
 
-    /// Writes a line, which is built whole before its first byte is sent.
+    /// Writes a line, which is built completely before its first byte is sent.
     pub fn write_line<W: CountedWrite>(
         &mut self,
         sink: &mut W,
@@ -97,7 +97,7 @@ impl Engine {
         }
     }
 
-    /// Flushes the sink, unless a write failed.
+    /// Flushes the sink. Fails without a flush if an earlier write failed.
     pub fn flush<W: CountedWrite>(&mut self, sink: &mut W) -> Result<(), PropertiesError>
         ensures flushes { let old = writing self.old sink.old in
             Flushes W.CountedWrite old result (writing self.new sink.new) }
@@ -119,7 +119,7 @@ impl Engine {
         }
     }
 
-    // The bytes of the line, to be sent.
+    // Builds the bytes of the line.
     fn build(&mut self, content: Content<'_>) -> Result<(), AllocError>
         ensures printed { let bytes = line_bytes self.old (entry_content content.entry) in
             OnOk result (self.new.line ≡ bytes) }

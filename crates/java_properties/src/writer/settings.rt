@@ -1,4 +1,4 @@
-// What a writer is set to.
+// The settings of a writer.
 
 ghost use Rattle.std.specs.Prelude.{◌≡◌, ◌&&◌, not, true};
 ghost use Rattle.std.specs.Str.{chars};
@@ -14,7 +14,7 @@ use std::alloc::Global;
 use std::fmt;
 use std::marker::Model;
 
-/// What ends each line that is written.
+/// The ending of each line that is written.
 #[derive(Clone, Copy, Debug, PartialEq, Eq, PartialOrd, Ord, Hash)]
 pub enum LineEnding {
     /// A carriage return.
@@ -52,13 +52,13 @@ impl fmt::Display for LineEnding {
     }
 }
 
-/// What stands before a comment and between a key and its value, what ends a line, and whether every character past
-/// U+007F is escaped. A text that is `None` is the one of a new writer.
+/// The comment prefix, the separator between keys and values, the line ending, and whether every character past U+007F
+/// is escaped. A text that is `None` has the default of a new writer.
 #[derive(Drop)]
 pub(crate) struct Settings {
     comment_prefix: Option<String>,
     kv_separator: Option<String>,
-    // Whether the separator is blanks alone.
+    // Whether the separator consists only of blanks.
     separator_is_blank: bool,
     line_ending: LineEnding,
     ascii_only: bool,
@@ -78,7 +78,7 @@ impl Model for Settings {
 }
 
 impl Settings {
-    /// Those of a new writer, which take no memory.
+    /// Returns the settings of a new writer. Allocates nothing.
     pub fn new(alloc: Global) -> Settings
         ensures { result ≡ default_settings }
     {
@@ -92,14 +92,14 @@ impl Settings {
         }
     }
 
-    /// They are always good ones, which this tells a proof. It does nothing.
+    /// Gives a proof the fact that the settings are good, as they always are. It does nothing at run time.
     pub fn tell_they_are_good(&self)
         ensures { AreGoodSettings self.now }
     {
         let _ = &self.line_ending;
     }
 
-    /// What stands before the text of a comment.
+    /// Returns what comes before the text of a comment.
     pub fn comment_prefix(&self) -> &str
         ensures value { chars result.now ≡ self.now.comment_prefix }
         ensures good { is_good_prefix (chars result.now) ≡ true }
@@ -110,7 +110,7 @@ impl Settings {
         }
     }
 
-    /// What stands between a key and its value.
+    /// Returns what comes between a key and its value.
     pub fn kv_separator(&self) -> &str
         ensures value { chars result.now ≡ self.now.kv_separator }
         ensures good { is_good_separator (chars result.now) ≡ true }
@@ -121,14 +121,14 @@ impl Settings {
         }
     }
 
-    /// What ends a line.
+    /// Returns what ends a line.
     pub fn line_ending(&self) -> LineEnding
         ensures { ending_of result ≡ self.now.line_ending }
     {
         self.line_ending
     }
 
-    /// Sets what stands before the text of a comment, unless it makes no comment. The text is copied, also
+    /// Sets what comes before the text of a comment. Fails if the text isn't a valid prefix. The text is copied, also
     /// for the error.
     pub fn set_comment_prefix(&mut self, prefix: &str) -> Result<(), PropertiesError>
         ensures { TakesPrefix self.old (chars prefix.now) result self.new }
@@ -141,7 +141,7 @@ impl Settings {
         Ok(())
     }
 
-    /// Sets what stands between a key and its value, unless it doesn't end a key. The text is copied, also
+    /// Sets what comes between a key and its value. Fails if the text isn't a valid separator. The text is copied, also
     /// for the error.
     pub fn set_kv_separator(&mut self, separator: &str) -> Result<(), PropertiesError>
         ensures { TakesSeparator self.old (chars separator.now) result self.new }
@@ -155,8 +155,8 @@ impl Settings {
         Ok(())
     }
 
-    /// Whether a pair with this key may be written. After a separator of blanks alone the value of an empty key would
-    /// be read as the key.
+    /// Returns whether a pair with this key can be written. If the separator consists only of blanks, the value of an
+    /// empty key would be read as the key.
     pub fn takes_key(&self, key: &str) -> bool
         ensures { result ≡ not (is_empty (chars key.now) && is_blanks self.now.kv_separator) }
     {
@@ -170,7 +170,7 @@ impl Settings {
         self.line_ending = line_ending;
     }
 
-    /// Whether every character past U+007F is escaped.
+    /// Returns whether every character past U+007F is escaped.
     pub fn ascii_only(&self) -> bool
         ensures { result ≡ self.now.ascii_only }
     {
@@ -185,7 +185,8 @@ impl Settings {
     }
 }
 
-/// Whether the text makes a comment of what comes after it: blanks or none, a comment sign, and no line ending.
+/// Returns whether the text is a valid comment prefix: optional blanks, a comment sign, then any text without line
+/// endings.
 pub(crate) fn is_good_prefix(text: &str) -> bool
     ensures { result ≡ is_good_prefix (chars text.now) }
 {
@@ -204,8 +205,8 @@ pub(crate) fn is_good_prefix(text: &str) -> bool
     signed
 }
 
-/// Whether the text ends a key that stands before it: one colon or equals sign with blanks around it or none, or
-/// blanks alone.
+/// Returns whether the text is a valid separator: one colon or equals sign with optional blanks around it, or one or
+/// more blanks.
 pub(crate) fn is_good_separator(text: &str) -> bool
     ensures { result ≡ is_good_separator (chars text.now) }
 {

@@ -10,8 +10,8 @@ use crate::edit::slots::{Slot, Slots};
 use std::alloc::{AllocError, Global};
 
 impl Slots {
-    /// The source with what is left of its body, which starts there. The memory is taken before the first byte is
-    /// copied.
+    /// Returns the source with what is left of its body, which begins at `start`. The memory is allocated before the
+    /// first byte is copied.
     pub fn to_bytes(
         &self,
         alloc: Global,
@@ -32,7 +32,7 @@ impl Slots {
         Ok(bytes)
     }
 
-    // How many bytes they take.
+    // Returns how many bytes the slots need.
     fn size(&self) -> usize {
         let mut size: usize = 0;
         for slot in &self.slots {
@@ -43,7 +43,7 @@ impl Slots {
 }
 
 impl Slot {
-    // How many bytes it takes.
+    // Returns how many bytes the slot needs: none if it isn't left.
     fn size(&self) -> usize {
         if self.is_left {
             let kept = self.kept.end.saturating_sub(self.kept.start);
@@ -54,7 +54,7 @@ impl Slot {
         }
     }
 
-    // Appends its bytes, where it is left.
+    // Appends the bytes of the slot if it is left.
     fn append(&self, bytes: &mut Vec<u8>, body: &[u8]) -> Result<(), AllocError>
         requires ordered { self.now.kept.start ≤ self.now.kept.end }
         requires within { self.now.kept.end ≤ length body.now }

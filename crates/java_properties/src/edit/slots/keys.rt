@@ -8,7 +8,7 @@ use crate::edit::slots::Slots;
 use std::alloc::{AllocError, Global};
 
 impl Slots {
-    /// The keys of the pairs that are left, each once, in the order of their first pairs.
+    /// Returns the keys of the pairs that are left, each once, in the order of their first pairs.
     pub fn keys(&self, alloc: Global) -> Result<Vec<&str>, AllocError>
         requires { HoldsSome self.now }
         ensures { IfOk result (λ keys. FindsKeys self.now keys.items) }
@@ -23,7 +23,7 @@ impl Slots {
         Ok(keys)
     }
 
-    // At the place of each slot, the key whose first pair it is.
+    // Returns for each slot the key whose first pair it is, if there is one.
     fn firsts(&self, alloc: Global) -> Result<Vec<Option<&str>>, AllocError>
         requires { HoldsSome self.now }
         ensures { IfOk result (λ firsts. ArePlaced self.now firsts.items) }

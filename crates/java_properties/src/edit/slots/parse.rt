@@ -1,4 +1,4 @@
-// A body is read into slots.
+// Parses a body into slots.
 
 ghost use Rattle.std.specs.Prelude.{◌≡◌, ◌≤◌, length, IfOk, OnOk};
 ghost use Rattle.std.specs.BTreeMap.{IsOrdered};
@@ -26,7 +26,7 @@ use std::alloc::{AllocError, Global};
 use std::collections::BTreeMap;
 
 impl Slots {
-    /// The slots of a body, whose units are of one byte.
+    /// Returns the slots of a body. The encoding's units are one byte long.
     pub fn parse(alloc: Global, encoding: Encoding, body: &[u8]) -> Result<Slots, PropertiesError>
         requires { unit_size (encoding_of encoding) ≡ 1 }
         ensures { ParsesSlots (encoding_of encoding) body.now result }
@@ -41,7 +41,7 @@ impl Slots {
         Ok(slots)
     }
 
-    /// The same, and the value of each key of the body.
+    /// Returns the slots of a body and the value of each of its keys. The encoding's units are one byte long.
     pub fn parse_with_values(
         alloc: Global,
         encoding: Encoding,
@@ -62,7 +62,7 @@ impl Slots {
         Ok((slots, values))
     }
 
-    // No group as yet.
+    // Returns slots without any group.
     fn with_guard(alloc: Global) -> Result<Slots, AllocError>
         ensures { IfOk result (λ slots. HoldsGuard slots) }
     {
@@ -83,7 +83,7 @@ impl Slots {
         Ok(slots)
     }
 
-    // One more group of the body, which is a pair with this key.
+    // Appends a group of the body, with its key if it is a pair.
     fn add_group(
         &mut self,
         alloc: Global,
@@ -112,7 +112,7 @@ impl Slots {
         Ok(())
     }
 
-    /// The slot comes last.
+    /// Appends a slot.
     pub fn push(&mut self, slot: Slot) -> Result<(), AllocError>
         ensures { OnOk result (Pushes self.old slot self.new) }
     {
@@ -122,7 +122,7 @@ impl Slots {
     }
 }
 
-// The number comes last of those of the key, where there is one.
+// Appends the index to those of the key, if there is one.
 fn add_key(
     alloc: Global,
     places: &mut BTreeMap<String, Vec<usize>>,
@@ -139,7 +139,7 @@ fn add_key(
     }
 }
 
-// A line ending that makes no CR LF after these bytes.
+// Returns a line ending that doesn't form a CR LF with the end of these bytes.
 fn parting_after(bytes: &[u8]) -> LineEnding
     ensures { ending_of result ≡ safe_ending bytes.now }
 {

@@ -1,4 +1,4 @@
-// The slots of each key, by their numbers.
+// The slots of each key, by index.
 
 ghost use Rattle.std.specs.Prelude.{◌≡◌, ℕ, ◌-◌, List, [], ◌∷◌, ◌++◌, length, take, OnOk, bytes_eq, if◌then◌else◌, OnErr};
 ghost use Rattle.std.specs.Str.{chars};
@@ -10,7 +10,7 @@ ghost use Rattle.java_properties.specs.BodySlots.{IsLastOf, stack_at};
 use std::alloc::{AllocError, Global};
 use std::collections::BTreeMap;
 
-/// The number comes last of those of the key. Where memory runs out, every key has the numbers that it had.
+/// Appends an index to those of a key. If memory runs out, every key keeps the indices that it had.
 pub fn add_place(
     alloc: Global,
     places: &mut BTreeMap<String, Vec<usize>>,
@@ -28,14 +28,14 @@ pub fn add_place(
     Ok(())
 }
 
-/// The last number of the key.
+/// Returns the last index of the key, if it has one.
 pub fn last_place(places: &BTreeMap<String, Vec<usize>>, key: &str) -> Option<usize>
     ensures { IsLastOf (stack_at places.now.entries (chars key.now)) result }
 {
     places.get(key)?.last().copied()
 }
 
-/// Takes out the last number of the key.
+/// Removes the last index of the key.
 pub fn pop_place(places: &mut BTreeMap<String, Vec<usize>>, key: &str)
     requires { IsOrdered string_cmp places.old }
     ensures popped { (k : List ℕ) → stack_at places.new.entries k
@@ -48,7 +48,7 @@ pub fn pop_place(places: &mut BTreeMap<String, Vec<usize>>, key: &str)
     }
 }
 
-/// Takes out the numbers of the key.
+/// Removes and returns the indices of the key.
 pub fn take_places(
     alloc: Global,
     places: &mut BTreeMap<String, Vec<usize>>,

@@ -1,4 +1,4 @@
-// A key is put into slots.
+// Sets a key in slots.
 
 ghost use Rattle.std.specs.Prelude.{◌≡◌, ◌<◌, ◌≤◌, ◌+◌, ℕ, length, None, OnOk, Some};
 ghost use Rattle.std.specs.Str.{chars};
@@ -20,8 +20,8 @@ use properties_text::encoding::Encoding;
 use std::alloc::{AllocError, Global};
 
 impl Slots {
-    /// Puts a pair in the place of the last one with the key, or after all slots. Where memory runs out, nothing of what
-    /// is left changes.
+    /// Replaces the last pair with the key, or appends a pair after all slots if there is none. If memory runs out,
+    /// nothing of what is left changes.
     pub fn put(
         &mut self,
         alloc: Global,
@@ -39,7 +39,7 @@ impl Slots {
         }
     }
 
-    // The pair comes in the place of another, with the same line ending.
+    // Replaces the pair at this index and keeps its line ending.
     fn replace(
         &mut self,
         alloc: Global,
@@ -59,7 +59,7 @@ impl Slots {
         Ok(())
     }
 
-    // The slot in this place is a printed pair. Where it is the last one, an LF parts it from a pair after it.
+    // Makes the slot at this index a printed pair. If it is the last one, an LF separates it from a pair after it.
     fn refill(&mut self, place: usize, pair: Vec<u8>)
         requires { place < length self.old.slots.items }
         ensures { Refills self.old place pair.items self.new }
@@ -73,7 +73,7 @@ impl Slots {
         }
     }
 
-    // The pair comes after all slots, and an empty slot after it.
+    // Appends the pair after all slots, and an empty slot after it.
     fn append(
         &mut self,
         alloc: Global,
@@ -93,7 +93,7 @@ impl Slots {
         let place_key = String::from_str(alloc, key)?;
         add_place(alloc, &mut self.places, place_key, last + 1)?;
 
-        // There is room for all that follows, so that no step of it fails.
+        // Space for everything that follows is reserved, so no step of it fails.
         self.slots[last].close(self.closing, self.parting);
         self.push_reserved(Slot {
             kept: BodySpan { start: 0, end: 0 },
@@ -111,7 +111,7 @@ impl Slots {
         Ok(())
     }
 
-    // Room for two slots after all others, and for what closes the last one.
+    // Reserves space for two slots after all others, and for what closes the last one.
     fn make_room(&mut self) -> Result<(), AllocError>
         requires { HoldsSome self.old }
         ensures kept { KeepsParts self.old self.new }
@@ -129,7 +129,7 @@ impl Slots {
         }
     }
 
-    // The slot comes last, where there is room for it.
+    // Appends a slot, for which space is reserved.
     fn push_reserved(&mut self, slot: Slot)
         requires { HasRoom 1 self.old }
         ensures pushes { Pushes self.old slot self.new }
@@ -139,7 +139,7 @@ impl Slots {
         self.links.push_reserved(self.slots.len());
     }
 
-    // Whether a pair that comes after the last slot is the first that is left.
+    // Returns whether a pair appended after the last slot would be the first that is left.
     fn is_next_first(&mut self) -> bool
         requires { HoldsSome self.old }
         ensures { FindsNextFirst self.old result self.new }
@@ -151,7 +151,7 @@ impl Slots {
         }
     }
 
-    /// The first slot that is left.
+    /// Returns the index of the first slot that is left.
     pub fn first_left(&mut self) -> usize
         ensures { FindsFirst self.old result self.new }
     {
@@ -163,7 +163,7 @@ impl Slots {
 }
 
 impl Slot {
-    // What becomes of the last slot where a pair comes after it.
+    // Closes the last slot before a pair comes after it.
     fn close(&mut self, closing: Closing, by: LineEnding)
         requires { closing ≡ TwoEndings → vec_len self.old.added + 2 ≤ vec_capacity self.old.added }
         ensures { ClosesSlot (closing_in closing by) self.old self.new }

@@ -1,4 +1,4 @@
-// A key is removed from slots.
+// Removes a key from slots.
 
 ghost use Rattle.std.specs.Prelude.{◌≡◌, ◌<◌, ◌≤◌, ◌++◌, length};
 ghost use Rattle.std.specs.Str.{chars};
@@ -14,17 +14,17 @@ use crate::writer::LineEnding;
 use std::alloc::Global;
 
 impl Slots {
-    /// Leaves out each pair with the key; `is_marked` says that a byte order mark stands before the body.
+    /// Removes each pair with the key. `is_marked` says whether a byte order mark comes before the body.
     pub fn remove(&mut self, alloc: Global, body: &[u8], is_marked: bool, key: &str)
         requires { HoldsIn body.now self.old }
         ensures { Changes body.now (left_without is_marked (chars key.now)) self.old self.new }
     {
         self.empty_last(alloc, key);
-        self.leave_out_pairs(alloc, key);
-        self.guard(body, is_marked);
+        self.drop_pairs(alloc, key);
+        self.part_false_mark(body, is_marked);
     }
 
-    // Where the last slot is a pair with the key, an empty slot takes its place.
+    // If the last slot is a pair with the key, replaces it by an empty slot.
     fn empty_last(&mut self, alloc: Global, key: &str)
         requires { HoldsSome self.old }
         ensures { EmptiesLast (chars key.now) self.old self.new }
@@ -42,19 +42,19 @@ impl Slots {
         }
     }
 
-    // Leaves out each pair with the key, and with it the LF of its line ending. The last slot is not one of them.
-    fn leave_out_pairs(&mut self, alloc: Global, key: &str)
+    // Removes each pair with the key, and with it the LF of its line ending. The last slot isn't one of them.
+    fn drop_pairs(&mut self, alloc: Global, key: &str)
         requires { HoldsSome self.old }
         ensures { LeavesPairs (chars key.now) self.old self.new }
     {
         let places = take_places(alloc, &mut self.places, key);
         for place in &places {
-            self.leave_out(*place);
+            self.drop_slot(*place);
         }
     }
 
-    // An LF comes before slots that begin like a byte order mark, where none stands before them.
-    fn guard(&mut self, body: &[u8], is_marked: bool)
+    // Puts an LF before slots that begin like a byte order mark, unless one comes before the body.
+    fn part_false_mark(&mut self, body: &[u8], is_marked: bool)
         requires { HoldsSomeCells body.now self.old }
         ensures { Guards body.now is_marked self.old self.new }
     {
@@ -65,8 +65,8 @@ impl Slots {
         }
     }
 
-    // Leaves out a slot, and the LF after it of the same line ending.
-    fn leave_out(&mut self, place: usize)
+    // Removes a slot, and the LF after it if it belongs to the same line ending.
+    fn drop_slot(&mut self, place: usize)
         requires { HasPlace self.old place }
         ensures { LeavesOut self.old place self.new }
     {
@@ -80,7 +80,7 @@ impl Slots {
         }
     }
 
-    // Leaves out a slot alone.
+    // Removes only this slot.
     fn leave(&mut self, place: usize)
         requires { place < length self.old.slots.items }
         ensures { Leaves self.old place self.new }
@@ -88,7 +88,8 @@ impl Slots {
         self.slots[place].is_left = false;
     }
 
-    // The next slot that is left, or the number of slots. The links over others get shorter on the way.
+    // Returns the index of the next slot that is left, or the number of slots. Shortens this slot's link over slots
+    // that aren't left.
     fn next_left(&mut self, place: usize) -> usize
         requires { HasPlace self.old place }
         ensures { FindsNext self.old place result self.new }
@@ -112,7 +113,7 @@ impl Slot {
         }
     }
 
-    // Whether it is an LF and nothing else.
+    // Returns whether the slot is an LF and nothing else.
     fn is_lf_alone(&self) -> bool
         ensures { Tells format.is_lf_alone self.now result }
     {
@@ -123,7 +124,7 @@ impl Slot {
         is_by_lf && self.kept.start == self.kept.end && self.added.is_empty()
     }
 
-    // Whether its bytes begin like a byte order mark.
+    // Returns whether the slot's bytes begin like a byte order mark.
     fn begins_like_bom(&self, body: &[u8]) -> bool
         requires ordered { self.now.kept.start ≤ self.now.kept.end }
         requires within { self.now.kept.end ≤ length body.now }
@@ -137,7 +138,7 @@ impl Slot {
     }
 }
 
-// Whether two parts, one after the other, begin with these bytes.
+// Returns whether two parts, one after the other, begin with these bytes.
 fn begin_with(front: &[u8], back: &[u8], bytes: &[u8]) -> bool
     ensures { result ≡ begins_with bytes.now (front.now ++ back.now) }
 {

@@ -6,7 +6,7 @@ use Rattle.java_properties.proofs.BodyKeys.{HasKept, read-fault, kept-none, kept
 use Rattle.java_properties.specs.BodyGroups.{IsWithin}
 use Rattle.properties_lines.specs.LineSearch.{unit_size}
 use Rattle.java_properties.specs.declared.edit.groups.GroupReader.{GroupReader}
-use Rattle.java_properties.proofs.edit.kept.find_others.Goals as goal
+use Rattle.java_properties.proofs.edit.kept.spans_without_key.Goals as goal
 
 pub loop-others-init : goal.loop-others-init
 loop-others-init c =

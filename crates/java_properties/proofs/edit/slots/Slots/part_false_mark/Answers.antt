@@ -1,8 +1,8 @@
 use Rattle.std.proofs.Common.{true, arith, refl}
 use Rattle.std.specs.Vec.{with_item}
 use Rattle.java_properties.proofs.BodySlots.RemovalEnd.{holds-length, held-slot, guards-marked, guards-not, guards-set}
-use Rattle.java_properties.proofs.edit.slots.Slots.guard.Goals as goal
-use Rattle.java_properties.proofs.edit.slots.Slots.guard.Goals.{else-not-is_marked-via-then-not-is_marked+else-begins_like_bom, else-not-is_marked-via-else-not-is_marked}
+use Rattle.java_properties.proofs.edit.slots.Slots.part_false_mark.Goals as goal
+use Rattle.java_properties.proofs.edit.slots.Slots.part_false_mark.Goals.{else-not-is_marked-via-then-not-is_marked+else-begins_like_bom, else-not-is_marked-via-else-not-is_marked}
 
 pub index-requires : goal.index-requires
 index-requires c =

@@ -1,7 +1,7 @@
 use Rattle.std.proofs.Common.{arith}
 use Rattle.java_properties.proofs.BodySlots.Removal.{loose-length, leaves-other, leaves-end, leaves-apart, leaves-both, left-length}
-use Rattle.java_properties.proofs.edit.slots.Slots.leave_out.Goals as goal
-use Rattle.java_properties.proofs.edit.slots.Slots.leave_out.Goals.{else-next-len-via-then-next-len+else-is_lf_alone, else-next-len-via-else-next-len}
+use Rattle.java_properties.proofs.edit.slots.Slots.drop_slot.Goals as goal
+use Rattle.java_properties.proofs.edit.slots.Slots.drop_slot.Goals.{else-next-len-via-then-next-len+else-is_lf_alone, else-next-len-via-else-next-len}
 
 pub leave-requires : goal.leave-requires
 leave-requires c =

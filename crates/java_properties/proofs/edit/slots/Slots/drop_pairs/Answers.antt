@@ -2,7 +2,7 @@ use Rattle.std.proofs.Common.{arith, drop, ◌+◌, refl, ◌∙◌}
 use Rattle.std.specs.Str.{chars}
 use Rattle.java_properties.specs.declared.edit.slots.Slots.{Slots}
 use Rattle.java_properties.proofs.BodySlots.RemovalPairs.{going-start, going-next, going-place, going-on, going-end}
-use Rattle.java_properties.proofs.edit.slots.Slots.leave_out_pairs.Goals as goal
+use Rattle.java_properties.proofs.edit.slots.Slots.drop_pairs.Goals as goal
 
 pub take_places-places-requires : goal.take_places-places-requires
 take_places-places-requires c = c.requires.holds.holds.holds.ordered
@@ -14,8 +14,8 @@ loop-place-init c =
     c.deref-place-items.result.now refl
     (c.deref-place-items.ensures.value ∙ c.take_places-places.ensures.taken)
 
-pub leave_out-requires : goal.leave_out-requires
-leave_out-requires c =
+pub drop_slot-requires : goal.drop_slot-requires
+drop_slot-requires c =
     let old = c.args.self.now in
     let initial : Slots = record old { places = c.take_places-places.new.places } in
     let todo = c.deref-place-items.result.now in
@@ -29,9 +29,9 @@ loop-place-preserved c =
     let initial : Slots = record old { places = c.take_places-places.new.places } in
     let todo = c.deref-place-items.result.now in
     let i = c.loop-place.place-index in
-    going-on (chars c.args.key.now) old initial c.loop-place.self _ (drop (i + 1) todo) c.leave_out.new.self
+    going-on (chars c.args.key.now) old initial c.loop-place.self _ (drop (i + 1) todo) c.drop_slot.new.self
     (going-next (chars c.args.key.now) old initial c.loop-place.self todo i c.loop-place.invariant (omega arith))
-    c.leave_out.ensures
+    c.drop_slot.ensures
 
 pub returns : goal.returns
 returns c =

@@ -3,7 +3,7 @@ use Rattle.std.specs.Str.{chars}
 use Rattle.properties_text.specs.Encoding.{encoding_of}
 use Rattle.java_properties.specs.BodyGroups.{groups_left}
 use Rattle.java_properties.proofs.BodyKeys.{HasKept}
-use Rattle.java_properties.proofs.edit.kept.find_others.Given as goal
+use Rattle.java_properties.proofs.edit.kept.spans_without_key.Given as goal
 
 abbrev pub invariant-loop-others : goal.invariant-loop-others
 invariant-loop-others l = HasKept (encoding_of l.fn.encoding) l.body (chars l.key) l.groups l.others.items l.start
