@@ -89,8 +89,11 @@ def body(lines, at, indent):
 
 def fields(lines, at):
     """A struct, an enum or a trait as it stands, with its public fields or its functions alone."""
+    head = lines[at].strip()
+    if "const" in head.split()[:2] and not head.endswith(";"):
+        # A text of several lines is left out.
+        return [re.sub(r"^pub (.*?) = .*", r"\1;", head)]
     block = body(lines, at, "")
-    head = block[0].strip()
     if len(block) == 1:
         return [re.sub(r"^pub ", "", head)]
     kind = head.split()[1]

@@ -1,8 +1,9 @@
 // A function over any reader, with a contract of its own that follows from the library's clauses.
 
-ghost use Rattle.std.specs.Prelude.{IfOk};
+ghost use Rattle.std.specs.Prelude.{IfErr, IfOk};
 ghost use Rattle.counted_io.specs.Streams.{IsSameReader};
 ghost use Rattle.properties_text.specs.Encoding.{encoding_of};
+ghost use Rattle.java_properties.specs.ReadLines.{StopsReading};
 ghost use Rattle.calling.specs.Counts.{CountsItems};
 
 use counted_io::CountedRead;
@@ -16,6 +17,7 @@ pub fn count_items<R: CountedRead>(
     encoding: Encoding,
 ) -> Result<usize, PropertiesError>
     ensures counts { IfOk result (λ count. CountsItems R.CountedRead (encoding_of encoding) input.old count input.new) }
+    ensures stops { IfErr result (λ error. StopsReading R.CountedRead (encoding_of encoding) input.old error input.new) }
     ensures same_reader { IsSameReader R.CountedRead input.old input.new }
 {
     match read_lines(alloc, input, encoding) {

@@ -7,14 +7,14 @@ use std::io;
 use std::io::Read;
 use std::rt::Files;
 
-/// What is wrong with a file of this name: every malformed escape, and every key that stands twice.
+/// What is wrong with a file of this name: the first malformed escape of each line, and each repeated key.
 pub fn lint(alloc: Global, name: &str, source: &[u8]) -> Result<Vec<String>, PropertiesError> {
     let mut messages = Vec::new(alloc);
     let mut input = source;
     for escape in &malformed_escapes(alloc, &mut input, Encoding::UTF_8)? {
         let (number, kind) = (escape.line_number, escape.kind);
         let place = if escape.in_comment {
-            " in a comment"
+            " (in a comment)"
         } else {
             ""
         };
@@ -67,7 +67,7 @@ mod tests {
             b"# C:\\users\na = 1\nb = 2\na : 3\nc = \\uzzzz\nd = \\\n  \\ud83d\na = 4\n".as_slice();
         let messages = lint(rt.alloc(), "my.properties", source)?;
         let wanted = [
-            "my.properties:1: Malformed \\uxxxx encoding: not hex. in a comment",
+            "my.properties:1: Malformed \\uxxxx encoding: not hex. (in a comment)",
             "my.properties:5: Malformed \\uxxxx encoding: not hex.",
             "my.properties:6: Malformed \\uxxxx encoding: invalid character.",
             "my.properties:4: this key stands in line 2 too",

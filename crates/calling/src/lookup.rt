@@ -1,11 +1,14 @@
 // The last value of a key, proved to be the one that the map of the input has.
 
-ghost use Rattle.std.specs.Prelude.{◌≡◌, IfOk};
+ghost use Rattle.std.specs.Prelude.{◌≡◌, ◌⊎◌, IfErr, IfOk};
 ghost use Rattle.std.specs.Option.{option_map};
 ghost use Rattle.std.specs.Str.{chars};
 ghost use Rattle.counted_io.specs.Streams.{IsSameReader};
 ghost use Rattle.properties_format.specs.Encoding.{windows_1252};
+ghost use Rattle.java_properties.specs.Errors.{IsBareError};
 ghost use Rattle.java_properties.specs.Maps.{ReadsValue, characters, value_at};
+ghost use Rattle.java_properties.specs.ReadLines.{StopsReading};
+ghost use Rattle.java_properties.specs.declared.error.ErrorKind.TheVariants.{Memory};
 ghost use Rattle.calling.specs.Lookups.{lent_characters};
 
 use counted_io::CountedRead;
@@ -22,6 +25,7 @@ pub fn lookup<R: CountedRead>(
 ) -> Result<Option<String>, PropertiesError>
     ensures finds { IfOk result (λ found. let value = option_map characters found in
         ReadsValue R.CountedRead windows_1252 input.old (chars key.now) value input.new) }
+    ensures stops { IfErr result (λ error. StopsReading R.CountedRead windows_1252 input.old error input.new ⊎ IsBareError Memory error) }
     ensures same_reader { IsSameReader R.CountedRead input.old input.new }
 {
     let map = read(alloc, input)?;

@@ -1,17 +1,16 @@
 -- Arguments, word by word.
-use Rattle.std.proofs.Common.{◌≡◌, ◌≢◌, ◌==◌, true, false, rules, ◌≤◌, ℕ, List, [], ◌∷◌, ◌++◌, length, map, take, drop, ◌+◌, ◌-◌, ◌<◌, get_or, refl, ap, sym, ◌∙◌, arith, inl, inr, append_assoc, append-nil}
+use Rattle.std.proofs.Common.{◌≡◌, ◌≢◌, ◌==◌, true, false, rules, ◌≤◌, ℕ, List, [], ◌∷◌, ◌++◌, length, map, take, drop, ◌+◌, ◌-◌, ◌<◌, get_or, refl, ap, sym, ◌∙◌, arith, append_assoc, append-nil}
 use borrow.Author.Tests.{tests}
-use Rattle.std.specs.Prelude.{Option, Some, None, Result, Ok, Err, OnErr, codes, string_bytes}
+use Rattle.std.specs.Prelude.{Some, None, Result, Ok, Err, OnErr, string_bytes}
 use Rattle.std.specs.declared.string.String.{String}
 use Rattle.std.proofs.lemmas.List.{length-append, length-map, take_rest}
 use Rattle.properties_format.specs.Edited.{Edit, put, remove}
-use Rattle.properties_format.specs.Encoding.{Encoding, windows_1252, utf_8, utf_16le, utf_16be}
-use Rattle.properties_format.specs.Names.{name_of, IsNamed}
 use Rattle.java_properties.specs.Editing.{edits_in}
 use Rattle.java_properties.specs.declared.edit.Edit as editor
 use Rattle.java_properties.specs.declared.edit.Edit.TheVariants.{Put, Remove}
 use Rattle.std.specs.Str.{chars}
-use Rattle.properties_tools.specs.Propedit.Asked.{in_characters, text_edits, AreEdits, AreEditsOf, AreWords, AreWordsOf, AsksSome, IsAsked, IsAskedIn, IsEditCount, IsKeyToGet, IsNamedFirst, IsNextEdit, IsWish, Wish, get, change, edit_words, words_of}
+use Rattle.properties_tools.specs.Propedit.Asked.{in_characters, text_edits, edit_words, words_of}
+use Rattle.properties_tools.specs.Propedit.AskedParts.{AreEdits, AreEditsOf, IsEditCount, IsNextEdit}
 
 -- ---- the first of some texts
 
@@ -25,53 +24,6 @@ pub first-two : {Z : Type 0} (texts : List (String Z)) (a b : String Z) → 2 �
 first-two [] a b h e k = absurd (omega arith)
 first-two (w ∷ []) a b h e k = absurd (omega arith)
 first-two (w ∷ (v ∷ ws)) a b h e k = cc
-
--- ---- names
-
--- a name that comes first
-pub named-first : (arguments : List (List ℕ)) (name : List ℕ) (words : List (List ℕ)) (o : Option Encoding) → arguments ≡ name ∷ words → IsNamed name o → IsNamedFirst arguments o
-named-first arguments name words None is h = λ e others k. h e (cc)
-named-first arguments name words (Some e) is h = (words, cc)
-
--- no wish begins with a name
-no-name : (e : Encoding) (words : List (List ℕ)) (wish : Wish) → AreWordsOf (name_of e ∷ words) wish → ⊥
-no-name windows_1252 words (get key) h = cc
-no-name utf_8 words (get key) h = cc
-no-name utf_16le words (get key) h = cc
-no-name utf_16be words (get key) h = cc
-no-name e words (change []) h = h.1 refl
-no-name windows_1252 words (change (put k v ∷ edits)) h = let is = h.0 in cc
-no-name utf_8 words (change (put k v ∷ edits)) h = let is = h.0 in cc
-no-name utf_16le words (change (put k v ∷ edits)) h = let is = h.0 in cc
-no-name utf_16be words (change (put k v ∷ edits)) h = let is = h.0 in cc
-no-name windows_1252 words (change (remove k ∷ edits)) h = let is = h.0 in cc
-no-name utf_8 words (change (remove k ∷ edits)) h = let is = h.0 in cc
-no-name utf_16le words (change (remove k ∷ edits)) h = let is = h.0 in cc
-no-name utf_16be words (change (remove k ∷ edits)) h = let is = h.0 in cc
-
--- what is asked for after a name
-pub asked-named : (arguments : List (List ℕ)) (e : Encoding) (words : List (List ℕ)) (o : Option (Encoding × Wish)) → arguments ≡ name_of e ∷ words → IsAskedIn e words o → IsAsked arguments o
-asked-named arguments e words (Some asked) is h = inl (words, is ∙ ap (λ v. name_of v ∷ words) (sym h.0), h.1)
-asked-named arguments e words None is h = λ d wish asks. elim asks [
-  | inl k ↦ let same : k.0 ≡ words = let other = k.1 in cc in h wish (rw same at k.2)
-  | inr k ↦ no-name e words wish (rw is at k.1)
-]
-
--- what is asked for where no name comes first
-pub asked-unnamed : (arguments : List (List ℕ)) (o : Option (Encoding × Wish)) → IsNamedFirst arguments None → IsAskedIn windows_1252 arguments o → IsAsked arguments o
-asked-unnamed arguments (Some asked) none h = inr h
-asked-unnamed arguments None none h = λ d wish asks. elim asks [
-  | inl k ↦ none d k.0 k.1
-  | inr k ↦ h wish k.1
-]
-
--- Words after a name ask for something.
-pub asks-named : (arguments : List (List ℕ)) (e : Encoding) (words : List (List ℕ)) → arguments ≡ name_of e ∷ words → AreWords words → AsksSome arguments
-asks-named arguments e words is h = record { encoding = e; wish = h.0; asked = inl (words, is, h.1) }
-
--- and so do words alone
-pub asks-unnamed : (arguments : List (List ℕ)) → AreWords arguments → AsksSome arguments
-asks-unnamed arguments h = record { encoding = windows_1252; wish = h.0; asked = inr (refl, h.1) }
 
 -- ---- edits
 
@@ -157,17 +109,11 @@ counted-more words count rest others edit h next = record {
 pub no-counted : (words : List (List ℕ)) (count : ℕ) (rest : List (List ℕ)) → HasCounted words count rest → rest ≢ [] → IsNextEdit rest None → AreEditsOf words None
 no-counted words count rest h some none = no-edits words h.done rest h.is some none
 
--- all of them, where no texts are left, told by a test
+-- all of them, where no texts are left, by a test
 pub counted-all : {Z : Type 0} (words : List (List ℕ)) (count : ℕ) (texts : List (String Z)) → HasCounted words count (map string_bytes texts) → (length texts == 0) ≡ true
     → IsEditCount words (Some count)
 counted-all words count [] h none = (h.done, h.is ∙ append-nil (words_of h.done), h.length_is)
 counted-all words count (a ∷ texts) h none = absurd (some-length texts a none)
-
--- the words after a name
-pub after-name : {Z : Type 0} (texts : List (String Z)) (name : List ℕ) (words : List (List ℕ)) → map string_bytes texts ≡ name ∷ words
-    → map string_bytes (take (length texts - 1) (drop 1 texts)) ≡ words
-after-name [] name words h = absurd (cc)
-after-name (a ∷ texts) name words h = rest-words (a ∷ texts) 1 ∙ (let is : map string_bytes texts ≡ words = cc in is)
 
 -- ---- the code's edits
 
@@ -177,41 +123,33 @@ same-edits [] = refl
 same-edits (Put key value ∷ edits) = ap (λ v. put (chars (string_bytes key)) (chars (string_bytes value)) ∷ v) (same-edits edits)
 same-edits (Remove key ∷ edits) = ap (λ v. remove (chars (string_bytes key)) ∷ v) (same-edits edits)
 
--- ---- wishes
+-- ---- lists and errors
 
--- no words ask for nothing
-no-words : IsWish [] None
-no-words (get key) h = cc
-no-words (change []) h = h.1 refl
-no-words (change (put k v ∷ edits)) h = let is = h.0 in cc
-no-words (change (remove k ∷ edits)) h = let is = h.0 in cc
-
--- no texts, told by a test
-pub no-texts : {Z : Type 0} (texts : List (String Z)) → (length texts == 0) ≡ true → IsWish (map string_bytes texts) None
-no-texts [] h = no-words
-no-texts (a ∷ texts) h = absurd (some-length texts a h)
-
--- some texts, told by a test
+-- some texts, by a test
 pub some-words : {Z : Type 0} (texts : List (String Z)) → (length texts == 0) ≡ false → map string_bytes texts ≢ []
 some-words [] h e = cc
 some-words (a ∷ texts) h e = cc
 
--- words that ask to get no key, and are those of no edits
-pub no-wish : (words : List (List ℕ)) → IsKeyToGet words None → AreEditsOf words None → IsWish words None
-no-wish words none others (get key) h = none key h
-no-wish words none others (change edits) h = others edits h.0
+-- no texts, by a test
+pub no-words : {Z : Type 0} (texts : List (String Z)) → (length texts == 0) ≡ true → map string_bytes texts ≡ []
+no-words [] h = refl
+no-words (a ∷ texts) h = absurd (some-length texts a h)
 
--- the words of edits, where there are words
-pub wish-edits : (words : List (List ℕ)) (edits : List Edit) → words ≢ [] → words ≡ words_of edits → IsWish words (Some (change edits))
-wish-edits words edits some h = (h, λ none. some (h ∙ ap words_of none))
+-- the first word as the code reads it
+pub first-word : {Z : Type 0} (texts : List (String Z)) (a : String Z) (word : List ℕ) → 1 ≤ length texts → a ≡ get_or texts 0 a → word ≡ string_bytes a
+    → map string_bytes texts ≡ word ∷ map string_bytes (drop 1 texts)
+first-word texts a word some is same = first-text texts a some is ∙ ap (λ v. v ∷ map string_bytes (drop 1 texts)) (sym same)
 
--- a key that is asked for
-pub words-of-get : (words : List (List ℕ)) (key : List ℕ) → words ≡ codes "get" ∷ (key ∷ []) → AreWords words
-words-of-get words key is = (get key, is)
+-- What follows holds at an error.
+pub follows-at-error : {T E P Q : Type 0} (r : Result T E) → (P → Q) → OnErr r P → OnErr r Q
+follows-at-error (Ok x) f h = tt
+follows-at-error (Err e) f h = f h
 
--- edits that are asked for
-pub words-of-edits : (words : List (List ℕ)) → words ≢ [] → AreEdits words → AreWords words
-words-of-edits words some h = (change h.0, (h.1, λ none. some (h.1 ∙ ap words_of none)))
+-- No words are those of edits.
+pub no-edit-words : (words : List (List ℕ)) (edits : List Edit) → words ≡ [] → words ≡ words_of edits → edits ≢ [] → ⊥
+no-edit-words words [] none is some = some refl
+no-edit-words words (put k v ∷ edits) none is some = let count : 0 ≡ length (words_of (put k v ∷ edits)) = ap length (sym none ∙ is) in absurd (omega arith)
+no-edit-words words (remove k ∷ edits) none is some = let count : 0 ≡ length (words_of (remove k ∷ edits)) = ap length (sym none ∙ is) in absurd (omega arith)
 
 -- What holds anyway holds at an error.
 pub at-error : {T E P : Type 0} (r : Result T E) → P → OnErr r P

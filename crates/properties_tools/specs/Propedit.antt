@@ -1,86 +1,111 @@
 -- What `propedit` does, over any streams.
+pub mod Answers
 pub mod Asked
+pub mod AskedParts
 pub mod Change
+pub mod Check
+pub mod Failures
 pub mod Get
-use Rattle.std.specs.Prelude.{◌≡◌, ◌⊎◌, ℕ, Bool, true, false, List, [], ◌∷◌, ◌++◌, Option, Some, Result, Ok, Err, codes, map}
-use Rattle.std.specs.Str.{chars}
+pub mod Lines
+pub mod Listing
+pub mod Sources
+pub mod Texts
+use Rattle.std.specs.Prelude.{◌≡◌, ◌≢◌, ◌⊎◌, ℕ, List, Option, Some, None, Result, Ok, Err, codes}
+use Rattle.std.specs.Global.{Vec}
 use Rattle.counted_io.specs.Streams.{Reader, Sink}
+use Rattle.properties_format.specs.Edited.{Edit}
 use Rattle.properties_format.specs.Encoding.{Encoding}
-use Rattle.properties_format.specs.Text.{line_feed}
-use Rattle.java_properties.specs.Errors.{IsBareError}
-use Rattle.java_properties.specs.declared.error.ErrorKind.TheVariants as kind
+use Rattle.properties_text.specs.Encoding.{encoding_of}
+use Rattle.java_properties.specs.WholeSources.{GivesWhole, ReadsSource, WritesSource}
 use Rattle.java_properties.specs.declared.error.PropertiesError.{PropertiesError}
-use Rattle.properties_tools.specs.Messages.{said_line, HasSaid, SaysError, SaysOf}
-use Rattle.properties_tools.specs.Propedit.Asked.{Wish, get, change, Asks, AsksSome, in_characters}
+use Rattle.properties_tools.specs.Propedit.Answers.{name_of, Answers as Gives}
 use Rattle.properties_tools.specs.Propedit.Change.{Changes}
-use Rattle.properties_tools.specs.Propedit.Get.{Gets}
+use Rattle.properties_tools.specs.Propedit.Failures.{standard_output, SaysFailure}
+use Rattle.properties_tools.specs.declared.propedit.answers.Answer.{Answer}
+use Rattle.properties_tools.specs.declared.propedit.asked.Work.{Work}
+use Rattle.properties_tools.specs.declared.propedit.error.Failure.{Failure}
+use Rattle.properties_tools.specs.declared.propedit.error.Failure.TheVariants.{Input, Output}
 
--- ---- what is said
+-- ---- arguments
 
--- what it prints where its arguments are none of its own
-abbrev pub usage : List ℕ
-usage =
-    codes "usage: propedit [windows-1252|utf-8|utf-16le|utf-16be] get KEY"
-    ++ (line_feed ∷ codes "       propedit [windows-1252|utf-8|utf-16le|utf-16be] (set KEY VALUE | remove KEY)..")
+-- what it prints where an argument isn't UTF-8
+abbrev pub not_utf_8 : List ℕ
+not_utf_8 = codes "propedit: an argument is not UTF-8"
 
--- ---- the program
+-- what it prints where there is no memory for the arguments
+abbrev pub memory_words : List ℕ
+memory_words = codes "propedit: Out of memory."
 
--- What granting a wish returns: whether there was what was asked for, or an error.
-abbrev pub Grants : {R W : Type 0} → Reader R → Sink W → Encoding → Wish → R → W → Result Bool PropertiesError → R → W → Type 0
-Grants reader sink e (get key) input output result input' output' = Gets reader sink e (chars key) input output result input' output'
-Grants reader sink e (change edits) input output (Ok true) input' output' = Changes reader sink e (map in_characters edits) input output (Ok tt) input' output'
-Grants reader sink e (change edits) input output (Ok false) input' output' = ⊥
-Grants reader sink e (change edits) input output (Err error) input' output' = Changes reader sink e (map in_characters edits) input output (Err error) input' output'
+-- ---- how it ends
 
--- the status of what it returned: 0, or 1 where there was no such key or at an error
-abbrev pub status_of : Result Bool PropertiesError → ℕ
-status_of (Ok true) = 0
-status_of (Ok false) = 1
-status_of (Err error) = 1
+-- The status is that of the result, and nothing is printed; or it is 2, and the message of the failure is printed.
+abbrev pub Ends : {E : Type 0} → Sink E → List ℕ → E → Result ℕ Failure → ℕ → E → Type 0
+Ends error_sink name errors (Ok answer) status errors' = (status ≡ answer) × (errors' ≡ errors)
+Ends error_sink name errors (Err failure) status errors' = (status ≡ 2) × SaysFailure error_sink errors name failure errors'
 
--- The wish was granted or not, the status says so, and an error was said on `errors`.
-pub record IsDone {R W E : Type 0} (reader : Reader R) (sink : Sink W) (error_sink : Sink E) (encoding : Encoding) (wish : Wish) (input : R) (output : W) (errors : E)
-    (status : ℕ) (input' : R) (output' : W) (errors' : E) : Type 0 where
-  pub result : Result Bool PropertiesError
-  pub grants : Grants reader sink encoding wish input output result input' output'
-  pub answer : status ≡ status_of result
-  pub says : SaysOf error_sink errors result errors'
+-- ---- a command
 
--- What the arguments ask for was done.
-pub record HasRun {R W E : Type 0} (reader : Reader R) (sink : Sink W) (error_sink : Sink E) (arguments : List (List ℕ)) (input : R) (output : W) (errors : E)
-    (status : ℕ) (input' : R) (output' : W) (errors' : E) : Type 0 where
-  pub encoding : Encoding
-  pub wish : Wish
-  pub asked : Asks arguments encoding wish
-  pub done : IsDone reader sink error_sink encoding wish input output errors status input' output' errors'
+-- What the source gave to its end was answered, and printing the answer returned this.
+pub record PrintsAnswer {R W : Type 0} (reader : Reader R) (sink : Sink W) (work : Work) (input : R) (output : W)
+    (answer : Answer) (printed : Result Unit PropertiesError) (input' : R) (output' : W) : Type 0 where
+  pub source : List ℕ
+  pub read : GivesWhole reader input source input'
+  pub answers : Gives work source (Ok answer)
+  pub writes : WritesSource sink output answer.text.items printed output'
 
--- The usage was said on `errors`, and the status is 2.
-pub record SaysUsage {E : Type 0} (error_sink : Sink E) (errors : E) (status : ℕ) (errors' : E) : Type 0 where
-  pub answer : status ≡ 2
-  pub says : HasSaid error_sink errors (said_line usage) errors'
-
--- The arguments ask for nothing that there is: nothing was read or written, and the usage was said.
-pub record RefusesArguments {R W E : Type 0} (error_sink : Sink E) (arguments : List (List ℕ)) (input : R) (output : W) (errors : E)
-    (status : ℕ) (input' : R) (output' : W) (errors' : E) : Type 0 where
-  pub unasked : (e : Encoding) (wish : Wish) → Asks arguments e wish → ⊥
-  pub unread : input' ≡ input
+-- What the source gave to its end has no answer, and nothing was printed.
+pub record HasNoAnswer {R W : Type 0} (reader : Reader R) (work : Work) (input : R) (output : W) (failure : Failure) (input' : R) (output' : W) : Type 0 where
+  pub source : List ℕ
+  pub read : GivesWhole reader input source input'
+  pub fails : Gives work source (Err failure)
   pub unwritten : output' ≡ output
-  pub says : SaysUsage error_sink errors status errors'
 
--- There was no memory for what the arguments ask for: nothing was read or written, and this was said.
-pub record LacksMemory {R W E : Type 0} (error_sink : Sink E) (arguments : List (List ℕ)) (input : R) (output : W) (errors : E)
-    (status : ℕ) (input' : R) (output' : W) (errors' : E) : Type 0 where
-  pub asks : AsksSome arguments
+-- The source couldn't be read to its end, and nothing was printed.
+pub record FailsInSource {R W : Type 0} (reader : Reader R) (work : Work) (input : R) (output : W) (failure : Failure) (input' : R) (output' : W) : Type 0 where
   pub error : PropertiesError
-  pub is : IsBareError kind.Memory error
-  pub unread : input' ≡ input
+  pub fails : ReadsSource reader (encoding_of work.encoding) input (Err error) input'
+  pub is : failure ≡ Input error
   pub unwritten : output' ≡ output
-  pub answer : status ≡ 1
-  pub says : SaysError error_sink errors error errors'
 
--- What the program does with these arguments.
-abbrev pub Runs : {R W E : Type 0} → Reader R → Sink W → Sink E → List (List ℕ) → R → W → E → ℕ → R → W → E → Type 0
-Runs reader sink error_sink arguments input output errors status input' output' errors' =
-    HasRun reader sink error_sink arguments input output errors status input' output' errors'
-    ⊎ (RefusesArguments error_sink arguments input output errors status input' output' errors'
-    ⊎ LacksMemory error_sink arguments input output errors status input' output' errors')
+-- Printing the answer failed.
+pub record FailsInOutput {R W : Type 0} (reader : Reader R) (sink : Sink W) (work : Work) (input : R) (output : W) (failure : Failure) (input' : R) (output' : W) : Type 0 where
+  pub answer : Answer
+  pub error : PropertiesError
+  pub prints : PrintsAnswer reader sink work input output answer (Err error) input' output'
+  pub is : failure ≡ Output error
+
+-- What printing the answer to a command returns: the answer's status, or why it failed.
+abbrev pub Prints : {R W : Type 0} → Reader R → Sink W → Work → R → W → Result ℕ Failure → R → W → Type 0
+Prints reader sink work input output (Ok status) input' output' =
+    (answer : Answer) × PrintsAnswer reader sink work input output answer (Ok tt) input' output' × (status ≡ answer.status)
+Prints reader sink work input output (Err failure) input' output' =
+    FailsInSource reader work input output failure input' output'
+    ⊎ (HasNoAnswer reader work input output failure input' output' ⊎ FailsInOutput reader sink work input output failure input' output')
+
+-- What the program does for a command: it reads the source, prints the answer, and ends so.
+pub record Runs {R W E : Type 0} (reader : Reader R) (sink : Sink W) (error_sink : Sink E) (work : Work) (input : R) (output : W) (errors : E)
+    (status : ℕ) (input' : R) (output' : W) (errors' : E) : Type 0 where
+  pub result : Result ℕ Failure
+  pub prints : Prints reader sink work input output result input' output'
+  pub ends : Ends error_sink (name_of work.source) errors result status errors'
+
+-- ---- a text
+
+-- the result of printing a text
+abbrev pub shown : Result Unit PropertiesError → Result ℕ Failure
+shown (Ok done) = Ok 0
+shown (Err error) = Err (Output error)
+
+-- What the program does with a text: it prints it, and ends so.
+pub record Shows {W E : Type 0} (sink : Sink W) (error_sink : Sink E) (text : List ℕ) (output : W) (errors : E) (status : ℕ) (output' : W) (errors' : E) : Type 0 where
+  pub result : Result Unit PropertiesError
+  pub writes : WritesSource sink output text result output'
+  pub ends : Ends error_sink standard_output errors (shown result) status errors'
+
+-- ---- in place
+
+-- What replaces a source: the edited bytes, which aren't its own, or nothing where they are.
+abbrev pub Replaces : Encoding → List ℕ → List Edit → Result (Option (Vec ℕ)) Failure → Type 0
+Replaces e source edits (Ok (Some bytes)) = Changes e source edits (Ok bytes) × (bytes.items ≢ source)
+Replaces e source edits (Ok None) = (bytes : Vec ℕ) × Changes e source edits (Ok bytes) × (bytes.items ≡ source)
+Replaces e source edits (Err failure) = Changes e source edits (Err failure)

@@ -1,139 +1,207 @@
 // The program `propedit`, over any streams.
 
-mod asked;
+pub mod answers;
+pub mod asked;
 pub mod change;
+pub mod check;
+pub mod error;
 pub mod get;
+pub mod in_place;
+pub mod lines;
+pub mod list;
+pub mod source;
 
-ghost use Rattle.std.specs.Prelude.{◌≡◌, None, map, string_bytes};
+ghost use Rattle.std.specs.Prelude.{◌≡◌};
 ghost use Rattle.counted_io.specs.Streams.{IsSameReader, IsSameSink};
 ghost use Rattle.properties_text.specs.Encoding.{encoding_of};
-ghost use Rattle.java_properties.specs.Errors.{refused_of};
-ghost use Rattle.properties_tools.specs.Messages.{SaysError};
-ghost use Rattle.properties_tools.specs.Propedit.Asked.{wish_of};
-ghost use Rattle.properties_tools.specs.Propedit.{Grants, IsDone, Runs, SaysUsage};
+ghost use Rattle.java_properties.specs.Editing.{edits_in};
+ghost use Rattle.properties_tools.specs.Messages.{said_line, HasSaid};
+ghost use Rattle.properties_tools.specs.Propedit.{memory_words, not_utf_8, Ends, Prints, Replaces, Runs, Shows};
 
-use crate::messages::{say, say_error};
-use crate::propedit::asked::{Asked, Command, asked_for};
+use crate::messages::say;
+use crate::propedit::answers::{answer_to, name};
+use crate::propedit::asked::{USAGE, Work};
 use crate::propedit::change::change;
-use crate::propedit::get::get;
+use crate::propedit::error::{Failure, STANDARD_OUTPUT, say_failure};
 use counted_io::{CountedRead, CountedWrite};
-use java_properties::PropertiesError;
+use java_properties::{Edit, Encoding, read_source, write_source};
 use std::alloc::Global;
 
-const USAGE: &str = "usage: propedit [windows-1252|utf-8|utf-16le|utf-16be] get KEY
-       propedit [windows-1252|utf-8|utf-16le|utf-16be] (set KEY VALUE | remove KEY)..
-";
+const NOT_UTF_8: &str = "propedit: an argument is not UTF-8\n";
 
-/// Does what the arguments ask for, and returns the exit status.
+const NO_MEMORY: &str = "propedit: Out of memory.\n";
+
+// The exit status of wrong arguments and of failures.
+const FAILED: u8 = 2;
+
+/// Reads the source to its end, prints what the command gives for it, and returns the exit status.
 ///
-/// `get KEY` prints the last value of the key as a line in UTF-8: the status is 0, or 1 where no pair has the key. Any
-/// number of `set KEY VALUE` and `remove KEY` edits what the input gives to its end, and the result goes to `output`: the
-/// status is 0. Before these may come the name of an encoding; it is windows-1252 where none does. After an error the
-/// status is 1, and its text goes to `errors` as a line.
-///
-/// Other arguments print the usage on `errors`: the status is 2, and nothing is read. What can't be printed on `errors` is
-/// dropped.
+/// The status is that of the answer, or 2 where something fails; why is then printed on `errors` as a line. Where the
+/// source can't be read, or the command refuses it, nothing is printed on `output`. Nothing is written to the source.
 ///
 /// ```text
 /// let mut input: &[u8] = b"# the front door\nport = 80\n";
 /// let mut output = Counted::new(Vec::new(alloc));
 /// let mut errors = Counted::new(Vec::new(alloc));
-/// // With the arguments `set`, `port` and `8080` the status is 0.
-/// propedit::run(alloc, arguments, &mut input, &mut output, &mut errors);
-/// // The output holds `# the front door` and `port=8080`, each ended by a line feed.
+/// // For the arguments `get port` the status is 0, and the output holds `80` and a line feed.
+/// propedit::run(alloc, &work, &mut input, &mut output, &mut errors);
 /// ```
 pub fn run<R: CountedRead, W: CountedWrite, E: CountedWrite>(
     alloc: Global,
-    arguments: &[String],
+    work: &Work,
     input: &mut R,
     output: &mut W,
     errors: &mut E,
 ) -> u8
-    ensures runs { let words = map string_bytes arguments.now in
-        Runs R.CountedRead W.CountedWrite E.CountedWrite words
+    ensures runs { Runs R.CountedRead W.CountedWrite E.CountedWrite work.now
         input.old output.old errors.old result input.new output.new errors.new }
     ensures same_reader { IsSameReader R.CountedRead input.old input.new }
     ensures same_sink { IsSameSink W.CountedWrite output.old output.new }
     ensures same_error_sink { IsSameSink E.CountedWrite errors.old errors.new }
 {
-    match asked_for(alloc, arguments) {
-        Ok(Some(asked)) => grant(alloc, &asked, input, output, errors),
-        Ok(None) => refuse(errors),
-        Err(error) => fail(alloc, errors, PropertiesError::from(error)),
+    let printed = print_answer(alloc, work, input, output);
+    exit_status(alloc, errors, name(&work.source), printed)
+}
+
+// Prints what the command gives for the source, and returns the status of the answer.
+fn print_answer<R: CountedRead, W: CountedWrite>(
+    alloc: Global,
+    work: &Work,
+    input: &mut R,
+    output: &mut W,
+) -> Result<u8, Failure>
+    ensures prints { Prints R.CountedRead W.CountedWrite work.now
+        input.old output.old result input.new output.new }
+    ensures same_reader { IsSameReader R.CountedRead input.old input.new }
+    ensures same_sink { IsSameSink W.CountedWrite output.old output.new }
+{
+    let source = read_source(alloc, input, work.encoding)?;
+    let answer = answer_to(alloc, work, &source)?;
+    match write_source(output, &answer.text) {
+        Ok(()) => Ok(answer.status),
+        Err(error) => Err(Failure::Output(error)),
     }
 }
 
-/// Prints the usage on `errors`, and returns the status of arguments that ask for nothing that there is, 2.
+/// The bytes of a source after edits, or `None` where they are its own bytes.
 ///
-/// For a `main` that can't have its arguments as texts. What can't be printed is dropped.
+/// For a file that is edited in place: where nothing changes, nothing has to be written.
+///
+/// ```text
+/// let edits = vec![in alloc; Edit::Remove(port)]?;
+/// replacement(alloc, b"host = a\n", Encoding::UTF_8, &edits)?; // None
+/// ```
+pub fn replacement(
+    alloc: Global,
+    source: &[u8],
+    encoding: Encoding,
+    edits: &[Edit],
+) -> Result<Option<Vec<u8>>, Failure>
+    ensures { Replaces (encoding_of encoding) source.now (edits_in edits.now) result }
+{
+    let bytes = change(alloc, source, encoding, edits)?;
+    if bytes.as_slice() == source {
+        return Ok(None);
+    }
+    Ok(Some(bytes))
+}
+
+/// The exit status of a result: the one that it has, or 2 for a failure, which is printed on `errors` as a line under the
+/// name of the source. What can't be printed is dropped.
+///
+/// ```text
+/// exit_status(alloc, &mut errors, "app.properties", Err(Failure::NotUtf8(7))); // 2, and one line is printed
+/// ```
+pub fn exit_status<E: CountedWrite>(
+    alloc: Global,
+    errors: &mut E,
+    name: &str,
+    outcome: Result<u8, Failure>,
+) -> u8
+    ensures ends { Ends E.CountedWrite name.now errors.old outcome result errors.new }
+    ensures same_sink { IsSameSink E.CountedWrite errors.old errors.new }
+{
+    match outcome {
+        Ok(status) => status,
+        Err(failure) => {
+            say_failure(alloc, errors, name, &failure);
+            FAILED
+        }
+    }
+}
+
+/// Prints a text, as the usage or the version, and returns the exit status: 0, or 2 where it can't be printed, and then a
+/// line on `errors` says why.
+///
+/// ```text
+/// let mut output = Counted::new(Vec::new(alloc));
+/// propedit::show(alloc, VERSION, &mut output, &mut errors); // 0, and the output holds the version
+/// ```
+pub fn show<W: CountedWrite, E: CountedWrite>(
+    alloc: Global,
+    text: &str,
+    output: &mut W,
+    errors: &mut E,
+) -> u8
+    ensures shows { Shows W.CountedWrite E.CountedWrite text.now
+        output.old errors.old result output.new errors.new }
+    ensures same_sink { IsSameSink W.CountedWrite output.old output.new }
+    ensures same_error_sink { IsSameSink E.CountedWrite errors.old errors.new }
+{
+    let printed = match write_source(output, text.as_bytes()) {
+        Ok(()) => Ok(0),
+        Err(error) => Err(Failure::Output(error)),
+    };
+    exit_status(alloc, errors, STANDARD_OUTPUT, printed)
+}
+
+/// Prints the usage on `errors`, and returns the exit status of wrong arguments, 2. What can't be printed is dropped.
 ///
 /// ```text
 /// let mut errors = Counted::new(Vec::new(alloc));
 /// propedit::refuse(&mut errors); // 2, and the usage is printed
 /// ```
 pub fn refuse<E: CountedWrite>(errors: &mut E) -> u8
-    ensures says { SaysUsage E.CountedWrite errors.old result errors.new }
+    ensures status { result ≡ 2 }
+    ensures says { HasSaid E.CountedWrite errors.old USAGE.now errors.new }
     ensures same_sink { IsSameSink E.CountedWrite errors.old errors.new }
 {
     say(errors, USAGE);
-    2
+    FAILED
 }
 
-// Does what is asked for, and returns the status.
-fn grant<R: CountedRead, W: CountedWrite, E: CountedWrite>(
-    alloc: Global,
-    asked: &Asked,
-    input: &mut R,
-    output: &mut W,
-    errors: &mut E,
-) -> u8
-    ensures grants { let e = encoding_of asked.now.encoding in
-        let wish = wish_of asked.now.command in
-        IsDone R.CountedRead W.CountedWrite E.CountedWrite e wish
-        input.old output.old errors.old result input.new output.new errors.new }
-    ensures same_reader { IsSameReader R.CountedRead input.old input.new }
-    ensures same_sink { IsSameSink W.CountedWrite output.old output.new }
-    ensures same_error_sink { IsSameSink E.CountedWrite errors.old errors.new }
-{
-    match answer(alloc, asked, input, output) {
-        Ok(true) => 0,
-        Ok(false) => 1,
-        Err(error) => fail(alloc, errors, error),
-    }
-}
-
-// Whether there was what is asked for.
-fn answer<R: CountedRead, W: CountedWrite>(
-    alloc: Global,
-    asked: &Asked,
-    input: &mut R,
-    output: &mut W,
-) -> Result<bool, PropertiesError>
-    ensures grants { let e = encoding_of asked.now.encoding in
-        let wish = wish_of asked.now.command in
-        Grants R.CountedRead W.CountedWrite e wish
-        input.old output.old result input.new output.new }
-    ensures same_reader { IsSameReader R.CountedRead input.old input.new }
-    ensures same_sink { IsSameSink W.CountedWrite output.old output.new }
-{
-    match &asked.command {
-        Command::Get(key) => get(alloc, input, output, asked.encoding, key.as_str()),
-        Command::Change(edits) => {
-            change(alloc, input, output, asked.encoding, edits)?;
-            Ok(true)
-        }
-    }
-}
-
-// Says an error that holds no text that was refused, and returns the status of errors.
-fn fail<E: CountedWrite>(alloc: Global, errors: &mut E, error: PropertiesError) -> u8
-    requires { refused_of error ≡ None }
-    ensures status { result ≡ 1 }
-    ensures says { SaysError E.CountedWrite errors.old error errors.new }
+/// Prints on `errors` that an argument is not UTF-8, and returns the exit status of wrong arguments, 2.
+///
+/// For a `main` that can't have its arguments as texts. What can't be printed is dropped.
+///
+/// ```text
+/// let mut errors = Counted::new(Vec::new(alloc));
+/// propedit::refuse_bytes(&mut errors); // 2, and one line is printed
+/// ```
+pub fn refuse_bytes<E: CountedWrite>(errors: &mut E) -> u8
+    ensures status { result ≡ 2 }
+    ensures says { HasSaid E.CountedWrite errors.old (said_line not_utf_8) errors.new }
     ensures same_sink { IsSameSink E.CountedWrite errors.old errors.new }
 {
-    say_error(alloc, errors, error);
-    1
+    say(errors, NOT_UTF_8);
+    FAILED
+}
+
+/// Prints on `errors` that memory ran out, and returns the exit status of failures, 2.
+///
+/// For a `main` that has no memory for its arguments. It needs none itself. What can't be printed is dropped.
+///
+/// ```text
+/// let mut errors = Counted::new(Vec::new(alloc));
+/// propedit::lack_memory(&mut errors); // 2, and one line is printed
+/// ```
+pub fn lack_memory<E: CountedWrite>(errors: &mut E) -> u8
+    ensures status { result ≡ 2 }
+    ensures says { HasSaid E.CountedWrite errors.old (said_line memory_words) errors.new }
+    ensures same_sink { IsSameSink E.CountedWrite errors.old errors.new }
+{
+    say(errors, NO_MEMORY);
+    FAILED
 }
 
 #[cfg(test)]

@@ -1,24 +1,99 @@
 -- What arguments ask for.
-use Rattle.std.specs.Prelude.{◌≡◌, ◌≢◌, ◌⊎◌, ℕ, List, [], ◌∷◌, ◌++◌, Option, Some, None, codes, length, map, string_bytes}
-use Rattle.std.specs.Str.{chars}
-use Rattle.std.specs.Borrow.{Bor}
+use Rattle.std.specs.Prelude.{◌≡◌, ◌≢◌, ◌⊎◌, ℕ, List, [], ◌∷◌, ◌++◌, Option, Some, None, AllPairs, codes, map, string_bytes}
 use Rattle.std.specs.Global.{Vec}
-use Rattle.std.specs.declared.string.String.{String}
+use Rattle.std.specs.Option.{option_map}
+use Rattle.std.specs.Str.{chars}
 use Rattle.properties_format.specs.Edited.{Edit, put, remove}
-use Rattle.properties_format.specs.Encoding.{Encoding, windows_1252}
+use Rattle.properties_format.specs.Encoding.{Encoding, utf_8}
 use Rattle.properties_format.specs.Names.{name_of}
 use Rattle.java_properties.specs.declared.edit.Edit as editor
 use Rattle.java_properties.specs.declared.edit.Edit.TheVariants.{Put, Remove}
 use Rattle.properties_text.specs.Encoding.{encoding_of}
-use Rattle.properties_tools.specs.declared.propedit.asked.Asked.{Asked}
-use Rattle.properties_tools.specs.declared.propedit.asked.Command.{Command}
-use Rattle.properties_tools.specs.declared.propedit.asked.Command.TheVariants.{Get, Change}
-use Rattle.properties_tools.specs.declared.propedit.asked.LentEdit.{LentEdit}
-use Rattle.properties_tools.specs.declared.propedit.asked.LentEdit.TheVariants as Lent
+use Rattle.properties_tools.specs.declared.propedit.asked.Command as code_command
+use Rattle.properties_tools.specs.declared.propedit.asked.Command.TheVariants.{Get, List as Listed, Check, Change}
+use Rattle.properties_tools.specs.declared.propedit.asked.Request as code_request
+use Rattle.properties_tools.specs.declared.propedit.asked.Request.TheVariants as Requested
+use Rattle.properties_tools.specs.declared.propedit.asked.Source as code_source
+use Rattle.properties_tools.specs.declared.propedit.asked.Source.TheVariants as Given
+use Rattle.properties_tools.specs.declared.propedit.asked.TextEnd.{TextEnd}
+use Rattle.properties_tools.specs.declared.propedit.asked.TextEnd.TheVariants.{LineFeed, Zero}
+use Rattle.properties_tools.specs.declared.propedit.asked.Work as code_work
 
--- ---- words
+-- Arguments are lists of words, and words and texts are their UTF-8.
 
--- the words of an edit whose texts are their UTF-8
+-- ---- options
+
+-- where the bytes come from
+pub data Source : Type 0 where
+  standard_input : Source
+  file : List ℕ → Source
+  in_place : List ℕ → Source
+
+-- What an option chooses.
+pub data Choice : Type 0 where
+  in_encoding : Encoding → Choice
+  from_file : List ℕ → Choice
+  edits_file : List ℕ → Choice
+  with_default : List ℕ → Choice
+  with_zero : Choice
+
+-- the words of an option
+abbrev pub choice_words : Choice → List (List ℕ)
+choice_words (in_encoding e) = codes "-e" ∷ (name_of e ∷ [])
+choice_words (from_file path) = codes "-f" ∷ (path ∷ [])
+choice_words (edits_file path) = codes "-i" ∷ (path ∷ [])
+choice_words (with_default value) = codes "-d" ∷ (value ∷ [])
+choice_words with_zero = codes "-z" ∷ []
+
+-- the words of options, one after another
+abbrev pub words_of_choices : List Choice → List (List ℕ)
+words_of_choices [] = []
+words_of_choices (choice ∷ choices) = choice_words choice ++ words_of_choices choices
+
+-- what an option is about; `-f` and `-i` are about the same
+pub data Kind : Type 0 where
+  of_encoding : Kind
+  of_source : Kind
+  of_default : Kind
+  of_end : Kind
+
+abbrev pub kind_of : Choice → Kind
+kind_of (in_encoding e) = of_encoding
+kind_of (from_file path) = of_source
+kind_of (edits_file path) = of_source
+kind_of (with_default value) = of_default
+kind_of with_zero = of_end
+
+-- No two options are about the same.
+abbrev pub AreApart : List Choice → Type 0
+AreApart choices = AllPairs (λ a b. kind_of a ≢ kind_of b) choices
+
+-- what options choose together
+pub record Choices : Type 0 where
+  pub encoding : Option Encoding
+  pub source : Source
+  pub default : Option (List ℕ)
+  pub end : TextEnd
+
+-- where there is no option
+abbrev pub no_choices : Choices
+no_choices = record { encoding = None; source = standard_input; default = None; end = LineFeed }
+
+-- with one option more
+abbrev pub with_choice : Choice → Choices → Choices
+with_choice (in_encoding e) choices = record choices { encoding = Some e }
+with_choice (from_file path) choices = record choices { source = file path }
+with_choice (edits_file path) choices = record choices { source = in_place path }
+with_choice (with_default value) choices = record choices { default = Some value }
+with_choice with_zero choices = record choices { end = Zero }
+
+abbrev pub all_choices : List Choice → Choices
+all_choices [] = no_choices
+all_choices (choice ∷ choices) = with_choice choice (all_choices choices)
+
+-- ---- commands
+
+-- the words of an edit
 abbrev pub edit_words : Edit → List (List ℕ)
 edit_words (put key value) = codes "set" ∷ (key ∷ (value ∷ []))
 edit_words (remove key) = codes "remove" ∷ (key ∷ [])
@@ -33,82 +108,85 @@ abbrev pub in_characters : Edit → Edit
 in_characters (put key value) = put (chars key) (chars value)
 in_characters (remove key) = remove (chars key)
 
--- ---- wishes
+-- What is done: the value of a key is printed, or a default; or the keys that begin with a prefix; or what is wrong; or
+-- edits are made.
+pub data Command : Type 0 where
+  get : List ℕ → Option (List ℕ) → TextEnd → Command
+  list : List ℕ → TextEnd → Command
+  check : Command
+  change : List Edit → Command
 
--- What can be asked for: the last value of a key, or edits. Texts are their UTF-8.
-pub data Wish : Type 0 where
-  get : List ℕ → Wish
-  change : List Edit → Wish
-
--- These words ask for it; for edits there is at least one.
-abbrev pub AreWordsOf : List (List ℕ) → Wish → Type 0
-AreWordsOf words (get key) = words ≡ codes "get" ∷ (key ∷ [])
+-- The words are those of the command, whatever the options are. The prefix may be left out, and of edits there is at least
+-- one.
+abbrev pub AreWordsOf : List (List ℕ) → Command → Type 0
+AreWordsOf words (get key default end) = words ≡ codes "get" ∷ (key ∷ [])
+AreWordsOf words (list prefix end) = (words ≡ codes "list" ∷ (prefix ∷ [])) ⊎ ((words ≡ codes "list" ∷ []) × (prefix ≡ []))
+AreWordsOf words check = words ≡ codes "check" ∷ []
 AreWordsOf words (change edits) = (words ≡ words_of edits) × (edits ≢ [])
 
--- The arguments ask for it in this encoding: by its name and then the words, or by the words alone for windows-1252.
-abbrev pub Asks : List (List ℕ) → Encoding → Wish → Type 0
-Asks arguments e wish = ((words : List (List ℕ)) × (arguments ≡ name_of e ∷ words) × AreWordsOf words wish) ⊎ (e ≡ windows_1252) × AreWordsOf arguments wish
+abbrev pub IsInPlace : Source → Type 0
+IsInPlace standard_input = ⊥
+IsInPlace (file path) = ⊥
+IsInPlace (in_place path) = Unit {0}
 
--- These words ask for something.
-abbrev pub AreWords : List (List ℕ) → Type 0
-AreWords words = (wish : Wish) × AreWordsOf words wish
+-- The options are some that the command has: `-d` is one of `get`, `-z` of `get` and `list`, and `-i` of edits.
+abbrev pub Suits : Choices → Command → Type 0
+Suits choices (get key default end) = (choices.default ≡ default) × (choices.end ≡ end) × ¬ IsInPlace choices.source
+Suits choices (list prefix end) = (choices.default ≡ None) × (choices.end ≡ end) × ¬ IsInPlace choices.source
+Suits choices check = (choices.default ≡ None) × (choices.end ≡ LineFeed) × ¬ IsInPlace choices.source
+Suits choices (change edits) = (choices.default ≡ None) × (choices.end ≡ LineFeed)
 
--- The arguments ask for something in some encoding.
-pub record AsksSome (arguments : List (List ℕ)) : Type 0 where
+-- ---- requests
+
+-- a command, and what it is done to
+pub record Work : Type 0 where
   pub encoding : Encoding
-  pub wish : Wish
-  pub asked : Asks arguments encoding wish
+  pub source : Source
+  pub command : Command
 
--- ---- what code finds of them
+-- what can be asked for
+pub data Request : Type 0 where
+  help : Request
+  version : Request
+  work_request : Work → Request
 
--- the encoding that the first argument names, where it names one
-abbrev pub IsNamedFirst : List (List ℕ) → Option Encoding → Type 0
-IsNamedFirst arguments None = (e : Encoding) (words : List (List ℕ)) → arguments ≡ name_of e ∷ words → ⊥
-IsNamedFirst arguments (Some e) = (words : List (List ℕ)) × (arguments ≡ name_of e ∷ words)
+-- the encoding that is chosen, or UTF-8
+abbrev pub chosen_encoding : Option Encoding → Encoding
+chosen_encoding None = utf_8
+chosen_encoding (Some e) = e
 
--- the edit that the words begin with, and the words after it, where they begin with one
-abbrev pub IsNextEdit : List (List ℕ) → Option (Edit × List (List ℕ)) → Type 0
-IsNextEdit words None = (edit : Edit) (others : List (List ℕ)) → words ≡ edit_words edit ++ others → ⊥
-IsNextEdit words (Some next) = words ≡ edit_words next.0 ++ next.1
+-- With these options, these words are those of a command.
+pub record AsksWork (choices : Choices) (words : List (List ℕ)) (work : Work) : Type 0 where
+  pub encoding : work.encoding ≡ chosen_encoding choices.encoding
+  pub source : work.source ≡ choices.source
+  pub command : AreWordsOf words work.command
+  pub suits : Suits choices work.command
 
--- the setting of this key, and the words after its value, where a word is left for the value
-abbrev pub IsPutNext : List ℕ → List (List ℕ) → Option (Edit × List (List ℕ)) → Type 0
-IsPutNext key words None = words ≡ []
-IsPutNext key words (Some next) = (value : List ℕ) × (words ≡ value ∷ next.1) × (next.0 ≡ put key value)
+-- After these options, these words ask for it. What comes after a word for help or the version doesn't matter.
+abbrev pub AsksAfter : Choices → List (List ℕ) → Request → Type 0
+AsksAfter choices words help = (rest : List (List ℕ)) × ((words ≡ codes "-h" ∷ rest) ⊎ (words ≡ codes "--help" ∷ rest))
+AsksAfter choices words version = (rest : List (List ℕ)) × (words ≡ codes "--version" ∷ rest)
+AsksAfter choices words (work_request w) = AsksWork choices words w ⊎ ((rest : List (List ℕ)) × (words ≡ codes "--" ∷ rest) × AsksWork choices rest w)
 
--- These words are those of edits.
-abbrev pub AreEdits : List (List ℕ) → Type 0
-AreEdits words = (edits : List Edit) × (words ≡ words_of edits)
+-- The arguments ask for it: they are options, no two about the same, and then words that ask for it.
+pub record Asks (arguments : List (List ℕ)) (request : Request) : Type 0 where
+  pub choices : List Choice
+  pub apart : AreApart choices
+  pub words : List (List ℕ)
+  pub is : arguments ≡ words_of_choices choices ++ words
+  pub asks : AsksAfter (all_choices choices) words request
 
--- how many edits the words are, where they are those of edits
-abbrev pub IsEditCount : List (List ℕ) → Option ℕ → Type 0
-IsEditCount words None = (edits : List Edit) → words ≡ words_of edits → ⊥
-IsEditCount words (Some count) = (edits : List Edit) × (words ≡ words_of edits) × (length edits ≡ count)
+-- The arguments ask for a command.
+pub record AsksSome (arguments : List (List ℕ)) : Type 0 where
+  pub work : Work
+  pub asked : Asks arguments (work_request work)
 
--- the edits whose words these are, where they are those of edits
-abbrev pub AreEditsOf : List (List ℕ) → Option (List Edit) → Type 0
-AreEditsOf words None = (edits : List Edit) → words ≡ words_of edits → ⊥
-AreEditsOf words (Some edits) = words ≡ words_of edits
+-- what arguments ask for, where they ask for something
+abbrev pub IsAsked : List (List ℕ) → Option Request → Type 0
+IsAsked arguments None = (request : Request) → Asks arguments request → ⊥
+IsAsked arguments (Some request) = Asks arguments request
 
--- the key that the words ask to get, where they do
-abbrev pub IsKeyToGet : List (List ℕ) → Option (List ℕ) → Type 0
-IsKeyToGet words None = (key : List ℕ) → words ≡ codes "get" ∷ (key ∷ []) → ⊥
-IsKeyToGet words (Some key) = words ≡ codes "get" ∷ (key ∷ [])
-
--- what words ask for, where they ask for something
-abbrev pub IsWish : List (List ℕ) → Option Wish → Type 0
-IsWish words None = (wish : Wish) → AreWordsOf words wish → ⊥
-IsWish words (Some wish) = AreWordsOf words wish
-
--- what arguments ask for, and in which encoding, where they ask for something
-abbrev pub IsAsked : List (List ℕ) → Option (Encoding × Wish) → Type 0
-IsAsked arguments None = (e : Encoding) (wish : Wish) → Asks arguments e wish → ⊥
-IsAsked arguments (Some asked) = Asks arguments asked.0 asked.1
-
--- the same in this encoding, of words after its name
-abbrev pub IsAskedIn : Encoding → List (List ℕ) → Option (Encoding × Wish) → Type 0
-IsAskedIn e words None = (wish : Wish) → AreWordsOf words wish → ⊥
-IsAskedIn e words (Some asked) = (asked.0 ≡ e) × AreWordsOf words asked.1
+-- ---- values of the code
 
 -- an edit of the code, with its texts in UTF-8
 abbrev pub text_edit : editor.Edit → Edit
@@ -121,22 +199,21 @@ text_edits edits = map text_edit edits
 abbrev pub vec_edits : Vec editor.Edit → List Edit
 vec_edits edits = text_edits edits.items
 
--- the bytes of a text that is lent
-abbrev pub lent_bytes : {Z : Type 0} → Bor (String Z) → List ℕ
-lent_bytes text = string_bytes text.now
+abbrev pub command_of : code_command.Command → Command
+command_of (Get key default end) = get (string_bytes key) (option_map string_bytes default) end
+command_of (Listed prefix end) = list (string_bytes prefix) end
+command_of Check = check
+command_of (Change edits) = change (vec_edits edits)
 
--- the edit of lent texts
-abbrev pub lent_edit : LentEdit → Edit
-lent_edit (Lent.Put key value) = put (lent_bytes key) (lent_bytes value)
-lent_edit (Lent.Remove key) = remove (lent_bytes key)
+abbrev pub source_of : code_source.Source → Source
+source_of Given.StandardInput = standard_input
+source_of (Given.File path) = file (string_bytes path)
+source_of (Given.InPlace path) = in_place (string_bytes path)
 
--- the same with the words after it
-abbrev pub lent_next : {Z : Type 0} → LentEdit × Bor (List (String Z)) → Edit × List (List ℕ)
-lent_next next = (lent_edit next.0, map string_bytes next.1.now)
+abbrev pub work_of : code_work.Work → Work
+work_of w = record { encoding = encoding_of w.encoding; source = source_of w.source; command = command_of w.command }
 
-abbrev pub wish_of : Command → Wish
-wish_of (Get key) = get (string_bytes key)
-wish_of (Change edits) = change (vec_edits edits)
-
-abbrev pub asked_of : Asked → Encoding × Wish
-asked_of asked = (encoding_of asked.encoding, wish_of asked.command)
+abbrev pub request_of : code_request.Request → Request
+request_of Requested.Help = help
+request_of Requested.Version = version
+request_of (Requested.Work w) = work_request (work_of w)

@@ -1,36 +1,27 @@
--- What edits do: they are made to the whole input, and the result goes out only where all of them succeeded.
+-- What edits give: the bytes of a source after them.
 use Rattle.std.specs.Prelude.{◌≡◌, ◌⊎◌, ℕ, List, Result, Ok, Err}
-use Rattle.counted_io.specs.Streams.{Reader, Sink}
+use Rattle.std.specs.Global.{Vec}
 use Rattle.properties_format.specs.Edited.{Edit, IsEditAllResult}
 use Rattle.properties_format.specs.Encoding.{Encoding}
 use Rattle.java_properties.specs.Editing.{AreMade, IsRefusal}
-use Rattle.java_properties.specs.WholeSources.{GivesWhole, ReadsSource, WritesSource}
 use Rattle.java_properties.specs.declared.error.PropertiesError.{PropertiesError}
+use Rattle.properties_tools.specs.Propedit.Sources.{IsSound, IsUnsound}
+use Rattle.properties_tools.specs.declared.propedit.error.Failure.{Failure}
+use Rattle.properties_tools.specs.declared.propedit.error.Failure.TheVariants.{Input}
 
--- All edits were made to what the input gave to its end, and writing the result returned this.
-pub record MakesEdits {R W : Type 0} (reader : Reader R) (sink : Sink W) (e : Encoding) (edits : List Edit) (input : R) (output : W)
-    (written : Result Unit PropertiesError) (input' : R) (output' : W) : Type 0 where
-  pub source : List ℕ
-  pub read : GivesWhole reader input source input'
-  pub bytes : List ℕ
+-- The source is sound, and these are its bytes after the edits.
+pub record MakesEdits (e : Encoding) (source : List ℕ) (edits : List Edit) (bytes : List ℕ) : Type 0 where
+  pub sound : IsSound e source
   pub made : AreMade e source edits bytes
-  pub writes : WritesSource sink output bytes written output'
 
--- What the input gave to its end isn't edited so, and nothing was written.
-pub record RefusesEdits {R W : Type 0} (reader : Reader R) (e : Encoding) (edits : List Edit) (input : R) (output : W) (error : PropertiesError) (input' : R) (output' : W) : Type 0 where
-  pub source : List ℕ
-  pub read : GivesWhole reader input source input'
+-- The source is sound, but the edits aren't made: its encoding is not one that is edited, or memory ran out.
+pub record RefusesEdits (e : Encoding) (source : List ℕ) (edits : List Edit) (failure : Failure) : Type 0 where
+  pub sound : IsSound e source
+  pub error : PropertiesError
   pub refused : IsRefusal (IsEditAllResult e source edits) error
-  pub unwritten : output' ≡ output
-
--- The input couldn't be read to its end, and nothing was written.
-pub record FailsInInput {R W : Type 0} (reader : Reader R) (e : Encoding) (input : R) (output : W) (error : PropertiesError) (input' : R) (output' : W) : Type 0 where
-  pub fails : ReadsSource reader e input (Err error) input'
-  pub unwritten : output' ≡ output
+  pub is : failure ≡ Input error
 
 -- What making edits returns.
-abbrev pub Changes : {R W : Type 0} → Reader R → Sink W → Encoding → List Edit → R → W → Result Unit PropertiesError → R → W → Type 0
-Changes reader sink e edits input output (Ok done) input' output' = MakesEdits reader sink e edits input output (Ok done) input' output'
-Changes reader sink e edits input output (Err error) input' output' =
-    FailsInInput reader e input output error input' output'
-    ⊎ (RefusesEdits reader e edits input output error input' output' ⊎ MakesEdits reader sink e edits input output (Err error) input' output')
+abbrev pub Changes : Encoding → List ℕ → List Edit → Result (Vec ℕ) Failure → Type 0
+Changes e source edits (Ok bytes) = MakesEdits e source edits bytes.items
+Changes e source edits (Err failure) = IsUnsound e source failure ⊎ RefusesEdits e source edits failure

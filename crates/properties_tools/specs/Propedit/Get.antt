@@ -1,44 +1,41 @@
--- What `get` does: it prints the last value of a key.
-use Rattle.std.specs.Prelude.{◌≡◌, ◌⊎◌, ℕ, Bool, true, false, List, [], ◌∷◌, ◌++◌, Option, Some, None, Result, Ok, Err, encode_utf8_all}
+-- What `get` gives: the value of a key, or a default where no pair has the key.
+use Rattle.std.specs.Prelude.{◌≡◌, ℕ, List, [], Option, Some, None, Result, Ok, Err}
 use Rattle.std.specs.Option.{option_map}
 use Rattle.std.specs.declared.string.String.{String}
-use Rattle.counted_io.specs.Streams.{Reader, Sink}
 use Rattle.properties_format.specs.Encoding.{Encoding}
-use Rattle.properties_format.specs.Text.{line_feed}
-use Rattle.java_properties.specs.Maps.{ReadsValue, characters}
-use Rattle.java_properties.specs.ReadLines.{StopsReading}
-use Rattle.java_properties.specs.WholeSources.{WritesSource}
+use Rattle.properties_format.specs.Maps.{HasValue}
+use Rattle.java_properties.specs.Maps.{characters}
 use Rattle.java_properties.specs.declared.error.PropertiesError.{PropertiesError}
+use Rattle.properties_tools.specs.Propedit.Lines.{LacksRoom}
+use Rattle.properties_tools.specs.Propedit.Sources.{IsSound, IsUnsound}
+use Rattle.properties_tools.specs.Propedit.Texts.{ended}
+use Rattle.properties_tools.specs.declared.propedit.answers.Answer.{Answer}
+use Rattle.properties_tools.specs.declared.propedit.asked.TextEnd.{TextEnd}
+use Rattle.properties_tools.specs.declared.propedit.error.Failure.{Failure}
 
--- What looking up a key returns.
-abbrev pub LooksUp : {R Z : Type 0} → Reader R → Encoding → R → List ℕ → Result (Option (String Z)) PropertiesError → R → Type 0
-LooksUp reader e from key (Ok found) to = ReadsValue reader e from key (option_map characters found) to
-LooksUp reader e from key (Err error) to = StopsReading reader e from error to
+-- the value where there is one, and else the default
+abbrev pub value_or : Option (List ℕ) → Option (List ℕ) → Option (List ℕ)
+value_or (Some value) default = Some value
+value_or None default = default
 
--- a text in UTF-8, and an LF
-abbrev pub line_of : List ℕ → List ℕ
-line_of text = encode_utf8_all text ++ (line_feed ∷ [])
+-- The text is printed with the byte that ends it, and the status is 0; where there is none, nothing is printed, and the status is 1.
+abbrev pub Prints : TextEnd → Option (List ℕ) → Answer → Type 0
+Prints end (Some text) answer = (answer.text.items ≡ ended end text) × (answer.status ≡ 0)
+Prints end None answer = (answer.text.items ≡ []) × (answer.status ≡ 1)
 
--- A value was found, and printing it returned this.
-pub record Prints {R W : Type 0} (reader : Reader R) (sink : Sink W) (e : Encoding) (key : List ℕ) (input : R) (output : W)
-    (printed : Result Unit PropertiesError) (input' : R) (output' : W) : Type 0 where
-  pub value : List ℕ
-  pub found : ReadsValue reader e input key (Some value) input'
-  pub writes : WritesSource sink output (line_of value) printed output'
+-- The source is sound, and the value of the key in it is printed, or the default where no pair has the key.
+pub record GetsValue (e : Encoding) (source key : List ℕ) (default : Option (List ℕ)) (end : TextEnd) (answer : Answer) : Type 0 where
+  pub sound : IsSound e source
+  pub value : Option (List ℕ)
+  pub has_value : HasValue e source key value
+  pub prints : Prints end (value_or value default) answer
 
--- No pair has the key, and nothing was written.
-pub record PrintsNothing {R W : Type 0} (reader : Reader R) (e : Encoding) (key : List ℕ) (input : R) (output : W) (input' : R) (output' : W) : Type 0 where
-  pub absent : ReadsValue reader e input key None input'
-  pub unwritten : output' ≡ output
+-- What getting a key returns.
+abbrev pub Gets : Encoding → List ℕ → List ℕ → Option (List ℕ) → TextEnd → Result Answer Failure → Type 0
+Gets e source key default end (Ok answer) = GetsValue e source key default end answer
+Gets e source key default end (Err failure) = IsUnsound e source failure
 
--- The input couldn't be read to its end, something in it is malformed, or memory ran out; and nothing was written.
-pub record StopsInInput {R W : Type 0} (reader : Reader R) (e : Encoding) (input : R) (output : W) (error : PropertiesError) (input' : R) (output' : W) : Type 0 where
-  pub stops : StopsReading reader e input error input'
-  pub unwritten : output' ≡ output
-
--- What getting a key returns: whether a pair has it, or an error.
-abbrev pub Gets : {R W : Type 0} → Reader R → Sink W → Encoding → List ℕ → R → W → Result Bool PropertiesError → R → W → Type 0
-Gets reader sink e key input output (Ok true) input' output' = Prints reader sink e key input output (Ok tt) input' output'
-Gets reader sink e key input output (Ok false) input' output' = PrintsNothing reader e key input output input' output'
-Gets reader sink e key input output (Err error) input' output' =
-    StopsInInput reader e input output error input' output' ⊎ Prints reader sink e key input output (Err error) input' output'
+-- What looking up a key returns. In a sound source it fails only for want of memory, or of a number for a line.
+abbrev pub LooksUp : {Z : Type 0} → Encoding → List ℕ → List ℕ → Result (Option (String Z)) PropertiesError → Type 0
+LooksUp e source key (Ok found) = HasValue e source key (option_map characters found)
+LooksUp e source key (Err error) = IsSound e source → LacksRoom error

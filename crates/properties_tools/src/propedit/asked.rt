@@ -1,175 +1,172 @@
-// What the arguments ask for.
+// What the arguments of `propedit` ask for.
 
-ghost use Rattle.std.specs.Prelude.{◌≡◌, map, string_bytes, IfOk, OnErr};
+mod choices;
+mod commands;
+mod edits;
+
+ghost use Rattle.std.specs.Prelude.{map, string_bytes, IfOk, OnErr};
 ghost use Rattle.std.specs.Option.{option_map};
-ghost use Rattle.properties_text.specs.Encoding.{encoding_of};
-ghost use Rattle.properties_tools.specs.Propedit.Asked.{asked_of, lent_bytes, lent_edit, lent_next, text_edit, vec_edits, wish_of, words_of, AreEdits, AreEditsOf, AreWords, AsksSome, IsAsked, IsAskedIn, IsEditCount, IsKeyToGet, IsNamedFirst, IsNextEdit, IsPutNext, IsWish};
+ghost use Rattle.properties_tools.specs.Propedit.Asked.{request_of, work_of, AsksSome, IsAsked};
+ghost use Rattle.properties_tools.specs.Propedit.AskedParts.{choices_of, AsksSomeAfter, AsksSomeWork, IsAskedAfter, IsWork, IsWorkAsked};
 
+use crate::propedit::asked::choices::{Choices, choices_in};
+use crate::propedit::asked::commands::command_in;
 use java_properties::{Edit, Encoding};
 use std::alloc::{AllocError, Global};
 
-/// What is asked for, and in which encoding.
+/// What `--help` prints, and what wrong arguments print on standard error.
+pub const USAGE: &str = "usage: propedit [OPTION ..] get KEY
+       propedit [OPTION ..] list [PREFIX]
+       propedit [OPTION ..] check
+       propedit [OPTION ..] (set KEY VALUE | remove KEY) ..
+
+  get     prints the value of KEY
+  list    prints the keys, or those that begin with PREFIX, each once, in the order of the file
+  check   prints each line that is not UTF-8, the first malformed escape of each line, and each repeated key
+  set, remove
+          print the file with these edits, made in order; other lines stay as they are
+
+  -f FILE        reads FILE instead of standard input
+  -i FILE        edits FILE in place (set and remove)
+  -e NAME        utf-8 (the default), windows-1252, utf-16le or utf-16be; a byte order mark overrules it
+  -d VALUE       what get prints where FILE has no KEY, with status 0
+  -z             get and list end each text with a zero byte instead of a line feed
+  -h, --help     prints this
+  --version      prints the version
+  --             ends the options
+
+Reads standard input and prints on standard output, unless -f or -i says otherwise.
+Status: 0 done or found, 1 not found or check found something, 2 wrong arguments or an error.
+";
+
+/// What `--version` prints.
+pub const VERSION: &str = "propedit 1.1.0\n";
+
+/// What the arguments ask for.
 #[derive(Drop)]
-pub struct Asked {
+pub enum Request {
+    /// The usage.
+    Help,
+    /// The version.
+    Version,
+    /// A command over a source.
+    Work(Work),
+}
+
+/// A command, and what it is done to.
+#[derive(Drop)]
+pub struct Work {
+    /// The encoding of the source. A byte order mark overrules it.
     pub encoding: Encoding,
+    pub source: Source,
     pub command: Command,
 }
 
-/// What is asked for.
+/// Where the bytes come from.
+#[derive(Drop)]
+pub enum Source {
+    StandardInput,
+    /// The file of this name.
+    File(String),
+    /// The file of this name, which takes the result. Only edits have it.
+    InPlace(String),
+}
+
+/// What is to be done.
 #[derive(Drop)]
 pub enum Command {
-    /// The last value of a key.
-    Get(String),
-    /// Edits in order, of which there is one at least.
+    /// Print the value of this key, or this default where no pair has the key.
+    Get(String, Option<String>, TextEnd),
+    /// Print the keys that begin with this prefix, each once, in the order of the file.
+    List(String, TextEnd),
+    /// Print what is wrong.
+    Check,
+    /// Make these edits in order. There is one at least.
     Change(Vec<Edit>),
 }
 
-/// What the arguments ask for, or `None` where it is nothing that there is, for which no memory is needed.
-pub fn asked_for(alloc: Global, arguments: &[String]) -> Result<Option<Asked>, AllocError>
-    ensures asks { let names = map string_bytes arguments.now in
-        IfOk result (λ asked. IsAsked names (option_map asked_of asked)) }
-    ensures lacks { OnErr result (AsksSome (map string_bytes arguments.now)) }
+/// What ends a text that is printed.
+#[derive(Clone, Copy, Debug, PartialEq, Eq)]
+pub enum TextEnd {
+    LineFeed,
+    Zero,
+}
+
+/// What the words after the program's name ask for, or `None` where they are wrong. Memory is needed for a command alone.
+///
+/// ```text
+/// let Some(request) = asked_for(alloc, &words)? else {
+///     return Ok(propedit::refuse(&mut errors));
+/// };
+/// ```
+pub fn asked_for(alloc: Global, words: &[String]) -> Result<Option<Request>, AllocError>
+    ensures asks { let names = map string_bytes words.now in
+        IfOk result (λ request. IsAsked names (option_map request_of request)) }
+    ensures lacks { OnErr result (AsksSome (map string_bytes words.now)) }
 {
-    match named_first(arguments) {
-        Some(encoding) => asked_in(alloc, encoding, &arguments[1..]),
-        None => asked_in(alloc, Encoding::WINDOWS_1252, arguments),
+    match choices_in(words) {
+        Some((choices, rest)) => asked_after(alloc, &choices, rest),
+        None => Ok(None),
     }
 }
 
-// What these words ask for in this encoding.
-fn asked_in(
+// What the words after the options ask for.
+fn asked_after(
     alloc: Global,
-    encoding: Encoding,
+    choices: &Choices<'_>,
     words: &[String],
-) -> Result<Option<Asked>, AllocError>
+) -> Result<Option<Request>, AllocError>
     ensures asks { let names = map string_bytes words.now in
-        IfOk result (λ asked. IsAskedIn (encoding_of encoding) names (option_map asked_of asked)) }
-    ensures lacks { OnErr result (AreWords (map string_bytes words.now)) }
+        IfOk result (λ request. IsAskedAfter (choices_of choices.now) names (option_map request_of request)) }
+    ensures lacks { OnErr result (AsksSomeAfter (choices_of choices.now) (map string_bytes words.now)) }
 {
-    let Some(command) = command_in(alloc, words)? else {
+    let [word, others @ ..] = words else {
         return Ok(None);
     };
-    Ok(Some(Asked { encoding, command }))
-}
-
-fn named_first(arguments: &[String]) -> Option<Encoding>
-    ensures { IsNamedFirst (map string_bytes arguments.now) (option_map encoding_of result) }
-{
-    match arguments {
-        [name, ..] => Encoding::from_name(name.as_str()),
-        [] => None,
+    match word.as_str() {
+        "-h" | "--help" => Ok(Some(Request::Help)),
+        "--version" => Ok(Some(Request::Version)),
+        "--" => work_asked(alloc, choices, others),
+        _ => work_asked(alloc, choices, words),
     }
 }
 
-fn command_in(alloc: Global, words: &[String]) -> Result<Option<Command>, AllocError>
+fn work_asked(
+    alloc: Global,
+    choices: &Choices<'_>,
+    words: &[String],
+) -> Result<Option<Request>, AllocError>
     ensures asks { let names = map string_bytes words.now in
-        IfOk result (λ command. IsWish names (option_map wish_of command)) }
-    ensures lacks { OnErr result (AreWords (map string_bytes words.now)) }
+        IfOk result (λ request. IsWorkAsked (choices_of choices.now) names (option_map request_of request)) }
+    ensures lacks { OnErr result (AsksSomeWork (choices_of choices.now) (map string_bytes words.now)) }
 {
-    if words.is_empty() {
-        return Ok(None);
-    }
-    if let Some(key) = key_to_get(words) {
-        return Ok(Some(Command::Get(key.clone()?)));
-    }
-    match edits_in(alloc, words)? {
-        Some(edits) => Ok(Some(Command::Change(edits))),
+    match work_in(alloc, choices, words)? {
+        Some(work) => Ok(Some(Request::Work(work))),
         None => Ok(None),
     }
 }
 
-fn key_to_get(words: &[String]) -> Option<&String>
-    ensures { IsKeyToGet (map string_bytes words.now) (option_map lent_bytes result) }
+// The command that the words are, with what it is done to.
+fn work_in(
+    alloc: Global,
+    choices: &Choices<'_>,
+    words: &[String],
+) -> Result<Option<Work>, AllocError>
+    ensures asks { let names = map string_bytes words.now in
+        IfOk result (λ work. IsWork (choices_of choices.now) names (option_map work_of work)) }
+    ensures lacks { OnErr result (AsksSomeWork (choices_of choices.now) (map string_bytes words.now)) }
 {
-    let [word, key] = words else {
-        return None;
+    let Some(command) = command_in(alloc, choices, words)? else {
+        return Ok(None);
     };
-    match word.as_str() {
-        "get" => Some(key),
-        _ => None,
-    }
+    let source = choices.source.into_source()?;
+    let encoding = choices.encoding_or_default();
+    Ok(Some(Work {
+        encoding,
+        source,
+        command,
+    }))
 }
 
-// The edits that the words are, or `None` where they are others. Memory is asked for only where they are edits.
-fn edits_in(alloc: Global, words: &[String]) -> Result<Option<Vec<Edit>>, AllocError>
-    ensures finds { let names = map string_bytes words.now in
-        IfOk result (λ edits. AreEditsOf names (option_map vec_edits edits)) }
-    ensures lacks { OnErr result (AreEdits (map string_bytes words.now)) }
-{
-    match edit_count(words) {
-        Some(count) => Ok(Some(edits_of(alloc, words, count)?)),
-        None => Ok(None),
-    }
-}
-
-// How many edits the words are, or `None` where they are others.
-fn edit_count(words: &[String]) -> Option<usize>
-    ensures { IsEditCount (map string_bytes words.now) result }
-{
-    let mut count = 0;
-    let mut rest = words;
-    while !rest.is_empty() {
-        let (_, others) = next_edit(rest)?;
-        rest = others;
-        count += 1;
-    }
-    Some(count)
-}
-
-// The edits that the words are, so many of them.
-fn edits_of(alloc: Global, words: &[String], count: usize) -> Result<Vec<Edit>, AllocError>
-    requires { AreEdits (map string_bytes words.now) }
-    ensures { let names = map string_bytes words.now in
-        IfOk result (λ edits. names ≡ words_of (vec_edits edits)) }
-{
-    let mut edits = Vec::with_capacity(alloc, count)?;
-    let mut rest = words;
-    while let Some((edit, others)) = next_edit(rest) {
-        edits.push(edit.into_edit()?)?;
-        rest = others;
-    }
-    Ok(edits)
-}
-
-// An edit whose texts are lent.
-#[derive(Clone, Copy)]
-enum LentEdit<'a> {
-    Put(&'a String, &'a String),
-    Remove(&'a String),
-}
-
-impl LentEdit<'_> {
-    fn into_edit(self) -> Result<Edit, AllocError>
-        ensures { IfOk result (λ edit. text_edit edit ≡ lent_edit self.entry) }
-    {
-        match self {
-            LentEdit::Put(key, value) => Ok(Edit::Put(key.clone()?, value.clone()?)),
-            LentEdit::Remove(key) => Ok(Edit::Remove(key.clone()?)),
-        }
-    }
-}
-
-// The edit that the words begin with, and the words after it.
-fn next_edit(words: &[String]) -> Option<(LentEdit<'_>, &[String])>
-    ensures { IsNextEdit (map string_bytes words.now) (option_map lent_next result) }
-{
-    let [word, key, others @ ..] = words else {
-        return None;
-    };
-    match word.as_str() {
-        "set" => next_put(key, others),
-        "remove" => Some((LentEdit::Remove(key), others)),
-        _ => None,
-    }
-}
-
-// The setting of a key, whose value is the first of these words, and the words after it.
-fn next_put<'a>(key: &'a String, words: &'a [String]) -> Option<(LentEdit<'a>, &'a [String])>
-    ensures { let names = map string_bytes words.now in
-        IsPutNext (string_bytes key.now) names (option_map lent_next result) }
-{
-    let [value, others @ ..] = words else {
-        return None;
-    };
-    Some((LentEdit::Put(key, value), others))
-}
+#[cfg(test)]
+mod tests;

@@ -1,38 +1,77 @@
-// Edits of a whole input, whose result goes out.
+// A source after edits.
 
-ghost use Rattle.counted_io.specs.Streams.{IsSameReader, IsSameSink};
 ghost use Rattle.properties_text.specs.Encoding.{encoding_of};
 ghost use Rattle.java_properties.specs.Editing.{edits_in};
 ghost use Rattle.properties_tools.specs.Propedit.Change.{Changes};
 
-use counted_io::{CountedRead, CountedWrite};
-use java_properties::{Edit, Encoding, PropertiesError, edit_all, read_source, write_source};
+use crate::propedit::error::Failure;
+use crate::propedit::source::refuse_unsound;
+use java_properties::{Edit, Encoding, edit_all};
 use std::alloc::Global;
 
-/// Makes edits, in order, to what the input gives to its end, writes the result and flushes the sink.
+/// The bytes of a source after edits, made in order.
 ///
-/// At an error in the input, or where an edit fails, nothing is written.
+/// A source that is not UTF-8 though that is in force, or that has a malformed escape, is refused, and then one in an
+/// encoding that is not edited.
 ///
 /// ```text
-/// let mut input: &[u8] = b"# the front door\nport = 80\n";
-/// let mut output = Counted::new(Vec::new(alloc));
 /// let edits = vec![in alloc; Edit::Put(port, value)]?;
-/// change(alloc, &mut input, &mut output, Encoding::UTF_8, &edits)?;
+/// let bytes = change(alloc, b"# the front door\nport = 80\n", Encoding::UTF_8, &edits)?;
 /// ```
-pub fn change<R: CountedRead, W: CountedWrite>(
+pub fn change(
     alloc: Global,
-    input: &mut R,
-    output: &mut W,
+    source: &[u8],
     encoding: Encoding,
     edits: &[Edit],
-) -> Result<(), PropertiesError>
-    ensures changes { let e = encoding_of encoding in
-        Changes R.CountedRead W.CountedWrite e (edits_in edits.now)
-        input.old output.old result input.new output.new }
-    ensures same_reader { IsSameReader R.CountedRead input.old input.new }
-    ensures same_sink { IsSameSink W.CountedWrite output.old output.new }
+) -> Result<Vec<u8>, Failure>
+    ensures { Changes (encoding_of encoding) source.now (edits_in edits.now) result }
 {
-    let source = read_source(alloc, input, encoding)?;
-    let bytes = edit_all(alloc, &source, encoding, edits)?;
-    write_source(output, &bytes)
+    refuse_unsound(alloc, source, encoding)?;
+    Ok(edit_all(alloc, source, encoding, edits)?)
+}
+
+#[cfg(test)]
+mod tests {
+    use super::*;
+    use java_properties::ErrorKind;
+    use std::alloc::AllocError;
+    use std::test::Fail;
+
+    // One edit, which sets a key.
+    fn edit(alloc: Global, key: &str, value: &str) -> Result<Vec<Edit>, AllocError> {
+        let edit = Edit::Put(
+            String::from_str(alloc, key)?,
+            String::from_str(alloc, value)?,
+        );
+        Ok(vec![in alloc; edit]?)
+    }
+
+    #[test]
+    fn makes_edits(rt: HostRuntime) -> Result<(), Fail> {
+        let edits = edit(rt.alloc(), "host", "\u{17c}")?;
+        let changed = change(
+            rt.alloc(),
+            b"# a\nport=1\nhost : x\r\n",
+            Encoding::UTF_8,
+            &edits,
+        );
+        let bytes = changed?;
+        assert_eq!(rt;
+            bytes.as_slice(),
+            b"# a\nport=1\nhost=\xc5\xbc\r\n".as_slice()
+        );
+        Ok(())
+    }
+
+    #[test]
+    fn refuses_sources(rt: HostRuntime) -> Result<(), Fail> {
+        let edits = edit(rt.alloc(), "a", "1")?;
+        let refused = change(rt.alloc(), b"a=\xe9", Encoding::UTF_8, &edits);
+        assert!(rt; matches!(&refused, Err(Failure::NotUtf8(1))));
+        let refused = change(rt.alloc(), b"a\0", Encoding::UTF_16LE, &edits);
+        assert!(rt;
+            matches!(&refused, Err(Failure::Input(error)) if error.kind() == ErrorKind::Unsupported)
+        );
+        Ok(())
+    }
 }

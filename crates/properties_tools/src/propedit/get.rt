@@ -1,55 +1,130 @@
-// The last value of a key, printed.
+// The value of a key.
 
+ghost use Rattle.std.specs.Prelude.{IfOk};
+ghost use Rattle.std.specs.Option.{option_map};
 ghost use Rattle.std.specs.Str.{chars};
-ghost use Rattle.counted_io.specs.Streams.{IsSameReader, IsSameSink};
 ghost use Rattle.properties_text.specs.Encoding.{encoding_of};
-ghost use Rattle.properties_tools.specs.Propedit.Get.{Gets, LooksUp};
+ghost use Rattle.properties_tools.specs.Propedit.Get.{Gets, LooksUp, Prints};
+ghost use Rattle.properties_tools.specs.Propedit.Texts.{borrowed_characters};
 
-use counted_io::{CountedRead, CountedWrite};
-use java_properties::{Encoding, PropertiesError, read_sorted, write_source};
-use std::alloc::Global;
+use crate::propedit::answers::{Answer, push_ended};
+use crate::propedit::asked::TextEnd;
+use crate::propedit::error::Failure;
+use crate::propedit::source::refuse_unsound;
+use java_properties::{Encoding, PropertiesError, read_sorted};
+use std::alloc::{AllocError, Global};
 
-/// Prints the last value of a key as a line in UTF-8, and tells whether a pair has the key.
+/// The last value of a key, or the default where no pair has the key, and the byte that ends it. Where there is neither,
+/// the text is empty, and the status is 1.
 ///
-/// All of the input is read first, so an error anywhere in it is an error here.
+/// A source that is not UTF-8 though that is in force, or that has a malformed escape, is refused.
 ///
 /// ```text
-/// let mut input: &[u8] = b"b = 1\nb = caf\xe9";
-/// let mut output = Counted::new(Vec::new(alloc));
-/// get(alloc, &mut input, &mut output, Encoding::WINDOWS_1252, "b")?; // true
-/// // The sink holds `café`, in UTF-8, and a line feed.
+/// let answer = get(alloc, b"b = 1\nb = 2", Encoding::UTF_8, "b", None, TextEnd::LineFeed)?;
+/// // The text is `2` and a line feed, and the status is 0.
 /// ```
-pub fn get<R: CountedRead, W: CountedWrite>(
+pub fn get(
     alloc: Global,
-    input: &mut R,
-    output: &mut W,
+    source: &[u8],
     encoding: Encoding,
     key: &str,
-) -> Result<bool, PropertiesError>
-    ensures gets { let e = encoding_of encoding in
-        Gets R.CountedRead W.CountedWrite e (chars key.now)
-        input.old output.old result input.new output.new }
-    ensures same_reader { IsSameReader R.CountedRead input.old input.new }
-    ensures same_sink { IsSameSink W.CountedWrite output.old output.new }
+    default: Option<&str>,
+    end: TextEnd,
+) -> Result<Answer, Failure>
+    ensures { let e = encoding_of encoding in
+        Gets e source.now (chars key.now) (option_map borrowed_characters default.entry) end result }
 {
-    let Some(mut line) = look_up(alloc, input, encoding, key)? else {
-        return Ok(false);
+    refuse_unsound(alloc, source, encoding)?;
+    let answer = match look_up(alloc, source, encoding, key)? {
+        Some(value) => answer_of(alloc, Some(value.as_str()), end)?,
+        None => answer_of(alloc, default, end)?,
     };
-    line.push('\n')?;
-    write_source(output, line.as_bytes())?;
-    Ok(true)
+    Ok(answer)
 }
 
-fn look_up<R: CountedRead>(
+// The last value of a key, where a pair has it.
+fn look_up(
     alloc: Global,
-    input: &mut R,
+    source: &[u8],
     encoding: Encoding,
     key: &str,
 ) -> Result<Option<String>, PropertiesError>
-    ensures looks { let e = encoding_of encoding in
-        LooksUp R.CountedRead e input.old (chars key.now) result input.new }
-    ensures same_reader { IsSameReader R.CountedRead input.old input.new }
+    ensures { LooksUp (encoding_of encoding) source.now (chars key.now) result }
 {
-    let mut map = read_sorted(alloc, input, encoding)?;
+    let mut input = source;
+    let mut map = read_sorted(alloc, &mut input, encoding)?;
     Ok(map.remove(key))
+}
+
+// A text with the byte that ends it, or nothing and the status 1.
+fn answer_of(alloc: Global, text: Option<&str>, end: TextEnd) -> Result<Answer, AllocError>
+    ensures { IfOk result (Prints end (option_map borrowed_characters text.entry)) }
+{
+    let mut bytes = Vec::new(alloc);
+    let Some(text) = text else {
+        return Ok(Answer {
+            text: bytes,
+            status: 1,
+        });
+    };
+    push_ended(&mut bytes, text, end)?;
+    Ok(Answer {
+        text: bytes,
+        status: 0,
+    })
+}
+
+#[cfg(test)]
+mod tests {
+    use super::*;
+    use std::test::Fail;
+
+    // What is got of a source in windows-1252.
+    fn got(
+        alloc: Global,
+        key: &str,
+        default: Option<&str>,
+        end: TextEnd,
+    ) -> Result<(Vec<u8>, u8), Failure> {
+        let source = b"b = 1\n# b\nb = caf\xe9\nc";
+        let answer = get(alloc, source, Encoding::WINDOWS_1252, key, default, end)?;
+        Ok((answer.text, answer.status))
+    }
+
+    #[test]
+    fn gets_the_last_value(rt: HostRuntime) -> Result<(), Fail> {
+        let (text, status) = got(rt.alloc(), "b", None, TextEnd::LineFeed)?;
+        assert_eq!(rt; text.as_slice(), b"caf\xc3\xa9\n".as_slice());
+        assert_eq!(rt; status, 0);
+        let (text, status) = got(rt.alloc(), "c", Some("x"), TextEnd::Zero)?;
+        assert_eq!(rt; text.as_slice(), b"\0".as_slice());
+        assert_eq!(rt; status, 0);
+        Ok(())
+    }
+
+    #[test]
+    fn gives_the_default(rt: HostRuntime) -> Result<(), Fail> {
+        let (text, status) = got(rt.alloc(), "a", Some("x"), TextEnd::LineFeed)?;
+        assert_eq!(rt; text.as_slice(), b"x\n".as_slice());
+        assert_eq!(rt; status, 0);
+        let (text, status) = got(rt.alloc(), "a", None, TextEnd::LineFeed)?;
+        assert!(rt; text.is_empty());
+        assert_eq!(rt; status, 1);
+        Ok(())
+    }
+
+    #[test]
+    fn refuses_what_is_not_utf_8(rt: HostRuntime) -> Result<(), Fail> {
+        let source = b"a=1\nb=\xe9";
+        let refused = get(
+            rt.alloc(),
+            source,
+            Encoding::UTF_8,
+            "a",
+            None,
+            TextEnd::Zero,
+        );
+        assert!(rt; matches!(&refused, Err(Failure::NotUtf8(2))));
+        Ok(())
+    }
 }

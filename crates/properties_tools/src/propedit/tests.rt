@@ -1,89 +1,100 @@
 // Runs of the program over texts.
 
 use super::*;
+use crate::propedit::asked::{Command, Source, TextEnd};
 use counted_io::{Counted, ScriptedSink, SinkFault};
 use std::alloc::AllocError;
 use std::io::{self, ErrorKind, Read};
 use std::process::Abort;
 use std::test::Fail;
 
-const USAGE_TEXT: &str =
-    "usage: propedit [windows-1252|utf-8|utf-16le|utf-16be] get KEY\n       propedit [windows-1252|utf-8|utf-16le|utf-16be] (set KEY VALUE | remove KEY)..\n";
+// A command whose texts are borrowed.
+#[derive(Clone, Copy)]
+enum Wish<'a> {
+    Get(&'a str),
+    List(&'a str),
+    Check,
+    Put(&'a str, &'a str),
+    Remove(&'a str),
+}
 
-// The arguments, as owned texts.
-fn words(alloc: Global, arguments: &[&str]) -> Result<Vec<String>, AllocError> {
-    let mut words = Vec::new(alloc);
-    for argument in arguments {
-        words.push(String::from_str(alloc, argument)?)?;
-    }
-    Ok(words)
+fn put(alloc: Global, key: &str, value: &str) -> Result<Edit, AllocError> {
+    Ok(Edit::Put(
+        String::from_str(alloc, key)?,
+        String::from_str(alloc, value)?,
+    ))
+}
+
+fn command(alloc: Global, wish: Wish<'_>) -> Result<Command, AllocError> {
+    let command = match wish {
+        Wish::Get(key) => Command::Get(String::from_str(alloc, key)?, None, TextEnd::LineFeed),
+        Wish::List(prefix) => Command::List(String::from_str(alloc, prefix)?, TextEnd::LineFeed),
+        Wish::Check => Command::Check,
+        Wish::Put(key, value) => Command::Change(vec![in alloc; put(alloc, key, value)?]?),
+        Wish::Remove(key) => {
+            Command::Change(vec![in alloc; Edit::Remove(String::from_str(alloc, key)?)]?)
+        }
+    };
+    Ok(command)
+}
+
+// A command over standard input.
+fn work(alloc: Global, encoding: Encoding, wish: Wish<'_>) -> Result<Work, AllocError> {
+    Ok(Work {
+        encoding,
+        source: Source::StandardInput,
+        command: command(alloc, wish)?,
+    })
 }
 
 // The status, the output and the errors.
-fn edited(
+fn ran(
     alloc: Global,
-    arguments: &[&str],
+    work: &Work,
     mut input: impl CountedRead,
 ) -> Result<(u8, Vec<u8>, Vec<u8>), Fail> {
-    let arguments = words(alloc, arguments)?;
     let mut output = Counted::new(Vec::new(alloc));
     let mut errors = Counted::new(Vec::new(alloc));
-    let status = run(
-        alloc,
-        arguments.as_slice(),
-        &mut input,
-        &mut output,
-        &mut errors,
-    );
+    let status = run(alloc, work, &mut input, &mut output, &mut errors);
     Ok((status, output.into_inner(), errors.into_inner()))
 }
 
-// A run, and what it has to give.
+// A run in UTF-8, and what it has to give.
 #[derive(Drop)]
 struct Row<'a> {
-    arguments: &'a [&'a str],
+    wish: Wish<'a>,
     input: &'a [u8],
     status: u8,
     output: &'a [u8],
     errors: &'a str,
 }
 
-// A run that succeeds.
-fn gives<'a>(arguments: &'a [&'a str], input: &'a [u8], output: &'a [u8]) -> Row<'a> {
+// A run without a failure.
+fn gives<'a>(wish: Wish<'a>, input: &'a [u8], status: u8, output: &'a [u8]) -> Row<'a> {
     Row {
-        arguments,
+        wish,
         input,
-        status: 0,
+        status,
         output,
         errors: "",
     }
 }
 
-// A run that fails, and says this.
-fn fails<'a>(arguments: &'a [&'a str], input: &'a [u8], errors: &'a str) -> Row<'a> {
+// A run that fails, and prints why.
+fn fails<'a>(wish: Wish<'a>, input: &'a [u8], errors: &'a str) -> Row<'a> {
     Row {
-        arguments,
+        wish,
         input,
-        status: 1,
+        status: 2,
         output: b"",
         errors,
     }
 }
 
-// A run of arguments that ask for nothing.
-fn is_refused<'a>(arguments: &'a [&'a str]) -> Row<'a> {
-    Row {
-        arguments,
-        input: b"a=1",
-        status: 2,
-        output: b"",
-        errors: USAGE_TEXT,
-    }
-}
-
 fn check_rows(rt: &impl Abort, alloc: Global, rows: &[Row<'_>]) -> Result<(), Fail> {
     for row in rows {
-        let (status, output, errors) = edited(alloc, row.arguments, row.input)?;
+        let work = work(alloc, Encoding::UTF_8, row.wish)?;
+        let (status, output, errors) = ran(alloc, &work, row.input)?;
         assert_eq!(rt; status, row.status);
         assert_eq!(rt; output.as_slice(), row.output);
         assert_eq!(rt; errors.as_slice(), row.errors.as_bytes());
@@ -92,131 +103,70 @@ fn check_rows(rt: &impl Abort, alloc: Global, rows: &[Row<'_>]) -> Result<(), Fa
 }
 
 #[test]
-fn gets_the_last_value(rt: HostRuntime) -> Result<(), Fail> {
-    let rows: [Row<'_>; 7] = [
-        gives(&["get", "a"], b"a=1\nb=2\na = 3", b"3\n"),
-        gives(&["get", "caf\u{e9}"], b"caf\xe9=x", b"x\n"),
-        gives(&["get", "a"], b"a=\\u65e5\\\n  \\tx", b"\xe6\x97\xa5\tx\n"),
-        gives(&["get", "a"], b"a=1\\n2", b"1\n2\n"),
-        gives(&["get", "a"], b"a", b"\n"),
-        gives(&["get", ""], b"=1", b"1\n"),
-        gives(&["get", "utf-8"], b"utf-8=x", b"x\n"),
-    ];
-    check_rows(&rt, rt.alloc(), rows.as_slice())
-}
-
-#[test]
-fn reads_the_encoding_that_is_named_or_marked(rt: HostRuntime) -> Result<(), Fail> {
-    let told = b"\xc3\xa9\n".as_slice();
-    let rows: [Row<'_>; 6] = [
-        gives(&["windows-1252", "get", "a"], b"a=\xe9", told),
-        gives(&["utf-8", "get", "a"], b"a=\xc3\xa9", told),
-        gives(&["utf-16le", "get", "a"], b"a\0=\0\xe9\0", told),
-        gives(&["utf-16be", "get", "a"], b"\0a\0=\0\xe9", told),
-        gives(&["get", "a"], b"\xff\xfea\0=\0\xe9\0", told),
-        gives(&["utf-16le", "get", "a"], b"\xef\xbb\xbfa=\xc3\xa9", told),
-    ];
-    check_rows(&rt, rt.alloc(), rows.as_slice())
-}
-
-#[test]
-fn tells_of_an_absent_key(rt: HostRuntime) -> Result<(), Fail> {
-    let rows: [Row<'_>; 3] = [
-        fails(&["get", "c"], b"a=1\nb=c", ""),
-        fails(&["get", ""], b"", ""),
-        fails(&["get", "\\u0061"], b"a=1", ""),
-    ];
-    check_rows(&rt, rt.alloc(), rows.as_slice())
-}
-
-#[test]
-fn edits(rt: HostRuntime) -> Result<(), Fail> {
-    let rows: [Row<'_>; 10] = [
+fn prints_the_answer(rt: HostRuntime) -> Result<(), Fail> {
+    let rows: [Row<'_>; 8] = [
+        gives(Wish::Get("a"), b"a=1\nb=2\na = 3", 0, b"3\n"),
+        gives(Wish::Get("c"), b"a=1", 1, b""),
+        gives(Wish::List(""), b"a=1\nb=2\na = 3", 0, b"a\nb\n"),
+        gives(Wish::List("c"), b"a=1", 1, b""),
+        gives(Wish::Check, b"a=1", 0, b""),
         gives(
-            &["set", "a", "2"],
+            Wish::Check,
+            b"a=1\na=2",
+            1,
+            b"standard input:2: repeats the key of line 1\n",
+        ),
+        gives(
+            Wish::Put("a", "\u{e9}"),
             b"# x\r\na : 1\r\nb=c",
-            b"# x\r\na=2\r\nb=c",
+            0,
+            b"# x\r\na=\xc3\xa9\r\nb=c",
         ),
-        gives(&["set", "c", "3"], b"a=1", b"a=1\nc=3\n"),
-        gives(&["remove", "a"], b"a=1\nb=2\na=3", b"b=2\n"),
-        gives(&["remove", "c"], b"a = 1", b"a = 1"),
-        gives(&["set", "a", "\\u0061"], b"", b"a=\\\\u0061\n"),
-        gives(&["set", "", ""], b"a=1", b"a=1\n=\n"),
-        gives(&["remove", ""], b"a=1\n=2\nb=3", b"a=1\nb=3"),
-        gives(&["set", "a", "2", "remove", "a"], b"a=1\nb=2", b"b=2"),
-        gives(
-            &["remove", "a", "set", "a", "2"],
-            b"a=1\nb=2",
-            b"b=2\na=2\n",
-        ),
-        gives(
-            &["set", "set", "remove", "remove", "get"],
-            b"get=1",
-            b"set=remove\n",
+        gives(Wish::Remove("a"), b"a=1\nb=2\na=3", 0, b"b=2\n"),
+    ];
+    check_rows(&rt, rt.alloc(), rows.as_slice())
+}
+
+#[test]
+fn prints_why_it_fails(rt: HostRuntime) -> Result<(), Fail> {
+    let not_utf_8 = "propedit: standard input:1: not UTF-8; -e windows-1252 reads it\n";
+    let malformed = "propedit: standard input:2: Malformed \\uxxxx encoding: not enough digits.\n";
+    let in_comment =
+        "propedit: standard input:1: Malformed \\uxxxx encoding: not hex. (in a comment)\n";
+    let rows: [Row<'_>; 6] = [
+        fails(Wish::Get("b"), b"a=\xe9\nb=1", not_utf_8),
+        fails(Wish::List(""), b"a=\xe9\nb=\\u12", not_utf_8),
+        fails(Wish::Get("a"), b"a=1\nk=\\u12", malformed),
+        fails(Wish::Put("a", "2"), b"a=1\nk=\\u12", malformed),
+        fails(Wish::Remove("c"), b"# C:\\users", in_comment),
+        fails(
+            Wish::Put("a", "2"),
+            b"\xfe\xff\0a",
+            "propedit: standard input: Encoding can't be edited.\n",
         ),
     ];
     check_rows(&rt, rt.alloc(), rows.as_slice())
 }
 
 #[test]
-fn writes_the_encoding_that_is_named_or_marked(rt: HostRuntime) -> Result<(), Fail> {
-    let rows: [Row<'_>; 4] = [
-        gives(&["set", "a", "\u{e9}\u{65e5}"], b"a=1", b"a=\xe9\\u65e5"),
-        gives(&["utf-8", "set", "a", "\u{e9}"], b"a=1", b"a=\xc3\xa9"),
-        gives(
-            &["set", "a", "\u{e9}"],
-            b"\xef\xbb\xbfa=1",
-            b"\xef\xbb\xbfa=\xc3\xa9",
-        ),
-        gives(
-            &["utf-16le", "set", "a", "2"],
-            b"\xef\xbb\xbfa=1",
-            b"\xef\xbb\xbfa=2",
-        ),
-    ];
-    check_rows(&rt, rt.alloc(), rows.as_slice())
-}
-
-#[test]
-fn tells_of_malformed_escapes(rt: HostRuntime) -> Result<(), Fail> {
-    let told = "Malformed \\uxxxx encoding: not enough digits. (line_number = 2)\n";
-    let rows: [Row<'_>; 4] = [
-        fails(&["get", "a"], b"a=1\nk=\\u12", told),
-        fails(&["get", "k"], b"a=1\nk=\\u12", told),
-        fails(&["set", "a", "2"], b"a=1\nk=\\u12", told),
-        fails(&["remove", "c"], b"a=1\nk=\\u12", told),
-    ];
-    check_rows(&rt, rt.alloc(), rows.as_slice())
-}
-
-#[test]
-fn refuses_edits_of_utf_16(rt: HostRuntime) -> Result<(), Fail> {
-    let told = "Encoding can't be edited. (line_number = unknown)\n";
-    let rows: [Row<'_>; 3] = [
-        fails(&["utf-16le", "set", "a", "2"], b"a\0=\0", told),
-        fails(&["utf-16be", "remove", "a"], b"\0a\0=", told),
-        fails(&["utf-8", "set", "a", "2"], b"\xfe\xff\0a", told),
-    ];
-    check_rows(&rt, rt.alloc(), rows.as_slice())
-}
-
-#[test]
-fn refuses_other_arguments(rt: HostRuntime) -> Result<(), Fail> {
-    let rows: [Row<'_>; 12] = [
-        is_refused(&[]),
-        is_refused(&["utf-8"]),
-        is_refused(&["get"]),
-        is_refused(&["get", "a", "b"]),
-        is_refused(&["set", "a"]),
-        is_refused(&["remove"]),
-        is_refused(&["set", "a", "b", "get", "c"]),
-        is_refused(&["get", "a", "set", "a", "b"]),
-        is_refused(&["set", "a", "b", "remove"]),
-        is_refused(&["utf-8", "utf-8", "get", "a"]),
-        is_refused(&["latin-1", "get", "a"]),
-        is_refused(&["SET", "a", "b"]),
-    ];
-    check_rows(&rt, rt.alloc(), rows.as_slice())
+fn names_the_file(rt: HostRuntime) -> Result<(), Fail> {
+    let alloc = rt.alloc();
+    let work = Work {
+        encoding: Encoding::WINDOWS_1252,
+        source: Source::File(String::from_str(alloc, "app.properties")?),
+        command: command(alloc, Wish::Get("a"))?,
+    };
+    let (status, output, errors) = ran(alloc, &work, b"a=\xe9".as_slice())?;
+    assert_eq!(rt; status, 0);
+    assert_eq!(rt; output.as_slice(), b"\xc3\xa9\n".as_slice());
+    assert_eq!(rt; errors.as_slice(), b"".as_slice());
+    let (status, _, errors) = ran(alloc, &work, b"a=\\ux".as_slice())?;
+    assert_eq!(rt; status, 2);
+    assert_eq!(rt;
+        errors.as_slice(),
+        b"propedit: app.properties:1: Malformed \\uxxxx encoding: not enough digits.\n".as_slice()
+    );
+    Ok(())
 }
 
 // Gives one text, and then fails.
@@ -228,31 +178,30 @@ struct Broken<'a> {
 impl Read for Broken<'_> {
     fn read(&mut self, buf: &mut [u8]) -> io::Result<usize> {
         if self.text.is_empty() {
-            return Err(io::Error::from(ErrorKind::Other));
+            return Err(io::Error::from(ErrorKind::NotFound));
         }
         self.text.read(buf)
     }
 }
 
 #[test]
-fn tells_of_a_read_that_failed(rt: HostRuntime) -> Result<(), Fail> {
-    let rows: [(&[u8], &[u8]); 3] = [
-        (b"a=1\nb=2", b"I/O error (line_number = 2)\n"),
-        (b"a=1\nb=\\u12", b"I/O error (line_number = 2)\n"),
-        (
-            b"a=1\nb=\\u12\nc=3",
-            b"Malformed \\uxxxx encoding: not enough digits. (line_number = 2)\n",
-        ),
+fn prints_why_a_read_failed(rt: HostRuntime) -> Result<(), Fail> {
+    let wishes = [
+        Wish::Get("a"),
+        Wish::List(""),
+        Wish::Check,
+        Wish::Put("a", "2"),
     ];
-    let commands: [&[&str]; 3] = [&["get", "a"], &["set", "a", "2"], &["remove", "a"]];
-    for (text, told) in rows {
-        for command in commands {
-            let input = Counted::new(Broken { text });
-            let (status, output, errors) = edited(rt.alloc(), command, input)?;
-            assert_eq!(rt; status, 1);
-            assert_eq!(rt; output.as_slice(), b"".as_slice());
-            assert_eq!(rt; errors.as_slice(), told);
-        }
+    for wish in wishes {
+        let work = work(rt.alloc(), Encoding::UTF_8, wish)?;
+        let input = Counted::new(Broken { text: b"a=1\nb=2" });
+        let (status, output, errors) = ran(rt.alloc(), &work, input)?;
+        assert_eq!(rt; status, 2);
+        assert_eq!(rt; output.as_slice(), b"".as_slice());
+        assert_eq!(rt;
+            errors.as_slice(),
+            b"propedit: standard input:2: entity not found\n".as_slice()
+        );
     }
     Ok(())
 }
@@ -265,97 +214,61 @@ fn full(alloc: Global, how: SinkFault) -> ScriptedSink {
 // A sink that takes all bytes, and can't be flushed.
 fn stuck(alloc: Global) -> ScriptedSink {
     let mut sink = ScriptedSink::new(alloc, 64, None, SinkFault::Nothing);
-    sink.set_flush_fault(Some(ErrorKind::Other));
+    sink.set_flush_fault(Some(ErrorKind::NotFound));
     sink
 }
 
-// A command to whose output this happens tells it, after the sink took these bytes.
+// A run whose output fails after these bytes, and what is printed of that.
 fn check_fault(
     rt: &impl Abort,
     alloc: Global,
-    command: &[&str],
     mut output: ScriptedSink,
     taken: &[u8],
+    wanted: &[u8],
 ) -> Result<(), Fail> {
-    let arguments = words(alloc, command)?;
+    let work = work(alloc, Encoding::UTF_8, Wish::Get("a"))?;
     let mut input = b"a=123".as_slice();
     let mut errors = Counted::new(Vec::new(alloc));
-    let status = run(
-        alloc,
-        arguments.as_slice(),
-        &mut input,
-        &mut output,
-        &mut errors,
-    );
-    let told = b"I/O error (line_number = unknown)\n".as_slice();
-    assert_eq!(rt; status, 1);
+    let status = run(alloc, &work, &mut input, &mut output, &mut errors);
+    assert_eq!(rt; status, 2);
     assert_eq!(rt; output.bytes(), taken);
-    assert_eq!(rt; errors.into_inner().as_slice(), told);
+    assert_eq!(rt; errors.into_inner().as_slice(), wanted);
     Ok(())
 }
 
 #[test]
-fn tells_of_a_write_that_failed(rt: HostRuntime) -> Result<(), Fail> {
-    let rows: [(&[&str], &[u8]); 2] = [(&["get", "a"], b"12"), (&["set", "a", "2"], b"a=")];
-    for (command, taken) in rows {
-        for how in [SinkFault::Fault(ErrorKind::Other), SinkFault::Nothing] {
-            check_fault(&rt, rt.alloc(), command, full(rt.alloc(), how), taken)?;
-        }
-    }
-    Ok(())
+fn prints_why_a_write_failed(rt: HostRuntime) -> Result<(), Fail> {
+    let alloc = rt.alloc();
+    let absent = b"propedit: standard output: entity not found\n".as_slice();
+    let failed = full(alloc, SinkFault::Fault(ErrorKind::NotFound));
+    check_fault(&rt, alloc, failed, b"12", absent)?;
+    let none = b"propedit: standard output: I/O error\n".as_slice();
+    check_fault(&rt, alloc, full(alloc, SinkFault::Nothing), b"12", none)?;
+    check_fault(&rt, alloc, stuck(alloc), b"123\n", absent)
 }
 
-#[test]
-fn tells_of_a_flush_that_failed(rt: HostRuntime) -> Result<(), Fail> {
-    let rows: [(&[&str], &[u8]); 2] = [(&["get", "a"], b"123\n"), (&["set", "a", "2"], b"a=2")];
-    for (command, taken) in rows {
-        check_fault(&rt, rt.alloc(), command, stuck(rt.alloc()), taken)?;
-    }
-    Ok(())
-}
-
-// A command whose errors can't be told has this status.
-fn check_status(
-    rt: &impl Abort,
-    alloc: Global,
-    command: &[&str],
-    mut errors: ScriptedSink,
-    wanted: u8,
-) -> Result<(), Fail> {
-    let arguments = words(alloc, command)?;
+// A run that fails where `errors` takes no line still has its status.
+fn check_dropped(rt: &impl Abort, alloc: Global, mut errors: ScriptedSink) -> Result<(), Fail> {
+    let work = work(alloc, Encoding::UTF_8, Wish::Get("a"))?;
     let mut input = b"a=\\u12".as_slice();
     let mut output = Counted::new(Vec::new(alloc));
-    let status = run(
-        alloc,
-        arguments.as_slice(),
-        &mut input,
-        &mut output,
-        &mut errors,
-    );
-    assert_eq!(rt; status, wanted);
+    let status = run(alloc, &work, &mut input, &mut output, &mut errors);
+    assert_eq!(rt; status, 2);
     assert_eq!(rt; output.into_inner().as_slice(), b"".as_slice());
     Ok(())
 }
 
 #[test]
-fn drops_what_it_cannot_tell(rt: HostRuntime) -> Result<(), Fail> {
-    let rows: [(&[&str], u8); 3] = [
-        (&["get", "a"], 1),
-        (&["set", "a", "2"], 1),
-        (&["set", "a"], 2),
-    ];
-    for (command, status) in rows {
-        for how in [SinkFault::Fault(ErrorKind::Other), SinkFault::Nothing] {
-            check_status(&rt, rt.alloc(), command, full(rt.alloc(), how), status)?;
-        }
-        check_status(&rt, rt.alloc(), command, stuck(rt.alloc()), status)?;
+fn drops_what_it_cannot_print(rt: HostRuntime) -> Result<(), Fail> {
+    for how in [SinkFault::Fault(ErrorKind::Other), SinkFault::Nothing] {
+        check_dropped(&rt, rt.alloc(), full(rt.alloc(), how))?;
     }
-    Ok(())
+    check_dropped(&rt, rt.alloc(), stuck(rt.alloc()))
 }
 
-// A refused growth ends with status 1 and is told, or it was that of the text that tells it, and nothing is.
-fn check_refusal(rt: &impl Abort, alloc: Global, command: &[&str], wanted: &[u8]) {
-    let Ok(arguments) = words(alloc, command) else {
+// A refused growth ends with status 2 and is printed, or it was that of the text that says so, and nothing is.
+fn check_refusal(rt: &impl Abort, alloc: Global, wish: Wish<'_>, wanted: &[u8]) {
+    let Ok(work) = work(alloc, Encoding::UTF_8, wish) else {
         return;
     };
     let Ok(output) = Vec::with_capacity(alloc, 64) else {
@@ -366,57 +279,83 @@ fn check_refusal(rt: &impl Abort, alloc: Global, command: &[&str], wanted: &[u8]
     };
     let (mut output, mut errors) = (Counted::new(output), Counted::new(errors));
     let mut input = b"a=1".as_slice();
-    let status = run(
-        alloc,
-        arguments.as_slice(),
-        &mut input,
-        &mut output,
-        &mut errors,
-    );
+    let status = run(alloc, &work, &mut input, &mut output, &mut errors);
     let (output, errors) = (output.into_inner(), errors.into_inner());
     if status == 0 {
         assert_eq!(rt; output.as_slice(), wanted);
         return;
     }
-    assert_eq!(rt; status, 1);
+    assert_eq!(rt; status, 2);
     assert_eq!(rt; output.as_slice(), b"".as_slice());
     assert!(rt;
         matches!(
             errors.as_slice(),
-            b"" | b"Out of memory. (line_number = unknown)\n"
+            b"" | b"propedit: standard input: Out of memory.\n"
         )
     );
 }
 
 #[test]
-fn get_tells_of_refused_memory(rt: HostRuntime) {
-    check_refusal(&rt, rt.alloc(), &["get", "a"], b"1\n");
+fn prints_that_memory_ran_out(rt: HostRuntime) {
+    check_refusal(&rt, rt.alloc(), Wish::Get("a"), b"1\n");
+    check_refusal(&rt, rt.alloc(), Wish::List(""), b"a\n");
+    check_refusal(&rt, rt.alloc(), Wish::Put("a", "2"), b"a=2");
 }
 
 #[test]
-fn set_tells_of_refused_memory(rt: HostRuntime) {
-    check_refusal(&rt, rt.alloc(), &["set", "a", "2"], b"a=2");
+fn replaces_where_something_changes(rt: HostRuntime) -> Result<(), Fail> {
+    let alloc = rt.alloc();
+    let edits = vec![in alloc; put(alloc, "a", "2")?]?;
+    let Ok(Some(bytes)) = replacement(alloc, b"a = 1\n", Encoding::UTF_8, &edits) else {
+        assert!(rt; false);
+        return Ok(());
+    };
+    assert_eq!(rt; bytes.as_slice(), b"a=2\n".as_slice());
+    let same = replacement(alloc, b"a=2\n", Encoding::UTF_8, &edits);
+    assert!(rt; matches!(&same, Ok(None)));
+    let refused = replacement(alloc, b"a=\\u12\n", Encoding::UTF_8, &edits);
+    assert!(rt; matches!(&refused, Err(Failure::Malformed(_))));
+    Ok(())
 }
 
-// Whatever growth is refused, other arguments are told so.
 #[test]
-fn refuses_arguments_without_memory(rt: HostRuntime) {
-    let Ok(arguments) = words(rt.alloc(), &["set", "a", "b", "get", "c"]) else {
-        return;
-    };
-    let Ok(errors) = Vec::with_capacity(rt.alloc(), 256) else {
-        return;
-    };
-    let (mut output, mut errors) = (Counted::new(Vec::new(rt.alloc())), Counted::new(errors));
-    let mut input = b"a=1".as_slice();
-    let status = run(
-        rt.alloc(),
-        arguments.as_slice(),
-        &mut input,
-        &mut output,
-        &mut errors,
+fn ends_with_the_status(rt: HostRuntime) {
+    let mut errors = Counted::new(Vec::new(rt.alloc()));
+    let (name, failure) = ("app.properties", Failure::NotUtf8(7));
+    assert_eq!(rt; exit_status(rt.alloc(), &mut errors, name, Ok(1)), 1);
+    assert_eq!(rt; exit_status(rt.alloc(), &mut errors, name, Err(failure)), 2);
+    assert_eq!(rt;
+        errors.into_inner().as_slice(),
+        b"propedit: app.properties:7: not UTF-8; -e windows-1252 reads it\n".as_slice()
     );
-    assert_eq!(rt; status, 2);
-    assert_eq!(rt; output.into_inner().as_slice(), b"".as_slice());
-    assert_eq!(rt; errors.into_inner().as_slice(), USAGE_TEXT.as_bytes());
+}
+
+#[test]
+fn shows_a_text(rt: HostRuntime) {
+    let alloc = rt.alloc();
+    let mut output = Counted::new(Vec::new(alloc));
+    let mut errors = Counted::new(Vec::new(alloc));
+    assert_eq!(rt; show(alloc, USAGE, &mut output, &mut errors), 0);
+    assert_eq!(rt; output.into_inner().as_slice(), USAGE.as_bytes());
+    let mut output = full(alloc, SinkFault::Fault(ErrorKind::NotFound));
+    assert_eq!(rt; show(alloc, USAGE, &mut output, &mut errors), 2);
+    assert_eq!(rt; output.bytes(), b"us".as_slice());
+    assert_eq!(rt;
+        errors.into_inner().as_slice(),
+        b"propedit: standard output: entity not found\n".as_slice()
+    );
+}
+
+#[test]
+fn refuses_wrong_arguments(rt: HostRuntime) {
+    let mut errors = Counted::new(Vec::new(rt.alloc()));
+    assert_eq!(rt; refuse(&mut errors), 2);
+    assert_eq!(rt; errors.into_inner().as_slice(), USAGE.as_bytes());
+    let mut errors = Counted::new(Vec::new(rt.alloc()));
+    assert_eq!(rt; refuse_bytes(&mut errors), 2);
+    assert_eq!(rt; lack_memory(&mut errors), 2);
+    assert_eq!(rt;
+        errors.into_inner().as_slice(),
+        b"propedit: an argument is not UTF-8\npropedit: Out of memory.\n".as_slice()
+    );
 }

@@ -1,0 +1,32 @@
+-- What was read of a slice.
+use Rattle.std.proofs.Common.{◌≡◌, ℕ, List, [], ◌++◌, ap, sym, ◌∙◌, length, arith}
+use Rattle.std.specs.Prelude.{Some, ◌==◌, true}
+use Rattle.std.specs.Borrow.{Bor}
+use Rattle.std.specs.declared.io.Error.{Error}
+use Rattle.std.proofs.lemmas.List.{nil_from_length, append-nil}
+use Rattle.counted_io.specs.Streams.{Reader, HasRead, HasFailed}
+
+-- what is known of a slice as a reader
+abbrev pub slice_reader : Reader (Bor (List ℕ))
+slice_reader = record {
+  remaining = λ s. Some s.now;
+  faults = λ s. 0;
+  at_end = λ s. length s.now == 0;
+  identity = λ s. [];
+  read_gives = λ old result new. Unit {0};
+}
+
+module _ {from to : Bor (List ℕ)} {bytes : List ℕ} where
+  -- What was read comes first in it, and then what is left.
+  pub slice-read : HasRead slice_reader from bytes to → from.now ≡ bytes ++ to.now
+  slice-read h = h.moved
+
+  -- What was read to the end is all of it.
+  pub slice-whole : HasRead slice_reader from bytes to → slice_reader.at_end to ≡ true → bytes ≡ from.now
+  slice-whole h ended =
+      let empty : to.now ≡ [] = nil_from_length to.now (grind arith) in
+      sym (append-nil bytes) ∙ ap (λ v. bytes ++ v) (sym empty) ∙ sym (slice-read h)
+
+  -- No read of a slice fails.
+  pub slice-faultless : {error : Error} → HasFailed slice_reader from bytes error to → ⊥
+  slice-faultless h = cc (h.risen)

@@ -1,0 +1,55 @@
+-- What a command gives for a source: a text to print and the exit status, or why it fails.
+use Rattle.std.specs.Prelude.{◌≡◌, ℕ, List, [], ◌∷◌, Result, Ok, Err, codes, string_bytes}
+use Rattle.std.specs.Option.{option_map}
+use Rattle.properties_format.specs.Edited.{Edit}
+use Rattle.properties_format.specs.Encoding.{Encoding}
+use Rattle.properties_text.specs.Encoding.{encoding_of}
+use Rattle.java_properties.specs.Editing.{edits_in}
+use Rattle.java_properties.specs.Maps.{characters}
+use Rattle.java_properties.specs.declared.error.PropertiesError.{PropertiesError}
+use Rattle.properties_tools.specs.Propedit.Change.{Changes}
+use Rattle.properties_tools.specs.Propedit.Check.{IsReport}
+use Rattle.properties_tools.specs.Propedit.Get.{Gets}
+use Rattle.properties_tools.specs.Propedit.Lines.{LacksRoom}
+use Rattle.properties_tools.specs.Propedit.Listing.{Lists}
+use Rattle.properties_tools.specs.declared.propedit.answers.Answer.{Answer}
+use Rattle.properties_tools.specs.declared.propedit.asked.Command.{Command}
+use Rattle.properties_tools.specs.declared.propedit.asked.Command.TheVariants.{Get, Check, Change}
+use Rattle.properties_tools.specs.declared.propedit.asked.Command.TheVariants as command
+use Rattle.properties_tools.specs.declared.propedit.asked.Source.{Source}
+use Rattle.properties_tools.specs.declared.propedit.asked.Source.TheVariants.{StandardInput, File, InPlace}
+use Rattle.properties_tools.specs.declared.propedit.asked.Work.{Work}
+use Rattle.properties_tools.specs.declared.propedit.error.Failure.{Failure}
+use Rattle.properties_tools.specs.declared.propedit.error.Failure.TheVariants.{Input}
+
+-- the name of a source in messages
+abbrev pub name_of : Source → List ℕ
+name_of StandardInput = codes "standard input"
+name_of (File path) = string_bytes path
+name_of (InPlace path) = string_bytes path
+
+-- The status of a report: 0 where it is empty.
+abbrev pub report_status : List ℕ → ℕ
+report_status [] = 0
+report_status (byte ∷ bytes) = 1
+
+-- What checking gives: the report and its status; or there was no memory, or no number for a line.
+abbrev pub Checks : List ℕ → Encoding → List ℕ → Result Answer Failure → Type 0
+Checks name e source (Ok answer) = IsReport name e source answer.text.items × (answer.status ≡ report_status answer.text.items)
+Checks name e source (Err failure) = (error : PropertiesError) × (failure ≡ Input error) × LacksRoom error
+
+-- What edits give as an answer: the bytes after them, and the status 0.
+abbrev pub ChangesTo : Encoding → List ℕ → List Edit → Result Answer Failure → Type 0
+ChangesTo e source edits (Ok answer) = Changes e source edits (Ok answer.text) × (answer.status ≡ 0)
+ChangesTo e source edits (Err failure) = Changes e source edits (Err failure)
+
+-- What a command gives for a source of this name in this encoding.
+abbrev pub AnswersCommand : List ℕ → Encoding → Command → List ℕ → Result Answer Failure → Type 0
+AnswersCommand name e (Get key default end) source result = Gets e source (characters key) (option_map characters default) end result
+AnswersCommand name e (command.List prefix end) source result = Lists e source (characters prefix) end result
+AnswersCommand name e Check source result = Checks name e source result
+AnswersCommand name e (Change edits) source result = ChangesTo e source (edits_in edits.items) result
+
+-- What the command of some work gives for its source.
+abbrev pub Answers : Work → List ℕ → Result Answer Failure → Type 0
+Answers work source result = AnswersCommand (name_of work.source) (encoding_of work.encoding) work.command source result

@@ -1,0 +1,93 @@
+-- Why `propedit` fails, and what it prints of a failure.
+use Rattle.std.specs.Prelude.{◌≡◌, ◌⊎◌, ℕ, true, false, Bool, List, [], ◌++◌, Option, Some, None, IfSome, codes}
+use Rattle.std.specs.Fmt.{decimal}
+use Rattle.counted_io.specs.Streams.{Sink}
+use Rattle.java_properties.specs.DisplayTexts.{description, reason_display}
+use Rattle.java_properties.specs.Errors.{line_of, IsBareError, IsReason}
+use Rattle.java_properties.specs.declared.error.ErrorKind.TheVariants as kind
+use Rattle.java_properties.specs.declared.error.PropertiesError.{PropertiesError}
+use Rattle.java_properties.specs.declared.error.Reason.{Reason}
+use Rattle.java_properties.specs.declared.iter.malformed.MalformedEscape.{MalformedEscape}
+use Rattle.properties_tools.specs.Messages.{said_line, HasSaid}
+use Rattle.properties_tools.specs.declared.propedit.error.Failure.{Failure}
+use Rattle.properties_tools.specs.declared.propedit.error.Failure.TheVariants.{NotUtf8, Malformed, Input, Output}
+
+-- memory ran out
+pub record LacksMemory (failure : Failure) : Type 0 where
+  pub error : PropertiesError
+  pub is : failure ≡ Input error
+  pub memory : IsBareError kind.Memory error
+
+-- ---- its reason
+
+-- The words are the reason of an error. Of a stream's own error nothing is known but that these are its words.
+pub record IsErrorReason (error : PropertiesError) (words : List ℕ) : Type 0 where
+  pub reason : Reason
+  pub is : IsReason error reason
+  pub printed : IfSome (reason_display reason) (λ known. words ≡ known)
+
+-- what is added where an escape is in a comment
+abbrev pub comment_words : Bool → List ℕ
+comment_words true = codes " (in a comment)"
+comment_words false = []
+
+-- how an escape is malformed, in words
+abbrev pub escape_reason : MalformedEscape → List ℕ
+escape_reason escape = description escape.kind ++ comment_words escape.in_comment
+
+-- The words are the reason of a failure.
+abbrev pub IsReasonOf : Failure → List ℕ → Type 0
+IsReasonOf (NotUtf8 number) words = words ≡ codes "not UTF-8; -e windows-1252 reads it"
+IsReasonOf (Malformed escape) words = words ≡ escape_reason escape
+IsReasonOf (Input error) words = IsErrorReason error words
+IsReasonOf (Output error) words = IsErrorReason error words
+
+-- ---- its place
+
+-- the number of its line, where it is of one
+abbrev pub number_of : Failure → Option ℕ
+number_of (NotUtf8 number) = Some number
+number_of (Malformed escape) = Some escape.line_number
+number_of (Input error) = line_of error
+number_of (Output error) = line_of error
+
+abbrev pub standard_output : List ℕ
+standard_output = codes "standard output"
+
+-- what it is a failure of: the source of this name, or the output
+abbrev pub place_of : List ℕ → Failure → List ℕ
+place_of name (NotUtf8 number) = name
+place_of name (Malformed escape) = name
+place_of name (Input error) = name
+place_of name (Output error) = standard_output
+
+-- ---- what is printed
+
+-- `PLACE:LINE`, or `PLACE` where there is no line
+abbrev pub numbered_place : List ℕ → Option ℕ → List ℕ
+numbered_place place None = place
+numbered_place place (Some number) = place ++ (codes ":" ++ decimal number)
+
+-- `propedit: PLACE:LINE: REASON`, or `propedit: PLACE: REASON`
+abbrev pub message : List ℕ → Option ℕ → List ℕ → List ℕ
+message place number reason = codes "propedit: " ++ (numbered_place place number ++ (codes ": " ++ reason))
+
+-- The text is the message of a failure.
+pub record IsMessage (name : List ℕ) (failure : Failure) (text : List ℕ) : Type 0 where
+  pub reason : List ℕ
+  pub is_reason : IsReasonOf failure reason
+  pub is : text ≡ message (place_of name failure) (number_of failure) reason
+
+-- the line of such a text
+abbrev pub IsMessageLine : List ℕ → Failure → List ℕ → Type 0
+IsMessageLine name failure line = (text : List ℕ) × IsMessage name failure text × (line ≡ said_line text)
+
+-- The message of a failure was printed as a line, as far as the sink took it.
+pub record PrintsMessage {W : Type 0} (sink : Sink W) (old : W) (name : List ℕ) (failure : Failure) (new : W) : Type 0 where
+  pub text : List ℕ
+  pub is_message : IsMessage name failure text
+  pub says : HasSaid sink old (said_line text) new
+
+-- The message of a failure is printed as a line, if there is memory for the line.
+abbrev pub SaysFailure : {W : Type 0} → Sink W → W → List ℕ → Failure → W → Type 0
+SaysFailure sink old name failure new = PrintsMessage sink old name failure new ⊎ (new ≡ old)

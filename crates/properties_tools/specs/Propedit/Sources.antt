@@ -1,0 +1,61 @@
+-- What is found in a source that is held whole, and when it is refused.
+use Rattle.std.specs.Prelude.{◌≡◌, ℕ, List, [], ◌∷◌, Result, Ok, Err}
+use Rattle.std.specs.Global.{Vec}
+use Rattle.properties_format.specs.Encoding.{Encoding}
+use Rattle.properties_format.specs.MalformedEscapes as format
+use Rattle.properties_format.specs.MalformedEscapes.{AreMalformedEscapes}
+use Rattle.java_properties.specs.KeyLines.{AreKeyLines, KeyEntry, said_keys}
+use Rattle.java_properties.specs.MalformedEscapes.{told_escape, told_escapes}
+use Rattle.java_properties.specs.declared.error.PropertiesError.{PropertiesError}
+use Rattle.java_properties.specs.declared.iter.keys.KeyLine.{KeyLine}
+use Rattle.java_properties.specs.declared.iter.malformed.MalformedEscape.{MalformedEscape}
+use Rattle.properties_tools.specs.Propedit.Lines.{AreIllFormedLines, LacksRoom}
+use Rattle.properties_tools.specs.declared.propedit.error.Failure.{Failure}
+use Rattle.properties_tools.specs.declared.propedit.error.Failure.TheVariants.{NotUtf8, Malformed, Input, Output}
+
+-- These are the malformed escapes of a source, and the only ones.
+pub record HasMalformed (e : Encoding) (source : List ℕ) (found : List MalformedEscape) : Type 0 where
+  pub escapes : List format.MalformedEscape
+  pub are : AreMalformedEscapes e source escapes
+  pub only : (others : List format.MalformedEscape) → AreMalformedEscapes e source others → others ≡ escapes
+  pub is : found ≡ told_escapes escapes
+
+abbrev pub FindsMalformedIn : Encoding → List ℕ → Result (Vec MalformedEscape) PropertiesError → Type 0
+FindsMalformedIn e source (Ok found) = HasMalformed e source found.items
+FindsMalformedIn e source (Err error) = LacksRoom error
+
+-- These are the keys of a source, each with its line and the line in which it comes first, and the only ones.
+pub record HasKeys (e : Encoding) (source : List ℕ) (found : List KeyLine) : Type 0 where
+  pub are : AreKeyLines e source (said_keys found)
+  pub only : (others : List KeyEntry) → AreKeyLines e source others → others ≡ said_keys found
+
+abbrev pub FindsKeysIn : Encoding → List ℕ → Result (Vec KeyLine) PropertiesError → Type 0
+FindsKeysIn e source (Ok found) = HasKeys e source found.items
+FindsKeysIn e source (Err error) = LacksRoom error
+
+-- ---- refusals
+
+-- No line is ill-formed where UTF-8 is in force, and no escape is malformed.
+pub record IsSound (e : Encoding) (source : List ℕ) : Type 0 where
+  pub well_formed : AreIllFormedLines e source []
+  pub resolved : AreMalformedEscapes e source []
+
+-- This is the first malformed escape, and no line is ill-formed where UTF-8 is in force.
+pub record IsFirstMalformed (e : Encoding) (source : List ℕ) (found : MalformedEscape) : Type 0 where
+  pub well_formed : AreIllFormedLines e source []
+  pub escape : format.MalformedEscape
+  pub others : List format.MalformedEscape
+  pub are : AreMalformedEscapes e source (escape ∷ others)
+  pub is : found ≡ told_escape escape
+
+-- Why a source is refused, or not even looked through: its first ill-formed line; where there is none, its first malformed
+-- escape; or there was no memory, or no number for a line.
+abbrev pub IsUnsound : Encoding → List ℕ → Failure → Type 0
+IsUnsound e source (NotUtf8 number) = (others : List ℕ) × AreIllFormedLines e source (number ∷ others)
+IsUnsound e source (Malformed escape) = IsFirstMalformed e source escape
+IsUnsound e source (Input error) = LacksRoom error
+IsUnsound e source (Output error) = ⊥
+
+abbrev pub RefusesUnsound : Encoding → List ℕ → Result Unit Failure → Type 0
+RefusesUnsound e source (Ok done) = IsSound e source
+RefusesUnsound e source (Err failure) = IsUnsound e source failure

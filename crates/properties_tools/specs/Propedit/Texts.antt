@@ -1,0 +1,24 @@
+-- Texts that are printed, each with the byte that ends it.
+use Rattle.std.specs.Prelude.{ℕ, List, [], ◌∷◌, ◌++◌, encode_utf8_all}
+use Rattle.std.specs.Borrow.{Bor}
+use Rattle.std.specs.List.{flat_map}
+use Rattle.std.specs.Str.{chars}
+use Rattle.properties_format.specs.Text.{line_feed}
+use Rattle.properties_tools.specs.declared.propedit.asked.TextEnd.{TextEnd}
+use Rattle.properties_tools.specs.declared.propedit.asked.TextEnd.TheVariants.{LineFeed, Zero}
+
+abbrev pub end_byte : TextEnd → ℕ
+end_byte LineFeed = line_feed
+end_byte Zero = 0
+
+-- a text in UTF-8, and the byte that ends it
+abbrev pub ended : TextEnd → List ℕ → List ℕ
+ended end text = encode_utf8_all text ++ (end_byte end ∷ [])
+
+-- texts, one after another
+abbrev pub ended_all : TextEnd → List (List ℕ) → List ℕ
+ended_all end texts = flat_map (ended end) texts
+
+-- the characters of a text that is borrowed
+abbrev pub borrowed_characters : Bor (List ℕ) → List ℕ
+borrowed_characters text = chars text.now

@@ -1,0 +1,172 @@
+// What a command gives for a source.
+
+ghost use Rattle.std.specs.Prelude.{◌≡◌, ◌++◌, OnOk};
+ghost use Rattle.std.specs.Str.{chars};
+ghost use Rattle.java_properties.specs.Editing.{edits_in};
+ghost use Rattle.properties_text.specs.Encoding.{encoding_of};
+ghost use Rattle.properties_tools.specs.Propedit.Answers.{Answers, Checks, ChangesTo, name_of};
+ghost use Rattle.properties_tools.specs.Propedit.Texts.{end_byte, ended};
+
+use crate::propedit::asked::{Command, Source, TextEnd, Work};
+use crate::propedit::change::change;
+use crate::propedit::check::report;
+use crate::propedit::error::Failure;
+use crate::propedit::get::get;
+use crate::propedit::list::list;
+use java_properties::{Edit, Encoding};
+use std::alloc::{AllocError, Global};
+
+/// What a command prints, and its exit status.
+#[derive(Drop)]
+pub struct Answer {
+    /// What it prints: texts in UTF-8, or the bytes of an edited source.
+    pub text: Vec<u8>,
+    /// 0, or 1 where nothing is found that was asked for, or a check finds something.
+    pub status: u8,
+}
+
+/// The name of a source in messages: its path, or `standard input`.
+///
+/// ```text
+/// assert_eq!(rt; name(&Source::StandardInput), "standard input");
+/// ```
+pub fn name(source: &Source) -> &str
+    ensures { result.now ≡ name_of source.now }
+{
+    match source {
+        Source::StandardInput => "standard input",
+        Source::File(path) => path.as_str(),
+        Source::InPlace(path) => path.as_str(),
+    }
+}
+
+/// The answer of a command to a source. Its status is 1 where no pair has the key and there is no default, where no key
+/// is listed, or where the check finds something.
+///
+/// ```text
+/// // Where the work is to get the key `port`:
+/// let answer = answer_to(alloc, &work, b"port = 80\n")?;
+/// // The text is `80` and a line feed, and the status is 0.
+/// ```
+pub fn answer_to(alloc: Global, work: &Work, source: &[u8]) -> Result<Answer, Failure>
+    ensures { Answers work.now source.now result }
+{
+    match &work.command {
+        Command::Get(key, default, end) => {
+            let default = match default {
+                Some(text) => Some(text.as_str()),
+                None => None,
+            };
+            get(alloc, source, work.encoding, key.as_str(), default, *end)
+        }
+        Command::List(prefix, end) => list(alloc, source, work.encoding, prefix.as_str(), *end),
+        Command::Check => check(alloc, name(&work.source), source, work.encoding),
+        Command::Change(edits) => changed(alloc, source, work.encoding, edits),
+    }
+}
+
+// What is wrong in a source. The status is 1 where something is.
+fn check(alloc: Global, name: &str, source: &[u8], encoding: Encoding) -> Result<Answer, Failure>
+    ensures { Checks name.now (encoding_of encoding) source.now result }
+{
+    let text = report(alloc, name, source, encoding)?.into_bytes();
+    let status = if text.is_empty() { 0 } else { 1 };
+    Ok(Answer { text, status })
+}
+
+// A source after edits.
+fn changed(
+    alloc: Global,
+    source: &[u8],
+    encoding: Encoding,
+    edits: &[Edit],
+) -> Result<Answer, Failure>
+    ensures { ChangesTo (encoding_of encoding) source.now (edits_in edits.now) result }
+{
+    let text = change(alloc, source, encoding, edits)?;
+    Ok(Answer { text, status: 0 })
+}
+
+/// Appends a text and the byte that ends it.
+pub(crate) fn push_ended(text: &mut Vec<u8>, word: &str, end: TextEnd) -> Result<(), AllocError>
+    ensures { OnOk result (text.new.items ≡ text.old.items ++ ended end (chars word.now)) }
+{
+    text.extend_from_slice(word.as_bytes())?;
+    text.push(byte_of(end))?;
+    Ok(())
+}
+
+fn byte_of(end: TextEnd) -> u8
+    ensures { result ≡ end_byte end }
+{
+    match end {
+        TextEnd::LineFeed => b'\n',
+        TextEnd::Zero => 0,
+    }
+}
+
+#[cfg(test)]
+mod tests {
+    use super::*;
+    use std::test::Fail;
+
+    // The answer to a command, over a source in UTF-8.
+    fn answer(alloc: Global, command: Command, source: &[u8]) -> Result<(Vec<u8>, u8), Failure> {
+        let work = Work {
+            encoding: Encoding::UTF_8,
+            source: Source::StandardInput,
+            command,
+        };
+        let answer = answer_to(alloc, &work, source)?;
+        Ok((answer.text, answer.status))
+    }
+
+    #[test]
+    fn answers_get_and_list(rt: HostRuntime) -> Result<(), Fail> {
+        let alloc = rt.alloc();
+        let key = String::from_str(alloc, "b")?;
+        let default = Some(String::from_str(alloc, "x")?);
+        let command = Command::Get(key, default, TextEnd::Zero);
+        let (text, status) = answer(alloc, command, b"a=1")?;
+        assert_eq!(rt; text.as_slice(), b"x\0".as_slice());
+        assert_eq!(rt; status, 0);
+        let command = Command::List(String::new(alloc), TextEnd::LineFeed);
+        let (text, status) = answer(alloc, command, b"a=1\nb=2")?;
+        assert_eq!(rt; text.as_slice(), b"a\nb\n".as_slice());
+        assert_eq!(rt; status, 0);
+        Ok(())
+    }
+
+    #[test]
+    fn answers_check(rt: HostRuntime) -> Result<(), Fail> {
+        let (text, status) = answer(rt.alloc(), Command::Check, b"a=1\na=2")?;
+        assert_eq!(rt;
+            text.as_slice(),
+            b"standard input:2: repeats the key of line 1\n".as_slice()
+        );
+        assert_eq!(rt; status, 1);
+        let (text, status) = answer(rt.alloc(), Command::Check, b"a=1")?;
+        assert!(rt; text.is_empty());
+        assert_eq!(rt; status, 0);
+        Ok(())
+    }
+
+    #[test]
+    fn answers_edits(rt: HostRuntime) -> Result<(), Fail> {
+        let alloc = rt.alloc();
+        let edit = Edit::Remove(String::from_str(alloc, "a")?);
+        let command = Command::Change(vec![in alloc; edit]?);
+        let (text, status) = answer(alloc, command, b"a=1\nb=2")?;
+        assert_eq!(rt; text.as_slice(), b"b=2".as_slice());
+        assert_eq!(rt; status, 0);
+        Ok(())
+    }
+
+    #[test]
+    fn names_sources(rt: HostRuntime) -> Result<(), Fail> {
+        assert_eq!(rt; name(&Source::StandardInput), "standard input");
+        let source = Source::InPlace(String::from_str(rt.alloc(), "a.properties")?);
+        assert_eq!(rt; name(&source), "a.properties");
+        Ok(())
+    }
+}

@@ -1,0 +1,121 @@
+// What is wrong in a source, as lines.
+
+ghost use Rattle.std.specs.Prelude.{◌≡◌, ◌++◌, OnOk};
+ghost use Rattle.std.specs.String.{string_bytes};
+ghost use Rattle.java_properties.specs.KeyLines.{said_key, said_keys};
+ghost use Rattle.properties_text.specs.Encoding.{encoding_of};
+ghost use Rattle.properties_tools.specs.Propedit.Failures.{comment_words};
+ghost use Rattle.properties_tools.specs.Propedit.Check.{escape_lines, ill_formed_lines, repeat_line, repeat_lines, Reports};
+
+use crate::propedit::lines::ill_formed_lines;
+use crate::propedit::source::{keys_in, malformed_in};
+use java_properties::{Encoding, KeyLine, MalformedEscape, PropertiesError};
+use std::alloc::{AllocError, Global};
+
+/// What is wrong in a source, one finding a line: the lines that are not UTF-8 where that is in force, then the malformed
+/// escapes, then the pairs that repeat a key. It is empty where nothing is wrong.
+///
+/// ```text
+/// let text = report(alloc, "my.properties", b"# C:\\users\na=1\na=\xe9", Encoding::UTF_8)?;
+/// // my.properties:3: not UTF-8
+/// // my.properties:1: Malformed \uxxxx encoding: not hex. (in a comment)
+/// // my.properties:3: repeats the key of line 2
+/// ```
+pub fn report(
+    alloc: Global,
+    name: &str,
+    source: &[u8],
+    encoding: Encoding,
+) -> Result<String, PropertiesError>
+    ensures { Reports (encoding_of encoding) name.now source.now result }
+{
+    let mut text = String::new(alloc);
+    push_ill_formed(&mut text, name, &ill_formed_lines(alloc, source, encoding)?)?;
+    push_malformed(&mut text, name, &malformed_in(alloc, source, encoding)?)?;
+    push_repeats(&mut text, name, &keys_in(alloc, source, encoding)?)?;
+    Ok(text)
+}
+
+fn push_ill_formed(text: &mut String, name: &str, numbers: &[usize]) -> Result<(), AllocError>
+    ensures { OnOk result (string_bytes text.new ≡ string_bytes text.old ++ ill_formed_lines name.now numbers.now) }
+{
+    for number in numbers {
+        write!(text, "{name}:{number}: not UTF-8\n")?;
+    }
+    Ok(())
+}
+
+fn push_malformed(
+    text: &mut String,
+    name: &str,
+    escapes: &[MalformedEscape],
+) -> Result<(), AllocError>
+    ensures { OnOk result (string_bytes text.new ≡ string_bytes text.old ++ escape_lines name.now escapes.now) }
+{
+    for escape in escapes {
+        let place = place_words(escape.in_comment);
+        write!(
+            text,
+            "{name}:{}: {}{place}\n",
+            escape.line_number, escape.kind
+        )?;
+    }
+    Ok(())
+}
+
+fn place_words(in_comment: bool) -> &'static str
+    ensures { result.now ≡ comment_words in_comment }
+{
+    if in_comment { " (in a comment)" } else { "" }
+}
+
+fn push_repeats(text: &mut String, name: &str, keys: &[KeyLine]) -> Result<(), AllocError>
+    ensures { OnOk result (string_bytes text.new ≡ string_bytes text.old ++ repeat_lines name.now (said_keys keys.now)) }
+{
+    for key in keys {
+        push_repeat(text, name, key)?;
+    }
+    Ok(())
+}
+
+fn push_repeat(text: &mut String, name: &str, key: &KeyLine) -> Result<(), AllocError>
+    ensures { OnOk result (string_bytes text.new ≡ string_bytes text.old ++ repeat_line name.now (said_key key.now)) }
+{
+    if key.first == key.line_number {
+        return Ok(());
+    }
+    write!(
+        text,
+        "{name}:{}: repeats the key of line {}\n",
+        key.line_number, key.first
+    )
+}
+
+#[cfg(test)]
+mod tests {
+    use super::*;
+    use std::test::Fail;
+
+    #[test]
+    fn reports_in_three_groups(rt: HostRuntime) -> Result<(), Fail> {
+        let source = b"# C:\\users\na=1\na=\xe9\nb=\\u12\nc=2\na=4";
+        let text = report(rt.alloc(), "x", source, Encoding::UTF_8)?;
+        assert_eq!(rt;
+            text.as_str(),
+            "x:3: not UTF-8\nx:1: Malformed \\uxxxx encoding: not hex. (in a comment)\nx:4: Malformed \\uxxxx encoding: not enough digits.\nx:3: repeats the key of line 2\nx:6: repeats the key of line 2\n"
+        );
+        Ok(())
+    }
+
+    #[test]
+    fn reports_nothing_of_a_clean_source(rt: HostRuntime) -> Result<(), Fail> {
+        let text = report(
+            rt.alloc(),
+            "x",
+            b"# caf\xe9\na=1\nb=2",
+            Encoding::WINDOWS_1252,
+        )?;
+        assert_eq!(rt; text.as_str(), "");
+        Ok(())
+    }
+}

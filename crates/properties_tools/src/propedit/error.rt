@@ -1,0 +1,201 @@
+// Why `propedit` fails, and what it prints then.
+
+ghost use Rattle.std.specs.Prelude.{◌≡◌, IfOk, string_bytes};
+ghost use Rattle.counted_io.specs.Streams.{IsSameSink};
+ghost use Rattle.properties_tools.specs.Propedit.Failures.{escape_reason, number_of, place_of, IsErrorReason, IsMessageLine, IsReasonOf, LacksMemory, SaysFailure};
+
+use crate::messages::say;
+use counted_io::CountedWrite;
+use java_properties::{MalformedEscape, PropertiesError};
+use std::alloc::{AllocError, Global};
+
+/// What messages name where the result can't be written.
+pub const STANDARD_OUTPUT: &str = "standard output";
+
+const NOT_UTF_8: &str = "not UTF-8; -e windows-1252 reads it";
+
+/// Why a command fails.
+#[derive(Debug, Drop)]
+pub enum Failure {
+    /// The line of this number is not UTF-8, which is in force.
+    NotUtf8(usize),
+    /// The source has this malformed escape.
+    Malformed(MalformedEscape),
+    /// The source can't be read or edited, or memory ran out.
+    Input(PropertiesError),
+    /// The result can't be written.
+    Output(PropertiesError),
+}
+
+impl From<PropertiesError> for Failure {
+    ghost use Rattle.properties_tools.specs.declared.propedit.error.Failure.TheVariants.{Input};
+
+    ghost from_gives = { λ error failure. failure ≡ Input error };
+
+    fn from(error: PropertiesError) -> Failure {
+        Failure::Input(error)
+    }
+}
+
+impl From<AllocError> for Failure {
+    ghost from_gives = { λ _ failure. LacksMemory failure };
+
+    fn from(error: AllocError) -> Failure {
+        Failure::Input(PropertiesError::from(error))
+    }
+}
+
+impl Failure {
+    // What a message names: the source of this name, or standard output.
+    fn place<'a>(&self, name: &'a str) -> &'a str
+        ensures { result.now ≡ place_of name.now self.now }
+    {
+        match self {
+            Failure::Output(_) => STANDARD_OUTPUT,
+            _ => name,
+        }
+    }
+
+    // The number of its line, where it is of one.
+    fn line_number(&self) -> Option<usize>
+        ensures { result ≡ number_of self.now }
+    {
+        match self {
+            Failure::NotUtf8(number) => Some(*number),
+            Failure::Malformed(escape) => Some(escape.line_number),
+            Failure::Input(error) | Failure::Output(error) => error.line_number(),
+        }
+    }
+
+    fn reason(&self, alloc: Global) -> Result<String, AllocError>
+        ensures { IfOk result (λ text. IsReasonOf self.now (string_bytes text)) }
+    {
+        match self {
+            Failure::NotUtf8(_) => String::from_str(alloc, NOT_UTF_8),
+            Failure::Malformed(escape) => reason_of_escape(alloc, escape),
+            Failure::Input(error) | Failure::Output(error) => reason_of_error(alloc, error),
+        }
+    }
+}
+
+/// Prints a failure on `errors` as the line `propedit: NAME:LINE: REASON`, or `propedit: NAME: REASON` where it is of no
+/// line, if there is memory for the line, and flushes it. What can't be printed is dropped.
+///
+/// The name is that of the source; `standard output` replaces it where the result can't be written. The reason is in
+/// words, or the stream's own error.
+///
+/// ```text
+/// let mut errors = Counted::new(Vec::new(alloc));
+/// say_failure(alloc, &mut errors, "app.properties", &Failure::NotUtf8(7));
+/// // They hold `propedit: app.properties:7: not UTF-8; -e windows-1252 reads it`, and a line feed.
+/// ```
+pub fn say_failure<E: CountedWrite>(alloc: Global, errors: &mut E, name: &str, failure: &Failure)
+    ensures says { SaysFailure E.CountedWrite errors.old name.now failure.now errors.new }
+    ensures same_sink { IsSameSink E.CountedWrite errors.old errors.new }
+{
+    if let Ok(line) = message(alloc, name, failure) {
+        say(errors, line.as_str());
+    }
+}
+
+// The line that is printed.
+fn message(alloc: Global, name: &str, failure: &Failure) -> Result<String, AllocError>
+    ensures { IfOk result (λ line. IsMessageLine name.now failure.now (string_bytes line)) }
+{
+    let place = failure.place(name);
+    let reason = failure.reason(alloc)?;
+    match failure.line_number() {
+        Some(number) => format!(in alloc; "propedit: {place}:{number}: {reason}\n"),
+        None => format!(in alloc; "propedit: {place}: {reason}\n"),
+    }
+}
+
+fn reason_of_escape(alloc: Global, escape: &MalformedEscape) -> Result<String, AllocError>
+    ensures { IfOk result (λ text. string_bytes text ≡ escape_reason escape.now) }
+{
+    let kind = escape.kind;
+    if escape.in_comment {
+        return format!(in alloc; "{kind} (in a comment)");
+    }
+    format!(in alloc; "{kind}")
+}
+
+fn reason_of_error(alloc: Global, error: &PropertiesError) -> Result<String, AllocError>
+    ensures { IfOk result (λ text. IsErrorReason error.now (string_bytes text)) }
+{
+    let reason = error.reason();
+    format!(in alloc; "{reason}")
+}
+
+#[cfg(test)]
+mod tests {
+    use super::*;
+    use counted_io::Counted;
+    use java_properties::ErrorKind;
+    use std::io;
+    use std::process::Abort;
+    use std::test::Fail;
+
+    fn check(rt: &impl Abort, alloc: Global, failure: &Failure, wanted: &str) {
+        let mut errors = Counted::new(Vec::new(alloc));
+        say_failure(alloc, &mut errors, "app.properties", failure);
+        assert_eq!(rt; errors.into_inner().as_slice(), wanted.as_bytes());
+    }
+
+    // A malformed escape of line 3.
+    fn malformed(in_comment: bool) -> Failure {
+        Failure::Malformed(MalformedEscape {
+            line_number: 3,
+            kind: ErrorKind::NotHex,
+            in_comment,
+        })
+    }
+
+    #[test]
+    fn says_where_and_why(rt: HostRuntime) {
+        let alloc = rt.alloc();
+        let rows = [
+            (
+                Failure::NotUtf8(7),
+                "propedit: app.properties:7: not UTF-8; -e windows-1252 reads it\n",
+            ),
+            (
+                malformed(false),
+                "propedit: app.properties:3: Malformed \\uxxxx encoding: not hex.\n",
+            ),
+            (
+                malformed(true),
+                "propedit: app.properties:3: Malformed \\uxxxx encoding: not hex. (in a comment)\n",
+            ),
+            (
+                Failure::Input(PropertiesError::from(io::Error::from(io::ErrorKind::NotFound))),
+                "propedit: app.properties: entity not found\n",
+            ),
+            (
+                Failure::Output(PropertiesError::from(AllocError)),
+                "propedit: standard output: Out of memory.\n",
+            ),
+        ];
+        for (failure, wanted) in &rows {
+            check(&rt, alloc, failure, wanted);
+        }
+    }
+
+    #[test]
+    fn is_made_of_errors(rt: HostRuntime) {
+        let failure = Failure::from(AllocError);
+        check(
+            &rt,
+            rt.alloc(),
+            &failure,
+            "propedit: app.properties: Out of memory.\n",
+        );
+        let failure = Failure::from(PropertiesError::from(AllocError));
+        check(
+            &rt,
+            rt.alloc(),
+            &failure,
+            "propedit: app.properties: Out of memory.\n",
+        );
+    }
+}

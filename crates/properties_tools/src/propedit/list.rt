@@ -1,0 +1,103 @@
+// The keys of a source.
+
+ghost use Rattle.std.specs.Prelude.{◌≡◌, IfOk};
+ghost use Rattle.std.specs.Str.{chars};
+ghost use Rattle.java_properties.specs.KeyLines.{said_key, said_keys};
+ghost use Rattle.properties_text.specs.Encoding.{encoding_of};
+ghost use Rattle.properties_tools.specs.Propedit.Listing.{Lists, PrintsKeys, is_key_listed};
+
+use crate::propedit::answers::{Answer, push_ended};
+use crate::propedit::asked::TextEnd;
+use crate::propedit::error::Failure;
+use crate::propedit::source::{keys_in, refuse_unsound};
+use java_properties::{Encoding, KeyLine};
+use std::alloc::{AllocError, Global};
+
+/// The keys that begin with a prefix, each once and with the byte that ends it, in the order of their first pairs. Where
+/// there is none, the status is 1.
+///
+/// A source that is not UTF-8 though that is in force, or that has a malformed escape, is refused.
+///
+/// ```text
+/// let answer = list(alloc, b"b = 1\na = 2\nb = 3", Encoding::UTF_8, "", TextEnd::LineFeed)?;
+/// // The text is `b` and `a`, each ended by a line feed, and the status is 0.
+/// ```
+pub fn list(
+    alloc: Global,
+    source: &[u8],
+    encoding: Encoding,
+    prefix: &str,
+    end: TextEnd,
+) -> Result<Answer, Failure>
+    ensures { Lists (encoding_of encoding) source.now (chars prefix.now) end result }
+{
+    refuse_unsound(alloc, source, encoding)?;
+    let keys = keys_in(alloc, source, encoding)?;
+    Ok(listed(alloc, &keys, prefix, end)?)
+}
+
+// Whether no pair before has the key, and it begins with the prefix.
+fn is_listed(key: &KeyLine, prefix: &str) -> bool
+    ensures { result ≡ is_key_listed (chars prefix.now) (said_key key.now) }
+{
+    key.first == key.line_number && key.key.as_str().starts_with(prefix)
+}
+
+// Those of the keys that are listed, and the status.
+fn listed(alloc: Global, keys: &[KeyLine], prefix: &str, end: TextEnd) -> Result<Answer, AllocError>
+    ensures { IfOk result (PrintsKeys end (chars prefix.now) (said_keys keys.now)) }
+{
+    let mut text = Vec::new(alloc);
+    for key in keys {
+        if is_listed(key, prefix) {
+            push_ended(&mut text, key.key.as_str(), end)?;
+        }
+    }
+    let status = if text.is_empty() { 1 } else { 0 };
+    Ok(Answer { text, status })
+}
+
+#[cfg(test)]
+mod tests {
+    use super::*;
+    use std::test::Fail;
+
+    // The keys of a source, and the status.
+    fn keys_of(alloc: Global, prefix: &str, end: TextEnd) -> Result<(Vec<u8>, u8), Failure> {
+        let source = b"b.x = 1\n# b\n! c\nb.\\u0079 = 2\na=\nb.x = 3\nb";
+        let answer = list(alloc, source, Encoding::UTF_8, prefix, end)?;
+        Ok((answer.text, answer.status))
+    }
+
+    #[test]
+    fn lists_each_key_once(rt: HostRuntime) -> Result<(), Fail> {
+        let (text, status) = keys_of(rt.alloc(), "", TextEnd::LineFeed)?;
+        assert_eq!(rt; text.as_slice(), b"b.x\nb.y\na\nb\n".as_slice());
+        assert_eq!(rt; status, 0);
+        Ok(())
+    }
+
+    #[test]
+    fn lists_by_prefix(rt: HostRuntime) -> Result<(), Fail> {
+        let (text, status) = keys_of(rt.alloc(), "b.", TextEnd::Zero)?;
+        assert_eq!(rt; text.as_slice(), b"b.x\0b.y\0".as_slice());
+        assert_eq!(rt; status, 0);
+        let (text, status) = keys_of(rt.alloc(), "b.z", TextEnd::LineFeed)?;
+        assert!(rt; text.is_empty());
+        assert_eq!(rt; status, 1);
+        Ok(())
+    }
+
+    #[test]
+    fn refuses_a_malformed_escape(rt: HostRuntime) -> Result<(), Fail> {
+        let refused = list(
+            rt.alloc(),
+            b"a=1\n#\\u12",
+            Encoding::UTF_8,
+            "",
+            TextEnd::Zero,
+        );
+        assert!(rt; matches!(&refused, Err(Failure::Malformed(_))));
+        Ok(())
+    }
+}
