@@ -27,7 +27,7 @@ use properties_text::print::{LineBuffer, Place, Repertoire, print_text, print_va
 use properties_tools::arguments::words;
 use properties_tools::filter::{filter, filter_ascii};
 use properties_tools::messages::{say, say_error};
-use properties_tools::propedit::answers::{answer_to, name, push_ended};
+use properties_tools::propedit::answers::{answer_to, name};
 use properties_tools::propedit::asked::{Command, Source, TextEnd, VERSION, Work, asked_for};
 use properties_tools::propedit::error::{Failure, say_failure};
 use properties_tools::propedit::in_place::{Original, edit_file};
