@@ -19,11 +19,11 @@ use counted_io::{Counted, CountedRead, CountedWrite, ScriptedReader, ScriptedSin
 use java_properties::{
     Call, Cause, ContentRef, Document, Edit, Encoding, LineContent, LineEnding, PropertiesError, PropertiesIter,
     PropertiesWriter, edit_all, key_lines, laws, malformed_escapes, read, read_lines, read_sorted, read_source, remove_key, run_calls,
-    set_key, write, write_sorted, write_source,
+    set_key, set_value, write, write_sorted, write_source,
 };
 use properties_text::encoding::{OutputEncoding, TextBuffer};
 use properties_text::escape::unescape;
-use properties_text::print::{LineBuffer, Place, Repertoire, print_text, print_value};
+use properties_text::print::{LineBuffer, Place, Repertoire, SpeltPair, print_spelt_pair, print_text, print_value};
 use properties_tools::arguments::words;
 use properties_tools::filter::{filter, filter_ascii};
 use properties_tools::messages::{say, say_error};
@@ -102,6 +102,10 @@ def is_free(name, text):
     return re.search(rf"(?<![.\w]){name}\b(?!\()", text) and (is_made or not is_bound)
 
 
+def as_spelt(found):
+    return found[0].replace("line", "spelt")
+
+
 def main():
     print(HEAD)
     for crate in CRATES:
@@ -116,6 +120,10 @@ def main():
                         if given == "map" and "write_sorted" in text:
                             how = how.replace("HashMap", "BTreeMap")
                         print("    " + how)
+                if "print_spelt_pair" in text:
+                    # Its input has the name of the buffer that it prints to.
+                    print("    let mut line = LineBuffer::new(alloc);")
+                    lines = [re.sub(r"let line = |(?<=parse\()line, line(?=\.len)", as_spelt, line) for line in lines]
                 for line in lines:
                     # A test returns no status.
                     print("    " + re.sub(r"return Ok\((.{3,})\);", r"let _ = \1; return Ok(());", line))

@@ -1,4 +1,4 @@
--- What comparing sixteen bytes with others tells of each.
+-- What a comparison of sixteen bytes with others says about each byte.
 use Rattle.std.proofs.Common.{◌≡◌, ◌<◌, ◌≤◌, ◌+◌, ◌-◌, ◌%◌, ◌^◌, ◌&&◌, ℕ, Bool, false, cond, eqb, leb, ltb, nat_le, inl, inr, List, [], ◌∷◌, length, get_or, map, replicate, bit_and, w8, Fits, refl, sym, ap, ap₂, ◌∙◌, arith}
 use Rattle.std.specs.Simd.Lanes.{zip2, mask_l, top, pick_l, Each1}
 use Rattle.std.proofs.lemmas.Bool.{agree_below_at, and_left, and_right, cases_lt, le-leb, lt-leb}
@@ -9,7 +9,7 @@ use Rattle.byte_blocks.specs.Marks.{lowest_bits}
 use Rattle.byte_blocks.specs.Classes.{stands_in, is_line_end, is_plain_end, is_blank, is_special}
 use Rattle.byte_blocks.specs.declared.classes.TheConstants.{LINE_ENDS, PLAIN_ENDS, BLANKS, SPECIALS}
 
--- two tests that tell the same of each byte
+-- Two tests that agree on every byte give the same marks.
 pub each-same : (p q : ℕ → Bool) (block : List ℕ) → ((b : ℕ) → b < 256 → p b ≡ q b) → Each1 (Fits w8) block → map p block ≡ map q block
 each-same p q [] same fits = refl
 each-same p q (b ∷ block) same fits = ap₂ (λ x xs. x ∷ xs) (same b fits.0.fits) (each-same p q block same fits.1)
@@ -30,9 +30,9 @@ at_least-bits y block long =
     ap (λ l. mask_l l % 2 ^ 64) (tops_compared w8 leb (replicate 16 y) block ∙ zip2_splat_left leb y 16 block long)
     ∙ mask_l-mod (map (leb y) block) 64 (omega (arith, length-map block (leb y), long))
 
--- ---- with the first and the last of some
+-- ---- with the first and the last byte of a range
 
--- Below the first, a byte wraps round past the last.
+-- A byte below the first wraps around and becomes greater than the last.
 within-at : (first last b : ℕ) → first ≤ last → last < 256 → b < 256 → leb ((b + (256 - first)) % 256) (last - first) ≡ (nat_le first b && nat_le b last)
 within-at first last b le small fits = elim (cases_lt b first) [
   | inl low ↦
@@ -60,7 +60,7 @@ within-bits first last block le small long fits =
     ∙ each-same (λ b. leb (moved b) (last - first)) test block (λ b fits. within-at first last b le small fits) fits)
     ∙ mask_l-mod (map test block) 64 (omega (arith, length-map block test, long))
 
--- where the last comes before the first, no byte is one of them
+-- If the last comes before the first, no byte is in the range.
 pub none-within : (first last : ℕ) (block : List ℕ) → last < first → length block ≡ 16 → Each1 (Fits w8) block
     → lowest_bits 16 0 ≡ map (λ b. nat_le first b && nat_le b last) block
 unfolding lowest_bits
@@ -87,7 +87,7 @@ low-each block = Each1-zip2 bit_and (λ j. j < 16) block (replicate 16 15)
 pub low-below : (block : List ℕ) → length block ≡ 16 → SwzOk w8 16 16 0 (low block)
 low-below block long = SwzOk-from_below w8 16 1 16 0 (low block) refl (omega (arith, length-zip2 bit_and block (replicate 16 15) long)) (low-each block)
 
--- lanes below 16, swizzled from a vector of 16
+-- Lanes below 16 pick their bytes from a vector of 16.
 pub swizzled : (xs lanes : List ℕ) → length lanes ≤ 16 → Each1 (λ j. j < 16) lanes → swz_l w8 16 xs 0 lanes ≡ pick_l 0 xs lanes
 swizzled xs lanes le below =
     ext_get_or 0 (swz_l w8 16 xs 0 lanes) (pick_l 0 xs lanes) (length-swz_l w8 16 xs 0 lanes ∙ sym (length-map lanes (λ k. get_or xs k 0))) (λ m lt.
@@ -114,7 +114,7 @@ table-bits table block long =
     masked [] = refl
     masked (b ∷ block) = ap₂ (λ x xs. x ∷ xs) (and_mask b 4) (masked block)
 
--- ---- which bytes the tables have
+-- ---- which bytes the tables contain
 
 pub line_ends-table : (block : List ℕ) → Each1 (Fits w8) block → map (stands_in LINE_ENDS) block ≡ map is_line_end block
 line_ends-table block = each-same (stands_in LINE_ENDS) is_line_end block (λ b small. agree_below_at (stands_in LINE_ENDS) is_line_end 256 b refl small)

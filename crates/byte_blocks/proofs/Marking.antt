@@ -1,4 +1,4 @@
--- Marks, the number that holds them, and the bytes before the first of them.
+-- Marks, the number whose bits they are, and the bytes before the first mark.
 use Rattle.std.proofs.Common.{◌≡◌, ◌<◌, ◌≤◌, ◌+◌, ◌-◌, ◌*◌, ◌/◌, ◌%◌, ◌^◌, ◌↔◌, ◌⊎◌, ◌==◌, ◌||◌, ℕ, zero, suc, Bool, true, false, cond, not, eqb, leb, min, max, bit_or, List, [], ◌∷◌, length, take, drop, get_or, map, refl, sym, ap, ap₂, subst, inl, inr, ◌∙◌, arith}
 use Rattle.std.specs.Prelude.{Some, None, Option}
 use Rattle.std.specs.Int.Bits.{or_step}
@@ -15,9 +15,9 @@ use Rattle.byte_blocks.specs.Marks.{lowest_bits, clear_front, IsFirstMark}
 use Rattle.byte_blocks.specs.Bits.{bits-of_mask, mask-of_bits, length-lowest_bits}
 use native.Mathlib.Nat.{pow-succ'}
 
--- ---- from a test to the number
+-- ---- from a test to the bits
 
--- what a number marks that a test made
+-- The bits of a test's result mark the bytes that pass it.
 pub marks-of_test : (test : ℕ → Bool) (block : List ℕ) (number : ℕ) → length block ≡ 16 → number ≡ mask_l (map test block) → lowest_bits 16 number ≡ map test block
 marks-of_test test block number long is = ap (lowest_bits 16) is ∙ bits-of_mask 16 (map test block) (length-map block test ∙ long)
 
@@ -48,7 +48,7 @@ front-within (b ∷ marks) some = by b (mask_l marks) (clear_front marks) (lengt
     by true number front size some rest = omega arith
     by false number front size some rest = omega (arith, rest (omega arith))
 
--- ---- marks, and the number behind them
+-- ---- marks, and the number whose bits they are
 
 pub number-of_marks : (number : ℕ) (marks : List Bool) → lowest_bits 16 number ≡ marks → number < 0x1_0000 → number ≡ mask_l marks
 number-of_marks number marks view small = sym (mask-of_bits 16 number small) ∙ ap mask_l view
@@ -71,7 +71,7 @@ all-zeros : (number : ℕ) → number ≡ 0 → count_trailing_zeros 64 number �
 unfolding count_trailing_zeros
 all-zeros number none = ap (count_trailing_zeros 64) none
 
--- both cases: sixty-four zeros before no mark, or as many as stand before the first
+-- The number of trailing zeros: 64 if there is no mark, otherwise the number of bytes before the first mark.
 zeros : (number : ℕ) (marks : List Bool) → lowest_bits 16 number ≡ marks → number < 0x1_0000
     → ((eqb number 0 ≡ true) × (count_trailing_zeros 64 number ≡ 64) × (clear_front marks ≡ 16))
     ⊎ ((eqb number 0 ≡ false) × (count_trailing_zeros 64 number ≡ clear_front marks) × (clear_front marks < 16))
@@ -90,7 +90,7 @@ zeros-front number marks view small = elim (zeros number marks view small) [
   | inr h ↦ omega (arith, h.1, h.2)
 ]
 
--- no more than so many of them
+-- Limited to `count`, the number of trailing zeros equals the number of bytes before the first mark.
 pub zeros-front_of : (number count : ℕ) (marks : List Bool) → lowest_bits 16 number ≡ marks → number < 0x1_0000 → count ≤ 16
     → min (count_trailing_zeros 64 number) count ≡ min (clear_front marks) count
 zeros-front_of number count marks view small few = elim (zeros number marks view small) [
@@ -114,7 +114,7 @@ zeros-clear_before number count marks view small few = elim (zeros number marks 
   )
 ]
 
--- ---- marks of two, and those of the others
+-- ---- marks of either, and complements
 
 either-bit : (r s : ℕ) → r < 2 → s < 2 → (max r s == 1) ≡ ((r == 1) || (s == 1))
 either-bit zero zero h g = refl
@@ -164,7 +164,7 @@ front-map : (test : ℕ → Bool) (block : List ℕ) → clear_front (map test b
 front-map test [] = refl
 front-map test (b ∷ block) = ap (λ n. cond (not (test b)) (1 + n) 0) (front-map test block)
 
--- The first byte that passes stands where the first mark does.
+-- The index of the first byte that passes is that of the first mark.
 pub first-byte : (test : ℕ → Bool) (block : List ℕ) (marks : List Bool) (found : Option ℕ) → marks ≡ map test block → IsFirstMark marks found → IsFirstByte test block found
 first-byte test block marks found is first = by found (subst (λ m. IsFirstMark m found) is first)
   where
@@ -181,18 +181,18 @@ first-byte test block marks found is first = by found (subst (λ m. IsFirstMark 
           subst (λ i. test (get_or block i 0) ≡ true) at (passes_at_first test block 0 (omega (arith, at, within))),
         )
 
--- No byte passes that stands before the first mark.
+-- No byte before the first mark passes.
 pub fails-before : (test : ℕ → Bool) (block : List ℕ) (marks : List Bool) (n : ℕ) → marks ≡ map test block → n ≤ clear_front marks → (k : ℕ) → k < n → test (get_or block k 0) ≡ false
 fails-before test block marks n is le k small = fails_before_first test block k 0 (omega (arith, small, le, ap clear_front is ∙ front-map test block))
 
--- The same of all of these at once.
+-- None of the first n bytes passes, if n is at most the number of bytes before the first mark.
 pub clear-before : (test : ℕ → Bool) (block : List ℕ) (marks : List Bool) (n : ℕ) → marks ≡ map test block → n ≤ clear_front marks → All (λ b. test b ≡ false) (take n block)
 clear-before test block marks n is le =
     All-from_get_or (λ b. test b ≡ false) (take n block) 0 (λ k inside.
     let small : k < n = omega (arith, inside, length-take n block) in
     ap test (get_or-take n block k 0 small) ∙ fails-before test block marks n is le k small)
 
--- Where none passes, all sixteen stand before it.
+-- If no byte passes, all sixteen come before the first mark.
 pub clear-all : (test : ℕ → Bool) (block : List ℕ) (marks : List Bool) → length block ≡ 16 → marks ≡ map test block → All (λ b. test b ≡ false) block → 16 ≤ clear_front marks
 clear-all test block marks long is fails =
     let all : position_or_len test block ≡ 16 =
@@ -201,7 +201,7 @@ clear-all test block marks long is fails =
     (λ inside. absurd (omega (arith, inside, long))) in
     omega (arith, all, ap clear_front is ∙ front-map test block)
 
--- A fact of the bytes up to a block, and of some bytes of it, is a fact of all of these.
+-- What holds for the bytes before a block, and for the first n of the block, holds for all of these.
 pub more-of : (P : ℕ → Type 0) (bytes block : List ℕ) (at n : ℕ) → All P (take at bytes) → block ≡ take 16 (drop at bytes) → n ≤ 16 → All P (take n block) → All P (take (at + n) bytes)
 more-of P bytes block at n before is le of_block =
     let Q : List ℕ → Type 0 = λ l. All P l in

@@ -1,4 +1,4 @@
--- Rows of lanes, what they pick of a block, and the bits that a row stands at.
+-- Rows of lanes, what they pick from a block, and the bits that select a row.
 use Rattle.std.proofs.Common.{◌≡◌, ℕ, zero, suc, ◌+◌, ◌*◌, ◌/◌, ◌%◌, ◌^◌, ◌<◌, ◌≤◌, Bool, true, false, ◌&&◌, ltb, eqb, List, [], ◌∷◌, ◌++◌, refl, sym, ap, ap₂, subst, ◌∙◌, arith, length, take, drop, get_or, map, w8}
 use Rattle.std.specs.Int.RustNames.{count_ones}
 use Rattle.std.specs.Simd.Lanes.{Each1, pick_l, put_chunk, mask_l, all_below}
@@ -13,13 +13,13 @@ use Rattle.byte_blocks.proofs.Comparing.{swizzled}
 
 -- ---- a row
 
--- whether a list begins so
+-- whether the second list begins with the first
 abbrev pub starts : List ℕ → List ℕ → Bool
 starts [] ys = true
 starts (x ∷ xs) [] = false
 starts (x ∷ xs) (y ∷ ys) = eqb x y && starts xs ys
 
--- a list that begins so has the other at its front
+-- If so, its front is the first list.
 pub starts-take : (xs ys : List ℕ) → starts xs ys ≡ true → take (length xs) ys ≡ xs
 starts-take [] ys h = refl
 starts-take (x ∷ xs) [] h = absurd (cc)
@@ -27,7 +27,7 @@ starts-take (x ∷ xs) (y ∷ ys) h =
     let both = and_parts (eqb x y) (starts xs ys) h in
     ap₂ (λ z zs. z ∷ zs) (sym (eqb-true x y both.0)) (starts-take xs ys both.1)
 
--- what the test of all lanes says of each
+-- If the test of all lanes passes, each lane passes.
 each_below : (n : ℕ) (ks : List ℕ) → all_below n ks ≡ true → Each1 (λ k. k < n) ks
 each_below n [] h = tt
 each_below n (k ∷ ks) h =
@@ -38,13 +38,13 @@ each_below n (k ∷ ks) h =
 abbrev pub is_row : List ℕ → List ℕ → Bool
 is_row lanes row = starts lanes row && (all_below 16 row && eqb (length row) 16)
 
--- and what that says
+-- the meaning of that test
 pub record IsRow (lanes row : List ℕ) : Type 0 where
   pub front : take (length lanes) row ≡ lanes
   pub below : Each1 (λ k. k < 16) row
   pub long : length row ≡ 16
 
--- the test says it
+-- The test implies it.
 pub row-from_test : (lanes row : List ℕ) → is_row lanes row ≡ true → IsRow lanes row
 row-from_test lanes row h =
     let first = and_parts (starts lanes row) (all_below 16 row && eqb (length row) 16) h in
@@ -55,11 +55,11 @@ row-from_test lanes row h =
 pub row-below : (lanes row : List ℕ) → IsRow lanes row → SwzOk w8 16 16 0 row
 row-below lanes row held = SwzOk-from_below w8 16 1 16 0 row refl (omega (arith, held.long)) held.below
 
--- and is as long as before
+-- The result is as long as a block.
 pub swizzled-long : (block lanes row : List ℕ) → IsRow lanes row → length (swz_l w8 16 block 0 row) ≡ 16
 swizzled-long block lanes row held = length-swz_l w8 16 block 0 row ∙ held.long
 
--- and then begins with what the row's first lanes pick
+-- The result begins with what the row's first lanes pick.
 pub row-picks : (block lanes row whole : List ℕ) → IsRow lanes row → pick_l 0 block lanes ≡ whole
     → (length whole ≤ 16) × (take (length whole) (swz_l w8 16 block 0 row) ≡ whole)
 row-picks block lanes row whole held is =
@@ -75,13 +75,13 @@ row-picks block lanes row whole held is =
 
 -- ---- a store
 
--- n places past a front
+-- the first elements, up to n after a front
 pub take_past : (xs ys : List ℕ) (n m : ℕ) → m ≡ length xs + n → take m (xs ++ ys) ≡ xs ++ take n ys
 take_past [] ys n m e = ap (λ k. take k ys) (omega arith)
 take_past (x ∷ xs) ys n zero e = absurd (omega arith)
 take_past (x ∷ xs) ys n (suc m) e = ap (λ l. x ∷ l) (take_past xs ys n m (omega arith))
 
--- a store, and n of its places
+-- what is stored, up to n elements after a front
 pub stored : (at n m : ℕ) (out ys : List ℕ) → m ≡ at + n → n ≤ length ys → at + length ys ≤ length out
     → take m (put_chunk at out ys) ≡ take at out ++ take n ys
 stored at n m out ys e le room =
@@ -91,7 +91,7 @@ stored at n m out ys e le room =
 
 -- ---- the bits of marks
 
--- of marks behind others
+-- The bits of marks followed by others.
 mask_l-append : (xs ys : List Bool) → mask_l (xs ++ ys) ≡ mask_l xs + 2 ^ length xs * mask_l ys
 mask_l-append [] ys = omega arith
 mask_l-append (x ∷ xs) ys = omega (arith, mask_l-append xs ys, double (length xs) (mask_l ys))
@@ -99,7 +99,7 @@ mask_l-append (x ∷ xs) ys = omega (arith, mask_l-append xs ys, double (length 
     double : (k m : ℕ) → 2 ^ suc k * m ≡ 2 * (2 ^ k * m)
     double k m = ap (λ n. n * m) (pow-succ' 2 k) ∙ mul_assoc 2 (2 ^ k) m
 
--- of the first k, and of the others
+-- The bits of the first k marks and of the others.
 split : (marks : List Bool) (k : ℕ) → k ≤ length marks
     → (mask_l marks ≡ mask_l (take k marks) + 2 ^ k * mask_l (drop k marks)) × (mask_l (take k marks) < 2 ^ k)
 split marks k le =
@@ -110,7 +110,7 @@ split marks k le =
       subst (λ n. mask_l (take k marks) < 2 ^ n) size (mask_l-lt (take k marks)),
     )
 
--- the lowest k bits are those of the first k
+-- The lowest k bits are those of the first k marks.
 pub first-bits : (marks : List Bool) (k : ℕ) → k ≤ length marks → mask_l marks % 2 ^ k ≡ mask_l (take k marks)
 first-bits marks k le =
     let parts = split marks k le in
@@ -118,27 +118,27 @@ first-bits marks k le =
     ∙ add-mul-mod_self_left (mask_l (take k marks)) (2 ^ k) (mask_l (drop k marks))
     ∙ mod-eq_of_lt parts.1
 
--- the first k bits have at most k ones
+-- The lowest k bits have at most k ones.
 pub ones-first : (bits k : ℕ) → k ≤ 16 → count_ones (bits % (1 * 2 ^ k % 2 ^ 64)) ≤ k
 ones-first bits k le =
     subst (λ n. count_ones (bits % n) ≤ k) (sym (one_shl k 64 (omega arith))) (ones-le k (bits % 2 ^ k) (mod-lt bits (pow_pos k)))
 
 module _ (marks : List Bool) (bits : ℕ) (sixteen : length marks ≡ 16) (is : bits ≡ mask_l marks) where
-  -- the low eight bits of sixteen
+  -- The low eight bits are the first eight marks.
   pub front-bits : lowest_bits 8 (bits % 256) ≡ take 8 marks
   front-bits =
       let parts = split marks 8 (omega arith) in
       let low : bits % 256 ≡ mask_l (take 8 marks) = omega (arith, is, parts.0, parts.1) in
       ap (lowest_bits 8) low ∙ bits-of_mask 8 (take 8 marks) (length-take-le 8 marks (omega arith))
 
-  -- and the high ones
+  -- The high eight bits are the last eight marks.
   pub back-bits : lowest_bits 8 (bits / 256) ≡ drop 8 marks
   back-bits =
       let parts = split marks 8 (omega arith) in
       let high : bits / 256 ≡ mask_l (drop 8 marks) = omega (arith, is, parts.0, parts.1) in
       ap (lowest_bits 8) high ∙ bits-of_mask 8 (drop 8 marks) (omega (arith, ap length (take-append-drop 8 marks), length-append (take 8 marks) (drop 8 marks), length-take-le 8 marks (omega arith)))
 
-  -- those are eight
+  -- The high eight bits are a number below 256.
   pub back-below : bits / 256 < 256
   back-below =
       let below = subst (λ n. mask_l marks < 2 ^ n) sixteen (mask_l-lt marks) in

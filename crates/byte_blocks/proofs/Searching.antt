@@ -18,7 +18,7 @@ in-block bytes at n k low high =
 pub long-block : (bytes : List ℕ) (at n : ℕ) → at + n ≤ length bytes → length (take n (drop at bytes)) ≡ n
 long-block bytes at n within = length-take-le n (drop at bytes) (omega (arith, within, length-drop at bytes))
 
--- Where none of a block passes, none does up to its end.
+-- If no byte of a block passes, none passes up to the end of the block.
 pub none-in_block : (test : ℕ → Bool) (bytes : List ℕ) (from at n so_far : ℕ) → at + n ≤ length bytes → at ≤ so_far → Nowhere (Passes test bytes) from so_far
     → IsFirstByte test (take n (drop at bytes)) None → Nowhere (Passes test bytes) from (at + n)
 none-in_block test bytes from at n so_far within low none block k i j passes = elim (cases_lt k so_far) [
@@ -26,7 +26,7 @@ none-in_block test bytes from at n so_far within low none block k i j passes = e
   | inr h ↦ block (k - at) (omega arith) (omega (arith, h, j, low, long-block bytes at n within)) (ap test (in-block bytes at n k (omega (arith, h, low)) j) ∙ passes)
 ]
 
--- The first that passes of a block is the first of all.
+-- If no byte before a block passes, the first that passes in the block is the first of all.
 pub first-in_block : (test : ℕ → Bool) (bytes : List ℕ) (from at n so_far first : ℕ) → from ≤ at → at + n ≤ length bytes → at ≤ so_far → Nowhere (Passes test bytes) from so_far
     → IsFirstByte test (take n (drop at bytes)) (Some first) → IsFirst (Passes test bytes) from (length bytes) (Some (at + first))
 first-in_block test bytes from at n so_far first on within low none block =
@@ -73,7 +73,7 @@ in-last bytes k j long is =
     let place : k ≡ length (take 8 bytes) + j = omega (arith, is, length-take-le 8 bytes long) in
     ap (λ i. get_or (both bytes) i 0) place ∙ get_or-append-add (take 8 bytes) rest j 0 ∙ get_or-drop (length bytes - 8) bytes j 0
 
--- A byte of the text, by its place in the block.
+-- A byte of the text, given its index in the block.
 back-in_last : (test : ℕ → Bool) (bytes : List ℕ) (k : ℕ) → 8 ≤ length bytes → length bytes ≤ 16 → 8 ≤ k
     → test (get_or bytes k 0) ≡ true → test (get_or (both bytes) (8 + (k - (length bytes - 8))) 0) ≡ true
 back-in_last test bytes k long short low passes =

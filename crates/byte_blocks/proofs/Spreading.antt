@@ -1,4 +1,4 @@
--- Bytes that are spread: the table of lanes, and what is written by it.
+-- Spread bytes: the table of lanes, and what is written with it.
 use Rattle.std.proofs.Common.{◌≡◌, ℕ, zero, suc, ◌+◌, ◌%◌, ◌/◌, ◌^◌, ◌<◌, ◌≤◌, Bool, true, false, cond, List, [], ◌∷◌, ◌++◌, refl, sym, ap, ap₂, zero-add, ◌∙◌, append_assoc, arith, length, take, drop, get_or, map, w8}
 use Rattle.std.specs.Int.RustNames.{count_ones}
 use Rattle.std.specs.List.{range_with_len}
@@ -15,31 +15,31 @@ use Rattle.byte_blocks.proofs.Rows.{IsRow, is_row, row-from_test, row-below, row
 
 -- ---- the table
 
--- the lanes that a row begins with, for bytes from lane i on
+-- the lanes at the front of a row, for bytes from lane i on
 abbrev lanes : ℕ → List Bool → List ℕ
 lanes i [] = []
 lanes i (is_marked ∷ marks) = cond is_marked ((8 + i) ∷ i ∷ []) (i ∷ []) ++ lanes (suc i) marks
 
--- the row that these bits name
+-- the row for these bits
 abbrev pub row : ℕ → List ℕ
 row bits = get_or LANES bits []
 
--- all 256 rows
+-- A test of all 256 rows.
 tested : (bits : ℕ) → bits < 256 → is_row (lanes 0 (lowest_bits 8 bits)) (row bits) ≡ true
 unfolding lowest_bits
 tested bits small = agree_below_at (λ b. is_row (lanes 0 (lowest_bits 8 b)) (row b)) (λ b. true) 256 bits refl small
 
--- what each holds
+-- What each row contains.
 row_at : (bits : ℕ) → bits < 256 → IsRow (lanes 0 (lowest_bits 8 bits)) (row bits)
 row_at bits small = row-from_test (lanes 0 (lowest_bits 8 bits)) (row bits) (tested bits small)
 
--- a block can be swizzled by it
+-- A block can be swizzled by a row.
 pub lanes-below : (bits : ℕ) → bits < 256 → SwzOk w8 16 16 0 (row bits)
 lanes-below bits small = row-below (lanes 0 (lowest_bits 8 bits)) (row bits) (row_at bits small)
 
--- ---- bytes that are spread
+-- ---- spread bytes
 
--- there is one more for each mark
+-- Spreading adds one byte for each mark.
 length-spread : (marks : List Bool) (before bytes : List ℕ) → length before ≡ length marks → length bytes ≡ length marks
     → length (spread marks before bytes) ≡ length marks + count_ones (mask_l marks)
 length-spread [] before bytes e f = omega (arith, ones_le_self 0)
@@ -52,7 +52,7 @@ length-spread (m ∷ marks) (a ∷ before) (b ∷ bytes) e f =
     one true = omega arith
     one false = omega arith
 
--- some, and others behind them
+-- Spreading bytes followed by others.
 spread-append : (marks more : List Bool) (before before_more bytes bytes_more : List ℕ) → length before ≡ length marks → length bytes ≡ length marks
     → spread (marks ++ more) (before ++ before_more) (bytes ++ bytes_more) ≡ spread marks before bytes ++ spread more before_more bytes_more
 spread-append [] more [] before_more [] bytes_more e f = refl
@@ -88,7 +88,7 @@ picked pairs i (m ∷ marks) (a ∷ before) (b ∷ bytes) e f h g =
 
 -- ---- eight bytes
 
--- a store of what a row picks
+-- what a row picks, stored
 pub eight-stored : (at : ℕ) (out pairs : List ℕ) (bits : ℕ) → length pairs ≡ 16 → at + 16 ≤ length out → bits < 256
     → take (at + (8 + count_ones bits)) (put_chunk at out (swz_l w8 16 pairs 0 (row bits)))
     ≡ take at out ++ spread (lowest_bits 8 bits) (drop 8 pairs) (take 8 pairs)
@@ -110,9 +110,9 @@ eight-stored at out pairs bits long room small =
     stored at (length whole) (at + (8 + count_ones bits)) out (swz_l w8 16 pairs 0 (row bits)) (omega arith) (omega (arith, found.0, lanes_long)) (omega (arith, room, lanes_long))
     ∙ ap (λ l. take at out ++ l) found.1
 
--- ---- where nothing is marked
+-- ---- without marks
 
--- nothing is put between the bytes
+-- Before the first mark, no byte is inserted.
 pub spread-clear : (k : ℕ) (marks : List Bool) (before bytes : List ℕ) → k ≤ clear_front marks → k ≤ length before → k ≤ length bytes
     → spread (take k marks) (take k before) (take k bytes) ≡ take k bytes
 spread-clear zero marks before bytes h l m = refl
@@ -125,7 +125,7 @@ spread-clear (suc k) (false ∷ marks) (a ∷ before) (b ∷ bytes) h l m =
 
 -- ---- sixteen bytes, by their halves
 
--- eight lanes of two vectors, from lane i on
+-- Eight lanes of two vectors, starting with lane i.
 pairs-picked : (i : ℕ) (block before : List ℕ) → length block ≡ 16 → length before ≡ 16 → i + 8 ≤ 16
     → pick_l 0 (block ++ before) (range_with_len i 8) ≡ pick_l 0 block (range_with_len i 8)
     → pick_l 0 (block ++ before) (range_with_len i 8 ++ range_with_len (16 + i) 8) ≡ take 8 (drop i block) ++ take 8 (drop i before)
@@ -136,12 +136,12 @@ pairs-picked i block before long long_before within left =
     (pick_l-range_with_len 0 (block ++ before) (16 + i) 8 (omega (arith, length-append block before))
     ∙ ap (take 8) (sym (drop-drop i 16 (block ++ before)) ∙ ap (drop i) (drop_at block before 16 long)))
 
--- of the first half
+-- The lanes of the first half.
 pub front-pairs : (block before : List ℕ) → length block ≡ 16 → length before ≡ 16
     → pick_l 0 (block ++ before) (range_with_len 0 8 ++ range_with_len 16 8) ≡ take 8 block ++ take 8 before
 front-pairs block before long long_before = pairs-picked 0 block before long long_before (omega arith) (pick_l_left 0 block before 16 (range_with_len 0 8) long tt)
 
--- and of the second
+-- The lanes of the second half.
 pub back-pairs : (block before : List ℕ) → length block ≡ 16 → length before ≡ 16
     → pick_l 0 (block ++ before) (range_with_len 8 8 ++ range_with_len 24 8) ≡ drop 8 block ++ drop 8 before
 back-pairs block before long long_before =
@@ -150,7 +150,7 @@ back-pairs block before long long_before =
     (take_all 8 (drop 8 block) (omega (arith, length-drop 8 block)))
     (take_all 8 (drop 8 before) (omega (arith, length-drop 8 before)))
 
--- of what is written, the place after the first k
+-- The index after the first k bytes, within what is written.
 cut : (start new : List ℕ) (marks : List Bool) (before bytes : List ℕ) (full k m : ℕ) → length before ≡ length marks → length bytes ≡ length marks → k ≤ length marks
     → take full new ≡ start ++ spread marks before bytes → m ≡ length start + (k + count_ones (mask_l (take k marks)))
     → take m new ≡ start ++ spread (take k marks) (take k before) (take k bytes)
@@ -174,7 +174,7 @@ cut start new marks before bytes full k m e f le held is =
     ∙ ap (λ l. start ++ l) (ap (take n) joined ∙ take_at first rest n refl)
 
 module _ (marks : List Bool) (block before : List ℕ) (sixteen : length marks ≡ 16) (long : length block ≡ 16) (long_before : length before ≡ 16) where
-  -- the first half of them
+  -- The first half is written.
   front-half : (bits : ℕ) (pairs : List ℕ) → bits ≡ mask_l marks → pairs ≡ take 8 block ++ take 8 before
       → spread (lowest_bits 8 (bits % 256)) (drop 8 pairs) (take 8 pairs) ≡ spread (take 8 marks) (take 8 before) (take 8 block)
   front-half bits pairs is pairs_are =
@@ -183,7 +183,7 @@ module _ (marks : List Bool) (block before : List ℕ) (sixteen : length marks �
       let first : take 8 pairs ≡ take 8 block = ap (take 8) pairs_are ∙ take_at (take 8 block) (take 8 before) 8 eight in
       λ i. spread (front-bits marks bits sixteen is i) (behind i) (first i)
 
-  -- and the second
+  -- The second half is written.
   back-half : (bits : ℕ) (pairs : List ℕ) → bits ≡ mask_l marks → pairs ≡ drop 8 block ++ drop 8 before
       → spread (lowest_bits 8 (bits / 256)) (drop 8 pairs) (take 8 pairs) ≡ spread (drop 8 marks) (drop 8 before) (drop 8 block)
   back-half bits pairs is pairs_are =
@@ -192,7 +192,7 @@ module _ (marks : List Bool) (block before : List ℕ) (sixteen : length marks �
       let first : take 8 pairs ≡ drop 8 block = ap (take 8) pairs_are ∙ take_at (drop 8 block) (drop 8 before) 8 eight in
       λ i. spread (back-bits marks bits sixteen is i) (behind i) (first i)
 
-  -- what is written of no more than eight
+  -- What is written for at most eight bytes.
   pub half-written : (start new pairs : List ℕ) (at full k m bits counted : ℕ) → k ≤ 8 → length start ≡ at → bits ≡ mask_l marks → counted ≡ mask_l marks
       → pairs ≡ take 8 block ++ take 8 before
       → take full new ≡ start ++ spread (lowest_bits 8 (bits % 256)) (drop 8 pairs) (take 8 pairs)
@@ -210,7 +210,7 @@ module _ (marks : List Bool) (block before : List ℕ) (sixteen : length marks �
       (place ∙ ap₂ (λ x y. x + (k + count_ones y)) (sym size) ones)
       ∙ ap (λ l. start ++ l) (λ i. spread (take-take k 8 marks le i) (take-take k 8 before le i) (take-take k 8 block le i))
 
-  -- and of all sixteen
+  -- What is written for up to sixteen bytes.
   pub whole-written : (start middle new pairs more : List ℕ) (at place full k m bits others counted : ℕ) → k ≤ 16 → length start ≡ at
       → bits ≡ mask_l marks → others ≡ mask_l marks → counted ≡ mask_l marks
       → pairs ≡ take 8 block ++ take 8 before → more ≡ drop 8 block ++ drop 8 before
@@ -235,7 +235,7 @@ module _ (marks : List Bool) (block before : List ℕ) (sixteen : length marks �
       cut start new marks before block full k m (long_before ∙ sym sixteen) (long ∙ sym sixteen) (omega arith) written
       (place_is ∙ ap₂ (λ x y. x + (k + count_ones y)) (sym size) ones)
 
-  -- and of the first k with the last eight
+  -- What is written for the first k bytes and the last eight.
   pub ends-written : (start middle new more : List ℕ) (place full k others : ℕ) → k ≤ 8 → others ≡ mask_l marks → more ≡ drop 8 block ++ drop 8 before
       → take place middle ≡ start ++ spread (take k marks) (take k before) (take k block)
       → take full new ≡ take place middle ++ spread (lowest_bits 8 (others / 256)) (drop 8 more) (take 8 more)

@@ -1,4 +1,4 @@
--- Bytes of which some are left out: the table of lanes, and what is written by it.
+-- Squeezed bytes: the table of lanes, and what is written with it.
 use Rattle.std.proofs.Common.{◌≡◌, ℕ, zero, suc, ◌+◌, ◌-◌, ◌*◌, ◌%◌, ◌/◌, ◌^◌, ◌<◌, ◌≤◌, Bool, true, false, cond, List, [], ◌∷◌, ◌++◌, refl, sym, ap, ap₂, zero-add, ◌∙◌, append_assoc, arith, length, take, drop, get_or, map, w8}
 use Rattle.std.specs.Int.RustNames.{count_ones}
 use Rattle.std.specs.List.{range_with_len}
@@ -15,31 +15,31 @@ use Rattle.byte_blocks.proofs.Rows.{IsRow, is_row, row-from_test, row-below, row
 
 -- ---- the table
 
--- the lanes that a row begins with, for bytes from lane i on
+-- the lanes at the front of a row, for bytes from lane i on
 abbrev lanes : ℕ → List Bool → List ℕ
 lanes i [] = []
 lanes i (is_marked ∷ marks) = cond is_marked [] (i ∷ []) ++ lanes (suc i) marks
 
--- the row that these bits name
+-- the row for these bits
 abbrev pub row : ℕ → List ℕ
 row bits = get_or KEPT bits []
 
--- all 256 rows
+-- A test of all 256 rows.
 tested : (bits : ℕ) → bits < 256 → is_row (lanes 0 (lowest_bits 8 bits)) (row bits) ≡ true
 unfolding lowest_bits
 tested bits small = agree_below_at (λ b. is_row (lanes 0 (lowest_bits 8 b)) (row b)) (λ b. true) 256 bits refl small
 
--- what each holds
+-- What each row contains.
 row_at : (bits : ℕ) → bits < 256 → IsRow (lanes 0 (lowest_bits 8 bits)) (row bits)
 row_at bits small = row-from_test (lanes 0 (lowest_bits 8 bits)) (row bits) (tested bits small)
 
--- a block can be swizzled by it
+-- A block can be swizzled by a row.
 pub lanes-below : (bits : ℕ) → bits < 256 → SwzOk w8 16 16 0 (row bits)
 lanes-below bits small = row-below (lanes 0 (lowest_bits 8 bits)) (row bits) (row_at bits small)
 
--- ---- bytes that are squeezed
+-- ---- squeezed bytes
 
--- there is one fewer for each mark
+-- Squeezing leaves out one byte for each mark.
 length-squeeze : (marks : List Bool) (bytes : List ℕ) → length bytes ≡ length marks → length (squeeze marks bytes) + count_ones (mask_l marks) ≡ length marks
 length-squeeze [] bytes e = omega (arith, ones_le_self 0)
 length-squeeze (m ∷ marks) [] e = absurd (omega arith)
@@ -49,7 +49,7 @@ length-squeeze (m ∷ marks) (b ∷ bytes) e = omega (arith, one m, length-squee
     one true = omega arith
     one false = omega arith
 
--- the first k, and the others
+-- Squeezing the first k bytes, and the others.
 squeeze-split : (k : ℕ) (marks : List Bool) (bytes : List ℕ) → length bytes ≡ length marks
     → squeeze (take k marks) (take k bytes) ++ squeeze (drop k marks) (drop k bytes) ≡ squeeze marks bytes
 squeeze-split zero marks bytes e = refl
@@ -78,7 +78,7 @@ picked block i (m ∷ marks) (b ∷ bytes) e h =
 
 -- ---- eight bytes
 
--- a store of what a row picks
+-- what a row picks, stored
 pub eight-stored : (at : ℕ) (out block : List ℕ) (bits : ℕ) → length block ≡ 16 → at + 8 ≤ length out → bits < 256
     → take (at + (8 - count_ones bits)) (put_chunk at out (pick_l 0 (swz_l w8 16 block 0 (row bits) ++ swz_l w8 16 block 0 (row bits)) (range_with_len 0 8)))
     ≡ take at out ++ squeeze (lowest_bits 8 bits) (take 8 block)
@@ -106,7 +106,7 @@ eight-stored at out block bits long room small =
 -- ---- sixteen bytes, by their halves
 
 module _ (marks : List Bool) (block : List ℕ) (sixteen : length marks ≡ 16) (long : length block ≡ 16) where
-  -- what is written of the first k
+  -- What is written for the first k bytes.
   pub whole-written : (start middle new back : List ℕ) (at place full k m bits others counted : ℕ) → k ≤ 16 → length start ≡ at
       → bits ≡ mask_l marks → others ≡ mask_l marks → counted ≡ mask_l marks → take 8 back ≡ drop 8 block
       → take place middle ≡ start ++ squeeze (lowest_bits 8 (bits % 256)) (take 8 block)

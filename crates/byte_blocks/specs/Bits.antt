@@ -1,4 +1,4 @@
--- Bits and the number that they are of.
+-- Bits, and the number that they make.
 use Rattle.std.proofs.Common.{◌≡◌, ◌<◌, ◌+◌, ◌*◌, ◌/◌, ◌%◌, ◌^◌, ◌==◌, ℕ, zero, suc, Bool, true, false, cond, List, [], ◌∷◌, length, refl, ap, ap₂, ◌∙◌, arith}
 use Rattle.std.specs.Simd.Lanes.{mask_l}
 use Rattle.byte_blocks.specs.Marks.{lowest_bits}
@@ -11,7 +11,7 @@ others : (is_set : Bool) (n : ℕ) → (cond is_set 1 0 + 2 * n) / 2 ≡ n
 others true n = omega arith
 others false n = omega arith
 
--- of a number that is made of bits these are the bits
+-- The lowest bits of a number that is made of bits are those bits.
 pub bits-of_mask : (n : ℕ) (bits : List Bool) → length bits ≡ n → lowest_bits n (mask_l bits) ≡ bits
 unfolding lowest_bits
 bits-of_mask zero [] long = refl
@@ -28,7 +28,7 @@ is_odd number = by (number % 2) (omega arith)
     by (suc zero) small = refl
     by (suc (suc r)) small = absurd (omega arith)
 
--- and its bits make the number
+-- A number below 2^n is made of its lowest n bits.
 pub mask-of_bits : (n number : ℕ) → number < 2 ^ n → mask_l (lowest_bits n number) ≡ number
 unfolding lowest_bits
 mask-of_bits zero number small = omega arith

@@ -1,4 +1,4 @@
--- Which bytes the classes hold.
+-- Which bytes belong to the classes.
 use Rattle.std.specs.Prelude.{ℕ, ◌==◌, ◌||◌, ◌%◌, nat_le, nat_lt, Bool, List, get_or}
 
 -- a CR or an LF
@@ -21,10 +21,10 @@ is_special b = b == 0x5c || (b == 0x20 || ((b == 0x3d || b == 0x3a) || (b == 0x2
 abbrev pub is_control : ℕ → Bool
 is_control b = nat_lt b 0x20
 
--- a byte of no ASCII character
+-- a byte that isn't an ASCII character
 abbrev pub is_past_ascii : ℕ → Bool
 is_past_ascii b = nat_le 0x80 b
 
--- the byte that stands in a table of sixteen at the place of its own low four bits
+-- whether the byte equals the byte that a table of sixteen has at the index given by the byte's own low four bits
 abbrev pub stands_in : List ℕ → ℕ → Bool
 stands_in table b = b == get_or table (b % 16) 0

@@ -7,11 +7,11 @@ unfoldable pub lowest_bits : ℕ → ℕ → List Bool
 lowest_bits zero number = []
 lowest_bits (suc n) number = (number % 2 == 1) ∷ lowest_bits n (number / 2)
 
--- how many places there are before the first mark, or altogether where there is no mark
+-- the number of bytes before the first mark, or of all bytes if none is marked
 abbrev pub clear_front : List Bool → ℕ
 clear_front marks = position_or_len (λ is_marked. is_marked) marks
 
--- the place of the first mark, where there is one
+-- the index of the first mark, or `None` if no byte is marked
 abbrev pub IsFirstMark : List Bool → Option ℕ → Type 0
 IsFirstMark marks None = clear_front marks ≡ length marks
 IsFirstMark marks (Some place) = (clear_front marks ≡ place) × (place < length marks)

@@ -7,23 +7,23 @@ use super::marks::Marks;
 use std::marker::PhantomData;
 use std::simd::prelude::*;
 
-/// A class of bytes: a test that sixteen bytes are put to at once.
+/// A class of bytes: a test that runs on sixteen bytes at once.
 pub trait ByteClass {
     ghost holds: { ℕ → Bool };
 
-    /// The bytes of the block that are of the class.
+    /// Marks the bytes of the block that belong to the class.
     fn marks(block: u8x16) -> Marks
         ensures { result ≡ map holds block };
 
-    /// Whether a byte is of the class.
+    /// Returns whether a byte belongs to the class.
     fn contains(byte: u8) -> bool
         ensures { result ≡ holds byte };
 }
 
-/// The bytes that stand in the table at the place of their own low four bits.
+/// Marks each byte that equals the table's byte at the index given by its own low four bits.
 ///
-/// A class whose bytes differ in these bits is such a table. Where it has no byte at a place, any byte that belongs
-/// elsewhere stands there.
+/// A class whose bytes all differ in these bits can be written as such a table. Where the class has no byte for an
+/// index, put any byte there that has a different index.
 #[inline(always)]
 pub fn table_marks(block: u8x16, table: [u8; 16]) -> Marks
     ensures { result ≡ map (stands_in table) block }
@@ -36,7 +36,7 @@ pub fn table_marks(block: u8x16, table: [u8; 16]) -> Marks
     )
 }
 
-/// One byte.
+/// The class of one byte.
 pub struct Byte<const BYTE: u8>;
 
 impl<const BYTE: u8> ByteClass for Byte<BYTE> {
@@ -53,7 +53,7 @@ impl<const BYTE: u8> ByteClass for Byte<BYTE> {
     }
 }
 
-/// The bytes from this one on.
+/// The bytes from `BYTE` to 255.
 pub struct AtLeast<const BYTE: u8>;
 
 impl<const BYTE: u8> ByteClass for AtLeast<BYTE> {
@@ -70,13 +70,13 @@ impl<const BYTE: u8> ByteClass for AtLeast<BYTE> {
     }
 }
 
-/// The bytes from the first of these on, up to the last. There are none where the last comes before the first.
+/// The bytes from `FIRST` to `LAST`, both included. The class is empty if `LAST` is below `FIRST`.
 pub struct Within<const FIRST: u8, const LAST: u8>;
 
 impl<const FIRST: u8, const LAST: u8> ByteClass for Within<FIRST, LAST> {
     ghost holds = { λ b. nat_le FIRST b && nat_le b LAST };
 
-    // Bytes below the first wrap round, past all others.
+    // Bytes below `FIRST` wrap around and become greater than all others.
     #[inline(always)]
     fn marks(block: u8x16) -> Marks {
         if LAST < FIRST {
@@ -92,7 +92,7 @@ impl<const FIRST: u8, const LAST: u8> ByteClass for Within<FIRST, LAST> {
     }
 }
 
-/// The CR and the LF.
+/// CR and LF.
 pub struct LineEnds;
 
 static LINE_ENDS: [u8; 16] = [1, 0, 0, 0, 0, 0, 0, 0, 0, 0, b'\n', 0, 0, b'\r', 0, 0];
@@ -111,7 +111,7 @@ impl ByteClass for LineEnds {
     }
 }
 
-/// The CR, the LF and the backslash.
+/// CR, LF and the backslash.
 pub struct PlainEnds;
 
 static PLAIN_ENDS: [u8; 16] = [1, 0, 0, 0, 0, 0, 0, 0, 0, 0, b'\n', 0, b'\\', b'\r', 0, 0];
@@ -149,8 +149,8 @@ impl ByteClass for Blanks {
     }
 }
 
-/// The printable characters that have a meaning of their own in a properties file: the space, the signs `!`, `#`, `:` and
-/// `=`, and the backslash.
+/// The printable characters with a special meaning in a properties file: the space, `!`, `#`, `:`, `=` and the
+/// backslash.
 pub struct Specials;
 
 static SPECIALS: [u8; 16] = [
@@ -171,7 +171,7 @@ impl ByteClass for Specials {
     }
 }
 
-/// The control characters of ASCII but for the last: the bytes below the space.
+/// The ASCII control characters except DEL: the bytes below the space.
 pub struct Controls;
 
 impl ByteClass for Controls {
@@ -188,7 +188,7 @@ impl ByteClass for Controls {
     }
 }
 
-/// The bytes that are no ASCII characters.
+/// The bytes that aren't ASCII characters.
 pub struct PastAscii;
 
 impl ByteClass for PastAscii {
@@ -205,7 +205,7 @@ impl ByteClass for PastAscii {
     }
 }
 
-/// The bytes of one class or of the other. Both tests are made of one load.
+/// The bytes of either class. One load serves both tests.
 pub struct Either<A, B> {
     of: PhantomData<(A, B)>,
 }
@@ -224,7 +224,7 @@ impl<A: ByteClass, B: ByteClass> ByteClass for Either<A, B> {
     }
 }
 
-/// The bytes that are not of the class.
+/// The bytes that don't belong to the class.
 pub struct Except<C> {
     of: PhantomData<C>,
 }

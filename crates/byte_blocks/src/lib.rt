@@ -1,8 +1,8 @@
-//! Classes of bytes, sixteen bytes at once: which bytes are of a class, and where the first of them stands.
+//! Classes of bytes, tested sixteen bytes at a time: which bytes belong to a class, and where the first of them is.
 //!
-//! A [`ByteClass`] puts a byte to a test, or a block of sixteen. [`Byte`] is the class of one byte; line ends, blanks,
-//! control characters and others have classes of their own; [`Either`] and [`Except`] make classes of others, and a
-//! class of your own is one call of [`table_marks`]. So a reader of CSV finds the end of a field:
+//! A [`ByteClass`] tests one byte, or a block of sixteen. [`Byte`] is the class of one byte; line ends, blanks, control
+//! characters and others have classes of their own; [`Either`] and [`Except`] combine classes, and a class of your own
+//! takes one call of [`table_marks`]. For example, a reader of CSV finds the end of a field:
 //!
 //! ```text
 //! type FieldEnds = Either<Byte<b','>, LineEnds>;
@@ -10,11 +10,11 @@
 //! let end = find::<FieldEnds>(b"one,two\n"); // Some(3)
 //! ```
 //!
-//! [`find`] searches bytes of any length. A loop that looks at its last bytes singly anyway is faster over
-//! [`find_in_block`], and where two classes are of interest, over the [`Marks`] that each gives for the same block.
+//! [`find`] searches any number of bytes. If a loop handles its last bytes one by one anyway, [`find_in_block`] is
+//! faster, and so are the [`Marks`] of a block if you test it for two classes.
 //!
-//! [`put_spread`] writes a block with another byte before each that is marked, as a backslash, and [`put_squeezed`]
-//! without those that are marked. Both go by a table, eight bytes at a time.
+//! [`put_spread`] writes a block with another byte before each marked byte, for example a backslash, and
+//! [`put_squeezed`] writes a block without the marked bytes. Both use a table, eight bytes at a time.
 #![tactic(auto)]
 
 mod classes;

@@ -1,4 +1,4 @@
-// The answers of a test of sixteen bytes.
+// The results of testing sixteen bytes.
 
 ghost use Rattle.std.specs.Prelude.{◌≡◌, ◌<◌, ◌≤◌, ◌↔◌, ◌||◌, true, not, min, length, map};
 ghost use Rattle.std.specs.Simd.Lanes.{mask_l, zip2};
@@ -6,7 +6,7 @@ ghost use Rattle.byte_blocks.specs.Marks.{lowest_bits, clear_front, IsFirstMark}
 
 use std::marker::Model;
 
-/// Sixteen bytes, each of which is marked or isn't.
+/// Sixteen bytes, each marked or not.
 #[derive(Clone, Copy)]
 pub struct Marks {
     bits: u64,
@@ -30,7 +30,7 @@ impl Model for Marks {
 }
 
 impl Marks {
-    /// Byte i is marked where bit i is set.
+    /// Returns marks in which byte i is marked if bit i is set.
     #[inline(always)]
     pub fn from_bits(bits: u64) -> Self
         requires { bits < 0x1_0000 }
@@ -39,7 +39,7 @@ impl Marks {
         Marks { bits }
     }
 
-    /// Bit i is set where byte i is marked.
+    /// Returns the marks as bits: bit i is set if byte i is marked.
     #[inline(always)]
     pub fn bits(self) -> u64
         ensures value { result ≡ mask_l self }
@@ -48,7 +48,7 @@ impl Marks {
         self.bits
     }
 
-    /// What either marks.
+    /// Marks the bytes that are marked in `self`, in `other` or in both.
     #[inline(always)]
     pub fn or(self, other: Marks) -> Self
         ensures { result ≡ zip2 (λ a b. a || b) self other }
@@ -58,7 +58,7 @@ impl Marks {
         }
     }
 
-    /// What isn't marked.
+    /// Marks exactly the bytes that aren't marked in `self`.
     #[inline(always)]
     pub fn complement(self) -> Self
         ensures { result ≡ map not self }
@@ -68,7 +68,7 @@ impl Marks {
         }
     }
 
-    /// The place of the first mark.
+    /// Returns the index of the first marked byte, or `None` if no byte is marked.
     #[inline(always)]
     pub fn first(self) -> Option<usize>
         ensures { IsFirstMark self result }
@@ -79,7 +79,7 @@ impl Marks {
         Some(self.bits.trailing_zeros() as usize)
     }
 
-    /// How many bytes stand before the first mark: all sixteen where none is marked.
+    /// Returns the number of bytes before the first marked byte, or 16 if no byte is marked.
     #[inline(always)]
     pub fn front(self) -> usize
         ensures value { result ≡ clear_front self }
@@ -88,7 +88,7 @@ impl Marks {
         (self.bits.trailing_zeros() as usize).min(16)
     }
 
-    /// How many of the first `count` bytes stand before the first mark.
+    /// Returns how many of the first `count` bytes are before the first marked byte.
     #[inline(always)]
     pub fn front_of(self, count: usize) -> usize
         requires { count ≤ 16 }
@@ -99,7 +99,7 @@ impl Marks {
         (self.bits.trailing_zeros() as usize).min(count)
     }
 
-    /// Whether no byte is marked.
+    /// Returns whether no byte is marked.
     #[inline(always)]
     pub fn is_clear(self) -> bool
         ensures { (result ≡ true) ↔ 16 ≤ clear_front self }
@@ -107,7 +107,7 @@ impl Marks {
         self.bits == 0
     }
 
-    /// Whether none of the first `count` bytes is marked.
+    /// Returns whether none of the first `count` bytes is marked.
     #[inline(always)]
     pub fn is_clear_before(self, count: usize) -> bool
         requires { count ≤ 16 }

@@ -1,4 +1,4 @@
-// The search for the first byte of a class.
+// Searches for the first byte of a class.
 
 ghost use Rattle.std.specs.Prelude.{◌+◌, ◌≤◌, length, take, drop};
 ghost use Rattle.memchr.specs.Find.{IsFirstByte};
@@ -7,7 +7,7 @@ use super::classes::ByteClass;
 use super::short::ends;
 use std::simd::prelude::*;
 
-/// The place of the first byte of the class, in bytes of any length.
+/// Returns the index of the first byte of the class, in any number of bytes.
 #[inline(always)]
 pub fn find<C: ByteClass>(bytes: &[u8]) -> Option<usize>
     ensures { IsFirstByte C.holds bytes.now result }
@@ -19,7 +19,7 @@ pub fn find<C: ByteClass>(bytes: &[u8]) -> Option<usize>
     }
 }
 
-/// The same of the sixteen bytes that stand from this place on, as a place among them.
+/// Returns the index of the first byte of the class among the sixteen bytes from `at` on, counted from `at`.
 #[inline(always)]
 pub fn find_in_block<C: ByteClass>(bytes: &[u8], at: usize) -> Option<usize>
     requires { at + 16 ≤ length bytes.now }
@@ -40,7 +40,7 @@ fn find_singly<C: ByteClass>(bytes: &[u8]) -> Option<usize>
     None
 }
 
-// A block of the first eight and the last eight.
+// Tests the first eight bytes and the last eight as one block.
 #[inline(always)]
 fn find_in_ends<C: ByteClass>(bytes: &[u8]) -> Option<usize>
     requires least { 8 ≤ length bytes.now }
@@ -55,7 +55,7 @@ fn find_in_ends<C: ByteClass>(bytes: &[u8]) -> Option<usize>
     }
 }
 
-// Block after block. The last one ends where the bytes do, and may begin in the one before it.
+// Tests block after block. The last block ends where the bytes end, so it may overlap the one before it.
 #[inline(always)]
 fn find_by_blocks<C: ByteClass>(bytes: &[u8]) -> Option<usize>
     requires { 16 ≤ length bytes.now }

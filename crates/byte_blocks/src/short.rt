@@ -1,10 +1,10 @@
-// Eight bytes to sixteen as one block.
+// Eight to sixteen bytes as one block.
 
 ghost use Rattle.std.specs.Prelude.{◌≡◌, ◌-◌, ◌≤◌, ◌++◌, length, take, drop};
 
 use std::simd::prelude::*;
 
-/// The first eight bytes and the last eight. Of fewer than sixteen, some stand in both.
+/// Returns the first eight bytes and the last eight. If there are fewer than sixteen, some are in both halves.
 #[inline(always)]
 pub fn ends(bytes: &[u8]) -> u8x16
     requires { 8 ≤ length bytes.now }

@@ -1,4 +1,4 @@
-// Bytes of a block, some of them after other bytes.
+// Writes a block with other bytes inserted before some of its bytes.
 
 ghost use Rattle.std.specs.Prelude.{◌≡◌, ◌+◌, ◌*◌, ◌%◌, ◌^◌, ◌<◌, ◌≤◌, ◌++◌, length, take, drop, count_ones};
 ghost use Rattle.byte_blocks.specs.Marks.{lowest_bits};
@@ -10,8 +10,8 @@ use std::simd::prelude::*;
 
 mod lanes;
 
-/// Writes the first `kept` bytes of the block from this place on, each that is marked after the byte of `before` in its
-/// place, and returns the place after them. Up to 32 bytes may be written over.
+/// Writes the first `kept` bytes of the block to `out` at index `at`, each marked byte preceded by the byte of `before`
+/// at its index. Returns the index after what was written. May overwrite up to 32 bytes.
 #[inline(always)]
 pub fn put_spread(
     out: &mut [u8],
@@ -38,7 +38,7 @@ pub fn put_spread(
     place_after(at, marks.bits(), kept)
 }
 
-/// The same of no more than the first eight bytes, and up to 16 bytes.
+/// Like [`put_spread`] for at most the first eight bytes. May overwrite up to 16 bytes.
 #[inline(always)]
 pub fn put_spread_half(
     out: &mut [u8],
@@ -60,7 +60,7 @@ pub fn put_spread_half(
     place_after(at, marks.bits(), kept)
 }
 
-/// The same of the first `kept` bytes and the last eight, as [`ends`](super::ends) joins them.
+/// Like [`put_spread`] for the first `kept` bytes and the last eight, where [`ends`](super::ends) returned the block.
 #[inline(always)]
 pub fn put_spread_ends(
     out: &mut [u8],
@@ -84,7 +84,7 @@ pub fn put_spread_ends(
     put_eight(out, middle, back(block, before), marks.bits() / 256)
 }
 
-// The first eight bytes, and those that they may follow.
+// The first eight bytes of the block, and the bytes that may be inserted before them.
 #[inline(always)]
 fn front(block: u8x16, before: u8x16) -> u8x16
     ensures { result ≡ take 8 block ++ take 8 before }
@@ -95,7 +95,7 @@ fn front(block: u8x16, before: u8x16) -> u8x16
     )
 }
 
-// The last eight bytes, and those that they may follow.
+// The last eight bytes of the block, and the bytes that may be inserted before them.
 #[inline(always)]
 fn back(block: u8x16, before: u8x16) -> u8x16
     ensures { result ≡ drop 8 block ++ drop 8 before }
@@ -106,7 +106,7 @@ fn back(block: u8x16, before: u8x16) -> u8x16
     )
 }
 
-// Writes the first eight lanes, those whose bits are set after their lanes among the last eight.
+// Writes the first eight lanes. Before each lane whose bit is set comes its counterpart among the last eight.
 #[inline(always)]
 fn put_eight(out: &mut [u8], at: usize, pairs: u8x16, bits: u64) -> usize
     requires room { at + 16 ≤ length out.old }
@@ -122,7 +122,7 @@ fn put_eight(out: &mut [u8], at: usize, pairs: u8x16, bits: u64) -> usize
     at + (8 + bits.count_ones() as usize)
 }
 
-// The place after the first `count` bytes, where these bits mark them.
+// The index after the first `count` bytes are written: two bytes for each byte whose bit is set, one for each other.
 #[inline(always)]
 fn place_after(at: usize, bits: u64, count: usize) -> usize
     requires small { at + 2 * count < 2 ^ 64 }

@@ -1,4 +1,4 @@
-// Bytes of a block without some of them.
+// Writes a block without some of its bytes.
 
 ghost use Rattle.std.specs.Prelude.{◌≡◌, ◌+◌, ◌-◌, ◌<◌, ◌≤◌, ◌++◌, length, take, drop, count_ones};
 ghost use Rattle.byte_blocks.specs.Marks.{lowest_bits};
@@ -10,8 +10,8 @@ use std::simd::prelude::*;
 
 mod lanes;
 
-/// Writes those of the first `kept` bytes that are not marked from this place on, and returns the place after them. Up
-/// to 16 bytes may be written over.
+/// Writes those of the first `kept` bytes that aren't marked to `out` at index `at`. Returns the index after what was
+/// written. May overwrite up to 16 bytes.
 #[inline(always)]
 pub fn put_squeezed(out: &mut [u8], at: usize, block: u8x16, marks: Marks, kept: usize) -> usize
     requires room { at + 16 ≤ length out.old }
@@ -28,7 +28,7 @@ pub fn put_squeezed(out: &mut [u8], at: usize, block: u8x16, marks: Marks, kept:
     at + (kept - first.count_ones() as usize)
 }
 
-// The last eight, at the front.
+// Moves the last eight bytes to the front.
 #[inline(always)]
 fn back(block: u8x16) -> u8x16
     ensures { take 8 result ≡ drop 8 block }
@@ -39,7 +39,7 @@ fn back(block: u8x16) -> u8x16
     )
 }
 
-// Writes those of the first eight bytes whose bits are clear, and returns the place after them.
+// Writes those of the first eight bytes whose bits are clear. Returns the index after what was written.
 #[inline(always)]
 fn put_eight(out: &mut [u8], at: usize, block: u8x16, bits: u64) -> usize
     requires room { at + 8 ≤ length out.old }

@@ -1,9 +1,9 @@
-// Classes by their members, and searches by the places that they find.
+// Tests of classes by their members, and of searches by the indices that they return.
 
 use super::*;
 use std::simd::prelude::*;
 
-// What ends a field of CSV.
+// The bytes that end a field of CSV.
 type FieldEnds = Either<Byte<b','>, LineEnds>;
 
 const TEXT: &[u8; 16] = b"a\t= \xe2\x82\xac,\r\nb\\# x:";

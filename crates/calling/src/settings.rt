@@ -23,7 +23,8 @@ pub fn put<R: CountedRead, W: CountedWrite>(
     write_sorted(alloc, output, &settings, Encoding::UTF_8)
 }
 
-/// The same with the two calls of the Rust crate: a `HashMap`, and windows-1252.
+/// Puts a value into settings that it reads and writes with the two calls of the Rust crate: in a `HashMap`, and in
+/// windows-1252.
 pub fn put_windows_1252<R: CountedRead, W: CountedWrite>(
     alloc: Global,
     input: &mut R,

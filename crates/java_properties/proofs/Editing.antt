@@ -37,16 +37,18 @@ use Rattle.properties_format.proofs.Edited.ByteOrderMarks.{source-whole}
 use Rattle.properties_format.proofs.Edited.Results.{set_key_result-meets, set_key_result-only, remove_key_result-meets, remove_key_result-only}
 use Rattle.properties_format.proofs.Edited.Steps.{result-after}
 use Rattle.properties_format.proofs.Slots.Lines.{bytes-unended}
-use Rattle.properties_format.proofs.Changed.Read.{set_key-reads, remove_key-reads, edit_all-reads}
-use Rattle.properties_format.specs.Edited.{Edit, AreScalarEdits, IsEditAllResult}
-use Rattle.properties_format.specs.Reading.Edited.{edit_all_result}
-use Rattle.properties_format.proofs.Edited.Results.{edit_all_result-meets, edit_all_result-only}
+use Rattle.properties_format.proofs.Changed.Read.{set_key-reads, remove_key-reads}
+use Rattle.properties_format.proofs.Edits.Read.{edit_all-reads}
+use Rattle.properties_format.specs.Edits.{Edit, AreScalarEdits, IsEditAllResult}
+use Rattle.properties_format.specs.Reading.Edits.{edit_all_result}
+use Rattle.properties_format.proofs.Edits.Results.{edit_all_result-meets, edit_all_result-only}
 use Rattle.java_properties.proofs.ReadBack.Scalars.{string-scalars}
 use Rattle.std.proofs.Common.{◌<◌, get_or}
 use Rattle.std.proofs.lemmas.List.{take_more, map-append}
 use Rattle.java_properties.specs.declared.edit.Edit as edit
 use Rattle.java_properties.specs.declared.edit.Edit.TheVariants as variant
-use Rattle.properties_format.specs.Reading.Slots.{slots_bytes, slots_of, slots_edited, source_slots, slots_after, slots_made}
+use Rattle.properties_format.specs.Reading.Slots.{slots_bytes, slots_of}
+use Rattle.properties_format.specs.Reading.EditedSlots.{slots_edited, source_slots, slots_after, slots_made}
 use Rattle.properties_format.proofs.Slots.Edits.{edit_all_result-slots, slots_after-push}
 use Rattle.properties_format.proofs.Slots.WellEnded.{slots_after-well_ended}
 use Rattle.java_properties.specs.Editing.{edit_in, edits_in, AreMade}
@@ -121,7 +123,7 @@ set-edits {e} {source} {key} {value} {bytes} k v is =
     }
 
 -- the encodings that are edited are written
-output-same : (e : Encoding) → is_editable e ≡ true → output_encoding e ≡ e
+pub output-same : (e : Encoding) → is_editable e ≡ true → output_encoding e ≡ e
 output-same windows_1252 h = refl
 output-same utf_8 h = refl
 output-same utf_16le h = absurd (cc)

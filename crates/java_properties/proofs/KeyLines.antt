@@ -1,7 +1,7 @@
 -- How the keys of a whole input are found, logical line after logical line.
-use Rattle.std.proofs.Common.{◌≡◌, ◌≢◌, ℕ, Bool, true, false, List, [], ◌∷◌, ◌++◌, refl, sym, ap, ap₂, ◌∙◌, inl, inr, subst, map, append-nil, if◌then◌else◌}
+use Rattle.std.proofs.Common.{◌≡◌, ◌≢◌, ℕ, true, false, List, [], ◌∷◌, ◌++◌, refl, sym, ap, ap₂, ◌∙◌, inl, inr, subst, append-nil, if◌then◌else◌}
 use Rattle.std.specs.Prelude.{◌⊎◌, Option, Some, None, Ok, Err, bytes_eq, cond}
-use Rattle.std.specs.Option.{option_map, unwrap_or}
+use Rattle.std.specs.Option.{unwrap_or}
 use Rattle.std.specs.Map.{update}
 use Rattle.std.specs.BTreeMap.{BTreeMap, UpdatesBy, get_by_text}
 use Rattle.std.specs.Cmp.Lexicographic.{slice_cmp}
@@ -39,7 +39,6 @@ use Rattle.java_properties.specs.declared.error.PropertiesError.{PropertiesError
 use Rattle.properties_text.specs.declared.escape.Malformed.{Malformed}
 use Rattle.properties_text.specs.declared.escape.UnescapeError.TheVariants as unescape
 use Rattle.java_properties.specs.LentItems.{FindsIn, found_content}
-use Rattle.java_properties.specs.Maps.{characters}
 use Rattle.java_properties.specs.declared.iter.found.Found as found
 use Rattle.java_properties.proofs.Items.{found-item}
 use Rattle.java_properties.proofs.TextMaps.Values.{at_chars-sorted, at_chars-updated}

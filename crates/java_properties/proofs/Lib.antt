@@ -14,6 +14,10 @@ pub mod ReadInto
 pub mod TextMaps
 pub mod BodyGroups
 pub mod BodyKeys
+pub mod BodyValues
+pub mod NewPairs
+pub mod LastPairs
+pub mod SetValues
 pub mod BodySlots
 pub mod Editing
 pub mod WholeSources

@@ -11,11 +11,12 @@ use Rattle.properties_format.specs.Lines.{end}
 use Rattle.properties_format.specs.Entries.{Entry, comment, pair, AreItems}
 use Rattle.properties_format.specs.Items.{IsItems, Outcome, ignored, given, broken}
 use Rattle.properties_format.specs.Maps.{IsMap}
-use Rattle.properties_format.specs.Edited.{Edit, AreScalarEdits, is_editable}
+use Rattle.properties_format.specs.Edited.{is_editable}
+use Rattle.properties_format.specs.Edits.{Edit, AreScalarEdits}
 use Rattle.properties_format.specs.Reading.Body.{entries_in, held_groups_of}
 use Rattle.properties_format.specs.Reading.Edited.{IsSound, AreSound}
 use Rattle.properties_format.specs.Reading.Items.{outcome_of}
-use Rattle.properties_format.specs.Reading.Slots.{slots_after}
+use Rattle.properties_format.specs.Reading.EditedSlots.{slots_after}
 use Rattle.properties_text.specs.Encoding.{encoding_of}
 use Rattle.java_properties.specs.BodyKeys.{IsFaultOf}
 use Rattle.java_properties.specs.BodySlots.{Holds, ParsesSlots, written}

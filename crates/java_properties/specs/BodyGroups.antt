@@ -3,6 +3,7 @@ use Rattle.std.specs.Prelude.{◌≡◌, ℕ, ◌+◌, ◌-◌, ◌≤◌, Bool,
 use Rattle.std.specs.Prelude.{◌⊎◌, Option, Some, None, Result, Ok, Err}
 use Rattle.std.specs.Str.{chars, IsUtf8}
 use Rattle.properties_format.specs.Text as text
+use Rattle.properties_format.specs.Encoding.{Encoding}
 use Rattle.properties_format.specs.Groups.{is_comment_line, joined}
 use Rattle.properties_format.specs.Body.{HeldLine, as_lines, ending_bytes, group_bytes, last_ending}
 use Rattle.properties_format.specs.Edited.{is_empty_line, is_left_open}
@@ -88,6 +89,16 @@ abbrev pub GivesGroup : {E : Type 0} → List ℕ → GroupReader → Result (Op
 GivesGroup body old (Ok None) new = (old.scanner.is_done ≡ true) × (new ≡ old)
 GivesGroup body old (Ok (Some group)) new = TakesGroup body old group new
 GivesGroup body old (Err e) new = Unit {0}
+
+-- The first group of a body was returned.
+pub record IsFirstGroup (e : Encoding) (body : List ℕ) (group : Group) (new : GroupReader) : Type 0 where
+  pub held : List HeldLine
+  pub more : List (List HeldLine)
+  pub groups : held_groups_of e body ≡ held ∷ more
+  pub starts : group.start ≡ 0
+  pub span : IsSpanOf held group new.scanner.at
+  pub held_text : IsTextHeld body new group
+  pub text : chars (text_of body new group) ≡ joined (as_lines held)
 
 -- ---- continuations
 

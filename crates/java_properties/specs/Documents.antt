@@ -4,7 +4,7 @@ use Rattle.std.specs.Borrow.{Bor}
 use Rattle.std.specs.Str.{chars}
 use Rattle.properties_format.specs.Encoding.{Encoding}
 use Rattle.properties_format.specs.Maps.{HasKeys, HasValue}
-use Rattle.properties_format.specs.Edited.{IsEditAllResult}
+use Rattle.properties_format.specs.Edits.{IsEditAllResult}
 use Rattle.java_properties.specs.Editing.{AreMade, IsRefusal, IsSet, IsRemoved}
 use Rattle.java_properties.specs.declared.error.PropertiesError.{PropertiesError}
 

@@ -4,8 +4,10 @@ use Rattle.std.specs.Str.{chars}
 use Rattle.std.specs.Global.{Vec}
 use Rattle.properties_format.specs.Encoding.{Encoding}
 use Rattle.properties_format.specs.Escapes.{Malformed}
-use Rattle.properties_format.specs.Edited.{EditResult, edited, unsupported, unreadable, put, remove, IsSetKeyResult, IsRemoveKeyResult, IsEditAllResult}
-use Rattle.properties_format.specs.Edited as format
+use Rattle.properties_format.specs.Edited.{EditResult, edited, unsupported, unreadable, IsSetKeyResult, IsRemoveKeyResult}
+use Rattle.properties_format.specs.Edits.{put, remove, IsEditAllResult}
+use Rattle.properties_format.specs.Edits as format
+use Rattle.properties_format.specs.Valued.{IsSetValueResult, KeepsFront}
 use Rattle.properties_format.specs.Changed.{IsSetIn, IsRemovedIn, AreEditedIn, map_edited, map_after, AreOthersThanLast, AreOthers, ReadsAfter, KeepsOthers}
 use Rattle.java_properties.specs.Errors.{IsBareError, IsMalformed}
 use Rattle.java_properties.specs.declared.edit.Edit.{Edit}
@@ -36,6 +38,17 @@ pub record IsSet (e : Encoding) (source key value bytes : List ℕ) : Type 0 whe
 abbrev pub SetsKey : Encoding → List ℕ → List ℕ → List ℕ → Result (Vec ℕ) PropertiesError → Type 0
 SetsKey e source key value (Ok bytes) = IsSet e source key value bytes.items
 SetsKey e source key value (Err error) = IsRefusal (IsSetKeyResult e source key value) error
+
+-- The source with the value of a key set: its result, how it reads, that it keeps every group but the last pair with the
+-- key, and that it keeps every byte outside that pair's value.
+pub record HasValueSet (e : Encoding) (source key value bytes : List ℕ) : Type 0 where
+  pub edit : IsEdit (IsSetValueResult e source key value) (ReadsAfter (IsSetIn key value) (map_edited (put key value)) e source) bytes
+  pub keeps : KeepsOthers (AreOthersThanLast key) e source bytes
+  pub keeps_front : KeepsFront e source key bytes
+
+abbrev pub SetsValue : Encoding → List ℕ → List ℕ → List ℕ → Result (Vec ℕ) PropertiesError → Type 0
+SetsValue e source key value (Ok bytes) = HasValueSet e source key value bytes.items
+SetsValue e source key value (Err error) = IsRefusal (IsSetValueResult e source key value) error
 
 -- The source without a key: its result, how it reads, and that it keeps every group that isn't a pair with the key.
 pub record IsRemoved (e : Encoding) (source key bytes : List ℕ) : Type 0 where

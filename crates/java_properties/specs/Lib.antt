@@ -18,6 +18,7 @@ pub mod Maps
 pub mod BodyLines
 pub mod BodyGroups
 pub mod BodyKeys
+pub mod BodyValues
 pub mod BodySlots
 pub mod Sources
 pub mod Editing

@@ -3,27 +3,32 @@
 ghost use Rattle.std.specs.Str.{chars};
 ghost use Rattle.properties_format.specs.Laws.{SplittingCommutes};
 ghost use Rattle.properties_text.specs.Encoding.{encoding_of};
-ghost use Rattle.java_properties.specs.Editing.{EditsAll, RemovesKey, SetsKey, edits_in};
+ghost use Rattle.java_properties.specs.Editing.{EditsAll, RemovesKey, SetsKey, SetsValue, edits_in};
 
 mod document;
+mod front;
 mod groups;
 mod kept;
 mod keys;
 mod lines;
+mod new_pair;
 mod place;
 mod result;
 mod slots;
 mod source;
 mod streams;
+mod value;
 mod values;
 
 pub use crate::edit::document::Document;
 use crate::edit::kept::spans_without_key;
+use crate::edit::new_pair::{layout_after, with_new_pair};
 use crate::edit::place::find_key;
 use crate::edit::result::{appended, reduced_to, replaced};
 use crate::edit::slots::Slots;
 use crate::edit::source::BodyStart;
 pub use crate::edit::streams::{read_source, write_source};
+use crate::edit::value::revalued;
 use crate::error::PropertiesError;
 use properties_text::encoding::Encoding;
 use std::alloc::Global;
@@ -62,6 +67,56 @@ pub fn set_key(
     let bytes = match place.pair {
         Some(pair) => replaced(alloc, source, opened, pair, key, value)?,
         None => appended(alloc, source, opened, place.closing, key, value)?,
+    };
+    Ok(bytes)
+}
+
+/// Returns the source with the value of a key set, and the layout of its line kept.
+///
+/// If the last pair with the key has the value, no byte changes. If it has another value, the pair keeps its bytes up
+/// to the end of its separator, or of its key if nothing separates key and value, and it keeps its last line ending:
+/// the indentation, the key as it is spelt, and the separator with the blanks around it. Everything between the two
+/// gives way, including continuations. If nothing separates key and value, an equals sign comes before the value.
+///
+/// If no pair has the key, a pair is appended that looks like the last pair of the source: it has that pair's
+/// separator, with each run of blanks cut to its first one. The separator is an equals sign if there is no pair, if the
+/// last pair has no separator, or if that one is blanks alone and the new key is empty. The pair ends in the last line
+/// ending of the source, or in a line feed if it has none. Before it comes one such line ending if the last line has
+/// none, or two if a backslash leaves that line open. A key at the front of a file is escaped as [`set_key`] escapes
+/// it.
+///
+/// In the value, backslashes, characters below the space, and what the encoding lacks are escaped as a writer escapes
+/// them. A first space becomes `\ `, since a reader would skip it. A last space becomes `\u0020`, which survives
+/// editors that trim lines. A first `=` or `:` takes a backslash if blanks alone separate it from the key. Everything
+/// else is written as it is. Every byte outside the pair stays, including a byte order mark.
+///
+/// UTF-16 is refused. A source with a malformed escape anywhere is refused with the error that reading the source would
+/// return.
+///
+/// ```text
+/// let source = b"url    = http://a\nport = 80\n";
+/// let edited = set_value(alloc, source, Encoding::UTF_8, "url", "https://b:8443/a b")?;
+/// // It is `url    = https://b:8443/a b`, a line feed, `port = 80` and a line feed.
+/// ```
+pub fn set_value(
+    alloc: Global,
+    source: &[u8],
+    encoding: Encoding,
+    key: &str,
+    value: &str,
+) -> Result<Vec<u8>, PropertiesError>
+    ensures sets { SetsValue (encoding_of encoding) source.now (chars key.now) (chars value.now) result }
+    ensures splitting { SplittingCommutes (encoding_of encoding) source.now }
+{
+    let opened = BodyStart::open(source, encoding)?;
+    let body = &source[opened.start..];
+    let place = find_key(alloc, opened.encoding, body, key)?;
+    let bytes = match place.pair {
+        Some(pair) => revalued(alloc, source, opened, pair, value)?,
+        None => {
+            let layout = layout_after(alloc, opened.encoding, body, place.closing, key)?;
+            with_new_pair(alloc, source, opened, &layout, key, value)?
+        }
     };
     Ok(bytes)
 }

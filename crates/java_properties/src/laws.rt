@@ -12,9 +12,11 @@ ghost use Rattle.properties_format.specs.Escapes.{IsMeaning};
 ghost use Rattle.properties_format.specs.Settings.{Settings};
 ghost use Rattle.properties_format.specs.Writing.{Call};
 ghost use Rattle.properties_format.specs.Pairs.{Pair};
-ghost use Rattle.properties_format.specs.Edited.{Edit};
+ghost use Rattle.properties_format.specs.Edits.{Edit};
 ghost use Rattle.properties_format.specs.EditLaws.{RemovingNoPairChangesNothing, SettingTwiceIsSettingOnce};
 ghost use Rattle.properties_format.specs.EditLaws.{SettingGivesTheValue, RemovingTakesTheValue};
+ghost use Rattle.properties_format.specs.EditLaws.{SettingItsOwnValueChangesNothing, SettingAValueTwiceIsSettingItOnce};
+ghost use Rattle.properties_format.specs.EditLaws.{SettingAValueAgainChangesNothing, SettingAValueGivesIt};
 ghost use Rattle.properties_format.specs.EditLaws.{NoEditsChangeNothing, OneEditIsItsCall, ListsOfEditsFollow};
 ghost use Rattle.properties_format.specs.Laws.{HasOne, HasOneReading, ReadingInvertsWriting, EqualBytesOfEqualPairs, WritingAnewChangesNothing, MapIsReadBack, SplittingCommutes, LineEndsPartPieces};
 
@@ -74,6 +76,10 @@ pub fn splitting_commutes_with_decoding()
 /// same as setting it once, to the later value. After a key is set, the map has its value; after a key is removed, the
 /// map has no value for it. Every other key keeps its value.
 ///
+/// A value that is set with its layout kept is in the map as well. Setting the value that a key has changes no byte, and
+/// nor does setting a value again. Setting a value twice is the same as setting it once, to the later value, if the
+/// source doesn't have the later value already.
+///
 /// An empty list of edits returns the source. A list of one edit is the same as the call for that edit. Two lists of
 /// edits, concatenated, give what the second list makes of the first list's result.
 ///
@@ -86,6 +92,10 @@ pub fn editing()
     ensures twice { (e : Encoding) (source key v w : List ℕ) → SettingTwiceIsSettingOnce e source key v w }
     ensures set { (e : Encoding) (source key value : List ℕ) → SettingGivesTheValue e source key value }
     ensures removed { (e : Encoding) (source key : List ℕ) → RemovingTakesTheValue e source key }
+    ensures own_value { (e : Encoding) (source key value : List ℕ) → SettingItsOwnValueChangesNothing e source key value }
+    ensures value_twice { (e : Encoding) (source key v w : List ℕ) → SettingAValueTwiceIsSettingItOnce e source key v w }
+    ensures value_again { (e : Encoding) (source key value : List ℕ) → SettingAValueAgainChangesNothing e source key value }
+    ensures value { (e : Encoding) (source key value : List ℕ) → SettingAValueGivesIt e source key value }
     ensures none { (e : Encoding) (source : List ℕ) → NoEditsChangeNothing e source }
     ensures one { (e : Encoding) (source : List ℕ) (edit : Edit) → OneEditIsItsCall e source edit }
     ensures lists { (e : Encoding) (source : List ℕ) (xs ys : List Edit) → ListsOfEditsFollow e source xs ys }

@@ -1,7 +1,8 @@
 //! Reads, writes and edits Java `.properties` files.
 //!
 //! [`PropertiesIter`] reads the comments and pairs of a file, each with its line number. [`PropertiesWriter`] writes
-//! comments and pairs. [`set_key`], [`remove_key`], [`edit_all`] and [`Document`] edit the pairs of a file.
+//! comments and pairs. [`set_key`], [`set_value`], [`remove_key`], [`edit_all`] and [`Document`] edit the pairs of a
+//! file.
 //!
 //! ```text
 //! for item in PropertiesIter::new(alloc, &mut input)? {
@@ -23,7 +24,9 @@ mod line;
 mod maps;
 mod writer;
 
-pub use edit::{Document, Edit, edit_all, read_source, remove_key, set_key, write_source};
+pub use edit::{
+    Document, Edit, edit_all, read_source, remove_key, set_key, set_value, write_source,
+};
 pub use error::{Cause, ErrorKind, PropertiesError, Reason};
 pub use iter::{
     ContentRef, Found, KeyLine, LineRef, MalformedEscape, PropertiesIter, Stopped, key_lines,

@@ -1,4 +1,5 @@
--- While ASCII alone is on, every byte that is written is one of ASCII, and the bytes read back the same in both encodings.
+-- If ASCII-only output is on, every byte that is written is ASCII, and the bytes read back the same in windows-1252 and
+-- in UTF-8.
 use Rattle.std.proofs.Common.{◌≡◌, ℕ, ◌<◌, ◌==◌, ◌||◌, Bool, true, false, cond, List, [], ◌∷◌, ◌++◌, refl, ap, sym, ◌∙◌, inl, inr, ap₂, subst, ltb-true}
 use Rattle.std.specs.Prelude.{Option, Some, None, is_some, nat_lt}
 use Rattle.std.specs.List.{AllByRecursion}
@@ -21,86 +22,86 @@ use Rattle.properties_format.proofs.ReadBack.Law.{IsItems-wrote}
 
 -- ---- characters
 
--- while it is on, what may stand as itself is what is ASCII, in every encoding
+-- If it is on, exactly the ASCII characters may be written unescaped, in every encoding.
 pub may_stand-on : (e : Encoding) (c : ℕ) → may_stand e true c ≡ nat_lt c 0x80
 may_stand-on e c = elim (cases_Bool (nat_lt c 0x80)) [
   | inl k ↦ may_stand-ascii e true c (ltb-true c 0x80 k) ∙ sym k
   | inr k ↦ and_left (nat_lt c 0x80) (is_some (encoded e c)) k ∙ sym k
 ]
 
--- so a character that may stand as itself is below 80 hexadecimal
+-- A character that may be written unescaped is below 80 hexadecimal.
 may_stand-below : (e : Encoding) (c : ℕ) → may_stand e true c ≡ true → c < 0x80
 may_stand-below e c h = ltb-true c 0x80 (sym (may_stand-on e c) ∙ h)
 
--- as itself or escaped, a character is the same in every encoding
+-- Unescaped or escaped, a character is written the same in every encoding.
 literal-same : (e f : Encoding) (c : ℕ) → literal e true c ≡ literal f true c
 literal-same e f c = ap (λ b. cond b (c ∷ []) (unicode_escape c)) (may_stand-on e c ∙ sym (may_stand-on f c))
 
--- a character is printed the same in every encoding
+-- A character is printed the same in every encoding.
 spelt-same : (e f : Encoding) (place : Place) (c : ℕ) → spelt e true place c ≡ spelt f true place c
 spelt-same e f in_key_or_value c =
     ap (λ x. cond (is_special c) (backslash ∷ c ∷ []) (cond (has_letter c) (letter_escape c) (cond (nat_lt c space) (unicode_escape c) x))) (literal-same e f c)
 spelt-same e f in_comment c = ap (λ x. cond (c == backslash) (backslash ∷ backslash ∷ []) (cond (c == 0x0a || c == 0x0d) (letter_escape c) x)) (literal-same e f c)
 spelt-same e f in_prefix c = literal-same e f c
 
--- and in ASCII
+-- A character is printed in ASCII.
 spelt-ascii : (e : Encoding) (place : Place) (c : ℕ) → AreAscii (spelt e true place c)
 spelt-ascii e place c = spelt-either e true place c AreAscii (λ x h. h) (λ k. (may_stand-below e c k, tt))
 
 -- ---- texts
 
--- a text is printed the same in every encoding
+-- A text is printed the same in every encoding.
 spelt_text-same : (e f : Encoding) (place : Place) (x : List ℕ) → spelt_text e true place x ≡ spelt_text f true place x
 spelt_text-same e f place [] = refl
 spelt_text-same e f place (c ∷ x) = ap₂ (λ v w. v ++ w) (spelt-same e f place c) (spelt_text-same e f place x)
 
--- and in ASCII
+-- A text is printed in ASCII.
 pub spelt_text-ascii : (e : Encoding) (place : Place) (x : List ℕ) → AreAscii (spelt_text e true place x)
 spelt_text-ascii e place [] = tt
 spelt_text-ascii e place (c ∷ x) = AreAscii-append (spelt e true place c) (spelt_text e true place x) (spelt-ascii e place c) (spelt_text-ascii e place x)
 
--- the bytes of a text of ASCII begin like no byte order mark
+-- The bytes of an ASCII text don't begin like a byte order mark.
 ascii-unmarked : (e : Encoding) (x : List ℕ) → AreAscii x → begins_like_bom (encoded_text e x) ≡ false
 ascii-unmarked e [] h = refl
 ascii-unmarked e (c ∷ x) h = front-unmarked e (c ∷ x) c x refl h.0
 
--- While it is on, no key begins like a byte order mark.
+-- If ASCII-only output is on, no key begins like a byte order mark.
 pub is_bom_like-on : (e : Encoding) (key : List ℕ) → is_bom_like e true key ≡ false
 is_bom_like-on e key = ascii-unmarked e (spelt_text e true in_key_or_value key) (spelt_text-ascii e in_key_or_value key)
 
--- so a key is printed on the first line as on any other
+-- A key is printed on the first line as on any other.
 spelt_key-on : (e : Encoding) (first : Bool) (key : List ℕ) → spelt_key e true first key ≡ spelt_text e true in_key_or_value key
 spelt_key-on e true key = ap (λ b. cond b (with_first_escaped e true key) (spelt_text e true in_key_or_value key)) (is_bom_like-on e key)
 spelt_key-on e false key = refl
 
--- a key is printed the same in every encoding
+-- A key is printed the same in every encoding.
 spelt_key-same : (e f : Encoding) (first : Bool) (key : List ℕ) → spelt_key e true first key ≡ spelt_key f true first key
 spelt_key-same e f first key = spelt_key-on e first key ∙ spelt_text-same e f in_key_or_value key ∙ sym (spelt_key-on f first key)
 
--- and in ASCII
+-- A key is printed in ASCII.
 spelt_key-ascii : (e : Encoding) (first : Bool) (key : List ℕ) → AreAscii (spelt_key e true first key)
 spelt_key-ascii e first key = subst AreAscii (sym (spelt_key-on e first key)) (spelt_text-ascii e in_key_or_value key)
 
 -- ---- lines
 
--- the parts of a line, with ASCII alone on or off
+-- the parts of a line, with ASCII-only output on or off
 abbrev parts : Encoding → Bool → Settings → Bool → Content → List ℕ
 parts e only s first (comment text) = spelt_text e only in_prefix s.comment_prefix ++ (spelt_text e only in_comment text ++ line_ending_text s.line_ending)
 parts e only s first (pair key value) = spelt_key e only first key ++ (s.kv_separator ++ (spelt_text e only in_key_or_value value ++ line_ending_text s.line_ending))
 
--- while it is on, a line is printed from these parts
+-- If it is on, a line is printed from these parts.
 printed-parts : (e : Encoding) (s : Settings) (first : Bool) (line : Content) → s.ascii_only ≡ true → printed_text e s first line ≡ parts e true s first line
 printed-parts e s first (comment text) on = ap (λ b. parts e b s first (comment text)) on
 printed-parts e s first (pair key value) on = ap (λ b. parts e b s first (pair key value)) on
 
--- which are the same in every encoding
+-- The parts are the same in every encoding.
 parts-same : (e f : Encoding) (s : Settings) (first : Bool) (line : Content) → parts e true s first line ≡ parts f true s first line
 parts-same e f s first (comment text) =
     ap₂ (λ v w. v ++ (w ++ line_ending_text s.line_ending)) (spelt_text-same e f in_prefix s.comment_prefix) (spelt_text-same e f in_comment text)
 parts-same e f s first (pair key value) =
     ap₂ (λ v w. v ++ (s.kv_separator ++ (w ++ line_ending_text s.line_ending))) (spelt_key-same e f first key) (spelt_text-same e f in_key_or_value value)
 
--- and of ASCII, where the separator is good
+-- The parts are ASCII if the separator is good.
 parts-ascii : (e : Encoding) (s : Settings) (first : Bool) (line : Content) → IsGoodSeparator s.kv_separator → AreAscii (parts e true s first line)
 parts-ascii e s first (comment text) g =
     AreAscii-append (spelt_text e true in_prefix s.comment_prefix) (spelt_text e true in_comment text ++ line_ending_text s.line_ending) (spelt_text-ascii e in_prefix s.comment_prefix)
@@ -110,16 +111,16 @@ parts-ascii e s first (pair key value) g =
     (AreAscii-append s.kv_separator (spelt_text e true in_key_or_value value ++ line_ending_text s.line_ending) (good_separator-ascii s.kv_separator g)
     (AreAscii-append (spelt_text e true in_key_or_value value) (line_ending_text s.line_ending) (spelt_text-ascii e in_key_or_value value) (line_end-ascii s.line_ending)))
 
--- bytes that are ASCII and the same in this other encoding
+-- The bytes are shared: they are ASCII, and the same in the other encoding.
 record AreShared (f : Encoding) (x y : List ℕ) : Type 0 where
   ascii : AreAscii x
   same : x ≡ y
 
--- such bytes and then more such bytes
+-- Shared bytes followed by shared bytes are shared.
 shared-append : (f : Encoding) (x y z w : List ℕ) → AreShared f x y → AreShared f z w → AreShared f (x ++ z) (y ++ w)
 shared-append f x y z w h k = record { ascii = AreAscii-append x z h.ascii k.ascii; same = ap₂ (λ v u. v ++ u) h.same k.same }
 
--- while it is on, the bytes of a line are such
+-- If it is on, the bytes of a line are shared.
 printed-shared : (e f : Encoding) (s : Settings) (first : Bool) (line : Content) → s.ascii_only ≡ true → IsGoodSeparator s.kv_separator → AreShared f (printed e s first line) (printed f s first line)
 printed-shared e f s first line on g =
     let x = parts e true s first line in
@@ -128,14 +129,14 @@ printed-shared e f s first line on g =
     let b = ap (encoded_text f) (printed-parts f s first line on) ∙ encoded_text-ascii f y (parts-ascii f s first line g) in
     record { ascii = subst AreAscii (sym a) (parts-ascii e s first line g); same = a ∙ parts-same e f s first line ∙ sym b }
 
--- and those of the line that a call writes, where it writes one
+-- The bytes of the line that a call writes, if it writes one, are shared.
 line-shared : (e f : Encoding) (s : Settings) (n : ℕ) (o : Option Content) → s.ascii_only ≡ true → IsGoodSeparator s.kv_separator → AreShared f (line_bytes e s n o) (line_bytes f s n o)
 line-shared e f s n None on g = record { ascii = tt; same = refl }
 line-shared e f s n (Some line) on g = printed-shared e f s (n == 0) line on g
 
 -- ---- calls
 
--- a call that doesn't turn it off leaves it on
+-- A call that doesn't turn it off leaves it on.
 call-on : (s : Settings) (call : Call) → s.ascii_only ≡ true → KeepsAsciiOnly call → (settings_after_call s call).ascii_only ≡ true
 call-on s (comment_call text) on k = on
 call-on s (pair_call key value) on k = on
@@ -145,7 +146,7 @@ call-on s (ending_call line_ending) on k = on
 call-on s flush_call on k = on
 call-on s (ascii_only_call mode) on k = k
 
--- a good separator stays one
+-- A good separator stays good after a call.
 separator-kept : (s : Settings) (call : Call) → IsGoodSeparator s.kv_separator → IsGoodSeparator (settings_after_call s call).kv_separator
 separator-kept s (comment_call text) g = g
 separator-kept s (pair_call key value) g = g
@@ -156,7 +157,7 @@ separator-kept s (ending_call line_ending) g = g
 separator-kept s flush_call g = g
 separator-kept s (ascii_only_call mode) g = g
 
--- and so are the bytes of calls that don't turn it off
+-- The bytes of calls that don't turn it off are shared.
 wrote-shared : (e f : Encoding) (s : Settings) (n : ℕ) (calls : List Call) → s.ascii_only ≡ true → AllKeepAsciiOnly calls
     → IsGoodSeparator s.kv_separator → AreShared f (wrote e s n calls) (wrote f s n calls)
 wrote-shared e f s n [] on k g = record { ascii = tt; same = refl }
@@ -167,7 +168,7 @@ wrote-shared e f s n (call ∷ calls) on k g =
     shared-append f (line_bytes e s n o) (line_bytes f s n o) (wrote e t m calls) (wrote f t m calls) (line-shared e f s n o on g)
     (wrote-shared e f t m calls (call-on s call on k.0) k.1 (separator-kept s call g))
 
--- a text of ASCII, as bytes
+-- An ASCII text, as bytes.
 bytes-ascii : (x : List ℕ) → AreAscii x → AreAsciiBytes x
 bytes-ascii x h = All-from_recursion (λ b. b < 0x80) x (go x h)
   where
@@ -175,26 +176,26 @@ bytes-ascii x h = All-from_recursion (λ b. b < 0x80) x (go x h)
     go [] h = tt
     go (b ∷ x) h = (h.0, go x h.1)
 
--- the front of a text of ASCII is of ASCII
+-- The front of an ASCII text is ASCII.
 ascii-front : (x y : List ℕ) → AreAscii (x ++ y) → AreAscii x
 ascii-front [] y h = tt
 ascii-front (c ∷ x) y h = (h.0, ascii-front x y h.1)
 
--- ---- from settings on that have ASCII alone on
+-- ---- starting with settings that have ASCII-only output on
 
 module _ (e : Encoding) (s : Settings) (on : s.ascii_only ≡ true) (good : IsGoodSeparator s.kv_separator) where
-  -- While it is on, every byte that is written is one of ASCII.
+  -- Every byte that is written is ASCII.
   pub wrote-on : (n : ℕ) (calls : List Call) → AllKeepAsciiOnly calls → AreAsciiBytes (wrote e s n calls)
   wrote-on n calls k = bytes-ascii (wrote e s n calls) (wrote-shared e e s n calls on k good).ascii
 
-  -- And so is a beginning of a line after these bytes.
+  -- The bytes are still ASCII if the beginning of a line follows them.
   pub wrote-on_line : (n : ℕ) (calls : List Call) (t : Settings) (first : Bool) (line : Content) (part rest : List ℕ) → AllKeepAsciiOnly calls
       → t.ascii_only ≡ true → IsGoodSeparator t.kv_separator → printed e t first line ≡ part ++ rest → AreAsciiBytes (wrote e s n calls ++ part)
   wrote-on_line n calls t first line part rest k next g same =
       bytes-ascii (wrote e s n calls ++ part)
       (AreAscii-append (wrote e s n calls) part (wrote-shared e e s n calls on k good).ascii (ascii-front part rest (subst AreAscii same (printed-shared e e t first line next g).ascii)))
 
--- What a writer without lines wrote then has the same items in windows-1252 and in UTF-8: those that the calls told.
+-- What a new writer wrote has the same items in windows-1252 and in UTF-8: those that the calls wrote.
 pub wrote-on_both : (e : Encoding) (s : Settings) (calls : List Call) → s.ascii_only ≡ true → AllKeepAsciiOnly calls → AreGoodSettings s → ArePrefixesClean s calls → AreOfScalars calls
     → AreItemsInBoth (wrote e s 0 calls) (items_read_back s 0 calls)
 wrote-on_both e s calls on k g c h =
@@ -204,22 +205,22 @@ wrote-on_both e s calls on k g c h =
       in_utf_8 = subst (λ b. IsItems utf_8 b end (items_read_back s 0 calls)) (wrote-shared utf_8 e s 0 calls on k g.separator).same (IsItems-wrote utf_8 s calls refl g c h);
     }
 
--- ---- where the first call turns it on
+-- ---- if the first call turns it on
 
 -- the settings with it on
 abbrev turned_on : Settings → Settings
 turned_on s = record s { ascii_only = true }
 
--- good settings are good with it on
+-- Good settings stay good with it on.
 turned-good : (s : Settings) → AreGoodSettings s → AreGoodSettings (turned_on s)
 turned-good s g = record { prefix = g.prefix; scalars = g.scalars; separator = g.separator }
 
--- Where ASCII alone is turned on by the first call and not turned off, every byte that is written is one of ASCII.
+-- If the first call turns ASCII-only output on and none turns it off, every byte that is written is ASCII.
 pub wrote-ascii : (e : Encoding) (s : Settings) (n : ℕ) (calls : List Call) → AreAsciiOnly calls → IsGoodSeparator s.kv_separator → AreAsciiBytes (wrote e s n calls)
 wrote-ascii e s n [] k g = absurd k
 wrote-ascii e s n (call ∷ calls) k g = subst (λ v. AreAsciiBytes (wrote e s n (v ∷ calls))) (sym k.0) (wrote-on e (turned_on s) refl g n calls k.1)
 
--- And what a writer without lines wrote has the same items in windows-1252 and in UTF-8: those that the calls told.
+-- What a new writer wrote then has the same items in windows-1252 and in UTF-8: those that the calls wrote.
 pub AreItemsInBoth-wrote : (e : Encoding) (s : Settings) (calls : List Call) → AreAsciiOnly calls → AreGoodSettings s → ArePrefixesClean s calls → AreOfScalars calls
     → AreItemsInBoth (wrote e s 0 calls) (items_read_back s 0 calls)
 AreItemsInBoth-wrote e s [] k g c h = absurd k
@@ -227,29 +228,29 @@ AreItemsInBoth-wrote e s (call ∷ calls) k g c h =
     subst (λ v. AreItemsInBoth (wrote e s 0 (v ∷ calls)) (items_read_back s 0 (v ∷ calls))) (sym k.0)
     (wrote-on_both e (turned_on s) calls refl k.1 (turned-good s g) (subst (λ v. ArePrefixesClean s (v ∷ calls)) k.0 c) h.1)
 
--- ---- a beginning of the calls
+-- ---- the first of several calls
 
--- where none of the calls turns it off, none of the first ones does
+-- If none of the calls turns it off, none of the first calls does.
 keep-front : (xs ys : List Call) → AllKeepAsciiOnly (xs ++ ys) → AllKeepAsciiOnly xs
 keep-front [] ys k = tt
 keep-front (x ∷ xs) ys k = (k.0, keep-front xs ys k.1)
 
--- The bytes of a beginning of the calls are of ASCII.
+-- The bytes of the first calls are ASCII.
 pub begun-ascii : (e : Encoding) (s : Settings) (n : ℕ) (xs ys : List Call) → AreAsciiOnly (xs ++ ys) → IsGoodSeparator s.kv_separator → AreAsciiBytes (wrote e s n xs)
 begun-ascii e s n [] ys k g = bytes-ascii [] tt
 begun-ascii e s n (x ∷ xs) ys k g = wrote-ascii e s n (x ∷ xs) (k.0, keep-front xs ys k.1) g
 
--- calls that don't turn it off leave it on
+-- Calls that don't turn it off leave it on.
 kept-on : (s : Settings) (calls : List Call) → s.ascii_only ≡ true → AllKeepAsciiOnly calls → (settings_after s calls).ascii_only ≡ true
 kept-on s [] on k = on
 kept-on s (call ∷ calls) on k = kept-on (settings_after_call s call) calls (call-on s call on k.0) k.1
 
--- a good separator stays one after any calls
+-- A good separator stays good after any calls.
 kept-separator : (s : Settings) (calls : List Call) → IsGoodSeparator s.kv_separator → IsGoodSeparator (settings_after s calls).kv_separator
 kept-separator s [] g = g
 kept-separator s (call ∷ calls) g = kept-separator (settings_after_call s call) calls (separator-kept s call g)
 
--- And so are these bytes, and then a beginning of the line that the next call writes.
+-- The bytes of the first calls, followed by a beginning of the next call's line, are ASCII.
 pub begun-line_ascii : (e : Encoding) (s : Settings) (n : ℕ) (xs : List Call) (call : Call) (ys : List Call) (first : Bool) (line : Content) (part rest : List ℕ) → (call ≡ ascii_only_call true → ⊥)
     → AreAsciiOnly (xs ++ (call ∷ ys)) → IsGoodSeparator s.kv_separator → printed e (settings_after s xs) first line ≡ part ++ rest → AreAsciiBytes (wrote e s n xs ++ part)
 begun-line_ascii e s n [] call ys first line part rest other k g same = absurd (other k.0)

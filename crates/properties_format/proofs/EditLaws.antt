@@ -11,28 +11,35 @@ use Rattle.properties_format.specs.Items.{Outcome, ignored, given, broken, IsIte
 use Rattle.properties_format.specs.Reading.Items.{outcome_of, followed, items_of}
 use Rattle.properties_format.specs.Maps.{HasNoPair, IsMap}
 use Rattle.properties_format.specs.Body.{HeldLine, as_lines, NoneHasKey, group_bytes, groups_bytes}
-use Rattle.properties_format.specs.Edited.{bom_of, guarding_lf, is_editable, Edit, put, remove, edited, IsSetKeyResult, IsRemoveKeyResult, IsEditAllResult}
+use Rattle.properties_format.specs.Edited.{bom_of, guarding_lf, is_editable, edited, IsSetKeyResult, IsRemoveKeyResult}
+use Rattle.properties_format.specs.Edits.{Edit, put, remove, set_value, IsEditAllResult}
+use Rattle.properties_format.specs.Valued.{IsSetValueResult}
 use Rattle.properties_format.specs.Changed.{map_edited}
 use Rattle.properties_format.specs.Reading.Body.{held_groups_of, is_pair_with, has_key, entries_in}
-use Rattle.properties_format.specs.Reading.Edited.{without, key_set, edit_made, edits_made, result_of, set_key_result, edit_all_result}
+use Rattle.properties_format.specs.Reading.Edited.{without, key_set, result_of, set_key_result}
+use Rattle.properties_format.specs.Reading.Edits.{edit_made, edits_made, edit_all_result}
 use Rattle.properties_format.specs.EditLaws.{RemovingNoPairChangesNothing, SettingTwiceIsSettingOnce, HasMap, DiffersAt, SettingGivesTheValue, RemovingTakesTheValue, NoEditsChangeNothing, OneEditIsItsCall, ListsOfEditsFollow}
 use Rattle.properties_format.proofs.Items.Unique.{items_of-only}
 use Rattle.properties_format.proofs.Maps.{map-only}
 use Rattle.properties_format.proofs.Body.Groups.{held_groups_of-meets, held-body}
 use Rattle.properties_format.proofs.Body.Numbers.{items_of-groups}
 use Rattle.properties_format.proofs.Edited.Made.{has_key-true, has_key-false, key_set-only, key_removed-only}
-use Rattle.properties_format.proofs.Edited.Results.{edits_made-only, set_key_result-meets, set_key_result-only, remove_key_result-meets, remove_key_result-only, edit_all_result-meets, edit_all_result-only, result_by-edited, result-editable}
+use Rattle.properties_format.proofs.Edited.Results.{set_key_result-meets, set_key_result-only, remove_key_result-meets, remove_key_result-only, result_by-edited, result-editable}
+use Rattle.properties_format.proofs.Edits.Results.{edits_made-only, edit_all_result-meets, edit_all_result-only}
+use Rattle.properties_format.proofs.Valued.Made.{set_value_result-meets, set_value_result-only}
 use Rattle.properties_format.proofs.Edited.ByteOrderMarks.{has_bom, source-whole}
 use Rattle.properties_format.proofs.Changed.Maps.{other-test}
 use Rattle.properties_format.specs.Reading.Slots.{slots_bytes, slots_of}
 use Rattle.properties_format.proofs.Slots.Places.{put-twice}
 use Rattle.properties_format.proofs.Slots.Edits.{edits_made-slots}
-use Rattle.properties_format.proofs.Changed.Laws.{IsReadable, key_set-says, edits-say}
+use Rattle.properties_format.proofs.Changed.Laws.{IsReadable, key_set-says}
+use Rattle.properties_format.proofs.Edits.Says.{edits-say}
 use Rattle.properties_format.proofs.Changed.Read.{readable, set_key-reads, remove_key-reads}
 
 -- ---- a key that no pair has
 
--- what an entry says of the groups after it
+-- If the entries of an outcome and those after them contain no pair with the key, the outcome isn't one, and the later
+-- entries contain none.
 followed-none : (key : List ℕ) (n : ℕ) (o : Outcome) (entries : List Entry) → AreItems (followed n o entries) → HasNoPair key (followed n o entries)
     → (is_pair_with key o ≡ false) × AreItems entries × HasNoPair key entries
 followed-none key n ignored entries h k = (refl, h, k)
@@ -41,14 +48,14 @@ followed-none key n (given (pair l v)) entries h k =
     (false_from_ne_true (bytes_eq l key) (λ t. k.0 ((bytes_eq-Decides l key).0 t)), h, k.1)
 followed-none key n (broken kind) entries h k = absurd h
 
--- where no item is a pair with the key, no group has it
+-- If no item is a pair with the key, no group is one.
 none-have : (key : List ℕ) (n : ℕ) (gs : List (List HeldLine)) → AreItems (entries_in n gs) → HasNoPair key (entries_in n gs) → NoneHasKey key gs
 none-have key n [] h k = tt
 none-have key n (g ∷ gs) h k =
     let m = followed-none key n (outcome_of (joined (as_lines g))) (entries_in (n + length g) gs) h k in
     (has_key-false key g m.0, none-have key (n + length g) gs m.1 m.2)
 
--- and then all bytes are left
+-- If no group is a pair with the key, all bytes are left.
 without-none : (key : List ℕ) (gs : List (List HeldLine)) → NoneHasKey key gs → without key gs ≡ groups_bytes gs
 without-none key [] h = refl
 without-none key (g ∷ gs) h = elim (cases_Bool (has_key key g)) [
@@ -56,7 +63,7 @@ without-none key (g ∷ gs) h = elim (cases_Bool (has_key key g)) [
   | inr k ↦ rw k (ap (λ v. group_bytes g ++ v) (without-none key gs h.1))
 ]
 
--- the body of a source needs no LF that guards it
+-- The body of a source needs no LF in front of it.
 body-unguarded : (e : Encoding) (source : List ℕ) → is_editable (byte_order_mark e source).encoding ≡ true
     → guarding_lf source (byte_order_mark e source).body ≡ []
 body-unguarded e source ok = elim (has_bom e source ok) [
@@ -85,11 +92,11 @@ removing-no_pair e source key entries is none result h =
 
 -- ---- a key that is set twice
 
--- the result of a source that can be edited
+-- The result of a source that can be edited.
 pub result-made : (e : Encoding) (source made : List ℕ) → IsReadable e source → result_of e source made ≡ edited made
 result-made e source made r = result-editable e source made r.editable ∙ result_by-edited (items_of e source end) made r.no_fault
 
--- Setting a key twice is setting it once, to the later value.
+-- Setting a key twice equals setting it once, to the later value.
 pub setting-twice : (e : Encoding) (source key first second : List ℕ) → SettingTwiceIsSettingOnce e source key first second
 setting-twice e source key first second k v w between h result =
     let f = byte_order_mark e source in
@@ -109,7 +116,7 @@ setting-twice e source key first second k v w between h result =
 
 -- ---- the map
 
--- the maps of a source and of its result, where the result reads as the source after this edit
+-- The maps of a source and of its result, if the result reads as the source after this edit.
 pub maps-differ : (e : Encoding) (source result key : List ℕ) (edit : Edit) (value : Option (List ℕ)) (old new : List ℕ → Option (List ℕ))
     → ((before after : List Entry) → IsItems e source end before → IsItems e result end after → IsMap before old → IsMap after (map_edited edit old))
     → ((value_at : List ℕ → Option (List ℕ)) → DiffersAt key value value_at (map_edited edit value_at))
@@ -120,31 +127,31 @@ maps-differ e source result key edit value old new reads differs (before, items,
     let d = differs old in
     (same key ∙ d.0, (λ other n. same other ∙ d.1 other n))
 
--- a key passes the test against itself
+-- A key is equal to itself.
 own-test : (key : List ℕ) → bytes_eq key key ≡ true
 own-test key = (bytes_eq-Decides key key).1 refl
 
--- the map with a key set gives it the value, and every other key what it had
+-- The map with a key set has the value for it, and for every other key what it had before.
 pub set-differs : (key value : List ℕ) (value_at : List ℕ → Option (List ℕ)) → DiffersAt key (Some value) value_at (map_edited (put key value) value_at)
 set-differs key value value_at = (
   cond-true (bytes_eq key key) (Some value) (value_at key) (own-test key),
   (λ other n. cond-false (bytes_eq other key) (Some value) (value_at other) (other-test other key n)),
 )
 
--- the map with a key removed gives it none, and every other key what it had
+-- The map with a key removed has no value for it, and for every other key what it had before.
 removed-differs : (key : List ℕ) (value_at : List ℕ → Option (List ℕ)) → DiffersAt key None value_at (map_edited (remove key) value_at)
 removed-differs key value_at = (
   cond-true (bytes_eq key key) None (value_at key) (own-test key),
   (λ other n. cond-false (bytes_eq other key) None (value_at other) (other-test other key n)),
 )
 
--- After a key is set, the map has the value for it, and for every other key what it had.
+-- After a key is set, the map has the value for it, and for every other key what it had before.
 pub setting-gives : (e : Encoding) (source key value : List ℕ) → SettingGivesTheValue e source key value
 setting-gives e source key value k v result h old new =
     maps-differ e source result key (put key value) (Some value) old new
     (λ before after i j m. (set_key-reads e source key value result k v h before after i j).mapped old m) (set-differs key value)
 
--- After a key is removed, the map has no value for it, and for every other key what it had.
+-- After a key is removed, the map has no value for it, and for every other key what it had before.
 pub removing-takes : (e : Encoding) (source key : List ℕ) → RemovingTakesTheValue e source key
 removing-takes e source key result h old new =
     maps-differ e source result key (remove key) None old new
@@ -152,11 +159,11 @@ removing-takes e source key result h old new =
 
 -- ---- lists of edits
 
--- No edits change no byte.
+-- An empty list of edits changes no byte.
 pub no_edits-nothing : (e : Encoding) (source : List ℕ) → NoEditsChangeNothing e source
 no_edits-nothing e source result h = h.2
 
--- A list of one edit has the results of the call for that edit.
+-- A list of one edit has the same results as the call for that edit.
 pub one_edit-call : (e : Encoding) (source : List ℕ) (edit : Edit) → OneEditIsItsCall e source edit
 one_edit-call e source (put key value) = λ result.
     let all = put key value ∷ [] in (
@@ -168,21 +175,26 @@ one_edit-call e source (remove key) = λ result.
       (λ h. subst (IsRemoveKeyResult e source key) (sym (edit_all_result-only e source all result h)) (remove_key_result-meets e source key)),
       (λ h. subst (IsEditAllResult e source all) (sym (remove_key_result-only e source key result h)) (edit_all_result-meets e source all)),
     )
+one_edit-call e source (set_value key value) = λ result.
+    let all = set_value key value ∷ [] in (
+      (λ h. subst (IsSetValueResult e source key value) (sym (edit_all_result-only e source all result h)) (set_value_result-meets e source key value)),
+      (λ h. subst (IsEditAllResult e source all) (sym (set_value_result-only e source key value result h)) (edit_all_result-meets e source all)),
+    )
 
--- edits and then more edits are the second, made to what the first gave
+-- Two lists of edits, joined into one, make the same as the second list on the result of the first.
 edits_made-append : (e : Encoding) (source : List ℕ) (first second : List Edit)
     → edits_made e source (first ++ second) ≡ edits_made e (edits_made e source first) second
 edits_made-append e source [] second = refl
 edits_made-append e source (edit ∷ first) second = edits_made-append e (edit_made e source edit) first second
 
--- A list of edits and then another have the results of the second on what the first gave.
+-- Two lists of edits, joined into one, have the same results as the second list on the result of the first.
 pub lists-follow : (e : Encoding) (source : List ℕ) (first second : List Edit) → ListsOfEditsFollow e source first second
 lists-follow e source first second scalars between h result =
     let r = readable e source h.0 h.1 in
     let next = (edits-say e source first between r scalars h.2).readable in
     let same : edit_all_result e source (first ++ second) ≡ edit_all_result e between second =
     result-made e source (edits_made e source (first ++ second)) r
-    ∙ ap edited (edits_made-append e source first second ∙ ap (λ v. edits_made e v second) (sym (edits_made-only e source first between h.2)))
+    ∙ ap edited (edits_made-append e source first second ∙ ap (λ v. edits_made e v second) (sym (edits_made-only e source first between h.0 h.2)))
     ∙ sym (result-made e between (edits_made e between second) next) in (
       (λ k. subst (IsEditAllResult e between second) (sym (edit_all_result-only e source (first ++ second) result k ∙ same)) (edit_all_result-meets e between second)),
       (λ k. subst (IsEditAllResult e source (first ++ second)) (sym (edit_all_result-only e between second result k ∙ sym same)) (edit_all_result-meets e source (first ++ second))),

@@ -1,7 +1,8 @@
--- Worked rows of each page, computed.
+-- Worked examples for each page, computed.
 pub mod Cut
 pub mod Edited
 pub mod Valued
+pub mod ValuedSlots
 pub mod Encodings
 pub mod Escapes
 pub mod Groups

@@ -37,39 +37,39 @@ use Rattle.properties_format.proofs.ReadBack.Lists.{items_of-pairs, pairs_in-ite
 
 -- ---- One reading.
 
--- a value that meets it is the one, where each that meets it is equal to it
+-- A value that meets it is the only one, if every value that meets it is equal to it.
 one : {A : Type 0} {Meets : A → Type 0} (value : A) → Meets value → ((other : A) → Meets other → other ≡ value) → HasOne Meets
 one value meets only = record { value = value; meets = meets; only = only }
 
--- bytes have one list of pieces
+-- Bytes have exactly one list of pieces.
 pub one-pieces : (e : Encoding) (d : List ℕ) → HasOne (IsPieces e d)
 one-pieces e d = one (pieces_of e d) (pieces_of-meets e d) (pieces_of-only e d)
 
--- an input has one text
+-- An input has exactly one text.
 pub one-text : (e : Encoding) (bytes : List ℕ) → HasOne (IsDecoded e bytes)
 one-text e bytes = one (decoded_of e bytes) (decoded_of-meets e bytes) (decoded_of-only e bytes)
 
--- a text has one list of lines
+-- A text has exactly one list of lines.
 pub one-lines : (x : List ℕ) → HasOne (IsLines x)
 one-lines x = one (lines_of x) (lines_of-meets x) (lines_of-only x)
 
--- lines have one division into groups
+-- Lines have exactly one division into groups.
 pub one-groups : (lines : List Line) (ending : InputEnd) → HasOne (IsGroups lines ending)
 one-groups lines ending = one (groups_of lines ending) (groups_of-meets lines ending) (groups_of-only lines ending)
 
--- a logical line is blank, a comment or a pair in one way
+-- A logical line is a blank line, a comment or a pair in exactly one way.
 pub one-split : (line : List ℕ) → HasOne (IsSplit line)
 one-split line = one (split_of line) (split_of-meets line) (split_of-only line)
 
--- a text means one text or breaks in one way
+-- A text means one text or is malformed in one way.
 pub one-meaning : (text : List ℕ) → HasOne (IsMeaning text)
 one-meaning text = one (meaning_of text) (meaning_of-meets text) (meaning_of-only text)
 
--- an input has one list of items
+-- An input has exactly one list of items.
 pub one-items : (e : Encoding) (bytes : List ℕ) (ending : InputEnd) → HasOne (IsItems e bytes ending)
 one-items e bytes ending = one (items_of e bytes ending) (items_of-meets e bytes ending) (items_of-only e bytes ending)
 
--- Each input has one reading.
+-- Each input has exactly one reading.
 pub one-reading : (e : Encoding) (bytes : List ℕ) (ending : InputEnd) → HasOneReading e bytes ending
 one-reading e bytes ending =
     let text = one-text e bytes in
@@ -86,7 +86,7 @@ one-reading e bytes ending =
 
 -- ---- Reading inverts writing.
 
--- What calls wrote has the items that they told, and no others.
+-- What the calls wrote has exactly the items that the calls wrote.
 pub reading-inverts_writing : (e : Encoding) (s : Settings) (calls : List Call) → ReadingInvertsWriting e s calls
 reading-inverts_writing e s calls k entries =
     let w = wrote e s 0 calls in (
@@ -94,20 +94,20 @@ reading-inverts_writing e s calls k entries =
       (λ same. subst (IsItems e w end) (sym same) (IsItems-wrote e s calls k.encoding k.settings k.prefixes k.scalars)),
     )
 
--- Under one setting, two lists of accepted pairs write equal bytes exactly if they are equal.
+-- Under one setting, two lists of accepted pairs write equal bytes exactly if the lists are equal.
 pub equal-bytes : (e : Encoding) (s : Settings) (ps qs : List Pair) → EqualBytesOfEqualPairs e s ps qs
 equal-bytes e s ps qs h k = (
   (λ same. pairs-equal e s h.encoding h.settings ps qs h.accepted h.scalars k.accepted k.scalars same),
   (λ same. ap (λ v. wrote e s 0 (calls_of v)) same),
 )
 
--- Reading pairs that were written, and writing them anew, changes no byte.
+-- Reading pairs that were written and writing them again changes no byte.
 pub writing-anew : (e : Encoding) (s : Settings) (ps : List Pair) → WritingAnewChangesNothing e s ps
 writing-anew e s ps h entries is = pairs-settle e s h.encoding h.settings ps entries h.accepted h.scalars is
 
 -- ---- The map of what was written.
 
--- the pairs among entries and then among more entries
+-- The pairs in two lists of entries.
 pairs_in-append : (xs ys : List Entry) → pairs_in (xs ++ ys) ≡ pairs_in xs ++ pairs_in ys
 pairs_in-append [] ys = refl
 pairs_in-append (item n (comment text) ∷ xs) ys = pairs_in-append xs ys
@@ -115,7 +115,7 @@ pairs_in-append (item n (pair key value) ∷ xs) ys = ap (λ v. (key, value) ∷
 pairs_in-append (malformed kind n ∷ xs) ys = pairs_in-append xs ys
 pairs_in-append (read_fault n ∷ xs) ys = pairs_in-append xs ys
 
--- no item of pairs without the key is a pair with it
+-- In the items of pairs without the key, no item is a pair with it.
 pub no-pair : (n : ℕ) (key : List ℕ) (ps : List Pair) → HasNoKey key ps → HasNoPair key (items_after n ps)
 no-pair n key [] h = tt
 no-pair n key (p ∷ ps) h = (h.0, no-pair (n + 1) key ps h.1)
@@ -125,17 +125,17 @@ abbrev lines_after : ℕ → List Pair → ℕ
 lines_after n [] = n
 lines_after n (p ∷ ps) = lines_after (n + 1) ps
 
--- the items of pairs and then of more pairs, which are numbered on
+-- The items of two lists of pairs, the second of which is numbered after the first.
 items_after-append : (n : ℕ) (xs ys : List Pair) → items_after n (xs ++ ys) ≡ items_after n xs ++ items_after (lines_after n xs) ys
 items_after-append n [] ys = refl
 items_after-append n (x ∷ xs) ys = ap (λ v. item (n + 1) (pair x.0 x.1) ∷ v) (items_after-append (n + 1) xs ys)
 
--- among pairs with keys of their own, none after a pair has its key
+-- If each pair has a key of its own, no pair after another has that pair's key.
 distinct-later : (key value : List ℕ) (before after : List Pair) → AreDistinct (before ++ ((key, value) ∷ after)) → HasNoKey key after
 distinct-later key value [] after h = h.0
 distinct-later key value (p ∷ before) after h = distinct-later key value before after h.1
 
--- among pairs with keys of their own, each gives its key its value
+-- If each pair has a key of its own, each pair gives its key its value.
 pub value-among : (n : ℕ) (key value : List ℕ) (before after : List Pair) → AreDistinct (before ++ ((key, value) ∷ after))
     → value_in (items_after n (before ++ ((key, value) ∷ after))) key ≡ Some value
 value-among n key value before after h =
@@ -148,7 +148,7 @@ value-among n key value before after h =
       no_later = no-pair (m + 1) key after (distinct-later key value before after h);
     }))
 
--- and no other value is one of a pair
+-- No other value is that of a pair.
 among-value : (n : ℕ) (key value : List ℕ) (ps : List Pair) → IsLastValue (items_after n ps) key value → HasPair ps key value
 among-value n key value ps k = (
   pairs_in k.before,
@@ -156,7 +156,7 @@ among-value n key value ps k = (
   sym (pairs_in-items n ps) ∙ ap pairs_in k.division ∙ pairs_in-append k.before (item k.number (pair key value) ∷ k.after),
 )
 
--- The map of pairs that were written, each with a key of its own, has exactly these pairs.
+-- If each written pair has a key of its own, the map that is read has exactly these pairs.
 pub map-read_back : (e : Encoding) (s : Settings) (ps : List Pair) → MapIsReadBack e s ps
 map-read_back e s ps h distinct entries is value_at m key value = (
   (λ same. among-value 0 key value ps (subst (λ v. IsLastValue v key value) read (subst (IsValue entries key) same (m key)))),
@@ -173,7 +173,7 @@ map-read_back e s ps h distinct entries is value_at m key value = (
 pub splitting-commutes : (e : Encoding) (bytes : List ℕ) → SplittingCommutes e bytes
 splitting-commutes e bytes text lines d = ((λ k. byline-is_lines e bytes text lines k d), (λ k. lines-is_byline e bytes text lines k d))
 
--- A CR or an LF where a unit may begin parts the pieces before it from those after it.
+-- A CR or an LF at a unit's boundary separates the pieces before it from those after it.
 pub line_ends-part : (e : Encoding) (before : List ℕ) (c : ℕ) (after : List ℕ) → LineEndsPartPieces e before c after
 line_ends-part e before c after ends aligned ps qs h k =
     subst (IsPieces e (before ++ (ascii_bytes e c ++ after))) parted (pieces_of-meets e (before ++ (ascii_bytes e c ++ after)))

@@ -18,6 +18,8 @@ pub mod Body
 pub mod Edited
 pub mod Slots
 pub mod Valued
+pub mod Edits
 pub mod Changed
 pub mod Laws
 pub mod EditLaws
+pub mod Undecoded

@@ -1,4 +1,4 @@
--- The malformed escapes of an input exist, and they are the only ones.
+-- The malformed escapes of an input exist and are unique.
 use Rattle.std.proofs.Common.{◌≡◌, ℕ, ◌+◌, List, [], ◌∷◌, ◌++◌, refl, ap, ap₂, sym, ◌∙◌, zero-add}
 use Rattle.std.specs.Prelude.{None}
 use Rattle.properties_format.specs.Encoding.{Encoding}
@@ -21,18 +21,18 @@ use Rattle.properties_format.proofs.Groups.Only.{groups_of-only}
 use Rattle.properties_format.proofs.Items.Unique.{outcome_of-meets, outcome_of-only}
 use Rattle.properties_format.proofs.ItemsToCome.Entries.{items_to_come-pending}
 
--- what is computed of groups are their escapes
+-- The computed escapes are the malformed escapes of the groups.
 escapes_in-meets : (gs : List (List Line)) → AreEscapesIn gs (escapes_in gs)
 escapes_in-meets [] = refl
 escapes_in-meets (g ∷ gs) = (outcome_of (joined g), escapes_in gs, outcome_of-meets (joined g), refl, escapes_in-meets gs)
 
--- and no others are
+-- The groups have no others.
 escapes_in-only : (gs : List (List Line)) (escapes : List MalformedEscape) → AreEscapesIn gs escapes → escapes ≡ escapes_in gs
 escapes_in-only [] escapes h = h
 escapes_in-only (g ∷ gs) escapes (outcome, rest, is, same, others) =
     same ∙ ap₂ (λ v w. escapes_from (first_number g) (joined g) v w) (outcome_of-only (joined g) outcome is) (escapes_in-only gs rest others)
 
--- What is computed are the malformed escapes of the input.
+-- The computed escapes are the malformed escapes of the input.
 pub malformed_escapes_of-meets : (e : Encoding) (bytes : List ℕ) → AreMalformedEscapes e bytes (malformed_escapes_of e bytes)
 unfolding malformed_escapes_of
 malformed_escapes_of-meets e bytes =
@@ -49,7 +49,7 @@ malformed_escapes_of-meets e bytes =
       are_escapes = escapes_in-meets groups;
     }
 
--- The malformed escapes of the input are what is computed.
+-- The malformed escapes of the input are the computed ones.
 pub malformed_escapes_of-only : (e : Encoding) (bytes : List ℕ) (escapes : List MalformedEscape) → AreMalformedEscapes e bytes escapes
     → escapes ≡ malformed_escapes_of e bytes
 unfolding malformed_escapes_of
@@ -59,7 +59,7 @@ malformed_escapes_of-only e bytes escapes h =
     ∙ ap (λ v. escapes_in (groups_of (numbered_lines v end) end)) (lines_of-only h.text h.lines h.divided)
     ∙ ap (λ v. escapes_in (groups_of (numbered_lines (lines_of v) end) end)) (decoded_of-only e bytes h.text h.decoded)
 
--- those of the groups of the input
+-- The malformed escapes of the input are those of its groups.
 pub escapes_in-groups : (e : Encoding) (bytes : List ℕ) (gs : List (List Line)) → IsGroups (numbered_lines (lines_of (decoded_of e bytes)) end) end gs
     → escapes_in gs ≡ malformed_escapes_of e bytes
 unfolding malformed_escapes_of
@@ -84,13 +84,13 @@ logical-fault : (ls : List Line) (last : List Entry) (n : ℕ) → entries_of_lo
 logical-fault [] last n h = h
 logical-fault (l ∷ ls) last n h = logical-fault ls last n (followed-fault l.number (outcome_of l.text) (entries_of_logical ls last) n h)
 
--- where a fault alone is left to come, it is the last that comes
+-- If only the failed read is left to come, it comes last.
 pub fault-last : (s : ReaderState) (d : List ℕ) (n : ℕ) → items_to_come s d fault ≡ read_fault n ∷ [] → last_to_come s d fault ≡ read_fault n ∷ []
 unfolding entries_pending
 fault-last s d n h =
     logical-fault (logical_pending None (natural_to_come s d fault) fault) (last_to_come s d fault) n (sym (items_to_come-pending s d fault) ∙ h)
 
--- Where these lines come up to the fault, the line of its number is cut.
+-- If these lines come before the failed read, the line with its number is cut off.
 pub cut-line : (e : Encoding) (d : List ℕ) (n : ℕ) → last_to_come (start e) d fault ≡ read_fault n ∷ [] → IsCutLine e d n
 cut-line e d n h =
     let text = decoded_of e d in
@@ -102,7 +102,7 @@ cut-line e d n h =
       is = (let k = last-start e d in cc);
     }
 
--- ---- one group more
+-- ---- one more group
 
 from-append : (number : ℕ) (x : List ℕ) (outcome : Outcome) (rest others : List MalformedEscape)
     → escapes_from number x outcome (rest ++ others) ≡ escapes_from number x outcome rest ++ others

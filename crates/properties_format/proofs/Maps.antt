@@ -1,4 +1,4 @@
--- The map of an input exists, and is unique.
+-- The map of an input exists and is unique.
 use Rattle.std.proofs.Common.{◌≡◌, ℕ, Bool, true, false, if◌then◌else◌, List, [], ◌∷◌, ◌++◌, refl, ap, sym, ◌∙◌, subst}
 use Rattle.std.specs.Prelude.{Option, Some, None, bytes_eq}
 use Rattle.std.proofs.lemmas.Bool.{cond-true, cond-false, false_from_ne_true}
@@ -10,29 +10,29 @@ use Rattle.properties_format.specs.Reading.Maps.{value_of, first_value, value_in
 abbrev IsPairOf : List ℕ → List ℕ → Entry → Type 0
 IsPairOf key value entry = (n : ℕ) × (entry ≡ item n (pair key value))
 
--- what the value of one entry says
+-- the value that one entry gives a key
 abbrev ValueSays : List ℕ → Entry → Option (List ℕ) → Type 0
 ValueSays key entry None = (entries : List Entry) → HasNoPair key entries → HasNoPair key (entry ∷ entries)
 ValueSays key entry (Some value) = IsPairOf key value entry
 
--- texts that fail the test are not the same
+-- Texts that fail the comparison are different.
 not_same : (x y : List ℕ) → bytes_eq x y ≡ false → x ≡ y → ⊥
 not_same x y e q = let t = (bytes_eq-Decides x y).1 q in cc
 
--- a pair gives its key its value, and no other key
+-- A pair gives its key its value, and no other key.
 pair-says : (n : ℕ) (k v key : List ℕ) (b : Bool) → bytes_eq k key ≡ b → ValueSays key (item n (pair k v)) (value_of (item n (pair k v)) key)
 pair-says n k v key true e =
     rw e (n, ap (λ x. item n (pair x v)) ((bytes_eq-Decides k key).0 e))
 pair-says n k v key false e = rw e (λ entries h. ((λ q. not_same k key e q), h))
 
--- what is computed of an entry is what it says
+-- The computed value of an entry is the one that it gives.
 says : (entry : Entry) (key : List ℕ) → ValueSays key entry (value_of entry key)
 says (item n (pair k v)) key = pair-says n k v key (bytes_eq k key) refl
 says (item n (comment text)) key = λ entries h. h
 says (malformed kind n) key = λ entries h. h
 says (read_fault n) key = λ entries h. h
 
--- the value of a key in the entries with one more in front
+-- The value of a key in entries with one more at the front.
 with_front : (entry : Entry) (entries : List Entry) (key : List ℕ) (r o : Option (List ℕ)) → IsValue entries key r → ValueSays key entry o → IsValue (entry ∷ entries) key (first_value r o)
 with_front entry entries key (Some v) o g s =
     record { before = entry ∷ g.before; number = g.number; after = g.after; division = ap (λ x. entry ∷ x) g.division; no_later = g.no_later }
@@ -40,12 +40,12 @@ with_front entry entries key None None h s = s entries h
 with_front entry entries key None (Some v) h s =
     record { before = []; number = s.0; after = entries; division = ap (λ x. x ∷ entries) s.1; no_later = h }
 
--- what is computed is the value of the key
+-- The computed value is the value of the key.
 pub value_in-meets : (entries : List Entry) (key : List ℕ) → IsValue entries key (value_in entries key)
 value_in-meets [] key = tt
 value_in-meets (entry ∷ entries) key = with_front entry entries key (value_in entries key) (value_of entry key) (value_in-meets entries key) (says entry key)
 
--- where no entry is a pair with the key, there is no value
+-- If no entry is a pair with the key, there is no value.
 none-in : (entries : List Entry) (key : List ℕ) → HasNoPair key entries → value_in entries key ≡ None
 none-in [] key h = refl
 none-in (item n (pair k v) ∷ entries) key h =
@@ -62,38 +62,38 @@ last-in [] n key value after h =
     ∙ cond-true (bytes_eq key key) (Some value) None ((bytes_eq-Decides key key).1 refl)
 last-in (entry ∷ before) n key value after h = ap (λ r. first_value r (value_of entry key)) (last-in before n key value after h)
 
--- a value of the key is what is computed
+-- A value of the key is the computed one.
 pub value_in-only : (entries : List Entry) (key : List ℕ) (r : Option (List ℕ)) → IsValue entries key r → r ≡ value_in entries key
 value_in-only entries key None h = sym (none-in entries key h)
 value_in-only entries key (Some value) g = sym (ap (λ x. value_in x key) g.division ∙ last-in g.before g.number key value g.after g.no_later)
 
--- the map of the entries, and that it is the only one
+-- The computed values are a map of the entries.
 pub map-meets : (entries : List Entry) → IsMap entries (value_in entries)
 map-meets entries key = value_in-meets entries key
 
--- and every map of the entries gives each key that value
+-- Every map of the entries gives each key that value.
 pub map-only : (entries : List Entry) (value_at : List ℕ → Option (List ℕ)) → IsMap entries value_at → (key : List ℕ) → value_at key ≡ value_in entries key
 map-only entries value_at h key = value_in-only entries key (value_at key) (h key)
 
--- ---- one entry more
+-- ---- one more entry
 
--- of three values the first is the same, whichever two are taken together
+-- Choosing the first of three values is associative.
 pub first-assoc : (a b c : Option (List ℕ)) → first_value (first_value a b) c ≡ first_value a (first_value b c)
 first-assoc None b c = refl
 first-assoc (Some v) b c = refl
 
--- without a second value, the first of two is what there is
+-- Without a second value, the first is chosen.
 pub first-none : (o : Option (List ℕ)) → first_value o None ≡ o
 first-none None = refl
 first-none (Some v) = refl
 
--- among entries and then more entries, the value is that of the second, or else that of the first
+-- In two lists of entries, the value is that in the second, or else that in the first.
 value_in-append : (xs ys : List Entry) (key : List ℕ) → value_in (xs ++ ys) key ≡ first_value (value_in ys key) (value_in xs key)
 value_in-append [] ys key = sym (first-none (value_in ys key))
 value_in-append (x ∷ xs) ys key =
     ap (λ r. first_value r (value_of x key)) (value_in-append xs ys key) ∙ first-assoc (value_in ys key) (value_in xs key) (value_of x key)
 
--- a function that gives the same at each key is the map too
+-- A function with the same value for each key is a map of the entries too.
 same-map : (entries : List Entry) (f : List ℕ → Option (List ℕ)) → ((key : List ℕ) → f key ≡ value_in entries key) → IsMap entries f
 same-map entries f same key = let P : Option (List ℕ) → Type 0 = IsValue entries key in subst P (sym (same key)) (value_in-meets entries key)
 
@@ -107,7 +107,7 @@ pub map-comment : (entries : List Entry) (number : ℕ) (text : List ℕ) (f : L
 map-comment entries number text f h =
     same-map (entries ++ item number (comment text) ∷ []) f (λ key. map-only entries f h key ∙ sym (value_in-append entries (item number (comment text) ∷ []) key))
 
--- a pair puts its value under its key
+-- A pair sets the value of its key.
 pub map-pair : (entries : List Entry) (number : ℕ) (key value : List ℕ) (f g : List ℕ → Option (List ℕ)) → IsMap entries f
     → ((k : List ℕ) → g k ≡ (if bytes_eq key k then Some value else f k)) → IsMap (entries ++ item number (pair key value) ∷ []) g
 map-pair entries number key value f g h puts =

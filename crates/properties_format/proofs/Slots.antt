@@ -15,3 +15,11 @@ pub mod PushCells
 pub mod Links
 pub mod Removing
 pub mod Keys
+pub mod Apart
+pub mod ReadAgain
+pub mod LastEndings
+pub mod ClosedBy
+pub mod AddedValue
+pub mod Revalued
+pub mod ValuedBody
+pub mod ValueCells

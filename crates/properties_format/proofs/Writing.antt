@@ -1,25 +1,25 @@
--- What lists of calls write, one list after another.
+-- What two lists of calls write, one after the other.
 use Rattle.std.proofs.Common.{◌≡◌, ℕ, List, [], ◌∷◌, ◌++◌, refl, ap, sym, ◌∙◌, append_assoc}
 use Rattle.properties_format.specs.Encoding.{Encoding}
 use Rattle.properties_format.specs.Settings.{Settings}
 use Rattle.properties_format.specs.Writing.{Call, is_accepted, settings_after_call, settings_after, answers, written_line, lines_with, line_count_after, line_bytes, wrote, item_read_back, items_read_back}
 
--- the settings after calls and then more calls
+-- The settings after two lists of calls.
 pub settings_after-append : (s : Settings) (xs ys : List Call) → settings_after s (xs ++ ys) ≡ settings_after (settings_after s xs) ys
 settings_after-append s [] ys = refl
 settings_after-append s (x ∷ xs) ys = settings_after-append (settings_after_call s x) xs ys
 
--- how many lines there are after them
+-- The number of lines after two lists of calls.
 pub line_count_after-append : (s : Settings) (n : ℕ) (xs ys : List Call) → line_count_after s n (xs ++ ys) ≡ line_count_after (settings_after s xs) (line_count_after s n xs) ys
 line_count_after-append s n [] ys = refl
 line_count_after-append s n (x ∷ xs) ys = line_count_after-append (settings_after_call s x) (lines_with n (written_line s x)) xs ys
 
--- their answers
+-- The results of two lists of calls.
 pub answers-append : (s : Settings) (xs ys : List Call) → answers s (xs ++ ys) ≡ answers s xs ++ answers (settings_after s xs) ys
 answers-append s [] ys = refl
 answers-append s (x ∷ xs) ys = ap (λ v. is_accepted s x ∷ v) (answers-append (settings_after_call s x) xs ys)
 
--- the bytes that they write
+-- The bytes that two lists of calls write.
 pub wrote-append : (e : Encoding) (s : Settings) (n : ℕ) (xs ys : List Call) → wrote e s n (xs ++ ys) ≡ wrote e s n xs ++ wrote e (settings_after s xs) (line_count_after s n xs) ys
 wrote-append e s n [] ys = refl
 wrote-append e s n (x ∷ xs) ys =
@@ -27,7 +27,7 @@ wrote-append e s n (x ∷ xs) ys =
     ∙ sym (append_assoc (line_bytes e s n (written_line s x)) (wrote e (settings_after_call s x) (lines_with n (written_line s x)) xs)
     (wrote e (settings_after (settings_after_call s x) xs) (line_count_after (settings_after_call s x) (lines_with n (written_line s x)) xs) ys))
 
--- the items that they are to be read back as
+-- The items that are read back from two lists of calls.
 pub items_read_back-append : (s : Settings) (n : ℕ) (xs ys : List Call) → items_read_back s n (xs ++ ys) ≡ items_read_back s n xs ++ items_read_back (settings_after s xs) (line_count_after s n xs) ys
 items_read_back-append s n [] ys = refl
 items_read_back-append s n (x ∷ xs) ys =

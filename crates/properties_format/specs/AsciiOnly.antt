@@ -1,5 +1,6 @@
--- Which calls write ASCII alone, and what that is of bytes.
--- Source: java.util.Properties of Java SE 7, store, whose escapes are ASCII; RFC 20 (ASCII is the numbers below 80 hexadecimal).
+-- Which calls write only ASCII, and what that means for the bytes.
+-- Source: java.util.Properties of Java SE 7, store, whose escapes are ASCII; RFC 20 (ASCII is the numbers below 80
+-- hexadecimal).
 use Rattle.std.specs.Prelude.{◌≡◌, All, ℕ, ◌<◌, true, List, [], ◌∷◌}
 use Rattle.properties_format.specs.Encoding.{windows_1252, utf_8}
 use Rattle.properties_format.specs.Lines.{end}
@@ -7,7 +8,7 @@ use Rattle.properties_format.specs.Entries.{Entry}
 use Rattle.properties_format.specs.Items.{IsItems}
 use Rattle.properties_format.specs.Writing.{Call, comment_call, pair_call, prefix_call, separator_call, ending_call, flush_call, ascii_only_call}
 
--- the call doesn't turn ASCII alone off
+-- The call doesn't turn ASCII-only output off.
 abbrev pub KeepsAsciiOnly : Call → Type 0
 KeepsAsciiOnly (comment_call text) = Unit {0}
 KeepsAsciiOnly (pair_call key value) = Unit {0}
@@ -17,21 +18,21 @@ KeepsAsciiOnly (ending_call line_ending) = Unit {0}
 KeepsAsciiOnly flush_call = Unit {0}
 KeepsAsciiOnly (ascii_only_call on) = on ≡ true
 
--- and none of the calls does
+-- None of the calls turns ASCII-only output off.
 abbrev pub AllKeepAsciiOnly : List Call → Type 0
 AllKeepAsciiOnly [] = Unit {0}
 AllKeepAsciiOnly (call ∷ calls) = KeepsAsciiOnly call × AllKeepAsciiOnly calls
 
--- The first call turns ASCII alone on, and none turns it off.
+-- The first call turns ASCII-only output on, and no call turns it off.
 abbrev pub AreAsciiOnly : List Call → Type 0
 AreAsciiOnly [] = ⊥
 AreAsciiOnly (call ∷ calls) = (call ≡ ascii_only_call true) × AllKeepAsciiOnly calls
 
--- every byte is one of ASCII
+-- Every byte is ASCII.
 abbrev pub AreAsciiBytes : List ℕ → Type 0
 AreAsciiBytes bytes = All (λ b. b < 0x80) bytes
 
--- The bytes have the same items, whichever of the two encodings that are written they are read in.
+-- The bytes have the same items in windows-1252 and in UTF-8, the two encodings that are written.
 pub record AreItemsInBoth (bytes : List ℕ) (entries : List Entry) : Type 0 where
   pub in_windows_1252 : IsItems windows_1252 bytes end entries
   pub in_utf_8 : IsItems utf_8 bytes end entries

@@ -1,5 +1,6 @@
--- The groups of a body, as spans of its bytes: each logical line with the bytes that it came from.
--- Source: java.util.Properties of Java SE 7, load (a logical line may be spread out across several adjacent natural lines).
+-- The groups of a body, as parts of its bytes: the lines of each logical line, with the bytes that they came from.
+-- Source: java.util.Properties of Java SE 7, load (a logical line may be spread out across several adjacent natural
+-- lines).
 use Rattle.std.specs.Prelude.{◌≡◌, ℕ, List, [], ◌∷◌, ◌++◌, Option, Some, None}
 use Rattle.properties_format.specs.Text.{LineEnding, line_ending_text}
 use Rattle.properties_format.specs.Encoding.{Encoding}
@@ -9,13 +10,14 @@ use Rattle.properties_format.specs.Groups.{IsGroups, joined}
 use Rattle.properties_format.specs.Entries.{pair}
 use Rattle.properties_format.specs.Items.{given, IsOutcome}
 
--- a natural line as a body holds it: its bytes, the text that they are decoded to, and its line ending, of which the last line has none
+-- a natural line of a body: its bytes, the text that they decode to, and its line ending, which the last line doesn't
+-- have
 pub record HeldLine : Type 0 where
   pub bytes : List ℕ
   pub text : List ℕ
   pub ending : Option LineEnding
 
--- these are the lines of bytes in order, each decoded by itself
+-- These are the lines of some bytes in order, each decoded by itself.
 abbrev pub AreHeld : Encoding → List Ended → List ℕ → List HeldLine → Type 0
 AreHeld e [] last held = (text : List ℕ) × IsDecodedLine e last text × (held ≡ record { bytes = last; text = text; ending = None } ∷ [])
 AreHeld e (l ∷ ls) last held =
@@ -23,7 +25,7 @@ AreHeld e (l ∷ ls) last held =
     × (held ≡ record { bytes = l.text; text = text; ending = Some l.by } ∷ rest)
     × AreHeld e ls last rest
 
--- the texts of the lines. A group does not hang on the numbers of its lines, and so all are 0 here
+-- the lines as texts; the line numbers don't affect the groups, so all are 0 here
 abbrev pub as_lines : List HeldLine → List Line
 as_lines [] = []
 as_lines (h ∷ hs) = record { number = 0; text = h.text } ∷ as_lines hs
@@ -37,14 +39,15 @@ abbrev pub held_in : List (List HeldLine) → List HeldLine
 held_in [] = []
 held_in (g ∷ gs) = g ++ held_in gs
 
--- The body has these groups: its lines of bytes, decoded one by one, and divided as the lines of a text are.
+-- The body has these groups: its bytes are split into lines, each line is decoded, and the lines are grouped as the
+-- lines of a text are.
 pub record AreGroupsOf (e : Encoding) (body : List ℕ) (groups : List (List HeldLine)) : Type 0 where
   pub cut : Lines
   pub is_cut : IsCut e body cut
   pub are_held : AreHeld e cut.ended cut.last (held_in groups)
   pub grouped : IsGroups (as_lines (held_in groups)) end (as_groups groups)
 
--- the bytes of a line ending, where there is one
+-- the bytes of a line ending, or none if there is none
 abbrev pub ending_bytes : Option LineEnding → List ℕ
 ending_bytes None = []
 ending_bytes (Some by) = line_ending_text by
@@ -59,7 +62,7 @@ abbrev pub groups_bytes : List (List HeldLine) → List ℕ
 groups_bytes [] = []
 groups_bytes (g ∷ gs) = group_bytes g ++ groups_bytes gs
 
--- the line ending of a group's last line
+-- the line ending of the group's last line
 abbrev pub last_ending : List HeldLine → Option LineEnding
 last_ending [] = None
 last_ending (h ∷ []) = h.ending
@@ -69,7 +72,7 @@ last_ending (h ∷ i ∷ hs) = last_ending (i ∷ hs)
 abbrev pub HasKey : List ℕ → List HeldLine → Type 0
 HasKey key group = (value : List ℕ) × IsOutcome (joined (as_lines group)) (given (pair key value))
 
--- none of the groups is one
+-- None of the groups is a pair with this key.
 abbrev pub NoneHasKey : List ℕ → List (List HeldLine) → Type 0
 NoneHasKey key [] = Unit {0}
 NoneHasKey key (g ∷ gs) = ¬ (HasKey key g) × NoneHasKey key gs

@@ -1,4 +1,4 @@
--- What an edit changes in what a source says, in its map, and in its bytes.
+-- What an edit changes: in a source's contents, in its map and in its bytes.
 -- Source: java.util.Properties of Java SE 7, setProperty and load (a later pair takes the place of an earlier one).
 use Rattle.std.specs.Prelude.{◌≡◌, ◌≢◌, ◌⊎◌, bytes_eq, ℕ, if◌then◌else◌, List, [], ◌∷◌, ◌++◌, Option, Some, None}
 use Rattle.properties_format.specs.Encoding.{Encoding, byte_order_mark}
@@ -7,22 +7,22 @@ use Rattle.properties_format.specs.Entries.{Content, comment, pair, Entry, item,
 use Rattle.properties_format.specs.Items.{IsItems}
 use Rattle.properties_format.specs.Maps.{IsMap}
 use Rattle.properties_format.specs.Body.{AreGroupsOf, HasKey, HeldLine, NoneHasKey, group_bytes}
-use Rattle.properties_format.specs.Edited.{Edit, put, remove}
+use Rattle.properties_format.specs.Edits.{Edit, put, remove, set_value}
 
--- what the items say, in order
+-- the contents of the items, in order
 abbrev pub contents : List Entry → List Content
 contents [] = []
 contents (item n content ∷ entries) = content ∷ contents entries
 contents (malformed kind n ∷ entries) = contents entries
 contents (read_fault n ∷ entries) = contents entries
 
--- none of these is a pair with the key
+-- None of these is a pair with the key.
 abbrev pub HoldNoPair : List ℕ → List Content → Type 0
 HoldNoPair key [] = Unit {0}
 HoldNoPair key (comment text ∷ cs) = HoldNoPair key cs
 HoldNoPair key (pair k v ∷ cs) = (k ≢ key) × HoldNoPair key cs
 
--- The last pair with the key has this value instead of its old one, and all else is the same.
+-- The last pair with the key has this value instead of its old one, and all other contents are unchanged.
 pub record IsLastChanged (key value : List ℕ) (old new : List Content) : Type 0 where
   pub before : List Content
   pub old_value : List ℕ
@@ -31,57 +31,60 @@ pub record IsLastChanged (key value : List ℕ) (old new : List Content) : Type 
   pub no_later : HoldNoPair key after
   pub now : new ≡ before ++ pair key value ∷ after
 
--- The key is set: its last pair is changed, or where it has none there is a new last pair.
+-- The key is set: the last pair with it has the new value; or, if no pair has the key, there is a new last pair.
 abbrev pub IsSetIn : List ℕ → List ℕ → List Content → List Content → Type 0
 IsSetIn key value old new = IsLastChanged key value old new ⊎ HoldNoPair key old × (new ≡ old ++ pair key value ∷ [])
 
--- The key is removed: its pairs are left out, and all else is the same.
+-- The key is removed: every pair with it is left out, and all other contents are unchanged.
 abbrev pub IsRemovedIn : List ℕ → List Content → List Content → Type 0
 IsRemovedIn key [] new = new ≡ []
 IsRemovedIn key (comment text ∷ cs) new = (more : List Content) × (new ≡ comment text ∷ more) × IsRemovedIn key cs more
 IsRemovedIn key (pair k v ∷ cs) new =
     (k ≡ key) × IsRemovedIn key cs new ⊎ (k ≢ key) × (more : List Content) × (new ≡ pair k v ∷ more) × IsRemovedIn key cs more
 
--- an edit, and edits in turn
+-- the contents after one edit, and after several edits in order
 abbrev pub IsEditedIn : Edit → List Content → List Content → Type 0
 IsEditedIn (put key value) old new = IsSetIn key value old new
 IsEditedIn (remove key) old new = IsRemovedIn key old new
+IsEditedIn (set_value key value) old new = IsSetIn key value old new
 
 abbrev pub AreEditedIn : List Edit → List Content → List Content → Type 0
 AreEditedIn [] old new = new ≡ old
 AreEditedIn (edit ∷ edits) old new = (next : List Content) × IsEditedIn edit old next × AreEditedIn edits next new
 
--- ---- and to its map
+-- ---- The map.
 
 -- the map with a key set or removed
 abbrev pub map_edited : Edit → (List ℕ → Option (List ℕ)) → List ℕ → Option (List ℕ)
 map_edited (put key value) value_at k = if bytes_eq k key then Some value else value_at k
 map_edited (remove key) value_at k = if bytes_eq k key then None else value_at k
+map_edited (set_value key value) value_at k = if bytes_eq k key then Some value else value_at k
 
--- and after edits in turn
+-- the map after these edits, in order
 abbrev pub map_after : List Edit → (List ℕ → Option (List ℕ)) → List ℕ → Option (List ℕ)
 map_after [] value_at k = value_at k
 map_after (edit ∷ edits) value_at k = map_after edits (map_edited edit value_at) k
 
--- ---- What is promised of a result.
+-- ---- What is guaranteed of a result.
 
--- Read as entries, a result has no malformed one, says what was said before with this edit, and has the map that was with this change.
+-- The result has no malformed entry. Its contents are those of the source with this edit, and its map is the source's
+-- map with this change.
 pub record IsReadAfter (IsEdit : List Content → List Content → Type 0) (change : (List ℕ → Option (List ℕ)) → List ℕ → Option (List ℕ)) (old new : List Entry) : Type 0 where
   pub readable : AreItems new
   pub said : IsEdit (contents old) (contents new)
   pub mapped : (value_at : List ℕ → Option (List ℕ)) → IsMap old value_at → IsMap new (change value_at)
 
--- read in the same encoding, the result is so to the source
+-- Read in the same encoding, the result relates to the source as `IsReadAfter` says.
 abbrev pub ReadsAfter :
     (List Content → List Content → Type 0) → ((List ℕ → Option (List ℕ)) → List ℕ → Option (List ℕ)) → Encoding → List ℕ → List ℕ → Type 0
 ReadsAfter IsEdit change e source result = (old new : List Entry) → IsItems e source end old → IsItems e result end new → IsReadAfter IsEdit change old new
 
--- the bytes of these groups stand here in order, with other bytes between them or none
+-- The bytes of these groups are found in `bytes` in order, possibly with other bytes before, between and after them.
 abbrev pub StandIn : List (List HeldLine) → List ℕ → Type 0
 StandIn [] bytes = Unit {0}
 StandIn (g ∷ gs) bytes = (front : List ℕ) × (back : List ℕ) × (bytes ≡ front ++ (group_bytes g ++ back)) × StandIn gs back
 
--- the groups other than the last pair with the key
+-- these are the groups except the last pair with the key
 abbrev pub AreOthersThanLast : List ℕ → List (List HeldLine) → List (List HeldLine) → Type 0
 AreOthersThanLast key groups others =
     NoneHasKey key groups × (others ≡ groups)
@@ -89,13 +92,13 @@ AreOthersThanLast key groups others =
     × NoneHasKey key after
     × (others ≡ before ++ after)
 
--- the groups other than the pairs with the key
+-- these are the groups except the pairs with the key
 abbrev pub AreOthers : List ℕ → List (List HeldLine) → List (List HeldLine) → Type 0
 AreOthers key [] others = others ≡ []
 AreOthers key (g ∷ gs) others =
     HasKey key g × AreOthers key gs others ⊎ ¬ (HasKey key g) × (more : List (List HeldLine)) × (others ≡ g ∷ more) × AreOthers key gs more
 
--- such groups of the source stand in the result
+-- The bytes of such groups of the source are in the result, in order.
 abbrev pub KeepsOthers : (List (List HeldLine) → List (List HeldLine) → Type 0) → Encoding → List ℕ → List ℕ → Type 0
 KeepsOthers Others e source result =
     (groups : List (List HeldLine)) × (others : List (List HeldLine)) × AreGroupsOf (byte_order_mark e source).encoding (byte_order_mark e source).body groups

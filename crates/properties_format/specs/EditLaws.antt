@@ -1,4 +1,4 @@
--- The laws of edits on which a caller relies.
+-- The laws of edits that callers rely on.
 -- Source: java.util.Properties of Java SE 7, setProperty and load (a later pair takes the place of an earlier one).
 use Rattle.std.specs.Prelude.{◌≡◌, ◌≢◌, ◌↔◌, All, ℕ, List, [], ◌∷◌, ◌++◌, Option, Some, None}
 use Rattle.properties_format.specs.Text.{scalar}
@@ -7,7 +7,8 @@ use Rattle.properties_format.specs.Lines.{end}
 use Rattle.properties_format.specs.Entries.{Entry}
 use Rattle.properties_format.specs.Items.{IsItems}
 use Rattle.properties_format.specs.Maps.{HasNoPair, IsMap, HasValue}
-use Rattle.properties_format.specs.Edited.{Edit, put, remove, AreScalarEdits, EditResult, edited, ItemsAre, IsSetKeyResult, IsRemoveKeyResult, IsEditAllResult}
+use Rattle.properties_format.specs.Edited.{EditResult, edited, ItemsAre, IsSetKeyResult, IsRemoveKeyResult}
+use Rattle.properties_format.specs.Edits.{Edit, put, remove, set_value, AreScalarEdits, IsEditAllResult}
 use Rattle.properties_format.specs.Valued.{IsSetValueResult}
 
 -- ---- One key.
@@ -18,27 +19,28 @@ RemovingNoPairChangesNothing e source key =
     (entries : List Entry) → IsItems e source end entries → HasNoPair key entries
     → (result : List ℕ) → IsRemoveKeyResult e source key (edited result) → result ≡ source
 
--- Setting a key twice is setting it once, to the later value: the second call has the results that it has on the source.
+-- Setting a key twice equals setting it once, to the later value: the second call has the same results as on the
+-- source.
 abbrev pub SettingTwiceIsSettingOnce : Encoding → List ℕ → List ℕ → List ℕ → List ℕ → Type 0
 SettingTwiceIsSettingOnce e source key first second =
     All scalar key → All scalar first → All scalar second → (between : List ℕ) → IsSetKeyResult e source key first (edited between)
     → (result : EditResult) → IsSetKeyResult e between key second result ↔ IsSetKeyResult e source key second result
 
--- read in this encoding, the bytes have this map
+-- Read in this encoding, the bytes have this map.
 abbrev pub HasMap : Encoding → List ℕ → (List ℕ → Option (List ℕ)) → Type 0
 HasMap e bytes value_at = ItemsAre e bytes (λ entries. IsMap entries value_at)
 
--- the second map gives the key this value, and every other key what the first gives it
+-- The second map gives this value for the key, and for every other key the same value as the first map.
 abbrev pub DiffersAt : List ℕ → Option (List ℕ) → (List ℕ → Option (List ℕ)) → (List ℕ → Option (List ℕ)) → Type 0
 DiffersAt key value old new = (new key ≡ value) × ((other : List ℕ) → other ≢ key → new other ≡ old other)
 
--- After a key is set, the map of the result has the value for it, and for every other key what the source's map has.
+-- After a key is set, the result's map has the value for it, and for every other key what the source's map has.
 abbrev pub SettingGivesTheValue : Encoding → List ℕ → List ℕ → List ℕ → Type 0
 SettingGivesTheValue e source key value =
     All scalar key → All scalar value → (result : List ℕ) → IsSetKeyResult e source key value (edited result)
     → (old new : List ℕ → Option (List ℕ)) → HasMap e source old → HasMap e result new → DiffersAt key (Some value) old new
 
--- After a key is removed, the map of the result has no value for it, and for every other key what the source's map has.
+-- After a key is removed, the result's map has no value for it, and for every other key what the source's map has.
 abbrev pub RemovingTakesTheValue : Encoding → List ℕ → List ℕ → Type 0
 RemovingTakesTheValue e source key =
     (result : List ℕ) → IsRemoveKeyResult e source key (edited result) → (old new : List ℕ → Option (List ℕ)) → HasMap e source old → HasMap e result new
@@ -46,25 +48,25 @@ RemovingTakesTheValue e source key =
 
 -- ---- One value.
 
--- Setting the value that a key has already changes no byte.
+-- Setting a key to the value that it already has changes no byte.
 abbrev pub SettingItsOwnValueChangesNothing : Encoding → List ℕ → List ℕ → List ℕ → Type 0
 SettingItsOwnValueChangesNothing e source key value =
     HasValue e source key (Some value) → (result : List ℕ) → IsSetValueResult e source key value (edited result) → result ≡ source
 
--- Setting a value twice is setting it once, to the later value, where the source doesn't have that one already.
+-- Setting a value twice equals setting it once, to the later value, if the source doesn't have that value already.
 abbrev pub SettingAValueTwiceIsSettingItOnce : Encoding → List ℕ → List ℕ → List ℕ → List ℕ → Type 0
 SettingAValueTwiceIsSettingItOnce e source key first second =
     All scalar key → All scalar first → All scalar second → ¬ (HasValue e source key (Some second))
     → (between : List ℕ) → IsSetValueResult e source key first (edited between)
     → (result : EditResult) → IsSetValueResult e between key second result ↔ IsSetValueResult e source key second result
 
--- Setting a value again changes no byte.
+-- Setting a value a second time changes no byte.
 abbrev pub SettingAValueAgainChangesNothing : Encoding → List ℕ → List ℕ → List ℕ → Type 0
 SettingAValueAgainChangesNothing e source key value =
     All scalar key → All scalar value → (between : List ℕ) → IsSetValueResult e source key value (edited between)
     → IsSetValueResult e between key value (edited between)
 
--- After a value is set, the map of the result has it for the key, and for every other key what the source's map has.
+-- After a value is set, the result's map has it for the key, and for every other key what the source's map has.
 abbrev pub SettingAValueGivesIt : Encoding → List ℕ → List ℕ → List ℕ → Type 0
 SettingAValueGivesIt e source key value =
     All scalar key → All scalar value → (result : List ℕ) → IsSetValueResult e source key value (edited result)
@@ -72,17 +74,19 @@ SettingAValueGivesIt e source key value =
 
 -- ---- Lists of edits.
 
--- No edits change no byte.
+-- An empty list of edits changes no byte.
 abbrev pub NoEditsChangeNothing : Encoding → List ℕ → Type 0
 NoEditsChangeNothing e source = (result : List ℕ) → IsEditAllResult e source [] (edited result) → result ≡ source
 
--- A list of one edit has the results of the call for that edit.
+-- A list of one edit has the same results as the call for that edit.
 abbrev pub OneEditIsItsCall : Encoding → List ℕ → Edit → Type 0
 OneEditIsItsCall e source (put key value) =
     (result : EditResult) → IsEditAllResult e source (put key value ∷ []) result ↔ IsSetKeyResult e source key value result
 OneEditIsItsCall e source (remove key) = (result : EditResult) → IsEditAllResult e source (remove key ∷ []) result ↔ IsRemoveKeyResult e source key result
+OneEditIsItsCall e source (set_value key value) =
+    (result : EditResult) → IsEditAllResult e source (set_value key value ∷ []) result ↔ IsSetValueResult e source key value result
 
--- A list of edits and then another are the second on what the first gave.
+-- Two lists of edits, joined into one, have the same results as the second list on the result of the first.
 abbrev pub ListsOfEditsFollow : Encoding → List ℕ → List Edit → List Edit → Type 0
 ListsOfEditsFollow e source first second =
     AreScalarEdits first → (between : List ℕ) → IsEditAllResult e source first (edited between)

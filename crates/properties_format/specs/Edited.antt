@@ -1,7 +1,7 @@
 -- A source with a key set or removed: which of its bytes are replaced or left out, which are added, and which stand as they were.
 -- Source: java.util.Properties of Java SE 7, load (a later pair takes the place of an earlier one) and store (how a pair is written).
-use Rattle.std.specs.Prelude.{◌≡◌, ◌⊎◌, All, ℕ, ◌&&◌, not, Bool, true, false, if◌then◌else◌, List, [], ◌∷◌, ◌++◌}
-use Rattle.properties_format.specs.Text.{scalar, line_feed, equals_sign, lf, cr, line_ending_text}
+use Rattle.std.specs.Prelude.{◌≡◌, ◌⊎◌, ℕ, ◌&&◌, not, Bool, true, false, if◌then◌else◌, List, [], ◌∷◌, ◌++◌}
+use Rattle.properties_format.specs.Text.{line_feed, equals_sign, lf, cr, line_ending_text}
 use Rattle.properties_format.specs.Encoding.{Encoding, windows_1252, utf_8, utf_16le, utf_16be, byte_order_mark, begins_with, begins_like_bom, utf_8_bom, utf_16be_bom, utf_16le_bom}
 use Rattle.properties_format.specs.Lines.{end, ends_in_cr}
 use Rattle.properties_format.specs.Groups.{is_open, is_comment_line}
@@ -14,11 +14,12 @@ use Rattle.properties_format.specs.Body.{AreGroupsOf, HasKey, HeldLine, NoneHasK
 
 -- ---- A key is set.
 
--- the bytes of a pair without a line ending, with ASCII alone off; at the front of a body a key that begins like a byte order mark has its first character escaped
+-- the bytes of a pair without a line ending, with ASCII-only output off; at the front of a body, a key that begins like
+-- a byte order mark has its first character escaped
 abbrev pub pair_bytes : Encoding → Bool → List ℕ → List ℕ → List ℕ
 pair_bytes e first key value = encoded_text e (spelt_key e false first key ++ (equals_sign ∷ spelt_text e false in_key_or_value value))
 
--- The last pair with the key gives way to the printed pair, which takes over its line ending.
+-- The last pair with the key is replaced by the printed pair, which keeps the line ending.
 pub record IsReplaced (e : Encoding) (groups : List (List HeldLine)) (key value result : List ℕ) : Type 0 where
   pub before : List (List HeldLine)
   pub group : List HeldLine
@@ -34,43 +35,46 @@ final_group [] = []
 final_group (g ∷ []) = g
 final_group (g ∷ h ∷ gs) = final_group (h ∷ gs)
 
--- the group is one line without bytes
+-- whether the group is one line without bytes
 abbrev pub is_empty_line : List HeldLine → Bool
 is_empty_line [] = false
 is_empty_line (h ∷ []) = is_empty h.bytes
 is_empty_line (h ∷ i ∷ hs) = false
 
--- the last line of the group is open
+-- whether the last line of the group is open
 abbrev pub is_last_open : List HeldLine → Bool
 is_last_open [] = false
 is_last_open (h ∷ []) = is_open h.text
 is_last_open (h ∷ i ∷ hs) = is_last_open (i ∷ hs)
 
--- the group begins with no comment line, and its last line is open, so that a line after it would be joined to it
+-- whether the group doesn't begin with a comment line and its last line is open, so that a line after it would continue
+-- it
 abbrev pub is_left_open : List HeldLine → Bool
 is_left_open [] = false
 is_left_open (h ∷ hs) = not (is_comment_line h.text) && is_last_open (h ∷ hs)
 
--- a line ending that is added: a CR where the source ends in one, so that the two are two ends, and else an LF
+-- the line ending that is added: a CR if the source ends in one, so that there are two ends; otherwise an LF
 abbrev pub added_ending : List ℕ → List ℕ
 added_ending source = line_ending_text (if ends_in_cr source then cr else lf)
 
--- what parts a pair from this last group before it: nothing, one line ending, or the two that close a group that is left open
+-- what separates the appended pair from the last group: nothing, one line ending, or two, which also end a group that
+-- is left open
 abbrev pub parting : List ℕ → List HeldLine → List ℕ
 parting source group = if is_empty_line group then [] else (if is_left_open group then added_ending source ++ added_ending source else added_ending source)
 
--- No pair has the key, and the printed pair stands at the end, with an LF.
+-- No pair has the key, and the printed pair is appended at the end, with an LF.
 pub record IsAppended (e : Encoding) (source : List ℕ) (groups : List (List HeldLine)) (key value result : List ℕ) : Type 0 where
   pub no_pair : NoneHasKey key groups
   pub bytes : let front : List ℕ = groups_bytes groups ++ parting source (final_group groups) in result ≡ front ++ (pair_bytes e (is_empty front) key value ++ line_feed ∷ [])
 
--- the byte order mark that the bytes begin with, if there is one
+-- the byte order mark at the front of the bytes, or nothing if there is none
 abbrev pub bom_of : List ℕ → List ℕ
 bom_of b =
     if begins_with utf_8_bom b then utf_8_bom
     else (if begins_with utf_16be_bom b then utf_16be_bom else (if begins_with utf_16le_bom b then utf_16le_bom else []))
 
--- The result is the source with the key set to the value: the byte order mark stays, and in the body the last pair is replaced or a new one appended.
+-- The result is the source with the key set to the value: the byte order mark stays, and in the body the last pair with
+-- the key is replaced, or a new pair is appended if no pair has the key.
 pub record IsKeySet (e : Encoding) (source key value result : List ℕ) : Type 0 where
   pub groups : List (List HeldLine)
   pub held : AreGroupsOf (byte_order_mark e source).encoding (byte_order_mark e source).body groups
@@ -80,17 +84,18 @@ pub record IsKeySet (e : Encoding) (source key value result : List ℕ) : Type 0
 
 -- ---- A key is removed.
 
--- the bytes of the groups that are no pair with the key, in order
+-- the bytes of the groups that aren't pairs with the key, in order
 abbrev pub IsWithout : List ℕ → List (List HeldLine) → List ℕ → Type 0
 IsWithout key [] rest = rest ≡ []
 IsWithout key (g ∷ gs) rest =
     HasKey key g × IsWithout key gs rest ⊎ ¬ (HasKey key g) × (more : List ℕ) × (rest ≡ group_bytes g ++ more) × IsWithout key gs more
 
--- an LF, where without it the rest would begin like a byte order mark that the source has not
+-- an LF, if the rest would begin like a byte order mark and the source doesn't; otherwise nothing
 abbrev pub guarding_lf : List ℕ → List ℕ → List ℕ
 guarding_lf source rest = if not (begins_like_bom source) && begins_like_bom rest then line_feed ∷ [] else []
 
--- The result is the source without the key: the byte order mark stays, and in the body every group that is no pair with the key.
+-- The result is the source without the key: the byte order mark and every group that isn't a pair with the key. An LF
+-- comes before the groups if they would begin like a byte order mark and the source doesn't.
 pub record IsKeyRemoved (e : Encoding) (source key result : List ℕ) : Type 0 where
   pub groups : List (List HeldLine)
   pub held : AreGroupsOf (byte_order_mark e source).encoding (byte_order_mark e source).body groups
@@ -98,71 +103,43 @@ pub record IsKeyRemoved (e : Encoding) (source key result : List ℕ) : Type 0 w
   pub without : IsWithout key groups rest
   pub whole : result ≡ bom_of source ++ (guarding_lf source rest ++ rest)
 
--- ---- Edits in turn.
+-- ---- Which sources can be edited.
 
--- an edit: a key to set and its value, or a key to remove
-pub data Edit : Type 0 where
-  put : List ℕ → List ℕ → Edit
-  remove : List ℕ → Edit
-
--- the result is the source after this edit
-abbrev pub IsEdited : Encoding → List ℕ → Edit → List ℕ → Type 0
-IsEdited e source (put key value) result = IsKeySet e source key value result
-IsEdited e source (remove key) result = IsKeyRemoved e source key result
-
--- the result is the source after these edits, each made to what the one before it gave
-abbrev pub AreEdited : Encoding → List ℕ → List Edit → List ℕ → Type 0
-AreEdited e source [] result = result ≡ source
-AreEdited e source (edit ∷ edits) result = (next : List ℕ) × IsEdited e source edit next × AreEdited e next edits result
-
--- the texts that an edit puts in are of scalar values
-abbrev pub IsScalarEdit : Edit → Type 0
-IsScalarEdit (put key value) = All scalar key × All scalar value
-IsScalarEdit (remove key) = Unit {0}
-
--- the texts that these edits put in are of scalar values
-abbrev pub AreScalarEdits : List Edit → Type 0
-AreScalarEdits [] = Unit {0}
-AreScalarEdits (edit ∷ edits) = IsScalarEdit edit × AreScalarEdits edits
-
--- ---- Which sources are edited.
-
--- What an editor returns: the edited bytes; that the encoding in force is not one that it writes; or the first fault of the source, with its line.
+-- What an editor returns: the edited bytes; that the encoding in force can't be written; or the first malformed escape
+-- of the source, with its line number.
 pub data EditResult : Type 0 where
   edited : List ℕ → EditResult
   unsupported : EditResult
   unreadable : Malformed → ℕ → EditResult
 
--- the encodings that are edited
+-- whether the encoding can be edited
 abbrev pub is_editable : Encoding → Bool
 is_editable windows_1252 = true
 is_editable utf_8 = true
 is_editable utf_16le = false
 is_editable utf_16be = false
 
--- the first malformed entry is of this kind and names this line
+-- The first malformed entry is of this kind and has this line number.
 abbrev pub IsFirstMalformed : Malformed → ℕ → List Entry → Type 0
 IsFirstMalformed kind n [] = ⊥
 IsFirstMalformed kind n (item m content ∷ entries) = IsFirstMalformed kind n entries
 IsFirstMalformed kind n (malformed other m ∷ entries) = (other ≡ kind) × (m ≡ n)
 IsFirstMalformed kind n (read_fault m ∷ entries) = IsFirstMalformed kind n entries
 
--- the items of the source, to its end, are such
+-- The entries of the source, read to its end, have this property.
 abbrev pub ItemsAre : Encoding → List ℕ → (List Entry → Type 0) → Type 0
 ItemsAre e source Such = (entries : List Entry) × IsItems e source end entries × Such entries
 
--- The result of an edit that makes such bytes of the source: whether the encoding can be edited comes first, and then the source's first fault.
+-- The result of an edit that makes such bytes of the source. The encoding is tested first: if it can't be edited, the
+-- result is `unsupported`. Otherwise the result is the first malformed entry, or the edited bytes if there is none.
 abbrev pub IsEditResult : Encoding → List ℕ → (List ℕ → Type 0) → EditResult → Type 0
 IsEditResult e source Makes unsupported = is_editable (byte_order_mark e source).encoding ≡ false
 IsEditResult e source Makes (unreadable kind n) = (is_editable (byte_order_mark e source).encoding ≡ true) × ItemsAre e source (IsFirstMalformed kind n)
 IsEditResult e source Makes (edited result) = (is_editable (byte_order_mark e source).encoding ≡ true) × ItemsAre e source AreItems × Makes result
 
--- the results of the three editors
+-- the results of the two editors
 abbrev pub IsSetKeyResult : Encoding → List ℕ → List ℕ → List ℕ → EditResult → Type 0
 IsSetKeyResult e source key value result = IsEditResult e source (IsKeySet e source key value) result
 
 abbrev pub IsRemoveKeyResult : Encoding → List ℕ → List ℕ → EditResult → Type 0
 IsRemoveKeyResult e source key result = IsEditResult e source (IsKeyRemoved e source key) result
-
-abbrev pub IsEditAllResult : Encoding → List ℕ → List Edit → EditResult → Type 0
-IsEditAllResult e source edits result = IsEditResult e source (AreEdited e source edits) result

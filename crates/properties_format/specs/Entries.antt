@@ -1,31 +1,32 @@
--- What a reading gives: its items, with the line that each stands on.
+-- The result of reading an input: its items, each with its line number.
 -- Source: java.util.Properties of Java SE 7, load.
 use Rattle.std.specs.Prelude.{ℕ, ◌<◌, List, [], ◌∷◌}
 use Rattle.properties_format.specs.Escapes.{Malformed}
 
--- what a line says: the text of a comment, or a key and its value
+-- the content of a line: the text of a comment, or a key and its value
 pub data Content : Type 0 where
   comment : List ℕ → Content
   pair : List ℕ → List ℕ → Content
 
--- an item, with the number of its first line; a text whose escapes are malformed, with that number; or a read that failed, with the number of the line that it cut
+-- an item, with the number of its first line; a malformed escape, with the number of the first line; or a failed read,
+-- with the number of the line in which it failed
 pub data Entry : Type 0 where
   item : ℕ → Content → Entry
   malformed : Malformed → ℕ → Entry
   read_fault : ℕ → Entry
 
--- the number of the line that an entry names
+-- the line number of an entry
 abbrev pub number_of : Entry → ℕ
 number_of (item number content) = number
 number_of (malformed kind number) = number
 number_of (read_fault number) = number
 
--- The numbers of the entries are above this one, and each is above the one before it.
+-- The line numbers of the entries ascend, and all are above this one.
 abbrev pub NumbersAscend : ℕ → List Entry → Type 0
 NumbersAscend n [] = Unit {0}
 NumbersAscend n (entry ∷ entries) = (n < number_of entry) × NumbersAscend (number_of entry) entries
 
--- All of them are items: no escapes are malformed, and no read failed.
+-- All entries are items: no escape is malformed, and no read failed.
 abbrev pub AreItems : List Entry → Type 0
 AreItems [] = Unit {0}
 AreItems (item number content ∷ entries) = AreItems entries

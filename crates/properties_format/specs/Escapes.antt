@@ -1,17 +1,19 @@
--- What a key, a value or a comment's text means: it is a concatenation of spellings, each of one character.
+-- What a key, a value or a comment's text means. A text is a concatenation of spellings, each of which is one
+-- character.
 -- Source: java.util.Properties of Java SE 7, load.
 use Rattle.std.specs.Prelude.{◌≡◌, ◌==◌, ℕ, true, false, if◌then◌else◌, List, [], ◌∷◌, ◌++◌, map}
 pub use Rattle.properties_format.specs.Hexadecimal.{is_hexadecimal, hexadecimal_value, Four, four_text, are_hexadecimal, code_unit}
 pub use Rattle.properties_format.specs.Surrogates.{is_high, is_low, is_surrogate, pair_character}
 use Rattle.properties_format.specs.Text.{tab, line_feed, form_feed, carriage_return, backslash}
 
--- How a text can fail to have a meaning: what stands after a `\u` is too short, is not hexadecimal, or is a surrogate without its other half.
+-- Why a text has no meaning: too few characters follow a `\u`, they aren't all hexadecimal digits, or they are a
+-- surrogate without its other half.
 pub data Malformed : Type 0 where
   not_enough_digits : Malformed
   not_hex : Malformed
   invalid_character : Malformed
 
--- the letters t, n, f, r and u, which mean something after a backslash
+-- the letters t, n, f, r and u, which have a special meaning after a backslash
 abbrev pub letter_t : ℕ
 letter_t = 0x74
 
@@ -27,13 +29,15 @@ letter_r = 0x72
 abbrev pub letter_u : ℕ
 letter_u = 0x75
 
--- the character that a backslash and this one stand for: a tab, a line feed, a form feed, a carriage return, else this one itself
+-- the character that a backslash and this character mean: a tab, a line feed, a form feed, a carriage return, or
+-- otherwise the character itself
 abbrev pub escaped_character : ℕ → ℕ
 escaped_character c =
     if c == letter_t then tab
     else (if c == letter_n then line_feed else (if c == letter_f then form_feed else (if c == letter_r then carriage_return else c)))
 
--- How a character is spelt: as itself; by a backslash and a character; by one `\u` escape; by two, of a high and a low surrogate; by a backslash that stands last.
+-- How a character is spelt: as itself; as a backslash and a character; as one `\u` escape; as two `\u` escapes, of a
+-- high and a low surrogate; or as a backslash at the end of the text.
 pub data Spelling : Type 0 where
   itself : ℕ → Spelling
   escaped : ℕ → Spelling
@@ -49,7 +53,7 @@ spelling_text (unicode d) = backslash ∷ letter_u ∷ four_text d
 spelling_text (surrogates high low) = (backslash ∷ letter_u ∷ four_text high) ++ (backslash ∷ letter_u ∷ four_text low)
 spelling_text last = backslash ∷ []
 
--- the character of a spelling. A backslash that stands last is U+0000
+-- the character of a spelling; a backslash at the end of the text is U+0000
 abbrev pub spelt_character : Spelling → ℕ
 spelt_character (itself c) = c
 spelt_character (escaped c) = escaped_character c
@@ -57,7 +61,7 @@ spelt_character (unicode d) = code_unit d
 spelt_character (surrogates high low) = pair_character (code_unit high) (code_unit low)
 spelt_character last = 0
 
--- The spelling may stand before this rest of the text.
+-- The spelling may come before this rest of the text.
 abbrev pub IsSpelling : Spelling → List ℕ → Type 0
 IsSpelling (itself c) rest = (c == backslash) ≡ false
 IsSpelling (escaped c) rest = (c == letter_u) ≡ false
@@ -66,33 +70,33 @@ IsSpelling (surrogates high low) rest =
     (are_hexadecimal high ≡ true) × (is_high (code_unit high) ≡ true) × (are_hexadecimal low ≡ true) × (is_low (code_unit low) ≡ true)
 IsSpelling last rest = rest ≡ []
 
--- the texts of the spellings put together, and then the rest of the text
+-- the texts of the spellings, one after another, and then the rest of the text
 abbrev pub spelt_before : List Spelling → List ℕ → List ℕ
 spelt_before [] rest = rest
 spelt_before (p ∷ ps) rest = spelling_text p ++ spelt_before ps rest
 
--- each spelling may stand before what follows it
+-- Each spelling may come before what follows it.
 abbrev pub AreSpellings : List Spelling → List ℕ → Type 0
 AreSpellings [] rest = Unit {0}
 AreSpellings (p ∷ ps) rest = IsSpelling p (spelt_before ps rest) × AreSpellings ps rest
 
--- The text is a concatenation of spellings, and means their characters.
+-- The text is a concatenation of spellings, and it means their characters.
 pub record Means (text meant : List ℕ) : Type 0 where
   pub spellings : List Spelling
   pub whole : text ≡ spelt_before spellings []
   pub each : AreSpellings spellings []
   pub characters : meant ≡ map spelt_character spellings
 
--- no spelling begins the text
+-- The text begins with no spelling.
 abbrev pub NoSpelling : List ℕ → Type 0
 NoSpelling text = (p : Spelling) (rest : List ℕ) → text ≡ spelling_text p ++ rest → IsSpelling p rest → ⊥
 
--- what is wrong with a text after a `\u` that no spelling begins
+-- how a text is malformed that begins with a `\u` and no spelling, given what follows the `\u`
 abbrev pub malformed_by : List ℕ → Malformed
 malformed_by (a ∷ b ∷ c ∷ d ∷ rest) = if are_hexadecimal record { first = a; second = b; third = c; fourth = d } then invalid_character else not_hex
 malformed_by _ = not_enough_digits
 
--- The text is a concatenation of spellings, and then a `\u` which begins no spelling.
+-- The text is a concatenation of spellings followed by a `\u` that begins no spelling.
 pub record Breaks (text : List ℕ) (kind : Malformed) : Type 0 where
   pub spellings : List Spelling
   pub after : List ℕ
@@ -101,12 +105,12 @@ pub record Breaks (text : List ℕ) (kind : Malformed) : Type 0 where
   pub no_spelling : NoSpelling (backslash ∷ letter_u ∷ after)
   pub fault : kind ≡ malformed_by after
 
--- What a text comes to: the text that it means, or the way in which it breaks.
+-- What a text resolves to: the text that it means, or how it is malformed.
 pub data Meaning : Type 0 where
   means : List ℕ → Meaning
   breaks : Malformed → Meaning
 
--- the text comes to this
+-- The text resolves to this.
 abbrev pub IsMeaning : List ℕ → Meaning → Type 0
 IsMeaning text (means meant) = Means text meant
 IsMeaning text (breaks kind) = Breaks text kind

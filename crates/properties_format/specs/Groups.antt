@@ -1,53 +1,54 @@
--- The groups of natural lines that make one logical line each.
--- Source: java.util.Properties of Java SE 7, load: a logical line may be spread out across several adjacent natural lines, where a backslash escapes the line terminator;
--- a comment line can not be extended so.
+-- The groups of natural lines, each of which makes one logical line.
+-- Source: java.util.Properties of Java SE 7, load: a logical line may be spread out across several adjacent natural
+-- lines, where a backslash escapes the line terminator; a comment line can not be extended so.
 use Rattle.std.specs.Prelude.{◌≡◌, ℕ, suc, ◌%◌, ◌==◌, ◌⊎◌, Bool, true, false, if◌then◌else◌, List, [], ◌∷◌, ◌++◌, reverse}
 use Rattle.properties_format.specs.Text.{backslash, is_comment_sign, without_leading_blanks}
 use Rattle.properties_format.specs.Lines.{Line, InputEnd, end, fault, more}
 
--- how many backslashes the text begins with
+-- the number of backslashes at the front of the text
 abbrev pub leading_backslashes : List ℕ → ℕ
 leading_backslashes [] = 0
 leading_backslashes (c ∷ cs) = if c == backslash then suc (leading_backslashes cs) else 0
 
--- how many backslashes the text ends in
+-- the number of backslashes at the end of the text
 abbrev pub ending_backslashes : List ℕ → ℕ
 ending_backslashes x = leading_backslashes (reverse x)
 
--- The line is open: it ends in an odd number of backslashes.
+-- whether the line is open: it ends in an odd number of backslashes
 abbrev pub is_open : List ℕ → Bool
 is_open x = ending_backslashes x % 2 == 1
 
--- the first character is a comment sign
+-- whether the first character is a comment sign
 abbrev pub begins_with_comment_sign : List ℕ → Bool
 begins_with_comment_sign [] = false
 begins_with_comment_sign (c ∷ cs) = is_comment_sign c
 
--- The line is a comment line: its first character that is no blank is a comment sign.
+-- whether the line is a comment line: its first character that isn't a blank is a comment sign
 abbrev pub is_comment_line : List ℕ → Bool
 is_comment_line x = begins_with_comment_sign (without_leading_blanks x)
 
--- all but the last line are open, and the last is not
+-- All lines but the last are open, and the last isn't.
 abbrev pub EndsClosed : Line → List Line → Type 0
 EndsClosed l [] = is_open l.text ≡ false
 EndsClosed l (m ∷ ms) = (is_open l.text ≡ true) × EndsClosed m ms
 
--- all lines are open
+-- All lines are open.
 abbrev pub AreOpen : List Line → Type 0
 AreOpen [] = Unit {0}
 AreOpen (l ∷ ls) = (is_open l.text ≡ true) × AreOpen ls
 
--- A whole group is a comment line alone, or begins with another line, all but its last line are open, and the last is not.
+-- A whole group is a single comment line; or it begins with a line that isn't a comment line, all its lines but the
+-- last are open, and the last isn't.
 abbrev pub IsWhole : List Line → Type 0
 IsWhole [] = ⊥
 IsWhole (l ∷ ls) = (is_comment_line l.text ≡ true) × (ls ≡ []) ⊎ (is_comment_line l.text ≡ false) × EndsClosed l ls
 
--- each of these groups is whole
+-- Each of these groups is whole.
 abbrev pub AreWhole : List (List Line) → Type 0
 AreWhole [] = Unit {0}
 AreWhole (g ∷ gs) = IsWhole g × AreWhole gs
 
--- What is left after the whole groups: nothing, or a group that begins with no comment line and ends open.
+-- What is left after the whole groups: nothing; or lines that are all open, the first of which isn't a comment line.
 abbrev pub IsUnfinished : List Line → Type 0
 IsUnfinished [] = Unit {0}
 IsUnfinished (l ∷ ls) = (is_comment_line l.text ≡ false) × AreOpen (l ∷ ls)
@@ -57,14 +58,14 @@ abbrev pub lines_in : List (List Line) → List Line
 lines_in [] = []
 lines_in (g ∷ gs) = g ++ lines_in gs
 
--- what ends open is the last group at the end, and is left out at a fault and where more may come
+-- a group that ends open is the last group if the input ends; it is left out if a read failed or more input may come
 abbrev pub last_group : List Line → InputEnd → List (List Line)
 last_group [] ending = []
 last_group (l ∷ ls) end = (l ∷ ls) ∷ []
 last_group (l ∷ ls) fault = []
 last_group (l ∷ ls) more = []
 
--- The lines have these groups: whole ones, and perhaps a last one that ends open.
+-- The lines have these groups: whole ones, and possibly a last one that ends open.
 pub record IsGroups (lines : List Line) (ending : InputEnd) (groups : List (List Line)) : Type 0 where
   pub whole : List (List Line)
   pub unfinished : List Line
@@ -73,17 +74,17 @@ pub record IsGroups (lines : List Line) (ending : InputEnd) (groups : List (List
   pub is_unfinished : IsUnfinished unfinished
   pub are_groups : groups ≡ whole ++ last_group unfinished ending
 
--- the text less its last character
+-- the text without its last character
 abbrev pub without_last : List ℕ → List ℕ
 without_last [] = []
 without_last (c ∷ []) = []
 without_last (c ∷ d ∷ ds) = c ∷ without_last (d ∷ ds)
 
--- the line, or if it is open, the line less its last backslash
+-- the line; or, if it is open, the line without its last backslash
 abbrev pub without_open_backslash : List ℕ → List ℕ
 without_open_backslash x = if is_open x then without_last x else x
 
--- what a line adds to the lines before it: the line less its leading blanks and its open backslash
+-- what a line adds to the lines before it: the line without its leading blanks and without its open backslash
 abbrev pub addition : List ℕ → List ℕ
 addition x = without_open_backslash (without_leading_blanks x)
 
@@ -92,7 +93,7 @@ abbrev pub joined_after : List Line → List ℕ
 joined_after [] = []
 joined_after (l ∷ ls) = addition l.text ++ joined_after ls
 
--- The logical line of a group: a comment line as it stands, or the lines put together.
+-- the logical line of a group: a comment line unchanged, or the lines joined
 abbrev pub joined : List Line → List ℕ
 joined [] = []
 joined (l ∷ ls) = if is_comment_line l.text then l.text else without_open_backslash l.text ++ joined_after ls

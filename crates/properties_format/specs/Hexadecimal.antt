@@ -6,7 +6,7 @@ use Rattle.std.specs.Prelude.{ℕ, ◌+◌, ◌-◌, ◌*◌, ◌&&◌, ◌||◌
 abbrev pub is_hexadecimal : ℕ → Bool
 is_hexadecimal c = (nat_le 0x30 c && nat_le c 0x39) || ((nat_le 0x41 c && nat_le c 0x46) || (nat_le 0x61 c && nat_le c 0x66))
 
--- what a hexadecimal digit counts
+-- the value of a hexadecimal digit
 abbrev pub hexadecimal_value : ℕ → ℕ
 hexadecimal_value c = if nat_le c 0x39 then c - 0x30 else (if nat_le c 0x46 then c - 0x37 else c - 0x57)
 
@@ -17,11 +17,11 @@ pub record Four : Type 0 where
   pub third : ℕ
   pub fourth : ℕ
 
--- their text
+-- the four characters as a text
 abbrev pub four_text : Four → List ℕ
 four_text d = d.first ∷ d.second ∷ d.third ∷ d.fourth ∷ []
 
--- all four are hexadecimal digits
+-- whether all four are hexadecimal digits
 abbrev pub are_hexadecimal : Four → Bool
 are_hexadecimal d = (is_hexadecimal d.first && is_hexadecimal d.second) && (is_hexadecimal d.third && is_hexadecimal d.fourth)
 

@@ -1,4 +1,4 @@
--- The items of an input: what its bytes say, from the first line to the last, or to the first fault.
+-- The items of an input: its contents from the first line to the last, or to the first error.
 -- Source: java.util.Properties of Java SE 7, load.
 use Rattle.std.specs.Prelude.{◌≡◌, ◌⊎◌, ℕ, ◌+◌, List, [], ◌∷◌}
 use Rattle.properties_format.specs.Encoding.{Encoding, IsDecoded}
@@ -8,19 +8,19 @@ use Rattle.properties_format.specs.Split.{Logical, IsSplit}
 use Rattle.properties_format.specs.Escapes.{Malformed, Means, Breaks}
 pub use Rattle.properties_format.specs.Entries.{Content, comment, pair, Entry, item, malformed, read_fault, number_of, NumbersAscend}
 
--- what a logical line comes to: nothing, a content, or malformed escapes
+-- the outcome of a logical line: nothing, a content, or a malformed escape
 pub data Outcome : Type 0 where
   ignored : Outcome
   given : Content → Outcome
   broken : Malformed → Outcome
 
--- A comment, whose escapes mean this text.
+-- The line is a comment whose resolved text is this.
 pub record MeansComment (x text : List ℕ) : Type 0 where
   pub raw : List ℕ
   pub split : IsSplit x (Logical.comment raw)
   pub means : Means raw text
 
--- A pair, whose escapes mean this key and this value.
+-- The line is a pair whose resolved key and value are these.
 pub record MeansPair (x key value : List ℕ) : Type 0 where
   pub raw_key : List ℕ
   pub raw_value : List ℕ
@@ -28,20 +28,20 @@ pub record MeansPair (x key value : List ℕ) : Type 0 where
   pub key_means : Means raw_key key
   pub value_means : Means raw_value value
 
--- A comment whose escapes are malformed.
+-- The line is a comment with a malformed escape.
 pub record BreaksComment (x : List ℕ) (kind : Malformed) : Type 0 where
   pub raw : List ℕ
   pub split : IsSplit x (Logical.comment raw)
   pub breaks : Breaks raw kind
 
--- A pair whose key's escapes are malformed.
+-- The line is a pair with a malformed escape in its key.
 pub record BreaksKey (x : List ℕ) (kind : Malformed) : Type 0 where
   pub raw_key : List ℕ
   pub raw_value : List ℕ
   pub split : IsSplit x (Logical.pair raw_key raw_value)
   pub breaks : Breaks raw_key kind
 
--- A pair whose key means a text, and whose value's escapes are malformed.
+-- The line is a pair whose key has no malformed escape and whose value has one.
 pub record BreaksValue (x : List ℕ) (kind : Malformed) : Type 0 where
   pub raw_key : List ℕ
   pub raw_value : List ℕ
@@ -50,32 +50,35 @@ pub record BreaksValue (x : List ℕ) (kind : Malformed) : Type 0 where
   pub key_means : Means raw_key key
   pub breaks : Breaks raw_value kind
 
--- What a logical line comes to: a blank one to nothing, and any other to its texts with their escapes resolved, unless these are malformed, first in the key and then in the value.
+-- The outcome of a logical line. A blank line has none. Any other line has its texts with their escapes resolved,
+-- unless an escape is malformed; the key is tested before the value.
 abbrev pub IsOutcome : List ℕ → Outcome → Type 0
 IsOutcome x ignored = IsSplit x Logical.blank
 IsOutcome x (given (comment text)) = MeansComment x text
 IsOutcome x (given (pair key value)) = MeansPair x key value
 IsOutcome x (broken kind) = BreaksComment x kind ⊎ (BreaksKey x kind ⊎ BreaksValue x kind)
 
--- what the ending adds after n line ends: a fault is one of the line that it cut
+-- what the ending adds after n line ends: if a read failed, the error has the number of the line in which it failed
 abbrev pub last_entries : ℕ → InputEnd → List Entry
 last_entries n end = []
 last_entries n fault = read_fault (n + 1) ∷ []
 last_entries n more = []
 
--- the entries of a group's outcome and of the groups after it: malformed escapes are the last
+-- The entries of a group's outcome and of the groups after it. A malformed escape is the last entry.
 abbrev pub IsFollowed : ℕ → Outcome → (List Entry → Type 0) → List Entry → Type 0
 IsFollowed number ignored Rest entries = Rest entries
 IsFollowed number (given content) Rest entries = (rest : List Entry) × (entries ≡ item number content ∷ rest) × Rest rest
 IsFollowed number (broken kind) Rest entries = entries ≡ malformed kind number ∷ []
 
--- The entries of these groups, at this ending after n line ends: what each group comes to, under the number of its first line.
+-- The entries of these groups, with this ending after n line ends: the outcome of each group, with the number of its
+-- first line.
 abbrev pub AreEntries : ℕ → InputEnd → List (List Line) → List Entry → Type 0
 AreEntries n ending [] entries = entries ≡ last_entries n ending
 AreEntries n ending (group ∷ groups) entries =
     (outcome : Outcome) × IsOutcome (joined group) outcome × IsFollowed (first_number group) outcome (AreEntries n ending groups) entries
 
--- The items of an input in an encoding, up to this ending: it decodes to a text, the text has lines, the lines have groups, and these are their entries.
+-- The items of an input in an encoding, up to this ending: the input is decoded to a text, the text has lines, the
+-- lines have groups, and these are their entries.
 pub record IsItems (e : Encoding) (bytes : List ℕ) (ending : InputEnd) (entries : List Entry) : Type 0 where
   pub text : List ℕ
   pub lines : Lines

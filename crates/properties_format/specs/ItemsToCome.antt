@@ -1,4 +1,4 @@
--- The items that a reader still gives, where it stands between two of its calls.
+-- The items that a reader will still return, at any point between two of its calls.
 -- Source: java.util.Properties of Java SE 7, load.
 use Rattle.std.specs.Prelude.{◌≡◌, ◌≢◌, ◌⊎◌, ℕ, ◌+◌, Bool, true, false, if◌then◌else◌, List, [], ◌∷◌, ◌++◌}
 use Rattle.properties_format.specs.Text.{line_feed}
@@ -8,9 +8,9 @@ use Rattle.properties_format.specs.Lines.{InputEnd, Line, Lines, IsLines, line_e
 use Rattle.properties_format.specs.Groups.{IsGroups}
 use Rattle.properties_format.specs.Items.{Entry, AreEntries, last_entries}
 
--- Where a reader stands: the encoding in force, or the one asked for while it is not decided whether a byte order mark is at the front;
--- the bytes that were read and not taken; how many line ends were passed, and whether the last of them was a CR, whose LF may still come;
--- and whether the reader is at its end for good.
+-- The state of a reader: the encoding in force, or the requested one as long as it is undecided whether the input
+-- begins with a byte order mark; the bytes that were read and not yet taken; the number of line ends that were passed;
+-- whether the last of them was a CR, whose LF may still come; and whether the reader is permanently at its end.
 pub record ReaderState : Type 0 where
   pub encoding : Encoding
   pub is_decided : Bool
@@ -19,21 +19,21 @@ pub record ReaderState : Type 0 where
   pub after_cr : Bool
   pub is_done : Bool
 
--- the start of a reading in this encoding
+-- the state at the start of an input in this encoding
 abbrev pub start : Encoding → ReaderState
 start e = record { encoding = e; is_decided = false; held = []; passed = 0; after_cr = false; is_done = false }
 
--- the bytes that are not taken, before the bytes to come, and the encoding that they are in
+-- the bytes not yet taken and the bytes to come, and the encoding that they are in
 abbrev pub in_force : ReaderState → List ℕ → InForce
 in_force s d = if s.is_decided then record { encoding = s.encoding; body = s.held ++ d } else byte_order_mark s.encoding (s.held ++ d)
 
--- the text after a line end: where the end is a CR, an LF at the front is of that end
+-- the text after a line end: if that end is a CR, an LF at the front belongs to it
 abbrev pub IsAfterEnd : Bool → List ℕ → List ℕ → Type 0
 IsAfterEnd false x text = x ≡ text
 IsAfterEnd true x text = (x ≡ line_feed ∷ text) ⊎ (x ≡ text) × ((y : List ℕ) → text ≢ line_feed ∷ y)
 
--- The entries of the bytes that are not taken and of those to come: they have pieces, the text of these has lines, numbered on from those that were passed,
--- the lines have groups, and these are their entries.
+-- The entries of the bytes not yet taken and of the bytes to come. These bytes have pieces; the text of the pieces has
+-- lines, numbered after those that were passed; the lines have groups; and these are their entries.
 pub record AreFurtherEntries (s : ReaderState) (d : List ℕ) (ending : InputEnd) (entries : List Entry) : Type 0 where
   pub pieces : List Piece
   pub text : List ℕ
@@ -45,11 +45,12 @@ pub record AreFurtherEntries (s : ReaderState) (d : List ℕ) (ending : InputEnd
   pub grouped : IsGroups (numbered s.passed lines.ended lines.last ending) ending groups
   pub are_entries : AreEntries (s.passed + line_ends lines) ending groups entries
 
--- The items to come, where these bytes come and then this ending: none at the end for good.
+-- The items to come if these bytes come and then this ending. There are none if the reader is permanently at its end.
 abbrev pub IsItemsToCome : ReaderState → List ℕ → InputEnd → List Entry → Type 0
 IsItemsToCome s d ending entries = (s.is_done ≡ true) × (entries ≡ []) ⊎ (s.is_done ≡ false) × AreFurtherEntries s d ending entries
 
--- The natural lines of the bytes that are not taken and of those to come, numbered on from those that were passed; and what comes after all of them.
+-- The natural lines of the bytes not yet taken and of the bytes to come, numbered after those that were passed; and
+-- what follows the last of them.
 pub record AreFurtherLines (s : ReaderState) (d : List ℕ) (ending : InputEnd) (lines : List Line) (last : List Entry) : Type 0 where
   pub pieces : List Piece
   pub text : List ℕ
@@ -60,18 +61,18 @@ pub record AreFurtherLines (s : ReaderState) (d : List ℕ) (ending : InputEnd) 
   pub are_lines : lines ≡ numbered s.passed all.ended all.last ending
   pub are_last : last ≡ last_entries (s.passed + line_ends all) ending
 
--- The natural lines to come, and what comes after them: nothing at the end for good.
+-- The natural lines to come, and what follows them. There is nothing if the reader is permanently at its end.
 abbrev pub AreLinesToCome : ReaderState → List ℕ → InputEnd → List Line → List Entry → Type 0
 AreLinesToCome s d ending lines last =
     (s.is_done ≡ true) × (lines ≡ []) × (last ≡ []) ⊎ (s.is_done ≡ false) × AreFurtherLines s d ending lines last
 
--- ---- What comes of bytes that are read.
+-- ---- The effect of reading bytes.
 
--- Of these bytes this entry comes first, and then what comes from the new state on, whatever that is.
+-- If these bytes are read, this entry comes first, followed by what comes in the new state, whatever bytes follow.
 pub record ComesFirst (old : ReaderState) (bytes : List ℕ) (entry : Entry) (new : ReaderState) : Type 0 where
   pub others : (d : List ℕ) (ending : InputEnd) (entries : List Entry) → IsItemsToCome new d ending entries → IsItemsToCome old (bytes ++ d) ending (entry ∷ entries)
 
--- Of these bytes these lines come first, and then those that come from the new state on, whatever they are.
+-- If these bytes are read, these lines come first, followed by those that come in the new state, whatever bytes follow.
 pub record LinesComeFirst (old : ReaderState) (bytes : List ℕ) (lines : List Line) (new : ReaderState) : Type 0 where
   pub others : (d : List ℕ) (ending : InputEnd) (further : List Line) (last : List Entry)
       → AreLinesToCome new d ending further last → AreLinesToCome old (bytes ++ d) ending (lines ++ further) last

@@ -1,4 +1,5 @@
--- The three laws of the format: one reading, reading inverts writing, splitting commutes with decoding.
+-- The three laws of the format: every input has exactly one reading, reading inverts writing, and splitting into lines
+-- commutes with decoding.
 use Rattle.std.specs.Prelude.{◌≡◌, ◌≢◌, ◌↔◌, ℕ, true, List, [], ◌∷◌, ◌++◌, Option, Some}
 use Rattle.properties_format.specs.Text.{is_line_end}
 use Rattle.properties_format.specs.Pieces.{Piece, piece}
@@ -16,15 +17,16 @@ use Rattle.properties_format.specs.Pairs.{Pair, pairs_in, calls_of, AreAccepted,
 
 -- ---- One reading.
 
--- One value meets it, and no other does.
+-- Exactly one value meets it.
 pub record HasOne {A : Type 0} (Meets : A → Type 0) : Type 0 where
   pub value : A
   pub meets : Meets value
   pub only : (other : A) → Meets other → other ≡ value
 
--- The input, up to this ending, has one reading: its body one list of pieces, and it one text; the text one list of
--- lines; the lines one division into groups; what a group is put together to is one of blank, a comment and a pair, in
--- one way; each text of it means one text or breaks in one way; and so it has one list of items.
+-- The input, up to this ending, has exactly one reading. Its body has one list of pieces and so one text; the text has
+-- one list of lines; the lines have one division into groups; each group's logical line is a blank line, a comment or a
+-- pair, in one way; and each of its texts means one text or is malformed in one way. So the input has exactly one list
+-- of items.
 pub record HasOneReading (e : Encoding) (bytes : List ℕ) (ending : InputEnd) : Type 0 where
   pub pieces : HasOne (IsPieces (byte_order_mark e bytes).encoding (byte_order_mark e bytes).body)
   pub text : HasOne (IsDecoded e bytes)
@@ -36,53 +38,54 @@ pub record HasOneReading (e : Encoding) (bytes : List ℕ) (ending : InputEnd) :
 
 -- ---- Reading inverts writing.
 
--- Calls whose lines are read back: the encoding is one that is written, the settings before the calls are good, each
--- prefix under which a comment is written holds no backslash, and the texts are of scalar values.
+-- Calls whose lines are read back: the encoding can be written, the settings before the calls are good, each prefix
+-- under which a comment is written contains no backslash, and the texts consist of scalar values.
 pub record AreReadBack (e : Encoding) (s : Settings) (calls : List Call) : Type 0 where
   pub encoding : output_encoding e ≡ e
   pub settings : AreGoodSettings s
   pub prefixes : ArePrefixesClean s calls
   pub scalars : AreOfScalars calls
 
--- The same of pairs under one setting, each of them accepted.
+-- Pairs that are read back: the encoding can be written, the settings are good, and each pair is accepted under them
+-- and consists of scalar values.
 pub record ArePairsReadBack (e : Encoding) (s : Settings) (pairs : List Pair) : Type 0 where
   pub encoding : output_encoding e ≡ e
   pub settings : AreGoodSettings s
   pub accepted : AreAccepted s pairs
   pub scalars : ArePairsOfScalars pairs
 
--- what a list of pairs writes, where no line stands before it
+-- the bytes that a list of pairs writes, if no line was written before
 abbrev pub wrote_pairs : Encoding → Settings → List Pair → List ℕ
 wrote_pairs e s pairs = wrote e s 0 (calls_of pairs)
 
--- What calls wrote has the items that they told, and no others.
+-- What the calls wrote has exactly the items that the calls wrote.
 abbrev pub ReadingInvertsWriting : Encoding → Settings → List Call → Type 0
 ReadingInvertsWriting e s calls = AreReadBack e s calls → (entries : List Entry) → IsItems e (wrote e s 0 calls) end entries ↔ (entries ≡ items_read_back s 0 calls)
 
--- Under one setting, two lists of accepted pairs write equal bytes exactly if they are equal.
+-- Under one setting, two lists of accepted pairs write equal bytes exactly if the lists are equal.
 abbrev pub EqualBytesOfEqualPairs : Encoding → Settings → List Pair → List Pair → Type 0
 EqualBytesOfEqualPairs e s ps qs = ArePairsReadBack e s ps → ArePairsReadBack e s qs → wrote_pairs e s ps ≡ wrote_pairs e s qs ↔ (ps ≡ qs)
 
--- Reading pairs that were written, and writing them anew, changes no byte.
+-- Reading pairs that were written and writing them again changes no byte.
 abbrev pub WritingAnewChangesNothing : Encoding → Settings → List Pair → Type 0
 WritingAnewChangesNothing e s ps =
     ArePairsReadBack e s ps → (entries : List Entry) → IsItems e (wrote_pairs e s ps) end entries → wrote_pairs e s (pairs_in entries) ≡ wrote_pairs e s ps
 
--- this pair is among the pairs
+-- This pair is among the pairs.
 abbrev pub HasPair : List Pair → List ℕ → List ℕ → Type 0
 HasPair pairs key value = (before : List Pair) × (after : List Pair) × (pairs ≡ before ++ ((key, value) ∷ after))
 
--- no pair has the key
+-- No pair has the key.
 abbrev pub HasNoKey : List ℕ → List Pair → Type 0
 HasNoKey key [] = Unit {0}
 HasNoKey key (p ∷ pairs) = (p.0 ≢ key) × HasNoKey key pairs
 
--- no two pairs have one key
+-- No two pairs have the same key.
 abbrev pub AreDistinct : List Pair → Type 0
 AreDistinct [] = Unit {0}
 AreDistinct (p ∷ pairs) = HasNoKey p.0 pairs × AreDistinct pairs
 
--- The map of pairs that were written, each with a key of its own, has exactly these pairs.
+-- If each written pair has a key of its own, the map that is read has exactly these pairs.
 abbrev pub MapIsReadBack : Encoding → Settings → List Pair → Type 0
 MapIsReadBack e s ps =
     ArePairsReadBack e s ps → AreDistinct ps → (entries : List Entry) → IsItems e (wrote_pairs e s ps) end entries
@@ -94,7 +97,7 @@ MapIsReadBack e s ps =
 abbrev pub SplittingCommutes : Encoding → List ℕ → Type 0
 SplittingCommutes e bytes = (text : List ℕ) (lines : Lines) → IsDecoded e bytes text → IsByline e bytes lines ↔ IsLines text lines
 
--- A CR or an LF among the bytes of a body, where a unit may begin, parts the pieces before it from those after it.
+-- A CR or an LF at a unit's boundary in a body separates the pieces before it from those after it.
 abbrev pub LineEndsPartPieces : Encoding → List ℕ → ℕ → List ℕ → Type 0
 LineEndsPartPieces e before c after =
     is_line_end c ≡ true → IsAligned e before → (ps qs : List Piece) → IsPieces e before ps → IsPieces e after qs

@@ -26,6 +26,7 @@ pub mod Body
 pub mod Edited
 pub mod Changed
 pub mod Valued
+pub mod Edits
 pub mod Laws
 pub mod EditLaws
 pub mod Reading

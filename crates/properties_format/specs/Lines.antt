@@ -1,9 +1,10 @@
 -- The natural lines of a text.
--- Source: java.util.Properties of Java SE 7, load: a natural line is terminated by \n, by \r, by \r\n, or by the end of the stream.
+-- Source: java.util.Properties of Java SE 7, load: a natural line is terminated by \n, by \r, by \r\n, or by the end of
+-- the stream.
 use Rattle.std.specs.Prelude.{◌≡◌, ℕ, ◌+◌, ◌==◌, Bool, false, List, [], ◌∷◌, ◌++◌, length}
 use Rattle.properties_format.specs.Text.{carriage_return, is_line_end, LineEnding, lf, cr, line_ending_text}
 
--- a line with what ends it
+-- a line with its end
 pub record Ended : Type 0 where
   pub text : List ℕ
   pub by : LineEnding
@@ -13,22 +14,23 @@ pub record Lines : Type 0 where
   pub ended : List Ended
   pub last : List ℕ
 
--- the lines and their ends, put back together
+-- the lines with their ends, put back together
 abbrev pub put_together : List Ended → List ℕ → List ℕ
 put_together [] last = last
 put_together (l ∷ ls) last = l.text ++ (line_ending_text l.by ++ put_together ls last)
 
--- no character of the line ends a line
+-- No character of the line is a CR or an LF.
 abbrev pub HoldsNoLineEnd : List ℕ → Type 0
 HoldsNoLineEnd [] = Unit {0}
 HoldsNoLineEnd (c ∷ cs) = (is_line_end c ≡ false) × HoldsNoLineEnd cs
 
--- the first of these lines is not an empty one that an LF alone ends
+-- The first of these lines isn't an empty one that an LF ends.
 abbrev pub BeginsWithNoLoneLf : List Ended → Type 0
 BeginsWithNoLoneLf [] = Unit {0}
 BeginsWithNoLoneLf (l ∷ ls) = ¬ ((l.text ≡ []) × (l.by ≡ lf))
 
--- no line holds a line end; and where a CR ends a line, the next is not an empty one that an LF alone ends, since that LF would be of the same end
+-- No line contains a line end. After a line that a CR ends, the next line isn't an empty one that an LF ends, because
+-- that LF would belong to the same end.
 abbrev pub AreLines : List Ended → List ℕ → Type 0
 AreLines [] last = HoldsNoLineEnd last
 AreLines (l ∷ ls) last = HoldsNoLineEnd l.text × (l.by ≡ cr → BeginsWithNoLoneLf ls) × AreLines ls last
@@ -38,7 +40,7 @@ pub record IsLines (x : List ℕ) (lines : Lines) : Type 0 where
   pub text : x ≡ put_together lines.ended lines.last
   pub are_lines : AreLines lines.ended lines.last
 
--- how many line ends there are
+-- the number of line ends
 abbrev pub line_ends : Lines → ℕ
 line_ends lines = length lines.ended
 
@@ -46,13 +48,13 @@ line_ends lines = length lines.ended
 abbrev pub EndsInCr : List ℕ → Type 0
 EndsInCr x = (front : List ℕ) × (x ≡ front ++ carriage_return ∷ [])
 
--- whether it does
+-- whether the text ends in a CR
 abbrev pub ends_in_cr : List ℕ → Bool
 ends_in_cr [] = false
 ends_in_cr (c ∷ []) = c == carriage_return
 ends_in_cr (c ∷ d ∷ ds) = ends_in_cr (d ∷ ds)
 
--- How the input goes on: it ends, a read fails, or more of it may come.
+-- What follows the input so far: it ends, a read fails, or more of it may come.
 pub data InputEnd : Type 0 where
   end : InputEnd
   fault : InputEnd
@@ -63,7 +65,7 @@ pub record Line : Type 0 where
   pub number : ℕ
   pub text : List ℕ
 
--- the lines after n line ends, with their numbers; what nothing ends is a line only where the input ends
+-- the lines after n line ends, with their numbers; characters after the last line end are a line only if the input ends
 abbrev pub numbered : ℕ → List Ended → List ℕ → InputEnd → List Line
 numbered n [] last end = record { number = n + 1; text = last } ∷ []
 numbered n [] last fault = []

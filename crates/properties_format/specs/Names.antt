@@ -10,7 +10,7 @@ name_of utf_8 = codes "utf-8"
 name_of utf_16le = codes "utf-16le"
 name_of utf_16be = codes "utf-16be"
 
--- the encoding of this name, where it is one
+-- the encoding with this name, or `None` if there is none
 abbrev pub IsNamed : List ℕ → Option Encoding → Type 0
 IsNamed name None = (e : Encoding) → name ≡ name_of e → ⊥
 IsNamed name (Some e) = name ≡ name_of e

@@ -1,12 +1,12 @@
--- The pieces of a decoded text: bytes, and the one character that they stand for.
+-- The pieces of a decoded text: some bytes, and the one character that they decode to.
 use Rattle.std.specs.Prelude.{ℕ, List, [], ◌∷◌}
 
--- some bytes, and the character that they stand for
+-- some bytes, and the character that they decode to
 pub record Piece : Type 0 where
   pub bytes : List ℕ
   pub character : ℕ
 
--- the piece of these bytes and this character
+-- the piece with these bytes and this character
 abbrev pub piece : List ℕ → ℕ → Piece
 piece bytes character = record { bytes = bytes; character = character }
 

@@ -1,6 +1,6 @@
 -- How a line is printed: each character by itself, and the line from its parts.
--- Source: java.util.Properties of Java SE 7, store; a character that the encoding lacks is written as store writes
--- it, by `\u` and four hexadecimal digits for each of its UTF-16 units (The Unicode Standard, section 3.9, D91).
+-- Source: java.util.Properties of Java SE 7, store; a character that the encoding lacks is written as store writes it,
+-- by `\u` and four hexadecimal digits for each of its UTF-16 units (The Unicode Standard, section 3.9, D91).
 use Rattle.std.specs.Prelude.{ℕ, ◌+◌, ◌-◌, ◌/◌, ◌%◌, ◌==◌, ◌&&◌, ◌||◌, not, nat_lt, Bool, if◌then◌else◌, List, [], ◌∷◌, ◌++◌, is_some, unwrap_or}
 use Rattle.std.specs.Char.{digit_char}
 use Rattle.properties_format.specs.Text.{line_ending_text, tab, line_feed, form_feed, carriage_return, space, backslash, is_comment_sign, is_separator}
@@ -8,40 +8,40 @@ use Rattle.properties_format.specs.Encoding.{Encoding, encoded, begins_like_bom}
 use Rattle.properties_format.specs.Entries.{Content, comment, pair}
 use Rattle.properties_format.specs.Settings.{Settings}
 
--- where a character stands in a printed line
+-- which part of a printed line a character belongs to
 pub data Place : Type 0 where
   in_key_or_value : Place
   in_comment : Place
   in_prefix : Place
 
--- `\u` and the four hexadecimal digits, in lowercase, of a UTF-16 unit
+-- `\u` and the four hexadecimal digits, in lower case, of a UTF-16 unit
 abbrev pub unit_escape : ℕ → List ℕ
 unit_escape u = backslash ∷ 0x75 ∷ digit_char (u / 0x1000 % 0x10) ∷ digit_char (u / 0x100 % 0x10) ∷ digit_char (u / 0x10 % 0x10) ∷ digit_char (u % 0x10) ∷ []
 
--- the two surrogates of a character past U+FFFF
+-- the high and the low surrogate of a character above U+FFFF
 abbrev pub high_surrogate : ℕ → ℕ
 high_surrogate c = 0xd800 + (c - 0x1_0000) / 0x400
 
 abbrev pub low_surrogate : ℕ → ℕ
 low_surrogate c = 0xdc00 + (c - 0x1_0000) % 0x400
 
--- a character as one such escape, or past U+FFFF as two
+-- a character as one `\u` escape, or as two above U+FFFF
 abbrev pub unicode_escape : ℕ → List ℕ
 unicode_escape c = if nat_lt c 0x1_0000 then unit_escape c else unit_escape (high_surrogate c) ++ unit_escape (low_surrogate c)
 
--- a character may stand as itself where the encoding can encode it and, while ASCII alone is on, where it is no later than U+007F
+-- whether a character may be written unescaped: the encoding has it, and it is ASCII if ASCII-only output is on
 abbrev pub may_stand : Encoding → Bool → ℕ → Bool
 may_stand e only c = (not only || nat_lt c 0x80) && is_some (encoded e c)
 
--- as itself where it may stand, and escaped elsewhere
+-- the character unescaped if that is allowed, otherwise escaped
 abbrev pub literal : Encoding → Bool → ℕ → List ℕ
 literal e only c = if may_stand e only c then c ∷ [] else unicode_escape c
 
--- the characters with a meaning of their own in a key or a value, which take a backslash before them
+-- whether a character has a special meaning in a key or a value, and so is escaped by a backslash
 abbrev pub is_special : ℕ → Bool
 is_special c = c == backslash || (c == space || (is_separator c || is_comment_sign c))
 
--- `\t`, `\n`, `\f` and `\r`
+-- the escapes `\t`, `\n`, `\f` and `\r`
 abbrev pub letter_escape : ℕ → List ℕ
 letter_escape c =
     backslash ∷ (if c == tab then 0x74 else (if c == line_feed then 0x6e else (if c == form_feed then 0x66 else 0x72))) ∷ []
@@ -49,9 +49,9 @@ letter_escape c =
 abbrev pub has_letter : ℕ → Bool
 has_letter c = (c == tab || c == line_feed) || (c == form_feed || c == carriage_return)
 
--- How a character is printed. In a key or a value everything that would not be read back as itself is escaped; in a
--- comment the backslash and the line ends; and everywhere what may not stand as itself, by the encoding and by
--- whether ASCII alone is on.
+-- How a character is printed. In a key or a value, the characters with a special meaning and everything below the space
+-- are escaped; in a comment, the backslash and the line ends are. Everywhere, a character that the encoding lacks is
+-- escaped, and if ASCII-only output is on, so is every character above U+007F.
 abbrev pub spelt : Encoding → Bool → Place → ℕ → List ℕ
 spelt e only in_key_or_value c =
     if is_special c then backslash ∷ c ∷ [] else (if has_letter c then letter_escape c else (if nat_lt c space then unicode_escape c else literal e only c))
@@ -64,12 +64,12 @@ abbrev pub spelt_text : Encoding → Bool → Place → List ℕ → List ℕ
 spelt_text e only place [] = []
 spelt_text e only place (c ∷ cs) = spelt e only place c ++ spelt_text e only place cs
 
--- the bytes of a text of characters that the encoding can encode
+-- the bytes of a text whose characters the encoding has
 abbrev pub encoded_text : Encoding → List ℕ → List ℕ
 encoded_text e [] = []
 encoded_text e (c ∷ cs) = unwrap_or (encoded e c) [] ++ encoded_text e cs
 
--- a key whose bytes would be taken for a byte order mark, if they stood at the front of the input
+-- whether the key's bytes would be taken for a byte order mark at the front of an input
 abbrev pub is_bom_like : Encoding → Bool → List ℕ → Bool
 is_bom_like e only key = begins_like_bom (encoded_text e (spelt_text e only in_key_or_value key))
 
@@ -78,15 +78,16 @@ abbrev pub with_first_escaped : Encoding → Bool → List ℕ → List ℕ
 with_first_escaped e only [] = []
 with_first_escaped e only (c ∷ cs) = unicode_escape c ++ spelt_text e only in_key_or_value cs
 
--- a key, on the first line that is written or on another: on the first, one that begins like a byte order mark has its first character escaped
+-- the key on the first line that is written, or on another line: on the first, a key that begins like a byte order mark
+-- has its first character escaped
 abbrev pub spelt_key : Encoding → Bool → Bool → List ℕ → List ℕ
 spelt_key e only first key = if first && is_bom_like e only key then with_first_escaped e only key else spelt_text e only in_key_or_value key
 
--- the characters of a printed line: prefix, text and line end, or key, separator, value and line end
+-- the characters of a printed line: prefix, text and line end; or key, separator, value and line end
 abbrev pub printed_text : Encoding → Settings → Bool → Content → List ℕ
 printed_text e s first (comment text) = spelt_text e s.ascii_only in_prefix s.comment_prefix ++ (spelt_text e s.ascii_only in_comment text ++ line_ending_text s.line_ending)
 printed_text e s first (pair key value) = spelt_key e s.ascii_only first key ++ (s.kv_separator ++ (spelt_text e s.ascii_only in_key_or_value value ++ line_ending_text s.line_ending))
 
--- and its bytes
+-- the bytes of a printed line
 abbrev pub printed : Encoding → Settings → Bool → Content → List ℕ
 printed e s first line = encoded_text e (printed_text e s first line)

@@ -17,6 +17,10 @@ pub mod Maps
 pub mod Body
 pub mod Edited
 pub mod Valued
+pub mod Edits
 pub mod Slots
+pub mod ValuedSlots
+pub mod EditedSlots
 pub mod Cells
 pub mod Keys
+pub mod Undecoded

@@ -1,22 +1,24 @@
--- What a writer is set to, and which settings are good.
--- Source: java.util.Properties of Java SE 7, store (a comment begins with a number sign; a key and its value stand around an equals sign), and load (which comments and separators are read back).
+-- The settings of a writer, and which of them are good.
+-- Source: java.util.Properties of Java SE 7, store (a comment begins with a number sign; an equals sign separates a key
+-- from its value), and load (which comments and separators are read back).
 use Rattle.std.specs.Prelude.{◌≡◌, ◌≢◌, ◌⊎◌, ℕ, Bool, true, false, List, [], ◌∷◌, ◌++◌}
 use Rattle.properties_format.specs.Lines.{HoldsNoLineEnd}
 use Rattle.properties_format.specs.Split.{AreBlanks}
 use Rattle.properties_format.specs.Text.{LineEnding, lf, space, number_sign, equals_sign, is_comment_sign, is_separator}
 
--- what stands before a comment's text, what stands between a key and its value, what ends a line, and whether ASCII alone is on: then every character past U+007F is escaped
+-- what comes before a comment's text, what separates a key from its value, what ends a line, and whether ASCII-only
+-- output is on, which escapes every character above U+007F
 pub record Settings : Type 0 where
   pub comment_prefix : List ℕ
   pub kv_separator : List ℕ
   pub line_ending : LineEnding
   pub ascii_only : Bool
 
--- at the start: a number sign and a space, an equals sign, LF, and ASCII alone off
+-- the settings of a new writer: a number sign and a space, an equals sign, LF, and ASCII-only output off
 abbrev pub default_settings : Settings
 default_settings = record { comment_prefix = number_sign ∷ space ∷ []; kv_separator = equals_sign ∷ []; line_ending = lf; ascii_only = false }
 
--- A good comment prefix: blanks or none, then a comment sign, then any text without a line end.
+-- A good comment prefix: any number of blanks, a comment sign, and any text without a line end.
 pub record IsGoodPrefix (prefix : List ℕ) : Type 0 where
   pub indent : List ℕ
   pub sign : ℕ
@@ -26,7 +28,7 @@ pub record IsGoodPrefix (prefix : List ℕ) : Type 0 where
   pub signed : is_comment_sign sign ≡ true
   pub one_line : HoldsNoLineEnd tail
 
--- A separator with its sign: blanks or none, one colon or equals sign, blanks or none.
+-- A separator with a sign: any number of blanks, one colon or equals sign, any number of blanks.
 pub record IsSignedSeparator (separator : List ℕ) : Type 0 where
   pub before : List ℕ
   pub sign : ℕ
@@ -36,11 +38,11 @@ pub record IsSignedSeparator (separator : List ℕ) : Type 0 where
   pub signed : is_separator sign ≡ true
   pub blank_after : AreBlanks after
 
--- A separator of blanks alone, one at least.
+-- A separator of blanks only, at least one.
 pub record IsBlankSeparator (separator : List ℕ) : Type 0 where
   pub blank : AreBlanks separator
   pub some : separator ≢ []
 
--- A good separator is one of these two.
+-- A good separator has a sign or is blanks only.
 abbrev pub IsGoodSeparator : List ℕ → Type 0
 IsGoodSeparator separator = IsSignedSeparator separator ⊎ IsBlankSeparator separator

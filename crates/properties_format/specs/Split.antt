@@ -1,32 +1,33 @@
--- What a logical line is: blank, a comment, or a key and a value. Escapes stand in the texts as they were written.
--- A line feed or a carriage return, which no line holds, is a character like another here.
+-- What a logical line is: blank, a comment, or a key and a value. Escapes are not resolved here. A line feed or a
+-- carriage return, which no line contains, has no special meaning here.
 -- Source: java.util.Properties of Java SE 7, load.
 use Rattle.std.specs.Prelude.{◌≡◌, ◌≢◌, ◌==◌, ℕ, Bool, true, false, List, [], ◌∷◌, ◌++◌}
 use Rattle.properties_format.specs.Text.{backslash, is_blank, is_comment_sign, is_separator}
 
--- What a line is: blank; a comment with its text; a pair of a key and a value.
+-- What a line is: blank; a comment with its text; or a pair with its key and its value.
 pub data Logical : Type 0 where
   blank : Logical
   comment : List ℕ → Logical
   pair : List ℕ → List ℕ → Logical
 
--- the text is blanks
+-- All characters of the text are blanks.
 abbrev pub AreBlanks : List ℕ → Type 0
 AreBlanks [] = Unit {0}
 AreBlanks (c ∷ cs) = (is_blank c ≡ true) × AreBlanks cs
 
--- the text begins with a character of this kind
+-- whether the text begins with a character of this kind
 abbrev pub begins : (ℕ → Bool) → List ℕ → Bool
 begins kind [] = false
 begins kind (c ∷ cs) = kind c
 
--- the text ends with a character of this kind
+-- whether the text ends with a character of this kind
 abbrev pub ends : (ℕ → Bool) → List ℕ → Bool
 ends kind [] = false
 ends kind (c ∷ []) = kind c
 ends kind (c ∷ d ∷ cs) = ends kind (d ∷ cs)
 
--- The text is blanks, the core, and blanks. The core neither begins nor ends with a blank, and an empty core has all blanks before it.
+-- The text is blanks, the core, and blanks. The core neither begins nor ends with a blank; if the core is empty, all
+-- blanks come before it.
 pub record IsTrimmed (text core : List ℕ) : Type 0 where
   pub before : List ℕ
   pub after : List ℕ
@@ -37,7 +38,7 @@ pub record IsTrimmed (text core : List ℕ) : Type 0 where
   pub ends_full : ends is_blank core ≡ false
   pub empty_last : core ≡ [] → after ≡ []
 
--- The line is blanks, a comment sign, and a rest whose core is the comment's text.
+-- The line is blanks, a comment sign, and a rest. The core of the rest is the comment's text.
 pub record IsComment (line text : List ℕ) : Type 0 where
   pub indent : List ℕ
   pub sign : ℕ
@@ -47,7 +48,8 @@ pub record IsComment (line text : List ℕ) : Type 0 where
   pub is_sign : is_comment_sign sign ≡ true
   pub trimmed : IsTrimmed rest text
 
--- What a key is made of: a character for itself, a backslash with the character after it, or a backslash that stands last in the line.
+-- The units of a key: a character that is itself; a backslash and the character after it; or a backslash at the end of
+-- the line.
 pub data KeyUnit : Type 0 where
   plain : ℕ → KeyUnit
   escaped : ℕ → KeyUnit
@@ -59,36 +61,39 @@ unit_text (plain c) = c ∷ []
 unit_text (escaped c) = backslash ∷ c ∷ []
 unit_text last = backslash ∷ []
 
--- the texts of the units put together, and then the rest of the line
+-- the texts of the units, one after another, and then the rest of the line
 abbrev pub units_before : List KeyUnit → List ℕ → List ℕ
 units_before [] rest = rest
 units_before (u ∷ us) rest = unit_text u ++ units_before us rest
 
--- The unit may stand before this rest of the line: a character for itself neither escapes nor separates, and what stands last has nothing after it.
+-- The unit may come before this rest of the line. A character that is itself neither escapes nor separates, and nothing
+-- follows a backslash at the end.
 abbrev pub IsUnit : KeyUnit → List ℕ → Type 0
 IsUnit (plain c) rest = ((c == backslash) ≡ false) × (is_blank c ≡ false) × (is_separator c ≡ false)
 IsUnit (escaped c) rest = Unit {0}
 IsUnit last rest = rest ≡ []
 
--- each unit may stand before what follows it
+-- Each unit may come before what follows it.
 abbrev pub AreUnits : List KeyUnit → List ℕ → Type 0
 AreUnits [] rest = Unit {0}
 AreUnits (u ∷ us) rest = IsUnit u (units_before us rest) × AreUnits us rest
 
--- The text is a run of units, before this rest of the line.
+-- The text is a sequence of units, each of which may come before what follows it in the line.
 pub record IsKey (key rest : List ℕ) : Type 0 where
   pub units : List KeyUnit
   pub whole : key ≡ units_before units []
   pub each : AreUnits units rest
 
--- What stands between the key and this value: nothing, and then the value is empty; blanks; or a separator with the blanks around it.
+-- What separates the key from this value: nothing, and then the value is empty; blanks; or a separator with any blanks
+-- around it.
 pub data IsBetween (between value : List ℕ) : Type 0 where
   nothing : between ≡ [] → value ≡ [] → IsBetween between value
   blanks : between ≢ [] → AreBlanks between → begins is_blank value ≡ false → begins is_separator value ≡ false → IsBetween between value
   separator : (before : List ℕ) (sign : ℕ) (after : List ℕ) → between ≡ before ++ (sign ∷ after) → AreBlanks before
       → is_separator sign ≡ true → AreBlanks after → begins is_blank value ≡ false → IsBetween between value
 
--- The line is blanks, a key, what stands between, and a value. Without the blanks it isn't empty, and begins with no comment sign.
+-- The line is blanks, a key, what separates it from its value, and the value. After the blanks, the line isn't empty
+-- and doesn't begin with a comment sign.
 pub record IsPair (line key value : List ℕ) : Type 0 where
   pub indent : List ℕ
   pub between : List ℕ
@@ -100,7 +105,7 @@ pub record IsPair (line key value : List ℕ) : Type 0 where
   pub is_key : IsKey key (between ++ value)
   pub is_between : IsBetween between value
 
--- what the line is, once it has been put together
+-- what a logical line is
 abbrev pub IsSplit : List ℕ → Logical → Type 0
 IsSplit line blank = AreBlanks line
 IsSplit line (comment text) = IsComment line text

@@ -1,5 +1,7 @@
--- A source with the value of a key set in place: the last pair with the key keeps its bytes up to where what stands between key and value ends, and its line ending.
--- Source: java.util.Properties of Java SE 7, setProperty and load (a later pair takes the place of an earlier one; how a key, what stands after it, and a value are told apart).
+-- A source with the value of a key set in place: the last pair with the key keeps its bytes up to its value, and its
+-- line ending.
+-- Source: java.util.Properties of Java SE 7, setProperty and load (a later pair takes the place of an earlier one; how
+-- a key, its separator and its value are distinguished).
 use Rattle.std.specs.Prelude.{◌≡◌, ◌⊎◌, ℕ, ◌==◌, ◌&&◌, ◌||◌, Bool, true, false, if◌then◌else◌, List, [], ◌∷◌, ◌++◌, None, unwrap_or}
 use Rattle.properties_format.specs.Text.{LineEnding, lf, line_ending_text, space, backslash, equals_sign, is_blank, is_blanks, is_separator, is_comment_sign}
 use Rattle.properties_format.specs.Encoding.{Encoding, byte_order_mark}
@@ -15,42 +17,43 @@ use Rattle.properties_format.specs.Edited.{bom_of, final_group, is_empty_line, i
 
 -- ---- How a value is spelt.
 
--- what a value may hold as it is, but for its ends: a space, a separator, a comment sign
+-- whether a value may have this character unescaped, except at its ends: a space, a separator or a comment sign
 abbrev pub is_free : ℕ → Bool
 is_free c = c == space || (is_separator c || is_comment_sign c)
 
--- a character inside a value: such a one as itself, and every other as a writer prints it
+-- a character inside a value: unescaped if it is one of these, otherwise as a writer prints it
 abbrev pub spelt_inside : Encoding → ℕ → List ℕ
 spelt_inside e c = if is_free c then c ∷ [] else spelt e false in_key_or_value c
 
--- the first character: a space takes a backslash, and after blanks alone a separator does too
+-- the first character: a space is escaped by a backslash, and after blanks only, so is a separator
 abbrev pub spelt_first : Encoding → Bool → ℕ → List ℕ
 spelt_first e after_blanks c = if c == space || (after_blanks && is_separator c) then backslash ∷ c ∷ [] else spelt_inside e c
 
--- the last character: a space is `\u0020`, which an editor that trims lines leaves
+-- the last character: a space is `\u0020`, which survives editors that trim lines
 abbrev pub spelt_last : Encoding → ℕ → List ℕ
 spelt_last e c = if c == space then unit_escape space else spelt_inside e c
 
--- the characters after the first
+-- the characters after the first; the last of them is printed as the last character
 abbrev pub spelt_rest : Encoding → List ℕ → List ℕ
 spelt_rest e [] = []
 spelt_rest e (c ∷ []) = spelt_last e c
 spelt_rest e (c ∷ d ∷ cs) = spelt_inside e c ++ spelt_rest e (d ∷ cs)
 
--- a value, after blanks alone or after a separator
+-- a value, after blanks only or after a separator
 abbrev pub spelt_value : Encoding → Bool → List ℕ → List ℕ
 spelt_value e after_blanks [] = []
 spelt_value e after_blanks (c ∷ cs) = if is_empty cs && c == space then unit_escape space else spelt_first e after_blanks c ++ spelt_rest e cs
 
--- what follows the front of a pair: where nothing stood between key and value, an equals sign comes before the value
+-- what follows the front of a pair: the value, preceded by an equals sign if nothing separated the key from its value
 abbrev pub value_text : Encoding → List ℕ → List ℕ → List ℕ
 value_text e [] value = equals_sign ∷ spelt_value e false value
 value_text e (c ∷ cs) value = spelt_value e (is_blanks (c ∷ cs)) value
 
--- ---- A pair has another value.
+-- ---- A pair gets another value.
 
--- The front of a pair: whole lines of its group, and of the line after them a head, up to the last character of what stands between key and value, or of the key
--- where nothing does. No escape of a line end closes the head.
+-- The front of a pair: whole lines of its group, and the beginning of the line after them, the head. It extends to the
+-- last character that separates the key from its value, or to the end of the key if nothing does. The head isn't blank,
+-- and doesn't end in an open backslash.
 pub record IsFrontOf (e : Encoding) (group : List HeldLine) (between front : List ℕ) : Type 0 where
   pub kept : List HeldLine
   pub line : HeldLine
@@ -73,11 +76,11 @@ pub record IsFrontOf (e : Encoding) (group : List HeldLine) (between front : Lis
   pub up_to : joined (as_lines (kept ++ record { bytes = head; text = head_text; ending = None } ∷ [])) ≡ is_pair.indent ++ (key ++ between)
   pub bytes : front ≡ group_bytes kept ++ head
 
--- The group is the pair of this key and this value.
+-- The group is a pair with this key and this value.
 abbrev pub HasPair : List ℕ → List ℕ → List HeldLine → Type 0
 HasPair key value group = IsOutcome (joined (as_lines group)) (given (pair key value))
 
--- The last pair with the key has the value, and no byte changes.
+-- The last pair with the key already has the value, and no byte changes.
 pub record IsThere (groups : List (List HeldLine)) (key value result : List ℕ) : Type 0 where
   pub before : List (List HeldLine)
   pub group : List HeldLine
@@ -87,7 +90,8 @@ pub record IsThere (groups : List (List HeldLine)) (key value result : List ℕ)
   pub no_later : NoneHasKey key after
   pub bytes : result ≡ groups_bytes groups
 
--- The last pair with the key has another value, and between its front and its line ending the value is spelt.
+-- The last pair with the key has another value. What `value_text` prints replaces everything between the pair's front
+-- and its line ending.
 pub record IsRevalued (e : Encoding) (groups : List (List HeldLine)) (key value result : List ℕ) : Type 0 where
   pub before : List (List HeldLine)
   pub group : List HeldLine
@@ -104,22 +108,23 @@ pub record IsRevalued (e : Encoding) (groups : List (List HeldLine)) (key value 
 
 -- ---- A new pair.
 
--- of each run of blanks the first; the test tells whether a blank stands before the text
+-- the text with each run of blanks shortened to its first blank; the flag says whether a blank comes before the text
 abbrev pub shortened_after : Bool → List ℕ → List ℕ
 shortened_after was_blank [] = []
 shortened_after was_blank (c ∷ cs) = if was_blank && is_blank c then shortened_after true cs else c ∷ shortened_after (is_blank c) cs
 
--- the separator of a new pair with this key, after a pair with this between key and value
+-- the separator of a new pair with this key, given what separates another pair's key from its value: an equals sign if
+-- nothing does, or if only blanks do and the key is empty; otherwise that text with its runs of blanks shortened
 abbrev pub separator_after : List ℕ → List ℕ → List ℕ
 separator_after key [] = equals_sign ∷ []
 separator_after key (c ∷ cs) = if is_empty key && is_blanks (c ∷ cs) then equals_sign ∷ [] else shortened_after false (c ∷ cs)
 
--- none of the groups is a pair
+-- None of the groups is a pair.
 abbrev pub NoPairs : List (List HeldLine) → Type 0
 NoPairs [] = Unit {0}
 NoPairs (g ∷ gs) = ((key value : List ℕ) → ¬ (IsPair (joined (as_lines g)) key value)) × NoPairs gs
 
--- The separator is that of the last pair, whatever its key.
+-- The separator is taken from the last pair, whatever its key: see `separator_after`.
 pub record IsLastSeparator (groups : List (List HeldLine)) (new_key separator : List ℕ) : Type 0 where
   pub before : List (List HeldLine)
   pub group : List HeldLine
@@ -131,29 +136,30 @@ pub record IsLastSeparator (groups : List (List HeldLine)) (new_key separator : 
   pub no_later : NoPairs after
   pub separator_is : separator ≡ separator_after new_key is_pair.between
 
--- The separator of a new pair: that of the last pair, or an equals sign where there is none.
+-- The separator of a new pair: taken from the last pair, or an equals sign if there is no pair.
 abbrev pub IsNewSeparator : List (List HeldLine) → List ℕ → List ℕ → Type 0
 IsNewSeparator groups key separator = IsLastSeparator groups key separator ⊎ NoPairs groups × (separator ≡ equals_sign ∷ [])
 
--- the last line ending among these lines, or else this one
+-- the last line ending among these lines, or this one if there is none
 abbrev pub ending_among : LineEnding → List HeldLine → LineEnding
 ending_among by [] = by
 ending_among by (h ∷ hs) = ending_among (unwrap_or h.ending by) hs
 
--- the last line ending among these groups, or else an LF
+-- the last line ending among these groups, or an LF if there is none
 abbrev pub ending_in : List (List HeldLine) → List ℕ
 ending_in groups = line_ending_text (ending_among lf (held_in groups))
 
--- what parts a new pair from this last group, in such line endings: nothing, one, or the two that close a group that is left open
+-- what separates a new pair from the last group, made of this line ending: nothing, one, or two, which also end a group
+-- that is left open
 abbrev pub parted_by : List ℕ → List HeldLine → List ℕ
 parted_by ending group = if is_empty_line group then [] else (if is_left_open group then ending ++ ending else ending)
 
--- a new pair after these bytes, with its line ending
+-- the bytes of a new pair after these bytes, with its line ending
 abbrev pub new_pair_bytes : Encoding → List ℕ → List ℕ → List ℕ → List ℕ → List ℕ → List ℕ
 new_pair_bytes e front key separator value ending =
     encoded_text e (spelt_key e false (is_empty front) key ++ (separator ++ spelt_value e (is_blanks separator) value)) ++ ending
 
--- No pair has the key, and a new one stands at the end.
+-- No pair has the key, and a new pair is added at the end.
 pub record IsAdded (e : Encoding) (groups : List (List HeldLine)) (key value result : List ℕ) : Type 0 where
   pub no_pair : NoneHasKey key groups
   pub separator : List ℕ
@@ -161,13 +167,15 @@ pub record IsAdded (e : Encoding) (groups : List (List HeldLine)) (key value res
   pub bytes : let front : List ℕ = groups_bytes groups ++ parted_by (ending_in groups) (final_group groups) in
       result ≡ front ++ new_pair_bytes e front key separator value (ending_in groups)
 
--- ---- A key's value is set.
+-- ---- The value of a key is set.
 
 -- the body of these groups, with the value set
 abbrev pub IsBodyValued : Encoding → List (List HeldLine) → List ℕ → List ℕ → List ℕ → Type 0
 IsBodyValued e groups key value body = IsThere groups key value body ⊎ (IsRevalued e groups key value body ⊎ IsAdded e groups key value body)
 
--- The result is the source with the value of the key set: the byte order mark stays, and in the body nothing changes, the last pair with the key has another value, or a new pair is added.
+-- The result is the source with the value of the key set. The byte order mark stays. In the body, nothing changes if
+-- the last pair with the key has the value already; otherwise that pair gets the value, or a new pair is added if no
+-- pair has the key.
 pub record IsValueSet (e : Encoding) (source key value result : List ℕ) : Type 0 where
   pub groups : List (List HeldLine)
   pub held : AreGroupsOf (byte_order_mark e source).encoding (byte_order_mark e source).body groups
@@ -179,7 +187,7 @@ pub record IsValueSet (e : Encoding) (source key value result : List ℕ) : Type
 abbrev pub IsSetValueResult : Encoding → List ℕ → List ℕ → List ℕ → EditResult → Type 0
 IsSetValueResult e source key value result = IsEditResult e source (IsValueSet e source key value) result
 
--- ---- What stays.
+-- ---- What stays unchanged.
 
 -- The bytes of the groups before the value of the last pair with the key, and those from its line ending on.
 pub record AreAroundValue (e : Encoding) (groups : List (List HeldLine)) (key front back : List ℕ) : Type 0 where
@@ -195,7 +203,7 @@ pub record AreAroundValue (e : Encoding) (groups : List (List HeldLine)) (key fr
   pub front_bytes : front ≡ groups_bytes before ++ pair_front
   pub back_bytes : back ≡ ending_bytes (last_ending group) ++ groups_bytes after
 
--- The result is the source with other bytes in the place of that value.
+-- The result is the source with other bytes instead of that value.
 pub record IsAlikeAround (e : Encoding) (source : List ℕ) (groups : List (List HeldLine)) (key result : List ℕ) : Type 0 where
   pub front : List ℕ
   pub back : List ℕ
@@ -205,7 +213,8 @@ pub record IsAlikeAround (e : Encoding) (source : List ℕ) (groups : List (List
   pub source_is : source ≡ bom_of source ++ (front ++ (old ++ back))
   pub result_is : result ≡ bom_of source ++ (front ++ (new ++ back))
 
--- Every byte outside the value of the last pair with the key stays, and every byte where no pair has the key.
+-- No byte outside the value of the last pair with the key changes. If no pair has the key, no byte of the source
+-- changes.
 abbrev pub KeepsFront : Encoding → List ℕ → List ℕ → List ℕ → Type 0
 KeepsFront e source key result =
     (groups : List (List HeldLine)) × AreGroupsOf (byte_order_mark e source).encoding (byte_order_mark e source).body groups

@@ -1,4 +1,4 @@
--- What a list of calls to a writer writes, and what it is to be read back as.
+-- What a list of calls to a writer writes, and what is read back.
 -- Source: java.util.Properties of Java SE 7, store, which writes one comment or one pair a line.
 use Rattle.std.specs.Prelude.{◌≡◌, All, ℕ, ◌+◌, ◌==◌, ◌&&◌, not, Bool, true, false, if◌then◌else◌, List, [], ◌∷◌, ◌++◌, Option, Some, None}
 use Rattle.properties_format.specs.Text.{scalar, LineEnding, backslash, is_blanks, is_comment_sign}
@@ -9,7 +9,7 @@ use Rattle.properties_format.specs.Settings.{Settings, IsGoodPrefix, IsGoodSepar
 use Rattle.properties_format.specs.Reading.Settings.{is_good_prefix, is_good_separator}
 use Rattle.properties_format.specs.Printing.{printed}
 
--- a call: a comment or a pair to write, a setting to change, a flush, or ASCII alone turned on or off
+-- a call: writes a comment or a pair, changes a setting, flushes, or turns ASCII-only output on or off
 pub data Call : Type 0 where
   comment_call : List ℕ → Call
   pair_call : List ℕ → List ℕ → Call
@@ -19,12 +19,13 @@ pub data Call : Type 0 where
   flush_call : Call
   ascii_only_call : Bool → Call
 
--- nothing is in the list
+-- whether the list is empty
 abbrev pub is_empty : List ℕ → Bool
 is_empty [] = true
 is_empty (c ∷ cs) = false
 
--- Which calls a writer takes: good prefixes and separators, every pair but one of an empty key under a separator of blanks alone, and everything else.
+-- whether a writer accepts a call: only good prefixes and separators; every pair, except one with an empty key under a
+-- separator of blanks only; and every other call
 abbrev pub is_accepted : Settings → Call → Bool
 is_accepted s (comment_call text) = true
 is_accepted s (pair_call key value) = not (is_empty key && is_blanks s.kv_separator)
@@ -48,12 +49,12 @@ abbrev pub settings_after : Settings → List Call → Settings
 settings_after s [] = s
 settings_after s (call ∷ calls) = settings_after (settings_after_call s call) calls
 
--- the answer of each call: whether it was accepted
+-- the result of each call: whether it was accepted
 abbrev pub answers : Settings → List Call → List Bool
 answers s [] = []
 answers s (call ∷ calls) = is_accepted s call ∷ answers (settings_after_call s call) calls
 
--- the line that a call writes, where it writes one: an accepted comment or pair
+-- the line that a call writes, if it writes one: an accepted comment or pair
 abbrev pub written_line : Settings → Call → Option Content
 written_line s (comment_call text) = Some (comment text)
 written_line s (pair_call key value) = if is_accepted s (pair_call key value) then Some (pair key value) else None
@@ -63,22 +64,23 @@ written_line s (ending_call line_ending) = None
 written_line s flush_call = None
 written_line s (ascii_only_call on) = None
 
--- the number of lines after a line, where there is one
+-- the number of lines after a line, if there is one
 abbrev pub lines_with : ℕ → Option Content → ℕ
 lines_with n None = n
 lines_with n (Some line) = n + 1
 
--- the number of lines after a list of calls, from this number on
+-- the number of lines after a list of calls, counted from this number
 abbrev pub line_count_after : Settings → ℕ → List Call → ℕ
 line_count_after s n [] = n
 line_count_after s n (call ∷ calls) = line_count_after (settings_after_call s call) (lines_with n (written_line s call)) calls
 
--- the bytes of a line, where there is one: it is first where no line stands before it
+-- the bytes of a line, if there is one; it is the first if no line was written before it
 abbrev pub line_bytes : Encoding → Settings → ℕ → Option Content → List ℕ
 line_bytes e s n None = []
 line_bytes e s n (Some line) = printed e s (n == 0) line
 
--- The bytes that a list of calls writes, from these settings and this number of lines on: the printed lines, each under the settings before it.
+-- the bytes that a list of calls writes, starting with these settings and this number of lines: the printed lines, each
+-- under the settings in force before it
 abbrev pub wrote : Encoding → Settings → ℕ → List Call → List ℕ
 wrote e s n [] = []
 wrote e s n (call ∷ calls) =
@@ -89,29 +91,30 @@ abbrev pub tail_of : List ℕ → List ℕ
 tail_of [] = []
 tail_of (c ∷ cs) = if is_comment_sign c then cs else tail_of cs
 
--- what a line says to its reader: a pair itself, and a comment the prefix's tail and its text, without the blanks at both ends
+-- what is read back from a line: a pair is read back as itself, a comment as what follows the prefix's first comment
+-- sign and the text, without the blanks at both ends
 abbrev pub content_read_back : Settings → Content → Content
 content_read_back s (comment text) = comment (trimmed (tail_of s.comment_prefix ++ text))
 content_read_back s (pair key value) = pair key value
 
--- the item of a line, where there is one, which is the next after n lines
+-- the item that is read back from a line, if there is one: the next item after n lines
 abbrev pub item_read_back : Settings → ℕ → Option Content → List Entry
 item_read_back s n None = []
 item_read_back s n (Some line) = item (n + 1) (content_read_back s line) ∷ []
 
--- The items that the written lines are to be read back as: one a line, numbered on from the lines before.
+-- the items that are read back from the written lines: one per line, numbered after the lines before
 abbrev pub items_read_back : Settings → ℕ → List Call → List Entry
 items_read_back s n [] = []
 items_read_back s n (call ∷ calls) = item_read_back s n (written_line s call) ++ items_read_back (settings_after_call s call) (lines_with n (written_line s call)) calls
 
--- ---- which calls are read back
+-- ---- Which calls are read back.
 
--- no character of the text is a backslash
+-- No character of the text is a backslash.
 abbrev pub HoldsNoBackslash : List ℕ → Type 0
 HoldsNoBackslash [] = Unit {0}
 HoldsNoBackslash (c ∷ cs) = ((c == backslash) ≡ false) × HoldsNoBackslash cs
 
--- each prefix under which a comment is written, from these settings on, holds no backslash
+-- Starting with these settings, no prefix under which a comment is written contains a backslash.
 abbrev pub ArePrefixesClean : Settings → List Call → Type 0
 ArePrefixesClean s [] = Unit {0}
 ArePrefixesClean s (comment_call text ∷ calls) = HoldsNoBackslash s.comment_prefix × ArePrefixesClean s calls
@@ -122,7 +125,7 @@ ArePrefixesClean s (ending_call line_ending ∷ calls) = ArePrefixesClean (setti
 ArePrefixesClean s (flush_call ∷ calls) = ArePrefixesClean s calls
 ArePrefixesClean s (ascii_only_call on ∷ calls) = ArePrefixesClean (settings_after_call s (ascii_only_call on)) calls
 
--- each text of the call is one of scalar values
+-- Each text of the call consists of scalar values.
 abbrev pub IsOfScalars : Call → Type 0
 IsOfScalars (comment_call text) = All scalar text
 IsOfScalars (pair_call key value) = All scalar key × All scalar value
@@ -132,12 +135,12 @@ IsOfScalars (ending_call line_ending) = Unit {0}
 IsOfScalars flush_call = Unit {0}
 IsOfScalars (ascii_only_call on) = Unit {0}
 
--- each text of these calls is one of scalar values
+-- Each text of these calls consists of scalar values.
 abbrev pub AreOfScalars : List Call → Type 0
 AreOfScalars [] = Unit {0}
 AreOfScalars (call ∷ calls) = IsOfScalars call × AreOfScalars calls
 
--- What a writer is set to is good: so are the settings of a new one, and calls keep them so.
+-- The settings of a writer are good. Those of a new writer are, and calls keep them good.
 pub record AreGoodSettings (s : Settings) : Type 0 where
   pub prefix : IsGoodPrefix s.comment_prefix
   pub scalars : All scalar s.comment_prefix

@@ -1,5 +1,5 @@
 //! The definitions of the properties format, and the mathematics about them.
 //!
-//! Nothing runs from here. `specs/` says what a properties file is and what a writer prints, a page of the
-//! format each, in the order in which data flows; `proofs/` shows that each definition has exactly one answer.
+//! Nothing runs from here. The pages in `specs/` say what a properties file is and what a writer prints, one topic a
+//! page, in the order in which data flows. The pages in `proofs/` prove that each definition has exactly one result.
 #![tactic(auto)]

@@ -1,6 +1,6 @@
-// Edits as values.
+// Edits as values, and the value of a key.
 
-use java_properties::Edit;
+use java_properties::{Edit, Encoding, set_value};
 use std::alloc::{AllocError, Global};
 use std::test::Fail;
 
@@ -29,6 +29,24 @@ fn edits_are_compared_copied_and_debugged(rt: HostRuntime) -> Result<(), Fail> {
         for (other_place, (other, _)) in rows.iter().enumerate() {
             assert_eq!(rt; other == edit, other_place == place);
         }
+    }
+    Ok(())
+}
+
+#[test]
+fn the_value_of_a_key_is_set(rt: HostRuntime) -> Result<(), Fail> {
+    let rows: [(&[u8], &str, &str, &[u8]); 2] = [
+        (
+            b"url    = http://a\nport = 80\n",
+            "url",
+            "https://b:8443/a b",
+            b"url    = https://b:8443/a b\nport = 80\n",
+        ),
+        (b"a    = 1\r\n", "k", "v", b"a    = 1\r\nk = v\r\n"),
+    ];
+    for (source, key, value, wanted) in rows {
+        let edited = set_value(rt.alloc(), source, Encoding::UTF_8, key, value)?;
+        assert_eq!(rt; edited.as_slice(), wanted);
     }
     Ok(())
 }

@@ -1,4 +1,4 @@
--- Characters of ASCII at the front of bytes, four at once.
+-- ASCII characters at the front of bytes, four at a time.
 use Rattle.std.proofs.Common.{◌≡◌, ℕ, ◌+◌, ◌-◌, ◌<◌, ◌≤◌, false, nat_le, List, [], ◌∷◌, ◌++◌, length, take, drop, get_or, refl, sym, ap, subst, ◌∙◌, inl, inr, append_assoc, arith}
 use Rattle.std.specs.Prelude.{Option, Some, None, IfSome}
 use Rattle.std.specs.Str.{IsAscii, IsUtf8, chars}
@@ -25,7 +25,7 @@ if_some-weaker None f h = h
 pub are-ascii : (text : List ℕ) → AllByRecursion (λ u. u < 0x80) text → IsAscii text
 are-ascii text h = IsAscii-from_all text (All-from_recursion (λ u. u < 0x80) text h)
 
--- ASCII is taken to a text
+-- Decoded ASCII is appended to a text.
 pub decoded-front : (old new front coming rest all : List ℕ) → IsUtf8 old → IsAscii front → new ≡ old ++ front → chars old ++ coming ≡ all → coming ≡ front ++ rest
     → chars new ++ rest ≡ all
 decoded-front old new front coming rest all u h e joins k =
@@ -39,7 +39,7 @@ decoded-front old new front coming rest all u h e joins k =
 pub past : (u n : ℕ) → u < n → nat_le n u ≡ false
 past u n h = elim (cases_Bool (nat_le n u)) [ inl t ↦ absurd (omega (arith, h, leb-true n u t)) | inr f ↦ f ]
 
--- a unit of Latin-1 is a character
+-- A unit below 100 hexadecimal is a character.
 pub unit-step : (order : ByteOrder) (a b : ℕ) (rest : List ℕ) → unit_of order a b < 0x100
     → text_of (utf_16_of order) (a ∷ b ∷ rest) ≡ unit_of order a b ∷ text_of (utf_16_of order) rest
 unit-step LowFirst a b rest h = characters-step utf_16le a (b ∷ rest) ∙ rw (past (unit_of LowFirst a b) 0xd800 (omega arith), past (unit_of LowFirst a b) 0xdc00 (omega arith)) refl
@@ -51,7 +51,7 @@ unit-at order bytes i h lt =
     ap (text_of (utf_16_of order)) (drop_more bytes i 0 (omega arith) ∙ ap (λ v. get_or bytes i 0 ∷ v) (drop_more bytes (i + 1) 0 h))
     ∙ unit-step order (get_or bytes i 0) (get_or bytes (i + 1) 0) (drop (i + 1 + 1) bytes) (omega arith)
 
--- four units
+-- Four units at the front.
 pub units-front : (order : ByteOrder) (bytes : List ℕ) (a b c d : ℕ) (front : AsciiFront) → 8 ≤ length bytes
     → a ≡ unit_of order (get_or bytes 0 0) (get_or bytes 1 0) → b ≡ unit_of order (get_or bytes 2 0) (get_or bytes 3 0)
     → c ≡ unit_of order (get_or bytes 4 0) (get_or bytes 5 0) → d ≡ unit_of order (get_or bytes 6 0) (get_or bytes 7 0)

@@ -8,7 +8,7 @@ use Rattle.properties_format.specs.Text.{is_blank, without_leading_blanks}
 use Rattle.properties_text.specs.Parsing.{is_no_blank}
 use Rattle.properties_text.proofs.Scanning.{leading-more, leading-stop, leading-end}
 
--- a blank stands in the text
+-- An index at which a blank is found lies inside the text.
 pub blank-inside : (xs : List ℕ) (i : ℕ) → is_blank (get_or xs i 0) ≡ true → i < length xs
 blank-inside xs i h = elim (cases_lt i (length xs)) [
   | inl l ↦ l
@@ -18,14 +18,14 @@ blank-inside xs i h = elim (cases_lt i (length xs)) [
 pub past-blank : (xs : List ℕ) (i : ℕ) → is_blank (get_or xs i 0) ≡ true → without_leading_blanks (drop (i + 1) xs) ≡ without_leading_blanks (drop i xs)
 past-blank xs i h = leading-more xs i (blank-inside xs i h) h
 
--- where none stands there, no more are passed over
+-- If the byte there isn't a blank, no more are skipped.
 pub no-blank : (xs : List ℕ) (i : ℕ) → is_blank (get_or xs i 0) ≡ false → without_leading_blanks (drop i xs) ≡ drop i xs
 no-blank xs i h = elim (cases_lt i (length xs)) [
   | inl l ↦ leading-stop xs i l h
   | inr l ↦ leading-end xs i l
 ]
 
--- blanks alone are passed over
+-- All of the blanks before an index are skipped.
 pub past-blanks : (xs : List ℕ) (i : ℕ) → Nowhere (Passes is_no_blank xs) 0 i → without_leading_blanks (drop i xs) ≡ without_leading_blanks xs
 past-blanks xs zero none = refl
 past-blanks xs (suc i) none =
@@ -38,7 +38,7 @@ past-blanks xs (suc i) none =
     but true h = refl
     but false h = absurd (h refl)
 
--- up to the first character that is none
+-- Everything before the first character that isn't a blank is skipped.
 pub up-to-first : (xs : List ℕ) (i : ℕ) → IsFirstByte is_no_blank xs (Some i) → drop i xs ≡ without_leading_blanks xs
 up-to-first xs i h = sym (no-blank xs i (un (is_blank (get_or xs i 0)) h.1)) ∙ past-blanks xs i h.0.before
   where

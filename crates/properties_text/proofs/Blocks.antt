@@ -1,4 +1,4 @@
--- What a search of sixteen bytes at once tells of them.
+-- What a test of sixteen bytes says about them.
 use Rattle.std.proofs.Common.{◌≡◌, ◌↔◌, ◌<◌, ◌≤◌, ℕ, Bool, true, false, not, List, length, take, map, refl, subst, arith}
 use Rattle.std.specs.Prelude.{Option, Some, None, is_some}
 use Rattle.std.specs.List.{All}
@@ -13,22 +13,22 @@ use Rattle.byte_blocks.specs.Marks.{clear_front}
 use Rattle.byte_blocks.proofs.Marking.{clear-before, clear-all}
 use Rattle.properties_format.specs.Text.{space}
 
--- before the first control character
+-- The bytes before the first control character.
 pub no-controls : (block : List ℕ) (marks : List Bool) (n : ℕ) → marks ≡ map is_control block → n ≤ clear_front marks → All (λ b. space ≤ b) (take n block)
 no-controls block marks n is le =
     All-weaker (λ b. is_control b ≡ false) (λ b. space ≤ b) (λ b fails. ltb-false b space fails) (take n block) (clear-before is_control block marks n is le)
 
--- and where there is none
+-- The bytes of a block without control characters.
 pub all-no_controls : (block : List ℕ) (marks : List Bool) → length block ≡ 16 → marks ≡ map is_control block → 16 ≤ clear_front marks → All (λ b. space ≤ b) block
 all-no_controls block marks long is clear =
     subst (λ l. All (λ b. space ≤ b) l) (take_all 16 block (omega (arith, long))) (no-controls block marks 16 is clear)
 
--- before the first byte past ASCII
+-- The bytes before the first one that isn't ASCII.
 pub ascii-before : (block : List ℕ) (marks : List Bool) (n : ℕ) → marks ≡ map is_past_ascii block → n ≤ clear_front marks → All (λ b. b < 0x80) (take n block)
 ascii-before block marks n is le =
     All-weaker (λ b. is_past_ascii b ≡ false) (λ b. b < 0x80) (λ b fails. leb-false 0x80 b fails) (take n block) (clear-before is_past_ascii block marks n is le)
 
--- a block is ASCII where none is marked
+-- A block without marks is ASCII.
 pub clear-ascii : (block : List ℕ) (marks : List Bool) (is_clear : Bool) → length block ≡ 16 → marks ≡ map is_past_ascii block → (is_clear ≡ true) ↔ (16 ≤ clear_front marks)
     → (is_clear ≡ true) ↔ IsAscii block
 clear-ascii block marks is_clear long is tells = (
@@ -37,7 +37,7 @@ clear-ascii block marks is_clear long is tells = (
       (All-weaker (λ b. b < 0x80) (λ b. is_past_ascii b ≡ false) (λ b small. lt-leb 0x80 b small) block (All-from_ascii block ascii))),
 )
 
--- and bytes are, where none is found
+-- Bytes are ASCII if none above ASCII is found.
 pub found-ascii : (bytes : List ℕ) (found : Option ℕ) (is_none : Bool) → is_some found ≡ not is_none → IsFirstByte is_past_ascii bytes found → (is_none ≡ true) ↔ IsAscii bytes
 found-ascii bytes None true e none = (
   λ told. IsAscii-from_reads bytes (length bytes) (omega arith) (λ k inside. leb-false 0x80 _ (false_from_ne_true _ (none k (omega arith) inside))),

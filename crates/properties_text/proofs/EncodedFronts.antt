@@ -1,4 +1,4 @@
--- Texts that are encoded in windows-1252, by characters at the front.
+-- Texts encoded in windows-1252, from the front.
 use Rattle.std.proofs.Common.{◌≡◌, ℕ, ◌+◌, ◌-◌, ◌<◌, ◌≤◌, ◌&&◌, false, not, nat_lt, nat_le, List, [], ◌∷◌, ◌++◌, refl, sym, ap, ap₂, subst, ◌∙◌, append_assoc, append-nil, arith, length, take, drop, get_or, map, Some, lt-ltb}
 use Rattle.std.specs.Prelude.{IsCharBoundary}
 use Rattle.std.specs.List.{AllByRecursion}
@@ -10,7 +10,7 @@ use Rattle.properties_format.specs.Windows1252.{is_in_table, windows_1252_byte}
 use Rattle.properties_text.specs.Encoding.{EncodesFront}
 use Rattle.properties_text.proofs.AsciiFronts.{are-ascii, past}
 
--- ---- characters whose numbers are their bytes
+-- ---- characters whose code points are their bytes
 
 pub own-byte : (c : ℕ) → c < 0x100 → is_in_table c ≡ false → windows_1252_byte c ≡ Some c
 own-byte c h f = cond-true (nat_lt c 0x100 && not (is_in_table c)) (Some c) _ (and_from (nat_lt c 0x100) (not (is_in_table c)) (lt-ltb c 0x100 h) (ap not f))
@@ -48,14 +48,14 @@ encodes-ascii all text old new more at k front h e written =
           ∙ ap (map Some) (sym written),
     )
 
--- where nothing was copied, what stands before is as it was
+-- If nothing is copied, the bytes before stay as they are.
 pub nothing-copied : (old new bytes : List ℕ) (at k : ℕ) → k ≤ 0 → take (at + k) new ≡ take at old ++ take k bytes → take at new ≡ take at old
 nothing-copied old new bytes at k none written =
     let zero_is : k ≡ 0 = omega arith in
     let place : at ≡ at + k = omega arith in
     ap (λ n. take n new) place ∙ written ∙ ap (λ n. take at old ++ take n bytes) zero_is ∙ append-nil (take at old)
 
--- a block of bytes more
+-- One more block is encoded.
 pub encodes-block : (all text old new more : List ℕ) (at written : ℕ) → EncodesFront all (take at old) (chars text) → take at new ≡ take at old
     → EncodesFront (chars text) (drop at (take (at + written) new)) (chars more) → EncodesFront all (take (at + written) new) (chars more)
 encodes-block all text old new more at written front same block =

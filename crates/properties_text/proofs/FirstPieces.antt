@@ -1,4 +1,4 @@
--- What is shown of the first piece of UTF-8.
+-- What is returned for the first piece of UTF-8.
 use Rattle.std.proofs.Common.{◌≡◌, ◌≢◌, ℕ, suc, ◌+◌, ◌==◌, false, List, ◌∷◌, length, take, Some, sym, ap, ◌∙◌, arith}
 use Rattle.properties_format.specs.Text.{replacement, scalar}
 use Rattle.properties_format.specs.Utf8.{Range, well_formed_rows, sequence_character}
@@ -9,7 +9,7 @@ use Rattle.properties_text.specs.Decoding.{ShowsPiece}
 use Rattle.properties_text.specs.declared.encoding.first_piece.FirstPiece.{FirstPiece}
 
 module _ (b : ℕ) (rs : List Range) (d : List ℕ) (n : ℕ) (row : ranges_after well_formed_rows b ≡ Some rs) (fits : n ≡ length (fitting rs d)) where
-  -- as many bytes fit as the row has
+  -- As many bytes fit as the row has.
   pub whole-scalar : n ≡ length rs → scalar (sequence_character (b ∷ take n d))
   whole-scalar all = (first_utf_8_piece-whole b rs d n row fits all).is_scalar
 
@@ -24,7 +24,7 @@ module _ (b : ℕ) (rs : List Range) (d : List ℕ) (n : ℕ) (row : ranges_afte
         may_change_is = ap (λ v. v.may_change) is ∙ sym h.decided;
       }
 
-  -- fewer fit
+  -- Fewer bytes fit than the row has.
   pub shows-broken : (shown : FirstPiece) → n ≢ length rs → shown ≡ record { character = replacement; length = 1 + n; may_change = n == length d }
       → ShowsPiece (first_utf_8_piece b d) (awaits_byte (ranges_after well_formed_rows b) d) shown
   shows-broken shown some is =

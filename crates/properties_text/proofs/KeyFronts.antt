@@ -12,7 +12,7 @@ use Rattle.properties_format.specs.Reading.Split.{ends_key}
 use Rattle.properties_text.specs.Parsing.{stays_in_key}
 use Rattle.properties_text.proofs.Scanning.{IsCutSoFar, cut-plain}
 
--- a character that isn't special when it is printed, and is no control character
+-- A character that is neither special in a key nor a control character stays in the key.
 plain-one : (c : ℕ) → space ≤ c → is_special c ≡ false → stays_in_key c ≡ true
 plain-one c h s =
     let first = or_parts (c == backslash) (c == space || (is_separator c || is_comment_sign c)) s in
@@ -22,11 +22,11 @@ plain-one c h s =
     let no_feed : (c == form_feed) ≡ false = ne_eqb c form_feed (λ e. absurd (omega (arith, e, h))) in
     rw (first.0, second.0, no_tab, no_feed, third.0) refl
 
--- whether a character is one of these
+-- whether a character is special or a control character
 abbrev pub may_end : ℕ → Bool
 may_end c = is_control c || is_special c
 
--- before the first such character all are plain
+-- All characters before the first such one are plain.
 pub plain-front : (text : List ℕ) (n : ℕ) → Nowhere (Passes may_end text) 0 n → All (λ c. stays_in_key c ≡ true) (take n text)
 plain-front text n none =
     All-from_get_or (λ c. stays_in_key c ≡ true) (take n text) 0 (λ k inside.
@@ -35,7 +35,7 @@ plain-front text n none =
     let parts = or_parts (is_control c) (is_special c) (false_from_ne_true (may_end c) (none k (omega arith) small)) in
     ap stays_in_key (get_or-take n text k 0 small) ∙ plain-one c (ltb-false c space parts.0) parts.1)
 
--- Plain characters all belong to the key.
+-- All plain characters belong to the key.
 pub cut-plains : (xs : List ℕ) (i : ℕ) → i ≤ length xs → All (λ c. stays_in_key c ≡ true) (take i xs) → IsCutSoFar xs i false
 cut-plains xs i h all = upto i (omega arith)
   where

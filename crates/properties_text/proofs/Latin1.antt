@@ -1,4 +1,4 @@
--- Characters of Latin-1 as they are written in UTF-8, eight and sixteen at once.
+-- Characters of Latin-1 in UTF-8, eight and sixteen at a time.
 use Rattle.std.proofs.Common.{◌≡◌, ℕ, zero, suc, ◌+◌, ◌-◌, ◌/◌, ◌%◌, ◌<◌, ◌≤◌, ◌&&◌, Bool, true, false, cond, ltb, eqb, nat_le, nat_lt, List, [], ◌∷◌, ◌++◌, refl, sym, ap, ap₂, subst, ◌∙◌, inl, inr, append_assoc, arith, length, take, drop, get_or, map, replicate, w8, Fits, bit_and}
 use Rattle.std.specs.Prelude.{encode_utf8_all}
 use Rattle.std.specs.Char.{encode_utf8}
@@ -25,7 +25,7 @@ use Rattle.byte_blocks.proofs.Rows.{stored}
 
 -- ---- one character
 
--- the two bytes of one past ASCII
+-- The two bytes of a character above ASCII.
 pub two-bytes : (c : ℕ) → 0x80 ≤ c → c < 0x100 → encode_utf8 c ≡ lead_byte c ∷ last_byte c ∷ []
 two-bytes c l h = elim (cases_Bool (nat_lt c 0xc0)) [
   | inl t ↦
@@ -40,7 +40,7 @@ two-bytes c l h = elim (cases_Bool (nat_lt c 0xc0)) [
       rw f (encode-two c l (omega arith) ∙ ap₂ (λ x y. x ∷ y ∷ []) first second)
 ]
 
--- one character, of one byte or of two
+-- One character, of one byte or two.
 one-spread : (c : ℕ) → c < 0x100 → encode_utf8 c ≡ cond (is_past_ascii c) (lead_byte c ∷ last_byte c ∷ []) (last_byte c ∷ [])
 one-spread c small = elim (cases_Bool (is_past_ascii c)) [
   | inl t ↦ rw t (two-bytes c (leb-true 0x80 c t) small)
@@ -50,14 +50,14 @@ one-spread c small = elim (cases_Bool (is_past_ascii c)) [
       rw f (encode_ascii c low ∙ ap (λ x. x ∷ []) (sym same))
 ]
 
--- ---- many
+-- ---- several characters
 
--- their bytes are their last ones, some after their first ones
+-- The UTF-8 bytes are the characters' last bytes, with first bytes inserted before some of them.
 latin-spread : (cs : List ℕ) → Each1 (Fits w8) cs → encode_utf8_all cs ≡ spread (map is_past_ascii cs) (map lead_byte cs) (map last_byte cs)
 latin-spread [] fits = refl
 latin-spread (c ∷ cs) fits = ap₂ (λ x y. x ++ y) (one-spread c fits.0.fits) (latin-spread cs fits.1)
 
--- and so of the first k
+-- The UTF-8 bytes of the first k characters.
 pub first-spread : (v block before : List ℕ) (marks : List Bool) (k : ℕ) → Each1 (Fits w8) v → block ≡ map last_byte v → before ≡ map lead_byte v → marks ≡ map is_past_ascii v
     → spread (take k marks) (take k before) (take k block) ≡ encode_utf8_all (take k v)
 first-spread v block before marks k fits block_is before_is marks_are =
@@ -65,7 +65,7 @@ first-spread v block before marks k fits block_is before_is marks_are =
     ∙ (λ i. spread (take-map is_past_ascii k v i) (take-map lead_byte k v i) (take-map last_byte k v i))
     ∙ sym (latin-spread (take k v) (Each1-chunk (Fits w8) 0 k v fits))
 
--- those that are ASCII stand as they are
+-- ASCII bytes are copied.
 pub put_ascii-is : (at k : ℕ) (out v : List ℕ) → length v ≡ 16 → at + 16 ≤ length out → k ≤ 16 → IsAscii v
     → take (at + k) (put_chunk at out v) ≡ take at out ++ encode_utf8_all (take k v)
 put_ascii-is at k out v long room le h =
@@ -74,29 +74,29 @@ put_ascii-is at k out v long room le h =
 
 -- ---- what is computed of each lane
 
--- two functions of a byte that agree
+-- Two functions that agree on every byte give the same results.
 map-agree : (f g : ℕ → ℕ) (v : List ℕ) → ((b : ℕ) → b < 256 → f b ≡ g b) → Each1 (Fits w8) v → map f v ≡ map g v
 map-agree f g [] e h = refl
 map-agree f g (b ∷ v) e h = ap₂ (λ x xs. x ∷ xs) (e b h.0.fits) (map-agree f g v e h.1)
 
--- a choice for each lane
+-- A choice for each lane.
 pub sel_l-map : (p : ℕ → Bool) (f g : ℕ → ℕ) (v : List ℕ) → sel_l (map p v) (map f v) (map g v) ≡ map (λ b. cond (p b) (f b) (g b)) v
 sel_l-map p f g [] = refl
 sel_l-map p f g (b ∷ v) = ap (λ l. cond (p b) (f b) (g b) ∷ l) (sel_l-map p f g v)
 
--- which are below C0
+-- which bytes are below C0
 abbrev lower : List ℕ → List Bool
 lower v = map (top 7) (zip2 (λ a b. cond (ltb a b) 255 0) v (replicate 16 0xc0))
 
--- what the comparison tells of each
+-- What the comparison says about each byte.
 lower-is : (v : List ℕ) → length v ≡ 16 → lower v ≡ map (λ b. ltb b 0xc0) v
 lower-is v long = tops_compared w8 ltb v (replicate 16 0xc0) ∙ zip2_splat ltb v 16 0xc0 long
 
--- without the bit of 40
+-- The byte with the bit 40 cleared.
 last-at : (b : ℕ) → b < 256 → cond (ltb b 0xc0) b (bit_and b 0xbf) ≡ last_byte b
 last-at b h = eqb-true _ _ (agree_below_at (λ b. eqb (cond (ltb b 0xc0) b (bit_and b 0xbf)) (last_byte b)) (λ b. true) 256 b refl h)
 
--- the last bytes of all
+-- The last bytes of all characters.
 pub lasts-are : (v : List ℕ) → length v ≡ 16 → Each1 (Fits w8) v → sel_l (lower v) v (zip2 bit_and v (replicate 16 0xbf)) ≡ map last_byte v
 lasts-are v long fits =
     ap₂ (λ ms ys. sel_l ms v ys) (lower-is v long) (zip2_splat bit_and v 16 0xbf long)
@@ -104,7 +104,7 @@ lasts-are v long fits =
     ∙ sel_l-map (λ b. ltb b 0xc0) (λ b. b) (λ b. bit_and b 0xbf) v
     ∙ map-agree (λ b. cond (ltb b 0xc0) b (bit_and b 0xbf)) last_byte v last-at fits
 
--- and their first ones
+-- The first bytes of all characters.
 pub leads-are : (v : List ℕ) → length v ≡ 16 → sel_l (lower v) (replicate 16 0xc2) (replicate 16 0xc3) ≡ map lead_byte v
 leads-are v long =
     ap (λ ms. sel_l ms (replicate 16 0xc2) (replicate 16 0xc3)) (lower-is v long)
@@ -113,17 +113,17 @@ leads-are v long =
 
 -- ---- bytes of windows-1252
 
--- the bytes from 80 to 9F are those of the table
+-- The bytes 80 to 9F are those of the table.
 pub tabled-is : (v : List ℕ) → Each1 (Fits w8) v → map (λ b. nat_le 0x80 b && nat_le b 0x9f) v ≡ map is_in_table v
 tabled-is v fits = each-same (λ b. nat_le 0x80 b && nat_le b 0x9f) is_in_table v (λ b small. agree_below_at (λ b. nat_le 0x80 b && nat_le b 0x9f) is_in_table 256 b refl small) fits
 
--- bytes before the first of these
+-- The bytes before the first of these aren't in the table.
 pub not-in_table : (bytes : List ℕ) (marks : List Bool) (k : ℕ) → marks ≡ map is_in_table (take 16 bytes) → k ≤ 16 → k ≤ clear_front marks
     → (j : ℕ) → j < k → is_in_table (get_or bytes j 0) ≡ false
 not-in_table bytes marks k e le few j lt =
     ap is_in_table (sym (get_or-take 16 bytes j 0 (omega (arith, lt, le)))) ∙ fails-before is_in_table (take 16 bytes) marks k e few j lt
 
--- they are characters of the same numbers
+-- Bytes that aren't in the table are characters with the same numbers.
 same-numbers : (bytes : List ℕ) (k : ℕ) → k ≤ length bytes → ((j : ℕ) → j < k → is_in_table (get_or bytes j 0) ≡ false)
     → text_of WINDOWS_1252 bytes ≡ take k bytes ++ text_of WINDOWS_1252 (drop k bytes)
 same-numbers bytes zero le h = refl
@@ -132,20 +132,20 @@ same-numbers (b ∷ bytes) (suc k) le h =
     let own : windows_1252_character b ≡ b = cond-false (is_in_table b) _ b (h 0 (omega arith)) in
     characters-step windows_1252 b bytes ∙ ap₂ (λ x y. x ∷ y) own (same-numbers bytes k (omega arith) (λ j lt. h (suc j) (omega arith)))
 
--- bytes are numbers of characters
+-- A byte is the number of a scalar value.
 scalar-at : (b : ℕ) → b < 256 → scalar b ≡ true
 scalar-at b h = agree_below_at scalar (λ b. true) 256 b refl h
 
--- and so are several
+-- Several bytes are scalar values.
 scalars-bytes : (cs : List ℕ) → Each1 (Fits w8) cs → scalars cs ≡ true
 scalars-bytes [] h = refl
 scalars-bytes (c ∷ cs) h = and_from (scalar c) (scalars cs) (scalar-at c h.0.fits) (scalars-bytes cs h.1)
 
--- and the first k of them
+-- The first k bytes are scalar values.
 pub first-scalars : (cs : List ℕ) (k : ℕ) → Each1 (Fits w8) cs → scalars (take k cs) ≡ true
 first-scalars cs k h = scalars-bytes (take k cs) (Each1-chunk (Fits w8) 0 k cs h)
 
--- k of sixteen are taken to a text
+-- The decoded text of the first k of sixteen bytes is appended to a text.
 pub decoded-front : (old new bytes all : List ℕ) (k : ℕ) → IsUtf8 old → scalars (take k (take 16 bytes)) ≡ true → 16 ≤ length bytes → k ≤ 16
     → ((j : ℕ) → j < k → is_in_table (get_or bytes j 0) ≡ false)
     → new ≡ old ++ encode_utf8_all (take k (take 16 bytes)) → chars old ++ text_of WINDOWS_1252 bytes ≡ all

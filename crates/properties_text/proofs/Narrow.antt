@@ -1,4 +1,4 @@
--- Sixteen bytes of UTF-8 at once, whose characters are of Latin-1.
+-- Sixteen bytes of UTF-8 at a time, converted to Latin-1.
 use Rattle.std.proofs.Common.{◌≡◌, ℕ, zero, suc, ◌+◌, ◌-◌, ◌<◌, ◌≤◌, Bool, true, false, ◌||◌, cond, eqb, nat_le, nat_lt, List, [], ◌∷◌, ◌++◌, refl, sym, ap, ap₂, subst, ◌∙◌, arith, length, take, get_or, map, replicate, w8, bit_or}
 use Rattle.std.specs.Int.Bits.{or_zero_r}
 use Rattle.std.specs.Simd.Lanes.{zip2, sel_l, put_chunk, top}
@@ -18,7 +18,7 @@ use Rattle.byte_blocks.proofs.Rows.{stored}
 
 -- ---- each lane
 
--- what is added after a byte
+-- what is added to a byte after this one
 abbrev added : ℕ → ℕ
 added before = cond (eqb before 0xc3) 0x40 0
 
@@ -41,7 +41,7 @@ raised-is v before long e =
     ∙ ap (map added) e)
     ∙ raised-zip 0 15 v long
 
--- ---- which characters they are of
+-- ---- which characters they belong to
 
 latin : (p k : ℕ) (v : List ℕ) → k ≤ length v → ((j : ℕ) → j < k → is_in_table (get_or (all_raised p v) j 0) ≡ false)
     → ((j : ℕ) → j < k → is_beyond (get_or v j 0) ≡ false) → AreOfLatin1 p (take k v)
@@ -50,7 +50,7 @@ latin p (suc k) [] le f g = absurd (omega arith)
 latin p (suc k) (b ∷ v) le f g =
     (leb-false 0xc4 b (g 0 (omega arith)), f 0 (omega arith), latin b k v (omega arith) (λ j lt. f (suc j) (omega arith)) (λ j lt. g (suc j) (omega arith)))
 
--- before the marks of both
+-- The bytes before the marks of both tests.
 length-raised : (p : ℕ) (v : List ℕ) → length (all_raised p v) ≡ length v
 length-raised p [] = refl
 length-raised p (b ∷ v) = ap suc (length-raised b v)
@@ -78,11 +78,11 @@ latin-first v more table beyond stops k long le is e f either clear =
     (λ j lt. ap (λ l. is_in_table (get_or l j 0)) (sym is) ∙ fails-before is_in_table more table k e (omega (arith, before, both.0)) j lt)
     (fails-before is_beyond v beyond k f (omega (arith, before, both.1)))
 
--- after a byte that is no first one
+-- A byte that doesn't follow the first byte of a character is unchanged.
 pub raised-own : (p b : ℕ) → p < 0xc0 → raised p b ≡ b
 raised-own p b h = rw (ne_eqb p 0xc3 (omega arith)) (or_zero_r b)
 
--- those of ASCII
+-- ASCII bytes belong to Latin-1, and are unchanged.
 pub ascii-latin : (p : ℕ) (v : List ℕ) → p < 0xc0 → IsAscii v → AreOfLatin1 p v × (narrowed p v ≡ v)
 ascii-latin p [] l h = (tt, refl)
 ascii-latin p (b ∷ v) l h =
@@ -93,9 +93,9 @@ ascii-latin p (b ∷ v) l h =
       ap₂ (λ t l. cond t [] (raised p b ∷ []) ++ l) (past b 0xc0 (omega arith)) more.1 ∙ ap (λ x. x ∷ v) own,
     )
 
--- ---- what is left of them
+-- ---- what is left of the bytes
 
--- the last bytes of characters, raised
+-- What is left: the last bytes of characters, raised.
 squeezed-is : (p : ℕ) (v : List ℕ) → squeeze (map is_lead v) (all_raised p v) ≡ narrowed p v
 squeezed-is p [] = refl
 squeezed-is p (b ∷ v) = ap (λ l. cond (is_lead b) [] (raised p b ∷ []) ++ l) (squeezed-is b v)
@@ -105,7 +105,7 @@ take-raised p zero v = refl
 take-raised p (suc k) [] = refl
 take-raised p (suc k) (b ∷ v) = ap (λ l. raised p b ∷ l) (take-raised b k v)
 
--- of the first k
+-- What is left of the first k bytes.
 first-squeezed : (v more : List ℕ) (leads : List Bool) (k : ℕ) → more ≡ all_raised 0 v → leads ≡ map is_lead v → squeeze (take k leads) (take k more) ≡ narrowed 0 (take k v)
 first-squeezed v more leads k is e =
     ap₂ (λ x y. squeeze (take k x) (take k y)) e is
@@ -127,7 +127,7 @@ put_narrow-is at end k out new v more leads room after is e put =
       encoded = ap (λ m. take m new) place ∙ put ∙ ap (λ l. take at out ++ l) (first-squeezed v more leads k is e);
     }
 
--- where all are ASCII
+-- All sixteen bytes are ASCII.
 pub put_ascii-is : (at k : ℕ) (out v : List ℕ) → length v ≡ 16 → k ≤ 16 → at + 16 ≤ length out → IsAscii v → AreOfLatin1 0 (take k v) × IsNarrow at k k out (put_chunk at out v) v
 put_ascii-is at k out v long le room h =
     let plain = ascii-latin 0 (take k v) (omega arith) (IsAscii-take v k h) in

@@ -1,4 +1,4 @@
--- Characters of Latin-1 at the front of a text, as bytes.
+-- Latin-1 characters at the front of a text, converted to bytes.
 use Rattle.std.proofs.Common.{◌≡◌, ℕ, zero, suc, ◌+◌, ◌-◌, ◌/◌, ◌%◌, ◌<◌, ◌≤◌, ◌||◌, true, false, cond, eqb, nat_lt, List, [], ◌∷◌, ◌++◌, refl, sym, ap, ap₂, subst, ◌∙◌, inl, inr, arith, length, take, drop, get_or, map, Some, le-leb, le-ltb}
 use Rattle.std.specs.Prelude.{IsCharBoundary, encode_utf8_all}
 use Rattle.std.specs.Str.{IsUtf8, chars}
@@ -14,7 +14,7 @@ use Rattle.properties_text.proofs.AsciiFronts.{past}
 use Rattle.properties_text.proofs.EncodedFronts.{own-byte, ascii-byte}
 use Rattle.properties_text.proofs.Narrow.{raised-own}
 
--- one, if a byte is the first of a character past ASCII
+-- 1 if a byte is the first of a character above ASCII, otherwise 0
 abbrev pub one_lead : ℕ → ℕ
 one_lead b = cond (is_lead b) 1 0
 
@@ -28,14 +28,15 @@ lead-past : (k b : ℕ) (xs : List ℕ) → b < 0xc0 → suc k - one_lead (get_o
 lead-past zero b xs h = omega (arith, no-lead b h)
 lead-past (suc k) b xs h = omega (arith, lead-most (get_or xs k 0))
 
--- the bytes of a character give back its number
+-- The bytes of a character give its code point.
 raised-at : (c : ℕ) → c < 256 → (nat_lt c 0x80 || eqb (raised (192 + c / 64) (128 + c % 64)) c) ≡ true
 raised-at c h = agree_below_at (λ c. nat_lt c 0x80 || eqb (raised (192 + c / 64) (128 + c % 64)) c) (λ c. true) 256 c refl h
 
 raised-two : (c : ℕ) → 0x80 ≤ c → c < 256 → raised (192 + c / 64) (128 + c % 64) ≡ c
 raised-two c l h = eqb-true _ c (subst (λ t. (t || eqb (raised (192 + c / 64) (128 + c % 64)) c) ≡ true) (le-ltb c 0x80 l) (raised-at c h))
 
--- What the first k bytes of a text are encoded to, after another byte. A character that begins with the last of them is left.
+-- What the first k bytes of a text, after another byte, are encoded to. If the last of them begins a character, that
+-- character is left.
 record IsFront (p k : ℕ) (cs text : List ℕ) : Type 0 where
   front : List ℕ
   rest : List ℕ
@@ -44,7 +45,7 @@ record IsFront (p k : ℕ) (cs text : List ℕ) : Type 0 where
   bytes : map windows_1252_byte front ≡ map Some (narrowed p (take k text))
   left : drop (k - one_lead (get_or (p ∷ text) k 0)) text ≡ encode_utf8_all rest
 
--- and of all texts of these characters
+-- this, for all texts of these characters
 abbrev Fronts : List ℕ → Type 0
 Fronts cs = (p k : ℕ) (text : List ℕ) → text ≡ encode_utf8_all cs → p < 0xc0 → k ≤ length text → AreOfLatin1 p (take k text) → IsFront p k cs text
 
@@ -136,7 +137,7 @@ front-of p (suc k) (c ∷ cs) (b ∷ text) s e l le h =
           omega (arith, h.0, first)
     ]
 
--- so many of a block's bytes are the text's
+-- The first k bytes of the block are the text's.
 pub first-same : (text v : List ℕ) (k : ℕ) → k ≤ 16 → k ≤ length text → take (length text) (take 16 v) ≡ take 16 text → take k v ≡ take k text
 first-same text v k few le e =
     sym (take-take k 16 v few)
@@ -144,7 +145,7 @@ first-same text v k few le e =
     ∙ ap (take k) e
     ∙ take-take k 16 text few
 
--- what a block is encoded to
+-- What a block is encoded to.
 pub block-encoded : (text out new v : List ℕ) (at k written : ℕ) → IsUtf8 text → k ≤ length text → at ≤ length out → take k v ≡ take k text → AreOfLatin1 0 (take k v)
     → take (at + written) new ≡ take at out ++ narrowed 0 (take k v)
     → IsCharBoundary text (k - one_lead (get_or text (k - 1) 0)) × EncodesFront (chars text) (drop at (take (at + written) new)) (chars (drop (k - one_lead (get_or text (k - 1) 0)) text))

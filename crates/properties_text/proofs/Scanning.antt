@@ -1,4 +1,4 @@
--- Scans of a text, as far as they have come.
+-- How far the scans of a text have come.
 use Rattle.std.proofs.Common.{◌≡◌, ℕ, ◌<◌, ◌≤◌, ◌+◌, ◌-◌, ◌==◌, Bool, true, false, List, [], ◌∷◌, ◌++◌, length, take, drop, get_or, refl, ap, sym, ◌∙◌, append_assoc, append-nil, subst, inl, inr, arith}
 use Rattle.std.proofs.lemmas.Bool.{cond-true, cond-false, cases_lt}
 use Rattle.std.proofs.lemmas.List.{at_drop_more, at_drop_all, take_more, take_all, drop_more, drop_all}
@@ -10,19 +10,19 @@ use Rattle.properties_format.proofs.Split.Keys.{with_text, ends_here, cut_key-en
 
 -- ---- blanks at the front
 
--- a blank is passed over
+-- A blank is skipped.
 pub leading-more : (xs : List ℕ) (i : ℕ) → i < length xs → is_blank (get_or xs i 0) ≡ true → without_leading_blanks (drop (i + 1) xs) ≡ without_leading_blanks (drop i xs)
 leading-more xs i h b = sym (at_drop_more without_leading_blanks xs i 0 h ∙ cond-true (is_blank (get_or xs i 0)) _ _ b)
 
--- another character ends the scan
+-- Another character ends the scan.
 pub leading-stop : (xs : List ℕ) (i : ℕ) → i < length xs → is_blank (get_or xs i 0) ≡ false → without_leading_blanks (drop i xs) ≡ drop i xs
 leading-stop xs i h b = at_drop_more without_leading_blanks xs i 0 h ∙ cond-false (is_blank (get_or xs i 0)) _ _ b ∙ sym (drop_more xs i 0 h)
 
--- and so does the end
+-- The end of the text ends the scan.
 pub leading-end : (xs : List ℕ) (i : ℕ) → length xs ≤ i → without_leading_blanks (drop i xs) ≡ drop i xs
 leading-end xs i h = at_drop_all without_leading_blanks xs i h ∙ sym (drop_all i xs h)
 
--- a text that is blanks to its end
+-- The text is blanks up to its end.
 pub leading-all : (xs : List ℕ) (i : ℕ) → length xs ≤ i → without_leading_blanks (drop i xs) ≡ without_leading_blanks xs → drop (length xs) xs ≡ without_leading_blanks xs
 leading-all xs i h e = drop_all (length xs) xs (omega arith) ∙ sym (drop_all i xs h) ∙ sym (leading-end xs i h) ∙ e
 
@@ -37,11 +37,11 @@ ends-last [] c = refl
 ends-last (d ∷ []) c = refl
 ends-last (d ∷ e ∷ y) c = ends-last (e ∷ y) c
 
--- the last character of a beginning of the text
+-- The last character of a beginning of the text.
 pub take-last : (xs : List ℕ) (e : ℕ) → 0 < e → e ≤ length xs → take e xs ≡ take (e - 1) xs ++ get_or xs (e - 1) 0 ∷ []
 take-last xs e p h = ap (λ n. take n xs) (let k : e ≡ e - 1 + 1 = omega arith in k) ∙ take_more xs (e - 1) 0 (omega arith)
 
--- a blank that stands last is left out
+-- A blank at the end is left out.
 pub trailing-more : (xs : List ℕ) (e : ℕ) → 0 < e → e ≤ length xs → is_blank (get_or xs (e - 1) 0) ≡ true
     → without_trailing_blanks (take (e - 1) xs) ≡ without_trailing_blanks (take e xs)
 trailing-more xs e p h b = sym (ap without_trailing_blanks (take-last xs e p h) ∙ trailing-blank (take (e - 1) xs) (get_or xs (e - 1) 0) b)
@@ -49,17 +49,17 @@ trailing-more xs e p h b = sym (ap without_trailing_blanks (take-last xs e p h) 
 full-last : (y : List ℕ) → ends is_blank y ≡ false → without_trailing_blanks y ≡ y
 full-last y e = ap without_trailing_blanks (sym (append-nil y)) ∙ without_trailing_blanks-only y [] tt e
 
--- another character stays
+-- Another character at the end stays.
 pub trailing-stop : (xs : List ℕ) (e : ℕ) → 0 < e → e ≤ length xs → is_blank (get_or xs (e - 1) 0) ≡ false → without_trailing_blanks (take e xs) ≡ take e xs
 trailing-stop xs e p h b = full-last (take e xs) (ap (ends is_blank) (take-last xs e p h) ∙ ends-last (take (e - 1) xs) (get_or xs (e - 1) 0) ∙ b)
 
 -- ---- keys
 
--- The key and its rest are those of what comes, with what was passed in front of the key.
+-- The key and the rest are those of what follows, with the characters that were passed at the front of the key.
 abbrev pub IsCutSoFar : List ℕ → ℕ → Bool → Type 0
 IsCutSoFar xs i is_escaped = cut_key xs false ≡ with_text (take i xs) (cut_key (drop i xs) is_escaped)
 
--- the key takes one character more
+-- The key takes one more character.
 pub cut-more : (xs : List ℕ) (i : ℕ) (was now : Bool) → i < length xs
     → ((cs : List ℕ) → cut_key (get_or xs i 0 ∷ cs) was ≡ with_front (get_or xs i 0) (cut_key cs now)) → IsCutSoFar xs i was → IsCutSoFar xs (i + 1) now
 cut-more xs i was now h step k =
@@ -75,7 +75,7 @@ cut-escaped xs i h = cut-more xs i true false h (λ cs. refl)
 pub cut-backslash : (xs : List ℕ) (i : ℕ) → i < length xs → get_or xs i 0 ≡ backslash → IsCutSoFar xs i false → IsCutSoFar xs (i + 1) true
 cut-backslash xs i h e = cut-more xs i false true h (λ cs. rw e refl)
 
--- a backslash takes the character after it, where one is there
+-- A backslash takes the character after it, if there is one.
 pub cut-pair : (xs : List ℕ) (i : ℕ) → i < length xs → get_or xs i 0 ≡ backslash → IsCutSoFar xs i false → IsCutSoFar xs (i + 2) false
 cut-pair xs i h e k =
     let opened = cut-backslash xs i h e k in
@@ -93,7 +93,7 @@ pub cut-plain : (xs : List ℕ) (i : ℕ) → i < length xs → (get_or xs i 0 =
     → IsCutSoFar xs i false → IsCutSoFar xs (i + 1) false
 cut-plain xs i h b k = cut-more xs i false false h (λ cs. cond-false (get_or xs i 0 == backslash) _ _ b ∙ cond-false (ends_key (get_or xs i 0)) _ _ k)
 
--- The text is cut there.
+-- The text is divided at this index.
 pub record IsCutAt (xs : List ℕ) (i : ℕ) : Type 0 where
   pub key : (cut_key xs false).key ≡ take i xs
   pub rest : (cut_key xs false).rest ≡ drop i xs

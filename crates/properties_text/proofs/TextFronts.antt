@@ -1,4 +1,4 @@
--- Fronts of bytes that are text as they stand.
+-- Fronts of bytes that are valid text without being decoded.
 use Rattle.std.proofs.Common.{◌≡◌, ◌↔◌, ◌<◌, ◌≤◌, arith, length-append, ℕ, true, List, [], ◌∷◌, ◌++◌, length, take, drop, ◌-◌, length-drop, refl, sym, ap, ◌∙◌, append-nil, append_assoc}
 use Rattle.std.specs.Prelude.{Result, Ok, Err, MatchResult, OnErr, IsSome}
 use Rattle.std.specs.Result.{result_ok}
@@ -17,7 +17,7 @@ use Rattle.properties_format.proofs.Encodings.Waiting.{characters-step}
 use Rattle.properties_format.proofs.Encodings.WellFormed.{IsUtf8-from_well_formed, characters-ascii, characters-text}
 use Rattle.properties_text.specs.Decoding.{IsText, KeepsText}
 
--- an answer is there exactly where its fact holds
+-- A result is `Ok` exactly if its fact holds.
 pub ok-exactly : {X E : Type 0} (A : X → Type 0) (B : E → Type 0) (P : Type 0) (r : Result X E)
     → MatchResult r (λ x. A x × P) (λ e. ¬ P × B e) → IsSome (result_ok r) ↔ P
 ok-exactly A B P (Ok x) h = (λ k. h.1, λ k. refl)
@@ -37,28 +37,28 @@ text-decoded utf_8 d h = whole-front utf_8 d (characters-text d [] (IsUtf8-from_
 text-decoded utf_16le d h = absurd h
 text-decoded utf_16be d h = absurd h
 
--- and it is UTF-8
+-- Such text is UTF-8.
 pub text-utf8 : (e : Encoding) (d : List ℕ) → IsText e d → IsUtf8 d
 text-utf8 windows_1252 d h = IsUtf8-from_ascii d h
 text-utf8 utf_8 d h = IsUtf8-from_well_formed d h
 text-utf8 utf_16le d h = absurd h
 text-utf8 utf_16be d h = absurd h
 
--- at an error this holds
+-- This holds if the result is an error.
 pub at-error : {X E : Type 0} {P : Type 0} (r : Result X E) → P → OnErr r P
 at-error (Ok x) h = tt
 at-error (Err e) h = h
 
--- Where nothing was pushed any more, the text so far is kept: with what is left it makes all.
+-- If nothing more was appended, the text so far and the text of what is left make the whole text.
 pub text-kept : (old more now rest : List ℕ) (new : List ℕ) → new ≡ now → chars now ++ rest ≡ chars old ++ more → length old ≤ length now → KeepsText old more new
 text-kept old more now rest new same joins longer =
     record { others = rest; begins = ap (λ v. chars v ++ rest) same ∙ joins; longer = rw same longer }
 
--- ---- The steps of decoding: what was decoded, `text`, and the characters of the `rest` make `all`.
+-- ---- The steps of decoding: the decoded `text` and the characters of the `rest` make `all`.
 
 module _ (e : Encoding) (text front rest after all : List ℕ) (joins : text ++ characters (pieces_of e rest) ≡ all)
     (split : characters (pieces_of e rest) ≡ front ++ characters (pieces_of e after)) where
-  -- the front is taken, and nothing is after it
+  -- The front was decoded, and nothing follows it.
   pub decoded-all : length after ≡ 0 → text ++ front ≡ all
   decoded-all h =
       sym (append-nil (text ++ front))
@@ -67,23 +67,23 @@ module _ (e : Encoding) (text front rest after all : List ℕ) (joins : text ++ 
       ∙ ap (λ v. text ++ v) (sym split)
       ∙ joins
 
--- a text and a character more
+-- A text with one more character.
 pub chars-more : (old new : List ℕ) (c : ℕ) → IsUtf8 old → IsScalar c → new ≡ old ++ encode_utf8 c → chars new ≡ chars old ++ c ∷ []
 chars-more old new c u h e =
     let own : chars (encode_utf8 c) ≡ c ∷ [] = ap chars (sym (append-nil (encode_utf8 c))) ∙ chars-encodes (c ∷ []) (and_from (is_scalar c) true h refl) in
     ap chars e ∙ chars-append old (encode_utf8 c) u ∙ ap (λ v. chars old ++ v) own
 
--- what is written byte by byte after a front
+-- What is written byte by byte after a front.
 pub put-more : (front xs old new : List ℕ) (b : ℕ) → new ≡ old ++ b ∷ [] → old ≡ front ++ xs → new ≡ front ++ (xs ++ b ∷ [])
 put-more front xs old new b h k = h ∙ ap (λ v. v ++ b ∷ []) k ∙ append_assoc front xs (b ∷ [])
 
--- what follows a character is shorter
+-- What follows a character is shorter than the text.
 pub past-shorter : (bs rest : List ℕ) (c : ℕ) → bs ≡ encode_utf8 c ++ rest → length rest < length bs
 past-shorter bs rest c h =
     let one : 1 ≤ length (encode_utf8 c) = rw (length-encode c) (len_utf8_bounds c).0 in
     rw h (omega (arith, length-append (encode_utf8 c) rest, one))
 
--- the first piece is taken to a text
+-- The first piece is decoded and appended to a text.
 pub decoded-one : (e : Encoding) (old new all : List ℕ) (b : ℕ) (d : List ℕ) (c n : ℕ) → IsUtf8 old → IsScalar c → new ≡ old ++ encode_utf8 c
     → chars old ++ characters (pieces_of e (b ∷ d)) ≡ all → c ≡ (first_piece e b d).character → n ≡ length (first_piece e b d).bytes
     → chars new ++ characters (pieces_of e (drop n (b ∷ d))) ≡ all
@@ -94,6 +94,6 @@ decoded-one e old new all b d c n u s h joins k l =
     ∙ ap (λ v. chars old ++ v) (sym step)
     ∙ joins
 
--- from a place to the end
+-- the bytes from an index to the end
 pub taken-rest : (n : ℕ) (d : List ℕ) → take (length d - n) (drop n d) ≡ drop n d
 taken-rest n d = ap (λ v. take v (drop n d)) (sym (length-drop n d)) ∙ take-length (drop n d)

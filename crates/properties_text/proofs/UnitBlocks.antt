@@ -1,4 +1,4 @@
--- Units of two bytes, eight and sixteen at once.
+-- Units of two bytes, eight and sixteen at a time.
 use Rattle.std.specs.Prelude.{encode_utf8_all}
 use Rattle.std.specs.Str.{chars, IsUtf8}
 use Rattle.std.proofs.lemmas.Str.{IsUtf8-append, chars-append, chars-encodes}
@@ -17,7 +17,7 @@ use Rattle.properties_text.specs.declared.encoding.unit_blocks.Written.{Written}
 use Rattle.properties_text.specs.declared.encoding.utf_16.ByteOrder.{ByteOrder}
 use Rattle.properties_text.specs.declared.encoding.utf_16.ByteOrder.TheVariants.{LowFirst, HighFirst}
 
--- ---- their bytes, the low ones and the high ones
+-- ---- their low bytes and their high bytes
 
 abbrev even_places : List ℕ
 even_places = 0 ∷ 2 ∷ 4 ∷ 6 ∷ 8 ∷ 10 ∷ 12 ∷ 14 ∷ 16 ∷ 18 ∷ 20 ∷ 22 ∷ 24 ∷ 26 ∷ 28 ∷ 30 ∷ []
@@ -25,14 +25,14 @@ even_places = 0 ∷ 2 ∷ 4 ∷ 6 ∷ 8 ∷ 10 ∷ 12 ∷ 14 ∷ 16 ∷ 18 ∷ 2
 abbrev odd_places : List ℕ
 odd_places = 1 ∷ 3 ∷ 5 ∷ 7 ∷ 9 ∷ 11 ∷ 13 ∷ 15 ∷ 17 ∷ 19 ∷ 21 ∷ 23 ∷ 25 ∷ 27 ∷ 29 ∷ 31 ∷ []
 
--- what the even places pick, and the odd ones
+-- What the lanes at even indices pick, and those at odd indices.
 pub evens-picked : (v : List ℕ) → length v ≡ 32 → pick_l 0 v even_places ≡ evens v
 evens-picked v long = ap evens (pick_l_whole 0 v 32 long)
 
 pub odds-picked : (v : List ℕ) → length v ≡ 32 → pick_l 0 v odd_places ≡ odds v
 odds-picked v long = ap odds (pick_l_whole 0 v 32 long)
 
--- where the high bytes are zero, the low ones are the units
+-- If the high bytes are zero, the low bytes are the units.
 pub low-units : (order : ByteOrder) (v : List ℕ) (n : ℕ) → AllByRecursion (λ h. h < 1) (take n (highs_of order v)) → take n (units_of order v) ≡ take n (lows_of order v)
 low-units order v zero h = refl
 low-units LowFirst [] (suc n) h = refl
@@ -46,13 +46,13 @@ low-units HighFirst (a ∷ b ∷ v) (suc n) h =
     let same : unit_of HighFirst a b ≡ b = omega (arith, h.0) in
     ap₂ (λ x xs. x ∷ xs) same (low-units HighFirst v n h.1)
 
--- the first n are below a number, where no mark of the others stands among them
+-- The first n are below a number if none of them is marked as at least that number.
 first-below : (least : ℕ) (v : List ℕ) (n : ℕ) → ((k : ℕ) → k < n → nat_le least (get_or v k 0) ≡ false) → AllByRecursion (λ b. b < least) (take n v)
 first-below least v zero h = tt
 first-below least [] (suc n) h = tt
 first-below least (b ∷ v) (suc n) h = (leb-false least b (h 0 (omega arith)), first-below least v n (λ k lt. h (suc k) (omega arith)))
 
--- the low bytes are below 100
+-- The low bytes are below 100 hexadecimal.
 below-evens : (v : List ℕ) (n : ℕ) → Each1 (Fits w8) v → AllByRecursion (λ u. u < 0x100) (take n (evens v))
 below-evens v zero h = tt
 below-evens [] (suc n) h = tt
@@ -75,26 +75,26 @@ fits-append (x ∷ a) b h k = (h.0, fits-append a b h.1 k)
 
 module _ (order : ByteOrder) (a b highs : List ℕ) (marks : List Bool) (n : ℕ) (is : highs ≡ highs_of order (a ++ b)) (marked : marks ≡ map (nat_le 1) highs)
     (few : n ≤ clear_front marks) where
-  -- the first of them are their low bytes
+  -- The first units are their low bytes.
   pub first-same : take n (lows_of order (a ++ b)) ≡ take n (units_of order (a ++ b))
   first-same =
       let zeros = first-below 1 highs n (fails-before (nat_le 1) highs marks n marked few) in
       sym (low-units order (a ++ b) n (subst (λ l. AllByRecursion (λ h. h < 1) (take n l)) is zeros))
 
-  -- and below 100
+  -- The first units are below 100 hexadecimal.
   pub first-bytes : Each1 (Fits w8) a → Each1 (Fits w8) b → AllByRecursion (λ u. u < 0x100) (take n (units_of order (a ++ b)))
   first-bytes fits_a fits_b = subst (AllByRecursion (λ u. u < 0x100)) first-same (below-lows order (a ++ b) n (fits-append a b fits_a fits_b))
 
--- units of some bytes, whatever comes after these
+-- The units of some bytes, whatever follows these bytes.
 pub front-units : (order : ByteOrder) (n : ℕ) (v more : List ℕ) → 2 * n ≤ length v → take n (units_of order (v ++ more)) ≡ take n (units_of order v)
 front-units order zero v more le = refl
 front-units order (suc n) [] more le = absurd (omega arith)
 front-units order (suc n) (a ∷ []) more le = absurd (omega arith)
 front-units order (suc n) (a ∷ b ∷ v) more le = ap (λ l. unit_of order a b ∷ l) (front-units order n v more (omega arith))
 
--- ---- what they stand for
+-- ---- what the units encode
 
--- n of the units of the first w bytes
+-- n of the units of the first w bytes.
 front-is : (order : ByteOrder) (n w : ℕ) (bytes : List ℕ) → 2 * n ≤ w → w ≤ length bytes → AllByRecursion (λ u. u < 0x100) (take n (units_of order (take w bytes)))
     → text_of (utf_16_of order) bytes ≡ take n (units_of order (take w bytes)) ++ text_of (utf_16_of order) (drop (2 * n) bytes)
 front-is order zero w bytes le long h = refl
@@ -108,7 +108,7 @@ front-is order (suc n) (suc (suc w)) (a ∷ b ∷ bytes) le long h =
     ∙ ap (λ l. unit_of order a b ∷ l) (front-is order n w bytes (omega arith) (omega arith) h.1)
     ∙ ap (λ k. unit_of order a b ∷ (take n (units_of order (take w bytes)) ++ text_of (utf_16_of order) (drop k (a ∷ b ∷ bytes)))) place
 
--- some of the units of the first w bytes are written
+-- Some of the units of the first w bytes are written.
 pub puts-units : (order : ByteOrder) (w : ℕ) (bytes old : List ℕ) (at most : ℕ) (new : List ℕ) (written : Written) → w ≤ length bytes → 2 * most ≤ w → at + 2 * most ≤ length old
     → PutsLatin1 (units_of order (take w bytes)) most old at new written → PutsUnits (utf_16_of order) bytes old at new written
 puts-units order w bytes old at most new written long le room put = record {
@@ -123,7 +123,7 @@ puts-units order w bytes old at most new written long le room put = record {
   same = front-is order written.units w bytes (omega (arith, put.within)) long put.bytes;
 }
 
--- where none are written
+-- No unit is written.
 pub puts-none : (encoding : Encoding) (bytes run : List ℕ) (at : ℕ) → at ≤ length run → PutsUnits encoding bytes run at run record { units = 0; end = at }
 puts-none encoding bytes run at le = record {
   same_room = refl;
@@ -137,7 +137,7 @@ puts-none encoding bytes run at le = record {
   same = refl;
 }
 
--- what stands before that place is left as it was
+-- The text before that index is unchanged.
 pub kept-before : (encoding : Encoding) (bytes old new : List ℕ) (at : ℕ) (written : Written) → at ≤ length old
     → PutsUnits encoding bytes old at new written → take at new ≡ take at old
 kept-before encoding bytes old new at written le puts =
@@ -145,7 +145,7 @@ kept-before encoding bytes old new at written le puts =
     ∙ ap (take at) puts.text
     ∙ take_at (take at old) (encode_utf8_all puts.front) at (length-take-le at old le)
 
--- so these characters are taken to a text
+-- The characters are appended to a text.
 pub decoded-units : (encoding : Encoding) (bytes old new all : List ℕ) (at : ℕ) (written : Written) → IsUtf8 (take at old) → PutsUnits encoding bytes old at new written
     → chars (take at old) ++ text_of encoding bytes ≡ all
     → IsUtf8 (take written.end new) × (chars (take written.end new) ++ text_of encoding (drop (2 * written.units) bytes) ≡ all)

@@ -11,7 +11,7 @@ use Rattle.properties_text.specs.declared.encoding.windows_1252.ByteText.{ByteTe
 use Rattle.properties_text.specs.declared.encoding.windows_1252.texts.TheConstants.{TEXTS}
 use Rattle.byte_blocks.proofs.Rows.{starts, starts-take}
 
--- one character more at the front of a text
+-- One more character at the front of a text is encoded.
 pub encodes-more : (text run rest more : List ℕ) (at c b : ℕ) → at < length run → EncodesFront text (take at run) rest → rest ≡ c ∷ more → windows_1252_byte c ≡ Some b
     → EncodesFront text (take (at + 1) (set run at b)) more
 encodes-more text run rest more at c b h front e k =
@@ -27,7 +27,7 @@ encodes-more text run rest more at c b h front e k =
 
 -- ---- each byte in UTF-8
 
--- a row of the table begins with the character of a byte, and ends with its length
+-- A row of the table begins with the character of a byte, and ends with its length.
 abbrev is_row : ℕ → List ℕ → Bool
 is_row b row =
     let text = encode_utf8 (windows_1252_character b) in

@@ -1,4 +1,4 @@
--- What each part of the decoder gives: the byte order mark, the first piece, and text that stands as it is.
+-- The results of the decoder's parts: the byte order mark, the first piece, and text that needs no decoding.
 use Rattle.std.specs.Prelude.{◌≡◌, ℕ, ◌≤◌, ◌<◌, ◌+◌, ◌*◌, ◌++◌, Bool, true, false, List, [], ◌∷◌, length, take, drop, encode_utf8_all}
 use Rattle.std.specs.List.{AllByRecursion}
 use Rattle.std.specs.Char.{IsScalar, encode_utf8}
@@ -26,14 +26,14 @@ use Rattle.properties_text.specs.declared.encoding.utf_16.ByteOrder.TheVariants.
 
 -- ---- The byte order mark.
 
--- whatever encoding is asked for, the bytes are in this one, or in the one asked for, from this place on
+-- Whichever encoding is requested, the bytes are in this encoding, and the body starts at this position.
 abbrev pub IsInForce : List ℕ → format.Encoding → ℕ → Type 0
 IsInForce b e n = (asked : format.Encoding) → format.byte_order_mark asked b ≡ record { encoding = e; body = drop n b }
 
 abbrev pub IsUnmarked : List ℕ → Type 0
 IsUnmarked b = (asked : format.Encoding) → format.byte_order_mark asked b ≡ record { encoding = asked; body = b }
 
--- what is told of the byte order mark at the front of some bytes
+-- The result says whether the bytes begin with a byte order mark, or that more bytes are needed to decide.
 abbrev pub TellsBom : List ℕ → ByteOrderMark → Type 0
 TellsBom b (Present e n) = IsInForce b (encoding_of e) n × (awaits_bom b ≡ false) × (n ≤ length b)
 TellsBom b Absent = IsUnmarked b × (awaits_bom b ≡ false)
@@ -41,18 +41,18 @@ TellsBom b Undecided = IsUnmarked b × (awaits_bom b ≡ true)
 
 -- ---- The first piece.
 
--- how the two bytes of a unit make it
+-- the unit that two bytes make
 abbrev pub unit_of : ByteOrder → ℕ → ℕ → ℕ
 unit_of LowFirst = low_first
 unit_of HighFirst = high_first
 
--- the units of some bytes
+-- the units of some bytes; an odd byte at the end is in none
 abbrev pub units_of : ByteOrder → List ℕ → List ℕ
 units_of order [] = []
 units_of order (a ∷ []) = []
 units_of order (a ∷ b ∷ bytes) = unit_of order a b ∷ units_of order bytes
 
--- the bytes at the even places, and those at the odd ones
+-- the bytes at even indices, and those at odd indices, of whole pairs of bytes
 abbrev pub evens : List ℕ → List ℕ
 evens [] = []
 evens (a ∷ []) = []
@@ -63,7 +63,7 @@ odds [] = []
 odds (a ∷ []) = []
 odds (a ∷ b ∷ bytes) = b ∷ odds bytes
 
--- the low bytes of the units of some bytes, and the high ones
+-- the low bytes of the units of some bytes, and the high bytes
 abbrev pub lows_of : ByteOrder → List ℕ → List ℕ
 lows_of LowFirst = evens
 lows_of HighFirst = odds
@@ -75,43 +75,43 @@ highs_of HighFirst = evens
 abbrev pub range_of : ByteRange → Range
 range_of r = from_to r.0 r.1
 
--- this piece is shown, and whether bytes that come may change it
+-- The result shows this piece, and whether further bytes may change it.
 pub record ShowsPiece (p : Piece) (waits : Bool) (shown : FirstPiece) : Type 0 where
   pub character_is : shown.character ≡ p.character
   pub length_is : shown.length ≡ length p.bytes
   pub may_change_is : shown.may_change ≡ waits
 
--- the first piece of a first byte and those after it is shown
+-- The result is the first piece of a first byte and the bytes after it.
 abbrev pub IsFirstPiece : format.Encoding → ℕ → List ℕ → FirstPiece → Type 0
 IsFirstPiece e b d shown = ShowsPiece (first_piece e b d) (awaits_more e b d) shown
 
 -- ---- Text.
 
--- the characters of some bytes by themselves
+-- the characters of some bytes, decoded by themselves
 abbrev pub text_of : Encoding → List ℕ → List ℕ
 text_of encoding d = characters (pieces_of (encoding_of encoding) d)
 
--- These are four characters of ASCII, and the bytes after them.
+-- The result has these four ASCII characters, and the bytes after them.
 pub record AreFour (a b c d : ℕ) (rest : List ℕ) (front : AsciiFront) : Type 0 where
   pub text : front.text ≡ a ∷ b ∷ c ∷ d ∷ []
   pub rest_is : front.rest.now ≡ rest
   pub ascii : AllByRecursion (λ u. u < 0x80) (a ∷ b ∷ c ∷ d ∷ [])
 
--- The text of some bytes begins with these four characters of ASCII, and goes on with that of these bytes.
+-- The text of some bytes begins with these four ASCII characters, and continues with the text of the remaining bytes.
 pub record IsAsciiFront (encoding : Encoding) (bytes : List ℕ) (front : AsciiFront) : Type 0 where
   pub ascii : AllByRecursion (λ u. u < 0x80) front.text
   pub four : length front.text ≡ 4
   pub same : text_of encoding bytes ≡ front.text ++ text_of encoding front.rest.now
   pub shorter : length front.rest.now + 4 ≤ length bytes
 
--- The character of a byte of windows-1252, in UTF-8.
+-- The result is the character of a windows-1252 byte, in UTF-8.
 pub record IsTextOfByte (byte : ℕ) (text : ByteText) : Type 0 where
   pub begins : take text.length text.bytes ≡ encode_utf8 (windows_1252_character byte)
   pub some : 0 < text.length
   pub few : text.length ≤ 3
   pub scalar : IsScalar (windows_1252_character byte)
 
--- Bytes at the front were decoded, and their text stands in a run, after the text that ended at a place.
+-- Bytes at the front were decoded, and their text was written to a run, after the text that ended at `start`.
 pub record DecodesFront (encoding : Encoding) (bytes old : List ℕ) (start : ℕ) (new : List ℕ) (decoded : Decoded) : Type 0 where
   pub same_room : length new ≡ length old
   pub within : decoded.end ≤ length new
@@ -120,7 +120,8 @@ pub record DecodesFront (encoding : Encoding) (bytes old : List ℕ) (start : �
   pub is_text : IsUtf8 (take decoded.end new)
   pub text : chars (take decoded.end new) ++ text_of encoding decoded.rest.now ≡ chars (take start old) ++ text_of encoding bytes
 
--- The first units, no more than so many, are characters of Latin-1, and their text was put into a run from a place on.
+-- The leading units, at most `most` of them, are characters of Latin-1, and their text was written to a run at index
+-- `at`.
 pub record PutsLatin1 (units : List ℕ) (most : ℕ) (old : List ℕ) (at : ℕ) (new : List ℕ) (written : Written) : Type 0 where
   pub same_room : length new ≡ length old
   pub within : written.units ≤ most
@@ -130,7 +131,7 @@ pub record PutsLatin1 (units : List ℕ) (most : ℕ) (old : List ℕ) (at : ℕ
   pub scalars : all_scalars (take written.units units) ≡ true
   pub text : take written.end new ≡ take at old ++ encode_utf8_all (take written.units units)
 
--- The text of some bytes begins with so many characters, of two bytes each, and these are written from a place on.
+-- The text of some bytes begins with this many characters of two bytes each, and these were written at index `at`.
 pub record PutsUnits (encoding : Encoding) (bytes old : List ℕ) (at : ℕ) (new : List ℕ) (written : Written) : Type 0 where
   pub same_room : length new ≡ length old
   pub room : written.end ≤ length new
@@ -146,14 +147,14 @@ abbrev pub utf_16_of : ByteOrder → Encoding
 utf_16_of LowFirst = UTF_16LE
 utf_16_of HighFirst = UTF_16BE
 
--- The bytes are text as they stand, in UTF-8: they are ASCII, or well-formed from the first to the last. In UTF-16 none are.
+-- The bytes are valid UTF-8 without being decoded: they are ASCII, or all of them are well-formed. In UTF-16, none are.
 abbrev pub IsText : format.Encoding → List ℕ → Type 0
 IsText format.windows_1252 d = IsAscii d
 IsText format.utf_8 d = IsWellFormedText d
 IsText format.utf_16le d = ⊥
 IsText format.utf_16be d = ⊥
 
--- Where memory ran out: the text, in UTF-8, is a beginning of what it was to become, and no shorter than it was.
+-- If memory ran out, the text, in UTF-8, is a beginning of the text that was to be made, and no shorter than before.
 pub record KeepsText (old more new : List ℕ) : Type 0 where
   pub others : List ℕ
   pub begins : chars new ++ others ≡ chars old ++ more

@@ -1,4 +1,4 @@
--- What a contract sees of escapes.
+-- The results of resolving escapes, as contracts see them.
 use Rattle.std.specs.Prelude.{◌≡◌, ◌<◌, ◌||◌, ◌==◌, ℕ, Bool, true, false, if◌then◌else◌, List, [], ◌∷◌, ◌++◌, length, Option, Some, None, Result, Ok, Err}
 use Rattle.std.specs.Str.{chars}
 use Rattle.std.specs.Cow.{cow_str_bytes}
@@ -15,12 +15,12 @@ use Rattle.properties_text.specs.declared.escape.Escape.{Escape}
 use Rattle.properties_text.specs.declared.escape.CodeUnit.{CodeUnit}
 use Rattle.properties_text.specs.declared.escape.Four.{Four}
 
--- the text holds a backslash
+-- whether the text contains a backslash
 abbrev pub holds_backslash : List ℕ → Bool
 holds_backslash [] = false
 holds_backslash (c ∷ cs) = c == backslash || holds_backslash cs
 
--- the answer is a text that was lent
+-- whether the result is a borrowed text
 abbrev pub is_lent : {Z E : Type 0} → Result (CowStr Z) E → Bool
 is_lent (Ok (cow.Borrowed text)) = true
 is_lent (Ok (cow.Owned text)) = false
@@ -31,29 +31,30 @@ malformed_in NotEnoughDigits = format.not_enough_digits
 malformed_in NotHex = format.not_hex
 malformed_in InvalidCharacter = format.invalid_character
 
--- The text breaks, and the error says how; or there was no memory.
+-- An escape of the text is malformed, and the error reports how; or memory ran out.
 abbrev pub IsRefused : List ℕ → UnescapeError → Type 0
 IsRefused text (error.Malformed malformed) = format.Breaks text (malformed_in malformed)
 IsRefused text error.Memory = Unit
 
--- What resolving the escapes of a text answers: the text that it means; or how it breaks; or that there was no memory.
+-- The result of resolving the escapes of a text: the text that it means; how its first malformed escape is malformed;
+-- or that memory ran out.
 abbrev pub Unescapes : {Z : Type 0} → List ℕ → Result (CowStr Z) UnescapeError → Type 0
 Unescapes text (Ok meant) = format.Means text (chars (cow_str_bytes meant))
 Unescapes text (Err e) = IsRefused text e
 
--- The text begins with an escape, which stands for a character before what the rest means; or it breaks at its front.
+-- The text begins with an escape, whose character comes before what the rest means; or its first escape is malformed.
 abbrev pub Resolves : List ℕ → Result Escape Malformed → Type 0
 Resolves text (Ok escape) = meaning_of text ≡ in_front escape.character (meaning_of (chars escape.rest.now))
 Resolves text (Err malformed) = meaning_of text ≡ format.breaks (malformed_in malformed)
 
--- The text is four hexadecimal digits, which write this, and a rest.
+-- The text is four hexadecimal digits with this value, and a rest.
 pub record IsUnit (text : List ℕ) (value : ℕ) (rest : List ℕ) : Type 0 where
   pub digits : format.Four
   pub whole : text ≡ format.four_text digits ++ rest
   pub hexadecimal : format.are_hexadecimal digits ≡ true
   pub writes : value ≡ format.code_unit digits
 
--- The text begins with four characters that are not all hexadecimal digits.
+-- The text begins with four characters that aren't all hexadecimal digits.
 pub record LacksDigit (text : List ℕ) : Type 0 where
   pub four : format.Four
   pub rest : List ℕ
@@ -69,12 +70,12 @@ ReadsUnit text (Err InvalidCharacter) = ⊥
 abbrev pub four_of : Four → format.Four
 four_of four = record { first = four.first; second = four.second; third = four.third; fourth = four.fourth }
 
--- The text begins with these four characters, or has fewer.
+-- The text begins with these four characters, or has fewer than four.
 abbrev pub StartsWithFour : List ℕ → Option Four → Type 0
 StartsWithFour text None = length text < 4
 StartsWithFour text (Some four) = text ≡ format.four_text (four_of four) ++ chars four.rest.now
 
--- what a byte counts as a hexadecimal digit, or more than four digits write
+-- the value of a byte as a hexadecimal digit, or a number too large for four digits if it isn't one
 abbrev pub digit_value : ℕ → ℕ
 digit_value b = if format.is_hexadecimal b then format.hexadecimal_value b else 0x10000
 
@@ -82,7 +83,7 @@ digit_value b = if format.is_hexadecimal b then format.hexadecimal_value b else 
 abbrev pub four_bytes : ℕ → ℕ → ℕ → ℕ → format.Four
 four_bytes first second third fourth = record { first = first; second = second; third = third; fourth = fourth }
 
--- What resolving the escapes of a text and appending it to another answers and leaves.
+-- The result of resolving the escapes of a text and appending it to another, and the text afterwards.
 abbrev pub Appends : List ℕ → List ℕ → Result Unit UnescapeError → List ℕ → Type 0
 Appends text before (Ok done) after = (meant : List ℕ) × (meaning_of text ≡ format.means meant) × (after ≡ before ++ meant)
 Appends text before (Err e) after = IsRefused text e

@@ -1,4 +1,4 @@
--- What is appended for a text, by where it stands.
+-- What is appended when a text is printed, by its place in the line.
 use Rattle.std.specs.Prelude.{◌≡◌, ℕ, ◌*◌, ◌≤◌, nat_lt, ◌==◌, length, take, Bool, false, if◌then◌else◌, List, [], ◌∷◌, ◌++◌, Option, Some, None, Result, OnOk}
 use Rattle.std.specs.Str.{chars}
 use Rattle.properties_format.specs.Printing as format
@@ -17,11 +17,11 @@ place_of KeyOrValue = format.in_key_or_value
 place_of Comment = format.in_comment
 place_of Prefix = format.in_prefix
 
--- where memory was found, the buffer has the bytes after those that it had
+-- If memory was found, the buffer now has these bytes after those that it had.
 abbrev pub AppendsOnOk : {A E : Type 0} → List ℕ → List ℕ → Result A E → List ℕ → Type 0
 AppendsOnOk old bytes result new = OnOk result (new ≡ old ++ bytes)
 
--- all of windows-1252, as while ASCII alone is off
+-- the repertoire of windows-1252, with ASCII-only output off
 abbrev pub all_of_windows_1252 : Repertoire
 all_of_windows_1252 = record { encoding = Windows1252; ascii_only = false }
 
@@ -35,45 +35,45 @@ text_bytes r place text = format.encoded_text (output_of r.encoding) (format.spe
 abbrev pub key_bytes : Repertoire → Bool → List ℕ → List ℕ
 key_bytes r first key = format.encoded_text (output_of r.encoding) (format.spelt_key (output_of r.encoding) r.ascii_only first key)
 
--- a character inside a value that is set in place, where there is one
+-- the character held back inside a value that is set in place, or nothing if none is
 abbrev pub held_text : Encoding → Option ℕ → List ℕ
 held_text e None = []
 held_text e (Some c) = spelt_inside e c
 
 -- ---- bytes of an output encoding
 
--- a byte as it is printed in a key or a value: past ASCII it stands as it is
+-- a byte of a key or a value as it is printed: bytes above ASCII are copied
 abbrev pub spelt_byte : ℕ → List ℕ
 spelt_byte b =
     if format.is_special b then backslash ∷ b ∷ []
     else (if format.has_letter b then format.letter_escape b else (if nat_lt b space then format.unicode_escape b else b ∷ []))
 
--- and several, byte by byte
+-- several bytes, printed one by one
 abbrev pub spelt_bytes : List ℕ → List ℕ
 spelt_bytes [] = []
 spelt_bytes (b ∷ bs) = spelt_byte b ++ spelt_bytes bs
 
--- how many backslashes stand before the last byte of that, or 2 where it is a longer escape
+-- the number of backslashes before the last byte that is printed, or 2 if a longer escape is printed
 abbrev pub backslashes_before : ℕ → ℕ
 backslashes_before b = if format.is_special b then 1 else (if format.has_letter b then 1 else (if nat_lt b space then 2 else 0))
 
--- the last byte of that, where it is no longer escape
+-- the last byte that is printed, unless a longer escape is
 abbrev pub last_of : ℕ → ℕ
 last_of b =
     if format.is_special b then b
     else (if format.has_letter b then (if b == tab then 0x74 else (if b == line_feed then 0x6e else (if b == form_feed then 0x66 else 0x72))) else b)
 
--- bytes with a backslash before each that is special
+-- the bytes, with a backslash before each special one
 abbrev pub with_backslashes : List ℕ → List ℕ
 with_backslashes [] = []
 with_backslashes (b ∷ bs) = (if format.is_special b then backslash ∷ b ∷ [] else b ∷ []) ++ with_backslashes bs
 
--- how far bytes were printed, and where what is printed for them stands
+-- This many bytes were printed, and the output begins with what is printed for them.
 pub record ArePrinted (bytes : List ℕ) (printed : Printed) (out : List ℕ) : Type 0 where
   pub read : printed.read ≤ length bytes
   pub written : printed.written ≤ 2 * printed.read
   pub same : take printed.written out ≡ spelt_bytes (take printed.read bytes)
 
--- the text of these bytes is printed in a key or a value as they are, byte by byte
+-- The text of these bytes, in a key or a value, can be printed byte by byte.
 abbrev pub Stands : Repertoire → List ℕ → Type 0
 Stands r bytes = text_bytes r KeyOrValue (chars bytes) ≡ spelt_bytes bytes

@@ -1,4 +1,4 @@
-//! Bytes to characters, and characters to bytes.
+//! Decoding bytes to characters, and encoding characters as bytes.
 
 ghost use Rattle.std.specs.Prelude.{◌≡◌};
 ghost use Rattle.std.specs.Option.{option_map};
@@ -28,9 +28,9 @@ use std::fmt;
 pub use text_buffer::TextBuffer;
 pub(crate) use windows_1252::{byte_of, has_byte};
 
-/// The encodings of properties files, by the names of the WHATWG Encoding Standard.
+/// The encodings of properties files, named as in the WHATWG Encoding Standard.
 ///
-/// It prints its [`name`](Encoding::name), and is ordered as its variants stand here.
+/// An encoding prints as its [`name`](Encoding::name). Encodings are ordered as the variants are listed here.
 ///
 /// ```text
 /// println!(rt; "{}", Encoding::UTF_16LE)?; // utf-16le
@@ -38,18 +38,18 @@ pub(crate) use windows_1252::{byte_of, has_byte};
 #[allow(non_camel_case_types)]
 #[derive(Clone, Copy, Debug, PartialEq, Eq, PartialOrd, Ord, Hash)]
 pub enum Encoding {
-    /// One byte a character, which Java's files are in where they say nothing else.
+    /// One byte per character. Java's files are in this encoding unless they say otherwise.
     WINDOWS_1252,
-    /// One to four bytes a character.
+    /// One to four bytes per character.
     UTF_8,
-    /// Units of two bytes, the low one first.
+    /// UTF-16 with the low byte of each unit first.
     UTF_16LE,
-    /// Units of two bytes, the high one first.
+    /// UTF-16 with the high byte of each unit first.
     UTF_16BE,
 }
 
 impl Encoding {
-    /// The encoding to write in: itself, but UTF-8 in the place of a form of UTF-16.
+    /// Returns the encoding to write in: UTF-8 for either form of UTF-16, otherwise the encoding itself.
     pub fn output_encoding(self) -> Encoding
         ensures { encoding_of result ≡ output_encoding (encoding_of self) }
     {
@@ -59,10 +59,11 @@ impl Encoding {
         }
     }
 
-    /// The encoding of this name: `windows-1252`, `utf-8`, `utf-16le` or `utf-16be`.
+    /// Returns the encoding with this name: `windows-1252`, `utf-8`, `utf-16le` or `utf-16be`. Returns `None` for any
+    /// other text.
     ///
-    /// Names are in lower case, and another spelling, as `UTF-8`, is none. The standard's labels ignore the case and
-    /// have blanks and further spellings, so whoever takes labels looks them up before.
+    /// Names are in lower case, and other spellings such as `UTF-8` aren't accepted. The standard's labels ignore case
+    /// and include blanks and more spellings; a program that accepts labels has to look them up first.
     ///
     /// ```text
     /// Encoding::from_name("utf-16le"); // Some(Encoding::UTF_16LE)
@@ -80,7 +81,7 @@ impl Encoding {
         }
     }
 
-    /// Its name: the one by which [`from_name`](Encoding::from_name) finds it.
+    /// Returns the encoding's name, which [`from_name`](Encoding::from_name) accepts.
     ///
     /// ```text
     /// Encoding::UTF_16LE.name(); // "utf-16le"

@@ -1,4 +1,4 @@
-//! What the escapes of a key, a value or a comment's text stand for.
+//! Resolving the escapes of a key, a value or a comment's text.
 
 ghost use Rattle.std.specs.Prelude.{◌≡◌, ◌≤◌, ◌<◌, ◌∷◌, ◌&&◌, ◌==◌, slice_index, ℕ, List, not, length, ◌++◌, IfOk, OnOk, IfSome, Some, None, if◌then◌else◌};
 ghost use Rattle.std.specs.Char.{IsScalar};
@@ -19,24 +19,26 @@ use units::{first_digits, is_run, put_units};
 
 mod units;
 
-// Up to how many bytes a backslash is searched for here. In more, a search by larger steps pays.
+pub(crate) use units::{escaped_byte, value_of};
+
+// Up to this many bytes, a backslash is searched for inline. In longer texts, the larger steps of `memchr` pay off.
 const SHORT: usize = 128;
 
-/// How escapes are malformed.
+/// The ways in which an escape is malformed.
 #[derive(Clone, Copy, Debug, PartialEq, Eq)]
 pub enum Malformed {
-    /// Fewer than four characters come after a `\u`.
+    /// Fewer than four characters follow a `\u`.
     NotEnoughDigits,
-    /// One of the four characters after a `\u` is no hexadecimal digit.
+    /// One of the four characters after a `\u` isn't a hexadecimal digit.
     NotHex,
-    /// An escape stands for a surrogate that has no partner.
+    /// An escape is a surrogate without its other half.
     InvalidCharacter,
 }
 
-/// Why the escapes of a text aren't resolved.
+/// Why the escapes of a text can't be resolved.
 #[derive(Clone, Copy, Debug, PartialEq, Eq)]
 pub enum UnescapeError {
-    /// An escape is malformed. Of several the first one says how.
+    /// An escape is malformed. If there are several, this is the first one.
     Malformed(Malformed),
     /// Memory ran out.
     Memory,
@@ -50,9 +52,10 @@ impl From<AllocError> for UnescapeError {
     }
 }
 
-/// The text with its escapes resolved, which is the text itself where it holds no backslash.
+/// Returns the text with its escapes resolved. A text without a backslash is borrowed, not copied.
 ///
-/// A backslash that stands last is U+0000. Of several malformed escapes the error is that of the first.
+/// A backslash at the end of the text means U+0000. Fails if an escape is malformed, with the error of the first one,
+/// or if memory runs out.
 ///
 /// ```text
 /// let text = unescape(alloc, r"caf\u00e9\tbar")?; // `café`, a tab and `bar`, owned
@@ -64,21 +67,21 @@ pub fn unescape(alloc: Global, s: &str) -> Result<CowStr<'_>, UnescapeError>
     let Some(first) = find_backslash(s.as_bytes()) else {
         return Ok(CowStr::Borrowed(s));
     };
-    // What an escape stands for is never longer than the escape.
+    // A resolved escape is never longer than the escape itself.
     let mut text = String::with_capacity(alloc, s.len())?;
     push_part(&mut text, &s[..first])?;
     push_resolved(&mut text, &s[first..])?;
     Ok(CowStr::Owned(text))
 }
 
-/// Whether the text holds a backslash.
+/// Returns whether the text contains a backslash.
 pub fn has_backslash(s: &str) -> bool
     ensures { result ≡ holds_backslash (chars s.now) }
 {
     find_backslash(s.as_bytes()).is_some()
 }
 
-// How many bytes of characters are put together at once.
+// How many bytes of resolved characters are collected before they are appended.
 const RUN: usize = 64;
 
 // Appends the text with its escapes resolved.
@@ -93,7 +96,7 @@ fn push_resolved(text: &mut String, s: &str) -> Result<(), UnescapeError>
         if is_run(after.as_bytes()) {
             let units = put_units(&mut run, after);
             if units.end > 0 {
-                // SAFETY: what was put into the run is text.
+                // SAFETY: the bytes written to the run are valid UTF-8.
                 let more = unsafe { str::from_utf8_unchecked(&run[..units.end]) };
                 text.push_str(more)?;
                 rest = units.rest;
@@ -111,7 +114,7 @@ fn push_resolved(text: &mut String, s: &str) -> Result<(), UnescapeError>
     Ok(())
 }
 
-// Appends a part of a text. Between escapes that stand side by side there is none.
+// Appends part of a text. Between adjacent escapes it is empty.
 #[inline(always)]
 fn push_part(text: &mut String, part: &str) -> Result<(), AllocError>
     ensures { OnOk result (string_bytes text.new ≡ string_bytes text.old ++ part.now) }
@@ -122,7 +125,7 @@ fn push_part(text: &mut String, part: &str) -> Result<(), AllocError>
     text.push_str(part)
 }
 
-// The place of the first backslash. Where escapes stand side by side, none is searched for.
+// The index of the first backslash. Between adjacent escapes no search is needed.
 #[inline]
 fn find_next(text: &[u8]) -> Option<usize>
     ensures { IsFirstByte (is_byte backslash) text.now result }
@@ -133,7 +136,7 @@ fn find_next(text: &[u8]) -> Option<usize>
     }
 }
 
-// The place of the first backslash. In a short text it is found without a call.
+// The index of the first backslash. In a short text, found without a call.
 #[inline(always)]
 fn find_backslash(text: &[u8]) -> Option<usize>
     ensures { IsFirstByte (is_byte backslash) text.now result }
@@ -144,7 +147,7 @@ fn find_backslash(text: &[u8]) -> Option<usize>
     }
 }
 
-// What an escape stands for, and the text after it.
+// The character of an escape, and the text after it.
 #[derive(Clone, Copy)]
 struct Escape<'a> {
     character: char,
@@ -159,7 +162,7 @@ impl<'a> Escape<'a> {
     }
 }
 
-// The escape of a backslash, by the text after it.
+// Reads an escape, given the text after its backslash.
 fn read_escape(text: &str) -> Result<Escape<'_>, Malformed>
     ensures meaning { Resolves (backslash ∷ chars text.now) result }
     ensures scalar { IfOk result (λ escape. IsScalar escape.character) }
@@ -181,7 +184,8 @@ fn read_escape(text: &str) -> Result<Escape<'_>, Malformed>
     })
 }
 
-// The escape of a `\u`, by the text after it. Two stand for one character, where they write its surrogates.
+// Reads an escape, given the text after its `\u`. If its digits are a high surrogate, the next escape must be the low
+// one; both make one character.
 fn read_unicode(text: &str) -> Result<Escape<'_>, Malformed>
     ensures meaning { Resolves (backslash ∷ letter_u ∷ chars text.now) result }
     ensures scalar { IfOk result (λ escape. IsScalar escape.character) }
@@ -197,7 +201,7 @@ fn read_unicode(text: &str) -> Result<Escape<'_>, Malformed>
     }
 }
 
-// The escape of a surrogate, of which the other half is still to be read. It stands apart, since it is rare.
+// Reads the other half of a surrogate whose escape was read. Kept out of line because surrogates are rare.
 #[inline(never)]
 fn read_low_surrogate(high: u32, rest: &str) -> Result<Escape<'_>, Malformed>
     requires low { 0xd800 ≤ high }
@@ -219,7 +223,7 @@ fn read_low_surrogate(high: u32, rest: &str) -> Result<Escape<'_>, Malformed>
     Err(Malformed::InvalidCharacter)
 }
 
-// The character of a high surrogate and a low one.
+// The character of a high and a low surrogate.
 fn join_surrogates(high: u32, low: u32) -> Option<char>
     requires { 0xd800 ≤ high }
     ensures scalar { IfSome result IsScalar }
@@ -231,7 +235,7 @@ fn join_surrogates(high: u32, low: u32) -> Option<char>
     char::from_u32(0x1_0000 + (high - 0xd800) * 0x400 + (low - 0xdc00))
 }
 
-// What four hexadecimal digits write, and the text after them.
+// The value of four hexadecimal digits, and the text after them.
 #[derive(Clone, Copy)]
 struct CodeUnit<'a> {
     value: u32,
@@ -249,7 +253,7 @@ fn read_unit(text: &str) -> Result<CodeUnit<'_>, Malformed>
     }
 }
 
-// The same by characters, which tells how they fail.
+// Reads four digits character by character, to find out what is wrong with them.
 #[inline(never)]
 fn read_characters(text: &str) -> Result<CodeUnit<'_>, Malformed>
     ensures digits { ReadsUnit (chars text.now) result }
@@ -296,7 +300,7 @@ fn first_four(text: &str) -> Option<Four<'_>>
 }
 
 impl Four<'_> {
-    // What they write, where all are hexadecimal digits.
+    // The value of the four characters, if all are hexadecimal digits.
     fn value(&self) -> Option<u32>
         ensures { result ≡ (if are_hexadecimal (four_of self.now) then Some (code_unit (four_of self.now)) else None) }
     {
@@ -315,7 +319,7 @@ fn hexadecimal_digit(character: char) -> Option<u32>
     character.to_digit(16)
 }
 
-/// How many backslashes a text ends in.
+/// Returns the number of backslashes at the end of a text.
 pub fn count_ending_backslashes(s: &str) -> usize
     ensures { result ≡ ending_backslashes (chars s.now) }
 {

@@ -1,10 +1,9 @@
-//! The texts of properties files: their bytes, their parts, and what their escapes stand for.
+//! The texts of properties files: decoding their bytes, finding their parts, and resolving their escapes.
 //!
-//! What a reader or a writer of such files does with a single line stands here, and knows nothing of streams. Bytes are
-//! decoded to a [`TextBuffer`](encoding::TextBuffer), the parts of a logical line are found by
-//! [`parse_spans`](parse::parse_spans), escapes are resolved by [`unescape`](escape::unescape), and texts are printed by
-//! [`print_text`](print::print_text) to a [`LineBuffer`](print::LineBuffer). The
-//! [byte order mark](encoding::byte_order_mark) is of a whole input.
+//! This crate has what a reader or a writer does with a single line, and knows nothing of streams. A
+//! [`TextBuffer`](encoding::TextBuffer) decodes bytes, [`parse_spans`](parse::parse_spans) finds the parts of a logical
+//! line, [`unescape`](escape::unescape) resolves escapes, and [`print_text`](print::print_text) prints texts to a
+//! [`LineBuffer`](print::LineBuffer). A [byte order mark](encoding::byte_order_mark) belongs to the input as a whole.
 #![tactic(auto)]
 
 pub mod characters;

@@ -1,47 +1,58 @@
-//! A logical line, cut into its parts.
+//! Finds the parts of a logical line.
 
 ghost use Rattle.std.specs.Prelude.{◌≡◌, ◌≤◌, Some, true, false, length, take, drop, slice_index};
 ghost use Rattle.std.specs.List.{All};
-ghost use Rattle.std.specs.Str.{chars};
+ghost use Rattle.std.specs.Str.{IsUtf8, chars};
 ghost use Rattle.properties_format.specs.Text.{is_blank, without_leading_blanks};
 ghost use Rattle.properties_format.specs.Split.{IsSplit};
 ghost use Rattle.properties_format.specs.Reading.Split.{without_trailing_blanks, trimmed, ends_key, cut_key, past_separator};
-ghost use Rattle.properties_text.specs.Parsing.{stays_in_key, bytes_in, spanned, in_characters, IsSpan, AreSpans, AreInPlace};
+ghost use Rattle.properties_text.specs.Parsing.{stays_in_key, bytes_in, spanned, in_characters, IsSpan, AreSpans, AreInPlace, AreFoundInText};
 
 use crate::characters::{is_blank, is_comment_sign, is_separator};
 use byte_blocks::{Blanks, Controls, Either, Except, Specials, find_in_block};
 
-/// Where a part of a line stands, in bytes from the start of the line.
+/// The position of a part of a line, in bytes from the start of the line.
 #[derive(Clone, Copy)]
 pub struct Span {
-    /// The place of its first byte.
+    /// The index of its first byte.
     pub start: usize,
-    /// The place after its last byte.
+    /// The index after its last byte.
     pub end: usize,
 }
 
-/// Where the parts of a line stand.
+/// The positions of a line's parts.
 #[derive(Clone, Copy)]
 pub enum ParsedSpans {
     /// The text after the comment sign, without the blanks around it.
     Comment(Span),
-    /// The key, and the value with the blanks that end it.
+    /// The key, and the value with any blanks at its end.
     KVPair(Span, Span),
 }
 
-// A line of so many bytes is parsed apart, and its blanks by blocks. In a shorter one a call would cost as much as the
-// parsing.
+// Lines of at least this many bytes are parsed out of line, and their blanks are skipped block by block. For a shorter
+// line, a call would cost as much as parsing it.
 const LONG: usize = 128;
 
-/// Where the parts of a line stand, or `None` where the line is blanks alone.
+/// Returns the positions of a line's parts, or `None` if the line is all blanks.
 ///
-/// Line ends are characters like others here.
+/// CR and LF have no special meaning here.
 #[inline(always)]
 pub fn parse_spans(line: &str) -> Option<ParsedSpans>
     ensures slices { IsSplit line.now (spanned line.now result) }
     ensures meets { IsSplit (chars line.now) (in_characters (spanned line.now result)) }
     ensures spans { AreSpans line.now result }
     ensures places { AreInPlace line.now result }
+{
+    parse_bytes(line.as_bytes())
+}
+
+/// The same of a line that need not be text, in an encoding that has each character of ASCII as one byte, and no such
+/// byte elsewhere.
+#[inline(always)]
+pub fn parse_bytes(line: &[u8]) -> Option<ParsedSpans>
+    ensures slices { IsSplit line.now (spanned line.now result) }
+    ensures places { AreInPlace line.now result }
+    ensures text { IsUtf8 line.now → AreFoundInText line.now result }
 {
     if line.len() < LONG {
         parse_by::<false>(line)
@@ -51,24 +62,21 @@ pub fn parse_spans(line: &str) -> Option<ParsedSpans>
 }
 
 #[inline(never)]
-fn parse_long(line: &str) -> Option<ParsedSpans>
+fn parse_long(line: &[u8]) -> Option<ParsedSpans>
     ensures slices { IsSplit line.now (spanned line.now result) }
-    ensures meets { IsSplit (chars line.now) (in_characters (spanned line.now result)) }
-    ensures spans { AreSpans line.now result }
     ensures places { AreInPlace line.now result }
+    ensures text { IsUtf8 line.now → AreFoundInText line.now result }
 {
     parse_by::<true>(line)
 }
 
-// Blanks are passed by blocks, where there may be many.
+// If there may be many blanks, they are skipped block by block.
 #[inline(always)]
-fn parse_by<const MANY: bool>(line: &str) -> Option<ParsedSpans>
-    ensures slices { IsSplit line.now (spanned line.now result) }
-    ensures meets { IsSplit (chars line.now) (in_characters (spanned line.now result)) }
-    ensures spans { AreSpans line.now result }
-    ensures places { AreInPlace line.now result }
+fn parse_by<const MANY: bool>(bytes: &[u8]) -> Option<ParsedSpans>
+    ensures slices { IsSplit bytes.now (spanned bytes.now result) }
+    ensures places { AreInPlace bytes.now result }
+    ensures text { IsUtf8 bytes.now → AreFoundInText bytes.now result }
 {
-    let bytes = line.as_bytes();
     let start = past_blanks::<MANY>(bytes, 0);
     let first = *bytes.get(start)?;
     if is_comment_sign(char::from(first)) {
@@ -87,7 +95,7 @@ fn parse_by<const MANY: bool>(line: &str) -> Option<ParsedSpans>
     Some(ParsedSpans::KVPair(key, value))
 }
 
-// Where the bytes from here on stand without the blanks around them.
+// The position of the bytes from `from` on, without the blanks around them.
 fn trimmed_span<const MANY: bool>(line: &[u8], from: usize) -> Span
     requires { from ≤ length line.now }
     ensures ordered { result.start ≤ result.end }
@@ -101,7 +109,7 @@ fn trimmed_span<const MANY: bool>(line: &[u8], from: usize) -> Span
 }
 
 impl Span {
-    /// The part of the line in which this span was found.
+    /// Returns the part of the line at this position. The line must be the one in which the span was found.
     pub fn cut(self, line: &str) -> &str
         requires { IsSpan line.now self }
         ensures { result.now ≡ bytes_in line.now self }
@@ -110,7 +118,7 @@ impl Span {
     }
 }
 
-/// How many blanks the text begins with.
+/// Returns the number of blanks at the front of the text.
 pub fn leading_blanks(text: &[u8]) -> usize
     ensures within { result ≤ length text.now }
     ensures rest { drop result text.now ≡ without_leading_blanks text.now }
@@ -118,7 +126,8 @@ pub fn leading_blanks(text: &[u8]) -> usize
     past_blanks::<true>(text, 0)
 }
 
-// The place of the first byte from here on that is no blank. Mostly there is no blank, or one, which takes no call.
+// The index of the first byte from `from` on that isn't a blank. Usually there are no blanks or one, which takes no
+// call.
 #[inline(always)]
 fn past_blanks<const MANY: bool>(text: &[u8], from: usize) -> usize
     requires { from ≤ length text.now }
@@ -138,7 +147,7 @@ fn past_blanks<const MANY: bool>(text: &[u8], from: usize) -> usize
     from + 2 + count_blanks(&text[from + 2..])
 }
 
-// The same, one by one.
+// Skips blanks one by one.
 #[inline(always)]
 fn past_few_blanks(text: &[u8], from: usize) -> usize
     requires { from ≤ length text.now }
@@ -153,7 +162,7 @@ fn past_few_blanks(text: &[u8], from: usize) -> usize
     at
 }
 
-// How many blanks the text begins with, by blocks of sixteen.
+// The number of blanks at the front of the text, counted in blocks of sixteen.
 #[inline(never)]
 fn count_blanks(text: &[u8]) -> usize
     ensures within { result ≤ length text.now }
@@ -169,7 +178,7 @@ fn count_blanks(text: &[u8]) -> usize
     past_few_blanks(text, at)
 }
 
-// Whether a blank stands there.
+// Whether the byte at this index is a blank.
 #[inline(always)]
 fn is_blank_at(text: &[u8], at: usize) -> bool
     ensures { result ≡ is_blank (slice_index text.now at) }
@@ -177,7 +186,7 @@ fn is_blank_at(text: &[u8], at: usize) -> bool
     at < text.len() && is_blank(char::from(text[at]))
 }
 
-// How long the text is without the blanks that end it.
+// The length of the text without the blanks at its end.
 fn length_without_trailing_blanks(text: &[u8]) -> usize
     ensures within { result ≤ length text.now }
     ensures front { take result text.now ≡ without_trailing_blanks text.now }
@@ -189,8 +198,7 @@ fn length_without_trailing_blanks(text: &[u8]) -> usize
     end
 }
 
-// How long the key is that the text begins with. It ends where a blank or a separator stands, unless a backslash
-// takes that character.
+// The length of the key at the front of the text. It ends at a blank or a separator that isn't escaped by a backslash.
 fn key_length(text: &[u8]) -> usize
     ensures within { result ≤ length text.now }
     ensures key { (cut_key text.now false).key ≡ take result text.now }
@@ -207,8 +215,8 @@ fn key_length(text: &[u8]) -> usize
     text.len()
 }
 
-// At least so many bytes at the front neither end a key nor are backslashes: those before a special byte or a control
-// character, as far as there are blocks of sixteen.
+// A number of bytes at the front that neither end the key nor are backslashes: those before the first special byte or
+// control character, as far as there are blocks of sixteen.
 fn key_front(text: &[u8]) -> usize
     ensures within { result ≤ length text.now }
     ensures plain { All (λ c. stays_in_key c ≡ true) (take result text.now) }
@@ -223,7 +231,7 @@ fn key_front(text: &[u8]) -> usize
     at
 }
 
-// Where the value starts, in a line whose key ends here.
+// The index at which the value starts, given where the key ends.
 #[inline(always)]
 fn value_start<const MANY: bool>(line: &[u8], key_end: usize) -> usize
     requires { key_end ≤ length line.now }

@@ -1,4 +1,4 @@
-//! Texts as they are printed.
+//! Printing texts: escaping and encoding them.
 
 ghost use Rattle.std.specs.Prelude.{◌≡◌, true, false, ◌++◌, ◌∷◌, ◌<◌, ◌≤◌, ◌||◌, not, nat_lt, [], is_some, unwrap_or, length, IfOk, OnOk, OnErr};
 ghost use Rattle.std.specs.Str.{chars};
@@ -22,34 +22,36 @@ use std::alloc::AllocError;
 mod bytes;
 mod escapes;
 mod lacking;
+mod spelt;
 
 pub use crate::line_buffer::LineBuffer;
+pub use spelt::{SpeltPair, print_spelt_pair};
 
 // How many bytes are encoded at once.
 const RUN: usize = 128;
 
-/// Where a text stands in a line, which says what is escaped.
+/// What a text is in its line, which determines what is escaped besides the characters that the repertoire lacks.
 #[derive(Clone, Copy)]
 pub enum Place {
-    /// Blanks, separators, comment signs, backslashes and what is below the space.
+    /// Escapes blanks, separators, comment signs, backslashes and all characters below the space.
     KeyOrValue,
-    /// The backslash, and what ends lines.
+    /// Escapes backslashes, CR and LF.
     Comment,
-    /// Nothing but what the repertoire lacks.
+    /// Escapes only the characters that the repertoire lacks.
     Prefix,
 }
 
-/// Which characters stand as themselves: those that the encoding has, or of them those up to U+007F alone.
+/// Which characters are written unescaped: those that can be encoded, or only the ASCII ones.
 #[derive(Clone, Copy)]
 pub struct Repertoire {
-    /// What the line is encoded in.
+    /// The encoding of the line.
     pub encoding: OutputEncoding,
-    /// Whether every character past U+007F is escaped.
+    /// Whether every character above U+007F is escaped.
     pub ascii_only: bool,
 }
 
 impl Repertoire {
-    // Whether the character may stand as itself, as far as ASCII alone goes.
+    // Whether the character isn't ruled out by ASCII-only output.
     fn lets_stand(self, character: char) -> bool
         ensures { result ≡ (not self.ascii_only || nat_lt character 0x80) }
     {
@@ -57,7 +59,7 @@ impl Repertoire {
     }
 }
 
-// Of ASCII characters every repertoire prints the same.
+// The repertoire for ASCII characters, which every repertoire prints alike.
 const ASCII: Repertoire = Repertoire {
     encoding: OutputEncoding::Windows1252,
     ascii_only: true,
@@ -68,7 +70,7 @@ const WINDOWS_1252: Repertoire = Repertoire {
     ascii_only: false,
 };
 
-/// Appends the bytes of a text, escaped as its place in a line asks for.
+/// Appends the bytes of a text, escaped as its place in the line requires. Fails if memory runs out.
 ///
 /// ```text
 /// print_text(&mut line, repertoire, Place::KeyOrValue, "a b")?; // appends `a\ b`
@@ -87,7 +89,7 @@ pub fn print_text(
     }
 }
 
-// Prints a key or a value, by its bytes where they are what is printed but for escapes of ASCII.
+// Prints a key or a value. If only ASCII characters have to be escaped, works on bytes.
 fn print_key_or_value(
     line: &mut LineBuffer,
     repertoire: Repertoire,
@@ -108,7 +110,7 @@ fn print_key_or_value(
     }
 }
 
-// By its bytes, where all are ASCII. It stands apart, so that the way of UTF-8 stays short.
+// Works on bytes if all are ASCII. Kept out of line so that the path for UTF-8 stays short.
 #[inline(never)]
 fn print_ascii_only(
     line: &mut LineBuffer,
@@ -123,7 +125,7 @@ fn print_ascii_only(
     print_characters(line, repertoire, Place::KeyOrValue, text)
 }
 
-// The same where windows-1252 is printed.
+// Prints a key or a value in windows-1252. Kept out of line so that the path for UTF-8 stays short.
 #[inline(never)]
 fn print_windows_1252(line: &mut LineBuffer, text: &str) -> Result<(), AllocError>
     ensures { let bytes = text_bytes all_of_windows_1252 KeyOrValue (chars text.now) in
@@ -135,7 +137,7 @@ fn print_windows_1252(line: &mut LineBuffer, text: &str) -> Result<(), AllocErro
     print_runs(line, text)
 }
 
-// Prints a key or a value in windows-1252: characters that it lacks, characters that have a byte, and so on.
+// Prints a key or a value in windows-1252: by turns, characters without a byte and characters with one.
 #[inline(never)]
 fn print_runs(line: &mut LineBuffer, text: &str) -> Result<(), AllocError>
     ensures { let bytes = text_bytes all_of_windows_1252 KeyOrValue (chars text.now) in
@@ -171,8 +173,8 @@ fn print_first<'a>(line: &mut LineBuffer, text: &'a str) -> Result<&'a str, Allo
     Ok(characters.as_str())
 }
 
-// Prints the characters at the front that windows-1252 lacks, with one or two of ASCII between them, and returns the
-// text after them.
+// Prints the characters at the front that windows-1252 lacks, together with the one or two ASCII characters that may
+// separate them. Returns the text after them.
 #[inline(always)]
 fn print_lacking<'a>(line: &mut LineBuffer, text: &'a str) -> Result<&'a str, AllocError>
     ensures printed { IfOk result (λ rest.
@@ -187,12 +189,12 @@ fn print_lacking<'a>(line: &mut LineBuffer, text: &'a str) -> Result<&'a str, Al
             line.filled = put.end;
             Ok(put.rest)
         }
-        // Most texts begin with a character of Latin-1, which its first byte shows.
+        // Most texts begin with a character of Latin-1, which the first byte shows.
         _ => Ok(text),
     }
 }
 
-// Prints a text, character by character.
+// Prints a text character by character.
 #[inline(never)]
 fn print_characters(
     line: &mut LineBuffer,
@@ -208,7 +210,8 @@ fn print_characters(
     Ok(())
 }
 
-/// Appends the bytes of a key. The `first` of a file isn't to be taken for a byte order mark.
+/// Appends the bytes of a key. If it is at the front of a file, as `first` says, and would begin like a byte order
+/// mark, its first character is escaped. Fails if memory runs out.
 pub fn print_key(
     line: &mut LineBuffer,
     repertoire: Repertoire,
@@ -223,12 +226,12 @@ pub fn print_key(
     print_text(line, repertoire, Place::KeyOrValue, key)
 }
 
-/// Appends the bytes of a value as people lay it out, after blanks alone or after a separator.
+/// Appends the bytes of a value as people write it, after blanks only or after a separator.
 ///
-/// Spaces, separators and comment signs stand as they are, but for the ends. A first space takes a backslash, and after
-/// blanks alone a first separator takes one too. A last space is `\u0020`, which an editor that trims lines leaves.
-/// Everything else is printed as [`print_text`] prints a value. Past U+007F only what the encoding lacks is escaped, so
-/// ASCII alone isn't asked for.
+/// Spaces, separators and comment signs are not escaped, except at the ends: a space at the start is escaped with a
+/// backslash, and so is a separator at the start if only blanks come before it. A space at the end is `\u0020`, which
+/// survives editors that trim lines. Everything else is printed as [`print_text`] prints a value. Above U+007F only
+/// what the encoding lacks is escaped, so ASCII-only output must be off. Fails if memory runs out.
 ///
 /// ```text
 /// print_value(&mut line, repertoire, false, " a:b ")?; // appends `\ a:b\u0020`
@@ -256,7 +259,7 @@ pub fn print_value(
     print_rest_of_value(line, repertoire, rest)
 }
 
-// The first character of a value.
+// Prints the first character of a value.
 fn print_first_of_value(
     line: &mut LineBuffer,
     repertoire: Repertoire,
@@ -274,7 +277,7 @@ fn print_first_of_value(
     print_in_value(line, repertoire, first)
 }
 
-// The characters after the first. Each is held until the next one shows that it isn't the last.
+// Prints the characters after the first. Each is held back until the next one shows that it isn't the last.
 fn print_rest_of_value(
     line: &mut LineBuffer,
     repertoire: Repertoire,
@@ -296,7 +299,7 @@ fn print_rest_of_value(
     }
 }
 
-// The character that is held, where there is one.
+// Prints the character that was held back, if there is one.
 fn print_held(
     line: &mut LineBuffer,
     repertoire: Repertoire,
@@ -312,7 +315,7 @@ fn print_held(
     }
 }
 
-// The last character of a value.
+// Prints the last character of a value.
 #[tactic(auto, using(crate::proofs::Printing::Values::last_space))]
 fn print_last_of_value(
     line: &mut LineBuffer,
@@ -329,7 +332,7 @@ fn print_last_of_value(
     print_in_value(line, repertoire, last)
 }
 
-// A character inside a value.
+// Prints a character inside a value.
 fn print_in_value(
     line: &mut LineBuffer,
     repertoire: Repertoire,
@@ -345,19 +348,19 @@ fn print_in_value(
     print_in_key_or_value(line, repertoire, character)
 }
 
-/// Appends a text as it is, in UTF-8, or nothing where memory runs out.
+/// Appends a text in UTF-8, without escapes. Fails if memory runs out, and then appends nothing.
 pub fn print_raw(line: &mut LineBuffer, text: &str) -> Result<(), AllocError>
     ensures appended { AppendsOnOk line.old text.now result line.new }
     ensures unchanged { OnErr result (line.new ≡ line.old) }
 {
     match text.as_bytes() {
-        // What stands between keys and values, and what ends lines, is mostly one byte.
+        // A separator and a line ending are usually one byte.
         [byte] => line.push(*byte),
         bytes => line.extend(bytes),
     }
 }
 
-// Whether a key's bytes begin like a byte order mark, by its first characters alone.
+// Whether a key begins like a byte order mark, tested on its first characters only.
 fn is_bom_like(repertoire: Repertoire, key: &str) -> bool
     ensures { result ≡ is_bom_like (output_of repertoire.encoding) repertoire.ascii_only (chars key.now) }
 {
@@ -374,7 +377,7 @@ fn is_bom_like(repertoire: Repertoire, key: &str) -> bool
     }
 }
 
-// A key with its first character as an escape.
+// Prints a key with its first character escaped.
 #[inline(never)]
 fn print_with_first_escaped(
     line: &mut LineBuffer,
@@ -449,7 +452,7 @@ fn print_in_comment(
     }
 }
 
-// As itself, or as an escape where it may not stand so.
+// Prints a character unescaped if that is allowed, otherwise as a `\u` escape.
 #[tactic(auto, using(crate::proofs::Printing::Characters::literal_known))]
 fn print_literal(
     line: &mut LineBuffer,
@@ -466,7 +469,7 @@ fn print_literal(
     print_escape(line, character)
 }
 
-// As itself, and says whether the encoding has it.
+// Prints a character unescaped if it can be encoded, and returns whether it can.
 fn print_encoded(
     line: &mut LineBuffer,
     encoding: OutputEncoding,
@@ -490,7 +493,7 @@ fn print_encoded(
     Ok(true)
 }
 
-// Prints a byte of an output encoding. Past ASCII it stands as it is.
+// Prints a byte of an encoded text. Bytes above ASCII are copied.
 fn print_byte(line: &mut LineBuffer, byte: u8) -> Result<(), AllocError>
     ensures { AppendsOnOk line.old (spelt_byte byte) result line.new }
 {
@@ -507,7 +510,7 @@ fn print_after_backslash(line: &mut LineBuffer, byte: u8) -> Result<(), AllocErr
     line.extend(&[b'\\', byte])
 }
 
-// As `\u` and four digits, or as two such escapes of a high and a low surrogate.
+// Prints a character as `\u` and four digits, or as two such escapes: a high and a low surrogate.
 fn print_escape(line: &mut LineBuffer, character: char) -> Result<(), AllocError>
     ensures { AppendsOnOk line.old (unicode_escape character) result line.new }
 {

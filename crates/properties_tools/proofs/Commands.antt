@@ -2,8 +2,8 @@
 use Rattle.std.proofs.Common.{◌≡◌, ◌≢◌, ◌<◌, ℕ, List, [], ◌∷◌, length, map, get_or, refl, ap, sym, ◌∙◌, arith, inl, inr}
 use Rattle.std.specs.Prelude.{Option, Some, None, codes, string_bytes}
 use Rattle.std.specs.declared.string.String.{String}
-use Rattle.properties_format.specs.Edited.{Edit, put, remove}
-use Rattle.properties_tools.specs.Propedit.Asked.{in_encoding, from_file, edits_file, with_default, with_zero, Choices, all_choices, Command, get, list, check, change, words_of, AreWordsOf, Suits, Request, help, version, work_request, AsksAfter, AsksSome, IsAsked, chosen_encoding}
+use Rattle.properties_tools.specs.Propedit.Asked.{Edit, put, remove, in_encoding, from_file, edits_file, with_default, with_zero, Choices, all_choices}
+use Rattle.properties_tools.specs.Propedit.Asked.{Command, get, list, check, change, words_of, AreWordsOf, Suits, Request, help, version, work_request, AsksAfter, AsksSome, IsAsked, chosen_encoding}
 use Rattle.properties_tools.specs.Propedit.AskedParts.{IsNextChoice, AreChosen, IsQuestion, IsCommand, AreCommand, IsWorkAsked, AsksSomeWork, IsAskedAfter, AsksSomeAfter, AreEdits, IsPlain}
 use Rattle.properties_tools.proofs.Choosing.{chosen-alone, letter}
 
@@ -139,8 +139,8 @@ no-others choices words rest word is a b c d h (work_request w) asks = elim asks
 ]
 
 -- words that begin with another word
-pub asked-others : (choices : Choices) (words rest : List (List ℕ)) (word : List ℕ) (o : Option Request) → words ≡ word ∷ rest → word ≢ codes "-h" → word ≢ codes "--help" → word ≢ codes "--version"
-    → word ≢ codes "--" → IsWorkAsked choices words o → IsAskedAfter choices words o
+pub asked-others : (choices : Choices) (words rest : List (List ℕ)) (word : List ℕ) (o : Option Request) → words ≡ word ∷ rest
+    → word ≢ codes "-h" → word ≢ codes "--help" → word ≢ codes "--version" → word ≢ codes "--" → IsWorkAsked choices words o → IsAskedAfter choices words o
 asked-others choices words rest word (Some request) is a b c d h = rw h.1 (inl h.2)
 asked-others choices words rest word None is a b c d h = no-others choices words rest word is a b c d h
 

@@ -1,5 +1,6 @@
 -- The lines of a body that are not well-formed UTF-8, found one after another.
-use Rattle.std.proofs.Common.{◌≡◌, ℕ, ◌+◌, ◌<◌, true, false, List, [], ◌∷◌, ◌++◌, refl, sym, ap, subst, ◌∙◌, inl, inr, append_assoc, append-nil, length, arith}
+use Rattle.std.proofs.Common.{◌≡◌, ℕ, ◌+◌, ◌^◌, ◌<◌, ◌≤◌, true, false, List, [], ◌∷◌, ◌++◌, length}
+use Rattle.std.proofs.Common.{refl, sym, ap, subst, ◌∙◌, inl, inr, append_assoc, append-nil, arith}
 use Rattle.std.specs.Prelude.{if◌then◌else◌, Result, Ok, Err}
 use Rattle.std.specs.Result.{is_ok, MatchResult}
 use Rattle.std.specs.Str.{is_utf8, IsUtf8}
@@ -23,6 +24,7 @@ use Rattle.properties_lines.specs.declared.scanner.RawLine.{RawLine}
 use Rattle.properties_lines.specs.declared.scanner.Scanner.{Scanner}
 use Rattle.properties_lines.proofs.HeldLines.{body-next, body-after, body-lines_left}
 use Rattle.properties_tools.specs.Propedit.Lines.{AreIllFormed, AreIllFormedIn, HasIllFormedIn, IsFound}
+use Rattle.properties_tools.proofs.FewLines.{few-held}
 
 -- ---- the numbers, computed
 
@@ -86,11 +88,13 @@ has-ill_formed body numbers same =
 
 -- ---- line by line
 
--- These were found before the scanner's place: with those that are left they are the numbers of the body.
+-- These were found before the scanner's place: with those that are left they are the numbers of the body. The lines
+-- before it and those that are left are at most one more than the bytes of the body.
 pub record HasFound (body : List ℕ) (s : Scanner) (numbers : List ℕ) : Type 0 where
   pub encoding : encoding_of s.encoding ≡ utf_8
   pub stands : StandsInBody s body
   pub all : numbers ++ numbers_from s.passed (lines_left body s) ≡ numbers_from 0 (held_lines_of utf_8 body)
+  pub few : s.passed + length (lines_left body s) ≤ length body + 1
 
 -- at the start
 pub found-none : (body : List ℕ) (s : Scanner) (numbers : List ℕ) → encoding_of s.encoding ≡ utf_8 → Fits s body → s.at ≡ 0
@@ -108,6 +112,7 @@ found-none body s numbers e fits at stands none =
         alone = λ w. let x : after_cr Feed ≡ false = subst (λ v. after_cr v ≡ false) w alone in absurd (cc);
       };
       all = rw (none, passed, going, e, at) refl;
+      few = rw (passed, going, e, at) (omega (arith, few-held body));
     }
 
 -- the line that came may be looked at
@@ -116,6 +121,11 @@ found-line body s new numbers h g =
     let e : encoding_of new.encoding ≡ utf_8 = (body-next s new body h.stands g).0 ∙ h.encoding in
     record { ordered = g.fits.line.0; within = g.fits.line.1; told = subst (λ v. IsTold v (bytes_of body new.line) new.line) e g.told }
 
+-- a line that came is no longer left
+found-few : (body : List ℕ) (s new : Scanner) (numbers : List ℕ) → HasFound body s numbers → GivesLine s body true new
+    → new.passed + length (lines_left body new) ≤ length body + 1
+found-few body s new numbers h g = omega (arith, h.few, g.number, ap length (body-lines_left s new body h.stands g))
+
 -- a line that is UTF-8 came
 found-well : (body : List ℕ) (s new : Scanner) (numbers : List ℕ) → HasFound body s numbers → GivesLine s body true new
     → is_utf8 (bytes_of body new.line) ≡ true → HasFound body new numbers
@@ -123,11 +133,14 @@ found-well body s new numbers h g k =
     let left = body-lines_left s new body h.stands g in
     let number : s.passed + 1 ≡ new.passed = sym g.number in
     let first : numbers_from s.passed (lines_left body s) ≡ numbers_from new.passed (lines_left body new) =
-    ap (numbers_from s.passed) left ∙ numbers-pass s.passed (held_line (encoding_of s.encoding) body new.line g.cut.ending) (lines_left body new) k ∙ ap (λ n. numbers_from n (lines_left body new)) number in
+    ap (numbers_from s.passed) left
+    ∙ numbers-pass s.passed (held_line (encoding_of s.encoding) body new.line g.cut.ending) (lines_left body new) k
+    ∙ ap (λ n. numbers_from n (lines_left body new)) number in
     record {
       encoding = (body-next s new body h.stands g).0 ∙ h.encoding;
       stands = body-after s new body g;
       all = ap (λ v. numbers ++ v) (sym first) ∙ h.all;
+      few = found-few body s new numbers h g;
     }
 
 -- one that is not came, and its number was kept
@@ -137,7 +150,9 @@ found-ill body s new numbers numbers' h g k pushed =
     let left = body-lines_left s new body h.stands g in
     let number : s.passed + 1 ≡ new.passed = sym g.number in
     let first : numbers_from s.passed (lines_left body s) ≡ new.passed ∷ numbers_from new.passed (lines_left body new) =
-    ap (numbers_from s.passed) left ∙ numbers-take s.passed (held_line (encoding_of s.encoding) body new.line g.cut.ending) (lines_left body new) k ∙ ap (λ n. n ∷ numbers_from n (lines_left body new)) number in
+    ap (numbers_from s.passed) left
+    ∙ numbers-take s.passed (held_line (encoding_of s.encoding) body new.line g.cut.ending) (lines_left body new) k
+    ∙ ap (λ n. n ∷ numbers_from n (lines_left body new)) number in
     record {
       encoding = (body-next s new body h.stands g).0 ∙ h.encoding;
       stands = body-after s new body g;
@@ -146,6 +161,7 @@ found-ill body s new numbers numbers' h g k pushed =
           ∙ append_assoc numbers (new.passed ∷ []) (numbers_from new.passed (lines_left body new))
           ∙ ap (λ v. numbers ++ v) (sym first)
           ∙ h.all;
+      few = found-few body s new numbers h g;
     }
 
 -- a line came, and its number was kept where it is not UTF-8
@@ -160,6 +176,10 @@ found-next body s new numbers numbers' h g kept = elim (cases_Bool (is_utf8 (byt
 pub found-fewer : (body : List ℕ) (s new : Scanner) (numbers : List ℕ) → HasFound body s numbers → GivesLine s body true new
     → length (lines_left body new) < length (lines_left body s)
 found-fewer body s new numbers h g = omega (arith, ap length (body-lines_left s new body h.stands g))
+
+-- a slice has a number for each of its lines
+pub found-numbered : (body : List ℕ) (s : Scanner) (numbers : List ℕ) → HasFound body s numbers → length body + 2 < 2 ^ 64 → s.passed + 1 ≡ 2 ^ 64 → ⊥
+found-numbered body s numbers h small many = omega (arith, h.few)
 
 -- nothing is left
 pub found-all : (body : List ℕ) (s : Scanner) (numbers : List ℕ) → HasFound body s numbers → s.is_done ≡ true → HasIllFormedIn body numbers

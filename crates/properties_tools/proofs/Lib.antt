@@ -3,6 +3,7 @@ pub mod Asking
 pub mod Choosing
 pub mod Commands
 pub mod Failing
+pub mod FewLines
 pub mod FilterErrors
 pub mod Filtering
 pub mod IllFormed

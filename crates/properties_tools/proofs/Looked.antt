@@ -1,5 +1,5 @@
 -- What a map that was read from a slice says of a key.
-use Rattle.std.proofs.Common.{◌≡◌, ℕ, List, [], ◌∷◌, ◌++◌, inl, inr, subst}
+use Rattle.std.proofs.Common.{◌≡◌, ℕ, ◌+◌, ◌^◌, ◌<◌, List, [], ◌∷◌, ◌++◌, length, inl, inr, subst}
 use Rattle.std.specs.Borrow.{Bor}
 use Rattle.std.specs.Option.{option_map}
 use Rattle.std.specs.Str.{chars, IsUtf8}
@@ -10,13 +10,15 @@ use Rattle.properties_format.specs.Entries.{Entry, malformed}
 use Rattle.properties_format.specs.Items.{IsItems}
 use Rattle.properties_format.specs.Lines.{end}
 use Rattle.properties_format.specs.Maps.{HasValue}
+use Rattle.java_properties.specs.Errors.{IsBareError}
 use Rattle.java_properties.specs.Maps.{HasReadMap, characters}
 use Rattle.java_properties.specs.ReadLines.{StopsMalformed, StopsReading, entries_in}
 use Rattle.java_properties.proofs.TextMaps.Values.{value_at_text_sorted}
+use Rattle.java_properties.specs.declared.error.ErrorKind.TheVariants as kind
 use Rattle.java_properties.specs.declared.error.PropertiesError.{PropertiesError}
-use Rattle.properties_tools.specs.Propedit.Lines.{LacksRoom}
 use Rattle.properties_tools.specs.Propedit.Sources.{IsSound}
 use Rattle.properties_tools.proofs.SliceReads.{slice_reader, slice-read, slice-whole, slice-faultless}
+use Rattle.properties_tools.proofs.Slices.{slice-numbered}
 use Rattle.properties_tools.proofs.Sound.{sound-unbroken}
 
 module _ (e : Encoding) (from to : Bor (List ℕ)) where
@@ -35,12 +37,13 @@ module _ (e : Encoding) (from to : Bor (List ℕ)) where
         | inr k ↦ rw (← slice-whole h.read k.0) k.1.items
       ]
 
-  -- A sound slice is read whole unless there is no room.
-  pub slice-stops : (error : PropertiesError) → StopsReading slice_reader e from error to → IsSound e from.now → LacksRoom error
-  slice-stops error h sound = elim h.stops [
+  -- A sound slice is read whole unless memory runs out.
+  pub slice-stops : (error : PropertiesError) → length from.now + 1 < 2 ^ 64 → StopsReading slice_reader e from error to → IsSound e from.now
+      → IsBareError kind.Memory error
+  slice-stops error small h sound = elim h.stops [
     | inl k ↦ absurd (sound-unbroken e from.now (entries_in h.lines) k.how k.number sound.resolved (broken-whole (entries_in h.lines) error k))
     | inr k ↦ elim k [
       | inl f ↦ absurd (slice-faultless f.failed)
-      | inr f ↦ elim f.is [ inl is ↦ inr is.0 | inr is ↦ inl is ]
+      | inr f ↦ elim f.is [ inl is ↦ absurd (slice-numbered e from to f.bytes small f.read is.1) | inr is ↦ is ]
     ]
   ]

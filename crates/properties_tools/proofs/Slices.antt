@@ -1,32 +1,45 @@
 -- What is found in a slice, which is read to its end and without a fault.
-use Rattle.std.proofs.Common.{ℕ, List, sym, subst, inl, inr}
+use Rattle.std.proofs.Common.{◌≡◌, ℕ, ◌+◌, ◌^◌, ◌<◌, List, ◌++◌, length, ap, sym, subst, inl, inr, length-append, arith}
 use Rattle.std.specs.Prelude.{◌⊎◌, Result, Ok, Err}
 use Rattle.std.specs.Borrow.{Bor}
 use Rattle.std.specs.Global.{Vec}
 use Rattle.properties_format.specs.Encoding.{Encoding}
+use Rattle.properties_format.specs.ItemsToCome.{start}
 use Rattle.properties_format.specs.MalformedEscapes.{AreMalformedEscapes}
+use Rattle.counted_io.specs.Streams.{HasRead}
+use Rattle.java_properties.specs.Errors.{IsBareError}
 use Rattle.java_properties.specs.KeyLines.{AreKeyLines, FindsKeys, said_keys}
 use Rattle.java_properties.specs.MalformedEscapes.{FailsToFind, FindsMalformed, StopsFinding}
+use Rattle.java_properties.specs.PropertiesIter.{PassesAll}
+use Rattle.java_properties.specs.declared.error.ErrorKind.TheVariants as kind
 use Rattle.java_properties.specs.declared.error.PropertiesError.{PropertiesError}
 use Rattle.java_properties.specs.declared.iter.keys.KeyLine.{KeyLine}
 use Rattle.java_properties.specs.declared.iter.malformed.MalformedEscape.{MalformedEscape}
-use Rattle.properties_tools.specs.Propedit.Lines.{LacksRoom}
 use Rattle.properties_tools.specs.Propedit.Sources.{FindsKeysIn, FindsMalformedIn}
-use Rattle.properties_tools.proofs.SliceReads.{slice_reader, slice-whole, slice-faultless}
+use Rattle.properties_tools.proofs.FewLines.{few-passed}
+use Rattle.properties_tools.proofs.SliceReads.{slice_reader, slice-read, slice-whole, slice-faultless}
 
--- An error is no fault of it.
-slice-error : (e : Encoding) (from to : Bor (List ℕ)) (error : PropertiesError)
-    → FailsToFind slice_reader e from error to ⊎ StopsFinding slice_reader e from error to → LacksRoom error
-slice-error e from to error (inl h) = absurd (slice-faultless h.failed)
-slice-error e from to error (inr h) = elim h.is [
-  | inl m ↦ inr m.0
-  | inr m ↦ inl m
+-- It has a number for each of its lines.
+pub slice-numbered : (e : Encoding) (from to : Bor (List ℕ)) (bytes : List ℕ) → length from.now + 1 < 2 ^ 64 → HasRead slice_reader from bytes to → PassesAll (start e) bytes → ⊥
+slice-numbered e from to bytes small read passes =
+    let many = few-passed e bytes passes in
+    let whole : length from.now ≡ length (bytes ++ to.now) = ap length (slice-read read) in
+    let parts = length-append bytes to.now in
+    omega arith
+
+-- So an error can only be for want of memory.
+slice-error : (e : Encoding) (from to : Bor (List ℕ)) (error : PropertiesError) → length from.now + 1 < 2 ^ 64
+    → FailsToFind slice_reader e from error to ⊎ StopsFinding slice_reader e from error to → IsBareError kind.Memory error
+slice-error e from to error small (inl h) = absurd (slice-faultless h.failed)
+slice-error e from to error small (inr h) = elim h.is [
+  | inl m ↦ absurd (slice-numbered e from to h.bytes small h.read m.1)
+  | inr m ↦ m
 ]
 
 -- The malformed escapes that were found are those of its bytes.
-pub slice-malformed : (e : Encoding) (from to : Bor (List ℕ)) (result : Result (Vec MalformedEscape) PropertiesError)
+pub slice-malformed : (e : Encoding) (from to : Bor (List ℕ)) (result : Result (Vec MalformedEscape) PropertiesError) → length from.now + 1 < 2 ^ 64
     → FindsMalformed slice_reader e from result to → FindsMalformedIn e from.now result
-slice-malformed e from to (Ok found) h =
+slice-malformed e from to (Ok found) small h =
     let same = slice-whole h.read h.ended in
     record {
       escapes = h.escapes;
@@ -34,15 +47,15 @@ slice-malformed e from to (Ok found) h =
       only = λ others k. h.only others (subst (λ v. AreMalformedEscapes e v others) (sym same) k);
       is = h.is;
     }
-slice-malformed e from to (Err error) h = slice-error e from to error h
+slice-malformed e from to (Err error) small h = slice-error e from to error small h
 
 -- And so are the keys.
-pub slice-keys : (e : Encoding) (from to : Bor (List ℕ)) (result : Result (Vec KeyLine) PropertiesError)
+pub slice-keys : (e : Encoding) (from to : Bor (List ℕ)) (result : Result (Vec KeyLine) PropertiesError) → length from.now + 1 < 2 ^ 64
     → FindsKeys slice_reader e from result to → FindsKeysIn e from.now result
-slice-keys e from to (Ok found) h =
+slice-keys e from to (Ok found) small h =
     let same = slice-whole h.read h.ended in
     record {
       are = subst (λ v. AreKeyLines e v (said_keys found.items)) same h.are;
       only = λ others k. h.only others (subst (λ v. AreKeyLines e v others) (sym same) k);
     }
-slice-keys e from to (Err error) h = slice-error e from to error h
+slice-keys e from to (Err error) small h = slice-error e from to error small h

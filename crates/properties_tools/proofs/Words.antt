@@ -1,15 +1,16 @@
 -- Arguments, word by word.
-use Rattle.std.proofs.Common.{◌≡◌, ◌≢◌, ◌==◌, true, false, rules, ◌≤◌, ℕ, List, [], ◌∷◌, ◌++◌, length, map, take, drop, ◌+◌, ◌-◌, ◌<◌, get_or, refl, ap, sym, ◌∙◌, arith, append_assoc, append-nil}
+use Rattle.std.proofs.Common.{◌≡◌, ◌≢◌, ◌==◌, true, false, rules, ◌≤◌, ℕ, List, [], ◌∷◌, ◌++◌, length, map, take, drop, ◌+◌, ◌-◌, ◌<◌, get_or}
+use Rattle.std.proofs.Common.{refl, ap, sym, ◌∙◌, arith, append_assoc, append-nil}
 use borrow.Author.Tests.{tests}
 use Rattle.std.specs.Prelude.{Some, None, Result, Ok, Err, OnErr, string_bytes}
 use Rattle.std.specs.declared.string.String.{String}
 use Rattle.std.proofs.lemmas.List.{length-append, length-map, take_rest}
-use Rattle.properties_format.specs.Edited.{Edit, put, remove}
+use Rattle.properties_format.specs.Edits as format
 use Rattle.java_properties.specs.Editing.{edits_in}
 use Rattle.java_properties.specs.declared.edit.Edit as editor
 use Rattle.java_properties.specs.declared.edit.Edit.TheVariants.{Put, Remove}
 use Rattle.std.specs.Str.{chars}
-use Rattle.properties_tools.specs.Propedit.Asked.{in_characters, text_edits, edit_words, words_of}
+use Rattle.properties_tools.specs.Propedit.Asked.{Edit, put, remove, in_characters, text_edits, edit_words, words_of}
 use Rattle.properties_tools.specs.Propedit.AskedParts.{AreEdits, AreEditsOf, IsEditCount, IsNextEdit}
 
 -- ---- the first of some texts
@@ -120,8 +121,8 @@ counted-all words count (a ∷ texts) h none = absurd (some-length texts a none)
 -- the editor's edits are those that are asked for
 pub same-edits : (edits : List editor.Edit) → map in_characters (text_edits edits) ≡ edits_in edits
 same-edits [] = refl
-same-edits (Put key value ∷ edits) = ap (λ v. put (chars (string_bytes key)) (chars (string_bytes value)) ∷ v) (same-edits edits)
-same-edits (Remove key ∷ edits) = ap (λ v. remove (chars (string_bytes key)) ∷ v) (same-edits edits)
+same-edits (Put key value ∷ edits) = ap (λ v. format.put (chars (string_bytes key)) (chars (string_bytes value)) ∷ v) (same-edits edits)
+same-edits (Remove key ∷ edits) = ap (λ v. format.remove (chars (string_bytes key)) ∷ v) (same-edits edits)
 
 -- ---- lists and errors
 

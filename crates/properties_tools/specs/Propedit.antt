@@ -6,6 +6,7 @@ pub mod Change
 pub mod Check
 pub mod Failures
 pub mod Get
+pub mod InPlace
 pub mod Lines
 pub mod Listing
 pub mod Sources
@@ -13,7 +14,7 @@ pub mod Texts
 use Rattle.std.specs.Prelude.{◌≡◌, ◌≢◌, ◌⊎◌, ℕ, List, Option, Some, None, Result, Ok, Err, codes}
 use Rattle.std.specs.Global.{Vec}
 use Rattle.counted_io.specs.Streams.{Reader, Sink}
-use Rattle.properties_format.specs.Edited.{Edit}
+use Rattle.properties_format.specs.Edits.{Edit}
 use Rattle.properties_format.specs.Encoding.{Encoding}
 use Rattle.properties_text.specs.Encoding.{encoding_of}
 use Rattle.java_properties.specs.WholeSources.{GivesWhole, ReadsSource, WritesSource}

@@ -1,7 +1,7 @@
-// Where the bytes of eight come from, each of which may follow another byte.
+// Which lanes to write for eight bytes when other bytes are inserted before some of them.
 
-// Row n is for eight bytes, of which those at the bits of n follow others. It has the lanes that what is written comes
-// from: lane i has byte i, and lane 8 + i the one that it may follow. 15 fills up.
+// Row n is for eight bytes of which those at the set bits of n have another byte before them. It lists the lanes to
+// write, in order: lane i is byte i, and lane 8 + i is the byte inserted before it. 15 is padding.
 pub(super) static LANES: [[u8; 16]; 256] = [
     [0, 1, 2, 3, 4, 5, 6, 7, 15, 15, 15, 15, 15, 15, 15, 15],
     [8, 0, 1, 2, 3, 4, 5, 6, 7, 15, 15, 15, 15, 15, 15, 15],

@@ -1,6 +1,7 @@
-// Where the bytes of eight come from, some of which are left out.
+// Which lanes to write for eight bytes when some are left out.
 
-// Row n is for eight bytes, of which those at the bits of n are left out. It has the lanes of the others. 15 fills up.
+// Row n is for eight bytes of which those at the set bits of n are left out. It lists the other lanes, in order. 15 is
+// padding.
 pub(super) static KEPT: [[u8; 16]; 256] = [
     [0, 1, 2, 3, 4, 5, 6, 7, 15, 15, 15, 15, 15, 15, 15, 15],
     [1, 2, 3, 4, 5, 6, 7, 15, 15, 15, 15, 15, 15, 15, 15, 15],

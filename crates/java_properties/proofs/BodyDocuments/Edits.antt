@@ -18,16 +18,21 @@ use Rattle.properties_format.specs.Entries.{Entry, AreItems}
 use Rattle.properties_format.specs.Items.{IsItems}
 use Rattle.properties_format.specs.Maps.{IsMap, IsValue}
 use Rattle.properties_format.specs.Changed.{map_edited}
-use Rattle.properties_format.specs.Edited.{Edit, put, remove, edited, IsScalarEdit, AreScalarEdits, IsEditAllResult, is_editable}
+use Rattle.properties_format.specs.Edited.{edited, is_editable}
+use Rattle.properties_format.specs.Edits.{Edit, put, remove, IsScalarEdit, AreScalarEdits, IsEditAllResult}
 use Rattle.properties_format.specs.Reading.Body.{entries_in, held_groups_of}
-use Rattle.properties_format.specs.Reading.Edited.{AreSound, edit_made, edits_made, key_set, key_removed, result_of}
+use Rattle.properties_format.specs.Reading.Edited.{AreSound, key_set, key_removed, result_of}
+use Rattle.properties_format.specs.Reading.Edits.{edit_made, edits_made}
 use Rattle.properties_format.specs.Reading.Items.{items_of}
 use Rattle.properties_format.specs.Reading.Keys.{slot_keys}
-use Rattle.properties_format.specs.Reading.Slots.{slots_of, slots_edited, slots_after}
+use Rattle.properties_format.specs.Reading.Slots.{slots_of}
+use Rattle.properties_format.specs.Reading.EditedSlots.{slots_edited, slots_after}
 use Rattle.properties_format.proofs.Body.Numbers.{items_of-groups}
-use Rattle.properties_format.proofs.Changed.Laws.{IsReadable, edits-say}
+use Rattle.properties_format.proofs.Changed.Laws.{IsReadable}
+use Rattle.properties_format.proofs.Edits.Says.{edits-say}
 use Rattle.properties_format.proofs.Changed.Read.{readable}
-use Rattle.properties_format.proofs.Edited.Results.{edit_all_result-meets, edits_made-meets, result-editable, result_by-edited}
+use Rattle.properties_format.proofs.Edited.Results.{result-editable, result_by-edited}
+use Rattle.properties_format.proofs.Edits.Results.{edit_all_result-meets, edits_made-meets}
 use Rattle.properties_format.proofs.Items.Unique.{items_of-meets, items_of-only}
 use Rattle.properties_format.proofs.Slots.Edits.{edits_made-slots}
 use Rattle.properties_format.proofs.Slots.Keys.{pair_keys, are-keys, slots-keys}
@@ -92,7 +97,7 @@ module _ (d : Inside) (i : IsDocument d) where
       let source = d.source.items in
       let made = edits_made e source i.edits in
       let h = subst (IsEditAllResult e source i.edits) (result-made made i.in_force i.editable i.sound) (edit_all_result-meets e source i.edits) in
-      let said = edits-say e source i.edits made (readable e source h.0 h.1) i.scalar (edits_made-meets e source i.edits) in
+      let said = edits-say e source i.edits made (readable e source h.0 h.1) i.scalar (edits_made-meets e source i.edits h.0) in
       subst (IsReadable e) (sym bytes-are) said.readable
 
   bytes-result : (made : List ℕ) → result_of (encoding_of d.encoding) (document_bytes d) made ≡ edited made

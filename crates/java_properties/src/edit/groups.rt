@@ -3,11 +3,13 @@
 ghost use Rattle.std.specs.Prelude.{◌≡◌, ℕ, List, false, IfOk};
 ghost use Rattle.properties_lines.specs.HeldLines.{StandsInBody};
 ghost use Rattle.java_properties.specs.BodyLines.{IsEndingOf};
-ghost use Rattle.java_properties.specs.BodyGroups.{IsWithin, FindsLine, GivesGroup, JoinsGroup, text_of, IsTextHeld};
+ghost use Rattle.properties_text.specs.Encoding.{encoding_of};
+ghost use Rattle.properties_lines.specs.LineSearch.{unit_size};
+ghost use Rattle.java_properties.specs.BodyGroups.{IsWithin, FindsLine, GivesGroup, JoinsGroup, IsFirstGroup, text_of, IsTextHeld};
 
 use crate::writer::LineEnding;
 use properties_lines::logical::LogicalLine;
-use properties_lines::scanner::{Scan, Scanner};
+use properties_lines::scanner::{RawLine, Scan, Scanner};
 use properties_text::encoding::Encoding;
 use std::alloc::{AllocError, Global};
 
@@ -26,6 +28,23 @@ pub struct Group {
     pub is_open: bool,
     /// Whether it is a single line without bytes.
     pub is_empty: bool,
+}
+
+/// Reads the first group of a body. The encoding's units are one byte long.
+pub fn first_group(
+    alloc: Global,
+    encoding: Encoding,
+    body: &[u8],
+) -> Result<(GroupReader, Group), AllocError>
+    requires { unit_size (encoding_of encoding) ≡ 1 }
+    ensures { IfOk result (λ read. IsFirstGroup (encoding_of encoding) body.now read.1 read.0) }
+{
+    let mut groups = GroupReader::new(alloc, encoding);
+    match groups.next(body)? {
+        Some(group) => Ok((groups, group)),
+        // Even an empty body has a line.
+        None => unreachable!(),
+    }
 }
 
 /// Reads the groups of a body that is passed to each call.
@@ -116,8 +135,15 @@ impl GroupReader {
         Ok(joined)
     }
 
-    // Finds the next line and returns whether there is one.
-    fn find_line(&mut self, body: &[u8]) -> Result<bool, AllocError>
+    /// Returns the natural line that was found last.
+    pub fn raw_line(&self) -> RawLine
+        ensures { result ≡ self.now.scanner.line }
+    {
+        *self.scanner.line()
+    }
+
+    /// Finds the next natural line and returns whether there is one.
+    pub fn find_line(&mut self, body: &[u8]) -> Result<bool, AllocError>
         requires { IsWithin body.now self.old }
         ensures { FindsLine body.now self.old result self.new }
     {

@@ -4,6 +4,7 @@ ghost use Rattle.std.specs.Str.{chars};
 ghost use Rattle.java_properties.specs.BodyKeys.{FindsItem, TellsKey};
 ghost use Rattle.java_properties.specs.BodySlots.{TellsKeyOf};
 ghost use Rattle.java_properties.specs.BodyDocuments.{TellsPairOf};
+ghost use Rattle.java_properties.specs.BodyValues.{TellsValue};
 
 use crate::error::PropertiesError;
 use crate::iter::found::{Found, find_escaped, find_plain};
@@ -17,6 +18,22 @@ pub fn has_key(alloc: Global, number: usize, line: &str, key: &str) -> Result<bo
 {
     match find_item(alloc, number, line)? {
         Some(found) => Ok(found.has_key(line, key)),
+        None => Ok(false),
+    }
+}
+
+/// Returns whether a logical line is a pair with this value. Fails if an escape in the line, which has this number, is
+/// malformed, or if memory runs out.
+pub fn has_value(
+    alloc: Global,
+    number: usize,
+    line: &str,
+    value: &str,
+) -> Result<bool, PropertiesError>
+    ensures { TellsValue (chars line.now) (chars value.now) number result }
+{
+    match find_item(alloc, number, line)? {
+        Some(found) => Ok(found.has_value(line, value)),
         None => Ok(false),
     }
 }

@@ -109,7 +109,8 @@ fn push_spans(bytes: &mut Vec<u8>, body: &[u8], spans: &[BodySpan]) -> Result<()
     Ok(())
 }
 
-fn part(body: &[u8], span: BodySpan) -> &[u8]
+/// Returns a part of a body.
+pub fn part(body: &[u8], span: BodySpan) -> &[u8]
     requires ordered { span.start ≤ span.end }
     requires within { span.end ≤ length body.now }
     ensures { result.now ≡ take (span.end - span.start) (drop span.start body.now) }
@@ -126,7 +127,8 @@ fn begins_like_bom(bytes: &[u8]) -> bool
     }
 }
 
-fn are_empty(rest: &[u8], parting: &[u8]) -> bool
+/// Returns whether both slices are empty.
+pub fn are_empty(rest: &[u8], parting: &[u8]) -> bool
     ensures { result ≡ is_empty (rest.now ++ parting.now) }
 {
     rest.is_empty() && parting.is_empty()
@@ -170,8 +172,8 @@ pub fn printed_pair(
     concatenated(alloc, line.as_slice(), b"", b"")
 }
 
-// Concatenates three slices. Their memory is allocated before the first of them is copied.
-fn concatenated(
+/// Concatenates three slices. Their memory is allocated before the first of them is copied.
+pub fn concatenated(
     alloc: Global,
     front: &[u8],
     middle: &[u8],

@@ -1,9 +1,9 @@
 // The groups of a source as slots in one array. Edits change the slots, and the bytes are built once.
 
 ghost use Rattle.std.specs.Prelude.{OnOk};
-ghost use Rattle.properties_format.specs.Edited.{Edit};
+ghost use Rattle.properties_format.specs.Edits.{Edit};
 ghost use Rattle.properties_format.specs.Encoding.{output_encoding};
-ghost use Rattle.properties_format.specs.Reading.Slots.{slots_edited};
+ghost use Rattle.properties_format.specs.Reading.EditedSlots.{slots_edited};
 ghost use Rattle.properties_text.specs.Encoding.{encoding_of};
 ghost use Rattle.java_properties.specs.BodySlots.{Changes, HoldsIn};
 ghost use Rattle.java_properties.specs.Editing.{edit_in};

@@ -8,6 +8,7 @@ ghost use Rattle.properties_text.specs.Parsing.{AreSpans, IsSpan, in_characters,
 ghost use Rattle.properties_format.specs.Items.{given};
 ghost use Rattle.properties_format.specs.Reading.Body.{is_pair_with};
 ghost use Rattle.properties_format.specs.Reading.Slots.{key_told};
+ghost use Rattle.properties_format.specs.Reading.Valued.{is_pair_to};
 ghost use Rattle.java_properties.specs.Maps.{characters};
 ghost use Rattle.java_properties.specs.BodyDocuments.{pair_characters, pair_told};
 ghost use Rattle.properties_format.specs.Split.{IsSplit};
@@ -150,6 +151,17 @@ impl Found {
         match &self.content {
             FoundContent::Comment(_) => false,
             FoundContent::KVPair(found, _) => found.is(line, key),
+        }
+    }
+
+    /// Returns whether the item is a pair with this value.
+    pub(crate) fn has_value(&self, line: &str, value: &str) -> bool
+        requires { IsFoundIn line.now self.now }
+        ensures { result ≡ is_pair_to (chars value.now) (given (found_content line.now self.now.content)) }
+    {
+        match &self.content {
+            FoundContent::Comment(_) => false,
+            FoundContent::KVPair(_, found) => found.is(line, value),
         }
     }
 }

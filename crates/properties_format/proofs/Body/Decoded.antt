@@ -1,4 +1,5 @@
--- In an encoding that is edited a CR or an LF is one byte, and the lines of undecoded bytes are those of a text of these numbers.
+-- In an encoding that can be edited, a CR or an LF is one byte, so the lines of undecoded bytes are those of a text
+-- with these numbers.
 use Rattle.std.proofs.Common.{◌≡◌, ℕ, true, List, [], refl, ap, sym, ◌∙◌, subst}
 use Rattle.properties_format.specs.Pieces.{characters}
 use Rattle.properties_format.specs.Encoding.{Encoding, windows_1252, utf_8, utf_16le, utf_16be}
@@ -12,18 +13,18 @@ use Rattle.properties_format.proofs.Lines.Meets.{lines_of-meets}
 use Rattle.properties_format.proofs.Cut.Only.{cut_of-only}
 use Rattle.properties_format.proofs.Cut.Byline.{no_end-undecoded}
 
--- no bytes are no text
+-- No bytes decode to an empty text.
 pub decoded-nil : (e : Encoding) → decoded_line e [] ≡ []
 decoded-nil e = ap characters (pieces_of-nil e)
 
--- bytes without a line end unit hold no CR and no LF
+-- Bytes without a line end unit contain no CR and no LF.
 plain-unit : (e : Encoding) (d : List ℕ) → is_editable e ≡ true → HoldsNoLineEndUnit e d → HoldsNoLineEnd d
 plain-unit windows_1252 d ok h = h
 plain-unit utf_8 d ok h = h
 plain-unit utf_16le d ok h = absurd (cc)
 plain-unit utf_16be d ok h = absurd (cc)
 
--- bytes of a text without line ends hold none
+-- If a text contains no line end, its bytes contain none.
 pub plain-bytes : (e : Encoding) (d : List ℕ) → is_editable e ≡ true → HoldsNoLineEnd (decoded_line e d) → HoldsNoLineEnd d
 plain-bytes e d ok h = plain-unit e d ok (no_end-undecoded e d h)
 
@@ -34,6 +35,6 @@ cut_of-lines utf_8 d ok = refl
 cut_of-lines utf_16le d ok = absurd (cc)
 cut_of-lines utf_16be d ok = absurd (cc)
 
--- Lines of undecoded bytes are lines of a text of these numbers.
+-- Lines of undecoded bytes are lines of a text with these numbers.
 pub IsCut-lines : (e : Encoding) (d : List ℕ) (lines : Lines) → is_editable e ≡ true → IsCut e d lines → IsLines d lines
 IsCut-lines e d lines ok h = subst (IsLines d) (sym (cut_of-only e d lines h ∙ cut_of-lines e d ok)) (lines_of-meets d)

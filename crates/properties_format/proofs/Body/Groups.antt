@@ -1,4 +1,5 @@
--- The groups of a body: what is computed are such groups, and the only ones; all but the last end in a line ending, and are groups by themselves.
+-- The groups of a body: the computed groups are groups of the body, and the only ones. All groups but the last end in a
+-- line ending, and are groups by themselves.
 use Rattle.std.proofs.Common.{◌≡◌, ◌≢◌, ◌<◌, ◌⊎◌, ℕ, true, false, List, [], ◌∷◌, ◌++◌, Some, None, refl, ap, ap₂, sym, ◌∙◌, inl, inr, append_assoc}
 use Rattle.std.proofs.Common.{append-nil, subst, lit<}
 use Rattle.std.proofs.lemmas.Bool.{cases_Bool}
@@ -22,14 +23,14 @@ use Rattle.properties_format.proofs.Cut.Byline.{decoded_line-meets, decoded_line
 use Rattle.properties_format.proofs.Body.Decoded.{IsCut-lines}
 use Rattle.properties_format.proofs.Edited.Told.{ended_lines, line_texts_in, line_texts, IsFront}
 
--- ---- the lines that a body holds
+-- ---- the lines of a body
 
--- what is computed are the lines of bytes in order, each decoded by itself
+-- The computed lines are the lines of bytes in order, each decoded by itself.
 pub held_of-meets : (e : Encoding) (ls : List Ended) (last : List ℕ) → AreHeld e ls last (held_of e ls last)
 held_of-meets e [] last = (decoded_line e last, decoded_line-meets e last, refl)
 held_of-meets e (l ∷ ls) last = (decoded_line e l.text, held_of e ls last, decoded_line-meets e l.text, refl, held_of-meets e ls last)
 
--- and no others are
+-- There are no other such lines.
 pub held_of-only : (e : Encoding) (ls : List Ended) (last : List ℕ) (held : List HeldLine) → AreHeld e ls last held → held ≡ held_of e ls last
 held_of-only e [] last held (x, h, s) = s ∙ ap (λ v. record { bytes = last; text = v; ending = None } ∷ []) (decoded_line-only e last x h)
 held_of-only e (l ∷ ls) last held (x, rest, h, s, k) =
@@ -37,22 +38,22 @@ held_of-only e (l ∷ ls) last held (x, rest, h, s, k) =
 
 -- ---- their groups
 
--- the texts of lines one after the other
+-- The texts of two lists of lines, one after the other.
 pub as_lines-append : (a b : List HeldLine) → as_lines (a ++ b) ≡ as_lines a ++ as_lines b
 as_lines-append [] b = refl
 as_lines-append (h ∷ a) b = ap (λ v. record { number = 0; text = h.text } ∷ v) (as_lines-append a b)
 
--- a line that closes its group
+-- A line that closes its group.
 pub groups-close : (p : List HeldLine) (h : HeldLine) (hs : List HeldLine) → closes (as_lines p) (record { number = 0; text = h.text }) ≡ true
     → held_groups_after p (h ∷ hs) ≡ (p ++ h ∷ []) ∷ held_groups_after [] hs
 groups-close p h hs k = rw (k, held_groups_after) refl
 
--- a line that leaves its group open
+-- A line that leaves its group open.
 pub groups-leave : (p : List HeldLine) (h : HeldLine) (hs : List HeldLine) → closes (as_lines p) (record { number = 0; text = h.text }) ≡ false
     → held_groups_after p (h ∷ hs) ≡ held_groups_after (p ++ h ∷ []) hs
 groups-leave p h hs k = rw (k, held_groups_after) refl
 
--- their texts are the groups of the texts
+-- The texts of the groups are the groups of the texts.
 groups-texts : (p hs : List HeldLine) → as_groups (held_groups_after p hs) ≡ groups_after (as_lines p) (as_lines hs) end
 groups-texts [] [] = refl
 groups-texts (h ∷ p) [] = refl
@@ -68,7 +69,7 @@ groups-texts p (h ∷ hs) = elim (cases_Bool (closes (as_lines p) (record { numb
       ∙ sym (groups_after-leave (as_lines p) (record { number = 0; text = h.text }) (as_lines hs) end k)
 ]
 
--- and they have all the lines
+-- The groups contain all of the lines.
 groups-lines : (p hs : List HeldLine) → held_in (held_groups_after p hs) ≡ p ++ hs
 groups-lines [] [] = refl
 groups-lines (h ∷ p) [] = refl
@@ -77,7 +78,7 @@ groups-lines p (h ∷ hs) = elim (cases_Bool (closes (as_lines p) (record { numb
   | inr k ↦ ap held_in (groups-leave p h hs k) ∙ groups-lines (p ++ h ∷ []) hs ∙ append_assoc p (h ∷ []) hs
 ]
 
--- what is computed are the groups of the body
+-- The computed groups are the groups of the body.
 pub held_groups_of-meets : (e : Encoding) (body : List ℕ) → AreGroupsOf e body (held_groups_of e body)
 unfolding held_groups_of
 held_groups_of-meets e body =
@@ -90,7 +91,7 @@ held_groups_of-meets e body =
       grouped = rw (same, groups-texts [] hs) (groups_of-meets (as_lines hs) end);
     }
 
--- the same texts cut the same lines off
+-- Lists of lines with the same texts have the same length, so they cut the same lines off a list.
 split-same : (g h x y : List HeldLine) → as_lines g ≡ as_lines h → g ++ x ≡ h ++ y → (g ≡ h) × (x ≡ y)
 split-same [] [] x y t s = (refl, s)
 split-same [] (b ∷ h) x y t s = absurd (cc)
@@ -102,7 +103,7 @@ split-same (a ∷ g) (b ∷ h) x y t s =
     let m = split-same g h x y q r in
     (ap₂ (λ v w. v ∷ w) p m.0, m.1)
 
--- groups with the same texts and the same lines are the same
+-- Groups with the same texts and the same lines are equal.
 groups-same : (gs hs : List (List HeldLine)) → as_groups gs ≡ as_groups hs → held_in gs ≡ held_in hs → gs ≡ hs
 groups-same [] [] t s = refl
 groups-same [] (h ∷ hs) t s = absurd (cc)
@@ -113,13 +114,13 @@ groups-same (g ∷ gs) (h ∷ hs) t s =
     let m = split-same g h (held_in gs) (held_in hs) q s in
     ap₂ (λ v w. v ∷ w) m.0 (groups-same gs hs r m.1)
 
--- groups of the body have the lines of its bytes
+-- The groups of a body have the lines of its bytes.
 held-lines : (e : Encoding) (body : List ℕ) (gs : List (List HeldLine)) → AreGroupsOf e body gs → held_in gs ≡ held_lines_of e body
 held-lines e body gs h =
     held_of-only e h.cut.ended h.cut.last (held_in gs) h.are_held
     ∙ ap (λ v. let w : Lines = v in held_of e w.ended w.last) (cut_of-only e body h.cut h.is_cut)
 
--- groups of the body are what is computed
+-- The groups of a body are the computed ones.
 pub held_groups_of-only : (e : Encoding) (body : List ℕ) (gs : List (List HeldLine)) → AreGroupsOf e body gs → gs ≡ held_groups_of e body
 unfolding held_groups_of
 held_groups_of-only e body gs h =
@@ -130,7 +131,7 @@ held_groups_of-only e body gs h =
 
 -- ---- all groups but the last are whole
 
--- a group that begins with no comment line and ends open
+-- a group that doesn't begin with a comment line and ends open
 abbrev pub EndsOpen : List Line → Type 0
 EndsOpen [] = ⊥
 EndsOpen (l ∷ ls) = IsUnfinished (l ∷ ls)
@@ -143,7 +144,7 @@ AreFit [] = Unit {0}
 AreFit (g ∷ []) = IsLastFit g
 AreFit (g ∷ h ∷ gs) = IsWhole (as_lines g) × AreFit (h ∷ gs)
 
--- all groups but the last are whole, where the texts are whole groups and perhaps a last one that ends open
+-- All groups but the last are whole, if the texts are whole groups and possibly a last one that ends open.
 pub fit : (gs : List (List HeldLine)) (whole : List (List Line)) (u : List Line) → as_groups gs ≡ whole ++ last_group u end → AreWhole whole → IsUnfinished u
     → AreFit gs
 fit [] whole u t h k = tt
@@ -159,17 +160,17 @@ fit (g ∷ i ∷ gs) (w ∷ whole) u t h k =
 
 -- ---- the bytes of a group
 
--- lines with their endings, as the body holds them
+-- lines with their endings, as lines of a body
 abbrev pub held_ended : Encoding → List Ended → List HeldLine
 held_ended e [] = []
 held_ended e (l ∷ ls) = record { bytes = l.text; text = decoded_line e l.text; ending = Some l.by } ∷ held_ended e ls
 
--- where two lists of lines are empty together, the second is empty
+-- If two lists of lines together are empty, the second is empty.
 none-right : (x y : List HeldLine) → x ++ y ≡ [] → y ≡ []
 none-right [] y h = h
 none-right (a ∷ x) y h = absurd (cc)
 
--- lines cut off before the last
+-- Lines were cut off before the last one.
 pub record IsCutOff (e : Encoding) (g rest : List HeldLine) (ls : List Ended) (last : List ℕ) : Type 0 where
   pub front : List Ended
   pub back : List Ended
@@ -177,7 +178,7 @@ pub record IsCutOff (e : Encoding) (g rest : List HeldLine) (ls : List Ended) (l
   pub group : g ≡ held_ended e front
   pub others : rest ≡ held_of e back last
 
--- lines in front of some others are cut off so
+-- Lines that come before some others are cut off in this way.
 pub cut-off : (e : Encoding) (g rest : List HeldLine) (ls : List Ended) (last : List ℕ) → rest ≢ [] → g ++ rest ≡ held_of e ls last → IsCutOff e g rest ls last
 cut-off e [] rest ls last some h = record { front = []; back = ls; all = refl; group = refl; others = h }
 cut-off e (a ∷ g) rest [] last some h = let q : g ++ rest ≡ [] = cc in absurd (some (none-right g rest q))
@@ -187,7 +188,7 @@ cut-off e (a ∷ g) rest (l ∷ ls) last some h =
     let m = cut-off e g rest ls last some q in
     record { front = l ∷ m.front; back = m.back; all = ap (λ v. l ∷ v) {y = m.front ++ m.back} m.all; group = ap₂ (λ v w. v ∷ w) p m.group; others = m.others }
 
--- the first of ended lines are lines, with an empty last one
+-- The first ended lines, with an empty last line, are lines of a text.
 pub lines-front : (ls ms : List Ended) (last : List ℕ) → AreLines (ls ++ ms) last → AreLines ls []
 lines-front [] ms last h = tt
 lines-front (l ∷ ls) ms last h = (h.0, (λ k. lone ls (h.1 k)), lines-front ls ms last h.2)
@@ -196,47 +197,47 @@ lines-front (l ∷ ls) ms last h = (h.0, (λ k. lone ls (h.1 k)), lines-front ls
     lone [] h = tt
     lone (l ∷ ls) h = h
 
--- and so are those after them, with the last one
+-- The ended lines after them, with the last line, are lines of a text.
 pub lines-back : (ls ms : List Ended) (last : List ℕ) → AreLines (ls ++ ms) last → AreLines ms last
 lines-back [] ms last h = h
 lines-back (l ∷ ls) ms last h = lines-back ls ms last h.2
 
--- the bytes of ended lines are the lines and their ends put together
+-- The bytes of ended lines are the lines and their ends, put together.
 pub ended-bytes : (e : Encoding) (ls : List Ended) → group_bytes (held_ended e ls) ≡ put_together ls []
 ended-bytes e [] = refl
 ended-bytes e (l ∷ ls) = ap (λ v. l.text ++ (line_ending_text l.by ++ v)) (ended-bytes e ls)
 
--- the texts of ended lines, each decoded by itself
+-- The texts of ended lines, each decoded by itself.
 ended-texts : (e : Encoding) (ls : List Ended) → ended_lines e ls ≡ as_lines (held_ended e ls)
 ended-texts e [] = refl
 ended-texts e (l ∷ ls) = ap (λ v. record { number = 0; text = decoded_line e l.text } ∷ v) (ended-texts e ls)
 
--- the bytes of all lines of a body are the lines and their ends put together
+-- The bytes of all lines of a body are the lines and their ends, put together.
 pub held-bytes : (e : Encoding) (ls : List Ended) (last : List ℕ) → group_bytes (held_of e ls last) ≡ put_together ls last
 held-bytes e [] last = append-nil last
 held-bytes e (l ∷ ls) last = ap (λ v. l.text ++ (line_ending_text l.by ++ v)) (held-bytes e ls last)
 
--- the texts of all lines of a body, each decoded by itself
+-- The texts of all lines of a body, each decoded by itself.
 held-texts : (e : Encoding) (ls : List Ended) (last : List ℕ) → line_texts_in e (record { ended = ls; last = last }) ≡ as_lines (held_of e ls last)
 held-texts e [] last = refl
 held-texts e (l ∷ ls) last = ap (λ v. record { number = 0; text = decoded_line e l.text } ∷ v) (held-texts e ls last)
 
--- the last of all lines has no ending
+-- The last line of a body has no line ending.
 held-last : (e : Encoding) (ls : List Ended) (last : List ℕ) → last_ending (held_of e ls last) ≡ None
 held-last e [] last = refl
 held-last e (l ∷ []) last = refl
 held-last e (l ∷ m ∷ ls) last = held-last e (m ∷ ls) last
 
--- and the last of ended lines has one
+-- The last of some ended lines has a line ending.
 ended-last : (e : Encoding) (l : Ended) (ls : List Ended) → (by : LineEnding) × (last_ending (held_ended e (l ∷ ls)) ≡ Some by)
 ended-last e l [] = (l.by, refl)
 ended-last e l (m ∷ ls) = ended-last e m ls
 
--- an ASCII byte is among these
+-- one of these bytes is ASCII
 abbrev pub HasAscii : List ℕ → Type 0
 HasAscii x = (u : List ℕ) × (c : ℕ) × (v : List ℕ) × (x ≡ u ++ c ∷ v) × (c < 0x80)
 
--- bytes with a line ending among them are such
+-- Bytes that contain a line ending contain an ASCII byte.
 line-ascii : (text : List ℕ) (by : LineEnding) (y : List ℕ) → HasAscii (text ++ (line_ending_text by ++ y))
 line-ascii text lf y = (text, line_feed, y, refl, lit< tt)
 line-ascii text cr y = (text, carriage_return, y, refl, lit< tt)
@@ -244,7 +245,8 @@ line-ascii text crlf y = (text, carriage_return, line_feed ∷ y, refl, lit< tt)
 
 -- ---- the groups one by one
 
--- A group with others after it: its last line has an ending, its bytes are one whole group, and its lines are those of its bytes.
+-- A group that others follow: its last line has an ending, its bytes are one whole group, and its lines are those of
+-- its bytes.
 pub record IsHeldFront (e : Encoding) (g : List HeldLine) : Type 0 where
   pub front : IsFront e (group_bytes g) (as_lines g)
   pub by : LineEnding
@@ -263,13 +265,13 @@ pub record IsHeldLast (e : Encoding) (g : List HeldLine) : Type 0 where
   pub held : g ≡ held_of e lines.ended lines.last
   pub are_lines : AreLines lines.ended lines.last
 
--- There is a group at least, and each is such.
+-- There is at least one group, and every group is of this kind.
 abbrev pub AreHeldGroups : Encoding → List (List HeldLine) → Type 0
 AreHeldGroups e [] = ⊥
 AreHeldGroups e (g ∷ []) = IsHeldLast e g
 AreHeldGroups e (g ∷ h ∷ gs) = IsHeldFront e g × AreHeldGroups e (h ∷ gs)
 
--- ended lines of a text that are one whole group are such
+-- If ended lines of a text are one whole group, it is one that others may follow.
 front-of : (e : Encoding) (ls : List Ended) → AreLines ls [] → IsWhole (as_lines (held_ended e ls)) → IsHeldFront e (held_ended e ls)
 front-of e [] h k = absurd k
 front-of e (l ∷ ls) h k =
@@ -286,7 +288,7 @@ front-of e (l ∷ ls) h k =
       are_lines = h;
     }
 
--- and all lines of a text are such a last group, where they are whole or end open
+-- If all lines of a text are one group that is whole or ends open, it is a last group.
 last-of : (e : Encoding) (ls : List Ended) (last : List ℕ) → AreLines ls last → IsLastFit (held_of e ls last) → IsHeldLast e (held_of e ls last)
 unfolding line_texts
 last-of e ls last h k =
@@ -299,14 +301,14 @@ last-of e ls last h k =
       are_lines = h;
     }
 
--- groups of which all but the last are whole, one at least, have lines
+-- If there is a group and all groups but the last are whole, they have lines.
 pub fit-some : (h : List HeldLine) (gs : List (List HeldLine)) → AreFit (h ∷ gs) → held_in (h ∷ gs) ≢ []
 fit-some [] [] (inl k) q = k
 fit-some [] [] (inr k) q = k
 fit-some [] (i ∷ gs) k q = k.0
 fit-some (a ∷ h) gs k q = cc
 
--- groups that have all lines of a text are such, where all but the last are whole
+-- Groups with all lines of a text, all of them whole except possibly the last, are groups of this kind.
 groups-fit : (e : Encoding) (gs : List (List HeldLine)) (ls : List Ended) (last : List ℕ) → AreLines ls last → held_in gs ≡ held_of e ls last → AreFit gs
     → AreHeldGroups e gs
 groups-fit e [] [] last h s k = absurd (cc)
@@ -321,15 +323,15 @@ groups-fit e (g ∷ i ∷ gs) ls last h s k =
       groups-fit e (i ∷ gs) c.back last (lines-back c.front c.back last m) c.others k.1,
     )
 
--- The groups of a body are such.
+-- The groups of a body are of this kind.
 pub held-groups : (e : Encoding) (body : List ℕ) (gs : List (List HeldLine)) → is_editable e ≡ true → AreGroupsOf e body gs → AreHeldGroups e gs
 held-groups e body gs ok h =
     groups-fit e gs h.cut.ended h.cut.last (IsCut-lines e body h.cut ok h.is_cut).are_lines (held_of-only e h.cut.ended h.cut.last (held_in gs) h.are_held)
     (fit gs h.grouped.whole h.grouped.unfinished h.grouped.are_groups h.grouped.are_whole h.grouped.is_unfinished)
 
--- ---- and their bytes together
+-- ---- the bytes of all groups
 
--- the bytes of lines one after the other
+-- The bytes of two lists of lines, one after the other.
 pub group_bytes-append : (a b : List HeldLine) → group_bytes (a ++ b) ≡ group_bytes a ++ group_bytes b
 group_bytes-append [] b = refl
 group_bytes-append (h ∷ a) b =
@@ -337,13 +339,13 @@ group_bytes-append (h ∷ a) b =
     ∙ ap (λ v. h.bytes ++ v) (sym (append_assoc (ending_bytes h.ending) (group_bytes a) (group_bytes b)))
     ∙ sym (append_assoc h.bytes (ending_bytes h.ending ++ group_bytes a) (group_bytes b))
 
--- the bytes of groups one after the other
+-- The bytes of two lists of groups, one after the other.
 pub groups_bytes-append : (gs hs : List (List HeldLine)) → groups_bytes (gs ++ hs) ≡ groups_bytes gs ++ groups_bytes hs
 groups_bytes-append [] hs = refl
 groups_bytes-append (g ∷ gs) hs =
     ap (λ v. group_bytes g ++ v) (groups_bytes-append gs hs) ∙ sym (append_assoc (group_bytes g) (groups_bytes gs) (groups_bytes hs))
 
--- the bytes of groups are those of their lines
+-- The bytes of the groups are those of their lines.
 pub groups-bytes : (gs : List (List HeldLine)) → groups_bytes gs ≡ group_bytes (held_in gs)
 groups-bytes [] = refl
 groups-bytes (g ∷ gs) = ap (λ v. group_bytes g ++ v) (groups-bytes gs) ∙ sym (group_bytes-append g (held_in gs))

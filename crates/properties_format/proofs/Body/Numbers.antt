@@ -1,4 +1,4 @@
--- The items of a source are what the groups of its body say, each under the number of its first line.
+-- The items of a source are the contents of its body's groups, each with the number of its first line.
 use Rattle.std.proofs.Common.{◌≡◌, ℕ, ◌+◌, List, [], ◌∷◌, ◌++◌, length, refl, ap, ap₂, sym, ◌∙◌, inl, inr, arith}
 use Rattle.std.proofs.lemmas.Bool.{cases_Bool}
 use Rattle.properties_format.specs.Encoding.{Encoding, byte_order_mark}
@@ -15,17 +15,17 @@ use Rattle.properties_format.proofs.Groups.Steps.{groups_after-close, groups_aft
 use Rattle.properties_format.proofs.Cut.Byline.{decoded_lines-cut}
 use Rattle.properties_format.proofs.Body.Groups.{groups-close, groups-leave}
 
--- the lines of a body with their numbers, from this one on
+-- the lines of a body, numbered from this number on
 abbrev numbered_from : ℕ → List HeldLine → List Line
 numbered_from n [] = []
 numbered_from n (h ∷ hs) = record { number = n; text = h.text } ∷ numbered_from (n + 1) hs
 
--- the decoded lines after n line ends are the lines of the body, numbered from n + 1 on
+-- The decoded lines after n line ends are the lines of the body, numbered from n + 1 on.
 numbered-held : (e : Encoding) (n : ℕ) (ls : List Ended) (last : List ℕ) → numbered n (decoded_ended e ls) (decoded_line e last) end ≡ numbered_from (n + 1) (held_of e ls last)
 numbered-held e n [] last = refl
 numbered-held e n (l ∷ ls) last = ap (λ v. record { number = n + 1; text = decoded_line e l.text } ∷ v) (numbered-held e (n + 1) ls last)
 
--- one line more has the next number
+-- One more line has the next number.
 numbered-push : (n : ℕ) (p : List HeldLine) (h : HeldLine) → numbered_from n (p ++ h ∷ []) ≡ numbered_from n p ++ record { number = n + length p; text = h.text } ∷ []
 numbered-push n [] h = ap (λ m. record { number = m; text = h.text } ∷ []) (zero-right n)
   where
@@ -35,38 +35,38 @@ numbered-push n (g ∷ p) h =
     ap (λ v. record { number = n; text = g.text } ∷ v)
     (numbered-push (n + 1) p h ∙ ap (λ m. numbered_from (n + 1) p ++ record { number = m; text = h.text } ∷ []) (one-more n (length p)))
 
--- whether a line closes a group doesn't hang on the numbers
+-- Whether a line closes a group doesn't depend on the numbers.
 closes-numbered : (n m : ℕ) (p : List HeldLine) (h : HeldLine) → closes (numbered_from n p) (record { number = m; text = h.text }) ≡ closes (as_lines p) (record { number = 0; text = h.text })
 closes-numbered n m [] h = refl
 closes-numbered n m (g ∷ p) h = refl
 
--- nor does what lines add
+-- What lines add doesn't depend on the numbers.
 joined_after-numbered : (n : ℕ) (hs : List HeldLine) → joined_after (numbered_from n hs) ≡ joined_after (as_lines hs)
 joined_after-numbered n [] = refl
 joined_after-numbered n (h ∷ hs) = rw (joined_after-numbered (n + 1) hs) refl
 
--- nor what a group is put together to
+-- The logical line of a group doesn't depend on the numbers.
 joined-numbered : (n : ℕ) (g : List HeldLine) → joined (numbered_from n g) ≡ joined (as_lines g)
 joined-numbered n [] = refl
 joined-numbered n (h ∷ hs) = rw (joined_after-numbered (n + 1) hs) refl
 
--- a group that is numbered from n on has the number n
+-- The number of a group whose lines are numbered from n on is n.
 first-numbered : (n : ℕ) (p : List HeldLine) (h : HeldLine) → first_number (numbered_from n (p ++ h ∷ [])) ≡ n
 first-numbered n [] h = refl
 first-numbered n (g ∷ p) h = refl
 
--- one line more counts one
+-- One more line makes a list one longer.
 length-push : (p : List HeldLine) (h : HeldLine) → length (p ++ h ∷ []) ≡ length p + 1
 length-push [] h = refl
 length-push (g ∷ p) h = let e = length-push p h in omega arith
 
--- a group in front of others
+-- A group before others.
 entries-group : (m n : ℕ) (g : List HeldLine) (gs : List (List Line)) (rest : List Entry) → first_number (numbered_from n g) ≡ n → entries_of m end gs ≡ rest
     → entries_of m end (numbered_from n g ∷ gs) ≡ followed n (outcome_of (joined (as_lines g))) rest
 entries-group m n g gs rest h k =
     ap₂ (λ v w. followed v (outcome_of w) (entries_of m end gs)) h (joined-numbered n g) ∙ ap (followed n (outcome_of (joined (as_lines g)))) k
 
--- after the lines of a group that is still open
+-- Lines after those of a group that is still open.
 entries-after : (m n k : ℕ) (p hs : List HeldLine) → k ≡ n + length p
     → entries_of m end (groups_after (numbered_from n p) (numbered_from k hs) end) ≡ entries_in n (held_groups_after p hs)
 entries-after m n k [] [] s = refl
@@ -92,7 +92,7 @@ entries-after m n k p (h ∷ hs) s =
           ∙ ap (entries_in n) (sym (groups-leave p h hs c))
     ]
 
--- The items of a source are what the groups of its body say.
+-- The items of a source are the contents of its body's groups.
 pub items_of-groups : (e : Encoding) (source : List ℕ)
     → items_of e source end ≡ entries_in 1 (held_groups_of (byte_order_mark e source).encoding (byte_order_mark e source).body)
 unfolding items_of held_groups_of

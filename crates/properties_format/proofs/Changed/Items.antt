@@ -1,4 +1,4 @@
--- What the groups of a body come to is what the items of its source say.
+-- The outcomes of a body's groups are the contents of its source's items.
 use Rattle.std.proofs.Common.{◌≡◌, ℕ, ◌+◌, List, [], ◌∷◌, length, true, refl, ap, ap₂, sym, ◌∙◌, subst}
 use Rattle.properties_format.specs.Encoding.{Encoding, byte_order_mark}
 use Rattle.properties_format.specs.Lines.{end}
@@ -17,24 +17,24 @@ use Rattle.properties_format.proofs.Body.Numbers.{items_of-groups}
 
 -- ---- entries
 
--- an outcome before others is what its entry and their entries say, where none is malformed
+-- An outcome followed by others is the content of its entry followed by theirs, if nothing is malformed.
 followed-told : (number : ℕ) (o : Outcome) (entries : List Entry) (os : List Outcome) → (AreItems entries → os ≡ givens (contents entries))
     → AreItems (followed number o entries) → told_before o os ≡ givens (contents (followed number o entries))
 followed-told number ignored entries os h k = h k
 followed-told number (given content) entries os h k = ap (λ v. given content ∷ v) (h k)
 followed-told number (broken kind) entries os h k = absurd k
 
--- groups come to what their entries say, where none is malformed
+-- The outcomes of groups are the contents of their entries, if nothing is malformed.
 entries-told : (n : ℕ) (gs : List (List HeldLine)) → AreItems (entries_in n gs) → told_by (as_groups gs) ≡ givens (contents (entries_in n gs))
 entries-told n [] h = refl
 entries-told n (g ∷ gs) h =
     followed-told n (outcome_of (joined (as_lines g))) (entries_in (n + length g) gs) (told_by (as_groups gs)) (entries-told (n + length g) gs) h
 
--- the entries are items, which say this
+-- the entries are items with these contents
 abbrev Say : List Entry → List Content → Type 0
 Say entries cs = AreItems entries × (contents entries ≡ cs)
 
--- where an outcome before others is contents alone, its entry and their entries say these
+-- If an outcome and those after it are all contents, its entry and the entries after it have these contents.
 told-followed : (number : ℕ) (o : Outcome) (entries : List Entry) (os : List Outcome) (cs : List Content)
     → ((ds : List Content) → os ≡ givens ds → Say entries ds)
     → told_before o os ≡ givens cs → Say (followed number o entries) cs
@@ -48,7 +48,7 @@ told-followed number (given content) entries os (c ∷ cs) h k =
 told-followed number (broken kind) entries os [] h k = absurd (cc)
 told-followed number (broken kind) entries os (c ∷ cs) h k = absurd (cc)
 
--- where groups come to contents alone, their entries say these
+-- If the outcomes of groups are all contents, their entries have these contents.
 told-entries : (n : ℕ) (gs : List (List HeldLine)) (cs : List Content) → told_by (as_groups gs) ≡ givens cs → Say (entries_in n gs) cs
 told-entries n [] [] h = (tt, refl)
 told-entries n [] (c ∷ cs) h = absurd (cc)
@@ -57,7 +57,7 @@ told-entries n (g ∷ gs) cs h =
 
 -- ---- items
 
--- Where no item is malformed, the groups of the body come to what the items say.
+-- If no item is malformed, the outcomes of the body's groups are the contents of the items.
 pub items-told : (e : Encoding) (source : List ℕ) (gs : List (List HeldLine)) → AreGroupsOf (byte_order_mark e source).encoding (byte_order_mark e source).body gs
     → AreItems (items_of e source end) → told_by (as_groups gs) ≡ givens (contents (items_of e source end))
 items-told e source gs h k =
@@ -68,7 +68,7 @@ items-told e source gs h k =
     ∙ entries-told 1 own (subst AreItems same k)
     ∙ ap (λ v. givens (contents v)) (sym same)
 
--- And where the body comes to contents alone, no item is malformed, and these are what the items say.
+-- If the outcomes of a body are all contents, no item is malformed, and the items have these contents.
 pub told-items : (e : Encoding) (source : List ℕ) (cs : List Content) → is_editable (byte_order_mark e source).encoding ≡ true
     → told (byte_order_mark e source).encoding (byte_order_mark e source).body ≡ givens cs
     → AreItems (items_of e source end) × (contents (items_of e source end) ≡ cs)

@@ -1,5 +1,5 @@
 -- What an edited source says: the items of the source with the edit made to what they say.
-use Rattle.std.proofs.Common.{◌≡◌, ℕ, true, List, [], ◌∷◌, ◌++◌, ap, sym, ◌∙◌, inl, inr, subst, All}
+use Rattle.std.proofs.Common.{◌≡◌, ℕ, true, List, ◌++◌, ap, sym, ◌∙◌, inl, inr, subst, All}
 use Rattle.properties_format.specs.Text.{scalar}
 use Rattle.properties_format.specs.Encoding.{Encoding, InForce, byte_order_mark}
 use Rattle.properties_format.specs.Lines.{end}
@@ -7,10 +7,9 @@ use Rattle.properties_format.specs.Reading.Lines.{ends_in_cr}
 use Rattle.properties_format.specs.Entries.{Content, AreItems}
 use Rattle.properties_format.specs.Reading.Items.{items_of}
 use Rattle.properties_format.specs.Body.{HeldLine, as_groups, AreGroupsOf, groups_bytes}
-use Rattle.properties_format.specs.Edited.{bom_of, IsKeySet, guarding_lf, IsKeyRemoved, Edit, put, remove}
-use Rattle.properties_format.specs.Edited.{IsEdited, AreEdited, is_editable}
-use Rattle.properties_format.specs.Changed.{contents, IsSetIn, IsRemovedIn, IsEditedIn, AreEditedIn}
-use Rattle.properties_format.specs.Edited.{IsScalarEdit, AreScalarEdits}
+use Rattle.properties_format.specs.Edited.{bom_of, IsKeySet, guarding_lf, IsKeyRemoved}
+use Rattle.properties_format.specs.Edited.{is_editable}
+use Rattle.properties_format.specs.Changed.{contents, IsSetIn, IsRemovedIn}
 use Rattle.properties_format.proofs.Edited.Told.{told_by, told}
 use Rattle.properties_format.proofs.Edited.Told.{givens}
 use Rattle.properties_format.proofs.Changed.Items.{items-told, told-items}
@@ -18,23 +17,23 @@ use Rattle.properties_format.proofs.Body.Groups.{held-groups, held-body}
 use Rattle.properties_format.proofs.Edited.ByteOrderMarks.{source-whole, key_set-in_force, key_removed-in_force}
 use Rattle.properties_format.proofs.Edited.Contents.{ends-right, ComesTo, replaced-told, appended-told, removed-told}
 
--- ---- what a source is read to
+-- ---- what is read from a source
 
--- the source can be edited: its encoding in force is one that is edited, and no item of it is malformed
+-- The source can be edited: its encoding in force can be edited, and none of its items is malformed.
 pub record IsReadable (e : Encoding) (source : List ℕ) : Type 0 where
   pub editable : is_editable (byte_order_mark e source).encoding ≡ true
   pub no_fault : AreItems (items_of e source end)
 
--- what its items say
+-- the contents of a source's items
 abbrev pub says : Encoding → List ℕ → List Content
 says e source = contents (items_of e source end)
 
--- The result is readable too, and says such contents.
+-- The result can be edited too, and its contents have this property.
 pub record IsReadTo (e : Encoding) (result : List ℕ) (Such : List Content → Type 0) : Type 0 where
   pub readable : IsReadable e result
   pub such : Such (says e result)
 
--- a body in force that comes to contents
+-- A body in force whose outcomes are contents.
 pub read-to : (e : Encoding) (result : List ℕ) (f : InForce) (Such : List Content → Type 0) → is_editable f.encoding ≡ true → byte_order_mark e result ≡ f
     → ComesTo f.encoding f.body Such
     → IsReadTo e result Such
@@ -44,12 +43,12 @@ read-to e result f Such ok same c =
     let m = told-items e result c.0 g t in
     record { readable = record { editable = g; no_fault = m.0 }; such = subst Such (sym m.1) c.1 }
 
--- the groups of a readable source come to what it says
+-- The outcomes of the groups are the contents of a source that can be edited.
 pub groups-say : (e : Encoding) (source : List ℕ) (gs : List (List HeldLine)) → IsReadable e source
     → AreGroupsOf (byte_order_mark e source).encoding (byte_order_mark e source).body gs → told_by (as_groups gs) ≡ givens (says e source)
 groups-say e source gs r h = items-told e source gs h r.no_fault
 
--- a CR at the end of the body is at the end of the source
+-- A CR at the end of the body is at the end of the source.
 ends-alike : (e : Encoding) (source : List ℕ) (gs : List (List HeldLine)) → IsReadable e source
     → AreGroupsOf (byte_order_mark e source).encoding (byte_order_mark e source).body gs
     → ends_in_cr (groups_bytes gs) ≡ true → ends_in_cr source ≡ true
@@ -59,7 +58,8 @@ ends-alike e source gs r h k =
 
 -- ---- one edit
 
--- After a key is set, the last pair with the key has the value, or where there is none there is a new last pair; all else is said as before.
+-- After a key is set, the last pair with the key has the value, or there is a new last pair if none has the key. All
+-- other contents are unchanged.
 pub key_set-says : (e : Encoding) (source key value result : List ℕ) → IsReadable e source → All scalar key → All scalar value
     → IsKeySet e source key value result
     → IsReadTo e result (IsSetIn key value (says e source))
@@ -73,7 +73,7 @@ key_set-says e source key value result r k v h =
       | inr m ↦ appended-told f.encoding source h.groups key value h.body (says e source) r.editable k v gs (ends-alike e source h.groups r h.held) t m
     ])
 
--- After a key is removed, the pairs with the key are gone; all else is said as before.
+-- After a key is removed, the pairs with the key are gone. All other contents are unchanged.
 pub key_removed-says : (e : Encoding) (source key result : List ℕ) → IsReadable e source → IsKeyRemoved e source key result
     → IsReadTo e result (IsRemovedIn key (says e source))
 key_removed-says e source key result r h =
@@ -81,21 +81,3 @@ key_removed-says e source key result r h =
     let gs = held-groups f.encoding f.body h.groups r.editable h.held in
     read-to e result (record { encoding = f.encoding; body = guarding_lf source h.rest ++ h.rest }) (IsRemovedIn key (says e source)) r.editable (key_removed-in_force e source key result r.editable h)
     (removed-told f.encoding source key h.groups h.rest (says e source) gs (groups-say e source h.groups r h.held) h.without)
-
--- ---- edits in turn
-
--- the same of either edit
-pub edit-says : (e : Encoding) (source : List ℕ) (edit : Edit) (result : List ℕ) → IsReadable e source → IsScalarEdit edit → IsEdited e source edit result
-    → IsReadTo e result (IsEditedIn edit (says e source))
-edit-says e source (put key value) result r k h = key_set-says e source key value result r k.0 k.1 h
-edit-says e source (remove key) result r k h = key_removed-says e source key result r h
-
--- After edits in turn the source says what it said after the same edits.
-pub edits-say : (e : Encoding) (source : List ℕ) (edits : List Edit) (result : List ℕ) → IsReadable e source → AreScalarEdits edits
-    → AreEdited e source edits result
-    → IsReadTo e result (AreEditedIn edits (says e source))
-edits-say e source [] result r k h = record { readable = subst (IsReadable e) (sym h) r; such = ap (says e) h }
-edits-say e source (edit ∷ edits) result r k h =
-    let m = edit-says e source edit h.0 r k.0 h.1 in
-    let n = edits-say e h.0 edits result m.readable k.1 h.2 in
-    record { readable = n.readable; such = (says e h.0, m.such, n.such) }

@@ -1,23 +1,23 @@
--- What is promised of an editor's result, where it has one.
+-- What is guaranteed of an editor's result, if there is one.
 use Rattle.std.proofs.Common.{◌≡◌, ℕ, true, List, All, subst, sym, Option}
 use Rattle.properties_format.specs.Text.{scalar}
 use Rattle.properties_format.specs.Encoding.{Encoding, byte_order_mark}
 use Rattle.properties_format.specs.Lines.{end}
 use Rattle.properties_format.specs.Entries.{Content, Entry, AreItems}
 use Rattle.properties_format.specs.Maps.{IsMap}
-use Rattle.properties_format.specs.Edited.{Edit, put, remove, edited, is_editable, ItemsAre, IsSetKeyResult, IsRemoveKeyResult}
-use Rattle.properties_format.specs.Edited.{IsEditAllResult, AreScalarEdits}
-use Rattle.properties_format.specs.Changed.{contents, IsSetIn, IsRemovedIn, AreEditedIn, map_edited, map_after, ReadsAfter}
+use Rattle.properties_format.specs.Edited.{edited, is_editable, ItemsAre, IsSetKeyResult, IsRemoveKeyResult}
+use Rattle.properties_format.specs.Edits.{put, remove}
+use Rattle.properties_format.specs.Changed.{contents, IsSetIn, IsRemovedIn, map_edited, ReadsAfter}
 use Rattle.properties_format.proofs.Items.Unique.{items_of-only}
-use Rattle.properties_format.proofs.Changed.Laws.{IsReadable, says, IsReadTo, key_set-says, key_removed-says, edits-say}
-use Rattle.properties_format.proofs.Changed.Maps.{map-edited, map-after}
+use Rattle.properties_format.proofs.Changed.Laws.{IsReadable, says, IsReadTo, key_set-says, key_removed-says}
+use Rattle.properties_format.proofs.Changed.Maps.{map-edited}
 
--- a source that is edited is readable
+-- A source that has a result can be edited.
 pub readable : (e : Encoding) (source : List ℕ) → is_editable (byte_order_mark e source).encoding ≡ true → ItemsAre e source AreItems
     → IsReadable e source
 readable e source ok h = record { editable = ok; no_fault = subst AreItems (items_of-only e source end h.0 h.1) h.2 }
 
--- what is computed, in the words of what it is
+-- What is computed reads as the source after the edit.
 pub reads-after : (e : Encoding) (source result : List ℕ) (IsEdit : List Content → List Content → Type 0) (change : (List ℕ → Option (List ℕ)) → List ℕ → Option (List ℕ))
     → IsReadTo e result (IsEdit (says e source))
     → ((old new : List Entry) → IsEdit (contents old) (contents new) → (value_at : List ℕ → Option (List ℕ)) → IsMap old value_at → IsMap new (change value_at))
@@ -29,7 +29,8 @@ reads-after e source result IsEdit change r m old new h k =
     subst (λ v. IsEdit (contents v) (contents new)) (sym s) (subst (λ v. IsEdit (says e source) (contents v)) (sym t) r.such) in
     record { readable = subst AreItems (sym t) r.readable.no_fault; said = f; mapped = m old new f }
 
--- The result of setting a key reads as the source with that key set: its last pair has the new value, or a new last pair comes after all.
+-- The result of setting a key reads as the source with that key set: the last pair with it has the new value, or there
+-- is a new last pair.
 pub set_key-reads : (e : Encoding) (source key value result : List ℕ) → All scalar key → All scalar value → IsSetKeyResult e source key value (edited result)
     → ReadsAfter (IsSetIn key value) (map_edited (put key value)) e source result
 set_key-reads e source key value result k v h =
@@ -40,10 +41,3 @@ pub remove_key-reads : (e : Encoding) (source key result : List ℕ) → IsRemov
     → ReadsAfter (IsRemovedIn key) (map_edited (remove key)) e source result
 remove_key-reads e source key result h =
     reads-after e source result (IsRemovedIn key) (map_edited (remove key)) (key_removed-says e source key result (readable e source h.0 h.1) h.2) (map-edited (remove key))
-
--- The result of edits in turn reads as the source after them.
-pub edit_all-reads : (e : Encoding) (source : List ℕ) (edits : List Edit) (result : List ℕ) → AreScalarEdits edits
-    → IsEditAllResult e source edits (edited result)
-    → ReadsAfter (AreEditedIn edits) (map_after edits) e source result
-edit_all-reads e source edits result k h =
-    reads-after e source result (AreEditedIn edits) (map_after edits) (edits-say e source edits result (readable e source h.0 h.1) k h.2) (map-after edits)

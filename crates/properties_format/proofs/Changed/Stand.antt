@@ -1,4 +1,4 @@
--- The other groups of a source stand in the edited one, in order.
+-- The other groups of a source are in the edited source, in order.
 use Rattle.std.proofs.Common.{ℕ, List, [], ◌∷◌, ◌++◌, refl, ap, sym, ◌∙◌, inl, inr, append_assoc, subst}
 use Rattle.properties_format.specs.Encoding.{Encoding}
 use Rattle.properties_format.specs.Body.{HeldLine, group_bytes, groups_bytes}
@@ -6,27 +6,27 @@ use Rattle.properties_format.specs.Edited.{bom_of, IsKeySet, IsWithout, guarding
 use Rattle.properties_format.specs.Changed.{StandIn}
 use Rattle.properties_format.specs.Changed.{AreOthersThanLast, AreOthers, KeepsOthers}
 
--- other bytes before them
+-- Groups with other bytes before them.
 pub stand-after : (gs : List (List HeldLine)) (x y : List ℕ) → StandIn gs y → StandIn gs (x ++ y)
 stand-after [] x y h = tt
 stand-after (g ∷ gs) x y h = (x ++ h.0, h.1, ap (λ v. x ++ v) h.2 ∙ sym (append_assoc x h.0 (group_bytes g ++ h.1)), h.3)
 
--- groups one after the other, and then others
+-- Groups followed by other groups.
 pub stand-before : (gs hs : List (List HeldLine)) (y : List ℕ) → StandIn hs y → StandIn (gs ++ hs) (groups_bytes gs ++ y)
 stand-before [] hs y h = h
 stand-before (g ∷ gs) hs y h = ([], groups_bytes gs ++ y, append_assoc (group_bytes g) (groups_bytes gs) y, stand-before gs hs y h)
 
--- all groups, and any bytes
+-- All groups, followed by any bytes.
 pub stand-all : (gs : List (List HeldLine)) (y : List ℕ) → StandIn gs (groups_bytes gs ++ y)
 stand-all [] y = tt
 stand-all (g ∷ gs) y = ([], groups_bytes gs ++ y, append_assoc (group_bytes g) (groups_bytes gs) y, stand-all gs y)
 
--- all groups, and no other bytes
+-- All groups, and no other bytes.
 pub stand-alone : (gs : List (List HeldLine)) → StandIn gs (groups_bytes gs)
 stand-alone [] = tt
 stand-alone (g ∷ gs) = ([], groups_bytes gs, refl, stand-alone gs)
 
--- Where a key is set, every group but the last pair with the key stands as it was.
+-- If a key is set, every group but the last pair with the key is unchanged.
 pub key_set-keeps : (e : Encoding) (source key value result : List ℕ) → IsKeySet e source key value result
     → KeepsOthers (AreOthersThanLast key) e source result
 key_set-keeps e source key value result h = elim h.edited [
@@ -48,14 +48,14 @@ key_set-keeps e source key value result h = elim h.edited [
   )
 ]
 
--- in what is left without a key, the groups that are no pair with it stand in order
+-- What is left without a key contains the groups that aren't pairs with it, in order.
 others-stand : (key : List ℕ) (gs : List (List HeldLine)) (rest : List ℕ) → IsWithout key gs rest
     → (others : List (List HeldLine)) × AreOthers key gs others × StandIn others rest
 others-stand key [] rest h = ([], refl, tt)
 others-stand key (g ∷ gs) rest (inl h) = let m = others-stand key gs rest h.1 in (m.0, inl (h.0, m.1), m.2)
 others-stand key (g ∷ gs) rest (inr h) = let m = others-stand key gs h.1 h.3 in (g ∷ m.0, inr (h.0, m.0, refl, m.1), ([], h.1, h.2, m.2))
 
--- Where a key is removed, every group that is no pair with the key stands as it was.
+-- If a key is removed, every group that isn't a pair with the key is unchanged.
 pub key_removed-keeps : (e : Encoding) (source key result : List ℕ) → IsKeyRemoved e source key result → KeepsOthers (AreOthers key) e source result
 key_removed-keeps e source key result h =
     let m = others-stand key h.groups h.rest h.without in (

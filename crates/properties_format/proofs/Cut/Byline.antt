@@ -1,4 +1,5 @@
--- Splitting commutes with decoding: lines that are sought among undecoded bytes, and decoded one by one, are the lines of the decoded text.
+-- Splitting commutes with decoding: the lines that are found in undecoded bytes and decoded one by one are the lines of
+-- the decoded text.
 use Rattle.std.proofs.Common.{◌≡◌, ℕ, ◌<◌, ◌⊎◌, ◌==◌, eqb-true, true, List, [], ◌∷◌, ◌++◌, refl, ap, ap₂, sym, ◌∙◌, subst, inl, inr, lit<, append_assoc}
 use Rattle.std.proofs.lemmas.Bool.{cases_Bool, or_cases}
 use Rattle.properties_format.specs.Text.{line_feed, carriage_return, is_line_end, LineEnding, lf, cr, crlf, line_ending_text}
@@ -21,7 +22,7 @@ use Rattle.properties_format.proofs.Cut.Meets.{cut_of-meets}
 
 -- ---- The decoded text.
 
--- a line and its end in front, decoded
+-- A line and its end at the front, decoded.
 pub decoded-line : (e : Encoding) (text : List ℕ) (by : LineEnding) (y : List ℕ) → IsAligned e text
     → decoded_line e (text ++ (line_ending_bytes e by ++ y)) ≡ decoded_line e text ++ (line_ending_text by ++ decoded_line e y)
 decoded-line e text lf y a = characters-cut_ascii e line_feed text y (lit< tt) a
@@ -31,7 +32,7 @@ decoded-line e text crlf y a =
     ∙ characters-cut_ascii e carriage_return text (ascii_bytes e line_feed ++ y) (lit< tt) a
     ∙ ap (λ v. decoded_line e text ++ carriage_return ∷ characters v) (pieces_of-ascii e line_feed y (lit< tt))
 
--- lines of bytes that are put together are decoded to their texts, put together
+-- Lines of bytes put together decode to their texts put together.
 decoded-together : (e : Encoding) (ls : List Ended) (last : List ℕ) → AreCut e ls last
     → decoded_line e (bytes_together e ls last) ≡ put_together (decoded_ended e ls) (decoded_line e last)
 decoded-together e [] last h = refl
@@ -41,7 +42,7 @@ decoded-together e (l ∷ ls) last h =
 
 -- ---- Its lines.
 
--- a text holds no CR and no LF, or it is what stands before one, that one, and what stands after it
+-- A text contains no CR and no LF; or it is the text before the first one, that one, and the text after it.
 first-end : (x : List ℕ) → HoldsNoLineEnd x ⊎ ((t : List ℕ) × (c : ℕ) × (s : List ℕ) × (is_line_end c ≡ true) × (x ≡ t ++ c ∷ s))
 first-end [] = inl tt
 first-end (c ∷ x) = elim (cases_Bool (is_line_end c)) [
@@ -49,14 +50,14 @@ first-end (c ∷ x) = elim (cases_Bool (is_line_end c)) [
   | inr h ↦ elim (first-end x) [ inl p ↦ inl (h, p) | inr q ↦ inr (c ∷ q.0, q.1, q.2, q.3, ap (λ v. c ∷ v) q.4) ]
 ]
 
--- a line end is an ASCII character
+-- A line end is an ASCII character.
 pub end-ascii : (c : ℕ) → is_line_end c ≡ true → c < 0x80
 end-ascii c h = elim (or_cases (c == line_feed) (c == carriage_return) h) [
   | inl e ↦ rw (eqb-true c line_feed e) (lit< tt)
   | inr e ↦ rw (eqb-true c carriage_return e) (lit< tt)
 ]
 
--- Bytes without a line end unit are decoded to a text without a line end.
+-- Bytes without a line end unit decode to a text without a line end.
 pub no_end-decoded : (e : Encoding) (d : List ℕ) → HoldsNoLineEndUnit e d → HoldsNoLineEnd (decoded_line e d)
 no_end-decoded e d h = elim (first-end (decoded_line e d)) [
   | inl p ↦ p
@@ -65,38 +66,38 @@ no_end-decoded e d h = elim (first-end (decoded_line e d)) [
       absurd (no_end_unit-at e q.1 k.0 k.1 q.3 k.2.aligned (subst (HoldsNoLineEndUnit e) k.2.joins h))
 ]
 
--- only no bytes are decoded to no text
+-- Only an empty list of bytes decodes to an empty text.
 pub nothing-decoded : (e : Encoding) (d : List ℕ) → decoded_line e d ≡ [] → d ≡ []
 nothing-decoded e [] h = refl
 nothing-decoded e (b ∷ d) h = let k = ap characters (pieces_of-step e b d) in absurd (cc)
 
--- where the first line of bytes is no lone LF, the first decoded line is none either
+-- If the first line of bytes isn't an empty one that an LF ends, neither is the first decoded line.
 no_lone-decoded : (e : Encoding) (ls : List Ended) → BeginsWithNoLoneLf ls → BeginsWithNoLoneLf (decoded_ended e ls)
 no_lone-decoded e [] h = tt
 no_lone-decoded e (l ∷ ls) h = λ k. h (nothing-decoded e l.text k.0, k.1)
 
--- lines of bytes, decoded one by one, are lines of a text
+-- Lines of bytes, decoded one by one, are lines of a text.
 lines-decoded : (e : Encoding) (ls : List Ended) (last : List ℕ) → AreCut e ls last → AreLines (decoded_ended e ls) (decoded_line e last)
 lines-decoded e [] last h = no_end-decoded e last h
 lines-decoded e (l ∷ ls) last h = (no_end-decoded e l.text h.0, (λ k. no_lone-decoded e ls (h.2 k)), lines-decoded e ls last h.3)
 
--- lines of bytes, each decoded by itself, are lines of the text of these bytes
+-- Lines of bytes, each decoded by itself, are lines of the text of these bytes.
 pub decoded_lines-meets : (e : Encoding) (d : List ℕ) (lines : Lines) → IsCut e d lines → IsLines (decoded_line e d) (decoded_lines e lines)
 decoded_lines-meets e d lines h = record {
   text = ap (decoded_line e) h.bytes ∙ decoded-together e lines.ended lines.last h.are_cut;
   are_lines = lines-decoded e lines.ended lines.last h.are_cut;
 }
 
--- the lines of bytes, each decoded by itself, are the lines of their text
+-- The lines of bytes, each decoded by itself, are the lines of their text.
 pub decoded_lines-cut : (e : Encoding) (d : List ℕ) → decoded_lines e (cut_of e d) ≡ lines_of (decoded_line e d)
 decoded_lines-cut e d = lines_of-only (decoded_line e d) (decoded_lines e (cut_of e d)) (decoded_lines-meets e d (cut_of e d) (cut_of-meets e d))
 
--- where no decoded line is ended, the lines of bytes, put together, hold no line end unit
+-- If no decoded line is ended, the lines of bytes, put together, contain no line end unit.
 no_ended : (e : Encoding) (ls : List Ended) (last : List ℕ) → decoded_ended e ls ≡ [] → AreCut e ls last → HoldsNoLineEndUnit e (bytes_together e ls last)
 no_ended e [] last h k = k
 no_ended e (l ∷ ls) last h k = absurd (cc)
 
--- Bytes that are decoded to a text without a line end hold no line end unit.
+-- Bytes that decode to a text without a line end contain no line end unit.
 pub no_end-undecoded : (e : Encoding) (d : List ℕ) → HoldsNoLineEnd (decoded_line e d) → HoldsNoLineEndUnit e d
 no_end-undecoded e d h =
     let c = cut_of-meets e d in
@@ -105,26 +106,26 @@ no_end-undecoded e d h =
 
 -- ---- Splitting commutes with decoding.
 
--- the lines that are cut first and decoded one by one are the lines of the decoded text
+-- The lines that are cut first and then decoded one by one are the lines of the decoded text.
 pub byline-lines : (e : Encoding) (b : List ℕ) → byline_of e b ≡ lines_of (decoded_of e b)
 byline-lines e b = decoded_lines-cut (byte_order_mark e b).encoding (byte_order_mark e b).body
 
--- ---- What is computed by line, and nothing else is.
+-- ---- The computed lines, and no others, are the lines of the bytes.
 
--- the bytes of a line are decoded to the computed text
+-- The bytes of a line decode to the computed text.
 pub decoded_line-meets : (e : Encoding) (d : List ℕ) → IsDecodedLine e d (decoded_line e d)
 decoded_line-meets e d = (pieces_of e d, pieces_of-meets e d, refl)
 
--- and to no other
+-- They decode to no other text.
 pub decoded_line-only : (e : Encoding) (d x : List ℕ) → IsDecodedLine e d x → x ≡ decoded_line e d
 decoded_line-only e d x (ps, h, s) = s ∙ ap characters (pieces_of-only e d ps h)
 
--- ended lines of bytes are decoded, one by one, to the computed lines
+-- Ended lines of bytes decode, one by one, to the computed lines.
 decoded_ended-meets : (e : Encoding) (ls : List Ended) → AreDecodedLines e ls (decoded_ended e ls)
 decoded_ended-meets e [] = tt
 decoded_ended-meets e (l ∷ ls) = (decoded_line-meets e l.text, refl, decoded_ended-meets e ls)
 
--- and to no others
+-- They decode to no other lines.
 decoded_ended-only : (e : Encoding) (ls ts : List Ended) → AreDecodedLines e ls ts → ts ≡ decoded_ended e ls
 decoded_ended-only e [] [] h = refl
 decoded_ended-only e [] (t ∷ ts) h = absurd h
@@ -134,7 +135,7 @@ decoded_ended-only e (l ∷ ls) (t ∷ ts) h =
     ap₂ (λ v w. let s : Ended = record { text = v; by = w } in s) (decoded_line-only e l.text t.text h.0) (sym h.1) in
     ap₂ (λ v vs. v ∷ vs) p (decoded_ended-only e ls ts h.2)
 
--- what is computed by line are the lines of the input's bytes, each decoded by itself
+-- The computed lines are the lines of the input's bytes, each decoded by itself.
 pub byline_of-meets : (e : Encoding) (b : List ℕ) → IsByline e b (byline_of e b)
 byline_of-meets e b =
     let m = byte_order_mark e b in
@@ -146,7 +147,7 @@ byline_of-meets e b =
       last = decoded_line-meets m.encoding c.last;
     }
 
--- and the input has no others
+-- The input has no other such lines.
 pub byline_of-only : (e : Encoding) (b : List ℕ) (lines : Lines) → IsByline e b lines → lines ≡ byline_of e b
 byline_of-only e b lines h =
     let m = byte_order_mark e b in
@@ -155,13 +156,13 @@ byline_of-only e b lines h =
     ap₂ (λ v w. let s : Lines = record { ended = v; last = w } in s) p q
     ∙ ap (decoded_lines m.encoding) (cut_of-only m.encoding m.body h.cut h.is_cut)
 
--- ---- The same of any lines, by line or of the text.
+-- ---- Any lines: those of the bytes, decoded one by one, and those of the text.
 
--- lines by line are the lines of the text
+-- Lines of the bytes, decoded one by one, are lines of the text.
 pub byline-is_lines : (e : Encoding) (b x : List ℕ) (lines : Lines) → IsByline e b lines → IsDecoded e b x → IsLines x lines
 byline-is_lines e b x lines h k = rw (byline_of-only e b lines h ∙ byline-lines e b, decoded_of-only e b x k) (lines_of-meets (decoded_of e b))
 
--- and the lines of the text are those by line
+-- Lines of the text are lines of the bytes, decoded one by one.
 pub lines-is_byline : (e : Encoding) (b x : List ℕ) (lines : Lines) → IsLines x lines → IsDecoded e b x → IsByline e b lines
 lines-is_byline e b x lines h k =
     rw (lines_of-only x lines h ∙ ap lines_of (decoded_of-only e b x k) ∙ sym (byline-lines e b)) (byline_of-meets e b)

@@ -1,4 +1,4 @@
--- What is computed from some bytes are their lines.
+-- The computed lines of some bytes are lines of these bytes.
 use Rattle.std.proofs.Common.{◌≡◌, ℕ, ◌%◌, ◌==◌, ◌<◌, false, List, [], ◌∷◌, ◌++◌, length, refl, ap, ap₂, sym, ◌∙◌, subst, append_assoc, inl, inr, arith, lit<, eqb-true}
 use Rattle.std.proofs.lemmas.Bool.{cases_Bool, or_cases}
 use Rattle.properties_format.specs.Text.{line_feed, carriage_return, is_line_end, LineEnding, lf, cr, crlf, line_ending_text}
@@ -14,7 +14,7 @@ use Rattle.properties_format.proofs.Cut.Units.{no_end_unit-nil}
 use Rattle.properties_format.proofs.Cut.Two.{unit-plain}
 use Rattle.properties_format.proofs.Cut.Only.{ending-windows_1252, ending-utf_8}
 
--- ---- Where units are bytes.
+-- ---- If units are bytes.
 
 module _ (e : Encoding) (same : (by : LineEnding) → line_ending_bytes e by ≡ line_ending_text by)
     (none : (d : List ℕ) → HoldsNoLineEnd d → HoldsNoLineEndUnit e d) (whole : (d : List ℕ) → IsAligned e d) where
@@ -29,9 +29,9 @@ module _ (e : Encoding) (same : (by : LineEnding) → line_ending_bytes e by ≡
   one-meets : (d : List ℕ) (lines : Lines) → IsLines d lines → IsCut e d lines
   one-meets d lines h = record { bytes = h.text ∙ one-together lines.ended lines.last; are_cut = one-cut lines.ended lines.last h.are_lines }
 
--- ---- Where units are of two bytes.
+-- ---- If units are two bytes each.
 
--- in this encoding the units are such, and a CR or an LF has its bytes
+-- In this encoding, units are two bytes each, and a CR or an LF has its bytes.
 record IsOfTwo (e : Encoding) (unit : ℕ → ℕ → ℕ) : Type 0 where
   none : (d : List ℕ) → HoldsNoLineEnd (units_of_two unit d) → HoldsNoLineEndUnit e d
   units : (d : List ℕ) → HoldsNoLineEndUnit e d → HoldsNoLineEnd (units_of_two unit d)
@@ -39,12 +39,12 @@ record IsOfTwo (e : Encoding) (unit : ℕ → ℕ → ℕ) : Type 0 where
   even : (d : List ℕ) → IsAligned e d → length d % 2 ≡ 0
   ascii : (c a b : ℕ) → c < 0x80 → unit a b ≡ c → a ∷ b ∷ [] ≡ ascii_bytes e c
 
--- an empty line in front
+-- An empty line at the front.
 empty-cut : (e : Encoding) (by : LineEnding) (ls : List Ended) (last : List ℕ) → (by ≡ cr → BeginsWithNoLoneLf ls) → AreCut e ls last
     → AreCut e (end_before by ls) last
 empty-cut e by ls last k h = (no_end_unit-nil e, aligned-nil e, k, h)
 
--- an LF in front
+-- An LF at the front.
 lf-meets : (e : Encoding) (d : List ℕ) (lines : Lines) → IsCut e d lines
     → IsCut e (ascii_bytes e line_feed ++ d) (record lines { ended = end_before lf lines.ended })
 lf-meets e d lines h = record {
@@ -52,7 +52,7 @@ lf-meets e d lines h = record {
   are_cut = empty-cut e lf lines.ended lines.last (λ k. absurd (cc)) h.are_cut;
 }
 
--- a CR before a line that is no lone LF
+-- A CR before a line that isn't an empty one that an LF ends.
 cr-apart : (e : Encoding) (ls : List Ended) (last d : List ℕ) → BeginsWithNoLoneLf ls → IsCut e d (record { ended = ls; last = last })
     → IsCut e (ascii_bytes e carriage_return ++ d) (record { ended = end_before cr ls; last = last })
 cr-apart e ls last d k h = record {
@@ -60,7 +60,7 @@ cr-apart e ls last d k h = record {
   are_cut = empty-cut e cr ls last (λ q. k) h.are_cut;
 }
 
--- a CR before a line
+-- A CR before a line.
 cr-meets-line : (e : Encoding) (text : List ℕ) (by : LineEnding) (ls : List Ended) (last d : List ℕ)
     → IsCut e d (record { ended = record { text = text; by = by } ∷ ls; last = last })
     → IsCut e (ascii_bytes e carriage_return ++ d) (record { ended = cr_before (record { text = text; by = by } ∷ ls); last = last })
@@ -74,13 +74,13 @@ cr-meets-line e [] cr ls last d h = cr-apart e (record { text = []; by = cr } �
 cr-meets-line e [] crlf ls last d h = cr-apart e (record { text = []; by = crlf } ∷ ls) last d (λ p. absurd (cc)) h
 cr-meets-line e (c ∷ cs) by ls last d h = cr-apart e (record { text = c ∷ cs; by = by } ∷ ls) last d (λ p. absurd (cc)) h
 
--- a CR before any lines, or before none
+-- A CR before any lines, or before none.
 cr-meets : (e : Encoding) (ended : List Ended) (last d : List ℕ) → IsCut e d (record { ended = ended; last = last })
     → IsCut e (ascii_bytes e carriage_return ++ d) (record { ended = cr_before ended; last = last })
 cr-meets e [] last d h = cr-apart e [] last d tt h
 cr-meets e (l ∷ ls) last d h = cr-meets-line e l.text l.by ls last d h
 
--- any other unit in front
+-- Any other unit at the front.
 two-meets : (e : Encoding) (unit : ℕ → ℕ → ℕ) (a b : ℕ) (ended : List Ended) (last d : List ℕ) → IsOfTwo e unit → is_line_end (unit a b) ≡ false
     → IsCut e d (record { ended = ended; last = last }) → IsCut e (a ∷ b ∷ d) (two_before a b (record { ended = ended; last = last }))
 two-meets e unit a b [] last d t p h =
@@ -92,7 +92,7 @@ two-meets e unit a b (l ∷ ls) last d t p h =
       are_cut = (t.none (a ∷ b ∷ l.text) (p, t.units l.text h.are_cut.0), t.whole (a ∷ b ∷ l.text) (omega arith), h.are_cut.2, h.are_cut.3);
     }
 
--- a line end unit is a CR or an LF
+-- A line end unit is a CR or an LF.
 unit-meets : (e : Encoding) (unit : ℕ → ℕ → ℕ) (a b : ℕ) (lines : Lines) (d : List ℕ) → IsOfTwo e unit
     → IsCut e d lines → IsCut e (a ∷ b ∷ d) (unit_before (unit a b) a b lines)
 unit-meets e unit a b lines d t h = elim (cases_Bool (is_line_end (unit a b))) [
@@ -109,35 +109,35 @@ unit-meets e unit a b lines d t h = elim (cases_Bool (is_line_end (unit a b))) [
   | inr k ↦ rw (unit-plain (unit a b) a b lines k) (two-meets e unit a b lines.ended lines.last d t k h)
 ]
 
--- where units are of two bytes, what is computed are lines of the bytes
+-- If units are two bytes each, the computed lines are lines of the bytes.
 of-two-meets : (e : Encoding) (unit : ℕ → ℕ → ℕ) (d : List ℕ) → IsOfTwo e unit → IsCut e d (cut_of_two unit d)
 of-two-meets e unit [] t = record { bytes = refl; are_cut = t.none [] tt }
 of-two-meets e unit (a ∷ []) t = record { bytes = refl; are_cut = t.none (a ∷ []) tt }
 of-two-meets e unit (a ∷ b ∷ d) t = unit-meets e unit a b (cut_of_two unit d) d t (of-two-meets e unit d t)
 
--- two bytes that are an ASCII character, low byte first, are its bytes in UTF-16LE
+-- Two bytes that are an ASCII character with the low byte first are its bytes in UTF-16LE.
 low-ascii : (c a b : ℕ) → c < 0x80 → low_first a b ≡ c → a ∷ b ∷ [] ≡ ascii_bytes utf_16le c
 low-ascii c a b l h =
     let p : a ≡ c = omega arith in
     let q : b ≡ 0 = omega arith in
     ap₂ (λ v w. v ∷ w ∷ []) p q
 
--- and high byte first, its bytes in UTF-16BE
+-- Two bytes that are an ASCII character with the high byte first are its bytes in UTF-16BE.
 high-ascii : (c a b : ℕ) → c < 0x80 → high_first a b ≡ c → a ∷ b ∷ [] ≡ ascii_bytes utf_16be c
 high-ascii c a b l h =
     let p : a ≡ 0 = omega arith in
     let q : b ≡ c = omega arith in
     ap₂ (λ v w. v ∷ w ∷ []) p q
 
--- in UTF-16LE units are two bytes, low byte first, and a CR or an LF is one of them
+-- In UTF-16LE, units are two bytes with the low byte first, and a CR or an LF is one unit.
 le-two : IsOfTwo utf_16le low_first
 le-two = record { none = λ d h. h; units = λ d h. h; whole = λ d h. h; even = λ d h. h; ascii = low-ascii }
 
--- and so in UTF-16BE, high byte first
+-- In UTF-16BE, units are two bytes with the high byte first, and a CR or an LF is one unit.
 be-two : IsOfTwo utf_16be high_first
 be-two = record { none = λ d h. h; units = λ d h. h; whole = λ d h. h; even = λ d h. h; ascii = high-ascii }
 
--- what is computed are lines of the bytes
+-- The computed lines are lines of the bytes.
 pub cut_of-meets : (e : Encoding) (d : List ℕ) → IsCut e d (cut_of e d)
 cut_of-meets windows_1252 d = one-meets windows_1252 ending-windows_1252 (λ v h. h) (λ v. tt) d (lines_of d) (lines_of-meets d)
 cut_of-meets utf_8 d = one-meets utf_8 ending-utf_8 (λ v h. h) (λ v. tt) d (lines_of d) (lines_of-meets d)

@@ -1,4 +1,4 @@
--- Some bytes have one list of lines, and a line in front of bytes is in front of their lines.
+-- Some bytes have exactly one list of lines, and a line before bytes is a line before their lines.
 use Rattle.std.proofs.Common.{◌≡◌, List, [], ◌∷◌, ◌++◌, ℕ, refl, ap, sym, ◌∙◌}
 use Rattle.properties_format.specs.Text.{LineEnding, lf, cr, crlf, line_ending_text}
 use Rattle.properties_format.specs.Lines.{Ended, Lines, BeginsWithNoLoneLf}
@@ -9,34 +9,34 @@ use Rattle.properties_format.specs.Reading.Cut.{cut_of}
 use Rattle.properties_format.proofs.Lines.Only.{lines_of-plain, lines_of-before}
 use Rattle.properties_format.proofs.Cut.Two.{ReadsEnds, two-plain, two-line}
 
--- bytes without a line end unit are one line
+-- Bytes without a line end unit are one line.
 pub cut_of-plain : (e : Encoding) (d : List ℕ) → HoldsNoLineEndUnit e d → cut_of e d ≡ record { ended = []; last = d }
 cut_of-plain windows_1252 d h = lines_of-plain d h
 cut_of-plain utf_8 d h = lines_of-plain d h
 cut_of-plain utf_16le d h = two-plain low_first d h
 cut_of-plain utf_16be d h = two-plain high_first d h
 
--- where units are bytes, the bytes of a line end are its characters
+-- In windows-1252, the bytes of a line end are its characters.
 pub ending-windows_1252 : (by : LineEnding) → line_ending_bytes windows_1252 by ≡ line_ending_text by
 ending-windows_1252 lf = refl
 ending-windows_1252 cr = refl
 ending-windows_1252 crlf = refl
 
--- and so in UTF-8
+-- In UTF-8, the bytes of a line end are its characters.
 pub ending-utf_8 : (by : LineEnding) → line_ending_bytes utf_8 by ≡ line_ending_text by
 ending-utf_8 lf = refl
 ending-utf_8 cr = refl
 ending-utf_8 crlf = refl
 
--- in UTF-16LE the bytes of a CR or an LF in front are read as one unit, low byte first
+-- In UTF-16LE, the bytes of a CR or an LF at the front are read as one unit, low byte first.
 le-ends : ReadsEnds utf_16le low_first
 le-ends = record { lf_first = λ y. refl; cr_first = λ y. refl }
 
--- and in UTF-16BE, high byte first
+-- In UTF-16BE, the bytes of a CR or an LF at the front are read as one unit, high byte first.
 be-ends : ReadsEnds utf_16be high_first
 be-ends = record { lf_first = λ y. refl; cr_first = λ y. refl }
 
--- a line and its end, before bytes whose lines are known
+-- A line and its end before bytes whose lines are known.
 pub cut_of-before : (e : Encoding) (text : List ℕ) (by : LineEnding) (y : List ℕ) (ls : List Ended) (last : List ℕ)
     → HoldsNoLineEndUnit e text → IsAligned e text → (by ≡ cr → BeginsWithNoLoneLf ls) → cut_of e y ≡ record { ended = ls; last = last }
     → cut_of e (text ++ (line_ending_bytes e by ++ y)) ≡ record { ended = record { text = text; by = by } ∷ ls; last = last }
@@ -46,16 +46,16 @@ cut_of-before utf_8 text by y ls last p a k h = ap (λ v. cut_of utf_8 (text ++ 
 cut_of-before utf_16le text by y ls last p a k h = two-line utf_16le low_first text by y ls last le-ends p a k h
 cut_of-before utf_16be text by y ls last p a k h = two-line utf_16be high_first text by y ls last be-ends p a k h
 
--- lines that are put together are the lines of those bytes
+-- Lines that are put together are the lines of the resulting bytes.
 pub cut_of-together : (e : Encoding) (ls : List Ended) (last : List ℕ) → AreCut e ls last
     → cut_of e (bytes_together e ls last) ≡ record { ended = ls; last = last }
 cut_of-together e [] last h = cut_of-plain e last h
 cut_of-together e (l ∷ ls) last h = cut_of-before e l.text l.by (bytes_together e ls last) ls last h.0 h.1 h.2 (cut_of-together e ls last h.3)
 
--- lines of the bytes are what is computed
+-- Lines of the bytes are the computed ones.
 pub cut_of-only : (e : Encoding) (d : List ℕ) (lines : Lines) → IsCut e d lines → lines ≡ cut_of e d
 cut_of-only e d lines h = sym (ap (cut_of e) h.bytes ∙ cut_of-together e lines.ended lines.last h.are_cut)
 
--- two lists of lines of the same bytes are the same
+-- Two lists of lines of the same bytes are equal.
 pub cut-unique : (e : Encoding) (d : List ℕ) (x y : Lines) → IsCut e d x → IsCut e d y → x ≡ y
 cut-unique e d x y h k = cut_of-only e d x h ∙ sym (cut_of-only e d y k)

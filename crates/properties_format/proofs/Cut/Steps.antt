@@ -1,4 +1,4 @@
--- How the lines of undecoded bytes are found from the front: a line and its end, and then the lines of what follows.
+-- Finding the lines of undecoded bytes from the front: a line and its end, and then the lines of what follows.
 use Rattle.std.proofs.Common.{◌≡◌, ℕ, false, List, [], ◌∷◌, ◌++◌, refl, ap, sym, ◌∙◌}
 use Rattle.properties_format.specs.Text.{line_feed, LineEnding, lf, cr, crlf}
 use Rattle.properties_format.specs.Lines.{Ended, Lines, BeginsWithNoLoneLf}
@@ -10,11 +10,11 @@ use Rattle.properties_format.proofs.Cut.Units.{units-ascii}
 use Rattle.properties_format.proofs.Cut.Only.{cut_of-before}
 use Rattle.properties_format.proofs.Cut.Meets.{cut_of-meets}
 
--- a line in front of lines
+-- the lines with one more line at the front
 abbrev pub line_in_front : List ℕ → LineEnding → Lines → Lines
 line_in_front text by lines = record { ended = record { text = text; by = by } ∷ lines.ended; last = lines.last }
 
--- where no LF unit comes first, no lone LF is the first line
+-- If no LF unit comes first, the first line isn't an empty one that an LF ends.
 no_lone : (e : Encoding) (ls : List Ended) (last : List ℕ) → begins_with_lf (units e (bytes_together e ls last)) ≡ false → BeginsWithNoLoneLf ls
 no_lone e [] last h = tt
 no_lone e (l ∷ ls) last h = of_line l.text l.by (bytes_together e ls last) h
@@ -26,11 +26,11 @@ no_lone e (l ∷ ls) last h = of_line l.text l.by (bytes_together e ls last) h
     of_line [] crlf y h = λ p. absurd (cc p.1)
     of_line (c ∷ text) by y h = λ p. absurd (cc p.0)
 
--- and so none is the first of the computed lines
+-- If no LF unit comes first, the first computed line isn't an empty one that an LF ends.
 pub cut_of-no_lone : (e : Encoding) (y : List ℕ) → begins_with_lf (units e y) ≡ false → BeginsWithNoLoneLf (cut_of e y).ended
 cut_of-no_lone e y h = no_lone e (cut_of e y).ended (cut_of e y).last (sym (ap (λ v. begins_with_lf (units e v)) (cut_of-meets e y).bytes) ∙ h)
 
--- a line and its end, before any bytes; a CR is an end by itself only where no LF unit comes
+-- A line and its end before any bytes; a CR is a line end by itself only if no LF unit follows.
 pub cut_of-line : (e : Encoding) (text : List ℕ) (by : LineEnding) (y : List ℕ) → HoldsNoLineEndUnit e text → IsAligned e text
     → (by ≡ cr → begins_with_lf (units e y) ≡ false) → cut_of e (text ++ (line_ending_bytes e by ++ y)) ≡ line_in_front text by (cut_of e y)
 cut_of-line e text by y h a k = cut_of-before e text by y (cut_of e y).ended (cut_of e y).last h a (λ q. cut_of-no_lone e y (k q)) refl

@@ -1,4 +1,5 @@
--- A line end among undecoded bytes is one of the decoded text, and parts what is decoded before it and after it.
+-- A line end in undecoded bytes is one in the decoded text, and separates what is decoded before it from what is
+-- decoded after it.
 use Rattle.std.proofs.Common.{◌≡◌, ℕ, true, false, List, [], ◌∷◌, ◌++◌, ap, ◌∙◌, lit<, eqb-true}
 use Rattle.std.proofs.lemmas.Bool.{false_from_ne_true}
 use Rattle.properties_format.specs.Text.{line_feed, is_line_end}
@@ -12,21 +13,21 @@ use Rattle.properties_format.proofs.Encodings.Cuts.{characters-cut_ascii, cut-at
 use Rattle.properties_format.proofs.Cut.Units.{units-ascii}
 use Rattle.properties_format.proofs.Cut.Byline.{end-ascii, nothing-decoded}
 
--- a CR or an LF where a unit may begin parts what is decoded before it and after it
+-- A CR or an LF at a unit's boundary separates what is decoded before it from what is decoded after it.
 pub decoded-end : (e : Encoding) (c : ℕ) (x y : List ℕ) → is_line_end c ≡ true → IsAligned e x
     → decoded_line e (x ++ (ascii_bytes e c ++ y)) ≡ decoded_line e x ++ c ∷ decoded_line e y
 decoded-end e c x y h a = characters-cut_ascii e c x y (end-ascii c h) a
 
--- an LF unit in front is decoded to an LF
+-- An LF unit at the front decodes to an LF.
 pub decoded-lf_first : (e : Encoding) (y : List ℕ) → decoded_line e (ascii_bytes e line_feed ++ y) ≡ line_feed ∷ decoded_line e y
 decoded-lf_first e y = ap characters (pieces_of-ascii e line_feed y (lit< tt))
 
--- a text that begins with an LF is that LF and a rest
+-- A text that begins with an LF is that LF and a rest.
 begins-cons : (x : List ℕ) → begins_with_lf x ≡ true → (s : List ℕ) × (x ≡ line_feed ∷ s)
 begins-cons [] h = absurd (cc)
 begins-cons (c ∷ s) h = (s, ap (λ v. v ∷ s) (eqb-true c line_feed h))
 
--- where no LF unit comes first, the decoded text begins with no LF
+-- If no LF unit comes first, the decoded text doesn't begin with an LF.
 pub decoded-no_lf : (e : Encoding) (y : List ℕ) → begins_with_lf (units e y) ≡ false → begins_with_lf (decoded_line e y) ≡ false
 decoded-no_lf e y h = false_from_ne_true (begins_with_lf (decoded_line e y)) (λ k.
     let b = begins-cons (decoded_line e y) k in

@@ -1,4 +1,4 @@
--- The lines of bytes whose units are of two bytes.
+-- The lines of bytes whose units are two bytes each.
 use Rattle.std.proofs.Common.{◌≡◌, ℕ, ◌%◌, false, List, [], ◌∷◌, ◌++◌, length, refl, ap, ◌∙◌, arith, append_assoc}
 use Rattle.std.proofs.lemmas.Bool.{cond-false}
 use Rattle.properties_format.specs.Text.{line_feed, carriage_return, is_line_end, LineEnding, lf, cr, crlf}
@@ -9,22 +9,22 @@ use Rattle.properties_format.specs.Cut.{units_of_two, line_ending_bytes}
 use Rattle.properties_format.specs.Reading.Cut.{two_before, unit_before, cut_of_two}
 use Rattle.properties_format.proofs.Lines.Only.{cr-before}
 
--- in this encoding a CR or an LF is such a unit
+-- In this encoding, a CR or an LF is one unit.
 pub record ReadsEnds (e : Encoding) (unit : ℕ → ℕ → ℕ) : Type 0 where
   pub lf_first : (y : List ℕ) → cut_of_two unit (ascii_bytes e line_feed ++ y) ≡ before line_feed (cut_of_two unit y)
   pub cr_first : (y : List ℕ) → cut_of_two unit (ascii_bytes e carriage_return ++ y) ≡ before carriage_return (cut_of_two unit y)
 
--- a unit that is no CR and no LF is two bytes of the first line
+-- A unit that isn't a CR or an LF is two bytes of the first line.
 pub unit-plain : (u a b : ℕ) (lines : Lines) → is_line_end u ≡ false → unit_before u a b lines ≡ two_before a b lines
 unit-plain u a b lines h = cond-false (is_line_end u) (before u lines) (two_before a b lines) h
 
--- bytes without a line end unit are one line
+-- Bytes without a line end unit are one line.
 pub two-plain : (unit : ℕ → ℕ → ℕ) (d : List ℕ) → HoldsNoLineEnd (units_of_two unit d) → cut_of_two unit d ≡ record { ended = []; last = d }
 two-plain unit [] h = refl
 two-plain unit (a ∷ []) h = refl
 two-plain unit (a ∷ b ∷ d) h = ap (unit_before (unit a b) a b) (two-plain unit d h.1) ∙ unit-plain (unit a b) a b (record { ended = []; last = d }) h.0
 
--- a line end in front
+-- A line end at the front.
 two-end : (e : Encoding) (unit : ℕ → ℕ → ℕ) (by : LineEnding) (y : List ℕ) (ls : List Ended) (last : List ℕ) → ReadsEnds e unit
     → (by ≡ cr → BeginsWithNoLoneLf ls) → cut_of_two unit y ≡ record { ended = ls; last = last }
     → cut_of_two unit (line_ending_bytes e by ++ y) ≡ record { ended = end_before by ls; last = last }
@@ -36,7 +36,7 @@ two-end e unit crlf y ls last r k h =
     ∙ r.cr_first (ascii_bytes e line_feed ++ y)
     ∙ ap (before carriage_return) (r.lf_first y ∙ ap (before line_feed) h)
 
--- a line and its end, before bytes whose lines are known
+-- A line and its end before bytes whose lines are known.
 pub two-line : (e : Encoding) (unit : ℕ → ℕ → ℕ) (text : List ℕ) (by : LineEnding) (y : List ℕ) (ls : List Ended) (last : List ℕ) → ReadsEnds e unit
     → HoldsNoLineEnd (units_of_two unit text) → length text % 2 ≡ 0
     → (by ≡ cr → BeginsWithNoLoneLf ls) → cut_of_two unit y ≡ record { ended = ls; last = last }

@@ -1,4 +1,4 @@
--- The units of bytes put together, and bytes no unit of which is a CR or an LF.
+-- The units of concatenated bytes, and bytes none of whose units is a CR or an LF.
 use Rattle.std.proofs.Common.{◌≡◌, ℕ, ◌%◌, ◌<◌, ◌≤◌, ◌==◌, ◌&&◌, true, false, List, [], ◌∷◌, ◌++◌, length, refl, ap, ◌∙◌, subst, inl, inr, arith}
 use Rattle.std.proofs.lemmas.Bool.{or_from, and_right, ne_eqb, eqb-false}
 use Rattle.std.proofs.lemmas.Bool.Decides.{eqb_tells}
@@ -10,92 +10,92 @@ use Rattle.properties_format.specs.Reading.Lines.{begins_with_lf}
 use Rattle.properties_format.specs.Cut.{units_of_two, units, HoldsNoLineEndUnit}
 use Rattle.properties_format.proofs.Lines.Plain.{plain-append, plain-left, plain-right}
 
--- the first unit of the bytes of an ASCII character is its number
+-- The first unit of an ASCII character's bytes is its number.
 pub units-ascii : (e : Encoding) (c : ℕ) (y : List ℕ) → units e (ascii_bytes e c ++ y) ≡ c ∷ units e y
 units-ascii windows_1252 c y = refl
 units-ascii utf_8 c y = refl
 units-ascii utf_16le c y = let k : low_first c 0 ≡ c = omega arith in ap (λ v. v ∷ units_of_two low_first y) k
 units-ascii utf_16be c y = let k : high_first 0 c ≡ c = omega arith in ap (λ v. v ∷ units_of_two high_first y) k
 
--- the units of an even number of bytes and then of what follows, where units are of two bytes
+-- The units of an even number of bytes and of what follows, if units are two bytes each.
 two-append : (unit : ℕ → ℕ → ℕ) (x y : List ℕ) → length x % 2 ≡ 0 → units_of_two unit (x ++ y) ≡ units_of_two unit x ++ units_of_two unit y
 two-append unit [] y h = refl
 two-append unit (a ∷ []) y h = absurd (omega arith)
 two-append unit (a ∷ b ∷ x) y h = ap (λ v. unit a b ∷ v) (two-append unit x y (omega arith))
 
--- the units of whole units and then of what follows
+-- The units of whole units and of what follows.
 pub units-append : (e : Encoding) (x y : List ℕ) → IsAligned e x → units e (x ++ y) ≡ units e x ++ units e y
 units-append windows_1252 x y h = refl
 units-append utf_8 x y h = refl
 units-append utf_16le x y h = two-append low_first x y h
 units-append utf_16be x y h = two-append high_first x y h
 
--- no bytes hold no line end unit
+-- An empty list of bytes contains no line end unit.
 pub no_end_unit-nil : (e : Encoding) → HoldsNoLineEndUnit e []
 no_end_unit-nil windows_1252 = tt
 no_end_unit-nil utf_8 = tt
 no_end_unit-nil utf_16le = tt
 no_end_unit-nil utf_16be = tt
 
--- where neither part holds a line end unit, the whole holds none
+-- If neither part contains a line end unit, the whole contains none.
 pub no_end_unit-append : (e : Encoding) (x y : List ℕ) → IsAligned e x → HoldsNoLineEndUnit e x → HoldsNoLineEndUnit e y → HoldsNoLineEndUnit e (x ++ y)
 no_end_unit-append e x y a h k = rw (units-append e x y a) (plain-append (units e x) (units e y) h k)
 
--- and the other way round
+-- If the whole contains no line end unit, the first part contains none.
 pub no_end_unit-left : (e : Encoding) (x y : List ℕ) → IsAligned e x → HoldsNoLineEndUnit e (x ++ y) → HoldsNoLineEndUnit e x
 no_end_unit-left e x y a h = plain-left (units e x) (units e y) (rw (units-append e x y a) at h)
 
--- where the whole holds none, what follows whole units holds none
+-- If the whole contains no line end unit, what follows whole units contains none.
 pub no_end_unit-right : (e : Encoding) (x y : List ℕ) → IsAligned e x → HoldsNoLineEndUnit e (x ++ y) → HoldsNoLineEndUnit e y
 no_end_unit-right e x y a h = plain-right (units e x) (units e y) (rw (units-append e x y a) at h)
 
--- the bytes of a CR or an LF don't stand among such bytes where a unit may begin
+-- Such bytes don't contain the bytes of a CR or an LF at a unit's boundary.
 pub no_end_unit-at : (e : Encoding) (c : ℕ) (x y : List ℕ) → is_line_end c ≡ true → IsAligned e x → HoldsNoLineEndUnit e (x ++ (ascii_bytes e c ++ y)) → ⊥
 no_end_unit-at e c x y h a k =
     let m : HoldsNoLineEnd (c ∷ units e y) = subst HoldsNoLineEnd (units-ascii e c y) (no_end_unit-right e x (ascii_bytes e c ++ y) a k) in
     let n = m.0 in
     cc
 
--- ---- Line ends sought among the bytes.
+-- ---- Line ends searched for among the bytes.
 
--- a unit of 80 hexadecimal or more is no CR and no LF
+-- A unit of 80 hexadecimal or more isn't a CR or an LF.
 above-byte : (u : ℕ) → 0x80 ≤ u → is_line_end u ≡ false
 above-byte u h = or_from (u == line_feed) (u == carriage_return) (ne_eqb u line_feed (λ k. omega arith)) (ne_eqb u carriage_return (λ k. omega arith))
 
--- a unit is a CR or an LF exactly where its low byte is one and its high byte is 0
+-- With the low byte first, a unit is a CR or an LF exactly if its low byte is one and its high byte is 0.
 pub low_first-line_end : (a b : ℕ) → is_line_end (low_first a b) ≡ (b == 0 && is_line_end a)
 low_first-line_end a b = elim (eqb_tells b 0) [
   | inl k ↦ rw k.1 (let e : low_first a 0 ≡ a = omega arith in ap is_line_end e)
   | inr k ↦ rw k.0 (above-byte (low_first a b) (let m = eqb-false b 0 k.0 in omega arith))
 ]
 
--- the same where the high byte comes first
+-- With the high byte first, a unit is a CR or an LF exactly if its low byte is one and its high byte is 0.
 pub high_first-line_end : (a b : ℕ) → is_line_end (high_first a b) ≡ (a == 0 && is_line_end b)
 high_first-line_end a b = elim (eqb_tells a 0) [
   | inl k ↦ rw k.1 (let e : high_first 0 b ≡ b = omega arith in ap is_line_end e)
   | inr k ↦ rw k.0 (above-byte (high_first a b) (let m = eqb-false a 0 k.0 in omega arith))
 ]
 
--- where no byte is a CR or an LF, no unit of two bytes is one, low byte first
+-- If no byte is a CR or an LF, no unit of two bytes is one, with the low byte first.
 no_low : (d : List ℕ) → HoldsNoLineEnd d → HoldsNoLineEnd (units_of_two low_first d)
 no_low [] h = tt
 no_low (a ∷ []) h = tt
 no_low (a ∷ b ∷ d) h = (low_first-line_end a b ∙ and_right (b == 0) (is_line_end a) h.0, no_low d h.1.1)
 
--- nor high byte first
+-- If no byte is a CR or an LF, no unit of two bytes is one, with the high byte first.
 no_high : (d : List ℕ) → HoldsNoLineEnd d → HoldsNoLineEnd (units_of_two high_first d)
 no_high [] h = tt
 no_high (a ∷ []) h = tt
 no_high (a ∷ b ∷ d) h = (high_first-line_end a b ∙ and_right (a == 0) (is_line_end b) h.1.0, no_high d h.1.1)
 
--- where no byte is a CR or an LF, no unit is
+-- If no byte is a CR or an LF, no unit is one.
 pub no_end-no_unit : (e : Encoding) (d : List ℕ) → HoldsNoLineEnd d → HoldsNoLineEndUnit e d
 no_end-no_unit windows_1252 d h = h
 no_end-no_unit utf_8 d h = h
 no_end-no_unit utf_16le d h = no_low d h
 no_end-no_unit utf_16be d h = no_high d h
 
--- whether an LF comes first is decided by the first whole unit, whatever follows
+-- The first whole unit decides whether an LF comes first, whatever follows.
 pub lf_first-append : (e : Encoding) (x y : List ℕ) → 0 < length (units e x) → begins_with_lf (units e (x ++ y)) ≡ begins_with_lf (units e x)
 lf_first-append e [] y h = absurd (none e (omega arith))
   where

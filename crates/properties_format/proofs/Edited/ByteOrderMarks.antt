@@ -1,4 +1,4 @@
--- An edited source is in force as the source was: the byte order mark stays, and where there was none, none comes to be.
+-- The encoding in force of an edited source is that of the source: the byte order mark stays, and no new one appears.
 use Rattle.std.proofs.Common.{◌≡◌, ◌⊎◌, ℕ, ◌==◌, Bool, true, false, if◌then◌else◌, List, [], ◌∷◌, ◌++◌, length, drop, eqb-true, refl, ap, ap₂, sym, ◌∙◌, inl}
 use Rattle.std.proofs.Common.{inr, append_assoc, append-nil, lit<}
 use Rattle.std.specs.Prelude.{unwrap_or, None}
@@ -21,13 +21,13 @@ use Rattle.properties_format.proofs.Body.Groups.{groups_bytes-append, HasAscii, 
 
 -- ---- the byte order mark of a source
 
--- a source that is edited has the byte order mark of UTF-8, or none
+-- A source that can be edited has the byte order mark of UTF-8, or none.
 abbrev pub HasBom : Encoding → List ℕ → Type 0
 HasBom e source =
     (bom_of source ≡ utf_8_bom) × ((byte_order_mark e source).encoding ≡ utf_8)
     ⊎ (begins_like_bom source ≡ false) × (bom_of source ≡ []) × (byte_order_mark e source ≡ record { encoding = e; body = source })
 
--- it has one of the two
+-- A source has one of the two.
 pub has_bom : (e : Encoding) (source : List ℕ) → is_editable (byte_order_mark e source).encoding ≡ true → HasBom e source
 has_bom e source ok = elim (cases_Bool (begins_with utf_8_bom source)) [
   | inl h ↦ inl (rw h refl, rw h refl)
@@ -40,7 +40,7 @@ has_bom e source ok = elim (cases_Bool (begins_with utf_8_bom source)) [
   ]
 ]
 
--- a list that begins with another is that one and the rest
+-- A list that begins with another is that one followed by the rest.
 begins-drop : (m b : List ℕ) → begins_with m b ≡ true → b ≡ m ++ drop (length m) b
 begins-drop [] b h = refl
 begins-drop (m ∷ ms) [] h = absurd (cc)
@@ -61,7 +61,8 @@ source-whole e source = elim (cases_Bool (begins_with utf_8_bom source)) [
   ]
 ]
 
--- The byte order mark and a body, which begins like none where there is none, are in force as the source was.
+-- The byte order mark followed by a body is in force as the source was; without a byte order mark, the body must not
+-- begin like one.
 pub in_force : (e : Encoding) (source body : List ℕ) → is_editable (byte_order_mark e source).encoding ≡ true
     → (begins_like_bom source ≡ false → begins_like_bom body ≡ false)
     → byte_order_mark e (bom_of source ++ body) ≡ record { encoding = (byte_order_mark e source).encoding; body = body }
@@ -73,13 +74,13 @@ in_force e source body ok h = elim (has_bom e source ok) [
       ∙ ap (λ v. let u : InForce = v in let w : InForce = record { encoding = u.encoding; body = body } in w) (sym m.2)
 ]
 
--- the body of a source without a byte order mark is the source
+-- The body of a source without a byte order mark is the source.
 unmarked-body : (e : Encoding) (source : List ℕ) → begins_like_bom source ≡ false → (byte_order_mark e source).body ≡ source
 unmarked-body e source h = ap (λ v. let u : InForce = v in u.body) (byte_order_mark-none e source h)
 
 -- ---- what decides whether bytes begin like a byte order mark
 
--- what stands after an ASCII byte does not matter
+-- What follows an ASCII byte doesn't matter.
 pub ascii-cut : (x y z : List ℕ) → HasAscii x → begins_like_bom (x ++ y) ≡ begins_like_bom (x ++ z)
 ascii-cut x y z (u, c, v, s, l) =
     ap (λ w. begins_like_bom (w ++ y)) s
@@ -89,34 +90,35 @@ ascii-cut x y z (u, c, v, s, l) =
     ∙ ap begins_like_bom (sym (append_assoc u (c ∷ v) z))
     ∙ ap (λ w. begins_like_bom (w ++ z)) (sym s)
 
--- nor what stands after a line ending
+-- What follows a line ending doesn't matter.
 pub ending-cut : (x : List ℕ) (by : LineEnding) (y : List ℕ) → begins_like_bom (x ++ (line_ending_text by ++ y)) ≡ begins_like_bom x
 ending-cut x lf y = byte_order_mark-cut x line_feed y (lit< tt)
 ending-cut x cr y = byte_order_mark-cut x carriage_return y (lit< tt)
 ending-cut x crlf y = byte_order_mark-cut x carriage_return (line_feed ∷ y) (lit< tt)
 
--- the bytes of a pair, up to its separator
+-- The bytes of a pair, up to its separator.
 pair-parts : (e : Encoding) (first : Bool) (key value : List ℕ)
     → pair_bytes e first key value ≡ encoded_text e (spelt_key e false first key) ++ (equals_sign ∷ encoded_text e (spelt_text e false in_key_or_value value))
 pair-parts e first key value =
     encoded_text-append e (spelt_key e false first key) (equals_sign ∷ spelt_text e false in_key_or_value value)
     ∙ ap (λ o. encoded_text e (spelt_key e false first key) ++ (unwrap_or o [] ++ encoded_text e (spelt_text e false in_key_or_value value))) (encoded-ascii e equals_sign (lit< tt))
 
--- a printed pair holds an ASCII byte
+-- A printed pair contains an ASCII byte.
 pub pair-ascii : (e : Encoding) (first : Bool) (key value : List ℕ) → HasAscii (pair_bytes e first key value)
 pair-ascii e first key value =
     (encoded_text e (spelt_key e false first key), equals_sign, encoded_text e (spelt_text e false in_key_or_value value), pair-parts e first key value, lit< tt)
 
--- A pair at the front begins like no byte order mark.
+-- A pair at the front doesn't begin like a byte order mark.
 first-unmarked : (e : Encoding) (key value rest : List ℕ) → begins_like_bom (pair_bytes e true key value ++ rest) ≡ false
 first-unmarked e key value rest =
     ascii-cut (pair_bytes e true key value) rest [] (pair-ascii e true key value)
     ∙ ap begins_like_bom (append-nil (pair_bytes e true key value))
     ∙ pair-unmarked e false key (equals_sign ∷ []) (spelt_text e false in_key_or_value value) default_settings-good.separator
 
--- ---- a key is set
+-- ---- setting a key
 
--- the bytes of some groups, and those of the first
+-- If the first group contains an ASCII byte, what follows the groups doesn't affect whether their bytes begin like a
+-- byte order mark.
 pub front-unmarked : (g : List HeldLine) (gs : List (List HeldLine)) (y z : List ℕ) → HasAscii (group_bytes g)
     → begins_like_bom (groups_bytes (g ∷ gs) ++ z) ≡ false
     → begins_like_bom (groups_bytes (g ∷ gs) ++ y) ≡ false
@@ -126,13 +128,13 @@ front-unmarked g gs y z a h =
     ∙ ap begins_like_bom (sym (append_assoc (group_bytes g) (groups_bytes gs) z))
     ∙ h
 
--- a group before others has an ASCII byte
+-- A group that others follow contains an ASCII byte.
 pub first-ascii : (e : Encoding) (g : List HeldLine) (gs : List (List HeldLine)) (h : List HeldLine) (hs : List (List HeldLine))
     → AreHeldGroups e (g ∷ gs ++ h ∷ hs) → HasAscii (group_bytes g)
 first-ascii e g [] h hs k = k.0.ascii
 first-ascii e g (i ∷ gs) h hs k = k.0.ascii
 
--- Where a pair is replaced, a body that began like no byte order mark begins like none.
+-- If a pair is replaced, a body that didn't begin like a byte order mark still doesn't.
 replaced-unmarked : (e : Encoding) (gs : List (List HeldLine)) (key value body : List ℕ) → AreHeldGroups e gs → begins_like_bom (groups_bytes gs) ≡ false
     → IsReplaced e gs key value body
     → begins_like_bom body ≡ false
@@ -147,7 +149,7 @@ replaced-unmarked e gs key value body k h r = of_before r.before r.division r.by
         ∙ front-unmarked g before _ (groups_bytes (r.group ∷ r.after)) (first-ascii e g before r.group r.after (rw s at k))
         (ap begins_like_bom (sym (groups_bytes-append (g ∷ before) (r.group ∷ r.after))) ∙ ap (λ v. begins_like_bom (groups_bytes v)) (sym s) ∙ h)
 
--- the line without bytes
+-- An empty line has no bytes.
 pub empty-last : (g : List HeldLine) → is_empty_line g ≡ true → last_ending g ≡ None → group_bytes g ≡ []
 empty-last [] h k = refl
 empty-last (l ∷ []) h k = of_bytes l.bytes refl
@@ -157,7 +159,7 @@ empty-last (l ∷ []) h k = of_bytes l.bytes refl
     of_bytes (c ∷ x) e = let m : is_empty (c ∷ x) ≡ true = rw e at h in absurd (cc)
 empty-last (l ∷ m ∷ g) h k = absurd (cc)
 
--- a parting is nothing, or begins with a line ending
+-- The separation before a new pair is empty, or begins with a line ending.
 parting-cases : (source : List ℕ) (g : List HeldLine)
     → (is_empty_line g ≡ true) × (parting source g ≡ []) ⊎ (by : LineEnding) × (rest : List ℕ) × (parting source g ≡ line_ending_text by ++ rest)
 parting-cases source g = elim (cases_Bool (is_empty_line g)) [
@@ -168,7 +170,7 @@ parting-cases source g = elim (cases_Bool (is_empty_line g)) [
   ]
 ]
 
--- And so where a pair is appended.
+-- If a pair is appended, a body that didn't begin like a byte order mark still doesn't.
 appended-unmarked : (e : Encoding) (source : List ℕ) (gs : List (List HeldLine)) (key value body : List ℕ) → AreHeldGroups e gs
     → begins_like_bom (groups_bytes gs) ≡ false
     → IsAppended e source gs key value body → begins_like_bom body ≡ false
@@ -200,7 +202,7 @@ appended-unmarked e source gs key value body k h r = elim (parting-cases source 
         ∙ ap (λ v. begins_like_bom (v ++ (pair_bytes e (is_empty v) key value ++ line_feed ∷ []))) s
         ∙ front-unmarked g (i ∷ hs) _ [] k.0.ascii (ap begins_like_bom (append-nil (groups_bytes (g ∷ i ∷ hs))) ∙ h)
 
--- where the source has no byte order mark, its groups begin like none
+-- If the source has no byte order mark, its groups don't begin like one.
 pub groups-unmarked : (e : Encoding) (source : List ℕ) (gs : List (List HeldLine)) → is_editable (byte_order_mark e source).encoding ≡ true
     → AreGroupsOf (byte_order_mark e source).encoding (byte_order_mark e source).body gs → begins_like_bom source ≡ false
     → begins_like_bom (groups_bytes gs) ≡ false
@@ -208,7 +210,7 @@ groups-unmarked e source gs ok h n =
     ap begins_like_bom (held-body (byte_order_mark e source).encoding (byte_order_mark e source).body gs ok h) ∙ ap begins_like_bom (unmarked-body e source n)
     ∙ n
 
--- What is in force after a key is set: the encoding that was, and the edited body.
+-- After a key is set, the same encoding is in force, with the edited body.
 pub key_set-in_force : (e : Encoding) (source key value result : List ℕ) → is_editable (byte_order_mark e source).encoding ≡ true
     → (h : IsKeySet e source key value result)
     → byte_order_mark e result ≡ record { encoding = (byte_order_mark e source).encoding; body = h.body }
@@ -221,13 +223,13 @@ key_set-in_force e source key value result ok h =
       | inr r ↦ appended-unmarked f.encoding source h.groups key value h.body gs (groups-unmarked e source h.groups ok h.held n) r
     ])
 
--- ---- a key is removed
+-- ---- removing a key
 
--- with the LF that guards it, the rest of a source without a byte order mark begins like none
+-- With the LF in front, the rest of a source without a byte order mark doesn't begin like one.
 guarding_lf-unmarked : (source rest : List ℕ) → begins_like_bom source ≡ false → begins_like_bom (guarding_lf source rest ++ rest) ≡ false
 guarding_lf-unmarked source rest n = elim (cases_Bool (begins_like_bom rest)) [ inl h ↦ rw (n, h) refl | inr h ↦ rw (n, h) h ]
 
--- What is in force after a key is removed.
+-- After a key is removed, the same encoding is in force, with the edited body.
 pub key_removed-in_force : (e : Encoding) (source key result : List ℕ) → is_editable (byte_order_mark e source).encoding ≡ true
     → (h : IsKeyRemoved e source key result)
     → byte_order_mark e result ≡ record { encoding = (byte_order_mark e source).encoding; body = guarding_lf source h.rest ++ h.rest }

@@ -1,4 +1,4 @@
--- What the groups of an edited body come to, from what those of the body came to.
+-- The outcomes of an edited body's groups, given those of the body's groups.
 use Rattle.std.proofs.Common.{◌≡◌, ◌⊎◌, ℕ, ◌&&◌, not, Bool, true, false, List, [], ◌∷◌, ◌++◌, refl, ap, ap₂, sym, ◌∙◌, inl, inr, append_assoc, append-nil}
 use Rattle.std.proofs.Common.{All}
 use Rattle.std.proofs.lemmas.Bool.{cases_Bool, and_parts, and_from, not-true}
@@ -33,13 +33,13 @@ use Rattle.properties_format.proofs.Body.Groups.{EndsOpen, IsLastFit, IsHeldFron
 use Rattle.properties_format.proofs.Edited.ByteOrderMarks.{empty-last}
 use Rattle.properties_format.proofs.Edited.Pair.{told-pair, told-last_pair}
 
--- what a group comes to
+-- the outcome of a group
 abbrev outcome : List HeldLine → Outcome
 outcome g = outcome_of (joined (as_lines g))
 
 -- ---- outcomes in order
 
--- an outcome before outcomes in two parts
+-- An outcome before two lists of outcomes.
 pub told_before-append : (o : Outcome) (xs ys : List Outcome) → told_before o (xs ++ ys) ≡ told_before o xs ++ ys
 told_before-append ignored xs ys = refl
 told_before-append (given content) xs ys = refl
@@ -50,14 +50,14 @@ abbrev AreFronts : Encoding → List (List HeldLine) → Type 0
 AreFronts e [] = Unit {0}
 AreFronts e (g ∷ gs) = IsHeldFront e g × AreFronts e gs
 
--- the groups before one of them end in line endings
+-- The groups before another group end in line endings.
 groups-before : (e : Encoding) (before : List (List HeldLine)) (g : List HeldLine) (after : List (List HeldLine)) → AreHeldGroups e (before ++ g ∷ after)
     → AreFronts e before × AreHeldGroups e (g ∷ after)
 groups-before e [] g after h = (tt, h)
 groups-before e (f ∷ []) g after h = ((h.0, tt), h.1)
 groups-before e (f ∷ i ∷ before) g after h = let m = groups-before e (i ∷ before) g after h.1 in ((h.0, m.0), m.1)
 
--- such groups, before any bytes
+-- Such groups before any bytes.
 told-fronts : (e : Encoding) (gs : List (List HeldLine)) (d : List ℕ) → AreFronts e gs → told e (groups_bytes gs ++ d) ≡ told_by (as_groups gs) ++ told e d
 told-fronts e [] d h = refl
 told-fronts e (g ∷ gs) d h =
@@ -66,7 +66,7 @@ told-fronts e (g ∷ gs) d h =
     ∙ ap (told_before (outcome g)) (told-fronts e gs d h.1)
     ∙ told_before-append (outcome g) (told_by (as_groups gs)) (told e d)
 
--- lines that are a whole group, or one that ends open, have that one group at the end
+-- Lines that are a whole group, or one that ends open, have that group as their only group at the end of the input.
 fit-group : (x : List Line) → IsWhole x ⊎ EndsOpen x → groups_of x end ≡ x ∷ []
 fit-group [] (inl h) = absurd h
 fit-group [] (inr h) = absurd h
@@ -77,14 +77,14 @@ fit-group (l ∷ ls) (inr h) = groups_of-unfinished (l ∷ ls) end h
 told-last : (e : Encoding) (g : List HeldLine) → IsHeldLast e g → told e (group_bytes g) ≡ told_before (outcome g) []
 told-last e g h = told-one e (group_bytes g) (as_lines g) h.texts (fit-group (as_lines g) h.fits)
 
--- A body comes to what its groups come to.
+-- The outcomes of a body are those of its groups.
 pub told-groups : (e : Encoding) (gs : List (List HeldLine)) → AreHeldGroups e gs → told e (groups_bytes gs) ≡ told_by (as_groups gs)
 told-groups e [] h = absurd h
 told-groups e (g ∷ []) h = ap (told e) (append-nil (group_bytes g)) ∙ told-last e g h
 told-groups e (g ∷ i ∷ gs) h =
     told-front e (group_bytes g) (groups_bytes (i ∷ gs)) (as_lines g) h.0.front ∙ ap (told_before (outcome g)) (told-groups e (i ∷ gs) h.1)
 
--- what groups and then more groups come to
+-- The outcomes of two lists of groups.
 pub told_by-append : (gs hs : List (List HeldLine)) → told_by (as_groups (gs ++ hs)) ≡ told_by (as_groups gs) ++ told_by (as_groups hs)
 told_by-append [] hs = refl
 told_by-append (g ∷ gs) hs =
@@ -92,12 +92,12 @@ told_by-append (g ∷ gs) hs =
 
 -- ---- contents in order
 
--- contents and then more contents, as outcomes
+-- Two lists of contents, as outcomes.
 pub givens-append : (cs ds : List Content) → givens (cs ++ ds) ≡ givens cs ++ givens ds
 givens-append [] ds = refl
 givens-append (c ∷ cs) ds = ap (λ v. given c ∷ v) (givens-append cs ds)
 
--- contents that are told in two parts
+-- contents divided into two lists
 pub record AreParted (xs ys : List Outcome) (cs : List Content) : Type 0 where
   pub front : List Content
   pub back : List Content
@@ -105,7 +105,7 @@ pub record AreParted (xs ys : List Outcome) (cs : List Content) : Type 0 where
   pub front_told : xs ≡ givens front
   pub back_told : ys ≡ givens back
 
--- where outcomes in two parts are contents alone, they are told so
+-- If two lists of outcomes are all contents, the contents are divided in the same way.
 pub givens-parted : (xs ys : List Outcome) (cs : List Content) → xs ++ ys ≡ givens cs → AreParted xs ys cs
 givens-parted [] ys cs h = record { front = []; back = cs; whole = refl; front_told = refl; back_told = h }
 givens-parted (x ∷ xs) ys [] h = absurd (cc)
@@ -115,15 +115,15 @@ givens-parted (x ∷ xs) ys (c ∷ cs) h =
     let m = givens-parted xs ys cs q in
     record { front = c ∷ m.front; back = m.back; whole = ap (λ v. c ∷ v) {y = m.front ++ m.back} m.whole; front_told = ap₂ (λ v w. v ∷ w) p m.front_told; back_told = m.back_told }
 
--- a group with the key comes to a pair with it
+-- The outcome of a group with the key is a pair with it.
 pub key-outcome : (key : List ℕ) (g : List HeldLine) → HasKey key g → (old : List ℕ) × (outcome g ≡ given (pair key old))
 key-outcome key g (old, h) = (old, sym (outcome_of-only (joined (as_lines g)) (given (pair key old)) h))
 
--- and a group without it to none
+-- The outcome of a group without the key isn't a pair with it.
 other-outcome : (key : List ℕ) (g : List HeldLine) → ¬ (HasKey key g) → (v : List ℕ) → outcome g ≡ given (pair key v) → ⊥
 other-outcome key g h v s = h (v, rw s at (outcome_of-meets (joined (as_lines g))))
 
--- an outcome that is no pair with the key, before others that hold none
+-- An outcome that isn't a pair with the key, before others that contain none.
 hold-step : (key : List ℕ) (o : Outcome) (os : List Outcome) (cs : List Content) → ((v : List ℕ) → o ≡ given (pair key v) → ⊥)
     → ((ds : List Content) → os ≡ givens ds → HoldNoPair key ds)
     → told_before o os ≡ givens cs → HoldNoPair key cs
@@ -136,15 +136,15 @@ hold-step key (given content) os (pair k v ∷ cs) other rest h =
 hold-step key (broken kind) os [] other rest h = absurd (cc)
 hold-step key (broken kind) os (c ∷ cs) other rest h = absurd (cc)
 
--- groups of which none has the key
+-- Groups none of which has the key.
 pub none-hold : (key : List ℕ) (gs : List (List HeldLine)) (cs : List Content) → NoneHasKey key gs → told_by (as_groups gs) ≡ givens cs → HoldNoPair key cs
 none-hold key [] [] h s = tt
 none-hold key [] (c ∷ cs) h s = absurd (cc)
 none-hold key (g ∷ gs) cs h s = hold-step key (outcome g) (told_by (as_groups gs)) cs (other-outcome key g h.0) (λ ds k. none-hold key gs ds h.1 k) s
 
--- ---- the last pair is replaced
+-- ---- replacing the last pair
 
--- the printed pair in the place of a group
+-- The printed pair instead of a group.
 told-in_place : (e : Encoding) (first : Bool) (key value : List ℕ) (g : List HeldLine) (after : List (List HeldLine)) → is_editable e ≡ true → All scalar key
     → All scalar value
     → AreHeldGroups e (g ∷ after)
@@ -157,11 +157,11 @@ told-in_place e first key value g (i ∷ after) ok k v h =
     ∙ told-pair e first key value h.0.by (groups_bytes (i ∷ after)) ok k v
     ∙ ap (λ w. given (pair key value) ∷ w) (told-groups e (i ∷ after) h.1)
 
--- the contents of an edited body
+-- the outcomes of a body are these contents
 abbrev pub ComesTo : Encoding → List ℕ → (List Content → Type 0) → Type 0
 ComesTo e body Such = (new : List Content) × Such new × (told e body ≡ givens new)
 
--- A body whose last pair with the key is replaced says what it said, with the new value there.
+-- If the last pair with the key is replaced, the contents are unchanged except for its new value.
 pub replaced-told : (e : Encoding) (gs : List (List HeldLine)) (key value body : List ℕ) (old : List Content) → is_editable e ≡ true → All scalar key
     → All scalar value → AreHeldGroups e gs
     → told_by (as_groups gs) ≡ givens old → IsReplaced e gs key value body → ComesTo e body (IsSetIn key value old)
@@ -198,19 +198,19 @@ replaced-told e gs key value body old ok k v h t r =
               ∙ sym (givens-append front (pair key value ∷ back)),
         )
 
--- ---- a pair is appended
+-- ---- appending a pair
 
--- a CR at the end of the last part
+-- A CR at the end of the last part is at the end of the whole.
 pub ends-right : (x y : List ℕ) → ends_in_cr y ≡ true → ends_in_cr (x ++ y) ≡ true
 ends-right x [] h = absurd (cc)
 ends-right x (c ∷ y) h = ends_in_cr-append x c y ∙ h
 
--- the texts of ended lines and then of more
+-- The texts of two lists of ended lines.
 ended_lines-append : (e : Encoding) (ls ms : List Ended) → ended_lines e (ls ++ ms) ≡ ended_lines e ls ++ ended_lines e ms
 ended_lines-append e [] ms = refl
 ended_lines-append e (l ∷ ls) ms = ap (λ v. record { number = 0; text = decoded_line e l.text } ∷ v) (ended_lines-append e ls ms)
 
--- the bytes with a line ending added, where their last line has none
+-- The lines of bytes after which one line ending was added, if their last line has none.
 ending-added : (x : List ℕ) (by : LineEnding) → PartsNoEnd x (line_ending_text by)
     → lines_of (x ++ line_ending_text by) ≡ record { ended = (lines_of x).ended ++ record { text = (lines_of x).last; by = by } ∷ []; last = [] }
 ending-added x by h =
@@ -218,7 +218,7 @@ ending-added x by h =
     ∙ ap (λ v. lines_on (lines_of x).ended (lines_of ((lines_of x).last ++ v))) (sym (append-nil (line_ending_text by)))
     ∙ ap (lines_on (lines_of x).ended) (lines_of-line (lines_of x).last by [] (last-plain x) (λ q. refl))
 
--- and with two
+-- The lines of bytes after which two line endings were added.
 endings-added : (x : List ℕ) (by : LineEnding) → PartsNoEnd x (line_ending_text by ++ line_ending_text by)
     → (by ≡ cr → begins_with_lf (line_ending_text by) ≡ false)
     → lines_of (x ++ (line_ending_text by ++ line_ending_text by))
@@ -232,17 +232,17 @@ endings-added x by h k =
 
 -- ---- which last groups are left open
 
--- where all lines but the last are open, the last one is not
+-- If all lines but the last are open and the last isn't, the last isn't open.
 last-closed : (h : HeldLine) (hs : List HeldLine) → EndsClosed (record { number = 0; text = h.text }) (as_lines hs) → is_last_open (h ∷ hs) ≡ false
 last-closed h [] k = k
 last-closed h (i ∷ hs) k = last-closed i hs k.1
 
--- and where all are open, it is
+-- If all lines are open, the last is open.
 last-open : (h : HeldLine) (hs : List HeldLine) → AreOpen (as_lines (h ∷ hs)) → is_last_open (h ∷ hs) ≡ true
 last-open h [] k = k.0
 last-open h (i ∷ hs) k = last-open i hs k.1
 
--- a last group that isn't left open is whole
+-- A last group that isn't left open is whole.
 pub fit-closed : (g : List HeldLine) → IsLastFit g → is_left_open g ≡ false → IsWhole (as_lines g)
 fit-closed g (inl h) k = h
 fit-closed [] (inr h) k = absurd h
@@ -250,7 +250,7 @@ fit-closed (h ∷ hs) (inr u) k =
     let a : is_left_open (h ∷ hs) ≡ true = and_from (not (is_comment_line h.text)) (is_last_open (h ∷ hs)) (ap not u.0) (last-open h hs u.1) in
     absurd (cc)
 
--- and one that is left open begins with no comment line and ends open
+-- A last group that is left open doesn't begin with a comment line, and ends open.
 pub fit-open : (g : List HeldLine) → IsLastFit g → is_left_open g ≡ true → EndsOpen (as_lines g)
 fit-open g (inr h) k = h
 fit-open [] (inl h) k = absurd h
@@ -261,7 +261,7 @@ fit-open (h ∷ hs) (inl (inr w)) k =
     let b = last-closed h hs w.1 in
     absurd (cc)
 
--- an empty line after a group that is left open closes it, and adds nothing to it
+-- An empty line after a group that is left open ends the group, and adds nothing to it.
 pub closed-by_empty : (x : List Line) → EndsOpen x
     → IsWhole (x ++ record { number = 0; text = [] } ∷ []) × (joined (x ++ record { number = 0; text = [] } ∷ []) ≡ joined x)
 closed-by_empty [] h = absurd h
@@ -270,13 +270,13 @@ closed-by_empty (l ∷ ls) h = (
   joined-push l ls (record { number = 0; text = [] }) h.0 ∙ append-nil (joined (l ∷ ls)),
 )
 
--- ---- the last group and what parts a pair from it
+-- ---- the last group, and what separates a pair from it
 
--- a CR at the end of these bytes is one at the end of the source
+-- a CR at the end of these bytes is at the end of the source
 abbrev EndsAlike : List ℕ → List ℕ → Type 0
 EndsAlike x source = ends_in_cr x ≡ true → ends_in_cr source ≡ true
 
--- the ending that is added, and that it is one by itself after the bytes
+-- The line ending that is added, which is a line end by itself after the bytes.
 record IsAdded (x source : List ℕ) : Type 0 where
   by : LineEnding
   same : added_ending source ≡ line_ending_text by
@@ -284,32 +284,32 @@ record IsAdded (x source : List ℕ) : Type 0 where
   two : PartsNoEnd x (line_ending_text by ++ line_ending_text by)
   no_lf : by ≡ cr → begins_with_lf (line_ending_text by) ≡ false
 
--- so it is where the source ends in a CR if these bytes do
+-- This holds if the source ends in a CR whenever these bytes do.
 is-added : (x source : List ℕ) → EndsAlike x source → IsAdded x source
 is-added x source h = elim (cases_Bool (ends_in_cr source)) [
   | inl k ↦ record { by = cr; same = rw k refl; one = λ q. refl; two = λ q. refl; no_lf = λ q. refl }
   | inr k ↦ record { by = lf; same = rw k refl; one = λ q. absurd (cc (h q, k)); two = λ q. absurd (cc (h q, k)); no_lf = λ q. absurd (cc) }
 ]
 
--- nothing parts a pair from an empty line
+-- Nothing separates a pair from an empty line.
 parting-none : (source : List ℕ) (g : List HeldLine) → is_empty_line g ≡ true → parting source g ≡ []
 parting-none source g h = rw h refl
 
--- two line endings part it from a group that is left open
+-- Two line endings separate it from a group that is left open.
 parting-two : (source : List ℕ) (g : List HeldLine) → is_empty_line g ≡ false → is_left_open g ≡ true
     → parting source g ≡ added_ending source ++ added_ending source
 parting-two source g h k = rw (h, k) refl
 
--- and one from any other group
+-- One line ending separates it from any other group.
 parting-one : (source : List ℕ) (g : List HeldLine) → is_empty_line g ≡ false → is_left_open g ≡ false → parting source g ≡ added_ending source
 parting-one source g h k = rw (h, k) refl
 
--- the texts of the last group
+-- The texts of the last group.
 last-texts : (e : Encoding) (g : List HeldLine) → IsHeldLast e g → line_texts_in e (lines_of (group_bytes g)) ≡ as_lines g
 unfolding line_texts
 last-texts e g h = h.texts
 
--- the last group with one line ending after it, where it is not left open
+-- The last group followed by one line ending, if it isn't left open.
 one-front : (e : Encoding) (source : List ℕ) (g : List HeldLine) → IsHeldLast e g → is_left_open g ≡ false → IsAdded (group_bytes g) source
     → IsFront e (group_bytes g ++ added_ending source) (as_lines g)
 one-front e source g h k a =
@@ -325,7 +325,7 @@ one-front e source g h k a =
       whole = fit-closed g h.fits k;
     }
 
--- and with two, where it is
+-- The last group followed by two line endings, if it is left open.
 two-front : (e : Encoding) (source : List ℕ) (g : List HeldLine) → IsHeldLast e g → is_left_open g ≡ true → IsAdded (group_bytes g) source
     → IsFront e (group_bytes g ++ (added_ending source ++ added_ending source)) (as_lines g ++ record { number = 0; text = [] } ∷ [])
 two-front e source g h k a =
@@ -344,12 +344,12 @@ two-front e source g h k a =
       whole = (closed-by_empty (as_lines g) (fit-open g h.fits k)).0;
     }
 
--- no bytes are one empty line
+-- An empty list of bytes is one empty line.
 empty-texts : (e : Encoding) → line_texts e [] ≡ record { number = 0; text = [] } ∷ []
 unfolding line_texts
 empty-texts e = ap (λ v. record { number = 0; text = v } ∷ []) (decoded-nil e)
 
--- the last group and what parts the bytes after it from it
+-- The last group, what separates it from the following bytes, and those bytes.
 told-parted : (e : Encoding) (source : List ℕ) (g : List HeldLine) (d : List ℕ) → IsHeldLast e g → EndsAlike (group_bytes g) source
     → told e (group_bytes g ++ (parting source g ++ d)) ≡ told_before (outcome g) (told e d)
 told-parted e source g d h a = elim (cases_Bool (is_empty_line g)) [
@@ -372,7 +372,7 @@ told-parted e source g d h a = elim (cases_Bool (is_empty_line g)) [
   ]
 ]
 
--- all groups, and what parts the bytes after them from them
+-- All groups, what separates them from the following bytes, and those bytes.
 told-after : (e : Encoding) (source : List ℕ) (gs : List (List HeldLine)) (d : List ℕ) → AreHeldGroups e gs → EndsAlike (groups_bytes gs) source
     → told e (groups_bytes gs ++ (parting source (final_group gs) ++ d)) ≡ told_by (as_groups gs) ++ told e d
 told-after e source [] d h a = absurd h
@@ -386,7 +386,7 @@ told-after e source (g ∷ i ∷ gs) d h a =
     ∙ ap (told_before (outcome g)) (told-after e source (i ∷ gs) d h.1 (λ q. a (ends-right (group_bytes g) (groups_bytes (i ∷ gs)) q)))
     ∙ told_before-append (outcome g) (told_by (as_groups (i ∷ gs))) (told e d)
 
--- A body to which a pair is appended says what it said, and then that pair.
+-- If a pair is appended to a body, its contents are those of the body followed by that pair.
 pub appended-told : (e : Encoding) (source : List ℕ) (gs : List (List HeldLine)) (key value body : List ℕ) (old : List Content) → is_editable e ≡ true
     → All scalar key → All scalar value
     → AreHeldGroups e gs → (ends_in_cr (groups_bytes gs) ≡ true → ends_in_cr source ≡ true) → told_by (as_groups gs) ≡ givens old
@@ -405,13 +405,13 @@ appended-told e source gs key value body old ok k v h a t r = (
     tail : List ℕ
     tail = pair_bytes e (is_empty (groups_bytes gs ++ parting source (final_group gs))) key value ++ line_feed ∷ []
 
--- ---- a key is removed
+-- ---- removing a key
 
--- what is left comes to what is left of the contents
+-- the outcomes of what is left are what is left of the contents
 abbrev IsLeft : List ℕ → List Content → List Outcome → Type 0
 IsLeft key old os = (new : List Content) × IsRemovedIn key old new × (os ≡ givens new)
 
--- a group with another key, or none, stays
+-- A group without the key stays.
 left-kept : (key : List ℕ) (o : Outcome) (os left : List Outcome) (old : List Content) → ((v : List ℕ) → o ≡ given (pair key v) → ⊥)
     → told_before o os ≡ givens old
     → ((cs : List Content) → os ≡ givens cs → IsLeft key cs left) → IsLeft key old (told_before o left)
@@ -430,7 +430,7 @@ left-kept key (given content) os left (pair k v ∷ cs) other h rest =
 left-kept key (broken kind) os left [] other h rest = absurd (cc)
 left-kept key (broken kind) os left (c ∷ cs) other h rest = absurd (cc)
 
--- a group with the key goes
+-- A group with the key is left out.
 left-out : (key value : List ℕ) (os left : List Outcome) (old : List Content) → given (pair key value) ∷ os ≡ givens old
     → ((cs : List Content) → os ≡ givens cs → IsLeft key cs left) → IsLeft key old left
 left-out key value os left [] h rest = absurd (cc)
@@ -441,12 +441,12 @@ left-out key value os left (pair k v ∷ cs) h rest =
     let m = rest cs q in
     (m.0, inl (p, m.1), m.2)
 
--- of no contents none are left
+-- Of an empty list of contents, nothing is left.
 nothing-left : (key : List ℕ) (cs : List Content) → [] ≡ givens cs → IsLeft key cs []
 nothing-left key [] h = ([], refl, refl)
 nothing-left key (c ∷ cs) h = absurd (cc)
 
--- the groups without the key come to what is left of the contents
+-- The outcomes of the groups without the key are what is left of the contents.
 left-told : (e : Encoding) (key : List ℕ) (gs : List (List HeldLine)) (rest : List ℕ) (old : List Content) → AreHeldGroups e gs → IsWithout key gs rest
     → told_by (as_groups gs) ≡ givens old
     → IsLeft key old (told e rest)
@@ -467,7 +467,7 @@ left-told e key (g ∷ i ∷ gs) rest old h (inr w) t =
     (left-kept key (outcome g) (told_by (as_groups (i ∷ gs))) (told e w.1) old (other-outcome key g w.0) t
     (λ cs k. left-told e key (i ∷ gs) w.1 cs h.1 w.3 k))
 
--- A body without the groups with the key says what it said, without its pairs with the key.
+-- A body without the groups with the key has the same contents, without the pairs with the key.
 pub removed-told : (e : Encoding) (source key : List ℕ) (gs : List (List HeldLine)) (rest : List ℕ) (old : List Content) → AreHeldGroups e gs
     → told_by (as_groups gs) ≡ givens old
     → IsWithout key gs rest → ComesTo e (guarding_lf source rest ++ rest) (IsRemovedIn key old)

@@ -1,4 +1,4 @@
--- What is computed for a key that is set or removed is that edit, and the only one.
+-- The computed result of setting or removing a key is the result of that edit, and the only one.
 use Rattle.std.proofs.Common.{◌≡◌, ◌⊎◌, ℕ, Bool, true, false, List, [], ◌∷◌, ◌++◌, Option, Some, None, refl, ap, sym, ◌∙◌, inl, inr}
 use Rattle.std.proofs.lemmas.Bool.{cond-true, cond-false, false_from_ne_true}
 use Rattle.std.proofs.lemmas.Slice.Eq.{bytes_eq-Decides}
@@ -18,35 +18,35 @@ use Rattle.properties_format.proofs.Body.Groups.{held_groups_of-meets, held_grou
 
 -- ---- which groups have the key
 
--- an outcome that passes the test is a pair with the key
+-- An outcome that passes the test is a pair with the key.
 pair-with : (key : List ℕ) (o : Outcome) → is_pair_with key o ≡ true → (value : List ℕ) × (o ≡ given (pair key value))
 pair-with key ignored h = absurd (cc)
 pair-with key (given (comment text)) h = absurd (cc)
 pair-with key (given (pair k v)) h = (v, ap (λ x. given (pair x v)) ((bytes_eq-Decides k key).0 h))
 pair-with key (broken kind) h = absurd (cc)
 
--- a group that passes the test has the key
+-- A group that passes the test is a pair with the key.
 pub has_key-true : (key : List ℕ) (g : List HeldLine) → has_key key g ≡ true → HasKey key g
 has_key-true key g h =
     let m = pair-with key (outcome_of (joined (as_lines g))) h in
     (m.0, rw m.1 at (outcome_of-meets (joined (as_lines g))))
 
--- and a group with the key passes it
+-- A group that is a pair with the key passes the test.
 pub HasKey-test : (key : List ℕ) (g : List HeldLine) → HasKey key g → has_key key g ≡ true
 HasKey-test key g (value, h) =
     ap (is_pair_with key) (sym (outcome_of-only (joined (as_lines g)) (given (pair key value)) h)) ∙ (bytes_eq-Decides key key).1 refl
 
--- and one that doesn't pass it has another key, or none
+-- A group that doesn't pass the test isn't a pair with the key.
 pub has_key-false : (key : List ℕ) (g : List HeldLine) → has_key key g ≡ false → ¬ (HasKey key g)
 has_key-false key g h = λ k. let m = HasKey-test key g k in absurd (cc)
 
--- and one without the key doesn't pass it
+-- A group that isn't a pair with the key doesn't pass the test.
 pub no_key-test : (key : List ℕ) (g : List HeldLine) → ¬ (HasKey key g) → has_key key g ≡ false
 no_key-test key g h = false_from_ne_true (has_key key g) (λ k. h (has_key-true key g k))
 
--- ---- the last of them
+-- ---- the last pair with the key
 
--- the place is that of the last group with the key
+-- The place is that of the last pair with the key.
 pub record IsLastPlace (key : List ℕ) (gs : List (List HeldLine)) (p : KeyPlace) : Type 0 where
   pub division : gs ≡ p.before ++ p.group ∷ p.after
   pub has : HasKey key p.group
@@ -56,31 +56,31 @@ abbrev pub IsPlace : List ℕ → List (List HeldLine) → Option KeyPlace → T
 IsPlace key gs None = NoneHasKey key gs
 IsPlace key gs (Some p) = IsLastPlace key gs p
 
--- where no later group has the key, the place is that of this group, if it has it
+-- If no later group has the key, the place is that of this group, if it has the key.
 place-here : (key : List ℕ) (g : List HeldLine) (gs : List (List HeldLine)) (b : Bool) → has_key key g ≡ b → NoneHasKey key gs
     → IsPlace key (g ∷ gs) (place_after key g gs None)
 place-here key g gs true e h = rw e (record { division = refl; has = has_key-true key g e; no_later = h })
 place-here key g gs false e h = rw e (has_key-false key g e, h)
 
--- with one more group in front, what is computed is the place of the last one with the key
+-- With one more group at the front, the computed place is that of the last pair with the key.
 place-meets : (key : List ℕ) (g : List HeldLine) (gs : List (List HeldLine)) (o : Option KeyPlace) → IsPlace key gs o
     → IsPlace key (g ∷ gs) (place_after key g gs o)
 place-meets key g gs None h = place-here key g gs (has_key key g) refl h
 place-meets key g gs (Some p) h = record { division = ap (λ v. g ∷ v) h.division; has = h.has; no_later = h.no_later }
 
--- what is computed is the place of the last group with the key
+-- The computed place is that of the last pair with the key.
 pub last_place-meets : (key : List ℕ) (gs : List (List HeldLine)) → IsPlace key gs (last_place key gs)
 last_place-meets key [] = tt
 last_place-meets key (g ∷ gs) = place-meets key g gs (last_place key gs) (last_place-meets key gs)
 
--- where no group has the key there is no place
+-- If no group has the key, there is no place.
 pub last_place-none : (key : List ℕ) (gs : List (List HeldLine)) → NoneHasKey key gs → last_place key gs ≡ None
 last_place-none key [] h = refl
 last_place-none key (g ∷ gs) h =
     ap (place_after key g gs) (last_place-none key gs h.1)
     ∙ cond-false (has_key key g) (Some (record { before = []; group = g; after = gs })) None (no_key-test key g h.0)
 
--- after the last group with the key none has it
+-- After the last pair with the key, no group has it.
 pub last_place-some : (key : List ℕ) (before : List (List HeldLine)) (g : List HeldLine) (after : List (List HeldLine)) → HasKey key g → NoneHasKey key after
     → last_place key (before ++ g ∷ after) ≡ Some (record { before = before; group = g; after = after })
 last_place-some key [] g after h k =
@@ -88,16 +88,16 @@ last_place-some key [] g after h k =
     ∙ cond-true (has_key key g) (Some (record { before = []; group = g; after = after })) None (HasKey-test key g h)
 last_place-some key (f ∷ before) g after h k = ap (place_after key f (before ++ g ∷ after)) (last_place-some key before g after h k)
 
--- ---- a key is set
+-- ---- setting a key
 
--- the last pair with the key is replaced at its place, or a pair is appended where there is none
+-- The last pair with the key is replaced at its place, or a pair is appended if there is none.
 set-meets : (e : Encoding) (source key value : List ℕ) (gs : List (List HeldLine)) (o : Option KeyPlace) → IsPlace key gs o
     → IsReplaced e gs key value (set_at e source gs key value o) ⊎ IsAppended e source gs key value (set_at e source gs key value o)
 set-meets e source key value gs None h = inr (record { no_pair = h; bytes = refl })
 set-meets e source key value gs (Some p) h =
     inl (record { before = p.before; group = p.group; after = p.after; division = h.division; has_key = h.has; no_later = h.no_later; bytes = refl })
 
--- and what replaces or appends a pair is what is computed
+-- A result with a pair replaced or appended is the computed one.
 set-only : (e : Encoding) (source key value : List ℕ) (gs : List (List HeldLine)) (body : List ℕ)
     → IsReplaced e gs key value body ⊎ IsAppended e source gs key value body
     → body ≡ set_at e source gs key value (last_place key gs)
@@ -118,7 +118,7 @@ key_set-meets e source key value =
       whole = refl;
     }
 
--- A source with the key set is what is computed.
+-- A source with the key set is the computed one.
 pub key_set-only : (e : Encoding) (source key value result : List ℕ) → IsKeySet e source key value result → result ≡ key_set e source key value
 key_set-only e source key value result h =
     let f = byte_order_mark e source in
@@ -126,20 +126,20 @@ key_set-only e source key value result h =
     ∙ ap (λ v. bom_of source ++ v) (set-only f.encoding source key value h.groups h.body h.edited)
     ∙ ap (λ v. bom_of source ++ set_at f.encoding source v key value (last_place key v)) (held_groups_of-only f.encoding f.body h.groups h.held)
 
--- ---- a key is removed
+-- ---- removing a key
 
--- one more group in front, with the key or without it
+-- One more group at the front, with the key or without it.
 without-step : (key : List ℕ) (g : List HeldLine) (gs : List (List HeldLine)) (b : Bool) → has_key key g ≡ b → IsWithout key gs (without key gs)
     → IsWithout key (g ∷ gs) (without key (g ∷ gs))
 without-step key g gs true e h = rw e (inl (has_key-true key g e, h))
 without-step key g gs false e h = rw e (inr (has_key-false key g e, without key gs, refl, h))
 
--- the bytes that are left are those of the groups without the key
+-- The computed bytes are those of the groups without the key.
 pub without-meets : (key : List ℕ) (gs : List (List HeldLine)) → IsWithout key gs (without key gs)
 without-meets key [] = refl
 without-meets key (g ∷ gs) = without-step key g gs (has_key key g) refl (without-meets key gs)
 
--- and no others are
+-- There are no other such bytes.
 pub without-only : (key : List ℕ) (gs : List (List HeldLine)) (rest : List ℕ) → IsWithout key gs rest → rest ≡ without key gs
 without-only key [] rest h = h
 without-only key (g ∷ gs) rest (inl h) =
@@ -155,7 +155,7 @@ key_removed-meets e source key =
     let gs = held_groups_of f.encoding f.body in
     record { groups = gs; held = held_groups_of-meets f.encoding f.body; rest = without key gs; without = without-meets key gs; whole = refl }
 
--- A source without the key is what is computed.
+-- A source without the key is the computed one.
 pub key_removed-only : (e : Encoding) (source key result : List ℕ) → IsKeyRemoved e source key result → result ≡ key_removed e source key
 key_removed-only e source key result h =
     let f = byte_order_mark e source in

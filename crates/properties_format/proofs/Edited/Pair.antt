@@ -1,4 +1,4 @@
--- The printed pair in a body: it is a group by itself, and comes to that pair.
+-- The printed pair in a body: it is a group by itself, and its outcome is that pair.
 use Rattle.std.proofs.Common.{◌≡◌, ℕ, ◌==◌, Bool, true, false, List, [], ◌∷◌, ◌++◌, refl, ap, sym, ◌∙◌, inl, inr, append_assoc, append-nil, subst}
 use Rattle.std.specs.Prelude.{All}
 use Rattle.std.specs.List.{AllByRecursion}
@@ -34,30 +34,30 @@ use Rattle.properties_format.proofs.Edited.Told.{told_before, ended_lines, line_
 abbrev pub pair_text : Encoding → Bool → List ℕ → List ℕ → List ℕ
 pair_text e first key value = spelt_key e false first key ++ (equals_sign ∷ spelt_text e false in_key_or_value value)
 
--- its text is read as the pair
+-- Its text is read as the pair.
 pair-read_as : (e : Encoding) (first : Bool) (key value : List ℕ) → All scalar key → All scalar value
     → IsReadAs (pair_text e first key value) (pair key value)
 pair-read_as e first key value h k =
     pair-read (spelt_key e false first key) (spelt_text e false in_key_or_value value) (equals_sign ∷ []) key value (key-spelt e false first key (recursion_from_All scalar key h))
     (texts-spelt e false value (recursion_from_All scalar value k)) default_settings-good.separator (λ q. refl)
 
--- ---- its bytes are decoded to its text
+-- ---- its bytes decode to its text
 
--- the front of a text of scalars is of scalars
+-- The front of a text of scalar values consists of scalar values.
 scalars-left : (x y : List ℕ) → AllByRecursion scalar (x ++ y) → AllByRecursion scalar x
 scalars-left [] y h = tt
 scalars-left (c ∷ x) y h = (h.0, scalars-left x y h.1)
 
--- the front of a text that can be encoded can be encoded
+-- The front of a text that can be encoded can be encoded.
 encodable-left : (e : Encoding) (x y : List ℕ) → AreEncodable e (x ++ y) → AreEncodable e x
 encodable-left e [] y h = tt
 encodable-left e (c ∷ x) y h = (h.0, encodable-left e x y h.1)
 
--- and so is the front of a text that can be written
+-- The front of a text that can be written can be written.
 writable-left : (e : Encoding) (x y : List ℕ) → AreWritable e (x ++ y) → AreWritable e x
 writable-left e x y h = record { scalars = scalars-left x y h.scalars; encodable = encodable-left e x y h.encodable }
 
--- the line of the pair, as a writer writes it after n lines
+-- The line of the pair, as a writer writes it after n lines.
 line-text : (e : Encoding) (n : ℕ) (key value : List ℕ)
     → wrote_text e default_settings n (pair_call key value ∷ []) ≡ pair_text e (n == 0) key value ++ line_feed ∷ []
 line-text e n [] value =
@@ -67,7 +67,7 @@ line-text e n (c ∷ key) value =
     append-nil (printed_text e default_settings (n == 0) (pair (c ∷ key) value))
     ∙ sym (append_assoc (spelt_key e false (n == 0) (c ∷ key)) (equals_sign ∷ spelt_text e false in_key_or_value value) (line_feed ∷ []))
 
--- the characters of a printed pair can be written
+-- The characters of a printed pair can be written.
 pair-writable : (e : Encoding) (first : Bool) (key value : List ℕ) → All scalar key → All scalar value → AreWritable e (pair_text e first key value)
 pair-writable e true key value h k =
     writable-left e (pair_text e true key value) (line_feed ∷ [])
@@ -76,14 +76,14 @@ pair-writable e false key value h k =
     writable-left e (pair_text e false key value) (line_feed ∷ [])
     (subst (AreWritable e) (line-text e 1 key value) (wrote_text-writable e default_settings 1 (pair_call key value ∷ []) default_settings-good ((h, k), tt)))
 
--- an encoding that is edited is one that a writer writes
+-- An encoding that can be edited can be written.
 pub editable-own : (e : Encoding) → is_editable e ≡ true → output_encoding e ≡ e
 editable-own windows_1252 h = refl
 editable-own utf_8 h = refl
 editable-own utf_16le h = absurd (cc)
 editable-own utf_16be h = absurd (cc)
 
--- The bytes of the printed pair are decoded to its characters.
+-- The bytes of the printed pair decode to its characters.
 pub pair-decoded : (e : Encoding) (first : Bool) (key value : List ℕ) → is_editable e ≡ true → All scalar key → All scalar value
     → decoded_line e (pair_bytes e first key value) ≡ pair_text e first key value
 pair-decoded e first key value ok h k =
@@ -93,7 +93,7 @@ pair-decoded e first key value ok h k =
 
 -- ---- it is a group
 
--- a line that stands alone is a whole group
+-- A comment line, or a line that isn't open, is a whole group by itself.
 alone-whole : (l : Line) → StandsAlone l.text → IsWhole (l ∷ [])
 alone-whole l (inl h) = inl (h, refl)
 alone-whole l (inr h) = elim (cases_Bool (is_comment_line l.text)) [ inl k ↦ inl (k, refl) | inr k ↦ inr (k, h) ]
@@ -102,30 +102,30 @@ alone-whole l (inr h) = elim (cases_Bool (is_comment_line l.text)) [ inl k ↦ i
 abbrev pub pair_line : Encoding → Bool → List ℕ → List ℕ → Line
 pair_line e first key value = record { number = 0; text = pair_text e first key value }
 
--- it is a whole group
+-- The line of the printed pair is a whole group.
 pub pair-whole : (e : Encoding) (first : Bool) (key value : List ℕ) → All scalar key → All scalar value → IsWhole (pair_line e first key value ∷ [])
 pair-whole e first key value h k = alone-whole (pair_line e first key value) (pair-read_as e first key value h k).alone
 
--- it comes to the pair
+-- Its outcome is the pair.
 pub pair-outcome : (e : Encoding) (first : Bool) (key value : List ℕ) → All scalar key → All scalar value
     → outcome_of (joined (pair_line e first key value ∷ [])) ≡ given (pair key value)
 pair-outcome e first key value h k =
     let r = pair-read_as e first key value h k in ap outcome_of (joined-alone (pair_line e first key value) r.alone) ∙ r.outcome
 
--- its bytes hold no CR and no LF
+-- Its bytes contain no CR and no LF.
 pub pair-plain : (e : Encoding) (first : Bool) (key value : List ℕ) → is_editable e ≡ true → All scalar key → All scalar value
     → HoldsNoLineEnd (pair_bytes e first key value)
 pair-plain e first key value ok h k =
     plain-bytes e (pair_bytes e first key value) ok (subst HoldsNoLineEnd (sym (pair-decoded e first key value ok h k)) (pair-read_as e first key value h k).plain)
 
--- with a line ending after them they are one line
+-- With a line ending after them, its bytes are one line.
 pair-lines : (e : Encoding) (first : Bool) (key value : List ℕ) (by : LineEnding) → is_editable e ≡ true → All scalar key → All scalar value
     → lines_of (pair_bytes e first key value ++ line_ending_text by) ≡ record { ended = record { text = pair_bytes e first key value; by = by } ∷ []; last = [] }
 pair-lines e first key value by ok h k =
     ap (λ v. lines_of (pair_bytes e first key value ++ v)) (sym (append-nil (line_ending_text by)))
     ∙ lines_of-line (pair_bytes e first key value) by [] (pair-plain e first key value ok h k) (λ q. refl)
 
--- which is one whole group
+-- That line is one whole group.
 pair-front : (e : Encoding) (first : Bool) (key value : List ℕ) (by : LineEnding) → is_editable e ≡ true → All scalar key → All scalar value
     → IsFront e (pair_bytes e first key value ++ line_ending_text by) (pair_line e first key value ∷ [])
 pair-front e first key value by ok h k =
@@ -146,7 +146,7 @@ told-pair e first key value by d ok h k =
     ∙ told-front e (pair_bytes e first key value ++ line_ending_text by) d (pair_line e first key value ∷ []) (pair-front e first key value by ok h k)
     ∙ ap (λ v. told_before v (told e d)) (pair-outcome e first key value h k)
 
--- and without one they are one line too
+-- Without a line ending, its bytes are one line too.
 pair-texts : (e : Encoding) (first : Bool) (key value : List ℕ) → is_editable e ≡ true → All scalar key → All scalar value
     → line_texts e (pair_bytes e first key value) ≡ pair_line e first key value ∷ []
 unfolding line_texts

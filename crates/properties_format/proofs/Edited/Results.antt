@@ -1,4 +1,4 @@
--- What is computed for an editor's result is that result, and the only one.
+-- The computed result of an editor is a result of that edit, and the only one.
 use Rattle.std.proofs.Common.{◌≡◌, ℕ, ◌+◌, length, true, false, List, [], ◌∷◌, refl, ap, ap₂, sym, ◌∙◌, inl, inr, subst}
 use Rattle.std.proofs.lemmas.Bool.{cases_Bool, cond-true, cond-false}
 use Rattle.properties_format.specs.Encoding.{Encoding, byte_order_mark}
@@ -10,40 +10,16 @@ use Rattle.properties_format.specs.Groups.{joined}
 use Rattle.properties_format.specs.Body.{HeldLine, as_lines}
 use Rattle.properties_format.specs.Reading.Items.{outcome_of, followed, items_of}
 use Rattle.properties_format.specs.Reading.Body.{held_groups_of, entries_in}
-use Rattle.properties_format.specs.Edited.{IsKeySet, IsKeyRemoved, Edit, put, remove, IsEdited, AreEdited}
+use Rattle.properties_format.specs.Edited.{IsKeySet, IsKeyRemoved}
 use Rattle.properties_format.specs.Edited.{EditResult, edited, unsupported, unreadable, is_editable, IsFirstMalformed}
-use Rattle.properties_format.specs.Edited.{IsEditResult, IsSetKeyResult, IsRemoveKeyResult, IsEditAllResult}
-use Rattle.properties_format.specs.Reading.Edited.{key_set, key_removed, edit_made, edits_made, result_by, result_of}
-use Rattle.properties_format.specs.Reading.Edited.{set_key_result, remove_key_result, edit_all_result}
+use Rattle.properties_format.specs.Edited.{IsEditResult, IsSetKeyResult, IsRemoveKeyResult}
+use Rattle.properties_format.specs.Reading.Edited.{key_set, key_removed, result_by, result_of}
+use Rattle.properties_format.specs.Reading.Edited.{set_key_result, remove_key_result}
 use Rattle.properties_format.proofs.Items.Unique.{items_of-meets, items_of-only}
 use Rattle.properties_format.proofs.Body.Numbers.{items_of-groups}
 use Rattle.properties_format.proofs.Edited.Made.{key_set-meets, key_set-only, key_removed-meets, key_removed-only}
 
--- ---- edits in turn
-
--- what is computed is the source after the edit
-edit_made-meets : (e : Encoding) (source : List ℕ) (edit : Edit) → IsEdited e source edit (edit_made e source edit)
-edit_made-meets e source (put key value) = key_set-meets e source key value
-edit_made-meets e source (remove key) = key_removed-meets e source key
-
--- a source after the edit is what is computed
-edit_made-only : (e : Encoding) (source : List ℕ) (edit : Edit) (result : List ℕ) → IsEdited e source edit result → result ≡ edit_made e source edit
-edit_made-only e source (put key value) result h = key_set-only e source key value result h
-edit_made-only e source (remove key) result h = key_removed-only e source key result h
-
--- What is computed is the source after the edits.
-pub edits_made-meets : (e : Encoding) (source : List ℕ) (edits : List Edit) → AreEdited e source edits (edits_made e source edits)
-edits_made-meets e source [] = refl
-edits_made-meets e source (edit ∷ edits) = (edit_made e source edit, edit_made-meets e source edit, edits_made-meets e (edit_made e source edit) edits)
-
--- A source after the edits is what is computed.
-pub edits_made-only : (e : Encoding) (source : List ℕ) (edits : List Edit) (result : List ℕ) → AreEdited e source edits result
-    → result ≡ edits_made e source edits
-edits_made-only e source [] result h = h
-edits_made-only e source (edit ∷ edits) result h =
-    edits_made-only e h.0 edits result h.2 ∙ ap (λ v. edits_made e v edits) (edit_made-only e source edit h.0 h.1)
-
--- ---- no read of a source that is held fails
+-- ---- no read of a source in memory fails
 
 -- no read failed
 abbrev HasNoFault : List Entry → Type 0
@@ -52,19 +28,19 @@ HasNoFault (item n content ∷ entries) = HasNoFault entries
 HasNoFault (malformed kind n ∷ entries) = HasNoFault entries
 HasNoFault (read_fault n ∷ entries) = ⊥
 
--- nor before an outcome
+-- No read failed in an outcome's entry and the entries after it.
 followed-no_fault : (n : ℕ) (o : Outcome) (entries : List Entry) → HasNoFault entries → HasNoFault (followed n o entries)
 followed-no_fault n ignored entries h = h
 followed-no_fault n (given content) entries h = h
 followed-no_fault n (broken kind) entries h = tt
 
--- nor among groups
+-- No read failed in the entries of groups.
 groups-no_fault : (n : ℕ) (gs : List (List HeldLine)) → HasNoFault (entries_in n gs)
 groups-no_fault n [] = tt
 groups-no_fault n (g ∷ gs) =
     followed-no_fault n (outcome_of (joined (as_lines g))) (entries_in (n + length g) gs) (groups-no_fault (n + length g) gs)
 
--- nor in a source
+-- No read failed in the entries of a source.
 source-no_fault : (e : Encoding) (source : List ℕ) → HasNoFault (items_of e source end)
 source-no_fault e source =
     let f = byte_order_mark e source in
@@ -72,33 +48,33 @@ source-no_fault e source =
 
 -- ---- results
 
--- what the items say of a result that is made of these bytes
+-- what the items say about a result that is made of these bytes
 abbrev IsBy : List Entry → List ℕ → EditResult → Type 0
 IsBy entries made (edited result) = AreItems entries × (result ≡ made)
 IsBy entries made unsupported = ⊥
 IsBy entries made (unreadable kind n) = IsFirstMalformed kind n entries
 
--- an item in front changes nothing
+-- An item at the front changes nothing.
 by-item : (n : ℕ) (content : Content) (entries : List Entry) (made : List ℕ) (r : EditResult) → IsBy entries made r → IsBy (item n content ∷ entries) made r
 by-item n content entries made (edited result) h = h
 by-item n content entries made unsupported h = h
 by-item n content entries made (unreadable kind m) h = h
 
--- what is computed is what the items say
+-- The computed result is what the items say.
 result_by-meets : (entries : List Entry) (made : List ℕ) → HasNoFault entries → IsBy entries made (result_by entries made)
 result_by-meets [] made h = (tt, refl)
 result_by-meets (item n content ∷ entries) made h = by-item n content entries made (result_by entries made) (result_by-meets entries made h)
 result_by-meets (malformed kind n ∷ entries) made h = (refl, refl)
 result_by-meets (read_fault n ∷ entries) made h = absurd h
 
--- where no item is malformed the result is these bytes
+-- If no item is malformed, the result is these bytes.
 pub result_by-edited : (entries : List Entry) (made : List ℕ) → AreItems entries → result_by entries made ≡ edited made
 result_by-edited [] made h = refl
 result_by-edited (item n content ∷ entries) made h = result_by-edited entries made h
 result_by-edited (malformed kind n ∷ entries) made h = absurd h
 result_by-edited (read_fault n ∷ entries) made h = absurd h
 
--- and else it is the first malformed one
+-- Otherwise the result is the first malformed item.
 result_by-unreadable : (entries : List Entry) (made : List ℕ) (kind : Malformed) (n : ℕ) → IsFirstMalformed kind n entries
     → result_by entries made ≡ unreadable kind n
 result_by-unreadable [] made kind n h = absurd h
@@ -106,16 +82,16 @@ result_by-unreadable (item m content ∷ entries) made kind n h = result_by-unre
 result_by-unreadable (malformed other m ∷ entries) made kind n h = ap₂ (λ v w. unreadable v w) h.0 h.1
 result_by-unreadable (read_fault m ∷ entries) made kind n h = result_by-unreadable entries made kind n h
 
--- the encoding in force is edited
+-- The encoding in force can be edited.
 pub result-editable : (e : Encoding) (source made : List ℕ) → is_editable (byte_order_mark e source).encoding ≡ true
     → result_of e source made ≡ result_by (items_of e source end) made
 result-editable e source made ok = cond-true (is_editable (byte_order_mark e source).encoding) (result_by (items_of e source end) made) unsupported ok
 
--- or it is not
+-- The encoding in force can't be edited.
 result-unsupported : (e : Encoding) (source made : List ℕ) → is_editable (byte_order_mark e source).encoding ≡ false → result_of e source made ≡ unsupported
 result-unsupported e source made h = cond-false (is_editable (byte_order_mark e source).encoding) (result_by (items_of e source end) made) unsupported h
 
--- in an encoding that is edited, what the items say of bytes that the edit makes is a result of it
+-- In an encoding that can be edited, what the items say about bytes that the edit makes is a result of the edit.
 by-result : (e : Encoding) (source made : List ℕ) (Makes : List ℕ → Type 0) (r : EditResult) → is_editable (byte_order_mark e source).encoding ≡ true
     → Makes made
     → IsBy (items_of e source end) made r → IsEditResult e source Makes r
@@ -123,7 +99,7 @@ by-result e source made Makes (edited result) ok m h = (ok, (items_of e source e
 by-result e source made Makes unsupported ok m h = absurd h
 by-result e source made Makes (unreadable kind n) ok m h = (ok, (items_of e source end, items_of-meets e source end, h))
 
--- the result of these bytes, where the edit makes them
+-- The result with these bytes, if the edit makes them, is a result of the edit.
 pub result_of-meets : (e : Encoding) (source made : List ℕ) (Makes : List ℕ → Type 0) → (is_editable (byte_order_mark e source).encoding ≡ true → Makes made)
     → IsEditResult e source Makes (result_of e source made)
 result_of-meets e source made Makes m = elim (cases_Bool (is_editable (byte_order_mark e source).encoding)) [
@@ -133,7 +109,7 @@ result_of-meets e source made Makes m = elim (cases_Bool (is_editable (byte_orde
   | inr h ↦ subst (IsEditResult e source Makes) (sym (result-unsupported e source made h)) h
 ]
 
--- and there is no other, where the edit makes no other bytes
+-- If the edit makes no other bytes, there is no other result.
 pub result_of-only : (e : Encoding) (source made : List ℕ) (Makes : List ℕ → Type 0) (r : EditResult)
     → (is_editable (byte_order_mark e source).encoding ≡ true → (result : List ℕ) → Makes result → result ≡ made)
     → IsEditResult e source Makes r → r ≡ result_of e source made
@@ -145,7 +121,7 @@ result_of-only e source made Makes (unreadable kind n) one (ok, items) =
     let f = subst (IsFirstMalformed kind n) (items_of-only e source end items.0 items.1) items.2 in
     sym (result_by-unreadable (items_of e source end) made kind n f) ∙ sym (result-editable e source made ok)
 
--- The result of setting a key is what is computed, and nothing else is.
+-- What is computed is a result of setting a key.
 pub set_key_result-meets : (e : Encoding) (source key value : List ℕ) → IsSetKeyResult e source key value (set_key_result e source key value)
 set_key_result-meets e source key value =
     result_of-meets e source (key_set e source key value) (IsKeySet e source key value) (λ ok. key_set-meets e source key value)
@@ -156,19 +132,10 @@ pub set_key_result-only : (e : Encoding) (source key value : List ℕ) (r : Edit
 set_key_result-only e source key value r h =
     result_of-only e source (key_set e source key value) (IsKeySet e source key value) r (λ ok. key_set-only e source key value) h
 
--- The same of removing one.
+-- What is computed is a result of removing a key.
 pub remove_key_result-meets : (e : Encoding) (source key : List ℕ) → IsRemoveKeyResult e source key (remove_key_result e source key)
 remove_key_result-meets e source key = result_of-meets e source (key_removed e source key) (IsKeyRemoved e source key) (λ ok. key_removed-meets e source key)
 
--- No other result is one of removing one.
+-- No other result is one of removing a key.
 pub remove_key_result-only : (e : Encoding) (source key : List ℕ) (r : EditResult) → IsRemoveKeyResult e source key r → r ≡ remove_key_result e source key
 remove_key_result-only e source key r h = result_of-only e source (key_removed e source key) (IsKeyRemoved e source key) r (λ ok. key_removed-only e source key) h
-
--- The same of edits in turn.
-pub edit_all_result-meets : (e : Encoding) (source : List ℕ) (edits : List Edit) → IsEditAllResult e source edits (edit_all_result e source edits)
-edit_all_result-meets e source edits = result_of-meets e source (edits_made e source edits) (AreEdited e source edits) (λ ok. edits_made-meets e source edits)
-
--- No other result is one of edits in turn.
-pub edit_all_result-only : (e : Encoding) (source : List ℕ) (edits : List Edit) (r : EditResult) → IsEditAllResult e source edits r
-    → r ≡ edit_all_result e source edits
-edit_all_result-only e source edits r h = result_of-only e source (edits_made e source edits) (AreEdited e source edits) r (λ ok. edits_made-only e source edits) h

@@ -1,4 +1,4 @@
--- How the groups of a body, and an edit of them, go on with the next line and the next group.
+-- The groups of a body, and an edit of them, after the next line and after the next group.
 use Rattle.std.proofs.Common.{◌≡◌, ℕ, Bool, false, List, [], ◌∷◌, ◌++◌, refl, ap, sym, ◌∙◌, inl, inr, append_assoc, lit<, ◌+◌, length-append, arith}
 use Rattle.std.specs.Prelude.{unwrap_or, ◌&&◌, not, length, Option, Some, None}
 use Rattle.std.proofs.lemmas.Bool.{cases_Bool, cond-false}
@@ -25,7 +25,7 @@ use Rattle.properties_format.proofs.Edited.Made.{last_place-some}
 
 -- ---- the next line
 
--- a line and its ending, before any bytes; a CR is an ending by itself only where no LF unit comes
+-- A line and its ending before any bytes; a CR is a line ending by itself only if no LF unit follows.
 pub held_lines-line : (e : Encoding) (text : List ℕ) (by : LineEnding) (y : List ℕ) → HoldsNoLineEndUnit e text → IsAligned e text
     → (by ≡ cr → begins_with_lf (units e y) ≡ false)
     → held_lines_of e (text ++ (line_ending_bytes e by ++ y)) ≡ record { bytes = text; text = decoded_line e text; ending = Some by } ∷ held_lines_of e y
@@ -43,24 +43,24 @@ abbrev pub with_after : List HeldLine → Option KeyPlace → Option KeyPlace
 with_after g None = None
 with_after g (Some p) = Some record { before = p.before; group = p.group; after = p.after ++ g ∷ [] }
 
--- one more group in front and one more after can be added in either order
+-- Adding a group at the front and one at the end commutes.
 with_after-front : (key : List ℕ) (f g : List HeldLine) (gs : List (List HeldLine)) (o : Option KeyPlace)
     → place_after key f (gs ++ g ∷ []) (with_after g o) ≡ with_after g (place_after key f gs o)
 with_after-front key f g gs (Some p) = refl
 with_after-front key f g gs None = elim (cases_Bool (has_key key f)) [ inl k ↦ rw k refl | inr k ↦ rw k refl ]
 
--- a group with the key is the last place with it
+-- A group with the key is the new last place with it.
 pub last_place-new : (key : List ℕ) (gs : List (List HeldLine)) (g : List HeldLine) → HasKey key g
     → last_place key (gs ++ g ∷ []) ≡ Some (record { before = gs; group = g; after = [] })
 last_place-new key gs g h = last_place-some key gs g [] h tt
 
--- any other leaves the last place as it was
+-- Any other group leaves the last place unchanged.
 pub last_place-other : (key : List ℕ) (gs : List (List HeldLine)) (g : List HeldLine) → has_key key g ≡ false
     → last_place key (gs ++ g ∷ []) ≡ with_after g (last_place key gs)
 last_place-other key [] g h = cond-false (has_key key g) (Some (record { before = []; group = g; after = [] })) None h
 last_place-other key (f ∷ gs) g h = ap (place_after key f (gs ++ g ∷ [])) (last_place-other key gs g h) ∙ with_after-front key f g gs (last_place key gs)
 
--- what is left of some groups, and then of others
+-- What is left of two lists of groups.
 pub without-append : (key : List ℕ) (gs hs : List (List HeldLine)) → without key (gs ++ hs) ≡ without key gs ++ without key hs
 without-append key [] hs = refl
 without-append key (g ∷ gs) hs = elim (cases_Bool (has_key key g)) [
@@ -68,7 +68,7 @@ without-append key (g ∷ gs) hs = elim (cases_Bool (has_key key g)) [
   | inr k ↦ rw k (ap (λ v. group_bytes g ++ v) (without-append key gs hs) ∙ sym (append_assoc (group_bytes g) (without key gs) (without key hs)))
 ]
 
--- the last of the groups
+-- The last of the groups, after one more.
 pub final_group-push : (gs : List (List HeldLine)) (g : List HeldLine) → final_group (gs ++ g ∷ []) ≡ g
 final_group-push [] g = refl
 final_group-push (f ∷ []) g = refl
@@ -76,36 +76,36 @@ final_group-push (f ∷ h ∷ gs) g = final_group-push (h ∷ gs) g
 
 -- ---- a group with one more line
 
--- its last line is that one
+-- The last line is the new one.
 pub last_ending-push : (g : List HeldLine) (h : HeldLine) → last_ending (g ++ h ∷ []) ≡ h.ending
 last_ending-push [] h = refl
 last_ending-push (i ∷ []) h = refl
 last_ending-push (i ∷ j ∷ g) h = last_ending-push (j ∷ g) h
 
--- whether the last line is open hangs on that one
+-- Whether the last line is open depends on the new one.
 pub is_last_open-push : (g : List HeldLine) (h : HeldLine) → is_last_open (g ++ h ∷ []) ≡ is_open h.text
 is_last_open-push [] h = refl
 is_last_open-push (i ∷ []) h = refl
 is_last_open-push (i ∷ j ∷ g) h = is_last_open-push (j ∷ g) h
 
--- its first line is the one that was
+-- The first line is unchanged.
 pub is_left_open-push : (i : HeldLine) (g : List HeldLine) (h : HeldLine) → is_left_open (i ∷ g ++ h ∷ []) ≡ (not (is_comment_line i.text) && is_open h.text)
 is_left_open-push i g h = ap (λ b. not (is_comment_line i.text) && b) (is_last_open-push (i ∷ g) h)
 
--- and it is no line alone
+-- The group isn't a single line.
 pub is_empty_line-push : (i : HeldLine) (g : List HeldLine) (h : HeldLine) → is_empty_line (i ∷ g ++ h ∷ []) ≡ false
 is_empty_line-push i [] h = refl
 is_empty_line-push i (j ∷ g) h = refl
 
--- ---- the first fault
+-- ---- the first malformed escape
 
--- a group that is not malformed has no fault
+-- A group without a malformed escape doesn't change the result.
 pub result-sound : (n : ℕ) (o : Outcome) (entries : List Entry) (made : List ℕ) → IsSound o → result_by (followed n o entries) made ≡ result_by entries made
 result-sound n ignored entries made h = refl
 result-sound n (given content) entries made h = refl
 result-sound n (broken kind) entries made h = absurd h
 
--- after groups that are not malformed, the first fault is that of the groups after them
+-- After groups without malformed escapes, the first malformed escape is that of the following groups.
 pub result-after : (n : ℕ) (gs hs : List (List HeldLine)) (made : List ℕ) → AreSound gs
     → result_by (entries_in n (gs ++ hs)) made ≡ result_by (entries_in (n + length (held_in gs)) hs) made
 result-after n [] hs made h = let same : n ≡ n + 0 = omega arith in ap (λ m. result_by (entries_in m hs) made) same
@@ -118,7 +118,7 @@ result-after n (g ∷ gs) hs made h =
 
 -- ---- the printed pair
 
--- with an LF it is the line that a new writer writes
+-- With an LF after it, the printed pair is the line that a new writer writes.
 pub pair_bytes-printed : (e : Encoding) (first : Bool) (key value : List ℕ)
     → pair_bytes e first key value ++ line_feed ∷ [] ≡ printed e default_settings first (pair key value)
 pair_bytes-printed e first key value =

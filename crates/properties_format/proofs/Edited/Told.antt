@@ -1,4 +1,5 @@
--- What the groups of some bytes come to, in order: a whole group in front of any bytes comes first, and the bytes come to what they come to by themselves.
+-- The outcomes of the groups of some bytes, in order: that of a whole group at the front comes first, followed by those
+-- of the bytes after it.
 use Rattle.std.proofs.Common.{◌≡◌, ℕ, ◌+◌, Bool, true, false, List, [], ◌∷◌, ◌++◌, refl, ap, ap₂, sym, ◌∙◌, inl, inr}
 use Rattle.std.proofs.lemmas.Bool.Decides.{eqb_tells}
 use Rattle.properties_format.specs.Text.{line_feed}
@@ -16,27 +17,27 @@ use Rattle.properties_format.proofs.Split.Unique.{split_of-blank}
 use Rattle.properties_format.specs.Reading.Cut.{decoded_line}
 use Rattle.properties_format.proofs.Body.Decoded.{decoded-nil}
 
--- ---- what groups come to
+-- ---- the outcomes of groups
 
--- an outcome before others; a blank line gives none
+-- an outcome before others; a blank line has none
 abbrev pub told_before : Outcome → List Outcome → List Outcome
 told_before ignored os = os
 told_before (given content) os = given content ∷ os
 told_before (broken kind) os = broken kind ∷ os
 
--- what the groups come to, in order
+-- the outcomes of the groups, in order
 abbrev pub told_by : List (List Line) → List Outcome
 told_by [] = []
 told_by (g ∷ gs) = told_before (outcome_of (joined g)) (told_by gs)
 
--- contents, and no fault among them
+-- contents as outcomes, none of them malformed
 abbrev pub givens : List Content → List Outcome
 givens [] = []
 givens (c ∷ cs) = given c ∷ givens cs
 
 -- ---- the lines of some bytes, each decoded by itself
 
--- lines of bytes with their texts, whatever their numbers
+-- lines of bytes with their texts, without numbers
 abbrev pub decoded_each : Encoding → List Line → List Line
 decoded_each e [] = []
 decoded_each e (l ∷ ls) = record { number = 0; text = decoded_line e l.text } ∷ decoded_each e ls
@@ -52,32 +53,32 @@ line_texts_in e lines = ended_lines e lines.ended ++ record { number = 0; text =
 unfoldable pub line_texts : Encoding → List ℕ → List Line
 line_texts e d = line_texts_in e (lines_of d)
 
--- what the groups of some bytes come to
+-- the outcomes of the groups of some bytes
 unfoldable pub told : Encoding → List ℕ → List Outcome
 told e d = told_by (groups_of (line_texts e d) end)
 
--- lines and then more lines, each decoded by itself
+-- Two lists of lines, each line decoded by itself.
 decoded_each-append : (e : Encoding) (ls ms : List Line) → decoded_each e (ls ++ ms) ≡ decoded_each e ls ++ decoded_each e ms
 decoded_each-append e [] ms = refl
 decoded_each-append e (l ∷ ls) ms = ap (λ v. record { number = 0; text = decoded_line e l.text } ∷ v) (decoded_each-append e ls ms)
 
--- where more may come, the numbered lines are the ended ones
+-- If more may come, the numbered lines are the ended ones.
 decoded-more : (e : Encoding) (n : ℕ) (ls : List Ended) (last : List ℕ) → decoded_each e (numbered n ls last more) ≡ ended_lines e ls
 decoded-more e n [] last = refl
 decoded-more e n (l ∷ ls) last = ap (λ v. record { number = 0; text = decoded_line e l.text } ∷ v) (decoded-more e (n + 1) ls last)
 
--- and at the end the last one too
+-- At the end of the input, the last line is one of them too.
 decoded-end : (e : Encoding) (n : ℕ) (ls : List Ended) (last : List ℕ)
     → decoded_each e (numbered n ls last end) ≡ line_texts_in e (record { ended = ls; last = last })
 decoded-end e n [] last = refl
 decoded-end e n (l ∷ ls) last = ap (λ v. record { number = 0; text = decoded_line e l.text } ∷ v) (decoded-end e (n + 1) ls last)
 
--- the lines to come of some bytes have the texts of those bytes' lines
+-- The lines to come of some bytes have the texts of those bytes' lines.
 line_texts-numbered : (e : Encoding) (n : ℕ) (d : List ℕ) → decoded_each e (lines_to_come n false [] d end) ≡ line_texts e d
 unfolding line_texts
 line_texts-numbered e n d = decoded-end e n (lines_of d).ended (lines_of d).last
 
--- The lines of bytes that end in a line end stand before those of what comes after, less an LF that belongs to a CR.
+-- The lines of bytes that end in a line end come before those of what follows, without an LF that belongs to a CR.
 pub line_texts-append : (e : Encoding) (x d : List ℕ) → (lines_of x).last ≡ []
     → line_texts e (x ++ d) ≡ ended_lines e (lines_of x).ended ++ line_texts e (rest_of_end (ends_in_cr x) d)
 line_texts-append e x d h =
@@ -88,15 +89,15 @@ line_texts-append e x d h =
     ∙ ap₂ (λ v w. v ++ w) (decoded-more e 0 ls.ended ls.last)
     (ap (λ v. decoded_each e (lines_to_come (0 + line_ends ls) (ends_in_cr x) v d end)) h ∙ line_texts-numbered e (0 + line_ends ls) (rest_of_end (ends_in_cr x) d))
 
--- ---- a group in front
+-- ---- a group at the front
 
--- the bytes end in a line end, and their lines are one whole group
+-- The bytes end in a line end, and their lines are one whole group.
 pub record IsFront (e : Encoding) (x : List ℕ) (g : List Line) : Type 0 where
   pub ended : (lines_of x).last ≡ []
   pub texts : ended_lines e (lines_of x).ended ≡ g
   pub whole : IsWhole g
 
--- such bytes in front: their group comes first, and then what comes, less an LF that belongs to a CR
+-- With such bytes at the front, their group comes first, followed by what comes without an LF that belongs to a CR.
 front-told : (e : Encoding) (x d : List ℕ) (g : List Line) → IsFront e x g
     → told e (x ++ d) ≡ told_before (outcome_of (joined g)) (told e (rest_of_end (ends_in_cr x) d))
 unfolding told
@@ -106,19 +107,19 @@ front-told e x d g h =
 
 -- ---- empty lines
 
--- an empty line comes to nothing
+-- An empty line has no outcome.
 pub outcome-empty : outcome_of [] ≡ ignored
 outcome-empty = ap split_outcome (split_of-blank [] tt)
 
--- an LF is an empty line, and a whole group
+-- An LF is an empty line, and a whole group.
 lf-front : (e : Encoding) → IsFront e (line_feed ∷ []) (record { number = 0; text = [] } ∷ [])
 lf-front e = record { ended = refl; texts = ap (λ v. record { number = 0; text = v } ∷ []) (decoded-nil e); whole = inr (refl, refl) }
 
--- an LF at the front gives nothing
+-- An LF at the front has no outcome.
 pub told-lf : (e : Encoding) (d : List ℕ) → told e (line_feed ∷ d) ≡ told e d
 told-lf e d = front-told e (line_feed ∷ []) d (record { number = 0; text = [] } ∷ []) (lf-front e) ∙ ap (λ v. told_before v (told e d)) outcome-empty
 
--- so it doesn't matter whether one is left out
+-- So it doesn't matter whether an LF at the front is left out.
 told-rest : (e : Encoding) (b : Bool) (d : List ℕ) → told e (rest_of_end b d) ≡ told e d
 told-rest e false d = refl
 told-rest e true [] = refl
@@ -127,16 +128,16 @@ told-rest e true (c ∷ d) = elim (eqb_tells c line_feed) [
   | inr k ↦ rw k.0 refl
 ]
 
--- A group in front of any bytes comes first, and the bytes come to what they come to by themselves.
+-- The outcome of a group before any bytes comes first, followed by the outcomes of those bytes.
 pub told-front : (e : Encoding) (x d : List ℕ) (g : List Line) → IsFront e x g → told e (x ++ d) ≡ told_before (outcome_of (joined g)) (told e d)
 told-front e x d g h = front-told e x d g h ∙ ap (told_before (outcome_of (joined g))) (told-rest e (ends_in_cr x) d)
 
--- no bytes come to nothing
+-- An empty list of bytes has no outcomes.
 pub told-nil : (e : Encoding) → told e [] ≡ []
 unfolding told line_texts
 told-nil e = ap (λ v. told_by (groups_of (record { number = 0; text = v } ∷ []) end)) (decoded-nil e) ∙ ap (λ v. told_before v []) outcome-empty
 
--- bytes that are one group come to what it comes to
+-- The outcome of bytes that are one group is that of the group.
 pub told-one : (e : Encoding) (d : List ℕ) (g : List Line) → line_texts e d ≡ g → groups_of g end ≡ g ∷ [] → told e d ≡ told_before (outcome_of (joined g)) []
 unfolding told
 told-one e d g h k = ap (λ v. told_by (groups_of v end)) h ∙ ap told_by k

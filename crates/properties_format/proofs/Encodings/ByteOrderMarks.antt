@@ -1,4 +1,4 @@
--- Which bytes at the front decide the byte order mark.
+-- Which bytes at the front determine the byte order mark.
 use Rattle.std.proofs.Common.{◌≡◌, ℕ, ◌≤◌, ◌==◌, ◌&&◌, ◌||◌, true, false, if◌then◌else◌, List, [], ◌∷◌, ◌++◌, length, drop, All, refl, sym, ap, ◌∙◌, inl, inr, arith}
 use Rattle.std.proofs.lemmas.List.{drop-append-le}
 use Rattle.std.proofs.lemmas.List.Elements.{All-drop}
@@ -10,11 +10,11 @@ use Rattle.properties_format.specs.Reading.Encoding.{pieces_of, decoded_of}
 use Rattle.properties_format.specs.Reading.Waiting.{begins_longer, awaits_bom}
 use Rattle.properties_format.proofs.Encodings.Characters.{pieces_of-scalar}
 
--- an encoding in force and its body, with more bytes after
+-- an encoding in force and its body, followed by more bytes
 abbrev pub followed : InForce → List ℕ → InForce
 followed m d = record { encoding = m.encoding; body = m.body ++ d }
 
--- where bytes are no beginning of a longer mark, those after them don't decide whether they begin with it
+-- If some bytes aren't the beginning of a longer mark, the bytes after them don't affect whether they begin with it.
 begins-append : (m b d : List ℕ) → begins_longer b m ≡ false → begins_with m (b ++ d) ≡ begins_with m b
 begins-append [] b d h = refl
 begins-append (m ∷ ms) [] d h = absurd (cc)
@@ -25,13 +25,13 @@ begins-append (m ∷ ms) (x ∷ b) d h = elim (cases_Bool (m == x)) [
   | inr k ↦ and_left (m == x) (begins_with ms (b ++ d)) k ∙ sym (and_left (m == x) (begins_with ms b) k)
 ]
 
--- bytes that begin with a mark are as many as it has, at least
+-- Bytes that begin with a mark are at least as many as the mark has.
 begins-length : (m b : List ℕ) → begins_with m b ≡ true → length m ≤ length b
 begins-length [] b h = omega arith
 begins-length (m ∷ ms) [] h = absurd (cc)
 begins-length (m ∷ ms) (x ∷ b) h = let k = begins-length ms b (and_parts (m == x) (begins_with ms b) h).1 in omega arith
 
--- bytes that are as many as a mark has are no beginning of a longer one
+-- Bytes that are at least as many as a mark has aren't the beginning of a longer one.
 not-longer : (b m : List ℕ) → length m ≤ length b → begins_longer b m ≡ false
 not-longer b [] h = refl
 not-longer [] (m ∷ ms) h = absurd (omega arith)
@@ -40,13 +40,13 @@ not-longer (x ∷ b) (m ∷ ms) h = elim (cases_Bool (m == x)) [
   | inr k ↦ and_left (m == x) (begins_longer b ms) k
 ]
 
--- three bytes at least don't wait
+-- At least three bytes don't wait for more.
 pub awaits_bom-long : (b : List ℕ) → 3 ≤ length b → awaits_bom b ≡ false
 awaits_bom-long b h =
     or_from (begins_longer b utf_8_bom) (begins_longer b utf_16be_bom || begins_longer b utf_16le_bom) (not-longer b utf_8_bom h)
     (or_from (begins_longer b utf_16be_bom) (begins_longer b utf_16le_bom) (not-longer b utf_16be_bom (omega arith)) (not-longer b utf_16le_bom (omega arith)))
 
--- one test of the three, over more bytes
+-- One of the three tests, with more bytes.
 choose-append : (e : Encoding) (m b d : List ℕ) (x y : InForce) → begins_longer b m ≡ false → y ≡ followed x d
     → (if begins_with m (b ++ d) then record { encoding = e; body = drop (length m) (b ++ d) } else y)
     ≡ followed (if begins_with m b then record { encoding = e; body = drop (length m) b } else x) d
@@ -55,21 +55,21 @@ choose-append e m b d x y h k = elim (cases_Bool (begins_with m b)) [
   | inr t ↦ rw (begins-append m b d h) (rw t k)
 ]
 
--- Bytes that don't wait decide the byte order mark: what follows them is in the body.
+-- Bytes that don't wait determine the byte order mark: what follows them is in the body.
 pub byte_order_mark-append : (e : Encoding) (b d : List ℕ) → awaits_bom b ≡ false → byte_order_mark e (b ++ d) ≡ followed (byte_order_mark e b) d
 byte_order_mark-append e b d h =
     let k = or_parts (begins_longer b utf_8_bom) (begins_longer b utf_16be_bom || begins_longer b utf_16le_bom) h in
     let l = or_parts (begins_longer b utf_16be_bom) (begins_longer b utf_16le_bom) k.1 in
     choose-append utf_8 utf_8_bom b d _ _ k.0 (choose-append utf_16be utf_16be_bom b d _ _ l.0 (choose-append utf_16le utf_16le_bom b d _ _ l.1 refl))
 
--- bytes that don't begin like a byte order mark are in the encoding asked for
+-- Bytes that don't begin like a byte order mark are in the requested encoding.
 pub byte_order_mark-none : (e : Encoding) (b : List ℕ) → begins_like_bom b ≡ false → byte_order_mark e b ≡ record { encoding = e; body = b }
 byte_order_mark-none e b h =
     let k = or_parts (begins_with utf_8_bom b) (begins_with utf_16be_bom b || begins_with utf_16le_bom b) h in
     let l = or_parts (begins_with utf_16be_bom b) (begins_with utf_16le_bom b) k.1 in
     rw (k.0, l.0, l.1) refl
 
--- the body is an end of the bytes
+-- The body is an end of the bytes.
 body-drop : (e : Encoding) (b : List ℕ) → (n : ℕ) × ((byte_order_mark e b).body ≡ drop n b)
 body-drop e b = elim (cases_Bool (begins_with utf_8_bom b)) [
   | inl h ↦ (3, rw h refl)
@@ -82,7 +82,7 @@ body-drop e b = elim (cases_Bool (begins_with utf_8_bom b)) [
   ]
 ]
 
--- where the input is of bytes, so is its body
+-- If the input consists of bytes, so does its body.
 pub byte_order_mark-bytes : (e : Encoding) (b : List ℕ) → All byte b → All byte (byte_order_mark e b).body
 byte_order_mark-bytes e b h = let d = body-drop e b in rw d.1 (All-drop byte d.0 b h)
 
@@ -90,10 +90,10 @@ byte_order_mark-bytes e b h = let d = body-drop e b in rw d.1 (All-drop byte d.0
 pub decoded_of-scalar : (e : Encoding) (b : List ℕ) → All byte b → All scalar (decoded_of e b)
 decoded_of-scalar e b h = pieces_of-scalar (byte_order_mark e b).encoding (byte_order_mark e b).body (byte_order_mark-bytes e b h)
 
--- bytes that don't begin like a byte order mark are decoded whole
+-- Bytes that don't begin like a byte order mark are decoded as a whole.
 pub decoded_of-unmarked : (e : Encoding) (b : List ℕ) → begins_like_bom b ≡ false → decoded_of e b ≡ characters (pieces_of e b)
 decoded_of-unmarked e b h = ap (λ v. characters (pieces_of v.encoding v.body)) (byte_order_mark-none e b h)
 
--- bytes that don't wait for a byte order mark, and others after them
+-- Bytes that don't wait for a byte order mark, followed by others.
 pub decoded_of-append : (e : Encoding) (b d : List ℕ) → awaits_bom b ≡ false → decoded_of e (b ++ d) ≡ characters (pieces_of (byte_order_mark e b).encoding ((byte_order_mark e b).body ++ d))
 decoded_of-append e b d h = ap (λ v. characters (pieces_of v.encoding v.body)) (byte_order_mark-append e b d h)

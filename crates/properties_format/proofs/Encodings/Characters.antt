@@ -1,4 +1,5 @@
--- The characters of pieces: each is a scalar value, an ASCII character has its own bytes, and what is encoded is a piece.
+-- The characters of pieces: each is a scalar value, an ASCII character has its own bytes, and an encoded character is a
+-- piece.
 use Rattle.std.proofs.Common.{◌≡◌, ℕ, ◌+◌, ◌-◌, ◌*◌, ◌<◌, true, false, nat_lt, nat_le, List, [], ◌∷◌, ◌++◌, Option, Some, None, All, refl, sym, ap, ap₂, ◌∙◌, inl, inr, arith, ltb-false, leb-false}
 use Rattle.std.specs.Char.{encode_utf8}
 use Rattle.std.specs.List.{AllByRecursion}
@@ -19,45 +20,45 @@ use Rattle.properties_format.proofs.Encodings.Utf8Characters.{encode-one, encode
 use Rattle.properties_format.proofs.Encodings.Utf8Sequences.{sequence-scalar, sequence-ascii}
 use Rattle.properties_format.proofs.Encodings.Pieces.{pieces_of-meets, pieces_of-piece}
 
--- ---- What is encoded is a piece of its character.
+-- ---- An encoded character is a piece of it.
 
--- in windows-1252 the byte that a character is encoded to is a piece of it
+-- In windows-1252, the byte of a character is a piece of it.
 windows_1252-encoded : (c : ℕ) (bs y : List ℕ) (o : Option ℕ) → windows_1252_byte c ≡ o → one_byte o ≡ Some bs → IsPiece windows_1252 (piece bs c) y
 windows_1252-encoded c bs y None e h = absurd (none-some bs h)
 windows_1252-encoded c bs y (Some b) e h =
     (b, ap₂ piece (sym (same_Some (b ∷ []) bs h)) (sym (windows_1252_character-byte c b e).0))
 
--- and so are the bytes of a scalar value in UTF-8
+-- In UTF-8, the bytes of a scalar value are a piece of it.
 utf_8-encoded : (c : ℕ) (bs y : List ℕ) → scalar c → ◌≡◌ {A = Option (List ℕ)} (Some (encode_utf8 c)) (Some bs) → IsPiece utf_8 (piece bs c) y
 utf_8-encoded c bs y h e =
     let s = same_Some (encode_utf8 c) bs e in
     let k = encode-says c h in
     rw (← s) (whole k.0 k.1)
 
--- a scalar value is encoded to a piece of it, in the encoding that is written, whatever follows
+-- In the encoding that is written, the bytes of a scalar value are a piece of it, whatever follows.
 pub encoded-piece : (e : Encoding) (c : ℕ) (bs y : List ℕ) → scalar c → encoded e c ≡ Some bs → IsPiece (output_encoding e) (piece bs c) y
 encoded-piece windows_1252 c bs y h k = windows_1252-encoded c bs y (windows_1252_byte c) refl k
 encoded-piece utf_8 c bs y h k = utf_8-encoded c bs y h k
 encoded-piece utf_16le c bs y h k = utf_8-encoded c bs y h k
 encoded-piece utf_16be c bs y h k = utf_8-encoded c bs y h k
 
--- Decoding inverts encoding: an encoded character in front is its piece, whatever follows.
+-- Decoding inverts encoding: an encoded character at the front is its piece, whatever follows.
 pub pieces_of-encoded : (e : Encoding) (c : ℕ) (bs y : List ℕ) → scalar c → encoded e c ≡ Some bs
     → pieces_of (output_encoding e) (bs ++ y) ≡ piece bs c ∷ pieces_of (output_encoding e) y
 pieces_of-encoded e c bs y h k = pieces_of-piece (output_encoding e) (piece bs c) y (encoded-piece e c bs y h k)
 
 -- ---- An ASCII character.
 
--- a unit below 80 hexadecimal is no surrogate
+-- A unit below 80 hexadecimal isn't a surrogate.
 not-surrogate : (u : ℕ) → u < 0x80 → (is_high u ≡ false) × (is_low u ≡ false)
 not-surrogate u h =
     (and_left (nat_le 0xd800 u) (nat_lt u 0xdc00) (lt-leb 0xd800 u (omega arith)), and_left (nat_le 0xdc00 u) (nat_lt u 0xe000) (lt-leb 0xdc00 u (omega arith)))
 
--- and so no low one
+-- A unit below 80 hexadecimal isn't a low surrogate.
 pub ascii-not_low : (u : ℕ) → u < 0x80 → is_low u ≡ false
 ascii-not_low u h = (not-surrogate u h).1
 
--- its bytes are a piece of it, whatever follows
+-- The bytes of an ASCII character are a piece of it, whatever follows.
 pub ascii-piece : (e : Encoding) (c : ℕ) (y : List ℕ) → c < 0x80 → IsPiece e (piece (ascii_bytes e c) c) y
 ascii-piece windows_1252 c y h = (c, ap (λ v. piece (c ∷ []) v) (sym (windows_1252_character-ascii c h)))
 ascii-piece utf_8 c y h = encoded-piece utf_8 c (c ∷ []) y (inl (omega arith)) (ap Some (encode-one c h))
@@ -70,17 +71,17 @@ ascii-piece utf_16be c y h =
     let k = not-surrogate (high_first 0 c) (omega arith) in
     plain 0 c (ap (λ v. piece (0 ∷ c ∷ []) v) e) k.0 k.1
 
--- its bytes in front are the first piece, whatever follows
+-- The bytes of an ASCII character at the front are the first piece, whatever follows.
 pub pieces_of-ascii : (e : Encoding) (c : ℕ) (y : List ℕ) → c < 0x80 → pieces_of e (ascii_bytes e c ++ y) ≡ piece (ascii_bytes e c) c ∷ pieces_of e y
 pieces_of-ascii e c y h = pieces_of-piece e (piece (ascii_bytes e c) c) y (ascii-piece e c y h)
 
--- a piece of it has its bytes
+-- In UTF-8, a piece of an ASCII character has that character's bytes.
 utf_8-ascii : (p : Piece) (rest : List ℕ) → IsUtf8Piece p rest → p.character < 0x80 → p.bytes ≡ p.character ∷ []
 utf_8-ascii p rest (whole h e) l = rw e (sequence-ascii p.bytes h (rw e at l))
 utf_8-ascii p rest (stray b e h) l = let q : p.character ≡ replacement = ap (λ v. v.character) e in absurd (omega arith)
 utf_8-ascii p rest (broken b bs e h k) l = let q : p.character ≡ replacement = ap (λ v. v.character) e in absurd (omega arith)
 
--- in UTF-16 the unit says which bytes
+-- In UTF-16, the unit determines which bytes a piece of an ASCII character has.
 utf_16-ascii : (unit : ℕ → ℕ → ℕ) (bytes : ℕ → List ℕ) → ((a b : ℕ) → unit a b < 0x80 → a ∷ b ∷ [] ≡ bytes (unit a b))
     → (p : Piece) (rest : List ℕ) → IsUtf16Piece unit p rest → p.character < 0x80 → p.bytes ≡ bytes p.character
 utf_16-ascii unit bytes f p rest (pair a b c d e h k) l =
@@ -92,21 +93,21 @@ utf_16-ascii unit bytes f p rest (high_last a b e h s) l = let q : p.character �
 utf_16-ascii unit bytes f p rest (byte_last a e s) l = let q : p.character ≡ replacement = ap (λ v. v.character) e in absurd (omega arith)
 utf_16-ascii unit bytes f p rest (both_last a b c e h s) l = let q : p.character ≡ replacement = ap (λ v. v.character) e in absurd (omega arith)
 
--- a unit below 80 hexadecimal, low byte first, is that byte and a 0
+-- With the low byte first, a unit below 80 hexadecimal is that byte and a 0.
 low-bytes : (a b : ℕ) → low_first a b < 0x80 → a ∷ b ∷ [] ≡ low_first a b ∷ 0 ∷ []
 low-bytes a b h =
     let e : a ≡ b * 0x100 + a = omega arith in
     let k : b ≡ 0 = omega arith in
     ap₂ (λ v w. v ∷ w ∷ []) e k
 
--- and high byte first, a 0 and that byte
+-- With the high byte first, a unit below 80 hexadecimal is a 0 and that byte.
 high-bytes : (a b : ℕ) → high_first a b < 0x80 → a ∷ b ∷ [] ≡ 0 ∷ high_first a b ∷ []
 high-bytes a b h =
     let e : b ≡ a * 0x100 + b = omega arith in
     let k : a ≡ 0 = omega arith in
     ap₂ (λ v w. v ∷ w ∷ []) k e
 
--- in each encoding, a piece of it has its bytes
+-- In each encoding, a piece of an ASCII character has that character's bytes.
 pub piece-ascii : (e : Encoding) (p : Piece) (rest : List ℕ) → IsPiece e p rest → p.character < 0x80 → p.bytes ≡ ascii_bytes e p.character
 piece-ascii windows_1252 p rest (b, e) l =
     let q : p.character ≡ windows_1252_character b = ap (λ v. v.character) e in
@@ -118,11 +119,11 @@ piece-ascii utf_16be p rest h l = utf_16-ascii high_first (λ c. 0 ∷ c ∷ [])
 
 -- ---- Each character is a scalar value.
 
--- U+FFFD is one
+-- U+FFFD is a scalar value.
 replacement-scalar : scalar replacement
 replacement-scalar = inr (omega arith, omega arith)
 
--- a unit of two bytes that is no surrogate is one
+-- A unit of two bytes that isn't a surrogate is a scalar value.
 unit-scalar : (u : ℕ) → u < 0x1_0000 → is_high u ≡ false → is_low u ≡ false → scalar u
 unit-scalar u l h k = elim (and_cases (nat_le 0xd800 u) (nat_lt u 0xdc00) h) [
   | inl a ↦ let m : u < 0xd800 = leb-false 0xd800 u a in inl m
@@ -132,21 +133,21 @@ unit-scalar u l h k = elim (and_cases (nat_le 0xd800 u) (nat_lt u 0xdc00) h) [
   ]
 ]
 
--- and so is the character of a high surrogate and a low one
+-- The character of a high and a low surrogate is a scalar value.
 pub pair-scalar : (u v : ℕ) → is_high u ≡ true → is_low v ≡ true → scalar (pair_character u v)
 pair-scalar u v h k = grind (arith, nat_tests)
 
--- the character of a piece, along an equation of the piece
+-- The character of a piece that equals another.
 character-at : (p : Piece) (bytes : List ℕ) (c : ℕ) → p ≡ piece bytes c → scalar c → scalar p.character
 character-at p bytes c e h = rw e h
 
--- the character of a piece of UTF-8
+-- The character of a piece of UTF-8 is a scalar value.
 utf_8-scalar : (p : Piece) (rest : List ℕ) → IsUtf8Piece p rest → scalar p.character
 utf_8-scalar p rest (whole h e) = rw e (sequence-scalar p.bytes h)
 utf_8-scalar p rest (stray b e h) = character-at p (b ∷ []) replacement e replacement-scalar
 utf_8-scalar p rest (broken b bs e h k) = character-at p (b ∷ bs) replacement e replacement-scalar
 
--- the character of a piece of UTF-16 that is of bytes
+-- The character of a piece of UTF-16 that consists of bytes is a scalar value.
 utf_16-scalar : (unit : ℕ → ℕ → ℕ) → ((a b : ℕ) → byte a → byte b → unit a b < 0x1_0000)
     → (p : Piece) (rest : List ℕ) → IsUtf16Piece unit p rest → AllByRecursion byte p.bytes → scalar p.character
 utf_16-scalar unit f p rest (pair a b c d e h k) l = character-at p (a ∷ b ∷ c ∷ d ∷ []) (pair_character (unit a b) (unit c d)) e (pair-scalar (unit a b) (unit c d) h k)
@@ -159,30 +160,30 @@ utf_16-scalar unit f p rest (high_last a b e h s) l = character-at p (a ∷ b �
 utf_16-scalar unit f p rest (byte_last a e s) l = character-at p (a ∷ []) replacement e replacement-scalar
 utf_16-scalar unit f p rest (both_last a b c e h s) l = character-at p (a ∷ b ∷ c ∷ []) replacement e replacement-scalar
 
--- in each encoding, the character of a piece that is of bytes
+-- In each encoding, the character of a piece that consists of bytes is a scalar value.
 pub piece-scalar : (e : Encoding) (p : Piece) (rest : List ℕ) → IsPiece e p rest → AllByRecursion byte p.bytes → scalar p.character
 piece-scalar windows_1252 p rest (b, e) l = let m = rw e at l in character-at p (b ∷ []) (windows_1252_character b) e (windows_1252-scalar b m.0)
 piece-scalar utf_8 p rest h l = utf_8-scalar p rest h
 piece-scalar utf_16le p rest h l = utf_16-scalar low_first (λ a b i j. omega arith) p rest h l
 piece-scalar utf_16be p rest h l = utf_16-scalar high_first (λ a b i j. omega arith) p rest h l
 
--- the front of bytes is of bytes
+-- The front of a list of bytes is a list of bytes.
 front-bytes : (xs ys : List ℕ) → AllByRecursion byte (xs ++ ys) → AllByRecursion byte xs
 front-bytes [] ys h = tt
 front-bytes (x ∷ xs) ys h = (h.0, front-bytes xs ys h.1)
 
--- and so is the rest
+-- The rest of a list of bytes is a list of bytes.
 back-bytes : (xs ys : List ℕ) → AllByRecursion byte (xs ++ ys) → AllByRecursion byte ys
 back-bytes [] ys h = h
 back-bytes (x ∷ xs) ys h = back-bytes xs ys h.1
 
--- the characters of all pieces of bytes
+-- The characters of all pieces of bytes are scalar values.
 pieces-scalar : (e : Encoding) (d : List ℕ) (ps : List Piece) → IsPieces e d ps → AllByRecursion byte d → All scalar (characters ps)
 pieces-scalar e d [] h l = All-nil scalar
 pieces-scalar e d (p ∷ ps) (rest, s, h, k) l =
     let m : AllByRecursion byte (p.bytes ++ rest) = rw s at l in
     All-cons scalar p.character (characters ps) (piece-scalar e p rest h (front-bytes p.bytes rest m)) (pieces-scalar e rest ps k (back-bytes p.bytes rest m))
 
--- and so those of the pieces that are read
+-- The characters of the computed pieces are scalar values.
 pub pieces_of-scalar : (e : Encoding) (d : List ℕ) → All byte d → All scalar (characters (pieces_of e d))
 pieces_of-scalar e d h = pieces-scalar e d (pieces_of e d) (pieces_of-meets e d) (recursion_from_All byte d h)

@@ -1,4 +1,4 @@
--- Where bytes may be cut so that their pieces are those of their parts.
+-- Where bytes may be cut so that their pieces are the pieces of the parts.
 use Rattle.std.proofs.Common.{◌≡◌, ℕ, ◌+◌, ◌<◌, List, [], ◌∷◌, ◌++◌, length, refl, sym, ap, ap₂, ◌∙◌, subst, arith, append_assoc, append-nil, length-append}
 use Rattle.properties_format.specs.Pieces.{Piece, piece, characters}
 use Rattle.properties_format.specs.Encoding.{Encoding, IsPiece, IsPieces, IsAligned, ascii_bytes}
@@ -7,7 +7,7 @@ use Rattle.properties_format.proofs.Encodings.Pieces.{piece-length, pieces_of-me
 use Rattle.properties_format.proofs.Encodings.Characters.{pieces_of-ascii, piece-ascii}
 use Rattle.properties_format.proofs.Encodings.PieceEnds.{piece-more, piece-less, piece-aligned, piece-anew, aligned-nil, aligned-append, aligned-back, BeginsAnew, ascii-anew}
 
--- ---- Bytes added after.
+-- ---- Bytes added at the end.
 
 -- the last piece, if there is one, stays a piece before these bytes
 abbrev pub LastStands : Encoding → List Piece → List ℕ → Type 0
@@ -15,13 +15,14 @@ LastStands e [] y = Unit {0}
 LastStands e (p ∷ []) y = IsPiece e p y
 LastStands e (p ∷ q ∷ ps) y = LastStands e (q ∷ ps) y
 
--- some pieces have a byte
+-- Bytes with a piece aren't empty.
 pieces-length : (e : Encoding) (d : List ℕ) (p : Piece) (ps : List Piece) → IsPieces e d (p ∷ ps) → 0 < length d
 pieces-length e d p ps (rest, s, h, k) =
     let l = piece-length e p rest h in
     let m : length d ≡ length (p.bytes ++ rest) = ap length s in omega arith
 
--- where the last piece stands before the bytes after, pieces and then theirs are the pieces of both
+-- If the last piece stays a piece before the bytes after it, the pieces of both are the pieces of the first followed by
+-- those of the second.
 pub pieces-append : (e : Encoding) (x y : List ℕ) (ps qs : List Piece) → IsPieces e x ps → LastStands e ps y → IsPieces e y qs → IsPieces e (x ++ y) (ps ++ qs)
 pieces-append e x y [] qs h l k = rw h k
 pieces-append e x y (p ∷ []) qs (rest, s, h, m) l k =
@@ -30,12 +31,12 @@ pieces-append e x y (p ∷ []) qs (rest, s, h, m) l k =
 pieces-append e x y (p ∷ q ∷ ps) qs (rest, s, h, m) l k =
     (rest ++ y, ap (λ v. v ++ y) s ∙ append_assoc p.bytes rest y, piece-more e p rest y (pieces-length e rest q ps m) h, pieces-append e rest y (q ∷ ps) qs m l k)
 
--- The pieces of bytes at whose end a piece stands, and then those of the bytes after.
+-- The pieces of bytes that end in such a piece, followed by those of the bytes after them.
 pub pieces_of-append : (e : Encoding) (x y : List ℕ) → LastStands e (pieces_of e x) y → pieces_of e (x ++ y) ≡ pieces_of e x ++ pieces_of e y
 pieces_of-append e x y h =
     sym (pieces_of-only e (x ++ y) (pieces_of e x ++ pieces_of e y) (pieces-append e x y (pieces_of e x) (pieces_of e y) (pieces_of-meets e x) h (pieces_of-meets e y)))
 
--- a last piece stays one before bytes that begin anew
+-- A last piece stays one before bytes that begin anew.
 last-anew : (e : Encoding) (x y : List ℕ) (ps : List Piece) → BeginsAnew e y → IsAligned e x → IsPieces e x ps → LastStands e ps y
 last-anew e x y [] h a k = tt
 last-anew e x y (p ∷ []) h a (rest, s, m, t) =
@@ -45,13 +46,13 @@ last-anew e x y (p ∷ q ∷ ps) h a (rest, s, m, t) =
     let b = piece-aligned e p rest (pieces-length e rest q ps t) m in
     last-anew e rest y (q ∷ ps) h (aligned-back e p.bytes rest b (rw s at a)) t
 
--- the pieces of whole units and then those of bytes that begin anew
+-- The pieces of whole units, followed by those of bytes that begin anew.
 pub pieces_of-anew : (e : Encoding) (x y : List ℕ) → IsAligned e x → BeginsAnew e y → pieces_of e (x ++ y) ≡ pieces_of e x ++ pieces_of e y
 pieces_of-anew e x y a h = pieces_of-append e x y (last-anew e x y (pieces_of e x) h a (pieces_of-meets e x))
 
 -- ---- A cut before any piece.
 
--- the bytes x and y, cut between these pieces
+-- The bytes x and y, cut between these pieces.
 pub record IsCut (e : Encoding) (d x y : List ℕ) (ps qs : List Piece) : Type 0 where
   pub joins : d ≡ x ++ y
   pub aligned : IsAligned e x
@@ -61,7 +62,7 @@ pub record IsCut (e : Encoding) (d x y : List ℕ) (ps qs : List Piece) : Type 0
 abbrev pub Cut : Encoding → List ℕ → List Piece → List Piece → Type 0
 Cut e d ps qs = (x : List ℕ) × (y : List ℕ) × IsCut e d x y ps qs
 
--- one more piece in front of a cut
+-- One more piece before a cut.
 cut-more : (e : Encoding) (d rest x y : List ℕ) (p q : Piece) (ps qs : List Piece) → d ≡ p.bytes ++ rest → IsPiece e p rest → IsCut e rest x y ps (q ∷ qs)
     → IsCut e d (p.bytes ++ x) y (p ∷ ps) (q ∷ qs)
 cut-more e d rest x y p q ps qs s h c =
@@ -76,37 +77,37 @@ cut-more e d rest x y p q ps qs s h c =
       back = c.back;
     }
 
--- bytes may be cut before any of their pieces
+-- Bytes may be cut before any of their pieces.
 pub pieces-cut : (e : Encoding) (d : List ℕ) (ps : List Piece) (q : Piece) (qs : List Piece) → IsPieces e d (ps ++ q ∷ qs) → Cut e d ps (q ∷ qs)
 pieces-cut e d [] q qs h = ([], d, record { joins = refl; aligned = aligned-nil e; front = refl; back = h })
 pieces-cut e d (p ∷ ps) q qs (rest, s, h, k) =
     let c = pieces-cut e rest ps q qs k in
     (p.bytes ++ c.0, c.1, cut-more e d rest c.0 c.1 p q ps qs s h c.2)
 
--- ---- A cut at an ASCII character, as at a line end.
+-- ---- A cut at an ASCII character, such as a line end.
 
--- the characters of pieces and then of more pieces
+-- The characters of two lists of pieces.
 pub characters-append : (ps qs : List Piece) → characters (ps ++ qs) ≡ characters ps ++ characters qs
 characters-append [] qs = refl
 characters-append (p ∷ ps) qs = ap (λ v. p.character ∷ v) (characters-append ps qs)
 
--- The bytes of an ASCII character, where a unit may begin, part the pieces before it and those after it.
+-- The bytes of an ASCII character, at a unit's boundary, separate the pieces before them from those after them.
 pub pieces_of-cut_ascii : (e : Encoding) (c : ℕ) (x y : List ℕ) → c < 0x80 → IsAligned e x
     → pieces_of e (x ++ (ascii_bytes e c ++ y)) ≡ pieces_of e x ++ piece (ascii_bytes e c) c ∷ pieces_of e y
 pieces_of-cut_ascii e c x y h a =
     pieces_of-anew e x (ascii_bytes e c ++ y) a (ascii-anew e c y h) ∙ ap (λ v. pieces_of e x ++ v) (pieces_of-ascii e c y h)
 
--- And so the characters before it and those after it.
+-- They separate the characters before them from those after them.
 pub characters-cut_ascii : (e : Encoding) (c : ℕ) (x y : List ℕ) → c < 0x80 → IsAligned e x
     → characters (pieces_of e (x ++ (ascii_bytes e c ++ y))) ≡ characters (pieces_of e x) ++ c ∷ characters (pieces_of e y)
 characters-cut_ascii e c x y h a =
     ap characters (pieces_of-cut_ascii e c x y h a) ∙ characters-append (pieces_of e x) (piece (ascii_bytes e c) c ∷ pieces_of e y)
 
--- the place of a character among the pieces
+-- the position of a character among the pieces
 abbrev Place : List Piece → List ℕ → ℕ → List ℕ → Type 0
 Place ps t c s = (qs : List Piece) × (p : Piece) × (rs : List Piece) × (ps ≡ qs ++ p ∷ rs) × (characters qs ≡ t) × (p.character ≡ c) × (characters rs ≡ s)
 
--- a character among those of pieces is the character of one of them
+-- A character among those of pieces is the character of one of them.
 place-of : (ps : List Piece) (t : List ℕ) (c : ℕ) (s : List ℕ) → characters ps ≡ t ++ c ∷ s → Place ps t c s
 place-of [] [] c s h = absurd (cc)
 place-of [] (b ∷ t) c s h = absurd (cc)
@@ -120,14 +121,14 @@ place-of (p ∷ ps) (b ∷ t) c s h =
     let m = place-of ps t c s l in
     (p ∷ m.0, m.1, m.2, ap (λ v. p ∷ v) {y = m.0 ++ m.1 ∷ m.2} m.3, ap₂ (λ v w. v ∷ w) k m.4, m.5, m.6)
 
--- the bytes around those of an ASCII character, and what they are decoded to
+-- The bytes around those of an ASCII character, and what they decode to.
 pub record IsCutAt (e : Encoding) (d : List ℕ) (t : List ℕ) (c : ℕ) (s : List ℕ) (x y : List ℕ) : Type 0 where
   pub joins : d ≡ x ++ (ascii_bytes e c ++ y)
   pub aligned : IsAligned e x
   pub front : characters (pieces_of e x) ≡ t
   pub back : characters (pieces_of e y) ≡ s
 
--- An ASCII character that is decoded comes of its bytes, where a unit may begin, and of nothing else.
+-- A decoded ASCII character was decoded from its own bytes, at a unit's boundary, and from nothing else.
 pub cut-at_ascii : (e : Encoding) (d t : List ℕ) (c : ℕ) (s : List ℕ) → c < 0x80 → characters (pieces_of e d) ≡ t ++ c ∷ s → (x : List ℕ) × (y : List ℕ) × IsCutAt e d t c s x y
 cut-at_ascii e d t c s l h = found (place-of (pieces_of e d) t c s h)
   where

@@ -1,4 +1,4 @@
--- How far a piece depends on what stands after it.
+-- How far a piece depends on what follows it.
 use Rattle.std.proofs.Common.{◌≡◌, ℕ, ◌%◌, ◌<◌, true, false, List, [], ◌∷◌, ◌++◌, length, refl, ap, arith, length-append}
 use Rattle.properties_format.specs.Text.{replacement}
 use Rattle.properties_format.specs.Pieces.{Piece, piece}
@@ -13,19 +13,19 @@ use Rattle.properties_format.proofs.Encodings.Characters.{ascii-not_low}
 abbrev IsEven : List ℕ → Type 0
 IsEven x = length x % 2 ≡ 0
 
--- ---- More bytes after.
+-- ---- More bytes after the piece.
 
--- a byte that breaks a sequence does so whatever follows it
+-- A byte that breaks a sequence off does so whatever follows it.
 breaks-more : (bs : List ℕ) (b : ℕ) (rest y : List ℕ) → NextBreaks bs (b ∷ rest) → NextBreaks bs (b ∷ rest ++ y)
 breaks-more bs b rest y h = h
 
--- in UTF-8 a piece that has a byte after it stays one
+-- In UTF-8, a piece that a byte follows stays one with more bytes after it.
 utf_8-more : (p : Piece) (b : ℕ) (rest y : List ℕ) → IsUtf8Piece p (b ∷ rest) → IsUtf8Piece p (b ∷ rest ++ y)
 utf_8-more p b rest y (whole h e) = whole h e
 utf_8-more p b rest y (stray a e h) = stray a e h
 utf_8-more p b rest y (broken a bs e h k) = broken a bs e h (breaks-more (a ∷ bs) b rest y k)
 
--- and in UTF-16
+-- In UTF-16, a piece that a byte follows stays one with more bytes after it.
 utf_16-more : (unit : ℕ → ℕ → ℕ) (p : Piece) (b : ℕ) (rest y : List ℕ) → IsUtf16Piece unit p (b ∷ rest) → IsUtf16Piece unit p (b ∷ rest ++ y)
 utf_16-more unit p b rest y (pair a1 a2 a3 a4 e h k) = pair a1 a2 a3 a4 e h k
 utf_16-more unit p b rest y (plain a1 a2 e h k) = plain a1 a2 e h k
@@ -35,7 +35,7 @@ utf_16-more unit p b rest y (high_last a1 a2 e h s) = absurd (cc)
 utf_16-more unit p b rest y (byte_last a1 e s) = absurd (cc)
 utf_16-more unit p b rest y (both_last a1 a2 a3 e h s) = absurd (cc)
 
--- a piece that has a byte after it stays one, whatever follows
+-- A piece that a byte follows stays one, whatever comes after that byte.
 pub piece-more : (e : Encoding) (p : Piece) (rest y : List ℕ) → 0 < length rest → IsPiece e p rest → IsPiece e p (rest ++ y)
 piece-more e p [] y l h = absurd (omega arith)
 piece-more windows_1252 p (b ∷ rest) y l h = h
@@ -43,25 +43,25 @@ piece-more utf_8 p (b ∷ rest) y l h = utf_8-more p b rest y h
 piece-more utf_16le p (b ∷ rest) y l h = utf_16-more low_first p b rest y h
 piece-more utf_16be p (b ∷ rest) y l h = utf_16-more high_first p b rest y h
 
--- ---- Fewer bytes after.
+-- ---- Fewer bytes after the piece.
 
--- bytes that break a sequence do so where fewer of them come
+-- Bytes that break a sequence off still do if fewer of them follow.
 breaks-less : (bs rest z : List ℕ) → NextBreaks bs (rest ++ z) → NextBreaks bs rest
 breaks-less bs [] z h = tt
 breaks-less bs (b ∷ rest) z h = h
 
--- in UTF-8 a piece stays one where fewer bytes come after it
+-- In UTF-8, a piece stays one if fewer bytes follow it.
 utf_8-less : (p : Piece) (rest z : List ℕ) → IsUtf8Piece p (rest ++ z) → IsUtf8Piece p rest
 utf_8-less p rest z (whole h e) = whole h e
 utf_8-less p rest z (stray a e h) = stray a e h
 utf_8-less p rest z (broken a bs e h k) = broken a bs e h (breaks-less (a ∷ bs) rest z k)
 
--- the front of no bytes is none
+-- The front of an empty list is empty.
 no-front : (rest z : List ℕ) → rest ++ z ≡ [] → rest ≡ []
 no-front [] z h = refl
 no-front (b ∷ rest) z h = cc
 
--- a high surrogate before a unit that is not low stays alone where fewer units come after it
+-- A high surrogate before a unit that isn't low stays unpaired if fewer units follow it.
 alone-less : (unit : ℕ → ℕ → ℕ) (a b c d : ℕ) (more rest z : List ℕ) → IsEven rest → is_high (unit a b) ≡ true → rest ++ z ≡ c ∷ d ∷ more → is_low (unit c d) ≡ false
     → IsUtf16Piece unit (piece (a ∷ b ∷ []) replacement) rest
 alone-less unit a b c d more [] z l h s k = high_last a b refl h refl
@@ -71,7 +71,7 @@ alone-less unit a b c d more (x1 ∷ x2 ∷ rest) z l h s k =
     let f : x2 ≡ d = cc in
     high_alone a b x1 x2 rest refl h refl (rw (e, f) k)
 
--- in UTF-16 a piece stays one where fewer units come after it
+-- In UTF-16, a piece stays one if fewer units follow it.
 utf_16-less : (unit : ℕ → ℕ → ℕ) (p : Piece) (rest z : List ℕ) → IsEven rest → IsUtf16Piece unit p (rest ++ z) → IsUtf16Piece unit p rest
 utf_16-less unit p rest z l (pair a1 a2 a3 a4 e h k) = pair a1 a2 a3 a4 e h k
 utf_16-less unit p rest z l (plain a1 a2 e h k) = plain a1 a2 e h k
@@ -81,45 +81,45 @@ utf_16-less unit p rest z l (high_last a1 a2 e h s) = high_last a1 a2 e h (no-fr
 utf_16-less unit p rest z l (byte_last a1 e s) = byte_last a1 e (no-front rest z s)
 utf_16-less unit p rest z l (both_last a1 a2 a3 e h s) = both_last a1 a2 a3 e h (no-front rest z s)
 
--- in each encoding a piece stays one before the whole units at the front of what comes after it
+-- In each encoding, a piece stays one if only whole units from the front of what follows come after it.
 pub piece-less : (e : Encoding) (p : Piece) (rest z : List ℕ) → IsAligned e rest → IsPiece e p (rest ++ z) → IsPiece e p rest
 piece-less windows_1252 p rest z l h = h
 piece-less utf_8 p rest z l h = utf_8-less p rest z h
 piece-less utf_16le p rest z l h = utf_16-less low_first p rest z l h
 piece-less utf_16be p rest z l h = utf_16-less high_first p rest z l h
 
--- ---- Where units may begin.
+-- ---- Boundaries of units.
 
--- where there are no bytes, a unit may begin
+-- An empty list ends at a unit's boundary.
 pub aligned-nil : (e : Encoding) → IsAligned e []
 aligned-nil windows_1252 = tt
 aligned-nil utf_8 = tt
 aligned-nil utf_16le = refl
 aligned-nil utf_16be = refl
 
--- an even number of bytes and then another are an even number
+-- An even number of bytes followed by an even number is an even number of bytes.
 even-append : (x y : List ℕ) → IsEven x → IsEven y → IsEven (x ++ y)
 even-append x y h k = let l = length-append x y in omega arith
 
--- where some and all of the bytes are even in number, the others are
+-- If the whole and its first part are even in number, so is the second part.
 even-back : (x y : List ℕ) → IsEven x → IsEven (x ++ y) → IsEven y
 even-back x y h k = let l = length-append x y in omega arith
 
--- and after whole units and then more whole units
+-- Whole units followed by whole units end at a unit's boundary.
 pub aligned-append : (e : Encoding) (x y : List ℕ) → IsAligned e x → IsAligned e y → IsAligned e (x ++ y)
 aligned-append windows_1252 x y h k = tt
 aligned-append utf_8 x y h k = tt
 aligned-append utf_16le x y h k = even-append x y h k
 aligned-append utf_16be x y h k = even-append x y h k
 
--- and after what follows whole units, where one may after both together
+-- If whole units come first and the whole ends at a unit's boundary, so does the second part.
 pub aligned-back : (e : Encoding) (x y : List ℕ) → IsAligned e x → IsAligned e (x ++ y) → IsAligned e y
 aligned-back windows_1252 x y h k = tt
 aligned-back utf_8 x y h k = tt
 aligned-back utf_16le x y h k = even-back x y h k
 aligned-back utf_16be x y h k = even-back x y h k
 
--- in UTF-16 a piece that has a byte after it has an even number of bytes
+-- In UTF-16, a piece that a byte follows has an even number of bytes.
 utf_16-even : (unit : ℕ → ℕ → ℕ) (p : Piece) (b : ℕ) (rest : List ℕ) → IsUtf16Piece unit p (b ∷ rest) → IsEven p.bytes
 utf_16-even unit p b rest (pair a1 a2 a3 a4 e h k) = rw e refl
 utf_16-even unit p b rest (plain a1 a2 e h k) = rw e refl
@@ -129,7 +129,7 @@ utf_16-even unit p b rest (high_last a1 a2 e h s) = absurd (cc)
 utf_16-even unit p b rest (byte_last a1 e s) = absurd (cc)
 utf_16-even unit p b rest (both_last a1 a2 a3 e h s) = absurd (cc)
 
--- a piece that has a byte after it ends where a unit may begin
+-- A piece that a byte follows ends at a unit's boundary.
 pub piece-aligned : (e : Encoding) (p : Piece) (rest : List ℕ) → 0 < length rest → IsPiece e p rest → IsAligned e p.bytes
 piece-aligned e p [] l h = absurd (omega arith)
 piece-aligned windows_1252 p (b ∷ rest) l h = tt
@@ -148,31 +148,31 @@ NotLow unit [] = Unit {0}
 NotLow unit (c ∷ []) = ⊥
 NotLow unit (c ∷ d ∷ y) = is_low (unit c d) ≡ false
 
--- in UTF-8 the first byte is no tail byte, and in UTF-16 the first unit is whole and not low
+-- In UTF-8, the first byte isn't a tail byte. In UTF-16, the first unit is whole and isn't a low surrogate.
 abbrev pub BeginsAnew : Encoding → List ℕ → Type 0
 BeginsAnew windows_1252 y = Unit {0}
 BeginsAnew utf_8 y = NotTail y
 BeginsAnew utf_16le y = NotLow low_first y
 BeginsAnew utf_16be y = NotLow high_first y
 
--- where the first byte is no tail byte, it breaks every sequence that has begun
+-- A first byte that isn't a tail byte breaks every sequence off.
 breaks-anew : (b : ℕ) (bs y : List ℕ) → NotTail y → NextBreaks (b ∷ bs) y
 breaks-anew b bs [] h = tt
 breaks-anew b bs (c ∷ y) h = λ k. let f = begins-front b (bs ++ c ∷ []) k in h (next-tail b f.0 bs c f.1 f.2)
 
--- in UTF-8 a last piece stays one before them
+-- In UTF-8, a last piece stays one before such bytes.
 utf_8-anew : (p : Piece) (y : List ℕ) → NotTail y → IsUtf8Piece p [] → IsUtf8Piece p y
 utf_8-anew p y l (whole h e) = whole h e
 utf_8-anew p y l (stray a e h) = stray a e h
 utf_8-anew p y l (broken a bs e h k) = broken a bs e h (breaks-anew a bs y l)
 
--- a high surrogate is alone before them
+-- A high surrogate stays unpaired before such bytes.
 high-anew : (unit : ℕ → ℕ → ℕ) (a b : ℕ) (y : List ℕ) → NotLow unit y → is_high (unit a b) ≡ true → IsUtf16Piece unit (piece (a ∷ b ∷ []) replacement) y
 high-anew unit a b [] l h = high_last a b refl h refl
 high-anew unit a b (c ∷ []) l h = absurd l
 high-anew unit a b (c ∷ d ∷ y) l h = high_alone a b c d y refl h refl l
 
--- in UTF-16 a last piece of whole units stays one before them
+-- In UTF-16, a last piece of whole units stays one before such bytes.
 utf_16-anew : (unit : ℕ → ℕ → ℕ) (p : Piece) (y : List ℕ) → NotLow unit y → IsEven p.bytes → IsUtf16Piece unit p [] → IsUtf16Piece unit p y
 utf_16-anew unit p y l m (pair a1 a2 a3 a4 e h k) = pair a1 a2 a3 a4 e h k
 utf_16-anew unit p y l m (plain a1 a2 e h k) = plain a1 a2 e h k
@@ -182,14 +182,14 @@ utf_16-anew unit p y l m (high_last a1 a2 e h s) = rw e (high-anew unit a1 a2 y 
 utf_16-anew unit p y l m (byte_last a1 e s) = let q : length p.bytes ≡ 1 = ap (λ v. length v.bytes) e in absurd (omega arith)
 utf_16-anew unit p y l m (both_last a1 a2 a3 e h s) = let q : length p.bytes ≡ 3 = ap (λ v. length v.bytes) e in absurd (omega arith)
 
--- a last piece stays one before them
+-- A last piece stays one before such bytes.
 pub piece-anew : (e : Encoding) (p : Piece) (y : List ℕ) → BeginsAnew e y → IsAligned e p.bytes → IsPiece e p [] → IsPiece e p y
 piece-anew windows_1252 p y l m h = h
 piece-anew utf_8 p y l m h = utf_8-anew p y l h
 piece-anew utf_16le p y l m h = utf_16-anew low_first p y l m h
 piece-anew utf_16be p y l m h = utf_16-anew high_first p y l m h
 
--- the bytes of an ASCII character are such
+-- The bytes of an ASCII character are such bytes.
 pub ascii-anew : (e : Encoding) (c : ℕ) (y : List ℕ) → c < 0x80 → BeginsAnew e (ascii_bytes e c ++ y)
 ascii-anew windows_1252 c y h = tt
 ascii-anew utf_8 c y h = λ k. omega arith

@@ -1,4 +1,4 @@
--- The pieces of some bytes are what is read, and nothing else is.
+-- The pieces of some bytes are the computed ones, and no others.
 use Rattle.std.proofs.Common.{◌≡◌, ℕ, zero, suc, ◌+◌, ◌<◌, ◌≤◌, List, [], ◌∷◌, ◌++◌, length, drop, refl, sym, ap, ◌∙◌, arith, length-append}
 use Rattle.std.proofs.Math.Seq.{drop-append_seam}
 use Rattle.properties_format.specs.Pieces.{Piece, characters}
@@ -11,14 +11,14 @@ use Rattle.properties_format.proofs.Encodings.Utf16.{utf_16-meets, utf_16-read}
 
 -- ---- The first piece.
 
--- what is read is a piece at the front of the bytes
+-- The computed piece is a piece at the front of the bytes.
 pub first-meets : (e : Encoding) (b : ℕ) (d : List ℕ) → Meets (IsPiece e) (first_piece e b d) (b ∷ d)
 first-meets windows_1252 b d = (d, refl, (b, refl))
 first-meets utf_8 b d = utf_8-meets b d
 first-meets utf_16le b d = utf_16-meets low_first b d
 first-meets utf_16be b d = utf_16-meets high_first b d
 
--- and a piece at the front is what is read
+-- A piece at the front is the computed one.
 pub piece-read : (e : Encoding) (p : Piece) (rest : List ℕ) → IsPiece e p rest → IsRead (first_piece e) p rest
 piece-read windows_1252 p rest (b, e) = rw e (record { byte = b; others = []; bytes = refl; reads = refl })
 piece-read utf_8 p rest h = utf_8-read p rest h
@@ -27,7 +27,7 @@ piece-read utf_16be p rest h = utf_16-read high_first p rest h
 
 -- ---- All pieces.
 
--- a piece and the pieces of the rest, read
+-- The computed pieces are a piece followed by those of the rest.
 read-piece : (e : Encoding) (n : ℕ) (p : Piece) (rest : List ℕ) → IsPiece e p rest → pieces_within e (suc n) (p.bytes ++ rest) ≡ p ∷ pieces_within e n rest
 read-piece e n p rest h =
     let r = piece-read e p rest h in
@@ -37,7 +37,7 @@ read-piece e n p rest h =
     ∙ ap (λ v. p ∷ pieces_within e n (drop (length p.bytes) v)) (sym s)
     ∙ ap (λ v. p ∷ pieces_within e n v) (drop-append_seam p.bytes rest)
 
--- a piece has a byte
+-- A piece isn't empty.
 pub piece-length : (e : Encoding) (p : Piece) (rest : List ℕ) → IsPiece e p rest → length rest < length (p.bytes ++ rest)
 piece-length e p rest h =
     let r = piece-read e p rest h in
@@ -45,7 +45,7 @@ piece-length e p rest h =
     let m : length (r.others ++ rest) ≡ length r.others + length rest = length-append r.others rest in
     omega arith
 
--- the pieces of no more than n bytes are those that are read, at most n
+-- The pieces of at most n bytes are the computed ones, limited to n.
 within-only : (e : Encoding) (n : ℕ) (d : List ℕ) (ps : List Piece) → length d ≤ n → IsPieces e d ps → pieces_within e n d ≡ ps
 within-only e n d [] l h = ap (pieces_within e n) h
 within-only e zero d (p ∷ ps) l (rest, s, h, k) =
@@ -58,7 +58,7 @@ within-only e (suc n) d (p ∷ ps) l (rest, s, h, k) =
     let t : length rest ≤ n = omega arith in
     ap (pieces_within e (suc n)) s ∙ read-piece e n p rest h ∙ ap (λ v. p ∷ v) (within-only e n rest ps t k)
 
--- and those that are read are the pieces of the bytes
+-- The computed pieces are pieces of the bytes.
 within-meets : (e : Encoding) (n : ℕ) (d : List ℕ) → length d ≤ n → IsPieces e d (pieces_within e n d)
 within-meets e n [] l = refl
 within-meets e zero (b ∷ d) l = absurd (omega arith)
@@ -71,30 +71,30 @@ within-meets e (suc n) (b ∷ d) l =
     ap (drop (length (first_piece e b d).bytes)) m.1 ∙ drop-append_seam (first_piece e b d).bytes m.0 in
     (m.0, m.1, m.2, rw s (within-meets e n m.0 t))
 
--- Some bytes have the pieces that are read, and no others.
+-- The computed pieces are pieces of the bytes, and there are no others.
 pub pieces_of-meets : (e : Encoding) (d : List ℕ) → IsPieces e d (pieces_of e d)
 unfolding pieces_of
 pieces_of-meets e d = within-meets e (length d) d (omega arith)
 
--- Pieces of some bytes are those that are read.
+-- Pieces of some bytes are the computed ones.
 pub pieces_of-only : (e : Encoding) (d : List ℕ) (ps : List Piece) → IsPieces e d ps → ps ≡ pieces_of e d
 unfolding pieces_of
 pieces_of-only e d ps h = sym (within-only e (length d) d ps (omega arith) h)
 
--- Some bytes are decoded to the text that is read, and to no other.
+-- Some bytes decode to the computed text, and to no other.
 pub decoded_of-meets : (e : Encoding) (b : List ℕ) → IsDecoded e b (decoded_of e b)
 decoded_of-meets e b = (pieces_of (byte_order_mark e b).encoding (byte_order_mark e b).body, pieces_of-meets (byte_order_mark e b).encoding (byte_order_mark e b).body, refl)
 
--- A text that some bytes are decoded to is the one that is read.
+-- A text that some bytes decode to is the computed one.
 pub decoded_of-only : (e : Encoding) (b x : List ℕ) → IsDecoded e b x → x ≡ decoded_of e b
 decoded_of-only e b x (ps, h, s) = s ∙ ap characters (pieces_of-only (byte_order_mark e b).encoding (byte_order_mark e b).body ps h)
 
--- ---- Pieces in front.
+-- ---- Pieces at the front.
 
--- the pieces of no bytes
+-- An empty list of bytes has no pieces.
 pub pieces_of-nil : (e : Encoding) → pieces_of e [] ≡ []
 pieces_of-nil e = sym (pieces_of-only e [] [] refl)
 
--- a piece before the rest is the first of the pieces
+-- A piece before the rest is the first of the pieces.
 pub pieces_of-piece : (e : Encoding) (p : Piece) (rest : List ℕ) → IsPiece e p rest → pieces_of e (p.bytes ++ rest) ≡ p ∷ pieces_of e rest
 pieces_of-piece e p rest h = sym (pieces_of-only e (p.bytes ++ rest) (p ∷ pieces_of e rest) (rest, refl, h, pieces_of-meets e rest))

@@ -1,4 +1,4 @@
--- The first piece of UTF-16 is what is read, and nothing else is.
+-- The first piece of UTF-16 is the computed one, and no other.
 use Rattle.std.proofs.Common.{◌≡◌, ℕ, true, false, nat_le, nat_lt, List, [], ◌∷◌, refl, ap, ◌∙◌, inl, inr}
 use Rattle.std.proofs.lemmas.Bool.{cond-true, cond-false, cases_Bool, and_parts, leb-true, le-ltb, and_right}
 use Rattle.properties_format.specs.Text.{replacement}
@@ -8,14 +8,14 @@ use Rattle.properties_format.specs.Utf16.{IsUtf16Piece, pair, plain, low_alone, 
 use Rattle.properties_format.specs.Reading.Utf16.{high_piece, first_utf_16_piece}
 use Rattle.properties_format.proofs.Encodings.FirstPieces.{Meets, IsRead}
 
--- a low surrogate is no high one
+-- A low surrogate isn't a high one.
 pub low-not_high : (u : ℕ) → is_low u ≡ true → is_high u ≡ false
 low-not_high u h =
     let k = and_parts (nat_le 0xdc00 u) (nat_lt u 0xe000) h in
     and_right (nat_le 0xd800 u) (nat_lt u 0xdc00) (le-ltb u 0xdc00 (leb-true 0xdc00 u k.0))
 
 module _ (unit : ℕ → ℕ → ℕ) where
-  -- ---- What is read, from the kinds of the units.
+  -- ---- The computed piece, by the kinds of the units.
 
   read-high : (a b : ℕ) (d : List ℕ) → is_high (unit a b) ≡ true → first_utf_16_piece unit a (b ∷ d) ≡ high_piece unit a b d
   read-high a b d h = cond-true (is_high (unit a b)) (high_piece unit a b d) _ h
@@ -37,7 +37,7 @@ module _ (unit : ℕ → ℕ → ℕ) where
   read-alone : (a b c d : ℕ) (more : List ℕ) → is_low (unit c d) ≡ false → high_piece unit a b (c ∷ d ∷ more) ≡ piece (a ∷ b ∷ []) replacement
   read-alone a b c d more h = cond-false (is_low (unit c d)) _ (piece (a ∷ b ∷ []) replacement) h
 
-  -- ---- What is read is a piece.
+  -- ---- The computed piece is a piece.
 
   high-meets : (a b : ℕ) (d : List ℕ) → is_high (unit a b) ≡ true → Meets (IsUtf16Piece unit) (high_piece unit a b d) (a ∷ b ∷ d)
   high-meets a b [] h = ([], refl, high_last a b refl h refl)
@@ -57,7 +57,7 @@ module _ (unit : ℕ → ℕ → ℕ) where
     ]
   ]
 
-  -- ---- A piece is what is read.
+  -- ---- A piece is the computed one.
 
   pub utf_16-read : (p : Piece) (rest : List ℕ) → IsUtf16Piece unit p rest → IsRead (first_utf_16_piece unit) p rest
   utf_16-read p rest (pair a b c d e h k) = rw e (record { byte = a; others = b ∷ c ∷ d ∷ []; bytes = refl; reads = read-high a b (c ∷ d ∷ rest) h ∙ read-pair a b c d rest k })

@@ -10,17 +10,17 @@ use Rattle.properties_format.specs.Utf8.{tail, IsIn, IsWellFormed, sequence_char
 abbrev pub next : ℕ → ℕ
 next c = 128 + c % 64
 
--- below U+0080 as one byte
+-- Below U+0080, it is encoded as one byte.
 pub encode-one : (c : ℕ) → c < 0x80 → encode_utf8 c ≡ c ∷ []
 unfolding encode_utf8
 encode-one c h = cond-true (nat_lt c 0x80) _ _ (lt-ltb c 0x80 h)
 
--- from U+0080 to U+07FF as two
+-- From U+0080 to U+07FF, it is encoded as two bytes.
 pub encode-two : (c : ℕ) → 0x80 ≤ c → c < 0x800 → encode_utf8 c ≡ (192 + c / 64) ∷ next c ∷ []
 unfolding encode_utf8
 encode-two c l h = cond-false (nat_lt c 0x80) _ _ (le-ltb c 0x80 l) ∙ cond-true (nat_lt c 0x800) _ _ (lt-ltb c 0x800 h)
 
--- from U+0800 to U+FFFF as three
+-- From U+0800 to U+FFFF, it is encoded as three bytes.
 pub encode-three : (c : ℕ) → 0x800 ≤ c → c < 0x1_0000 → encode_utf8 c ≡ (224 + c / 4096) ∷ next (c / 64) ∷ next c ∷ []
 unfolding encode_utf8
 encode-three c l h =
@@ -28,7 +28,7 @@ encode-three c l h =
     ∙ cond-false (nat_lt c 0x800) _ _ (le-ltb c 0x800 l)
     ∙ cond-true (nat_lt c 0x1_0000) _ _ (lt-ltb c 0x1_0000 h)
 
--- and from U+10000 on as four
+-- From U+10000 on, it is encoded as four bytes.
 pub encode-four : (c : ℕ) → 0x1_0000 ≤ c → encode_utf8 c ≡ (240 + c / 262144) ∷ next (c / 4096) ∷ next (c / 64) ∷ next c ∷ []
 unfolding encode_utf8
 encode-four c l =
@@ -36,36 +36,36 @@ encode-four c l =
     ∙ cond-false (nat_lt c 0x800) _ _ (le-ltb c 0x800 (omega arith))
     ∙ cond-false (nat_lt c 0x1_0000) _ _ (le-ltb c 0x1_0000 l)
 
--- a well-formed sequence, with its character
+-- the bytes are a well-formed sequence with this character
 abbrev pub Says : List ℕ → ℕ → Type 0
 Says bs c = IsWellFormed bs × (c ≡ sequence_character bs)
 
--- a tail byte
+-- A byte after the first is a tail byte.
 next-in : (c : ℕ) → IsIn tail (next c)
 next-in c = (omega arith, omega arith)
 
--- one byte below 80 hexadecimal is the sequence of the character of its number
+-- A byte below 80 hexadecimal is the sequence of the character with its number.
 says-one : (c : ℕ) → c < 0x80 → Says (c ∷ []) c
 says-one c h = (inl ((omega arith, omega arith), tt), omega arith)
 
--- two bytes that a character below U+0800 is encoded as stand for it
+-- The two bytes of a character below U+0800 decode to it.
 two-character : (c : ℕ) → c < 0x800 → c ≡ (192 + c / 64) % 2 ^ 5 * 2 ^ 6 + next c % 2 ^ 6
 two-character c h = omega arith
 
--- from U+0080 on they are its sequence
+-- From U+0080 on, these two bytes are the character's sequence.
 says-two : (c : ℕ) → 0x80 ≤ c → c < 0x800 → Says ((192 + c / 64) ∷ next c ∷ []) c
 says-two c l h = (inr (inl ((omega arith, omega arith), (next-in c, tt))), two-character c h)
 
--- three bytes that a character below U+10000 is encoded as stand for it
+-- The three bytes of a character below U+10000 decode to it.
 three-character : (c : ℕ) → c < 0x1_0000 → c ≡ ((224 + c / 4096) % 2 ^ 4 * 2 ^ 6 + next (c / 64) % 2 ^ 6) * 2 ^ 6 + next c % 2 ^ 6
 three-character c h = omega arith
 
--- and so do four bytes for any character
+-- The four bytes of any character decode to it.
 four-character : (c : ℕ) → c < 0x11_0000
     → c ≡ (((240 + c / 262144) % 2 ^ 3 * 2 ^ 6 + next (c / 4096) % 2 ^ 6) * 2 ^ 6 + next (c / 64) % 2 ^ 6) * 2 ^ 6 + next c % 2 ^ 6
 four-character c h = omega arith
 
--- the three bytes of a scalar value from U+0800 to U+FFFF are well-formed
+-- The three bytes of a scalar value from U+0800 to U+FFFF are well-formed.
 three-fits : (c : ℕ) → 0x800 ≤ c → c < 0xd800 ⊎ ((0xe000 ≤ c) × (c < 0x1_0000)) → IsWellFormed ((224 + c / 4096) ∷ next (c / 64) ∷ next c ∷ [])
 three-fits c l (inr h) = inr (inr (inr (inr (inr (inl ((omega arith, omega arith), (next-in (c / 64), (next-in c, tt))))))))
 three-fits c l (inl h) = elim (cases_lt c 0x1000) [
@@ -76,7 +76,7 @@ three-fits c l (inl h) = elim (cases_lt c 0x1000) [
   ]
 ]
 
--- and so are the four of one from U+10000 on
+-- The four bytes of a scalar value from U+10000 on are well-formed.
 four-fits : (c : ℕ) → 0x1_0000 ≤ c → c < 0x11_0000 → IsWellFormed ((240 + c / 262144) ∷ next (c / 4096) ∷ next (c / 64) ∷ next c ∷ [])
 four-fits c l h = elim (cases_lt c 0x4_0000) [
   | inl k ↦ inr (inr (inr (inr (inr (inr (inl ((omega arith, omega arith), ((omega arith, omega arith), (next-in (c / 64), (next-in c, tt))))))))))
@@ -86,7 +86,7 @@ four-fits c l h = elim (cases_lt c 0x4_0000) [
   ]
 ]
 
--- from U+0800 on, the bytes of a scalar value are its sequence
+-- From U+0800 on, the bytes of a scalar value are its sequence.
 says-long : (c : ℕ) → 0x800 ≤ c → scalar c → Says (encode_utf8 c) c
 says-long c l h = elim (cases_lt c 0x1_0000) [
   | inl k ↦ rw (encode-three c l k) (three-fits c l (low k h), three-character c k)
@@ -101,7 +101,7 @@ says-long c l h = elim (cases_lt c 0x1_0000) [
     high (inl m) = omega arith
     high (inr m) = m.1
 
--- the bytes of a character are its sequence
+-- The bytes of a character are its sequence.
 pub encode-says : (c : ℕ) → scalar c → Says (encode_utf8 c) c
 encode-says c h = elim (cases_lt c 0x80) [
   | inl k ↦ rw (encode-one c k) (says-one c k)

@@ -1,4 +1,4 @@
--- A character has one well-formed sequence: the one that encoding makes.
+-- A character has exactly one well-formed sequence: its encoding.
 use Rattle.std.proofs.Common.{◌≡◌, ℕ, ◌+◌, ◌/◌, ◌%◌, ◌^◌, ◌≤◌, List, [], ◌∷◌, ap, ◌∙◌, inl, inr, arith}
 use Rattle.std.specs.Char.{encode_utf8}
 use Rattle.properties_format.specs.Utf8.{from_to, tail, IsIn, IsWellFormed, sequence_character}
@@ -8,35 +8,35 @@ use Rattle.properties_format.proofs.Encodings.Utf8Sequences.{in-one, in-two, in-
 abbrev Inverts : List ℕ → Type 0
 Inverts bs = encode_utf8 (sequence_character bs) ≡ bs
 
--- equal bytes make equal lists
+-- Two lists of two bytes are equal if their bytes are equal.
 two-bytes : (a b c d : ℕ) → a ≡ c → b ≡ d → a ∷ b ∷ [] ≡ c ∷ d ∷ []
 two-bytes a b c d e f = cc
 
--- of three bytes
+-- Two lists of three bytes are equal if their bytes are equal.
 three-bytes : (a b c d e f : ℕ) → a ≡ d → b ≡ e → c ≡ f → a ∷ b ∷ c ∷ [] ≡ d ∷ e ∷ f ∷ []
 three-bytes a b c d e f h k l = cc
 
--- and of four
+-- Two lists of four bytes are equal if their bytes are equal.
 four-bytes : (a b c d e f g h : ℕ) → a ≡ e → b ≡ f → c ≡ g → d ≡ h → a ∷ b ∷ c ∷ d ∷ [] ≡ e ∷ f ∷ g ∷ h ∷ []
 four-bytes a b c d e f g h i j k l = cc
 
--- encoding gives a sequence of one byte back
+-- Encoding the character of a one-byte sequence gives the sequence back.
 invert-one : (a : ℕ) → a ≤ 0x7f → Inverts (a ∷ [])
 invert-one a h = let e : a % 2 ^ 7 ≡ a = omega arith in encode-one (a % 2 ^ 7) (omega arith) ∙ ap (λ v. v ∷ []) e
 
--- and one of two bytes
+-- Encoding the character of a two-byte sequence gives the sequence back.
 invert-two : (a b : ℕ) → 0xc2 ≤ a → a ≤ 0xdf → IsIn tail b → Inverts (a ∷ b ∷ [])
 invert-two a b h k l =
     let c : ℕ = sequence_character (a ∷ b ∷ []) in
     encode-two c (omega arith) (omega arith) ∙ two-bytes (192 + c / 64) (next c) a b (omega arith) (omega arith)
 
--- and one of three, where it stands for a character from U+0800 on
+-- Encoding the character of a three-byte sequence gives the sequence back, if the character is U+0800 or above.
 invert-three : (a b c : ℕ) → 0xe0 ≤ a → a ≤ 0xef → IsIn tail b → IsIn tail c → 0x800 ≤ sequence_character (a ∷ b ∷ c ∷ []) → Inverts (a ∷ b ∷ c ∷ [])
 invert-three a b c h k l m n =
     let u : ℕ = sequence_character (a ∷ b ∷ c ∷ []) in
     encode-three u n (omega arith) ∙ three-bytes (224 + u / 4096) (next (u / 64)) (next u) a b c (omega arith) (omega arith) (omega arith)
 
--- and one of four, where it stands for a character from U+10000 on
+-- Encoding the character of a four-byte sequence gives the sequence back, if the character is U+10000 or above.
 invert-four : (a b c d : ℕ) → 0xf0 ≤ a → a ≤ 0xf4 → IsIn tail b → IsIn tail c → IsIn tail d → 0x1_0000 ≤ sequence_character (a ∷ b ∷ c ∷ d ∷ []) → Inverts (a ∷ b ∷ c ∷ d ∷ [])
 invert-four a b c d h k l m n o =
     let u : ℕ = sequence_character (a ∷ b ∷ c ∷ d ∷ []) in

@@ -1,4 +1,4 @@
--- The first piece of UTF-8 is what is read, and nothing else is.
+-- The first piece of UTF-8 is the computed one, and no other.
 use Rattle.std.proofs.Common.{◌≡◌, ℕ, ◌<◌, ◌==◌, true, false, List, [], ◌∷◌, ◌++◌, length, Option, Some, None, refl, sym, ap, ◌∙◌, subst, inl, inr, arith, eq-eqb, ne_eqb}
 use Rattle.std.proofs.lemmas.Bool.{cond-true, cond-false}
 use Rattle.std.proofs.lemmas.Option.{none-some, same_Some}
@@ -9,41 +9,41 @@ use Rattle.properties_format.specs.Reading.Utf8.{ranges_after, fitting, utf_8_pi
 use Rattle.properties_format.proofs.Encodings.Utf8Rows.{FitsFront, Breaks, Fitted, front-of_row, length-row, shorter-than_row, row-of_front, longer-of_front, fitting-row, fitting-broken, fitting-fits, sequence-row, row-sequence, sequence-nonempty}
 use Rattle.properties_format.proofs.Encodings.FirstPieces.{Meets, IsRead}
 
--- ---- To begin a sequence is to fit the front of the row of the first byte.
+-- ---- Bytes begin a sequence exactly if they fit the front of the row of the first byte.
 
--- bytes that begin a sequence fit the front of the row of the first one
+-- Bytes that begin a sequence fit the front of the row of the first byte.
 pub begins-front : (b : ℕ) (bs : List ℕ) → Begins (b ∷ bs) → (rs : List Range) × (ranges_after well_formed_rows b ≡ Some rs) × FitsFront rs bs
 begins-front b bs h =
     let r = sequence-row b (bs ++ h.0) h.1 in
     (r.0, r.1, front-of_row r.0 bs h.0 r.2)
 
--- and bytes that fit it begin one
+-- Bytes that fit the front of that row begin a sequence.
 pub front-begins : (b : ℕ) (bs : List ℕ) (rs : List Range) → ranges_after well_formed_rows b ≡ Some rs → FitsFront rs bs → Begins (b ∷ bs)
 front-begins b bs rs e h =
     let r = row-sequence b rs e in
     let m = row-of_front rs bs r.0 h in
     (m.0, r.1 (bs ++ m.0) m.1)
 
--- where the row is known, bytes that begin a sequence fit the front of that row
+-- If the row is known, bytes that begin a sequence fit the front of that row.
 front-of-begins : (b : ℕ) (bs : List ℕ) (rs : List Range) → ranges_after well_formed_rows b ≡ Some rs → Begins (b ∷ bs) → FitsFront rs bs
 front-of-begins b bs rs e h =
     let f = begins-front b bs h in
     let P : List Range → Type 0 = λ v. FitsFront v bs in
     subst P (same_Some f.0 rs (sym f.1 ∙ e)) f.2
 
--- ---- What is read is a piece.
+-- ---- The computed piece is a piece.
 
--- where the next byte doesn't fit the row, it breaks the sequence
+-- If the next byte doesn't fit the row, it breaks the sequence off.
 breaks-next : (b : ℕ) (bs rest : List ℕ) (rs : List Range) → ranges_after well_formed_rows b ≡ Some rs → Breaks rs bs rest → NextBreaks (b ∷ bs) rest
 breaks-next b bs [] rs e h = tt
 breaks-next b bs (next ∷ rest) rs e h = λ k. h (front-of-begins b (bs ++ next ∷ []) rs e k)
 
--- and where it breaks the sequence, it doesn't fit
+-- If the next byte breaks the sequence off, it doesn't fit the row.
 next-breaks : (b : ℕ) (bs rest : List ℕ) (rs : List Range) → ranges_after well_formed_rows b ≡ Some rs → NextBreaks (b ∷ bs) rest → Breaks rs bs rest
 next-breaks b bs [] rs e h = tt
 next-breaks b bs (next ∷ rest) rs e h = λ k. h (front-begins b (bs ++ next ∷ []) rs e k)
 
--- a byte with a row, and those after it that fit, are a piece at the front
+-- A byte with a row, with the bytes after it that fit, is a piece at the front.
 fitted-meets : (b : ℕ) (d bs : List ℕ) (rs : List Range) → ranges_after well_formed_rows b ≡ Some rs → Fitted rs d bs → Meets IsUtf8Piece (utf_8_piece b bs (length rs)) (b ∷ d)
 fitted-meets b d bs rs e (rest, s, inl k) =
     (rest, ap (λ v. b ∷ v) s, whole ((row-sequence b rs e).1 bs k) (cond-true (length bs == length rs) (sequence_character (b ∷ bs)) replacement (eq-eqb (length bs) (length rs) (length-row rs bs k))))
@@ -56,18 +56,18 @@ fitted-meets b d bs rs e (rest, s, inr k) =
           (l.0, l.1, (row-sequence b rs e).1 (bs ++ l.0 ∷ l.1) l.2) (breaks-next b bs rest rs e k.2),
     )
 
--- and so is what is read, whether or not the byte has a row
+-- The computed piece is a piece at the front, whether or not the byte has a row.
 meets-by : (b : ℕ) (d : List ℕ) (o : Option (List Range)) → ranges_after well_formed_rows b ≡ o → Meets IsUtf8Piece (utf_8_piece_by o b d) (b ∷ d)
 meets-by b d None e = (d, refl, stray b refl (λ k. let f = begins-front b [] k in none-some f.0 (sym e ∙ f.1)))
 meets-by b d (Some rs) e = fitted-meets b d (fitting rs d) rs e (fitting-fits rs d)
 
--- what is read is a piece at the front of the bytes
+-- The computed piece is a piece at the front of the bytes.
 pub utf_8-meets : (b : ℕ) (d : List ℕ) → Meets IsUtf8Piece (first_utf_8_piece b d) (b ∷ d)
 utf_8-meets b d = meets-by b d (ranges_after well_formed_rows b) refl
 
--- ---- A piece is what is read.
+-- ---- A piece is the computed one.
 
--- a well-formed sequence is read
+-- For a well-formed sequence.
 whole-read : (bytes : List ℕ) (c : ℕ) (rest : List ℕ) → IsWellFormed bytes → c ≡ sequence_character bytes → IsRead first_utf_8_piece (piece bytes c) rest
 whole-read [] c rest h e = absurd (sequence-nonempty h)
 whole-read (b ∷ bs) c rest h e =
@@ -82,7 +82,7 @@ whole-read (b ∷ bs) c rest h e =
           ∙ ap (λ v. piece (b ∷ bs) v) (cond-true (length bs == length r.0) (sequence_character (b ∷ bs)) replacement t ∙ sym e);
     }
 
--- a byte that begins none is read
+-- For a byte that begins no sequence.
 stray-read : (b : ℕ) (rest : List ℕ) → ¬ Begins (b ∷ []) → IsRead first_utf_8_piece (piece (b ∷ []) replacement) rest
 stray-read b rest h = record { byte = b; others = []; bytes = refl; reads = ap (λ v. utf_8_piece_by v b rest) (none (ranges_after well_formed_rows b) refl) }
   where
@@ -90,7 +90,7 @@ stray-read b rest h = record { byte = b; others = []; bytes = refl; reads = ap (
     none None e = e
     none (Some rs) e = absurd (h (front-begins b [] rs e tt))
 
--- and so are bytes that begin a longer one, which the rest doesn't go on with
+-- For bytes that begin a longer sequence that the rest doesn't continue.
 broken-read : (b : ℕ) (bs rest : List ℕ) → BeginsLonger (b ∷ bs) → NextBreaks (b ∷ bs) rest → IsRead first_utf_8_piece (piece (b ∷ bs) replacement) rest
 broken-read b bs rest h k =
     let r = sequence-row b (bs ++ h.0 ∷ h.1) h.2 in
@@ -106,11 +106,11 @@ broken-read b bs rest h k =
           ∙ ap (λ v. piece (b ∷ bs) v) (cond-false (length bs == length r.0) (sequence_character (b ∷ bs)) replacement t);
     }
 
--- an equal piece is read too
+-- A piece equal to the computed one is the computed one.
 read-at : (p q : Piece) (rest : List ℕ) → q ≡ p → IsRead first_utf_8_piece p rest → IsRead first_utf_8_piece q rest
 read-at p q rest e h = rw e h
 
--- each piece is what is read
+-- Each piece is the computed one.
 pub utf_8-read : (p : Piece) (rest : List ℕ) → IsUtf8Piece p rest → IsRead first_utf_8_piece p rest
 utf_8-read p rest (whole h e) = whole-read p.bytes p.character rest h e
 utf_8-read p rest (stray b e h) = read-at (piece (b ∷ []) replacement) p rest e (stray-read b rest h)

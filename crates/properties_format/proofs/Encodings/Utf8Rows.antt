@@ -1,4 +1,4 @@
--- The rows of well-formed sequences: the row of a first byte, and the bytes that fit its ranges.
+-- The rows of well-formed sequences: the row of a first byte, and bytes that fit its ranges.
 use Rattle.std.proofs.Common.{◌≡◌, ℕ, suc, ◌<◌, ◌≤◌, ◌&&◌, ◌⊎◌, Bool, true, false, nat_le, List, [], ◌∷◌, ◌++◌, length, Some, refl, sym, ap, ◌∙◌, inl, inr, arith}
 use Rattle.std.proofs.lemmas.Bool.{and_parts, and_from, leb-true, le-leb, both_ways, false_from_ne_true, cases_Bool, cond-true, cond-false}
 use Rattle.std.proofs.lemmas.Option.{none-some, same_Some}
@@ -9,52 +9,52 @@ use Rattle.properties_format.specs.Reading.Utf8.{is_in, ranges_after, fitting}
 pub in-range : (r : Range) (b : ℕ) → is_in r b ≡ true → IsIn r b
 in-range r b h = let k = and_parts (nat_le r.least b) (nat_le b r.most) h in (leb-true r.least b k.0, leb-true b r.most k.1)
 
--- a byte in the range passes it
+-- A byte in the range passes the test.
 pub is_in-true : (r : Range) (b : ℕ) → IsIn r b → is_in r b ≡ true
 is_in-true r b h = and_from (nat_le r.least b) (nat_le b r.most) (le-leb r.least b h.0) (le-leb b r.most h.1)
 
--- and any other doesn't
+-- A byte that isn't in the range fails the test.
 pub is_in-false : (r : Range) (b : ℕ) → (IsIn r b → ⊥) → is_in r b ≡ false
 is_in-false r b h = false_from_ne_true (is_in r b) (λ k. h (in-range r b k))
 
--- ---- The bytes fit a beginning of the ranges.
+-- ---- Bytes that fit a beginning of the ranges.
 
 abbrev pub FitsFront : List Range → List ℕ → Type 0
 FitsFront rs [] = Unit {0}
 FitsFront [] (b ∷ bs) = ⊥
 FitsFront (r ∷ rs) (b ∷ bs) = IsIn r b × FitsFront rs bs
 
--- the next byte of the rest doesn't fit, or there is none
+-- The next byte of the rest doesn't fit, or there is none.
 abbrev pub Breaks : List Range → List ℕ → List ℕ → Type 0
 Breaks rs bs [] = Unit {0}
 Breaks rs bs (next ∷ rest) = ¬ FitsFront rs (bs ++ next ∷ [])
 
--- no range is empty
+-- whether no range is empty
 abbrev pub are_filled : List Range → Bool
 are_filled [] = true
 are_filled (r ∷ rs) = nat_le r.least r.most && are_filled rs
 
--- the front of bytes that fit a row fits a beginning of it
+-- The front of bytes that fit a row fits a beginning of the row.
 pub front-of_row : (rs : List Range) (bs more : List ℕ) → FitsRow rs (bs ++ more) → FitsFront rs bs
 front-of_row rs [] more h = tt
 front-of_row [] (b ∷ bs) more h = h
 front-of_row (r ∷ rs) (b ∷ bs) more h = (h.0, front-of_row rs bs more h.1)
 
--- bytes that fit a row are as many as its ranges
+-- Bytes that fit a row are as many as its ranges.
 pub length-row : (rs : List Range) (bs : List ℕ) → FitsRow rs bs → length bs ≡ length rs
 length-row [] [] h = refl
 length-row [] (b ∷ bs) h = absurd h
 length-row (r ∷ rs) [] h = absurd h
 length-row (r ∷ rs) (b ∷ bs) h = ap suc (length-row rs bs h.1)
 
--- bytes that fit a row together with more are fewer than its ranges
+-- Bytes that fit a row together with more bytes are fewer than its ranges.
 pub shorter-than_row : (rs : List Range) (bs : List ℕ) (next : ℕ) (more : List ℕ) → FitsRow rs (bs ++ next ∷ more) → length bs < length rs
 shorter-than_row [] [] next more h = absurd h
 shorter-than_row [] (b ∷ bs) next more h = absurd h
 shorter-than_row (r ∷ rs) [] next more h = omega arith
 shorter-than_row (r ∷ rs) (b ∷ bs) next more h = let k = shorter-than_row rs bs next more h.1 in omega arith
 
--- bytes that fit a beginning can be gone on with
+-- Bytes that fit a beginning can be completed to fit the row.
 pub row-of_front : (rs : List Range) (bs : List ℕ) → are_filled rs ≡ true → FitsFront rs bs → (more : List ℕ) × FitsRow rs (bs ++ more)
 row-of_front [] [] filled h = ([], tt)
 row-of_front [] (b ∷ bs) filled h = absurd h
@@ -68,7 +68,7 @@ row-of_front (r ∷ rs) (b ∷ bs) filled h =
     let m = row-of_front rs bs k.1 h.1 in
     (m.0, (h.0, m.1))
 
--- bytes that fit a beginning, and are fewer than the ranges, can be gone on with by one at least
+-- Bytes that fit a beginning and are fewer than the ranges can be completed with at least one byte.
 pub longer-of_front : (rs : List Range) (bs : List ℕ) → are_filled rs ≡ true → FitsFront rs bs → length bs < length rs
     → (next : ℕ) × (more : List ℕ) × FitsRow rs (bs ++ next ∷ more)
 longer-of_front [] [] filled h short = absurd (omega arith)
@@ -83,38 +83,38 @@ longer-of_front (r ∷ rs) (b ∷ bs) filled h short =
     let m = longer-of_front rs bs k.1 h.1 (omega arith) in
     (m.0, m.1, (h.0, m.2))
 
--- ---- The bytes at the front that fit.
+-- ---- The longest front that fits.
 
--- bytes that fit the row are those at the front that fit, whatever follows
+-- Bytes that fit the row are the longest front that fits, whatever follows.
 pub fitting-row : (rs : List Range) (bs rest : List ℕ) → FitsRow rs bs → fitting rs (bs ++ rest) ≡ bs
 fitting-row [] [] rest h = refl
 fitting-row [] (b ∷ bs) rest h = absurd h
 fitting-row (r ∷ rs) [] rest h = absurd h
 fitting-row (r ∷ rs) (b ∷ bs) rest h = rw (is_in-true r b h.0) (ap (λ v. b ∷ v) (fitting-row rs bs rest h.1))
 
--- none fit where the first byte doesn't
+-- If the first byte doesn't fit, the longest front that fits is empty.
 fitting-none : (rs : List Range) (rest : List ℕ) → Breaks rs [] rest → fitting rs rest ≡ []
 fitting-none [] rest h = refl
 fitting-none (r ∷ rs) [] h = refl
 fitting-none (r ∷ rs) (b ∷ rest) h = cond-false (is_in r b) (b ∷ fitting rs rest) [] (is_in-false r b (λ k. h (k, tt)))
 
--- where the next byte doesn't fit after some bytes, it doesn't without the first of them and its range
+-- If the next byte doesn't fit after some bytes, it doesn't fit after them without the first byte and its range.
 breaks-tail : (r : Range) (rs : List Range) (b : ℕ) (bs rest : List ℕ) → IsIn r b → Breaks (r ∷ rs) (b ∷ bs) rest → Breaks rs bs rest
 breaks-tail r rs b bs [] h k = tt
 breaks-tail r rs b bs (next ∷ rest) h k = λ m. k (h, m)
 
--- bytes that fit a beginning, before one that doesn't, are those at the front that fit
+-- Bytes that fit a beginning, before a byte that doesn't fit, are the longest front that fits.
 pub fitting-broken : (rs : List Range) (bs rest : List ℕ) → FitsFront rs bs → Breaks rs bs rest → fitting rs (bs ++ rest) ≡ bs
 fitting-broken rs [] rest h k = fitting-none rs rest k
 fitting-broken [] (b ∷ bs) rest h k = absurd h
 fitting-broken (r ∷ rs) (b ∷ bs) rest h k =
     rw (is_in-true r b h.0) (ap (λ v. b ∷ v) (fitting-broken rs bs rest h.1 (breaks-tail r rs b bs rest h.0 k)))
 
--- the bytes of d that fit, and the rest: all ranges are met, or the next byte doesn't fit
+-- the bytes of d that fit, and the rest: all ranges are used, or the next byte doesn't fit
 abbrev pub Fitted : List Range → List ℕ → List ℕ → Type 0
 Fitted rs d bs = (rest : List ℕ) × (d ≡ bs ++ rest) × (FitsRow rs bs ⊎ ((length bs < length rs) × FitsFront rs bs × Breaks rs bs rest))
 
--- one more byte in front, and one more range
+-- One more byte at the front, and one more range.
 fitted-more : (r : Range) (rs : List Range) (b : ℕ) (d bs : List ℕ) → IsIn r b → Fitted rs d bs → Fitted (r ∷ rs) (b ∷ d) (b ∷ bs)
 fitted-more r rs b d bs h (rest, e, inl k) = (rest, ap (λ v. b ∷ v) e, inl (h, k))
 fitted-more r rs b d bs h (rest, e, inr k) = (rest, ap (λ v. b ∷ v) e, inr (omega arith, (h, k.1), breaks-on rest k.2))
@@ -123,7 +123,7 @@ fitted-more r rs b d bs h (rest, e, inr k) = (rest, ap (λ v. b ∷ v) e, inr (o
     breaks-on [] m = tt
     breaks-on (next ∷ rest) m = λ q. m q.1
 
--- what is found are the bytes that fit
+-- The computed bytes are the ones that fit.
 pub fitting-fits : (rs : List Range) (d : List ℕ) → Fitted rs d (fitting rs d)
 fitting-fits [] d = (d, refl, inl tt)
 fitting-fits (r ∷ rs) [] = ([], refl, inr (omega arith, tt, tt))
@@ -134,7 +134,7 @@ fitting-fits (r ∷ rs) (b ∷ d) = elim (cases_Bool (is_in r b)) [
 
 -- ---- The row of a first byte.
 
--- a first byte in each row, above those of the rows before it
+-- each row has a first byte, above those of the rows before it
 abbrev pub are_apart : ℕ → List (List Range) → Bool
 are_apart low [] = true
 are_apart low ([] ∷ more) = false
@@ -146,7 +146,7 @@ record Apart (low : ℕ) (r : Range) (rs : List Range) (more : List (List Range)
   filled : are_filled rs ≡ true
   others : are_apart (suc r.most) more ≡ true
 
--- what the test says of the first row and of the others
+-- The test of all rows, divided into the first row and the others.
 apart-parts : (low : ℕ) (r : Range) (rs : List Range) (more : List (List Range)) → are_apart low ((r ∷ rs) ∷ more) ≡ true → Apart low r rs more
 apart-parts low r rs more h =
     let k = and_parts (nat_le low r.least && nat_le r.least r.most) (are_filled rs && are_apart (suc r.most) more) h in
@@ -154,7 +154,7 @@ apart-parts low r rs more h =
     let m = and_parts (are_filled rs) (are_apart (suc r.most) more) k.1 in
     record { low_least = leb-true low r.least l.0; least_most = leb-true r.least r.most l.1; filled = m.0; others = m.1 }
 
--- a sequence begins with no byte below those of the rows
+-- No sequence begins with a byte below those of the rows.
 above : (low : ℕ) (table : List (List Range)) (b : ℕ) (bs : List ℕ) → are_apart low table ≡ true → FitsSome table (b ∷ bs) → low ≤ b
 above low [] b bs h k = absurd k
 above low ([] ∷ more) b bs h k = absurd (cc)
@@ -163,7 +163,7 @@ above low ((r ∷ rs) ∷ more) b bs h (inr k) =
     let a = apart-parts low r rs more h in
     let l = above (suc r.most) more b bs a.others k in omega arith
 
--- a sequence is in the row of its first byte
+-- A sequence fits the row of its first byte.
 row-of : (low : ℕ) (table : List (List Range)) (b : ℕ) (bs : List ℕ) → are_apart low table ≡ true → FitsSome table (b ∷ bs)
     → (rs : List Range) × (ranges_after table b ≡ Some rs) × FitsRow rs bs
 row-of low [] b bs h k = absurd k
@@ -175,7 +175,7 @@ row-of low ((r ∷ rs) ∷ more) b bs h (inr k) =
     let m = row-of (suc r.most) more b bs a.others k in
     (m.0, cond-false (is_in r b) (Some rs) (ranges_after more b) (is_in-false r b (λ q. omega arith)) ∙ m.1, m.2)
 
--- the ranges in the row of a first byte: bytes that fit them make a sequence, and none is empty
+-- Bytes that fit the ranges in the row of a first byte make a sequence with it, and none of the ranges is empty.
 row-fits : (low : ℕ) (table : List (List Range)) (b : ℕ) (rs : List Range) → are_apart low table ≡ true → ranges_after table b ≡ Some rs
     → (are_filled rs ≡ true) × ((bs : List ℕ) → FitsRow rs bs → FitsSome table (b ∷ bs))
 row-fits low [] b rs h k = absurd (none-some rs k)
@@ -191,33 +191,33 @@ row-fits low ((r ∷ qs) ∷ more) b rs h k = elim (cases_Bool (is_in r b)) [
       (f.0, λ bs q. inr (f.1 bs q))
 ]
 
--- a well-formed sequence is in the row of its first byte
+-- A well-formed sequence fits the row of its first byte.
 pub sequence-row : (b : ℕ) (bs : List ℕ) → FitsSome well_formed_rows (b ∷ bs) → (rs : List Range) × (ranges_after well_formed_rows b ≡ Some rs) × FitsRow rs bs
 sequence-row b bs h = row-of 0 well_formed_rows b bs refl h
 
--- bytes that fit that row make a well-formed sequence with it, and none of its ranges is empty
+-- Bytes that fit that row make a well-formed sequence with the first byte, and none of its ranges is empty.
 pub row-sequence : (b : ℕ) (rs : List Range) → ranges_after well_formed_rows b ≡ Some rs → (are_filled rs ≡ true) × ((bs : List ℕ) → FitsRow rs bs → FitsSome well_formed_rows (b ∷ bs))
 row-sequence b rs h = row-fits 0 well_formed_rows b rs refl h
 
--- where each row has a first byte, an empty list fits none
+-- If each row has a first byte, an empty list fits none.
 no-empty : (low : ℕ) (table : List (List Range)) → are_apart low table ≡ true → FitsSome table [] → ⊥
 no-empty low [] h k = k
 no-empty low ([] ∷ more) h k = cc
 no-empty low ((r ∷ rs) ∷ more) h (inl k) = k
 no-empty low ((r ∷ rs) ∷ more) h (inr k) = no-empty (suc r.most) more (apart-parts low r rs more h).others k
 
--- a sequence has a byte
+-- A sequence isn't empty.
 pub sequence-nonempty : FitsSome well_formed_rows [] → ⊥
 sequence-nonempty h = no-empty 0 well_formed_rows refl h
 
--- ---- What is tested of each row holds of the ranges in the row of a first byte.
+-- ---- What is true of each row is true of the ranges in the row of a first byte.
 
 abbrev pub each_row : (List Range → Bool) → List (List Range) → Bool
 each_row test [] = true
 each_row test ([] ∷ more) = each_row test more
 each_row test ((r ∷ rs) ∷ more) = test rs && each_row test more
 
--- where the test passes each row, it passes the ranges in the row of a first byte
+-- If each row passes the test, so do the ranges in the row of a first byte.
 row-passes : (test : List Range → Bool) (table : List (List Range)) (b : ℕ) (rs : List Range) → each_row test table ≡ true → ranges_after table b ≡ Some rs → test rs ≡ true
 row-passes test [] b rs h k = absurd (none-some rs k)
 row-passes test ([] ∷ more) b rs h k = row-passes test more b rs h k
@@ -228,12 +228,12 @@ row-passes test ((r ∷ qs) ∷ more) b rs h k = elim (cases_Bool (is_in r b)) [
   | inr m ↦ row-passes test more b rs (and_parts (test qs) (each_row test more) h).1 (sym (cond-false (is_in r b) (Some qs) (ranges_after more b) m) ∙ k)
 ]
 
--- each range is in that of tail bytes
+-- whether each range lies within that of the tail bytes
 abbrev are_tails : List Range → Bool
 are_tails [] = true
 are_tails (r ∷ rs) = (nat_le 0x80 r.least && nat_le r.most 0xbf) && are_tails rs
 
--- where each range is in that of tail bytes, a byte that fits is a tail byte
+-- If each range lies within that of the tail bytes, a byte that fits is a tail byte.
 front-tail : (rs : List Range) (bs : List ℕ) (c : ℕ) → are_tails rs ≡ true → FitsFront rs (bs ++ c ∷ []) → IsIn tail c
 front-tail [] [] c t h = absurd h
 front-tail [] (b ∷ bs) c t h = absurd h
@@ -244,10 +244,10 @@ front-tail (r ∷ rs) [] c t h =
     (omega arith, omega arith)
 front-tail (r ∷ rs) (b ∷ bs) c t h = front-tail rs bs c (and_parts (nat_le 0x80 r.least && nat_le r.most 0xbf) (are_tails rs) t).1 h.1
 
--- a byte after the first is a tail byte
+-- A byte after the first is a tail byte.
 pub next-tail : (b : ℕ) (rs : List Range) (bs : List ℕ) (c : ℕ) → ranges_after well_formed_rows b ≡ Some rs → FitsFront rs (bs ++ c ∷ []) → IsIn tail c
 next-tail b rs bs c e h = front-tail rs bs c (row-passes are_tails well_formed_rows b rs refl e) h
 
--- there are three at most
+-- A row has at most three ranges after the first.
 pub row-short : (b : ℕ) (rs : List Range) → ranges_after well_formed_rows b ≡ Some rs → length rs ≤ 3
 row-short b rs e = leb-true (length rs) 3 (row-passes (λ v. nat_le (length v) 3) well_formed_rows b rs refl e)

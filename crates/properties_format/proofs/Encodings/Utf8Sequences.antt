@@ -1,57 +1,57 @@
--- What the sequences of each row stand for: scalar values, of which the first row alone has those of ASCII.
+-- The characters of the sequences of each row: scalar values. Only the first row has those of ASCII.
 use Rattle.std.proofs.Common.{◌≡◌, ℕ, ◌%◌, ◌^◌, ◌<◌, ◌≤◌, List, [], ◌∷◌, ap, inl, inr, arith}
 use Rattle.properties_format.specs.Text.{scalar}
 use Rattle.properties_format.specs.Utf8.{Range, from_to, tail, IsIn, FitsRow, IsWellFormed, sequence_character}
 
--- ---- A fact on the bytes of a row, from one on each of them.
+-- ---- A fact about the bytes of a row, from a fact about each of them.
 
--- on one byte
+-- For one byte.
 pub in-one : (P : List ℕ → Type 0) (r : Range) → ((a : ℕ) → IsIn r a → P (a ∷ [])) → (bs : List ℕ) → FitsRow (r ∷ []) bs → P bs
 in-one P r f [] h = absurd h
 in-one P r f (a ∷ []) h = f a h.0
 in-one P r f (a ∷ b ∷ bs) h = absurd h.1
 
--- on a first byte and those after it
+-- For a first byte and those after it.
 in-more : (P : List ℕ → Type 0) (r : Range) (rs : List Range) → ((a : ℕ) (bs : List ℕ) → IsIn r a → FitsRow rs bs → P (a ∷ bs)) → (bs : List ℕ) → FitsRow (r ∷ rs) bs → P bs
 in-more P r rs f [] h = absurd h
 in-more P r rs f (a ∷ bs) h = f a bs h.0 h.1
 
--- on two bytes
+-- For two bytes.
 pub in-two : (P : List ℕ → Type 0) (r s : Range) → ((a b : ℕ) → IsIn r a → IsIn s b → P (a ∷ b ∷ [])) → (bs : List ℕ) → FitsRow (r ∷ s ∷ []) bs → P bs
 in-two P r s f = in-more P r (s ∷ []) (λ a bs h. in-one (λ v. P (a ∷ v)) s (λ b k. f a b h k) bs)
 
--- on three bytes
+-- For three bytes.
 pub in-three : (P : List ℕ → Type 0) (r s t : Range) → ((a b c : ℕ) → IsIn r a → IsIn s b → IsIn t c → P (a ∷ b ∷ c ∷ []))
     → (bs : List ℕ) → FitsRow (r ∷ s ∷ t ∷ []) bs → P bs
 in-three P r s t f = in-more P r (s ∷ t ∷ []) (λ a bs h. in-two (λ v. P (a ∷ v)) s t (λ b c k l. f a b c h k l) bs)
 
--- on four bytes
+-- For four bytes.
 pub in-four : (P : List ℕ → Type 0) (r s t u : Range) → ((a b c d : ℕ) → IsIn r a → IsIn s b → IsIn t c → IsIn u d → P (a ∷ b ∷ c ∷ d ∷ []))
     → (bs : List ℕ) → FitsRow (r ∷ s ∷ t ∷ u ∷ []) bs → P bs
 in-four P r s t u f = in-more P r (s ∷ t ∷ u ∷ []) (λ a bs h. in-three (λ v. P (a ∷ v)) s t u (λ b c d k l m. f a b c d h k l m) bs)
 
 -- ---- The character of a sequence is a scalar value.
 
--- an ASCII character stands in a sequence of its one byte
+-- if the character is ASCII, the sequence is one byte
 abbrev pub IsAsciiAlone : List ℕ → Type 0
 IsAsciiAlone bs = sequence_character bs < 0x80 → bs ≡ sequence_character bs ∷ []
 
 abbrev Fine : List ℕ → Type 0
 Fine bs = scalar (sequence_character bs) × IsAsciiAlone bs
 
--- one byte below 80 hexadecimal stands for a scalar value, and for one of ASCII alone
+-- One byte below 80 hexadecimal is the sequence of a scalar value, namely of an ASCII character.
 ascii-fine : (a : ℕ) → a ≤ 0x7f → Fine (a ∷ [])
 ascii-fine a h = let e : a ≡ a % 2 ^ 7 = omega arith in (inl (omega arith), λ k. ap (λ v. v ∷ []) e)
 
--- so it is of bytes that stand for a character from U+0080 to U+D7FF
+-- This holds for bytes whose character is from U+0080 to U+D7FF.
 low-fine : (bs : List ℕ) → 0x80 ≤ sequence_character bs → sequence_character bs < 0xd800 → Fine bs
 low-fine bs h k = (inl k, λ l. absurd (omega arith))
 
--- and of those that stand for one from U+E000 to U+10FFFF
+-- This holds for bytes whose character is from U+E000 to U+10FFFF.
 high-fine : (bs : List ℕ) → 0xe000 ≤ sequence_character bs → sequence_character bs < 0x11_0000 → Fine bs
 high-fine bs h k = (inr (h, k), λ l. absurd (omega arith))
 
--- so it is of every well-formed sequence
+-- This holds for every well-formed sequence.
 row-fine : (bs : List ℕ) → IsWellFormed bs → Fine bs
 row-fine bs (inl h) = in-one Fine (from_to 0x00 0x7f) (λ a i. ascii-fine a i.1) bs h
 row-fine bs (inr (inl h)) =
@@ -72,10 +72,10 @@ row-fine bs (inr (inr (inr (inr (inr (inr (inr (inr (inl h))))))))) =
     in-four Fine (from_to 0xf4 0xf4) (from_to 0x80 0x8f) tail tail (λ a b c d i j k l. high-fine (a ∷ b ∷ c ∷ d ∷ []) (omega arith) (omega arith)) bs h
 row-fine bs (inr (inr (inr (inr (inr (inr (inr (inr (inr h))))))))) = absurd h
 
--- a well-formed sequence stands for a scalar value
+-- The character of a well-formed sequence is a scalar value.
 pub sequence-scalar : (bs : List ℕ) → IsWellFormed bs → scalar (sequence_character bs)
 sequence-scalar bs h = (row-fine bs h).0
 
--- and where that is an ASCII character, the sequence is its one byte
+-- If that character is ASCII, the sequence is its one byte.
 pub sequence-ascii : (bs : List ℕ) → IsWellFormed bs → sequence_character bs < 0x80 → bs ≡ sequence_character bs ∷ []
 sequence-ascii bs h = (row-fine bs h).1

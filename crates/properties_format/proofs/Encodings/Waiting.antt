@@ -1,4 +1,4 @@
--- Bytes that don't wait for more decide their first piece.
+-- Bytes that don't wait for more determine their first piece.
 use Rattle.std.proofs.Common.{◌≡◌, ℕ, ◌<◌, ◌≤◌, ◌&&◌, true, false, List, [], ◌∷◌, ◌++◌, length, drop, Option, Some, None, refl, sym, ap, ◌∙◌, inl, inr, arith, append_assoc}
 use Rattle.std.proofs.Math.Seq.{drop-append_seam}
 use Rattle.std.proofs.lemmas.Bool.{cases_Bool, cond-false, and_parts}
@@ -14,7 +14,7 @@ use Rattle.properties_format.specs.Reading.Waiting.{fits_short, awaits_byte, awa
 use Rattle.properties_format.proofs.Encodings.Utf8Rows.{row-short}
 use Rattle.properties_format.proofs.Encodings.Pieces.{first-meets, pieces_of-piece}
 
--- where bytes don't wait, those after them don't change which ones fit the ranges
+-- If bytes don't wait, the bytes after them don't change which ones fit the ranges.
 fitting-more : (rs : List Range) (d y : List ℕ) → fits_short rs d ≡ false → fitting rs (d ++ y) ≡ fitting rs d
 fitting-more [] d y h = refl
 fitting-more (r ∷ rs) [] y h = absurd (cc)
@@ -25,24 +25,24 @@ fitting-more (r ∷ rs) (b ∷ d) y h = elim (cases_Bool (is_in r b)) [
   | inr k ↦ rw k refl
 ]
 
--- what comes after bytes that don't wait leaves their first piece, in UTF-8
+-- In UTF-8, what follows bytes that don't wait doesn't change their first piece.
 utf_8-decided : (o : Option (List Range)) (b : ℕ) (d y : List ℕ) → awaits_byte o d ≡ false → utf_8_piece_by o b (d ++ y) ≡ utf_8_piece_by o b d
 utf_8-decided None b d y h = refl
 utf_8-decided (Some rs) b d y h = ap (λ v. utf_8_piece b v (length rs)) (fitting-more rs d y h)
 
--- in UTF-16 what comes after a whole unit leaves its piece, where the unit is no high surrogate
+-- In UTF-16, what follows a whole unit doesn't change its piece, if the unit isn't a high surrogate.
 not-high : (unit : ℕ → ℕ → ℕ) (a b : ℕ) (d y : List ℕ) → is_high (unit a b) ≡ false → first_utf_16_piece unit a (b ∷ d ++ y) ≡ first_utf_16_piece unit a (b ∷ d)
 not-high unit a b d y h =
     cond-false (is_high (unit a b)) (high_piece unit a b (d ++ y)) _ h ∙ sym (cond-false (is_high (unit a b)) (high_piece unit a b d) _ h)
 
--- and so does what comes after bytes that don't wait
+-- In UTF-16, what follows bytes that don't wait doesn't change their first piece.
 utf_16-decided : (unit : ℕ → ℕ → ℕ) (a : ℕ) (d y : List ℕ) → awaits_unit unit a d ≡ false → first_utf_16_piece unit a (d ++ y) ≡ first_utf_16_piece unit a d
 utf_16-decided unit a [] y h = absurd (cc)
 utf_16-decided unit a (b ∷ []) y h = not-high unit a b [] y h
 utf_16-decided unit a (b ∷ c ∷ []) y h = not-high unit a b (c ∷ []) y h
 utf_16-decided unit a (b ∷ c ∷ d ∷ more) y h = refl
 
--- What comes after bytes that don't wait leaves their first piece.
+-- What follows bytes that don't wait doesn't change their first piece.
 pub first_piece-decided : (e : Encoding) (b : ℕ) (d y : List ℕ) → awaits_more e b d ≡ false → first_piece e b (d ++ y) ≡ first_piece e b d
 first_piece-decided windows_1252 b d y h = refl
 first_piece-decided utf_8 b d y h = utf_8-decided (ranges_after well_formed_rows b) b d y h
@@ -51,7 +51,7 @@ first_piece-decided utf_16be b d y h = utf_16-decided high_first b d y h
 
 -- ---- The first piece and the others.
 
--- the pieces of some bytes are the first, and those of what is after it
+-- The pieces of some bytes are the first one followed by those of what comes after it.
 pub pieces_of-step : (e : Encoding) (b : ℕ) (d : List ℕ) → pieces_of e (b ∷ d) ≡ first_piece e b d ∷ pieces_of e (drop (length (first_piece e b d).bytes) (b ∷ d))
 pieces_of-step e b d =
     let p : Piece = first_piece e b d in
@@ -59,12 +59,12 @@ pieces_of-step e b d =
     let r : drop (length p.bytes) (b ∷ d) ≡ m.0 = ap (drop (length p.bytes)) m.1 ∙ drop-append_seam p.bytes m.0 in
     ap (pieces_of e) m.1 ∙ pieces_of-piece e p m.0 m.2 ∙ ap (λ v. p ∷ pieces_of e v) (sym r)
 
--- the characters of some bytes are that of the first piece, and those of what is after it
+-- The characters of some bytes are that of the first piece followed by those of what comes after it.
 pub characters-step : (e : Encoding) (b : ℕ) (d : List ℕ)
     → characters (pieces_of e (b ∷ d)) ≡ (first_piece e b d).character ∷ characters (pieces_of e (drop (length (first_piece e b d).bytes) (b ∷ d)))
 characters-step e b d = ap characters (pieces_of-step e b d)
 
--- Of bytes that don't wait the first piece can be taken, whatever follows.
+-- The first piece of bytes that don't wait can be taken, whatever follows.
 pub pieces_of-decided : (e : Encoding) (b : ℕ) (d y : List ℕ) → awaits_more e b d ≡ false
     → pieces_of e (b ∷ d ++ y) ≡ first_piece e b d ∷ pieces_of e (drop (length (first_piece e b d).bytes) (b ∷ d) ++ y)
 pieces_of-decided e b d y h =
@@ -78,29 +78,29 @@ pieces_of-decided e b d y h =
     ∙ ap (λ v. p ∷ pieces_of e v) (drop-append_seam p.bytes (m.0 ++ y))
     ∙ ap (λ v. p ∷ pieces_of e (v ++ y)) (sym r)
 
--- ---- Three bytes at most wait.
+-- ---- At most three bytes wait.
 
--- bytes that wait for more of the ranges are fewer than these
+-- Bytes that wait for more of the ranges are fewer than the ranges.
 short-fits : (rs : List Range) (d : List ℕ) → fits_short rs d ≡ true → length d < length rs
 short-fits [] d h = absurd (cc)
 short-fits (r ∷ rs) [] h = omega arith
 short-fits (r ∷ rs) (b ∷ d) h = let k = short-fits rs d (and_parts (is_in r b) (fits_short rs d) h).1 in omega arith
 
--- in UTF-8 two at most after the first
+-- In UTF-8, at most two bytes after the first wait.
 utf_8-short : (b : ℕ) (d : List ℕ) (o : Option (List Range)) → ranges_after well_formed_rows b ≡ o → awaits_byte o d ≡ true → length d < 3
 utf_8-short b d None e h = absurd (cc)
 utf_8-short b d (Some rs) e h =
     let k = row-short b rs e in
     let l = short-fits rs d h in omega arith
 
--- and in UTF-16
+-- In UTF-16, at most two bytes after the first wait.
 utf_16-short : (unit : ℕ → ℕ → ℕ) (a : ℕ) (d : List ℕ) → awaits_unit unit a d ≡ true → length d < 3
 utf_16-short unit a [] h = omega arith
 utf_16-short unit a (b ∷ []) h = omega arith
 utf_16-short unit a (b ∷ c ∷ []) h = omega arith
 utf_16-short unit a (b ∷ c ∷ d ∷ more) h = absurd (cc)
 
--- in each encoding three at most
+-- In each encoding, at most three bytes wait.
 pub awaits_more-short : (e : Encoding) (b : ℕ) (d : List ℕ) → awaits_more e b d ≡ true → length (b ∷ d) ≤ 3
 awaits_more-short windows_1252 b d h = absurd (cc)
 awaits_more-short utf_8 b d h = utf_8-short b d (ranges_after well_formed_rows b) refl h

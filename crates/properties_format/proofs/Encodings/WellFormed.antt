@@ -1,4 +1,4 @@
--- Bytes that are well-formed UTF-8 are the text of their pieces as they stand.
+-- Bytes that are well-formed UTF-8 are the UTF-8 text of their pieces.
 use Rattle.std.proofs.Common.{◌≡◌, ℕ, ◌<◌, true, List, [], ◌∷◌, ◌++◌, refl, sym, ap, ap₂, ◌∙◌, inl, inr, append_assoc, arith}
 use Rattle.std.proofs.lemmas.Bool.Decides.{nat_tests}
 use Rattle.std.specs.Char.{IsScalar, encode_utf8}
@@ -19,16 +19,16 @@ use Rattle.properties_format.proofs.Encodings.Utf8Inverse.{encode-sequence}
 use Rattle.properties_format.proofs.Encodings.Utf8Characters.{encode-says}
 use Rattle.properties_format.proofs.Encodings.Characters.{pieces_of-encoded, pieces_of-ascii}
 
--- the code of a `char` is a scalar value
+-- The code point of a `char` is a scalar value.
 pub scalar-from_char : (c : ℕ) → IsScalar c → scalar c
 scalar-from_char c h = std_utf8.scalar_cases c h
 
--- and the other way round
+-- A scalar value is the code point of a `char`.
 pub char-from_scalar : (c : ℕ) → scalar c → IsScalar c
 char-from_scalar c (inl h) = std_utf8.low_scalar c h
 char-from_scalar c (inr h) = grind (arith, nat_tests)
 
--- well-formed sequences are the UTF-8 of their characters
+-- Well-formed sequences are the UTF-8 of their characters.
 sequences-utf8 : (d : List ℕ) (sequences : List (List ℕ)) → AreSequences d sequences → IsUtf8 d
 sequences-utf8 d [] h = ([], (refl, sym h))
 sequences-utf8 d (bs ∷ more) (rest, s, h, k) =
@@ -37,11 +37,11 @@ sequences-utf8 d (bs ∷ more) (rest, s, h, k) =
     let scalars = and_from (std_utf8.scalar c) (all_scalars u.0) (char-from_scalar c (sequence-scalar bs h)) u.1.0 in
     (c ∷ u.0, (scalars, ap₂ (λ v w. v ++ w) (encode-sequence bs h) u.1.1 ∙ sym s))
 
--- so well-formed bytes are UTF-8
+-- Well-formed bytes are UTF-8.
 pub IsUtf8-from_well_formed : (d : List ℕ) → IsWellFormedText d → IsUtf8 d
 IsUtf8-from_well_formed d (sequences, h) = sequences-utf8 d sequences h
 
--- the UTF-8 of some characters is a well-formed sequence of each
+-- The UTF-8 of some characters is a well-formed sequence for each of them.
 utf8-sequences : (d cs : List ℕ) → all_scalars cs ≡ true → encode_utf8_all cs ≡ d → IsWellFormedText d
 utf8-sequences d [] h e = ([], sym e)
 utf8-sequences d (c ∷ cs) h e =
@@ -49,11 +49,11 @@ utf8-sequences d (c ∷ cs) h e =
     let w = utf8-sequences (encode_utf8_all cs) cs p.1 refl in
     (encode_utf8 c ∷ w.0, (encode_utf8_all cs, sym e, (encode-says c (scalar-from_char c p.0)).0, w.1))
 
--- so bytes that are UTF-8 are well-formed
+-- Bytes that are UTF-8 are well-formed.
 pub well_formed-from_IsUtf8 : (d : List ℕ) → IsUtf8 d → IsWellFormedText d
 well_formed-from_IsUtf8 d (cs, h) = utf8-sequences d cs h.0 h.1
 
--- characters that are encoded in front are decoded to themselves, whatever follows
+-- Encoded characters at the front decode to themselves, whatever follows.
 encoded-front : (cs y : List ℕ) → all_scalars cs ≡ true → characters (pieces_of utf_8 (encode_utf8_all cs ++ y)) ≡ cs ++ characters (pieces_of utf_8 y)
 encoded-front [] y h = refl
 encoded-front (c ∷ cs) y h =
@@ -62,21 +62,21 @@ encoded-front (c ∷ cs) y h =
     ∙ ap characters (pieces_of-encoded utf_8 c (encode_utf8 c) (encode_utf8_all cs ++ y) (scalar-from_char c p.0) refl)
     ∙ ap (λ v. c ∷ v) (encoded-front cs y p.1)
 
--- Text at the front is decoded to its characters, whatever follows.
+-- A text at the front decodes to its characters, whatever follows.
 pub characters-text : (x y : List ℕ) → IsUtf8 x → characters (pieces_of utf_8 (x ++ y)) ≡ chars x ++ characters (pieces_of utf_8 y)
 characters-text x y (cs, h) =
     ap (λ v. characters (pieces_of utf_8 (v ++ y))) (sym h.1)
     ∙ encoded-front cs y h.0
     ∙ ap (λ v. v ++ characters (pieces_of utf_8 y)) (sym (chars-encodes cs h.0) ∙ ap chars h.1)
 
--- ---- ASCII, which windows-1252 and UTF-8 have in common.
+-- ---- ASCII, which is the same in windows-1252 and UTF-8.
 
--- bytes of ASCII in front are decoded to themselves, whatever follows
+-- ASCII bytes at the front decode to themselves, whatever follows.
 ascii-front : (x y : List ℕ) → AllByRecursion (λ b. b < 0x80) x → characters (pieces_of windows_1252 (x ++ y)) ≡ x ++ characters (pieces_of windows_1252 y)
 ascii-front [] y h = refl
 ascii-front (b ∷ x) y h = ap characters (pieces_of-ascii windows_1252 b (x ++ y) h.0) ∙ ap (λ v. b ∷ v) (ascii-front x y h.1)
 
--- ASCII at the front is decoded to itself, whatever follows.
+-- ASCII at the front decodes to itself, whatever follows.
 pub characters-ascii : (x y : List ℕ) → IsAscii x → characters (pieces_of windows_1252 (x ++ y)) ≡ chars x ++ characters (pieces_of windows_1252 y)
 characters-ascii x y h =
     ascii-front x y (recursion_from_All (λ b. b < 0x80) x (All-from_ascii x h)) ∙ ap (λ v. v ++ characters (pieces_of windows_1252 y)) (sym (chars-IsAscii x h))

@@ -1,4 +1,4 @@
--- The table of windows-1252: its characters are distinct, and the byte of a character is found by it.
+-- The table of windows-1252: its characters are distinct, and the byte of a character is found with it.
 use Rattle.std.proofs.Common.{◌≡◌, ℕ, zero, suc, ◌+◌, ◌-◌, ◌<◌, ◌≤◌, ◌==◌, ◌&&◌, ◌||◌, not, Bool, true, false, nat_lt, nat_le, slice_index, List, [], ◌∷◌, length, Option, Some, None, refl, sym, ap, ◌∙◌, inl, inr, arith, ltb-true, le-leb, leb-true, lt-ltb, eqb-true}
 use Rattle.std.proofs.lemmas.Bool.{lt-leb, cond-true, cond-false, cases_Bool, and_parts, and_from, and_left, not-true, agree_below_at, or_cases}
 use Rattle.std.proofs.lemmas.Option.{none-some, same_Some}
@@ -9,7 +9,7 @@ abbrev is_some_of : Option ℕ → ℕ → Bool
 is_some_of None k = false
 is_some_of (Some x) k = x == k
 
--- what passes the test is that number
+-- What passes the test is that number.
 same-some : (o : Option ℕ) (k : ℕ) → is_some_of o k ≡ true → o ≡ Some k
 same-some None k h = cc
 same-some (Some x) k h = ap Some (eqb-true x k h)
@@ -19,7 +19,7 @@ pub windows_1252_byte-character : (b : ℕ) → byte b → windows_1252_byte (wi
 windows_1252_byte-character b h =
     same-some (windows_1252_byte (windows_1252_character b)) b (agree_below_at (λ k. is_some_of (windows_1252_byte (windows_1252_character k)) k) (λ k. true) 0x100 b refl h)
 
--- a place that is found has the character
+-- The character is found at the index that the search returns.
 place-found : (n : ℕ) (xs : List ℕ) (c b : ℕ) → place_from n xs c ≡ Some b → (n ≤ b) × (b < n + length xs) × ((k : ℕ) → n + k ≡ b → slice_index xs k ≡ c)
 place-found n [] c b h = absurd (none-some b h)
 place-found n (x ∷ xs) c b h = elim (cases_Bool (x == c)) [
@@ -39,7 +39,7 @@ place-found n (x ∷ xs) c b h = elim (cases_Bool (x == c)) [
     there l f zero s = absurd (omega arith)
     there l f (suc k) s = f k (omega arith)
 
--- the byte of a character has it
+-- The byte of a character has that character.
 pub windows_1252_character-byte : (c b : ℕ) → windows_1252_byte c ≡ Some b → (windows_1252_character b ≡ c) × byte b
 windows_1252_character-byte c b h = elim (cases_Bool (nat_lt c 0x100 && not (is_in_table c))) [
   | inl k ↦
@@ -62,7 +62,7 @@ pub windows_1252-scalar : (b : ℕ) → byte b → scalar (windows_1252_characte
 windows_1252-scalar b h =
     inl (ltb-true (windows_1252_character b) 0xd800 (agree_below_at (λ k. nat_lt (windows_1252_character k) 0xd800) (λ k. true) 0x100 b refl h))
 
--- an ASCII character comes of the byte of the same number alone
+-- Only the byte with the same number has an ASCII character.
 pub windows_1252-ascii : (b : ℕ) → windows_1252_character b < 0x80 → b ≡ windows_1252_character b
 windows_1252-ascii b h = elim (cases_Bool (is_in_table b)) [
   | inl k ↦
@@ -76,10 +76,10 @@ windows_1252-ascii b h = elim (cases_Bool (is_in_table b)) [
   | inr k ↦ sym (cond-false (is_in_table b) _ b k)
 ]
 
--- and is its own character
+-- An ASCII byte is its own character.
 pub windows_1252_character-ascii : (c : ℕ) → c < 0x80 → windows_1252_character c ≡ c
 windows_1252_character-ascii c h = cond-false (is_in_table c) _ c (and_left (nat_le 0x80 c) (nat_lt c 0xa0) (lt-leb 0x80 c h))
 
--- and has the byte of its own number
+-- An ASCII character is its own byte.
 pub windows_1252_byte-ascii : (c : ℕ) → c < 0x80 → windows_1252_byte c ≡ Some c
 windows_1252_byte-ascii c h = ap windows_1252_byte (sym (windows_1252_character-ascii c h)) ∙ windows_1252_byte-character c (omega arith)

@@ -1,4 +1,4 @@
--- Which spelling a text begins with: at most one, and the reading finds it.
+-- Which spelling a text begins with: at most one, and the computation finds it.
 use Rattle.std.proofs.Common.{◌≡◌, ℕ, ◌==◌, ◌&&◌, true, false, List, [], ◌∷◌, ◌++◌, Option, Some, None, refl, ap, ◌∙◌, inl, inr}
 use Rattle.std.proofs.lemmas.Bool.{cases_Bool, eqb-true, and_parts, or_parts, or_from}
 use Rattle.properties_format.specs.Text.{backslash}
@@ -10,28 +10,28 @@ abbrev pub spelling_of : List ℕ → Option Spelling
 spelling_of [] = None
 spelling_of (c ∷ cs) = first_spelling c cs
 
--- a unit that is no surrogate is no high one
+-- A unit that isn't a surrogate isn't a high one.
 high-surrogate : (n : ℕ) → is_surrogate n ≡ false → is_high n ≡ false
 high-surrogate n e = (or_parts (is_high n) (is_low n) e).0
 
--- and no low one
+-- A unit that isn't a surrogate isn't a low one.
 low-surrogate : (n : ℕ) → is_surrogate n ≡ false → is_low n ≡ false
 low-surrogate n e = (or_parts (is_high n) (is_low n) e).1
 
--- four digits of no surrogate are one escape
+-- Four digits whose value isn't a surrogate are one escape.
 digits-unicode : (d : Four) (rest : List ℕ) → are_hexadecimal d ≡ true → is_surrogate (code_unit d) ≡ false → with_digits d rest ≡ Some (unicode d)
 digits-unicode d rest h k = rw h (rw (high-surrogate (code_unit d) k) (rw (low-surrogate (code_unit d) k) refl))
 
--- after those of a high surrogate, the escape of a low one is looked for
+-- After the digits of a high surrogate, the escape of a low one is searched for.
 digits-high : (d : Four) (rest : List ℕ) → are_hexadecimal d ≡ true → is_high (code_unit d) ≡ true → with_digits d rest ≡ with_low d rest
 digits-high d rest h k = rw h (rw k refl)
 
--- and where it stands there, the two are found
+-- If it is there, both escapes are found.
 low-low : (high low : Four) (rest : List ℕ) → are_hexadecimal low ≡ true → is_low (code_unit low) ≡ true
     → with_low high (backslash ∷ letter_u ∷ four_text low ++ rest) ≡ Some (surrogates high low)
 low-low high low rest h k = rw h (rw k refl)
 
--- the spelling in front is found
+-- The spelling at the front is found.
 pub spelling_of-only : (p : Spelling) (rest : List ℕ) → IsSpelling p rest → spelling_of (spelling_text p ++ rest) ≡ Some p
 spelling_of-only (itself c) rest h = rw h refl
 spelling_of-only (escaped c) rest h = rw h refl
@@ -39,19 +39,19 @@ spelling_of-only (unicode d) rest h = digits-unicode d rest h.0 h.1
 spelling_of-only (surrogates high low) rest h = digits-high high (backslash ∷ letter_u ∷ four_text low ++ rest) h.0 h.1 ∙ low-low high low rest h.2 h.3
 spelling_of-only last rest h = rw h refl
 
--- where none is found, none is there
+-- If no spelling is found, there is none.
 pub spelling_of-none : (x : List ℕ) → spelling_of x ≡ None → NoSpelling x
 spelling_of-none x e p rest w h = let f : spelling_of x ≡ Some p = ap spelling_of w ∙ spelling_of-only p rest h in absurd (cc)
 
--- ---- what is found is there
+-- ---- a spelling that is found is there
 
--- the spelling begins the text
+-- The spelling begins the text.
 pub record IsFirst (x : List ℕ) (p : Spelling) : Type 0 where
   pub rest : List ℕ
   pub whole : x ≡ spelling_text p ++ rest
   pub is_spelling : IsSpelling p rest
 
--- a `\u` begins the text
+-- The text begins with a `\u`.
 pub record IsEscape (x : List ℕ) : Type 0 where
   pub after : List ℕ
   pub whole : x ≡ backslash ∷ letter_u ∷ after
@@ -60,11 +60,11 @@ abbrev pub IsFound : List ℕ → Option Spelling → Type 0
 IsFound x None = IsEscape x
 IsFound x (Some p) = IsFirst x p
 
--- where no spelling is found at a `\u`, a `\u` begins the text
+-- If no spelling is found at a `\u`, the text begins with a `\u`.
 escape-found : (after : List ℕ) → IsFound (backslash ∷ letter_u ∷ after) None
 escape-found after = record { after = after; whole = refl }
 
--- what passes the test of a low surrogate's escape is a `\u` and the digits of one
+-- What passes the test for the escape of a low surrogate is a `\u` and the digits of one.
 low-parts : (x y : ℕ) (low : Four) → ((x == backslash && y == letter_u) && (are_hexadecimal low && is_low (code_unit low))) ≡ true
     → (x ≡ backslash) × (y ≡ letter_u) × (are_hexadecimal low ≡ true) × (is_low (code_unit low) ≡ true)
 low-parts x y low e =
@@ -73,7 +73,7 @@ low-parts x y low e =
     let r = and_parts (are_hexadecimal low) (is_low (code_unit low)) p.1 in
     (eqb-true x backslash q.0, eqb-true y letter_u q.1, r.0, r.1)
 
--- what is found at the digits of a high surrogate is there, or else a `\u` is
+-- What is found at the digits of a high surrogate is there; or nothing is found, and the text begins with a `\u`.
 low-found : (high : Four) (rest : List ℕ) → are_hexadecimal high ≡ true → is_high (code_unit high) ≡ true
     → IsFound (backslash ∷ letter_u ∷ four_text high ++ rest) (with_low high rest)
 low-found high (x ∷ y ∷ a ∷ b ∷ c ∷ d ∷ rest) h k =
@@ -89,7 +89,7 @@ low-found high (x ∷ y ∷ a ∷ b ∷ c ∷ d ∷ rest) h k =
     ]
 low-found high rest h k = escape-found (four_text high ++ rest)
 
--- so is what is found at any four characters after a `\u`
+-- What is found at any four characters after a `\u` is there; or nothing is found, and the text begins with a `\u`.
 digits-found : (d : Four) (rest : List ℕ) → IsFound (backslash ∷ letter_u ∷ four_text d ++ rest) (with_digits d rest)
 digits-found d rest = elim (cases_Bool (are_hexadecimal d)) [
   | inl e ↦ rw e (elim (cases_Bool (is_high (code_unit d))) [
@@ -102,12 +102,12 @@ digits-found d rest = elim (cases_Bool (are_hexadecimal d)) [
   | inr e ↦ rw e (escape-found (four_text d ++ rest))
 ]
 
--- what is found after a `\u`
+-- What is found after a `\u` is there; or nothing is found, and the text begins with a `\u`.
 u-found : (after : List ℕ) → IsFound (backslash ∷ letter_u ∷ after) (after_u after)
 u-found (a ∷ b ∷ c ∷ d ∷ rest) = digits-found record { first = a; second = b; third = c; fourth = d } rest
 u-found after = escape-found after
 
--- what is found after a backslash
+-- What is found after a backslash is there; or nothing is found, and the text begins with a `\u`.
 backslash-found : (cs : List ℕ) → IsFound (backslash ∷ cs) (after_backslash cs)
 backslash-found [] = record { rest = []; whole = refl; is_spelling = refl }
 backslash-found (c ∷ cs) = elim (cases_Bool (c == letter_u)) [
@@ -115,7 +115,7 @@ backslash-found (c ∷ cs) = elim (cases_Bool (c == letter_u)) [
   | inr e ↦ rw e (record { rest = cs; whole = refl; is_spelling = e })
 ]
 
--- and what is found at any character
+-- What is found at any character is there; or nothing is found, and the text begins with a `\u`.
 pub first_spelling-found : (c : ℕ) (cs : List ℕ) → IsFound (c ∷ cs) (first_spelling c cs)
 first_spelling-found c cs = elim (cases_Bool (c == backslash)) [
   | inl e ↦ rw e (rw (eqb-true c backslash e) (backslash-found cs))

@@ -1,4 +1,4 @@
--- How the meaning of a text goes on from what stands in front of it.
+-- What a text means, given what it begins with.
 use Rattle.std.proofs.Common.{◌≡◌, ℕ, ◌==◌, ◌<◌, length, true, false, List, [], ◌∷◌, ◌++◌, map, None, refl, ap, ◌∙◌, append-nil, arith}
 use Rattle.properties_format.specs.Text.{backslash}
 use Rattle.properties_format.specs.Escapes.{letter_u, escaped_character, Four, four_text, are_hexadecimal, code_unit, is_high, is_low, is_surrogate, pair_character, Spelling, itself, escaped, unicode, surrogates, last, spelt_character, IsSpelling, spelt_before, AreSpellings, not_enough_digits, not_hex, invalid_character, malformed_by, means, breaks}
@@ -7,9 +7,9 @@ use Rattle.properties_format.specs.Writing.{HoldsNoBackslash}
 use Rattle.properties_format.proofs.Escapes.First.{spelling_of-none}
 use Rattle.properties_format.proofs.Escapes.Unique.{text_in_front-means, meaning_of-empty, meaning_of-spelling, meaning_of-spellings, meaning_of-fault}
 
--- ---- a spelling in front
+-- ---- a spelling at the front
 
--- a character that is no backslash
+-- a character that isn't a backslash
 pub meaning_of-itself : (c : ℕ) (rest : List ℕ) → (c == backslash) ≡ false → meaning_of (c ∷ rest) ≡ in_front c (meaning_of rest)
 meaning_of-itself c rest h = meaning_of-spelling (itself c) rest h
 
@@ -17,7 +17,7 @@ meaning_of-itself c rest h = meaning_of-spelling (itself c) rest h
 pub meaning_of-escaped : (c : ℕ) (rest : List ℕ) → (c == letter_u) ≡ false → meaning_of (backslash ∷ c ∷ rest) ≡ in_front (escaped_character c) (meaning_of rest)
 meaning_of-escaped c rest h = meaning_of-spelling (escaped c) rest h
 
--- a `\u` escape of no surrogate
+-- a `\u` escape that isn't a surrogate
 pub meaning_of-unicode : (d : Four) (rest : List ℕ) → are_hexadecimal d ≡ true → is_surrogate (code_unit d) ≡ false
     → meaning_of (backslash ∷ letter_u ∷ four_text d ++ rest) ≡ in_front (code_unit d) (meaning_of rest)
 meaning_of-unicode d rest h k = meaning_of-spelling (unicode d) rest (h, k)
@@ -28,25 +28,25 @@ pub meaning_of-surrogates : (high low : Four) (rest : List ℕ) → are_hexadeci
     → meaning_of (backslash ∷ letter_u ∷ four_text high ++ (backslash ∷ letter_u ∷ four_text low ++ rest)) ≡ in_front (pair_character (code_unit high) (code_unit low)) (meaning_of rest)
 meaning_of-surrogates high low rest h k l m = meaning_of-spelling (surrogates high low) rest (h, k, l, m)
 
--- a backslash that stands last
+-- a backslash at the end of the text
 pub meaning_of-last : meaning_of (backslash ∷ []) ≡ means (0 ∷ [])
 meaning_of-last = meaning_of-spelling last [] refl ∙ ap (in_front 0) meaning_of-empty
 
 -- ---- a text without a backslash means itself
 
--- such a text in front of any text
+-- such a text before any text
 pub meaning_of-plain_front : (x rest : List ℕ) → HoldsNoBackslash x → meaning_of (x ++ rest) ≡ text_in_front x (meaning_of rest)
 meaning_of-plain_front [] rest h = refl
 meaning_of-plain_front (c ∷ x) rest h = meaning_of-itself c (x ++ rest) h.0 ∙ ap (in_front c) (meaning_of-plain_front x rest h.1)
 
--- such a text alone
+-- such a text by itself
 pub meaning_of-plain : (x : List ℕ) → HoldsNoBackslash x → meaning_of x ≡ means x
 meaning_of-plain [] h = meaning_of-empty
 meaning_of-plain (c ∷ x) h = meaning_of-itself c x h.0 ∙ ap (in_front c) (meaning_of-plain x h.1)
 
 -- ---- spellings whose end doesn't depend on what follows
 
--- a spelling other than a backslash that stands last
+-- the spelling isn't a backslash at the end of the text
 abbrev pub IsWhole : Spelling → Type 0
 IsWhole (itself c) = IsSpelling (itself c) []
 IsWhole (escaped c) = IsSpelling (escaped c) []
@@ -58,7 +58,7 @@ abbrev pub AreWhole : List Spelling → Type 0
 AreWhole [] = Unit {0}
 AreWhole (p ∷ ps) = IsWhole p × AreWhole ps
 
--- a whole spelling may stand before any text
+-- A whole spelling may come before any text.
 pub IsWhole-spelling : (p : Spelling) (rest : List ℕ) → IsWhole p → IsSpelling p rest
 IsWhole-spelling (itself c) rest h = h
 IsWhole-spelling (escaped c) rest h = h
@@ -66,16 +66,16 @@ IsWhole-spelling (unicode d) rest h = h
 IsWhole-spelling (surrogates high low) rest h = h
 IsWhole-spelling last rest h = absurd h
 
--- and so may whole spellings in order
+-- Each of several whole spellings may come before what follows it.
 pub AreWhole-spellings : (ps : List Spelling) (rest : List ℕ) → AreWhole ps → AreSpellings ps rest
 AreWhole-spellings [] rest h = tt
 AreWhole-spellings (p ∷ ps) rest h = (IsWhole-spelling p (spelt_before ps rest) h.0, AreWhole-spellings ps rest h.1)
 
--- whole spellings in front of any text
+-- whole spellings before any text
 pub meaning_of-whole : (ps : List Spelling) (rest : List ℕ) → AreWhole ps → meaning_of (spelt_before ps rest) ≡ text_in_front (map spelt_character ps) (meaning_of rest)
 meaning_of-whole ps rest h = meaning_of-spellings ps rest (AreWhole-spellings ps rest h)
 
--- whole spellings alone
+-- whole spellings by themselves
 pub meaning_of-all : (ps : List Spelling) → AreWhole ps → meaning_of (spelt_before ps []) ≡ means (map spelt_character ps)
 meaning_of-all ps h =
     meaning_of-whole ps [] h
@@ -85,7 +85,7 @@ meaning_of-all ps h =
 
 -- ---- a `\u` that begins no spelling
 
--- where the reading finds no spelling after the `\u`
+-- no spelling is found after the `\u`
 pub meaning_of-none : (after : List ℕ) → after_u after ≡ None → meaning_of (backslash ∷ letter_u ∷ after) ≡ breaks (malformed_by after)
 meaning_of-none after e = meaning_of-fault after (spelling_of-none (backslash ∷ letter_u ∷ after) e)
 
@@ -94,7 +94,7 @@ pub meaning_of-short : (after : List ℕ) → length after < 4 → meaning_of (b
 meaning_of-short (a ∷ b ∷ c ∷ d ∷ rest) h = absurd (omega arith)
 meaning_of-short after h = meaning_of-none after refl
 
--- four characters, of which one is no digit
+-- four characters, one of which isn't a digit
 pub meaning_of-not_hex : (d : Four) (rest : List ℕ) → are_hexadecimal d ≡ false → meaning_of (backslash ∷ letter_u ∷ four_text d ++ rest) ≡ breaks not_hex
 meaning_of-not_hex d rest h = meaning_of-none (four_text d ++ rest) (rw h refl) ∙ rw h refl
 
@@ -103,7 +103,7 @@ pub meaning_of-lone_low : (d : Four) (rest : List ℕ) → are_hexadecimal d ≡
     → meaning_of (backslash ∷ letter_u ∷ four_text d ++ rest) ≡ breaks invalid_character
 meaning_of-lone_low d rest h k l = meaning_of-none (four_text d ++ rest) (rw h (rw k (rw l refl))) ∙ rw h refl
 
--- a high surrogate, after which no `\u` escape of a low one is read
+-- a high surrogate that isn't followed by the `\u` escape of a low one
 pub meaning_of-lone_high : (d : Four) (rest : List ℕ) → are_hexadecimal d ≡ true → is_high (code_unit d) ≡ true → with_low d rest ≡ None
     → meaning_of (backslash ∷ letter_u ∷ four_text d ++ rest) ≡ breaks invalid_character
 meaning_of-lone_high d rest h k l = meaning_of-none (four_text d ++ rest) (rw h (rw k l)) ∙ rw h refl

@@ -1,4 +1,4 @@
--- What scalars mean is scalars.
+-- A text of scalar values means a text of scalar values.
 use Rattle.std.proofs.Common.{◌≡◌, ℕ, ◌+◌, ◌*◌, ◌<◌, ◌&&◌, All, true, false, List, [], ◌∷◌, ◌++◌, map, sym, inl, subst, arith, lit<}
 use Rattle.std.proofs.lemmas.Bool.{and_parts}
 use Rattle.std.proofs.lemmas.Bool.Decides.{nat_tests}
@@ -7,15 +7,15 @@ use Rattle.properties_format.specs.Text.{backslash, scalar}
 use Rattle.properties_format.specs.Escapes.{Four, is_hexadecimal, hexadecimal_value, are_hexadecimal, code_unit, is_surrogate, escaped_character, Spelling, itself, escaped, unicode, surrogates, last, spelling_text, spelt_character, IsSpelling, spelt_before, AreSpellings, Means}
 use Rattle.properties_format.proofs.Encodings.Characters.{pair-scalar}
 
--- a hexadecimal digit counts less than 16
+-- The value of a hexadecimal digit is below 16.
 digit-below : (c : ℕ) → is_hexadecimal c ≡ true → hexadecimal_value c < 16
 digit-below c h = grind (arith, nat_tests)
 
--- four such digits make a number below 10000 hexadecimal
+-- The value of four such digits is below 10000 hexadecimal.
 four-below : (a b c d : ℕ) → a < 16 → b < 16 → c < 16 → d < 16 → ((a * 16 + b) * 16 + c) * 16 + d < 0x1_0000
 four-below a b c d h k l m = omega arith
 
--- so a unit of four hexadecimal digits is below that
+-- A unit of four hexadecimal digits is below 10000 hexadecimal.
 pub code_unit-below : (d : Four) → are_hexadecimal d ≡ true → code_unit d < 0x1_0000
 code_unit-below d h =
     let p = and_parts (is_hexadecimal d.first && is_hexadecimal d.second) (is_hexadecimal d.third && is_hexadecimal d.fourth) h in
@@ -24,20 +24,20 @@ code_unit-below d h =
     four-below (hexadecimal_value d.first) (hexadecimal_value d.second) (hexadecimal_value d.third) (hexadecimal_value d.fourth)
     (digit-below d.first q.0) (digit-below d.second q.1) (digit-below d.third r.0) (digit-below d.fourth r.1)
 
--- a unit that is no surrogate is a scalar
+-- A unit that isn't a surrogate is a scalar value.
 unit-scalar : (n : ℕ) → n < 0x1_0000 → is_surrogate n ≡ false → scalar n
 unit-scalar n h k = grind (arith, nat_tests)
 
--- the character that a backslash and a scalar stand for is a scalar
+-- The character that a backslash and a scalar value mean is a scalar value.
 escaped-scalar : (c : ℕ) → scalar c → scalar (escaped_character c)
 escaped-scalar c h = grind (arith, nat_tests)
 
--- the rest of a text of scalars is of scalars
+-- The rest of a text of scalar values consists of scalar values.
 rest-scalars : (x y : List ℕ) → All scalar (x ++ y) → All scalar y
 rest-scalars [] y h = h
 rest-scalars (c ∷ x) y h = rest-scalars x y (All-tail scalar c (x ++ y) h)
 
--- the character of a spelling
+-- The character of a spelling is a scalar value.
 spelling-scalar : (p : Spelling) (rest : List ℕ) → IsSpelling p rest → All scalar (spelling_text p ++ rest) → scalar (spelt_character p)
 spelling-scalar (itself c) rest h k = All-head scalar c rest k
 spelling-scalar (escaped c) rest h k = escaped-scalar c (All-head scalar c rest (All-tail scalar backslash (c ∷ rest) k))
@@ -45,7 +45,7 @@ spelling-scalar (unicode d) rest h k = unit-scalar (code_unit d) (code_unit-belo
 spelling-scalar (surrogates high low) rest h k = pair-scalar (code_unit high) (code_unit low) h.1 h.3
 spelling-scalar last rest h k = inl (lit< tt)
 
--- the characters of spellings in a text of scalars are scalars
+-- The characters of spellings in a text of scalar values are scalar values.
 pub spellings-scalars : (ps : List Spelling) (rest : List ℕ) → AreSpellings ps rest → All scalar (spelt_before ps rest) → All scalar (map spelt_character ps)
 spellings-scalars [] rest h k = All-nil scalar
 spellings-scalars (p ∷ ps) rest h k =
@@ -53,6 +53,6 @@ spellings-scalars (p ∷ ps) rest h k =
     (spelling-scalar p (spelt_before ps rest) h.0 k)
     (spellings-scalars ps rest h.1 (rest-scalars (spelling_text p) (spelt_before ps rest) k))
 
--- a text of scalars means a text of scalars
+-- A text of scalar values means a text of scalar values.
 pub means-scalars : (text meant : List ℕ) → Means text meant → All scalar text → All scalar meant
 means-scalars text meant m h = subst (All scalar) (sym m.characters) (spellings-scalars m.spellings [] m.each (subst (All scalar) m.whole h))

@@ -1,4 +1,5 @@
--- Where blanks are spelt as themselves, a text without the blanks at its ends means its meaning without them.
+-- If blanks are spelt as themselves, a text without the blanks at its ends means what the whole means without the
+-- blanks at its ends.
 use Rattle.std.proofs.Common.{◌≡◌, ◌&&◌, ℕ, true, false, if◌then◌else◌, List, [], ◌∷◌, ◌++◌, map, refl, ap, sym, ◌∙◌, inl, inr}
 use Rattle.std.proofs.lemmas.Bool.{cases_Bool, both_ways, and_parts}
 use Rattle.properties_format.specs.Text.{is_blank, without_leading_blanks}
@@ -11,12 +12,12 @@ use Rattle.properties_format.proofs.Escapes.Unique.{spelling_tail}
 use Rattle.properties_format.proofs.Escapes.Digits.{hexadecimal-plain}
 use Rattle.properties_format.proofs.Escapes.Laws.{AreWhole, meaning_of-all}
 
--- the spelling of a blank is the blank, and the spelling of another character neither begins nor ends with a blank
+-- The spelling of a blank is the blank; the spelling of another character neither begins nor ends with a blank.
 pub record KeepsBlanks (p : Spelling) : Type 0 where
   pub at_front : begins is_blank (spelling_text p) ≡ is_blank (spelt_character p)
   pub at_end : ends is_blank (spelling_text p) ≡ is_blank (spelt_character p)
 
--- each of them is such
+-- each of these spellings keeps blanks in this way
 abbrev pub AllKeepBlanks : List Spelling → Type 0
 AllKeepBlanks [] = Unit {0}
 AllKeepBlanks (p ∷ ps) = KeepsBlanks p × AllKeepBlanks ps
@@ -26,7 +27,7 @@ abbrev past : List Spelling → List Spelling
 past [] = []
 past (p ∷ ps) = if is_blank (spelt_character p) then past ps else p ∷ ps
 
--- a spelling in front, unless it is one of a blank with nothing after it
+-- the spellings with one more at the front, unless it is that of a blank and no others follow
 unless_last : Spelling → List Spelling → List Spelling
 unless_last p [] = if is_blank (spelt_character p) then [] else p ∷ []
 unless_last p (q ∷ qs) = p ∷ q ∷ qs
@@ -38,7 +39,7 @@ before (p ∷ ps) = unless_last p (before ps)
 
 -- ---- the character that a blank's spelling begins with
 
--- the spelling of a blank is that blank alone
+-- The spelling of a blank is only that blank.
 blank-text : (p : Spelling) → KeepsBlanks p → is_blank (spelt_character p) ≡ true → spelling_text p ≡ spelt_character p ∷ []
 blank-text (itself c) k b = refl
 blank-text (escaped c) k b = absurd (both_ways _ (sym k.at_front) b)
@@ -46,7 +47,7 @@ blank-text (unicode d) k b = absurd (both_ways _ (sym k.at_front) b)
 blank-text (surrogates high low) k b = absurd (both_ways _ (sym k.at_front) b)
 blank-text last k b = absurd (both_ways _ (sym k.at_front) b)
 
--- a spelling in front of a text has a first character
+-- A text that begins with a spelling has a first character.
 text-some : (p : Spelling) (y : List ℕ) → (c : ℕ) × (cs : List ℕ) × (spelling_text p ++ y ≡ c ∷ cs)
 text-some (itself c) y = (_, _, refl)
 text-some (escaped c) y = (_, _, refl)
@@ -56,7 +57,7 @@ text-some last y = (_, _, refl)
 
 -- ---- at the front
 
--- whether a spelling begins with a blank doesn't hang on what follows
+-- Whether a spelling begins with a blank doesn't depend on what follows.
 begins-text : (p : Spelling) (y : List ℕ) → begins is_blank (spelling_text p ++ y) ≡ begins is_blank (spelling_text p)
 begins-text (itself c) y = refl
 begins-text (escaped c) y = refl
@@ -64,7 +65,7 @@ begins-text (unicode d) y = refl
 begins-text (surrogates high low) y = refl
 begins-text last y = refl
 
--- the text without its leading blanks is that of the spellings without theirs
+-- The text without its leading blanks is that of the spellings without their leading blanks.
 without_leading_blanks-text : (ps : List Spelling) → AllKeepBlanks ps → without_leading_blanks (spelt_before ps []) ≡ spelt_before (past ps) []
 without_leading_blanks-text [] k = refl
 without_leading_blanks-text (p ∷ ps) k = elim (cases_Bool (is_blank (spelt_character p))) [
@@ -72,7 +73,7 @@ without_leading_blanks-text (p ∷ ps) k = elim (cases_Bool (is_blank (spelt_cha
   | inr b ↦ rw b (without_leading_blanks-full (spelling_text p ++ spelt_before ps []) (begins-text p (spelt_before ps []) ∙ k.0.at_front ∙ b))
 ]
 
--- and the characters without leading blanks are those of the spellings
+-- The characters without leading blanks are those of the spellings without theirs.
 without_leading_blanks-characters : (ps : List Spelling) → without_leading_blanks (map spelt_character ps) ≡ map spelt_character (past ps)
 without_leading_blanks-characters [] = refl
 without_leading_blanks-characters (p ∷ ps) = elim (cases_Bool (is_blank (spelt_character p))) [
@@ -80,7 +81,7 @@ without_leading_blanks-characters (p ∷ ps) = elim (cases_Bool (is_blank (spelt
   | inr b ↦ rw b refl
 ]
 
--- they are whole where all were
+-- The spellings that are left are whole if all were.
 past-whole : (ps : List Spelling) → AreWhole ps → AreWhole (past ps)
 past-whole [] h = tt
 past-whole (p ∷ ps) h = elim (cases_Bool (is_blank (spelt_character p))) [
@@ -88,7 +89,7 @@ past-whole (p ∷ ps) h = elim (cases_Bool (is_blank (spelt_character p))) [
   | inr b ↦ rw b h
 ]
 
--- and keep blanks where all did
+-- The spellings that are left keep blanks if all did.
 past-keep : (ps : List Spelling) → AllKeepBlanks ps → AllKeepBlanks (past ps)
 past-keep [] h = tt
 past-keep (p ∷ ps) h = elim (cases_Bool (is_blank (spelt_character p))) [
@@ -98,17 +99,17 @@ past-keep (p ∷ ps) h = elim (cases_Bool (is_blank (spelt_character p))) [
 
 -- ---- at the end
 
--- a character that is no blank stays in front
+-- A character that isn't a blank stays at the front.
 full-last : (c : ℕ) (y : List ℕ) → is_blank c ≡ false → unless_last_blank c y ≡ c ∷ y
 full-last c [] b = rw b refl
 full-last c (d ∷ y) b = refl
 
--- a text that ends with no blank stays in front
+-- A text that doesn't end with a blank stays at the front.
 without_trailing_blanks-front : (c : ℕ) (t y : List ℕ) → ends is_blank (c ∷ t) ≡ false → without_trailing_blanks (c ∷ t ++ y) ≡ c ∷ t ++ without_trailing_blanks y
 without_trailing_blanks-front c [] y e = full-last c (without_trailing_blanks y) e
 without_trailing_blanks-front c (d ∷ t) y e = ap (unless_last_blank c) (without_trailing_blanks-front d t y e)
 
--- and so does a spelling that ends with no blank
+-- A spelling that doesn't end with a blank stays at the front.
 without_trailing_blanks-spelling : (p : Spelling) (y : List ℕ) → ends is_blank (spelling_text p) ≡ false → without_trailing_blanks (spelling_text p ++ y) ≡ spelling_text p ++ without_trailing_blanks y
 without_trailing_blanks-spelling (itself c) y e = without_trailing_blanks-front c [] y e
 without_trailing_blanks-spelling (escaped c) y e = without_trailing_blanks-front _ (c ∷ []) y e
@@ -116,13 +117,13 @@ without_trailing_blanks-spelling (unicode d) y e = without_trailing_blanks-front
 without_trailing_blanks-spelling (surrogates high low) y e = without_trailing_blanks-front _ (spelling_tail (surrogates high low)) y e
 without_trailing_blanks-spelling last y e = without_trailing_blanks-front _ [] y e
 
--- among spellings, one of no blank stays in front
+-- Among spellings, one of a character that isn't a blank stays at the front.
 full-unless : (p : Spelling) (qs : List Spelling) → is_blank (spelt_character p) ≡ false → unless_last p qs ≡ p ∷ qs
 unfolding unless_last
 full-unless p [] b = rw b refl
 full-unless p (q ∷ qs) b = refl
 
--- a blank in front of what is left
+-- A blank before what is left.
 blank-front : (p : Spelling) (qs : List Spelling) → KeepsBlanks p → is_blank (spelt_character p) ≡ true
     → unless_last_blank (spelt_character p) (spelt_before qs []) ≡ spelt_before (unless_last p qs) []
 unfolding unless_last
@@ -132,7 +133,7 @@ blank-front p (q ∷ qs) k b = go (spelling_text q ++ spelt_before qs []) (text-
     go : (x : List ℕ) → (c : ℕ) × (cs : List ℕ) × (x ≡ c ∷ cs) → unless_last_blank (spelt_character p) x ≡ spelling_text p ++ x
     go x (c, cs, e) = rw (e, blank-text p k b) refl
 
--- the text without its trailing blanks is that of the spellings without theirs
+-- The text without its trailing blanks is that of the spellings without theirs.
 without_trailing_blanks-text : (ps : List Spelling) → AllKeepBlanks ps → without_trailing_blanks (spelt_before ps []) ≡ spelt_before (before ps) []
 without_trailing_blanks-text [] k = refl
 without_trailing_blanks-text (p ∷ ps) k = elim (cases_Bool (is_blank (spelt_character p))) [
@@ -144,31 +145,32 @@ without_trailing_blanks-text (p ∷ ps) k = elim (cases_Bool (is_blank (spelt_ch
       ∙ ap (λ v. spelt_before v []) (sym (full-unless p (before ps) b))
 ]
 
--- a character in front stays where its spelling does
+-- A character at the front stays if its spelling does.
 unless-characters : (p : Spelling) (qs : List Spelling) → unless_last_blank (spelt_character p) (map spelt_character qs) ≡ map spelt_character (unless_last p qs)
 unfolding unless_last
 unless-characters p [] = elim (cases_Bool (is_blank (spelt_character p))) [ inl b ↦ rw b refl | inr b ↦ rw b refl ]
 unless-characters p (q ∷ qs) = refl
 
--- and the characters without trailing blanks are those of the spellings
+-- The characters without trailing blanks are those of the spellings without theirs.
 without_trailing_blanks-characters : (ps : List Spelling) → without_trailing_blanks (map spelt_character ps) ≡ map spelt_character (before ps)
 without_trailing_blanks-characters [] = refl
 without_trailing_blanks-characters (p ∷ ps) = ap (unless_last_blank (spelt_character p)) (without_trailing_blanks-characters ps) ∙ unless-characters p (before ps)
 
--- with one in front or without it, spellings are whole where all were
+-- With or without one more at the front, the spellings are whole if all were.
 unless-whole : (p : Spelling) (qs : List Spelling) → AreWhole (p ∷ qs) → AreWhole (unless_last p qs)
 unfolding unless_last
 unless-whole p [] h = elim (cases_Bool (is_blank (spelt_character p))) [ inl b ↦ rw b tt | inr b ↦ rw b h ]
 unless-whole p (q ∷ qs) h = h
 
--- so are those without trailing blanks
+-- The spellings without trailing blanks are whole if all were.
 before-whole : (ps : List Spelling) → AreWhole ps → AreWhole (before ps)
 before-whole [] h = tt
 before-whole (p ∷ ps) h = unless-whole p (before ps) (h.0, before-whole ps h.1)
 
 -- ---- at both ends
 
--- The text of whole spellings that keep blanks means, without the blanks at its ends, their characters without those.
+-- The text of whole spellings that keep blanks, without the blanks at its ends, means their characters without the
+-- blanks at their ends.
 pub meaning_of-trimmed : (ps : List Spelling) → AreWhole ps → AllKeepBlanks ps → meaning_of (trimmed (spelt_before ps [])) ≡ means (trimmed (map spelt_character ps))
 meaning_of-trimmed ps h k =
     let e : trimmed (spelt_before ps [])
@@ -183,18 +185,18 @@ meaning_of-trimmed ps h k =
 pub KeepsBlanks-itself : (c : ℕ) → KeepsBlanks (itself c)
 KeepsBlanks-itself c = record { at_front = refl; at_end = refl }
 
--- a backslash and a character, where neither it nor what the two stand for is a blank
+-- A backslash and a character, if neither that character nor the one they mean is a blank.
 pub KeepsBlanks-escaped : (c : ℕ) → is_blank c ≡ false → is_blank (escaped_character c) ≡ false → KeepsBlanks (escaped c)
 KeepsBlanks-escaped c e f = record { at_front = sym f; at_end = e ∙ sym f }
 
--- the last of four digits is no blank
+-- The last of four digits isn't a blank.
 fourth-full : (d : Four) → are_hexadecimal d ≡ true → is_blank d.fourth ≡ false
 fourth-full d h =
     let p = and_parts (is_hexadecimal d.first && is_hexadecimal d.second) (is_hexadecimal d.third && is_hexadecimal d.fourth) h in
     let q = and_parts (is_hexadecimal d.third) (is_hexadecimal d.fourth) p.1 in
     (hexadecimal-plain d.fourth q.1).1
 
--- a `\u` escape of no blank
+-- A `\u` escape of a character that isn't a blank.
 pub KeepsBlanks-unicode : (d : Four) → are_hexadecimal d ≡ true → is_blank (code_unit d) ≡ false → KeepsBlanks (unicode d)
 KeepsBlanks-unicode d h f = record { at_front = sym f; at_end = fourth-full d h ∙ sym f }
 

@@ -1,4 +1,4 @@
--- Each text means one text, or breaks in one way.
+-- Each text means one text, or is malformed in one way.
 use Rattle.std.proofs.Common.{◌≡◌, ℕ, pred, length, List, [], ◌∷◌, ◌++◌, map, Option, Some, None, refl, ap, sym, ◌∙◌, subst, append-nil}
 use Rattle.properties_format.specs.Text.{backslash}
 use Rattle.properties_format.specs.Escapes.{letter_u, Malformed, four_text, Spelling, itself, escaped, unicode, surrogates, last, spelling_text, spelt_character, IsSpelling, spelt_before, AreSpellings, Means, NoSpelling, malformed_by, Breaks, Meaning, means, breaks, IsMeaning}
@@ -13,18 +13,18 @@ spelling_tail (unicode d) = letter_u ∷ four_text d
 spelling_tail (surrogates high low) = (letter_u ∷ four_text high) ++ (backslash ∷ letter_u ∷ four_text low)
 spelling_tail last = []
 
--- ---- one step of the reading
+-- ---- one step of the computation
 
--- where a spelling is found, its character stands in front of what the rest comes to
+-- If a spelling is found, its character comes before what the rest means.
 past-spelling : (c : ℕ) (cs : List ℕ) (p : Spelling) → first_spelling c cs ≡ Some p
     → meaning_past (c ∷ cs) 0 ≡ in_front (spelt_character p) (meaning_past cs (pred (length (spelling_text p))))
 past-spelling c cs p e = rw (e, meaning_past) refl
 
--- where none is found, the text breaks
+-- If no spelling is found, the text is malformed.
 past-none : (c : ℕ) (cs : List ℕ) → first_spelling c cs ≡ None → meaning_past (c ∷ cs) 0 ≡ breaks (fault_of cs)
 past-none c cs e = rw (e, meaning_past) refl
 
--- a spelling in front, where the reading has found it
+-- A spelling at the front that the computation has found.
 past-front : (p : Spelling) (rest : List ℕ) → spelling_of (spelling_text p ++ rest) ≡ Some p
     → meaning_past (spelling_text p ++ rest) 0 ≡ in_front (spelt_character p) (meaning_past rest 0)
 past-front (itself c) rest e = past-spelling c rest (itself c) e
@@ -33,35 +33,35 @@ past-front (unicode d) rest e = past-spelling backslash (letter_u ∷ four_text 
 past-front (surrogates high low) rest e = past-spelling backslash (letter_u ∷ four_text high ++ (backslash ∷ letter_u ∷ four_text low ++ rest)) (surrogates high low) e
 past-front last rest e = past-spelling backslash rest last e
 
--- a spelling in front of what may follow it
+-- A spelling at the front, before what may follow it.
 pub meaning_of-spelling : (p : Spelling) (rest : List ℕ) → IsSpelling p rest → meaning_of (spelling_text p ++ rest) ≡ in_front (spelt_character p) (meaning_of rest)
 unfolding meaning_of
 meaning_of-spelling p rest h = past-front p rest (spelling_of-only p rest h)
 
--- a text in front of a meaning
+-- A text before a meaning.
 pub text_in_front-means : (x y : List ℕ) → text_in_front x (means y) ≡ means (x ++ y)
 text_in_front-means [] y = refl
 text_in_front-means (c ∷ x) y = ap (in_front c) (text_in_front-means x y)
 
--- and of a way to break, which it leaves as it is
+-- A text before something malformed, which stays malformed in the same way.
 pub text_in_front-breaks : (x : List ℕ) (kind : Malformed) → text_in_front x (breaks kind) ≡ breaks kind
 text_in_front-breaks [] kind = refl
 text_in_front-breaks (c ∷ x) kind = ap (in_front c) (text_in_front-breaks x kind)
 
--- spellings in front
+-- Spellings at the front.
 pub meaning_of-spellings : (ps : List Spelling) (rest : List ℕ) → AreSpellings ps rest
     → meaning_of (spelt_before ps rest) ≡ text_in_front (map spelt_character ps) (meaning_of rest)
 meaning_of-spellings [] rest h = refl
 meaning_of-spellings (p ∷ ps) rest h = meaning_of-spelling p (spelt_before ps rest) h.0 ∙ ap (in_front (spelt_character p)) (meaning_of-spellings ps rest h.1)
 
--- an empty text means an empty one
+-- An empty text means an empty text.
 pub meaning_of-empty : meaning_of [] ≡ means []
 unfolding meaning_of
 meaning_of-empty = refl
 
--- ---- what a text comes to, is read
+-- ---- what a text resolves to is the computed meaning
 
--- what a text means is read
+-- What a text means is the computed meaning.
 pub means-only : (text meant : List ℕ) → Means text meant → means meant ≡ meaning_of text
 means-only text meant m = sym (
     ap meaning_of m.whole
@@ -70,18 +70,18 @@ means-only text meant m = sym (
     ∙ text_in_front-means (map spelt_character m.spellings) []
     ∙ ap means (append-nil (map spelt_character m.spellings) ∙ sym m.characters))
 
--- where no spelling begins a text, none is found
+-- If no spelling begins a text, none is found.
 none-found : (c : ℕ) (cs : List ℕ) (o : Option Spelling) → NoSpelling (c ∷ cs) → IsFound (c ∷ cs) o → o ≡ None
 none-found c cs None n f = refl
 none-found c cs (Some p) n f = absurd (n p f.rest f.whole f.is_spelling)
 
--- a `\u` that begins no spelling
+-- A `\u` that begins no spelling.
 pub meaning_of-fault : (after : List ℕ) → NoSpelling (backslash ∷ letter_u ∷ after) → meaning_of (backslash ∷ letter_u ∷ after) ≡ breaks (malformed_by after)
 unfolding meaning_of
 meaning_of-fault after n =
     past-none backslash (letter_u ∷ after) (none-found backslash (letter_u ∷ after) (first_spelling backslash (letter_u ∷ after)) n (first_spelling-found backslash (letter_u ∷ after)))
 
--- and so is the way in which it breaks
+-- How a text is malformed is the computed meaning.
 pub breaks-only : (text : List ℕ) (kind : Malformed) → Breaks text kind → breaks kind ≡ meaning_of text
 breaks-only text kind b = sym (
     ap meaning_of b.whole
@@ -90,14 +90,14 @@ breaks-only text kind b = sym (
     ∙ text_in_front-breaks (map spelt_character b.spellings) (malformed_by b.after)
     ∙ ap breaks (sym b.fault))
 
--- what a text comes to is what is read
+-- What a text resolves to is the computed meaning.
 pub meaning_of-only : (text : List ℕ) (m : Meaning) → IsMeaning text m → m ≡ meaning_of text
 meaning_of-only text (means meant) h = means-only text meant h
 meaning_of-only text (breaks kind) h = breaks-only text kind h
 
--- ---- what is read, the text comes to
+-- ---- a text resolves to the computed meaning
 
--- a spelling in front of a text puts its character in front of what the text comes to
+-- A spelling at the front adds its character to the front of the meaning.
 front-meets : (p : Spelling) (x rest : List ℕ) (m : Meaning) → x ≡ spelling_text p ++ rest → IsSpelling p rest → IsMeaning rest m → IsMeaning x (in_front (spelt_character p) m)
 front-meets p x rest (means meant) e h k = record {
   spellings = p ∷ k.spellings;
@@ -114,7 +114,7 @@ front-meets p x rest (breaks kind) e h k = record {
   fault = k.fault;
 }
 
--- after its first character, a text goes on with the rest of its first spelling
+-- After its first character, a text continues with the rest of its first spelling.
 after-front : (p : Spelling) (c : ℕ) (cs rest : List ℕ) → c ∷ cs ≡ spelling_text p ++ rest → cs ≡ spelling_tail p ++ rest
 after-front (itself d) c cs rest e = cc
 after-front (escaped d) c cs rest e = cc
@@ -122,7 +122,7 @@ after-front (unicode d) c cs rest e = cc
 after-front (surrogates high low) c cs rest e = cc
 after-front last c cs rest e = cc
 
--- which is one character shorter than the spelling
+-- That rest is one character shorter than the spelling.
 length-tail : (p : Spelling) → length (spelling_tail p) ≡ pred (length (spelling_text p))
 length-tail (itself c) = refl
 length-tail (escaped c) = refl
@@ -130,7 +130,7 @@ length-tail (unicode d) = refl
 length-tail (surrogates high low) = refl
 length-tail last = refl
 
--- a text of which all is read, where all after its first character is
+-- A text resolves to its computed meaning if the text after its first character does.
 next-meets : (c : ℕ) (cs : List ℕ) (o : Option Spelling) → first_spelling c cs ≡ o → IsFound (c ∷ cs) o
     → ((t rest : List ℕ) → cs ≡ t ++ rest → IsMeaning rest (meaning_past cs (length t))) → IsMeaning (c ∷ cs) (meaning_past (c ∷ cs) 0)
 next-meets c cs None e f ih = subst (IsMeaning (c ∷ cs)) (sym (past-none c cs e)) (record {
@@ -146,7 +146,7 @@ next-meets c cs (Some p) e f ih =
     (front-meets p (c ∷ cs) f.rest (meaning_past cs (pred (length (spelling_text p)))) f.whole f.is_spelling
     (subst (λ n. IsMeaning f.rest (meaning_past cs n)) (length-tail p) (ih (spelling_tail p) f.rest (after-front p c cs f.rest f.whole))))
 
--- a text of which all is read, where what stands before it has been read
+-- A text resolves to its computed meaning after a spelling that was read.
 past-meets : (text skipped rest : List ℕ) → text ≡ skipped ++ rest → IsMeaning rest (meaning_past text (length skipped))
 past-meets [] [] rest e = record { spellings = []; whole = sym e; each = tt; characters = refl }
 past-meets [] (d ∷ skipped) rest e = absurd (cc)
@@ -154,11 +154,11 @@ past-meets (c ∷ cs) (d ∷ skipped) rest e = past-meets cs skipped rest (cc)
 past-meets (c ∷ cs) [] rest e =
     subst (λ v. IsMeaning v (meaning_past (c ∷ cs) 0)) e (next-meets c cs (first_spelling c cs) refl (first_spelling-found c cs) (λ t r. past-meets cs t r))
 
--- what is read is what the text comes to
+-- A text resolves to its computed meaning.
 pub meaning_of-meets : (text : List ℕ) → IsMeaning text (meaning_of text)
 unfolding meaning_of
 meaning_of-meets text = past-meets text [] text refl
 
--- a text comes to one thing in one way
+-- A text resolves to exactly one meaning.
 pub meaning-unique : (text : List ℕ) (one other : Meaning) → IsMeaning text one → IsMeaning text other → one ≡ other
 meaning-unique text one other h k = meaning_of-only text one h ∙ sym (meaning_of-only text other k)

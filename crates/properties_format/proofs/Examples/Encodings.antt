@@ -1,4 +1,4 @@
--- What some bytes are decoded to, and how some characters are encoded.
+-- What some bytes decode to, and how some characters are encoded.
 use Rattle.std.proofs.Common.{◌≡◌, [], ◌∷◌, refl, Some, None}
 use Rattle.std.specs.Char.{encode_utf8}
 use Rattle.properties_format.specs.Encoding.{windows_1252, utf_8, utf_16le, utf_16be, encoded}
@@ -14,17 +14,17 @@ four-bytes : decoded_of utf_8 (0xf0 ∷ 0x9f ∷ 0x90 ∷ 0x9e ∷ []) ≡ 0x1_f
 unfolding pieces_of
 four-bytes = refl
 
--- its first three bytes are one U+FFFD
+-- the first three bytes are one U+FFFD
 cut-sequence : decoded_of utf_8 (0xf0 ∷ 0x9f ∷ 0x90 ∷ []) ≡ 0xfffd ∷ []
 unfolding pieces_of
 cut-sequence = refl
 
--- a surrogate is no character
+-- a surrogate isn't a character
 surrogate-bytes : decoded_of utf_8 (0xed ∷ 0xa0 ∷ 0x80 ∷ []) ≡ 0xfffd ∷ 0xfffd ∷ 0xfffd ∷ []
 unfolding pieces_of
 surrogate-bytes = refl
 
--- a second byte that doesn't go on with the first one is another U+FFFD, and what follows is read
+-- a second byte that doesn't continue the sequence is another U+FFFD, and what follows is decoded
 broken-second : decoded_of utf_8 (0xf0 ∷ 0x80 ∷ 0x41 ∷ []) ≡ 0xfffd ∷ 0xfffd ∷ 0x41 ∷ []
 unfolding pieces_of
 broken-second = refl
@@ -39,17 +39,17 @@ read-afresh : decoded_of utf_8 (0xe3 ∷ 0x81 ∷ 0xe3 ∷ 0x81 ∷ 0x82 ∷ [])
 unfolding pieces_of
 read-afresh = refl
 
--- UTF-16: pairs, and surrogates that have no partner
+-- UTF-16: surrogate pairs, and unpaired surrogates
 pair-of-units : decoded_of utf_16be (0xd8 ∷ 0x3d ∷ 0xdc ∷ 0x1e ∷ []) ≡ 0x1_f41e ∷ []
 unfolding pieces_of
 pair-of-units = refl
 
--- a low surrogate with no high one before it is U+FFFD
+-- a low surrogate without a high one before it is U+FFFD
 low-unit-alone : decoded_of utf_16be (0xdc ∷ 0x1e ∷ 0x00 ∷ 0x41 ∷ []) ≡ 0xfffd ∷ 0x41 ∷ []
 unfolding pieces_of
 low-unit-alone = refl
 
--- a high surrogate before another is U+FFFD, and the other makes a pair
+-- a high surrogate before another is U+FFFD, and the other one makes a pair
 high-unit-alone : decoded_of utf_16be (0xd8 ∷ 0x3d ∷ 0xd8 ∷ 0x3d ∷ 0xdc ∷ 0x1e ∷ []) ≡ 0xfffd ∷ 0x1_f41e ∷ []
 unfolding pieces_of
 high-unit-alone = refl
@@ -74,32 +74,32 @@ second-byte_order_mark : decoded_of utf_8 (0xef ∷ 0xbb ∷ 0xbf ∷ 0xef ∷ 0
 unfolding pieces_of
 second-byte_order_mark = refl
 
--- that of UTF-8 overrules UTF-16LE
+-- the byte order mark of UTF-8 overrides UTF-16LE
 byte_order_mark-of-utf_8 : decoded_of utf_16le (0xef ∷ 0xbb ∷ 0xbf ∷ 0x61 ∷ []) ≡ 0x61 ∷ []
 unfolding pieces_of
 byte_order_mark-of-utf_8 = refl
 
--- that of UTF-16LE overrules UTF-8
+-- the byte order mark of UTF-16LE overrides UTF-8
 byte_order_mark-of-utf_16le : decoded_of utf_8 (0xff ∷ 0xfe ∷ 0x61 ∷ 0x00 ∷ []) ≡ 0x61 ∷ []
 unfolding pieces_of
 byte_order_mark-of-utf_16le = refl
 
--- that of UTF-16BE overrules windows-1252
+-- the byte order mark of UTF-16BE overrides windows-1252
 byte_order_mark-of-utf_16be : decoded_of windows_1252 (0xfe ∷ 0xff ∷ 0x00 ∷ 0x61 ∷ []) ≡ 0x61 ∷ []
 unfolding pieces_of
 byte_order_mark-of-utf_16be = refl
 
--- FE alone is none, and in UTF-8 it is U+FFFD
+-- FE alone isn't a byte order mark, and in UTF-8 it is U+FFFD
 lone-byte_order_mark-byte : decoded_of utf_8 (0xfe ∷ []) ≡ 0xfffd ∷ []
 unfolding pieces_of
 lone-byte_order_mark-byte = refl
 
--- EF and BB alone are none, and in windows-1252 two characters
+-- EF BB alone isn't a byte order mark, and in windows-1252 it is two characters
 cut-byte_order_mark : decoded_of windows_1252 (0xef ∷ 0xbb ∷ []) ≡ 0xef ∷ 0xbb ∷ []
 unfolding pieces_of
 cut-byte_order_mark = refl
 
--- output
+-- encoding
 euro : encoded windows_1252 0x20ac ≡ Some (0x80 ∷ [])
 euro = refl
 
@@ -107,11 +107,11 @@ euro = refl
 no-byte : encoded windows_1252 0x80 ≡ None
 no-byte = refl
 
--- nor for a character past U+FFFF
+-- windows-1252 has no byte for a character above U+FFFF
 no-byte-either : encoded windows_1252 0x1_f41e ≡ None
 no-byte-either = refl
 
--- asked for UTF-16LE, a character is encoded in UTF-8
+-- a writer that is asked for UTF-16LE encodes a character in UTF-8
 e-acute : encoded utf_16le 0xe9 ≡ Some (0xc3 ∷ 0xa9 ∷ [])
 unfolding encode_utf8
 e-acute = refl

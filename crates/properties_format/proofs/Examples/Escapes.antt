@@ -36,12 +36,12 @@ rows =
     ∷ (backslash ∷ 0x1_f41e ∷ [], means (0x1_f41e ∷ []))
     ∷ []
 
--- each text comes to what stands beside it
+-- Each text resolves to the meaning in its row.
 each : map (λ r. meaning_of r.0) rows ≡ map (λ r. r.1) rows
 unfolding meaning_of
 each = refl
 
--- what the texts of a line mean
+-- the meanings of a line's texts
 abbrev meanings : Logical → List Meaning
 meanings blank = []
 meanings (comment text) = meaning_of text ∷ []
@@ -78,7 +78,7 @@ lines =
     ∷ (codes "!t\t", means (codes "t") ∷ [])
     ∷ []
 
--- the texts of each line come to what stands beside it
+-- The texts of each line resolve to the meanings in its row.
 each_line : map (λ r. meanings (split_of r.0)) lines ≡ map (λ r. r.1) lines
 unfolding split_of meaning_of
 each_line = refl

@@ -1,4 +1,4 @@
--- What readers that stand between two calls still give, computed.
+-- What readers will still return between two calls, computed.
 use Rattle.std.proofs.Common.{◌≡◌, ℕ, Bool, true, false, List, [], ◌∷◌, Some, refl}
 use Rattle.std.specs.Prelude.{codes}
 use Rattle.properties_format.specs.Encoding.{Encoding, windows_1252, utf_8, utf_16le}
@@ -11,79 +11,79 @@ use Rattle.properties_format.specs.Items.{comment, pair, item, malformed, read_f
 use Rattle.properties_format.specs.ItemsToCome.{ReaderState}
 use Rattle.properties_format.specs.Reading.ItemsToCome.{items_to_come, natural_to_come, last_to_come, entries_pending}
 
--- a reader that has decided its encoding, and goes on
+-- a reader that has determined its encoding and isn't at its end
 abbrev going : Encoding → List ℕ → ℕ → Bool → ReaderState
 going e held passed after_cr = record { encoding = e; is_decided = true; held = held; passed = passed; after_cr = after_cr; is_done = false }
 
--- held bytes stand before those to come, and lines are counted on
+-- held bytes come before those to come, and line numbers continue
 held_first : items_to_come (going windows_1252 (codes "b=") 3 false) (codes "c\n#d") end ≡ item 4 (pair (codes "b") (codes "c")) ∷ item 5 (comment (codes "d")) ∷ []
 unfolding items_to_come pieces_of split_of meaning_of
 held_first = refl
 
--- an LF after a CR is of the same end
+-- an LF after a CR belongs to the same line end
 lf_after_cr : items_to_come (going windows_1252 [] 1 true) (codes "\n\na") end ≡ item 3 (pair (codes "a") []) ∷ []
 unfolding items_to_come pieces_of split_of meaning_of
 lf_after_cr = refl
 
--- and after an LF it is another end
+-- an LF after an LF is another line end
 lf_after_lf : items_to_come (going windows_1252 [] 1 false) (codes "\n\na") end ≡ item 4 (pair (codes "a") []) ∷ []
 unfolding items_to_come pieces_of split_of meaning_of
 lf_after_lf = refl
 
--- in UTF-16 half of that LF may be held
+-- in UTF-16, half of that LF may be held
 half_an_lf : items_to_come (going utf_16le (0x0a ∷ []) 1 true) (0x00 ∷ 0x61 ∷ 0x00 ∷ []) end ≡ item 2 (pair (codes "a") []) ∷ []
 unfolding items_to_come pieces_of split_of meaning_of
 half_an_lf = refl
 
--- and what comes may make another unit of it
+-- what comes may make a different unit of it
 half_no_lf : items_to_come (going utf_16le (0x0a ∷ []) 1 true) (0x0a ∷ []) end ≡ item 2 (pair (codes "ਊ") []) ∷ []
 unfolding items_to_come pieces_of split_of meaning_of
 half_no_lf = refl
 
--- once it is decided, bytes like a byte order mark are none
+-- once the encoding is determined, bytes like a byte order mark aren't one
 no_second_mark : items_to_come (going windows_1252 [] 0 false) (0xef ∷ 0xbb ∷ 0xbf ∷ []) end ≡ item 1 (pair (codes "ï»¿") []) ∷ []
 unfolding items_to_come pieces_of split_of meaning_of
 no_second_mark = refl
 
--- a byte order mark that is held in part
+-- a byte order mark, part of which is held
 part_of_a_mark : items_to_come (record { encoding = windows_1252; is_decided = false; held = 0xef ∷ 0xbb ∷ []; passed = 0; after_cr = false; is_done = false }) (0xbf ∷ 0x61 ∷ []) end
     ≡ item 1 (pair (codes "a") []) ∷ []
 unfolding items_to_come pieces_of split_of meaning_of
 part_of_a_mark = refl
 
--- a fault is one of the line that it cut, also where that line goes on another
+-- a failed read has the number of the line in which it fails, even if that line continues another
 fault_in_a_join : items_to_come (going windows_1252 (codes "a\\\n") 6 false) (codes "b") fault ≡ read_fault 8 ∷ []
 unfolding items_to_come pieces_of split_of meaning_of
 fault_in_a_join = refl
 
--- and where more may come, such a line gives nothing yet
+-- if more may come, such a line has no item yet
 more_in_a_join : items_to_come (going windows_1252 (codes "a\\\n") 6 false) (codes "b") more ≡ []
 unfolding items_to_come pieces_of split_of meaning_of
 more_in_a_join = refl
 
--- nothing follows malformed escapes
+-- nothing follows a malformed escape
 malformed_last : items_to_come (going windows_1252 (codes "a\n\\u1\nb") 2 false) [] fault ≡ item 3 (pair (codes "a") []) ∷ malformed not_enough_digits 4 ∷ []
 unfolding items_to_come pieces_of split_of meaning_of
 malformed_last = refl
 
--- at the end for good there is nothing, whatever is held
+-- if the reader is permanently at its end, there is nothing, whatever is held
 done_for_good : items_to_come (record { encoding = utf_8; is_decided = true; held = codes "a=b\n"; passed = 4; after_cr = false; is_done = true }) (codes "c=d\n") fault ≡ []
 unfolding items_to_come pieces_of split_of meaning_of
 done_for_good = refl
 
--- the natural lines alone
+-- only the natural lines
 natural : natural_to_come (going windows_1252 (codes "a\\\n") 6 false) (codes "b\r\n") end
     ≡ record { number = 7; text = codes "a\\" } ∷ record { number = 8; text = codes "b" } ∷ record { number = 9; text = [] } ∷ []
 unfolding natural_to_come pieces_of
 natural = refl
 
--- a join that is open goes on
+-- a logical line that was started is continued
 open_join : entries_pending (Some (record { number = 6; text = codes "a = b" })) (going windows_1252 [] 6 false) (codes "  c\\\n  d\ne") end
     ≡ item 6 (pair (codes "a") (codes "bcd")) ∷ item 9 (pair (codes "e") []) ∷ []
 unfolding entries_pending natural_to_come last_to_come pieces_of split_of meaning_of
 open_join = refl
 
--- and may be open at the end
+-- a logical line that was started may be open at the end
 open_join_at_the_end : entries_pending (Some (record { number = 6; text = codes "#a" })) (going windows_1252 [] 6 false) [] end ≡ item 6 (comment (codes "a")) ∷ []
 unfolding entries_pending natural_to_come last_to_come pieces_of split_of meaning_of
 open_join_at_the_end = refl

@@ -1,4 +1,4 @@
--- Worked rows of lines.
+-- Worked examples of lines.
 use Rattle.std.proofs.Common.{◌≡◌, ℕ, true, false, List, [], ◌∷◌, ◌++◌, refl}
 use Rattle.std.specs.Prelude.{codes}
 use Rattle.properties_format.specs.Text.{LineEnding, lf, cr, crlf, line_ending_text}
@@ -20,19 +20,19 @@ of_none = refl
 of_space : read (codes " ") ≡ line 1 (codes " ") ∷ []
 of_space = refl
 
--- a space and any line ending are that line and an empty one
+-- a space and any line ending are a line with a space and an empty line
 of_space_ended : (t : LineEnding) → read (codes " " ++ line_ending_text t) ≡ line 1 (codes " ") ∷ line 2 [] ∷ []
 of_space_ended lf = refl
 of_space_ended cr = refl
 of_space_ended crlf = refl
 
--- any line ending between two spaces parts them into two lines
+-- any line ending between two spaces separates them into two lines
 of_spaces : (t : LineEnding) → read (codes " " ++ (line_ending_text t ++ codes " ")) ≡ line 1 (codes " ") ∷ line 2 (codes " ") ∷ []
 of_spaces lf = refl
 of_spaces cr = refl
 of_spaces crlf = refl
 
--- any line ending alone stands between two empty lines
+-- any line ending by itself comes between two empty lines
 of_end : (t : LineEnding) → read (line_ending_text t) ≡ line 1 [] ∷ line 2 [] ∷ []
 of_end lf = refl
 of_end cr = refl
@@ -44,18 +44,18 @@ of_end_space lf = refl
 of_end_space cr = refl
 of_end_space crlf = refl
 
--- CR CR LF is two line ends, LF CR too
+-- CR CR LF is two line ends, and so is LF CR
 of_cr_crlf : lines_of (13 ∷ 13 ∷ 10 ∷ []) ≡ record { ended = record { text = []; by = cr } ∷ record { text = []; by = crlf } ∷ []; last = [] }
 of_cr_crlf = refl
 
--- in which the LF ends the first line, and the CR the second
+-- in LF CR, the LF ends the first line and the CR the second
 of_lf_cr : lines_of (10 ∷ 13 ∷ []) ≡ record { ended = record { text = []; by = lf } ∷ record { text = []; by = cr } ∷ []; last = [] }
 of_lf_cr = refl
 
--- an LF that comes in a later part is of the end whose CR came before
+-- an LF that comes in a later part belongs to the end whose CR came before
 of_parts : numbered_lines (lines_of (codes "a=1" ++ (13 ∷ []))) more ++ lines_to_come 1 true [] (10 ∷ codes "b=2") end ≡ line 1 (codes "a=1") ∷ line 2 (codes "b=2") ∷ []
 of_parts = refl
 
--- a line that is held goes on
+-- a line that is held is continued
 of_held : lines_to_come 3 false (codes "ab") (codes "c" ++ (10 ∷ codes "d")) end ≡ line 4 (codes "abc") ∷ line 5 (codes "d") ∷ []
 of_held = refl

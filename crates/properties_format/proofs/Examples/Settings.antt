@@ -7,7 +7,7 @@ use Rattle.properties_format.specs.Reading.Settings.{is_good_prefix, is_good_sep
 number_sign_alone : is_good_prefix (codes "#") ≡ true
 number_sign_alone = refl
 
--- `!` alone
+-- `!` by itself
 exclamation_mark_alone : is_good_prefix (codes "!") ≡ true
 exclamation_mark_alone = refl
 
@@ -39,11 +39,11 @@ backslash_behind_number_sign = refl
 empty_prefix : is_good_prefix [] ≡ false
 empty_prefix = refl
 
--- a space alone, without a comment sign
+-- a space, without a comment sign
 blank_prefix : is_good_prefix (codes " ") ≡ false
 blank_prefix = refl
 
--- a letter in the place of a comment sign
+-- a letter instead of a comment sign
 no_sign : is_good_prefix (codes "x") ≡ false
 no_sign = refl
 
@@ -63,11 +63,11 @@ carriage_return_behind_sign = refl
 colon_alone : is_good_separator (codes ":") ≡ true
 colon_alone = refl
 
--- `=` alone
+-- `=` by itself
 equals_alone : is_good_separator (codes "=") ≡ true
 equals_alone = refl
 
--- a space alone
+-- a single space
 one_blank : is_good_separator (codes " ") ≡ true
 one_blank = refl
 
@@ -87,11 +87,11 @@ blank_and_equals = refl
 equals_and_blank : is_good_separator (codes "= ") ≡ true
 equals_and_blank = refl
 
--- a form feed alone
+-- a single form feed
 form_feed_alone : is_good_separator (codes "\u{c}") ≡ true
 form_feed_alone = refl
 
--- a tab alone
+-- a single tab
 tab_alone : is_good_separator (codes "\t") ≡ true
 tab_alone = refl
 
@@ -99,7 +99,7 @@ tab_alone = refl
 empty_separator : is_good_separator [] ≡ false
 empty_separator = refl
 
--- a letter, which is no sign and no blank
+-- a letter, which is neither a sign nor a blank
 letter : is_good_separator (codes "x") ≡ false
 letter = refl
 
@@ -111,10 +111,10 @@ colon_and_equals = refl
 equals_and_colon : is_good_separator (codes "=:") ≡ false
 equals_and_colon = refl
 
--- an LF, which is no blank
+-- an LF, which isn't a blank
 line_feed_alone : is_good_separator (codes "\n") ≡ false
 line_feed_alone = refl
 
--- a CR, which is none either
+-- a CR, which isn't a blank
 carriage_return_alone : is_good_separator (codes "\r") ≡ false
 carriage_return_alone = refl

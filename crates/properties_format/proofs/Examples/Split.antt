@@ -46,7 +46,7 @@ rows =
     ∷ (codes "a\nb\rc=d\n", pair (codes "a\nb\rc") (codes "d\n"))
     ∷ []
 
--- each line is what stands beside it
+-- Each line is what its row says.
 each : map (λ r. split_of r.0) rows ≡ map (λ r. r.1) rows
 unfolding split_of bug
 each = refl

@@ -1,4 +1,4 @@
--- What some calls write, what it is to be read back as, and that it is.
+-- What some calls write, what is expected to be read back, and that it is read back.
 use Rattle.std.proofs.Common.{◌≡◌, List, [], ◌∷◌, refl, true, false, ℕ}
 use Rattle.std.specs.Prelude.{codes}
 use Rattle.std.specs.Char.{encode_utf8}
@@ -13,7 +13,7 @@ use Rattle.properties_format.specs.Reading.Items.{items_of}
 use Rattle.properties_format.specs.Settings.{default_settings}
 use Rattle.properties_format.specs.Writing.{Call, comment_call, pair_call, prefix_call, separator_call, ending_call, flush_call, ascii_only_call, answers, wrote, items_read_back}
 
--- a new writer's calls write these bytes, which read back as these items
+-- the calls of a new writer write these bytes, which are read back as these items
 abbrev WritesAndReads : Encoding → List Call → List ℕ → List Entry → Type 0
 WritesAndReads e calls bytes items =
     (wrote e default_settings 0 calls ≡ bytes) × (items_read_back default_settings 0 calls ≡ items) × (items_of e bytes end ≡ items)
@@ -28,22 +28,22 @@ empty_texts : WritesAndReads windows_1252 (pair_call [] [] ∷ []) (codes "=\n")
 unfolding items_of pieces_of split_of meaning_of
 empty_texts = (refl, refl, refl)
 
--- comment signs take a backslash
+-- comment signs are escaped
 signs : WritesAndReads windows_1252 (pair_call (codes "!") (codes "#") ∷ []) (codes "\\!=\\#\n") (item 1 (pair (codes "!") (codes "#")) ∷ [])
 unfolding items_of pieces_of split_of meaning_of
 signs = (refl, refl, refl)
 
--- spaces and separators take a backslash
+-- spaces and separators are escaped
 separators : WritesAndReads windows_1252 (pair_call (codes " :=") (codes " :=") ∷ []) (codes "\\ \\:\\==\\ \\:\\=\n") (item 1 (pair (codes " :=") (codes " :=")) ∷ [])
 unfolding items_of pieces_of split_of meaning_of
 separators = (refl, refl, refl)
 
--- a character past U+FFFF is two escapes in windows-1252, and U+0001 is one
+-- in windows-1252, a character above U+FFFF is two escapes, and U+0001 is one
 past_the_encoding : WritesAndReads windows_1252 (pair_call (codes "🐞") (codes "\u{1}") ∷ []) (codes "\\ud83d\\udc1e=\\u0001\n") (item 1 (pair (codes "🐞") (codes "\u{1}")) ∷ [])
 unfolding items_of pieces_of split_of meaning_of
 past_the_encoding = (refl, refl, refl)
 
--- in the key as in the value
+-- a character that windows-1252 lacks is escaped in the key and in the value
 past_the_encoding_twice : WritesAndReads windows_1252 (pair_call (codes "🐞") (codes "🐞") ∷ []) (codes "\\ud83d\\udc1e=\\ud83d\\udc1e\n") (item 1 (pair (codes "🐞") (codes "🐞")) ∷ [])
 unfolding items_of pieces_of split_of meaning_of
 past_the_encoding_twice = (refl, refl, refl)
@@ -64,27 +64,27 @@ bom_like_key : WritesAndReads windows_1252 (pair_call (codes "þÿ") (codes "x")
 unfolding items_of pieces_of split_of meaning_of
 bom_like_key = (refl, refl, refl)
 
--- one that begins with `ÿþ` begins like that of UTF-16LE
+-- a key that begins with `ÿþ` begins like the byte order mark of UTF-16LE
 bom_like_key_low_byte_first : WritesAndReads windows_1252 (pair_call (codes "ÿþa") (codes "x") ∷ []) (codes "\\u00ffþa=x\n") (item 1 (pair (codes "ÿþa") (codes "x")) ∷ [])
 unfolding items_of pieces_of split_of meaning_of
 bom_like_key_low_byte_first = (refl, refl, refl)
 
--- and one that begins with `ï»¿` like that of UTF-8
+-- a key that begins with `ï»¿` begins like the byte order mark of UTF-8
 bom_like_key_of_three : WritesAndReads windows_1252 (pair_call (codes "ï»¿") (codes "x") ∷ []) (codes "\\u00ef»¿=x\n") (item 1 (pair (codes "ï»¿") (codes "x")) ∷ [])
 unfolding items_of pieces_of split_of meaning_of
 bom_like_key_of_three = (refl, refl, refl)
 
--- with its first two characters alone a key begins like none
+-- a key with only the first two of these characters doesn't
 no_bom_like_key : WritesAndReads windows_1252 (pair_call (codes "ï»") (codes "x") ∷ []) (codes "ï»=x\n") (item 1 (pair (codes "ï»") (codes "x")) ∷ [])
 unfolding items_of pieces_of split_of meaning_of
 no_bom_like_key = (refl, refl, refl)
 
--- in UTF-8 it is U+FEFF that is escaped
+-- in UTF-8, U+FEFF is escaped
 bom_like_key_in_utf_8 : WritesAndReads utf_8 (pair_call (codes "\u{feff}") [] ∷ []) (codes "\\ufeff=\n") (item 1 (pair (codes "\u{feff}") []) ∷ [])
 unfolding items_of pieces_of split_of meaning_of encode_utf8
 bom_like_key_in_utf_8 = (refl, refl, refl)
 
--- after a comment such a key is not on the first line, and stands as it is
+-- after a comment, such a key isn't on the first line, and isn't escaped
 bom_like_key_after_a_comment : WritesAndReads windows_1252 (comment_call (codes "c") ∷ pair_call (codes "þÿ") (codes "x") ∷ [])
     (codes "# c\nþÿ=x\n") (item 1 (comment (codes "c")) ∷ item 2 (pair (codes "þÿ") (codes "x")) ∷ [])
 unfolding items_of pieces_of split_of meaning_of
@@ -98,22 +98,22 @@ utf_8_pairs : WritesAndReads utf_8
 unfolding items_of pieces_of split_of meaning_of encode_utf8
 utf_8_pairs = (refl, refl, refl)
 
--- a character past U+FFFF is four bytes, and not escaped
+-- in UTF-8, a character above U+FFFF is four bytes, and isn't escaped
 utf_8_past_ascii : WritesAndReads utf_8 (pair_call (codes "🐞") (codes "🐞") ∷ []) (0xf0 ∷ 0x9f ∷ 0x90 ∷ 0x9e ∷ 0x3d ∷ 0xf0 ∷ 0x9f ∷ 0x90 ∷ 0x9e ∷ 0x0a ∷ []) (item 1 (pair (codes "🐞") (codes "🐞")) ∷ [])
 unfolding items_of pieces_of split_of meaning_of encode_utf8
 utf_8_past_ascii = (refl, refl, refl)
 
--- asked for UTF-16LE, a writer writes UTF-8
+-- a writer that is asked for UTF-16LE writes UTF-8
 utf_16_asked : WritesAndReads (output_encoding utf_16le) (pair_call (codes "é") (codes "日") ∷ []) (0xc3 ∷ 0xa9 ∷ 0x3d ∷ 0xe6 ∷ 0x97 ∷ 0xa5 ∷ 0x0a ∷ []) (item 1 (pair (codes "é") (codes "日")) ∷ [])
 unfolding items_of pieces_of split_of meaning_of encode_utf8
 utf_16_asked = (refl, refl, refl)
 
--- where an ASCII character is one byte
+-- a writer that is asked for UTF-16LE writes an ASCII character as one byte
 utf_8_beside_ascii : WritesAndReads (output_encoding utf_16le) (pair_call (codes "a") (codes "é") ∷ []) (0x61 ∷ 0x3d ∷ 0xc3 ∷ 0xa9 ∷ 0x0a ∷ []) (item 1 (pair (codes "a") (codes "é")) ∷ [])
 unfolding items_of pieces_of split_of meaning_of encode_utf8
 utf_8_beside_ascii = (refl, refl, refl)
 
--- pairs stand in the order of their calls
+-- pairs are written in the order of their calls
 pairs_alone : WritesAndReads windows_1252 (pair_call (codes "b") (codes "2") ∷ pair_call (codes "a") [] ∷ []) (codes "b=2\na=\n")
     (item 1 (pair (codes "b") (codes "2")) ∷ item 2 (pair (codes "a") []) ∷ [])
 unfolding items_of pieces_of split_of meaning_of
@@ -124,12 +124,12 @@ empty_comment : WritesAndReads windows_1252 (comment_call [] ∷ []) (codes "# \
 unfolding items_of pieces_of split_of meaning_of
 empty_comment = (refl, refl, refl)
 
--- the text stands after the prefix
+-- the text follows the prefix
 a_comment : WritesAndReads windows_1252 (comment_call (codes "a") ∷ []) (codes "# a\n") (item 1 (comment (codes "a")) ∷ [])
 unfolding items_of pieces_of split_of meaning_of
 a_comment = (refl, refl, refl)
 
--- blanks at its front are written, and not read back
+-- blanks at the front of the text are written, but not read back
 comment_with_blanks : WritesAndReads windows_1252 (comment_call (codes " :=") ∷ []) (codes "#  :=\n") (item 1 (comment (codes ":=")) ∷ [])
 unfolding items_of pieces_of split_of meaning_of
 comment_with_blanks = (refl, refl, refl)
@@ -139,7 +139,7 @@ comment_past_the_encoding : WritesAndReads windows_1252 (comment_call (codes "�
 unfolding items_of pieces_of split_of meaning_of
 comment_past_the_encoding = (refl, refl, refl)
 
--- CR, LF and backslash are escaped, and the tail of the prefix is read back before the text
+-- CR, LF and backslash are escaped, and the rest of the prefix is read back before the text
 comment_escapes : WritesAndReads windows_1252 (prefix_call (codes "#x") ∷ comment_call (codes "a\r\nb\\ ") ∷ []) (codes "#xa\\r\\nb\\\\ \n") (item 1 (comment (codes "xa\r\nb\\")) ∷ [])
 unfolding items_of pieces_of split_of meaning_of
 comment_escapes = (refl, refl, refl)
@@ -154,7 +154,7 @@ prefix_twice : WritesAndReads windows_1252 (prefix_call (codes " !") ∷ comment
 unfolding items_of pieces_of split_of meaning_of
 prefix_twice = (refl, refl, refl)
 
--- and doesn't change how a text is escaped
+-- a prefix doesn't change how a text is escaped
 prefix_past_the_encoding : WritesAndReads windows_1252 (prefix_call (codes " !") ∷ comment_call (codes "🐞") ∷ []) (codes " !\\ud83d\\udc1e\n") (item 1 (comment (codes "🐞")) ∷ [])
 unfolding items_of pieces_of split_of meaning_of
 prefix_past_the_encoding = (refl, refl, refl)
@@ -199,7 +199,7 @@ a_tab : WritesAndReads windows_1252 (separator_call (codes "\t") ∷ pair_call (
 unfolding items_of pieces_of split_of meaning_of
 a_tab = (refl, refl, refl)
 
--- `:=` is refused, and `=` stays
+-- `:=` is refused, and the separator is still `=`
 bad_separator : WritesAndReads windows_1252 (separator_call (codes ":=") ∷ pair_call (codes "x") (codes "y") ∷ []) (codes "x=y\n") (item 1 (pair (codes "x") (codes "y")) ∷ [])
 unfolding items_of pieces_of split_of meaning_of
 bad_separator = (refl, refl, refl)
@@ -222,23 +222,23 @@ line_feeds : WritesAndReads windows_1252 (ending_call lf ∷ comment_call (codes
 unfolding items_of pieces_of split_of meaning_of
 line_feeds = (refl, refl, refl)
 
--- each line is ended by what is set at that moment
+-- each line gets the line ending that is set when it is written
 line_endings : WritesAndReads windows_1252
     (ending_call cr ∷ pair_call (codes "a") (codes "b") ∷ ending_call crlf ∷ comment_call (codes "c") ∷ []) (codes "a=b\r# c\r\n")
     (item 1 (pair (codes "a") (codes "b")) ∷ item 2 (comment (codes "c")) ∷ [])
 unfolding items_of pieces_of split_of meaning_of
 line_endings = (refl, refl, refl)
 
--- an empty key under blanks alone is refused, and nothing is written
+-- an empty key under a separator of blanks only is refused, and nothing is written
 empty_key : WritesAndReads windows_1252 (separator_call (codes " ") ∷ pair_call [] (codes "v") ∷ pair_call (codes "a") [] ∷ []) (codes "a \n") (item 1 (pair (codes "a") []) ∷ [])
 unfolding items_of pieces_of split_of meaning_of
 empty_key = (refl, refl, refl)
 
--- that pair alone is refused
+-- only that pair is refused
 empty_key_answers : answers default_settings (separator_call (codes " ") ∷ pair_call [] (codes "v") ∷ pair_call (codes "a") [] ∷ []) ≡ true ∷ false ∷ true ∷ []
 empty_key_answers = refl
 
--- a bad setting is refused, and the one before stays
+-- a bad setting is refused, and the previous one stays
 refused_calls : WritesAndReads windows_1252
     (separator_call (codes " ") ∷ pair_call [] (codes "v") ∷ separator_call (codes "x") ∷ pair_call (codes "a") (codes "b") ∷ [])
     (codes "a b\n") (item 1 (pair (codes "a") (codes "b")) ∷ [])
@@ -268,7 +268,7 @@ a_map : WritesAndReads windows_1252 (pair_call (codes "a") (codes "1") ∷ pair_
 unfolding items_of pieces_of split_of meaning_of
 a_map = (refl, refl, refl)
 
--- ASCII alone
+-- ASCII-only output
 ascii_only_in_utf_8 : WritesAndReads utf_8 (ascii_only_call true ∷ pair_call (codes "é") (codes "🐞") ∷ []) (codes "\\u00e9=\\ud83d\\udc1e\n") (item 1 (pair (codes "é") (codes "🐞")) ∷ [])
 unfolding items_of pieces_of split_of meaning_of encode_utf8
 ascii_only_in_utf_8 = (refl, refl, refl)
@@ -278,18 +278,18 @@ ascii_only_in_windows_1252 : WritesAndReads windows_1252 (ascii_only_call true �
 unfolding items_of pieces_of split_of meaning_of
 ascii_only_in_windows_1252 = (refl, refl, refl)
 
--- turned off again, it escapes nothing that the encoding has
+-- once it is turned off again, nothing that the encoding has is escaped
 ascii_only_and_not : WritesAndReads windows_1252
     (ascii_only_call true ∷ comment_call (codes "é") ∷ ascii_only_call false ∷ comment_call (codes "é") ∷ []) (codes "# \\u00e9\n# é\n")
     (item 1 (comment (codes "é")) ∷ item 2 (comment (codes "é")) ∷ [])
 unfolding items_of pieces_of split_of meaning_of
 ascii_only_and_not = (refl, refl, refl)
 
--- to turn it on or off is accepted
+-- turning it on or off is accepted
 ascii_only_answers : answers default_settings (ascii_only_call true ∷ comment_call (codes "é") ∷ ascii_only_call false ∷ comment_call (codes "é") ∷ []) ≡ true ∷ true ∷ true ∷ true ∷ []
 ascii_only_answers = refl
 
--- U+007F stands as itself, and U+0080 is escaped
+-- U+007F isn't escaped, and U+0080 is
 last_of_ascii : WritesAndReads windows_1252 (ascii_only_call true ∷ pair_call (codes "\u{7f}") (codes "\u{80}") ∷ []) (codes "\u{7f}=\\u0080\n") (item 1 (pair (codes "\u{7f}") (codes "\u{80}")) ∷ [])
 unfolding items_of pieces_of split_of meaning_of
 last_of_ascii = (refl, refl, refl)
@@ -299,17 +299,17 @@ ascii_only_prefix : WritesAndReads windows_1252 (ascii_only_call true ∷ prefix
 unfolding items_of pieces_of split_of meaning_of
 ascii_only_prefix = (refl, refl, refl)
 
--- a first key U+FEFF is escaped, as it is with ASCII alone off
+-- a first key U+FEFF is escaped, as it is with ASCII-only output off
 ascii_only_bom_like_key : WritesAndReads utf_8 (ascii_only_call true ∷ pair_call (codes "\u{feff}") [] ∷ []) (codes "\\ufeff=\n") (item 1 (pair (codes "\u{feff}") []) ∷ [])
 unfolding items_of pieces_of split_of meaning_of encode_utf8
 ascii_only_bom_like_key = (refl, refl, refl)
 
--- both characters of a first key `þÿ` are escaped, and not the first alone
+-- both characters of a first key `þÿ` are escaped, not only the first
 ascii_only_bom_like_bytes : WritesAndReads windows_1252 (ascii_only_call true ∷ pair_call (codes "þÿ") (codes "x") ∷ []) (codes "\\u00fe\\u00ff=x\n") (item 1 (pair (codes "þÿ") (codes "x")) ∷ [])
 unfolding items_of pieces_of split_of meaning_of
 ascii_only_bom_like_bytes = (refl, refl, refl)
 
--- asked for UTF-16LE, too, all bytes are ASCII
+-- all bytes are ASCII if UTF-16LE is requested too
 ascii_only_units : WritesAndReads (output_encoding utf_16le) (ascii_only_call true ∷ pair_call (codes "a") (codes "é") ∷ []) (codes "a=\\u00e9\n") (item 1 (pair (codes "a") (codes "é")) ∷ [])
 unfolding items_of pieces_of split_of meaning_of encode_utf8
 ascii_only_units = (refl, refl, refl)

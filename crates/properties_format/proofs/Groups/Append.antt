@@ -1,4 +1,4 @@
--- The groups of lines to which more come: those that are closed stay, and the open one goes on.
+-- The groups of lines that more lines follow: finished groups stay, and the open one continues.
 use Rattle.std.proofs.Common.{◌≡◌, ℕ, List, [], ◌∷◌, ◌++◌, ap, sym, ◌∙◌, inl, inr}
 use Rattle.std.proofs.lemmas.Bool.{cases_Bool}
 use Rattle.properties_format.specs.Lines.{Line, InputEnd, more, line_ends, numbered_lines}
@@ -7,7 +7,8 @@ use Rattle.properties_format.specs.Reading.Groups.{closes, groups_after, groups_
 use Rattle.properties_format.proofs.Lines.Numbers.{numbered_lines-append}
 use Rattle.properties_format.proofs.Groups.Steps.{groups_after-close, groups_after-leave, open_after-close, open_after-leave, groups_after-more}
 
--- The groups of lines one after the other: those that the first lines close, and those of the open one and the other lines.
+-- The groups of two lists of lines: those that the first lines finish, followed by those of the open one and the other
+-- lines.
 pub groups_after-append : (p ls ms : List Line) (e : InputEnd) → groups_after p (ls ++ ms) e ≡ groups_after p ls more ++ groups_after (open_after p ls) ms e
 groups_after-append p [] ms e = ap (λ v. v ++ groups_after p ms e) (sym (groups_after-more p))
 groups_after-append p (l ∷ ls) ms e = elim (cases_Bool (closes p l)) [
@@ -23,11 +24,12 @@ groups_after-append p (l ∷ ls) ms e = elim (cases_Bool (closes p l)) [
       ∙ ap (λ v. groups_after p (l ∷ ls) more ++ groups_after v ms e) (sym (open_after-leave p l ls k))
 ]
 
--- the same where no group is open before them
+-- The groups of two lists of lines, if no group is open before them.
 pub groups_of-append : (ls ms : List Line) (e : InputEnd) → groups_of (ls ++ ms) e ≡ groups_of ls more ++ groups_after (open_after [] ls) ms e
 groups_of-append ls ms e = groups_after-append [] ls ms e
 
--- The groups of a text to which more may come are the first groups of every text that it begins, whatever its ending.
+-- The groups of a text that more may follow are the first groups of every text that begins with it, whatever its
+-- ending.
 pub groups-stay : (x y : List ℕ) (e : InputEnd)
     → groups_of (numbered_lines (lines_of (x ++ y)) e) e
     ≡ groups_of (numbered_lines (lines_of x) more) more

@@ -6,45 +6,46 @@ use Rattle.properties_format.specs.Lines.{Line}
 use Rattle.properties_format.specs.Groups.{is_open, is_comment_line, without_open_backslash, joined_after, joined}
 use Rattle.properties_format.proofs.Groups.Open.{without_open_backslash-closed}
 
--- ---- what begins a line
+-- ---- how a line begins
 
--- a blank at the front does not matter
+-- A blank at the front doesn't decide whether a line is a comment line.
 pub is_comment_line-blank : (c : ℕ) (x : List ℕ) → is_blank c ≡ true → is_comment_line (c ∷ x) ≡ is_comment_line x
 is_comment_line-blank c x h = rw h refl
 
--- any other character at the front decides
+-- Any other character at the front decides it.
 pub is_comment_line-other : (c : ℕ) (x : List ℕ) → is_blank c ≡ false → is_comment_line (c ∷ x) ≡ is_comment_sign c
 is_comment_line-other c x h = rw h refl
 
 -- ---- logical lines
 
--- a comment line stands as it is
+-- A comment line is unchanged.
 pub joined-comment_line : (l : Line) (ls : List Line) → is_comment_line l.text ≡ true → joined (l ∷ ls) ≡ l.text
 joined-comment_line l ls h = rw h refl
 
--- a group that begins with no comment line: its first line less its open backslash, and what the others add
+-- If a group doesn't begin with a comment line, its logical line is the first line without its open backslash, followed
+-- by what the other lines add.
 pub joined-unmarked : (l : Line) (ls : List Line) → is_comment_line l.text ≡ false → joined (l ∷ ls) ≡ without_open_backslash l.text ++ joined_after ls
 joined-unmarked l ls h = rw h refl
 
--- a line that is a group by itself, no comment line
+-- A group of one line that isn't a comment line.
 pub joined-one : (l : Line) → is_comment_line l.text ≡ false → joined (l ∷ []) ≡ without_open_backslash l.text
 joined-one l h = joined-unmarked l [] h ∙ append-nil (without_open_backslash l.text)
 
--- a line that is not open is its logical line, comment line or not
+-- A line that isn't open is its own logical line, whether or not it is a comment line.
 pub joined-closed : (l : Line) → is_open l.text ≡ false → joined (l ∷ []) ≡ l.text
 joined-closed l h = elim (cases_Bool (is_comment_line l.text)) [
   | inl k ↦ joined-comment_line l [] k
   | inr k ↦ joined-one l k ∙ without_open_backslash-closed l.text h
 ]
 
--- what lines and then more lines add is what the first add and then what the second add
+-- What two lists of lines add is what the first adds followed by what the second adds.
 pub joined_after-append : (ls ms : List Line) → joined_after (ls ++ ms) ≡ joined_after ls ++ joined_after ms
 joined_after-append [] ms = refl
 joined_after-append (l ∷ ls) ms =
     let x = without_open_backslash (without_leading_blanks l.text) in
     ap (λ v. x ++ v) (joined_after-append ls ms) ∙ sym (append_assoc x (joined_after ls) (joined_after ms))
 
--- one line more of a group that begins with no comment line
+-- One more line in a group that doesn't begin with a comment line.
 pub joined-push : (l : Line) (ls : List Line) (m : Line) → is_comment_line l.text ≡ false
     → joined (l ∷ ls ++ m ∷ []) ≡ joined (l ∷ ls) ++ without_open_backslash (without_leading_blanks m.text)
 joined-push l ls m h =

@@ -1,4 +1,4 @@
--- How the logical lines go on with the next line.
+-- The logical lines, given the next natural line.
 use Rattle.std.proofs.Common.{◌≡◌, ℕ, ◌+◌, ◌⊎◌, true, false, List, [], ◌∷◌, ◌++◌, refl, ap, sym, ◌∙◌, inl, inr}
 use Rattle.std.proofs.lemmas.Bool.{cases_Bool}
 use Rattle.properties_format.specs.Text.{LineEnding, cr, line_ending_text}
@@ -11,17 +11,17 @@ use Rattle.properties_format.proofs.Lines.Steps.{lines_to_come-line}
 use Rattle.properties_format.proofs.Groups.Steps.{groups_of-comment_line, groups_of-closed, groups_of-open, groups_after-closed, groups_after-open}
 use Rattle.properties_format.proofs.Groups.Joined.{joined-comment_line, joined-one, joined-closed, joined-push}
 
--- a line more where lines are joined
+-- One more open line continues the logical line.
 pub joins_after-open : (number : ℕ) (text : List ℕ) (l : Line) (ls : List Line) (e : InputEnd) → is_open l.text ≡ true
     → joins_after number text (l ∷ ls) e ≡ joins_after number (text ++ addition l.text) ls e
 joins_after-open number text l ls e h = rw (h, joins_after) refl
 
--- a line that is not open finishes the join
+-- A line that isn't open finishes the logical line.
 pub joins_after-closed : (number : ℕ) (text : List ℕ) (l : Line) (ls : List Line) (e : InputEnd) → is_open l.text ≡ false
     → joins_after number text (l ∷ ls) e ≡ record { number = number; text = text ++ addition l.text } ∷ logical_lines ls e
 joins_after-closed number text l ls e h = rw (h, joins_after) refl
 
--- the logical lines after an open group hang on its number and its joined lines alone
+-- The logical lines after an open group depend only on its number and its joined lines.
 pub logical-after : (m : Line) (ms ls : List Line) (e : InputEnd) → is_comment_line m.text ≡ false
     → logical (groups_after (m ∷ ms) ls e) ≡ joins_after m.number (joined (m ∷ ms)) ls e
 logical-after m ms [] end h = refl
@@ -44,24 +44,24 @@ pub logical_lines-comment_line : (l : Line) (ls : List Line) (e : InputEnd) → 
 logical_lines-comment_line l ls e h =
     ap logical (groups_of-comment_line l ls e h) ∙ ap (λ v. record { number = l.number; text = v } ∷ logical_lines ls e) (joined-comment_line l [] h)
 
--- so is a line that is not open
+-- A line that isn't open is a logical line.
 pub logical_lines-closed : (l : Line) (ls : List Line) (e : InputEnd) → is_open l.text ≡ false → logical_lines (l ∷ ls) e ≡ l ∷ logical_lines ls e
 logical_lines-closed l ls e h =
     ap logical (groups_of-closed l ls e h) ∙ ap (λ v. record { number = l.number; text = v } ∷ logical_lines ls e) (joined-closed l h)
 
--- an open line that is no comment line begins a join
+-- An open line that isn't a comment line begins a logical line that continues.
 pub logical_lines-open : (l : Line) (ls : List Line) (e : InputEnd) → is_comment_line l.text ≡ false → is_open l.text ≡ true
     → logical_lines (l ∷ ls) e ≡ joins_after l.number (without_open_backslash l.text) ls e
 logical_lines-open l ls e h k =
     ap logical (groups_of-open l ls e h k) ∙ logical-after l [] ls e h ∙ ap (λ v. joins_after l.number v ls e) (joined-one l h)
 
--- ---- a line of a text that no other is joined to
+-- ---- a line of a text that no other line continues
 
--- such a line is a comment line, or not open
+-- the line is a comment line, or isn't open
 abbrev pub StandsAlone : List ℕ → Type 0
 StandsAlone x = (is_comment_line x ≡ true) ⊎ (is_open x ≡ false)
 
--- it is a group
+-- Such a line is a group.
 pub groups-line : (n : ℕ) (text : List ℕ) (by : LineEnding) (y : List ℕ) (e : InputEnd) → HoldsNoLineEnd text → (by ≡ cr → begins_with_lf y ≡ false) → StandsAlone text
     → groups_of (lines_to_come n false [] (text ++ (line_ending_text by ++ y)) e) e
     ≡ (record { number = n + 1; text = text } ∷ []) ∷ groups_of (lines_to_come (n + 1) false [] y e) e

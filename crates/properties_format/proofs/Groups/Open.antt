@@ -1,4 +1,4 @@
--- How many backslashes a text ends in, and which lines are open.
+-- The number of backslashes at the end of a text, and which lines are open.
 use Rattle.std.proofs.Common.{◌≡◌, ℕ, suc, ◌==◌, ◌⊎◌, Bool, true, false, List, [], ◌∷◌, ◌++◌, refl, ap, sym, ◌∙◌, inl, inr, append_assoc, arith}
 use Rattle.std.specs.Prelude.{reverse, not, ◌%◌, if◌then◌else◌}
 use Rattle.std.proofs.lemmas.Bool.Decides.{eqb_tells}
@@ -6,24 +6,24 @@ use Rattle.std.proofs.lemmas.List.{reverse-append}
 use Rattle.properties_format.specs.Text.{backslash, is_blank}
 use Rattle.properties_format.specs.Groups.{leading_backslashes, ending_backslashes, is_open, without_last, without_open_backslash}
 
--- one character more at the end
+-- One more character at the end.
 pub ending_backslashes-push : (x : List ℕ) (c : ℕ) → ending_backslashes (x ++ c ∷ []) ≡ (if c == backslash then suc (ending_backslashes x) else 0)
 ending_backslashes-push x c = ap leading_backslashes (reverse-append x (c ∷ []))
 
--- a backslash at the end is one more
+-- A backslash at the end adds one.
 pub ending_backslashes-more : (x : List ℕ) → ending_backslashes (x ++ backslash ∷ []) ≡ suc (ending_backslashes x)
 ending_backslashes-more x = ending_backslashes-push x backslash
 
--- and after any other character there is none
+-- After any other character at the end there are none.
 pub ending_backslashes-none : (x : List ℕ) (c : ℕ) → (c == backslash) ≡ false → ending_backslashes (x ++ c ∷ []) ≡ 0
 ending_backslashes-none x c h = ending_backslashes-push x c ∙ rw h refl
 
--- what stands from a character on that is no backslash doesn't count for those at the front
+-- Characters from the first non-backslash on don't affect the number of backslashes at the front.
 leading-other : (a b : List ℕ) (c : ℕ) → (c == backslash) ≡ false → leading_backslashes (a ++ c ∷ b) ≡ leading_backslashes a
 leading-other [] b c h = rw h refl
 leading-other (d ∷ a) b c h = rw (leading-other a b c h) refl
 
--- what stands before a character that is no backslash does not count
+-- Characters before the last non-backslash don't affect the number of backslashes at the end.
 pub ending_backslashes-after : (x : List ℕ) (c : ℕ) (y : List ℕ) → (c == backslash) ≡ false → ending_backslashes (x ++ c ∷ y) ≡ ending_backslashes y
 ending_backslashes-after x c y h =
     ap leading_backslashes (reverse-append x (c ∷ y) ∙ ap (λ v. v ++ reverse x) (reverse-append (c ∷ []) y) ∙ append_assoc (reverse y) (c ∷ []) (reverse x))
@@ -31,7 +31,7 @@ ending_backslashes-after x c y h =
 
 -- ---- open lines
 
--- a number is odd exactly where the one before it is not
+-- A number is odd exactly if the number before it isn't.
 odd-next : (n : ℕ) → (suc n % 2 == 1) ≡ not (n % 2 == 1)
 odd-next n = elim (eqb_tells (n % 2) 1) [
   | inl k ↦ let f : suc n % 2 ≡ 0 = omega (arith, k.1) in rw (k.1, f) refl
@@ -41,7 +41,7 @@ odd-next n = elim (eqb_tells (n % 2) 1) [
       rw (g, f) refl
 ]
 
--- a backslash at the end opens a line that was not open, and closes one that was
+-- A backslash at the end makes a line open if it wasn't, and not open if it was.
 pub is_open-backslash : (x : List ℕ) → is_open (x ++ backslash ∷ []) ≡ not (is_open x)
 is_open-backslash x = ap (λ v. v % 2 == 1) (ending_backslashes-more x) ∙ odd-next (ending_backslashes x)
 
@@ -53,15 +53,15 @@ is_open-two x = ap is_open (sym (append_assoc x (backslash ∷ []) (backslash �
     not-not true = refl
     not-not false = refl
 
--- a line that ends in another character is not open
+-- A line that ends in another character isn't open.
 pub is_open-other : (x : List ℕ) (c : ℕ) → (c == backslash) ≡ false → is_open (x ++ c ∷ []) ≡ false
 is_open-other x c h = ap (λ v. v % 2 == 1) (ending_backslashes-none x c h)
 
--- whether a line is open does not hang on what stands before a character that is no backslash
+-- Whether a line is open doesn't depend on what comes before a character that isn't a backslash.
 pub is_open-after : (x : List ℕ) (c : ℕ) (y : List ℕ) → (c == backslash) ≡ false → is_open (x ++ c ∷ y) ≡ is_open y
 is_open-after x c y h = ap (λ v. v % 2 == 1) (ending_backslashes-after x c y h)
 
--- a blank is no backslash
+-- A blank isn't a backslash.
 pub blank-other : (c : ℕ) → is_blank c ≡ true → (c == backslash) ≡ false
 blank-other c h = elim (eqb_tells c backslash) [
   | inl k ↦ let f : is_blank backslash ≡ true = rw k.1 at h in absurd (cc)
@@ -70,7 +70,7 @@ blank-other c h = elim (eqb_tells c backslash) [
 
 -- ---- the last character
 
--- a text with one character more, less its last character, is that text
+-- A text with one more character, without its last character, is that text.
 pub without_last-push : (x : List ℕ) (c : ℕ) → without_last (x ++ c ∷ []) ≡ x
 without_last-push [] c = refl
 without_last-push (d ∷ []) c = refl
@@ -96,6 +96,6 @@ open-ends x h = elim (last_character x) [
   ]
 ]
 
--- a line that is not open stays as it is
+-- A line that isn't open is unchanged.
 pub without_open_backslash-closed : (x : List ℕ) → is_open x ≡ false → without_open_backslash x ≡ x
 without_open_backslash-closed x h = rw h refl

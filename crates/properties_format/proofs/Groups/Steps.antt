@@ -1,11 +1,11 @@
--- How the groups go on with the next line, where a group begins and where one is open.
+-- The groups, given the next line, both at the start of a group and in an open group.
 use Rattle.std.proofs.Common.{◌≡◌, Bool, true, false, List, [], ◌∷◌, ◌++◌, refl}
 use Rattle.std.specs.Prelude.{◌||◌}
 use Rattle.properties_format.specs.Lines.{Line, InputEnd, more}
 use Rattle.properties_format.specs.Groups.{is_open, is_comment_line}
 use Rattle.properties_format.specs.Reading.Groups.{closes, groups_after, groups_of, open_after}
 
--- a line that closes its group
+-- A line that finishes its group.
 pub groups_after-close : (p : List Line) (l : Line) (ls : List Line) (e : InputEnd) → closes p l ≡ true
     → groups_after p (l ∷ ls) e ≡ (p ++ l ∷ []) ∷ groups_after [] ls e
 groups_after-close p l ls e h = rw (h, groups_after) refl
@@ -15,21 +15,21 @@ pub groups_after-leave : (p : List Line) (l : Line) (ls : List Line) (e : InputE
     → groups_after p (l ∷ ls) e ≡ groups_after (p ++ l ∷ []) ls e
 groups_after-leave p l ls e h = rw (h, groups_after) refl
 
--- after a line that closes its group none is open
+-- After a line that finishes its group, no group is open.
 pub open_after-close : (p : List Line) (l : Line) (ls : List Line) → closes p l ≡ true → open_after p (l ∷ ls) ≡ open_after [] ls
 open_after-close p l ls h = rw (h, open_after) refl
 
--- after one that leaves it open, the group is open with that line
+-- After a line that leaves it open, the group is open and has that line.
 pub open_after-leave : (p : List Line) (l : Line) (ls : List Line) → closes p l ≡ false → open_after p (l ∷ ls) ≡ open_after (p ++ l ∷ []) ls
 open_after-leave p l ls h = rw (h, open_after) refl
 
--- ---- which line closes a group
+-- ---- which line finishes a group
 
--- a comment line closes the group that it begins
+-- A comment line finishes the group that it begins.
 pub closes-comment_line : (l : Line) → is_comment_line l.text ≡ true → closes [] l ≡ true
 closes-comment_line l h = rw h refl
 
--- a line that is not open closes every group
+-- A line that isn't open finishes every group.
 pub closes-closed : (p : List Line) (l : Line) → is_open l.text ≡ false → closes p l ≡ true
 closes-closed [] l h = rw h (or-true (is_comment_line l.text))
   where
@@ -38,44 +38,44 @@ closes-closed [] l h = rw h (or-true (is_comment_line l.text))
     or-true false = refl
 closes-closed (m ∷ ms) l h = rw h refl
 
--- an open line that is no comment line leaves the group open that it begins
+-- An open line that isn't a comment line leaves the group open that it begins.
 pub closes-begins : (l : Line) → is_comment_line l.text ≡ false → is_open l.text ≡ true → closes [] l ≡ false
 closes-begins l h k = rw (h, k) refl
 
--- an open line leaves a group open
+-- An open line leaves an open group open.
 pub closes-goes_on : (m : Line) (ms : List Line) (l : Line) → is_open l.text ≡ true → closes (m ∷ ms) l ≡ false
 closes-goes_on m ms l h = rw h refl
 
 -- ---- the groups by the next line
 
--- where a group begins: a comment line is a group
+-- At the start of a group: a comment line is a group.
 pub groups_of-comment_line : (l : Line) (ls : List Line) (e : InputEnd) → is_comment_line l.text ≡ true
     → groups_of (l ∷ ls) e ≡ (l ∷ []) ∷ groups_of ls e
 groups_of-comment_line l ls e h = groups_after-close [] l ls e (closes-comment_line l h)
 
--- where a group begins: a line that is not open is a group
+-- At the start of a group: a line that isn't open is a group.
 pub groups_of-closed : (l : Line) (ls : List Line) (e : InputEnd) → is_open l.text ≡ false
     → groups_of (l ∷ ls) e ≡ (l ∷ []) ∷ groups_of ls e
 groups_of-closed l ls e h = groups_after-close [] l ls e (closes-closed [] l h)
 
--- where a group begins: an open line that is no comment line begins one that goes on
+-- At the start of a group: an open line that isn't a comment line begins a group that continues.
 pub groups_of-open : (l : Line) (ls : List Line) (e : InputEnd) → is_comment_line l.text ≡ false → is_open l.text ≡ true
     → groups_of (l ∷ ls) e ≡ groups_after (l ∷ []) ls e
 groups_of-open l ls e h k = groups_after-leave [] l ls e (closes-begins l h k)
 
--- where a group is open: a line that is not open closes it
+-- In an open group: a line that isn't open finishes it.
 pub groups_after-closed : (p : List Line) (l : Line) (ls : List Line) (e : InputEnd) → is_open l.text ≡ false
     → groups_after p (l ∷ ls) e ≡ (p ++ l ∷ []) ∷ groups_of ls e
 groups_after-closed p l ls e h = groups_after-close p l ls e (closes-closed p l h)
 
--- where a group is open: an open line is one more of it, comment line or not
+-- In an open group: an open line continues it, whether or not it is a comment line.
 pub groups_after-open : (m : Line) (ms : List Line) (l : Line) (ls : List Line) (e : InputEnd) → is_open l.text ≡ true
     → groups_after (m ∷ ms) (l ∷ ls) e ≡ groups_after (m ∷ ms ++ l ∷ []) ls e
 groups_after-open m ms l ls e h = groups_after-leave (m ∷ ms) l ls e (closes-goes_on m ms l h)
 
 -- ---- no line comes
 
--- where more may come, an open group is no group yet
+-- If more may come, an open group isn't a group yet.
 pub groups_after-more : (p : List Line) → groups_after p [] more ≡ []
 groups_after-more [] = refl
 groups_after-more (m ∷ ms) = refl

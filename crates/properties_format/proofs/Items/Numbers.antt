@@ -1,4 +1,4 @@
--- The numbers of the items strictly ascend.
+-- The numbers of the items ascend strictly.
 use Rattle.std.proofs.Common.{ℕ, ◌+◌, ◌<◌, ◌≤◌, List, [], ◌∷◌, ◌++◌, length, arith, append_assoc, subst, zero-add}
 use Rattle.properties_format.specs.Encoding.{Encoding}
 use Rattle.properties_format.specs.Reading.Encoding.{decoded_of}
@@ -11,17 +11,17 @@ use Rattle.properties_format.specs.Reading.Items.{outcome_of, followed, entries_
 use Rattle.properties_format.proofs.Groups.Meets.{groups_of-meets}
 use Rattle.properties_format.proofs.Items.Unique.{items_of-only}
 
--- the numbers of the lines ascend from above low, and go no further than high
+-- the numbers of the lines ascend, start above low, and are at most high
 abbrev LinesWithin : ℕ → ℕ → List Line → Type 0
 LinesWithin low high [] = low ≤ high
 LinesWithin low high (l ∷ ls) = (low < l.number) × LinesWithin l.number high ls
 
--- and so do the numbers of the groups' first lines
+-- the numbers of the groups' first lines ascend, start above low, and are at most high
 abbrev FirstsWithin : ℕ → ℕ → List (List Line) → Type 0
 FirstsWithin low high [] = low ≤ high
 FirstsWithin low high (g ∷ gs) = (low < first_number g) × FirstsWithin (first_number g) high gs
 
--- whether the ending adds the last line
+-- 1 if the ending adds a last line, otherwise 0
 abbrev last_line : InputEnd → ℕ
 last_line end = 1
 last_line fault = 0
@@ -29,42 +29,42 @@ last_line more = 0
 
 -- ---- lines
 
--- the numbers of the lines after n line ends ascend from above n, and go no further than n and their count
+-- The numbers of the lines after n line ends ascend, start above n, and are at most n plus their count.
 numbered-within : (n : ℕ) (ls : List Ended) (last : List ℕ) (ending : InputEnd) (high : ℕ) → n + length ls + last_line ending ≤ high → LinesWithin n high (numbered n ls last ending)
 numbered-within n [] last end high h = (omega arith, omega arith)
 numbered-within n [] last fault high h = omega arith
 numbered-within n [] last more high h = omega arith
 numbered-within n (l ∷ ls) last ending high h = (omega arith, numbered-within (n + 1) ls last ending high (omega arith))
 
--- where lines are within two numbers, the first is not above the second
+-- If lines lie within two numbers, the first number isn't above the second.
 lines-bounded : (low high : ℕ) (ls : List Line) → LinesWithin low high ls → low ≤ high
 lines-bounded low high [] h = h
 lines-bounded low high (l ∷ ls) h = let k = lines-bounded l.number high ls h.1 in let b = h.0 in omega arith
 
--- lines above a number are above any lower one
+-- Lines above a number are above any lower number.
 lines-lower : (low less high : ℕ) (ls : List Line) → less < low → LinesWithin low high ls → LinesWithin less high ls
 lines-lower low less high [] k h = omega arith
 lines-lower low less high (l ∷ ls) k h = (let b = h.0 in omega arith, h.1)
 
--- without the first ones, the others are within the same numbers
+-- Without the first lines, the others still lie within the same numbers.
 lines-after : (low high : ℕ) (xs ys : List Line) → LinesWithin low high (xs ++ ys) → LinesWithin low high ys
 lines-after low high [] ys h = h
 lines-after low high (x ∷ xs) ys h = lines-lower x.number low high ys h.0 (lines-after x.number high xs ys h.1)
 
--- and so without the first lines of a first part
+-- Without the first lines of a first part, the others still lie within the same numbers.
 lines-behind_first : (low high : ℕ) (xs ys zs : List Line) → LinesWithin low high ((xs ++ ys) ++ zs) → LinesWithin low high (ys ++ zs)
 lines-behind_first low high xs ys zs h = lines-after low high xs (ys ++ zs) (subst (λ v. LinesWithin low high v) (append_assoc xs ys zs) h)
 
 -- ---- groups
 
--- the number of a last group is within those that its lines are in
+-- The number of a last group lies within the numbers that its lines lie within.
 firsts-of_last : (low high : ℕ) (ls : List Line) (ending : InputEnd) → LinesWithin low high ls → FirstsWithin low high (last_group ls ending)
 firsts-of_last low high [] ending h = h
 firsts-of_last low high (l ∷ ls) end h = (h.0, lines-bounded l.number high ls h.1)
 firsts-of_last low high (l ∷ ls) fault h = lines-bounded low high (l ∷ ls) h
 firsts-of_last low high (l ∷ ls) more h = lines-bounded low high (l ∷ ls) h
 
--- and so are those of whole groups and of a last one
+-- The numbers of whole groups and of a last one lie within those that their lines lie within.
 firsts-of : (low high : ℕ) (whole : List (List Line)) (unfinished : List Line) (ending : InputEnd) → AreWhole whole → LinesWithin low high (lines_in whole ++ unfinished)
     → FirstsWithin low high (whole ++ last_group unfinished ending)
 firsts-of low high [] unfinished ending w h = firsts-of_last low high unfinished ending h
@@ -72,37 +72,37 @@ firsts-of low high ([] ∷ gs) unfinished ending w h = absurd w.0
 firsts-of low high ((l ∷ ls) ∷ gs) unfinished ending w h =
     (h.0, firsts-of l.number high gs unfinished ending w.1 (lines-behind_first l.number high ls (lines_in gs) unfinished h.1))
 
--- and those of the groups of lines
+-- The numbers of the groups of lines lie within those that the lines lie within.
 groups-within : (low high : ℕ) (ls : List Line) (ending : InputEnd) (gs : List (List Line)) → IsGroups ls ending gs → LinesWithin low high ls → FirstsWithin low high gs
 groups-within low high ls ending gs g h = rw g.are_groups (firsts-of low high g.whole g.unfinished ending g.are_whole (rw g.are_lines at h))
 
 -- ---- entries
 
--- where a line's number and those after it ascend, so do those of its entry and the entries after it
+-- If a line's number and those after it ascend, so do the numbers of its entry and of the entries after it.
 followed-ascend : (low high number : ℕ) (outcome : Outcome) (rest : List Entry) → low < number → NumbersAscend number rest → NumbersAscend low rest → NumbersAscend low (followed number outcome rest)
 followed-ascend low high number ignored rest h k m = m
 followed-ascend low high number (given content) rest h k m = (h, k)
 followed-ascend low high number (broken kind) rest h k m = (h, tt)
 
--- numbers that ascend from above one ascend from above any lower one
+-- Numbers that ascend from above one number ascend from above any lower one.
 ascend-lower : (low less : ℕ) (entries : List Entry) → less < low → NumbersAscend low entries → NumbersAscend less entries
 ascend-lower low less [] k h = tt
 ascend-lower low less (x ∷ xs) k h = (let b = h.0 in omega arith, h.1)
 
--- a fault after n line ends has a number above n, and above any that the lines before it have
+-- A read that fails after n line ends has a number above n, and above those of the lines before it.
 last-ascend : (low high n : ℕ) (ending : InputEnd) → high ≤ n + last_line ending → low ≤ high → NumbersAscend low (last_entries n ending)
 last-ascend low high n end h k = tt
 last-ascend low high n fault h k = (omega arith, tt)
 last-ascend low high n more h k = tt
 
--- the numbers of the entries of groups ascend, where those of the groups' first lines do
+-- The numbers of the entries of groups ascend if those of the groups' first lines do.
 entries-ascend : (low high n : ℕ) (ending : InputEnd) (gs : List (List Line)) → high ≤ n + last_line ending → FirstsWithin low high gs → NumbersAscend low (entries_of n ending gs)
 entries-ascend low high n ending [] h k = last-ascend low high n ending h k
 entries-ascend low high n ending (g ∷ gs) h k =
     let rest = entries-ascend (first_number g) high n ending gs h k.1 in
     followed-ascend low high (first_number g) (outcome_of (joined g)) (entries_of n ending gs) k.0 rest (ascend-lower (first_number g) low (entries_of n ending gs) k.0 rest)
 
--- The numbers of the entries of lines after n line ends strictly ascend, from n + 1 on.
+-- The numbers of the entries of lines after n line ends ascend strictly, and are at least n + 1.
 pub lines-ascend : (n : ℕ) (lines : Lines) (ending : InputEnd)
     → NumbersAscend n (entries_of (n + line_ends lines) ending (groups_of (numbered n lines.ended lines.last ending) ending))
 lines-ascend n lines ending =
@@ -112,13 +112,13 @@ lines-ascend n lines ending =
     (groups-within n high numbers ending (groups_of numbers ending) (groups_of-meets numbers ending)
     (numbered-within n lines.ended lines.last ending high (omega arith)))
 
--- The numbers of the computed items strictly ascend, from 1 on.
+-- The numbers of the computed items ascend strictly, and are at least 1.
 pub items_of-ascend : (e : Encoding) (bytes : List ℕ) (ending : InputEnd) → NumbersAscend 0 (items_of e bytes ending)
 unfolding items_of
 items_of-ascend e bytes ending =
     let lines = lines_of (decoded_of e bytes) in
     subst (λ v. NumbersAscend 0 (entries_of v ending (groups_of (numbered_lines lines ending) ending))) (zero-add (line_ends lines)) (lines-ascend 0 lines ending)
 
--- The numbers of the items strictly ascend, from 1 on.
+-- The numbers of the items ascend strictly, and are at least 1.
 pub items-ascend : (e : Encoding) (bytes : List ℕ) (ending : InputEnd) (entries : List Entry) → IsItems e bytes ending entries → NumbersAscend 0 entries
 items-ascend e bytes ending entries h = rw (items_of-only e bytes ending entries h) (items_of-ascend e bytes ending)

@@ -1,4 +1,4 @@
--- The items of an input exist, and they are the only ones.
+-- The items of an input exist and are unique.
 use Rattle.std.proofs.Common.{◌≡◌, ℕ, List, [], ◌∷◌, refl, ap, ◌∙◌, inl, inr}
 use Rattle.properties_format.specs.Encoding.{Encoding}
 use Rattle.properties_format.specs.Reading.Encoding.{decoded_of}
@@ -20,38 +20,38 @@ use Rattle.properties_format.proofs.Groups.Only.{groups_of-only}
 use Rattle.properties_format.proofs.Split.Unique.{split_of-meets, split_of-only}
 use Rattle.properties_format.proofs.Escapes.Unique.{meaning_of-meets, meaning_of-only}
 
--- ---- what a logical line comes to
+-- ---- the outcome of a logical line
 
--- a comment comes to what its text comes to
+-- The outcome of a comment, given what its text resolves to.
 comment-meets : (x raw : List ℕ) → IsSplit x (Logical.comment raw) → (m : Meaning) → IsMeaning raw m → IsOutcome x (comment_outcome m)
 comment-meets x raw split (means text) h = record { raw = raw; split = split; means = h }
 comment-meets x raw split (breaks kind) h = inl (record { raw = raw; split = split; breaks = h })
 
--- and a pair to what its key and its value come to
+-- The outcome of a pair, given what its key and its value resolve to.
 pair-meets : (x raw_key raw_value : List ℕ) → IsSplit x (Logical.pair raw_key raw_value) → (k v : Meaning) → IsMeaning raw_key k → IsMeaning raw_value v → IsOutcome x (pair_outcome k v)
 pair-meets x rk rv split (breaks kind) v h i = inr (inl (record { raw_key = rk; raw_value = rv; split = split; breaks = h }))
 pair-meets x rk rv split (means key) (breaks kind) h i = inr (inr (record { raw_key = rk; raw_value = rv; key = key; split = split; key_means = h; breaks = i }))
 pair-meets x rk rv split (means key) (means value) h i = record { raw_key = rk; raw_value = rv; split = split; key_means = h; value_means = i }
 
--- a line comes to what is computed from what it is
+-- The outcome of a line is the one computed from what the line is.
 split-meets : (x : List ℕ) (what : Logical) → IsSplit x what → IsOutcome x (split_outcome what)
 split-meets x Logical.blank h = h
 split-meets x (Logical.comment raw) h = comment-meets x raw h (meaning_of raw) (meaning_of-meets raw)
 split-meets x (Logical.pair rk rv) h = pair-meets x rk rv h (meaning_of rk) (meaning_of rv) (meaning_of-meets rk) (meaning_of-meets rv)
 
--- what is computed is what a line comes to
+-- The computed outcome is an outcome of the line.
 pub outcome_of-meets : (x : List ℕ) → IsOutcome x (outcome_of x)
 outcome_of-meets x = split-meets x (split_of x) (split_of-meets x)
 
--- where the line is a comment or a pair, its outcome is that of its texts' meanings
+-- The outcome of a comment is the one computed from what its text resolves to.
 comment-only : (x raw : List ℕ) (m : Meaning) → IsSplit x (Logical.comment raw) → IsMeaning raw m → comment_outcome m ≡ outcome_of x
 comment-only x raw m split h = ap comment_outcome (meaning_of-only raw m h) ∙ ap split_outcome (split_of-only x (Logical.comment raw) split)
 
--- the same of a pair
+-- The outcome of a pair is the one computed from what its texts resolve to.
 pair-only : (x rk rv : List ℕ) (k v : Meaning) → IsSplit x (Logical.pair rk rv) → k ≡ meaning_of rk → v ≡ meaning_of rv → pair_outcome k v ≡ outcome_of x
 pair-only x rk rv k v split h i = ap (λ m. pair_outcome m v) h ∙ ap (λ m. pair_outcome (meaning_of rk) m) i ∙ ap split_outcome (split_of-only x (Logical.pair rk rv) split)
 
--- a line comes to nothing but what is computed
+-- A line has no outcome but the computed one.
 pub outcome_of-only : (x : List ℕ) (outcome : Outcome) → IsOutcome x outcome → outcome ≡ outcome_of x
 outcome_of-only x ignored h = ap split_outcome (split_of-only x Logical.blank h)
 outcome_of-only x (given (comment text)) h = comment-only x h.raw (means text) h.split h.means
@@ -65,20 +65,20 @@ outcome_of-only x (broken kind) (inr (inr h)) =
 
 -- ---- the entries of groups
 
--- what is computed for an outcome and for entries that may come after it are its entries
+-- The entries computed for an outcome and for entries that may follow it are its entries.
 followed-meets : (number : ℕ) (outcome : Outcome) (Rest : List Entry → Type 0) (rest : List Entry) → Rest rest → IsFollowed number outcome Rest (followed number outcome rest)
 followed-meets number ignored Rest rest h = h
 followed-meets number (given content) Rest rest h = (rest, refl, h)
 followed-meets number (broken kind) Rest rest h = refl
 
--- and there are no others, where no other entries may come after it
+-- There are no others, if no other entries may follow it.
 followed-only : (number : ℕ) (outcome : Outcome) (Rest : List Entry → Type 0) (rest entries : List Entry) → ((ys : List Entry) → Rest ys → ys ≡ rest)
     → IsFollowed number outcome Rest entries → entries ≡ followed number outcome rest
 followed-only number ignored Rest rest entries one h = one entries h
 followed-only number (given content) Rest rest entries one h = h.1 ∙ ap (λ v. item number content ∷ v) (one h.0 h.2)
 followed-only number (broken kind) Rest rest entries one h = h
 
--- what is computed are the entries of the groups
+-- The computed entries are the entries of the groups.
 pub entries_of-meets : (n : ℕ) (ending : InputEnd) (groups : List (List Line)) → AreEntries n ending groups (entries_of n ending groups)
 entries_of-meets n ending [] = refl
 entries_of-meets n ending (group ∷ groups) = (
@@ -87,7 +87,7 @@ entries_of-meets n ending (group ∷ groups) = (
   followed-meets (first_number group) (outcome_of (joined group)) (AreEntries n ending groups) (entries_of n ending groups) (entries_of-meets n ending groups),
 )
 
--- and they have no others
+-- The groups have no other entries.
 pub entries_of-only : (n : ℕ) (ending : InputEnd) (groups : List (List Line)) (entries : List Entry) → AreEntries n ending groups entries → entries ≡ entries_of n ending groups
 entries_of-only n ending [] entries h = h
 entries_of-only n ending (group ∷ groups) entries (outcome, is, follows) =
@@ -96,7 +96,7 @@ entries_of-only n ending (group ∷ groups) entries (outcome, is, follows) =
 
 -- ---- the items of an input
 
--- what is computed are the items of the input
+-- The computed items are the items of the input.
 pub items_of-meets : (e : Encoding) (bytes : List ℕ) (ending : InputEnd) → IsItems e bytes ending (items_of e bytes ending)
 unfolding items_of
 items_of-meets e bytes ending =
@@ -113,7 +113,7 @@ items_of-meets e bytes ending =
       are_entries = entries_of-meets (line_ends lines) ending groups;
     }
 
--- and it has no others
+-- The input has no other items.
 pub items_of-only : (e : Encoding) (bytes : List ℕ) (ending : InputEnd) (entries : List Entry) → IsItems e bytes ending entries → entries ≡ items_of e bytes ending
 unfolding items_of
 items_of-only e bytes ending entries h =

@@ -1,4 +1,4 @@
--- What comes, said by divisions and computed: the two are one.
+-- What comes as defined by divisions, and as computed, is the same.
 use Rattle.std.proofs.Common.{◌≡◌, ℕ, ◌+◌, false, List, ◌∷◌, ◌++◌, refl, ap, sym, ◌∙◌, inl, inr}
 use Rattle.std.proofs.lemmas.Bool.{cases_Bool}
 use Rattle.properties_format.specs.Pieces.{Piece, characters}
@@ -17,34 +17,35 @@ use Rattle.properties_format.proofs.ItemsToCome.Lines.{natural-done}
 
 -- ---- items
 
--- what is equal to what is computed are the items to come
+-- Entries equal to the computed ones are the items to come.
 pub are_to_come : {s : ReaderState} {d : List ℕ} {ending : InputEnd} {entries : List Entry} → items_to_come s d ending ≡ entries → IsItemsToCome s d ending entries
 are_to_come {s} {d} {ending} h = rw (← h) (items_to_come-meets s d ending)
 
--- and the items to come are computed
+-- The items to come are the computed ones.
 pub to_come_are : {s : ReaderState} {d : List ℕ} {ending : InputEnd} {entries : List Entry} → IsItemsToCome s d ending entries → items_to_come s d ending ≡ entries
 to_come_are {s} {d} {ending} {entries} h = sym (items_to_come-only s d ending entries h)
 
--- an entry that reading these bytes gives comes first of them
+-- An entry that reading these bytes returns comes first of the items to come.
 pub comes_first : {old new : ReaderState} {bytes : List ℕ} {entry : Entry} → ReadsEntry old bytes entry new → ComesFirst old bytes entry new
 comes_first {entry = entry} h = record {
   others = λ d ending entries k. are_to_come (h.items d ending ∙ ap (λ v. entry ∷ v) (to_come_are k));
 }
 
--- and one that comes first of them is given by reading them
+-- An entry that comes first of them is returned by reading these bytes.
 pub first_comes : {old new : ReaderState} {bytes : List ℕ} {entry : Entry} → ComesFirst old bytes entry new → ReadsEntry old bytes entry new
 first_comes {new = new} h = record { items = λ d ending. to_come_are (h.others d ending (items_to_come new d ending) (items_to_come-meets new d ending)) }
 
 -- ---- natural lines
 
--- before the end for good there come the lines of the text to come, numbered on, and then what the ending adds
+-- Unless the reader is permanently at its end, the lines of the text to come come next, numbered on, followed by what
+-- the ending adds.
 natural-going : (s : ReaderState) (d : List ℕ) (ending : InputEnd) → s.is_done ≡ false
     → (natural_to_come s d ending ≡ numbered s.passed (lines_of (text_to_come s d)).ended (lines_of (text_to_come s d)).last ending)
     × (last_to_come s d ending ≡ last_entries (s.passed + line_ends (lines_of (text_to_come s d))) ending)
 unfolding natural_to_come last_to_come
 natural-going s d ending h = (rw h refl, rw h refl)
 
--- what is computed are the lines to come
+-- The computed lines are the lines to come.
 pub natural_to_come-meets : (s : ReaderState) (d : List ℕ) (ending : InputEnd) → AreLinesToCome s d ending (natural_to_come s d ending) (last_to_come s d ending)
 natural_to_come-meets s d ending = elim (cases_Bool s.is_done) [
   | inl h ↦ inl (h, (natural-done s d ending h).0, (natural-done s d ending h).1)
@@ -63,7 +64,7 @@ natural_to_come-meets s d ending = elim (cases_Bool s.is_done) [
   )
 ]
 
--- the lines to come are what is computed
+-- The lines to come are the computed ones.
 pub natural_to_come-only : (s : ReaderState) (d : List ℕ) (ending : InputEnd) (lines : List Line) (last : List Entry) → AreLinesToCome s d ending lines last
     → (lines ≡ natural_to_come s d ending) × (last ≡ last_to_come s d ending)
 natural_to_come-only s d ending lines last (inl h) = let done = natural-done s d ending h.0 in (h.1 ∙ sym done.0, h.2 ∙ sym done.1)
@@ -80,7 +81,7 @@ natural_to_come-only s d ending lines last (inr h) =
       k.are_last ∙ ap (λ (v : Lines). last_entries (s.passed + line_ends v) ending) all ∙ sym going.1,
     )
 
--- lines that reading these bytes gives come first of them
+-- Lines that reading these bytes returns come first of the lines to come.
 pub lines_come_first : {old new : ReaderState} {bytes : List ℕ} {lines : List Line} → ReadsLines old bytes lines new → LinesComeFirst old bytes lines new
 lines_come_first {old} {new} {bytes} {lines} h = record {
   others = λ d ending further last k.
@@ -89,7 +90,7 @@ lines_come_first {old} {new} {bytes} {lines} h = record {
       rw (same.0, same.1, ← gives.natural, ← gives.last) (natural_to_come-meets old (bytes ++ d) ending);
 }
 
--- and lines that come first of them are given by reading them
+-- Lines that come first of them are returned by reading these bytes.
 pub first_lines_come : {old new : ReaderState} {bytes : List ℕ} {lines : List Line} → LinesComeFirst old bytes lines new → ReadsLines old bytes lines new
 first_lines_come {old} {new} {bytes} {lines} h = record {
   gives = λ d ending.

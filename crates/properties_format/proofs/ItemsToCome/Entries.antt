@@ -1,4 +1,4 @@
--- The entries to come, logical line by logical line, and natural line by natural line where lines are joined.
+-- The entries to come, one logical line at a time, and one natural line at a time while lines are joined.
 use Rattle.std.proofs.Common.{◌≡◌, ℕ, ◌+◌, true, false, List, [], ◌∷◌, ◌++◌, Option, Some, None, refl, ap, ap₂, sym, ◌∙◌, inl, inr, append_assoc}
 use Rattle.std.proofs.lemmas.Bool.{cases_Bool}
 use Rattle.properties_format.specs.Lines.{InputEnd, end, Line, line_ends, numbered}
@@ -22,7 +22,7 @@ pub entries_of-logical : (n : ℕ) (ending : InputEnd) (gs : List (List Line))
 entries_of-logical n ending [] = refl
 entries_of-logical n ending (g ∷ gs) = ap (followed (first_number g) (outcome_of (joined g))) (entries_of-logical n ending gs)
 
--- The items to come are the entries to come where no join is open.
+-- The items to come are the entries to come if no logical line has been started.
 pub items_to_come-pending : (s : ReaderState) (d : List ℕ) (ending : InputEnd) → items_to_come s d ending ≡ entries_pending None s d ending
 unfolding items_to_come entries_pending natural_to_come last_to_come
 items_to_come-pending s d ending = elim (cases_Bool s.is_done) [
@@ -34,7 +34,7 @@ items_to_come-pending s d ending = elim (cases_Bool s.is_done) [
 
 -- ---- steps
 
--- one step after another
+-- One step after another.
 pub gives-on : {s t u : ReaderState} {x y z : List ℕ} {ls ms : List Line} {ending : InputEnd} → Gives s x ls t y ending → Gives t y ms u z ending
     → Gives s x (ls ++ ms) u z ending
 gives-on {s} {t} {u} {x} {y} {z} {ls} {ms} {ending} h k = record {
@@ -42,15 +42,15 @@ gives-on {s} {t} {u} {x} {y} {z} {ls} {ms} {ending} h k = record {
   last = h.last ∙ k.last;
 }
 
--- the entries to come by the lines that a step gives
+-- The entries to come, given the lines that a step returns.
 pending-gives : (pending : Option Line) (s t : ReaderState) (x y : List ℕ) (ls : List Line) (ending : InputEnd) → Gives s x ls t y ending
     → entries_pending pending s x ending ≡ entries_of_logical (logical_pending pending (ls ++ natural_to_come t y ending) ending) (last_to_come t y ending)
 unfolding entries_pending
 pending-gives pending s t x y ls ending h = ap₂ (λ v w. entries_of_logical (logical_pending pending v ending) w) h.natural h.last
 
--- ---- no join is open, and a line is next
+-- ---- no logical line has been started, and a line comes next
 
--- a comment line is a logical line
+-- A comment line is a logical line.
 pub pending-comment_line : {s t : ReaderState} {x y : List ℕ} {l : Line} {ending : InputEnd} → Gives s x (l ∷ []) t y ending → is_comment_line l.text ≡ true
     → entries_pending None s x ending ≡ followed l.number (outcome_of l.text) (entries_pending None t y ending)
 unfolding entries_pending
@@ -58,7 +58,7 @@ pending-comment_line {s} {t} {x} {y} {l} {ending} h k =
     pending-gives None s t x y (l ∷ []) ending h
     ∙ ap (λ v. entries_of_logical v (last_to_come t y ending)) (logical_lines-comment_line l (natural_to_come t y ending) ending k)
 
--- so is a line that is not open
+-- A line that isn't open is a logical line.
 pub pending-closed : {s t : ReaderState} {x y : List ℕ} {l : Line} {ending : InputEnd} → Gives s x (l ∷ []) t y ending → is_open l.text ≡ false
     → entries_pending None s x ending ≡ followed l.number (outcome_of l.text) (entries_pending None t y ending)
 unfolding entries_pending
@@ -66,7 +66,7 @@ pending-closed {s} {t} {x} {y} {l} {ending} h k =
     pending-gives None s t x y (l ∷ []) ending h
     ∙ ap (λ v. entries_of_logical v (last_to_come t y ending)) (logical_lines-closed l (natural_to_come t y ending) ending k)
 
--- an open line that is no comment line begins a join
+-- An open line that isn't a comment line starts a logical line.
 pub pending-open : {s t : ReaderState} {x y : List ℕ} {l : Line} {ending : InputEnd} → Gives s x (l ∷ []) t y ending → is_comment_line l.text ≡ false
     → is_open l.text ≡ true
     → entries_pending None s x ending ≡ entries_pending (Some (record { number = l.number; text = without_open_backslash l.text })) t y ending
@@ -75,9 +75,9 @@ pending-open {s} {t} {x} {y} {l} {ending} h k m =
     pending-gives None s t x y (l ∷ []) ending h
     ∙ ap (λ v. entries_of_logical v (last_to_come t y ending)) (logical_lines-open l (natural_to_come t y ending) ending k m)
 
--- ---- a join is open, and a line is next
+-- ---- a logical line has been started, and a line comes next
 
--- an open line is one more of the join
+-- An open line continues the logical line.
 pub joining-open : (join : Line) {s t : ReaderState} {x y : List ℕ} {l : Line} {ending : InputEnd} → Gives s x (l ∷ []) t y ending → is_open l.text ≡ true
     → entries_pending (Some join) s x ending ≡ entries_pending (Some (record { number = join.number; text = join.text ++ addition l.text })) t y ending
 unfolding entries_pending
@@ -85,7 +85,7 @@ joining-open join {s} {t} {x} {y} {l} {ending} h k =
     pending-gives (Some join) s t x y (l ∷ []) ending h
     ∙ ap (λ v. entries_of_logical v (last_to_come t y ending)) (joins_after-open join.number join.text l (natural_to_come t y ending) ending k)
 
--- any other line is the last of it, and the join is a logical line
+-- Any other line finishes the logical line.
 pub joining-closed : (join : Line) {s t : ReaderState} {x y : List ℕ} {l : Line} {ending : InputEnd} → Gives s x (l ∷ []) t y ending → is_open l.text ≡ false
     → entries_pending (Some join) s x ending ≡ followed join.number (outcome_of (join.text ++ addition l.text)) (entries_pending None t y ending)
 unfolding entries_pending
@@ -95,14 +95,14 @@ joining-closed join {s} {t} {x} {y} {l} {ending} h k =
 
 -- ---- no line comes
 
--- at the end for good nothing comes
+-- If the reader is permanently at its end, nothing comes.
 pub pending-done : (s : ReaderState) (d : List ℕ) (ending : InputEnd) → s.is_done ≡ true → entries_pending None s d ending ≡ []
 unfolding entries_pending
 pending-done s d ending h =
     let k = natural-done s d ending h in
     ap₂ (λ v w. entries_of_logical (logical_pending None v ending) w) k.0 k.1
 
--- but a join that is still open is a logical line there, where the input ended
+-- A logical line that has been started is finished there, if the input ended.
 pub joining-done : (join : Line) (s : ReaderState) (d : List ℕ) → s.is_done ≡ true
     → entries_pending (Some join) s d end ≡ followed join.number (outcome_of join.text) []
 unfolding entries_pending

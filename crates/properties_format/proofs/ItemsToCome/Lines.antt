@@ -1,4 +1,5 @@
--- The natural lines to come, step by step: bytes are read, the byte order mark is decided, an LF is passed over, a line is taken, the input ends.
+-- The natural lines to come, step by step: bytes are read, the byte order mark is determined, an LF is skipped, a line
+-- is taken, the input ends.
 use Rattle.std.proofs.Common.{◌≡◌, ◌==◌, ℕ, ◌+◌, ◌<◌, Bool, true, false, List, [], ◌∷◌, ◌++◌, length, refl, ap, ap₂, sym, ◌∙◌, inl, inr}
 use Rattle.std.proofs.Common.{append_assoc, append-nil, eqb-true, add-zero}
 use Rattle.std.specs.Prelude.{if◌then◌else◌}
@@ -26,7 +27,7 @@ use Rattle.properties_format.proofs.Cut.ToCome.{decoded-end, decoded-lf_first, d
 use Rattle.properties_format.specs.Cut.{units}
 use Rattle.properties_format.proofs.Lines.Steps.{lines_of-line, lines_of-cr, cr_end}
 
--- ---- the same text to come
+-- ---- states with equal text to come
 
 -- the numbered lines of a text, unless the reader is at its end
 abbrev lines_unless : Bool → ℕ → List ℕ → InputEnd → List Line
@@ -35,7 +36,7 @@ lines_unless done n text ending = if done then [] else (let lines = lines_of tex
 abbrev last_unless : Bool → ℕ → List ℕ → InputEnd → List Entry
 last_unless done n text ending = if done then [] else last_entries (n + line_ends (lines_of text)) ending
 
--- where the text to come is the same, so is what is given of it
+-- If the text to come is equal in two states, so is what the reader returns.
 gives-text : (s t : ReaderState) (x y : List ℕ) (ending : InputEnd) → s.is_done ≡ t.is_done → s.passed ≡ t.passed → text_to_come s x ≡ text_to_come t y
     → Gives s x [] t y ending
 unfolding natural_to_come last_to_come
@@ -54,28 +55,28 @@ gives-text s t x y ending h k m = record {
 abbrev text_of : Bool → InForce → List ℕ
 text_of after_cr m = rest_of_end after_cr (characters (pieces_of m.encoding m.body))
 
--- the text once the encoding is decided
+-- The text to come once the encoding is determined.
 text-decided : (s : ReaderState) (d : List ℕ) → s.is_decided ≡ true
     → text_to_come s d ≡ rest_of_end s.after_cr (decoded_line s.encoding (s.held ++ d))
 text-decided s d h = rw h refl
 
 -- ---- reading, and the byte order mark
 
--- Bytes that are read are held, before those that come.
+-- Bytes that are read are held, and come before those to come.
 pub gives-read : (s : ReaderState) (r d : List ℕ) (ending : InputEnd) → Gives s (r ++ d) [] (after_read s r) d ending
 gives-read s r d ending =
     let e : s.held ++ (r ++ d) ≡ (s.held ++ r) ++ d = sym (append_assoc s.held r d) in
     let of : List ℕ → InForce = λ b. if s.is_decided then record { encoding = s.encoding; body = b } else byte_order_mark s.encoding b in
     gives-text s (after_read s r) (r ++ d) d ending refl refl (ap (λ v. text_of s.after_cr (of v)) e)
 
--- Held bytes that wait for no more decide the byte order mark.
+-- Held bytes that don't wait for more determine the byte order mark.
 pub gives-decided : (s : ReaderState) (d : List ℕ) (ending : InputEnd) → s.is_decided ≡ false → awaits_bom s.held ≡ false
     → Gives s d [] (after_decided s) d ending
 gives-decided s d ending h k =
     let e : in_force s d ≡ byte_order_mark s.encoding (s.held ++ d) = rw h refl in
     gives-text s (after_decided s) d d ending refl refl (ap (text_of s.after_cr) (e ∙ byte_order_mark-append s.encoding s.held d k))
 
--- Where nothing comes, any held bytes decide it.
+-- If nothing more comes, any held bytes determine it.
 pub gives-decided_last : (s : ReaderState) (ending : InputEnd) → s.is_decided ≡ false → Gives s [] [] (after_decided s) [] ending
 gives-decided_last s ending h =
     let m = byte_order_mark s.encoding s.held in
@@ -86,7 +87,7 @@ gives-decided_last s ending h =
 
 -- ---- after a CR
 
--- An LF unit that comes after a CR is passed over.
+-- An LF unit after a CR is skipped.
 pub gives-passed_lf : (s : ReaderState) (rest d : List ℕ) (ending : InputEnd) → s.is_decided ≡ true → s.after_cr ≡ true
     → s.held ≡ ascii_bytes s.encoding line_feed ++ rest → Gives s d [] (after_passed s rest) d ending
 gives-passed_lf s rest d ending h k m =
@@ -96,12 +97,12 @@ gives-passed_lf s rest d ending h k m =
     let g : text_to_come s d ≡ decoded_line s.encoding (rest ++ d) = text-decided s d h ∙ ap₂ rest_of_end k f in
     gives-text s (after_passed s rest) d d ending refl refl (g ∙ sym (text-decided (after_passed s rest) d h))
 
--- where no LF comes first, none is left out
+-- If no LF comes first, none is left out.
 rest_of_end-none : (after_cr : Bool) (x : List ℕ) → begins_with_lf x ≡ false → rest_of_end after_cr x ≡ x
 rest_of_end-none true x h = without_leading_lf-none x h
 rest_of_end-none false x h = refl
 
--- where no LF unit comes first, a CR before does not matter
+-- If no LF unit comes first, a CR before it doesn't matter.
 gives-passed : (s : ReaderState) (d : List ℕ) (ending : InputEnd) → s.is_decided ≡ true → begins_with_lf (units s.encoding (s.held ++ d)) ≡ false
     → Gives s d [] (after_passed s s.held) d ending
 gives-passed s d ending h k =
@@ -109,19 +110,19 @@ gives-passed s d ending h k =
     let e : rest_of_end s.after_cr text ≡ text = rest_of_end-none s.after_cr text (decoded-no_lf s.encoding (s.held ++ d) k) in
     gives-text s (after_passed s s.held) d d ending refl refl (text-decided s d h ∙ e ∙ sym (text-decided (after_passed s s.held) d h))
 
--- Bytes with a whole unit that is no LF tell that none is to be passed over.
+-- Bytes with a whole unit that isn't an LF show that none has to be skipped.
 pub gives-passed_none : (s : ReaderState) (d : List ℕ) (ending : InputEnd) → s.is_decided ≡ true → 0 < length (units s.encoding s.held)
     → begins_with_lf (units s.encoding s.held) ≡ false → Gives s d [] (after_passed s s.held) d ending
 gives-passed_none s d ending h k m = gives-passed s d ending h (lf_first-append s.encoding s.held d k ∙ m)
 
--- Where nothing comes, any bytes that don't begin with an LF unit tell it.
+-- If nothing more comes, any bytes that don't begin with an LF unit show it.
 pub gives-passed_last : (s : ReaderState) (ending : InputEnd) → s.is_decided ≡ true → begins_with_lf (units s.encoding s.held) ≡ false
     → Gives s [] [] (after_passed s s.held) [] ending
 gives-passed_last s ending h m = gives-passed s [] ending h (ap (λ v. begins_with_lf (units s.encoding v)) (append-nil s.held) ∙ m)
 
 -- ---- a line
 
--- a line and the character that ends it, before any text
+-- A line and the character that ends it, before any text.
 pub lines_of-ended : (text : List ℕ) (c : ℕ) (y : List ℕ) → HoldsNoLineEnd text → is_line_end c ≡ true
     → (by : LineEnding)
     × (lines_of (text ++ c ∷ y) ≡ line_in_front text by (lines_of (rest_of_end (c == carriage_return) y)))
@@ -130,7 +131,7 @@ lines_of-ended text c y h k = elim (or_cases (c == line_feed) (c == carriage_ret
   | inr e ↦ rw (eqb-true c carriage_return e) (cr_end y, lines_of-cr text y h)
 ]
 
--- where the first line of the text to come is known
+-- The first line of the text to come is known.
 gives-lines : (s t : ReaderState) (d : List ℕ) (ending : InputEnd) (text : List ℕ) (by : LineEnding) → s.is_done ≡ false → t.is_done ≡ false
     → t.passed ≡ s.passed + 1
     → lines_of (text_to_come s d) ≡ line_in_front text by (lines_of (text_to_come t d))
@@ -143,7 +144,7 @@ gives-lines s t d ending text by h k m e = rw (h, k, m) (record {
       ∙ ap (λ v. last_entries v ending) (sym (one-more s.passed (length (lines_of (text_to_come t d)).ended)));
 })
 
--- where the line is known to be plain once it is decoded
+-- The decoded line is known to contain no line end.
 line-plain : (s : ReaderState) (l : List ℕ) (c : ℕ) (rest d : List ℕ) (ending : InputEnd) → HoldsLine s l c rest → HoldsNoLineEnd (decoded_line s.encoding l)
     → Gives s d (next_line s l ∷ []) (after_line s c rest) d ending
 line-plain s l c rest d ending h plain =
@@ -161,14 +162,14 @@ line-plain s l c rest d ending h plain =
     let k = lines_of-ended text c y plain h.ends in
     gives-lines s t d ending text k.0 h.going h.going refl (ap lines_of f ∙ k.1 ∙ ap (λ v. line_in_front text k.0 (lines_of v)) g)
 
--- A line among the held bytes comes next, and then what comes of the rest.
+-- A line among the held bytes comes next, followed by what comes of the rest.
 pub gives-line : (s : ReaderState) (l : List ℕ) (c : ℕ) (rest d : List ℕ) (ending : InputEnd) → HoldsLine s l c rest
     → Gives s d (next_line s l ∷ []) (after_line s c rest) d ending
 gives-line s l c rest d ending h = line-plain s l c rest d ending h (no_end-decoded s.encoding l h.none)
 
 -- ---- nothing comes
 
--- the lines of a state that holds no line end
+-- The lines in a state that holds no line end.
 last-plain : (s : ReaderState) → HoldsNoEnd s → HoldsNoLineEnd (decoded_line s.encoding s.held)
     → lines_of (text_to_come s []) ≡ record { ended = []; last = (next_line s s.held).text }
 last-plain s h plain =
@@ -180,7 +181,7 @@ last-plain s h plain =
     )
     ∙ lines_of-plain text plain
 
--- what is given where nothing comes
+-- What is returned if nothing more comes.
 at-last : (s : ReaderState) (ending : InputEnd) → HoldsNoEnd s → HoldsNoLineEnd (decoded_line s.encoding s.held)
     → (natural_to_come s [] ending ≡ numbered s.passed [] (next_line s s.held).text ending) × (last_to_come s [] ending ≡ last_entries s.passed ending)
 unfolding natural_to_come last_to_come
@@ -189,29 +190,29 @@ at-last s ending h plain =
     let m : s.passed + line_ends (lines_of (text_to_come s [])) ≡ s.passed = ap (λ v. s.passed + line_ends v) k ∙ add-zero s.passed in
     rw h.going (ap (λ v. let w : Lines = v in numbered s.passed w.ended w.last ending) k, ap (λ v. last_entries v ending) m)
 
--- at the end for good no line comes
+-- If the reader is permanently at its end, no line comes.
 pub natural-done : (s : ReaderState) (d : List ℕ) (ending : InputEnd) → s.is_done ≡ true → (natural_to_come s d ending ≡ []) × (last_to_come s d ending ≡ [])
 unfolding natural_to_come last_to_come
 natural-done s d ending h = rw h (refl, refl)
 
--- At the end the held bytes are the last line, and then the reader is done.
+-- If the input ends, the held bytes are the last line, and then the reader is at its end.
 pub gives-last : (s t : ReaderState) (y : List ℕ) → HoldsNoEnd s → t.is_done ≡ true → Gives s [] (next_line s s.held ∷ []) t y end
 gives-last s t y h k =
     let now = at-last s end h (no_end-decoded s.encoding s.held h.none) in
     let after = natural-done t y end k in
     record { natural = now.0 ∙ ap (λ v. next_line s s.held ∷ v) (sym after.0); last = now.1 ∙ sym after.1 }
 
--- At a fault they are no line, and the fault is one of the line that they begin.
+-- If a read fails, the held bytes aren't a line, and the error has the number of the line that they begin.
 pub natural-fault : (s : ReaderState) → HoldsNoEnd s → (natural_to_come s [] fault ≡ []) × (last_to_come s [] fault ≡ read_fault (s.passed + 1) ∷ [])
 natural-fault s h = at-last s fault h (no_end-decoded s.encoding s.held h.none)
 
--- Where more may come they are no line yet.
+-- If more may come, the held bytes aren't a line yet.
 pub natural-more : (s : ReaderState) → HoldsNoEnd s → (natural_to_come s [] more ≡ []) × (last_to_come s [] more ≡ [])
 natural-more s h = at-last s more h (no_end-decoded s.encoding s.held h.none)
 
 -- ---- all natural lines
 
--- The natural lines to come are numbered on from the line ends that were passed, without a gap.
+-- The natural lines to come are numbered after the line ends that were passed, without gaps.
 pub natural-in_order : (s : ReaderState) (d : List ℕ) (ending : InputEnd) → AreNumbered s.passed (natural_to_come s d ending)
 unfolding natural_to_come
 natural-in_order s d ending = elim (cases_Bool s.is_done) [

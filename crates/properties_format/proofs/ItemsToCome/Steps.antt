@@ -1,4 +1,4 @@
--- Steps of a reader one after the other: natural lines to logical lines.
+-- Steps of a reader, one after the other, from natural lines to logical lines.
 use Rattle.std.proofs.Common.{◌≡◌, ℕ, true, false, List, [], ◌∷◌, ◌++◌, length, ◌<◌, Some, None, refl, ap, sym, ◌∙◌, subst, append_assoc}
 use Rattle.properties_format.specs.Text.{line_feed}
 use Rattle.properties_format.specs.Encoding.{ascii_bytes}
@@ -17,66 +17,66 @@ use Rattle.properties_format.proofs.ItemsToCome.Entries.{items_to_come-pending, 
 
 -- ---- natural lines
 
--- reading nothing gives no line
+-- Reading nothing returns no line.
 pub lines-start : (s : ReaderState) → ReadsLines s [] [] s
 lines-start s = record { gives = λ d ending. record { natural = refl; last = refl } }
 
--- one step after another
+-- One step after another.
 pub lines-on : {s t u : ReaderState} {r q : List ℕ} {ls ms : List Line} → ReadsLines s r ls t → ReadsLines t q ms u → ReadsLines s (r ++ q) (ls ++ ms) u
 lines-on {s} {t} {u} {r} {q} {ls} {ms} h k =
     record { gives = λ d ending. subst (λ v. Gives s v (ls ++ ms) u d ending) (sym (append_assoc r q d)) (gives-on (h.gives (q ++ d) ending) (k.gives d ending)) }
 
--- and a step that reads nothing
+-- A step followed by one that reads nothing.
 pub lines-then : {s t u : ReaderState} {r : List ℕ} {ls ms : List Line} → ReadsLines s r ls t → ReadsLines t [] ms u → ReadsLines s r (ls ++ ms) u
 lines-then h k = record { gives = λ d ending. gives-on (h.gives d ending) (k.gives d ending) }
 
--- bytes are read and held
+-- Bytes are read and held.
 pub lines-read : (s : ReaderState) (r : List ℕ) → ReadsLines s r [] (after_read s r)
 lines-read s r = record { gives = λ d ending. gives-read s r d ending }
 
--- bytes that wait for no more decide whether a byte order mark is at the front
+-- Bytes that don't wait for more decide whether the input begins with a byte order mark.
 pub lines-decided : (s : ReaderState) → s.is_decided ≡ false → awaits_bom s.held ≡ false → ReadsLines s [] [] (after_decided s)
 lines-decided s h k = record { gives = λ d ending. gives-decided s d ending h k }
 
--- an LF unit after a CR is passed over
+-- An LF unit after a CR is skipped.
 pub lines-passed_lf : (s : ReaderState) (rest : List ℕ) → s.is_decided ≡ true → s.after_cr ≡ true → s.held ≡ ascii_bytes s.encoding line_feed ++ rest
     → ReadsLines s [] [] (after_passed s rest)
 lines-passed_lf s rest h k m = record { gives = λ d ending. gives-passed_lf s rest d ending h k m }
 
--- bytes with a whole unit that is no LF tell that none is to be passed over
+-- Bytes with a whole unit that isn't an LF show that none has to be skipped.
 pub lines-passed_none : (s : ReaderState) → s.is_decided ≡ true → 0 < length (units s.encoding s.held) → begins_with_lf (units s.encoding s.held) ≡ false
     → ReadsLines s [] [] (after_passed s s.held)
 lines-passed_none s h k m = record { gives = λ d ending. gives-passed_none s d ending h k m }
 
--- a line among the held bytes is taken
+-- A line among the held bytes is taken.
 pub lines-take : (s : ReaderState) (l : List ℕ) (c : ℕ) (rest : List ℕ) → HoldsLine s l c rest → ReadsLines s [] (next_line s l ∷ []) (after_line s c rest)
 lines-take s l c rest h = record { gives = λ d ending. gives-line s l c rest d ending h }
 
--- ---- joins
+-- ---- logical lines that are started
 
--- at first no join is open
+-- At first, no logical line has been started.
 pub on-start : (s : ReaderState) → ReadsOn s [] None s
 on-start s = record { items = λ d ending. items_to_come-pending s d ending }
 
--- what comes of two parts one after the other
+-- What comes of two parts, one after the other.
 regroup : (s : ReaderState) (r q d : List ℕ) (ending : InputEnd) (entries : List Entry) → items_to_come s (r ++ (q ++ d)) ending ≡ entries
     → items_to_come s ((r ++ q) ++ d) ending ≡ entries
 regroup s r q d ending entries h = ap (λ v. items_to_come s v ending) (append_assoc r q d) ∙ h
 
--- an open line that is no comment line begins a join
+-- An open line that isn't a comment line starts a logical line.
 pub on-open : {s t u : ReaderState} {r q : List ℕ} {l : Line} → ReadsOn s r None t → ReadsLines t q (l ∷ []) u → is_comment_line l.text ≡ false
     → is_open l.text ≡ true
     → ReadsOn s (r ++ q) (Some (record { number = l.number; text = without_open_backslash l.text })) u
 on-open {s} {t} {u} {r} {q} h k m o = record { items = λ d ending. regroup s r q d ending _ (h.items (q ++ d) ending ∙ pending-open (k.gives d ending) m o) }
 
--- ---- logical lines
+-- ---- logical lines that are completed
 
--- what follows a logical line, where no join is open after it
+-- What follows a logical line, if no other has been started after it.
 none-open : (number : ℕ) (text : List ℕ) (s : ReaderState) (d : List ℕ) (ending : InputEnd)
     → followed number (outcome_of text) (entries_pending None s d ending) ≡ followed number (outcome_of text) (items_to_come s d ending)
 none-open number text s d ending = ap (followed number (outcome_of text)) (sym (items_to_come-pending s d ending))
 
--- where no join is open, a comment line is a logical line
+-- If no logical line has been started, a comment line is a logical line.
 pub logical-comment_line : {s t u : ReaderState} {r q : List ℕ} {l : Line} → ReadsOn s r None t → ReadsLines t q (l ∷ []) u → is_comment_line l.text ≡ true
     → ReadsLogical s (r ++ q) l u
 logical-comment_line {s} {t} {u} {r} {q} {l} h k m =
@@ -85,7 +85,7 @@ logical-comment_line {s} {t} {u} {r} {q} {l} h k m =
           (h.items (q ++ d) ending ∙ pending-comment_line (k.gives d ending) m ∙ none-open l.number l.text u d ending);
     }
 
--- so is a line that is not open
+-- If no logical line has been started, a line that isn't open is a logical line.
 pub logical-closed : {s t u : ReaderState} {r q : List ℕ} {l : Line} → ReadsOn s r None t → ReadsLines t q (l ∷ []) u → is_open l.text ≡ false
     → ReadsLogical s (r ++ q) l u
 logical-closed {s} {t} {u} {r} {q} {l} h k o =

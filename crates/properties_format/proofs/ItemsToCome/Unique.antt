@@ -1,4 +1,4 @@
--- The items to come exist, and they are the only ones; at the start they are the items of the input.
+-- The items to come exist and are unique; at the start, they are the items of the input.
 use Rattle.std.proofs.Common.{◌≡◌, ◌==◌, ℕ, ◌+◌, Bool, true, false, List, [], ◌∷◌, refl, ap, sym, ◌∙◌, inl, inr, zero-add}
 use Rattle.std.proofs.lemmas.Bool.{cases_Bool}
 use Rattle.std.proofs.lemmas.Bool.Decides.{eqb_tells}
@@ -22,7 +22,7 @@ use Rattle.properties_format.proofs.Items.Unique.{entries_of-meets, entries_of-o
 
 -- ---- the text after a line end
 
--- what is computed is the text after the end
+-- The computed text is the text after the line end.
 pub rest_of_end-meets : (after_cr : Bool) (x : List ℕ) → IsAfterEnd after_cr x (rest_of_end after_cr x)
 rest_of_end-meets false x = refl
 rest_of_end-meets true [] = inr (refl, (λ y h. cc))
@@ -31,7 +31,7 @@ rest_of_end-meets true (c ∷ cs) = elim (eqb_tells c line_feed) [
   | inr k ↦ rw k.0 (inr (refl, (λ y h. let e : (c == line_feed) ≡ true = cc in cc)))
 ]
 
--- and no other text is
+-- No other text is.
 pub rest_of_end-only : (after_cr : Bool) (x text : List ℕ) → IsAfterEnd after_cr x text → text ≡ rest_of_end after_cr x
 rest_of_end-only false x text h = sym h
 rest_of_end-only true x text (inl h) = ap without_leading_lf (sym h)
@@ -43,7 +43,7 @@ rest_of_end-only true (c ∷ cs) text (inr h) = elim (eqb_tells c line_feed) [
 
 -- ---- the items to come
 
--- what is computed are the entries of what is held and what comes
+-- The computed entries are those of the bytes that are held and that come.
 further-meets : (s : ReaderState) (d : List ℕ) (ending : InputEnd)
     → AreFurtherEntries s d ending (further_entries s.passed (lines_of (text_to_come s d)) ending)
 further-meets s d ending =
@@ -62,7 +62,7 @@ further-meets s d ending =
       are_entries = entries_of-meets (s.passed + line_ends lines) ending (groups_of numbers ending);
     }
 
--- and there are no others
+-- There are no others.
 further-only : (s : ReaderState) (d : List ℕ) (ending : InputEnd) (entries : List Entry) → AreFurtherEntries s d ending entries
     → entries ≡ further_entries s.passed (lines_of (text_to_come s d)) ending
 further-only s d ending entries h =
@@ -74,25 +74,25 @@ further-only s d ending entries h =
     ∙ ap (λ v. further_entries s.passed (lines_of v) ending) (rest_of_end-only s.after_cr (characters h.pieces) h.text h.after_end)
     ∙ ap (λ v. further_entries s.passed (lines_of (text v)) ending) (pieces_of-only f.encoding f.body h.pieces h.are_pieces)
 
--- at the end for good there is none
+-- If the reader is permanently at its end, there are no items to come.
 pub items_to_come-done : (s : ReaderState) (d : List ℕ) (ending : InputEnd) → s.is_done ≡ true → items_to_come s d ending ≡ []
 unfolding items_to_come
 items_to_come-done s d ending h = rw h refl
 
--- and before it they are the entries of what is held and what comes
+-- Otherwise they are the entries of the bytes that are held and that come.
 items_to_come-going : (s : ReaderState) (d : List ℕ) (ending : InputEnd) → s.is_done ≡ false
     → items_to_come s d ending ≡ further_entries s.passed (lines_of (text_to_come s d)) ending
 unfolding items_to_come
 items_to_come-going s d ending h = rw h refl
 
--- What is computed are the items to come.
+-- The computed items are the items to come.
 pub items_to_come-meets : (s : ReaderState) (d : List ℕ) (ending : InputEnd) → IsItemsToCome s d ending (items_to_come s d ending)
 items_to_come-meets s d ending = elim (cases_Bool s.is_done) [
   | inl h ↦ inl (h, items_to_come-done s d ending h)
   | inr h ↦ inr (h, rw (items_to_come-going s d ending h) (further-meets s d ending))
 ]
 
--- The items to come are what is computed.
+-- The items to come are the computed ones.
 pub items_to_come-only : (s : ReaderState) (d : List ℕ) (ending : InputEnd) (entries : List Entry) → IsItemsToCome s d ending entries
     → entries ≡ items_to_come s d ending
 items_to_come-only s d ending entries (inl h) = h.1 ∙ sym (items_to_come-done s d ending h.0)
@@ -107,12 +107,12 @@ items_to_come-start e d ending =
     let lines = lines_of (characters (pieces_of (byte_order_mark e d).encoding (byte_order_mark e d).body)) in
     ap (λ v. entries_of v ending (groups_of (numbered 0 lines.ended lines.last ending) ending)) (zero-add (line_ends lines))
 
--- Said of the divisions: what comes of a reader at its start are the items of the input, and nothing else.
+-- By the definitions: what comes at the start are the items of the input.
 pub to_come-is_items : (e : Encoding) (d : List ℕ) (ending : InputEnd) (entries : List Entry) → IsItemsToCome (start e) d ending entries
     → IsItems e d ending entries
 to_come-is_items e d ending entries h = rw (items_to_come-only (start e) d ending entries h, items_to_come-start e d ending) (items_of-meets e d ending)
 
--- And the items of the input are what comes of a reader at its start.
+-- By the definitions: the items of the input come at the start.
 pub items-are_to_come : (e : Encoding) (d : List ℕ) (ending : InputEnd) (entries : List Entry) → IsItems e d ending entries
     → IsItemsToCome (start e) d ending entries
 items-are_to_come e d ending entries h = rw (items_of-only e d ending entries h, ← items_to_come-start e d ending) (items_to_come-meets (start e) d ending)

@@ -1,4 +1,4 @@
--- Which bytes decide what comes next: a byte order mark at the front, or an LF after a CR.
+-- Which bytes decide what comes next: whether there is a byte order mark at the front, or an LF after a CR.
 use Rattle.std.proofs.Common.{◌≡◌, ◌==◌, ◌&&◌, ℕ, Bool, true, false, List, [], ◌∷◌, refl, sym, eq-eqb, inl, inr, arith}
 use Rattle.std.proofs.lemmas.Bool.{ne_eqb, eqb-false}
 use Rattle.std.proofs.lemmas.Bool.Decides.{eqb_tells}
@@ -14,46 +14,46 @@ use Rattle.properties_format.proofs.Encodings.ByteOrderMarks.{awaits_bom-long}
 
 -- ---- A byte order mark.
 
--- the bytes are in the encoding asked for, and hold no line end
+-- the bytes are in the requested encoding, and contain no line end
 abbrev pub IsPlainFront : Encoding → List ℕ → Type 0
 IsPlainFront e b = (byte_order_mark e b ≡ record { encoding = e; body = b }) × HoldsNoLineEndUnit e b
 
--- so it is of no bytes
+-- this holds for no bytes
 front-none : (e : Encoding) → IsPlainFront e []
 front-none windows_1252 = (refl, tt)
 front-none utf_8 = (refl, tt)
 front-none utf_16le = (refl, tt)
 front-none utf_16be = (refl, tt)
 
--- of the byte EF alone
+-- for the byte EF
 front-ef : (e : Encoding) → IsPlainFront e (0xef ∷ [])
 front-ef windows_1252 = (refl, (refl, tt))
 front-ef utf_8 = (refl, (refl, tt))
 front-ef utf_16le = (refl, tt)
 front-ef utf_16be = (refl, tt)
 
--- of the byte FE alone
+-- for the byte FE
 front-fe : (e : Encoding) → IsPlainFront e (0xfe ∷ [])
 front-fe windows_1252 = (refl, (refl, tt))
 front-fe utf_8 = (refl, (refl, tt))
 front-fe utf_16le = (refl, tt)
 front-fe utf_16be = (refl, tt)
 
--- of the byte FF alone
+-- for the byte FF
 front-ff : (e : Encoding) → IsPlainFront e (0xff ∷ [])
 front-ff windows_1252 = (refl, (refl, tt))
 front-ff utf_8 = (refl, (refl, tt))
 front-ff utf_16le = (refl, tt)
 front-ff utf_16be = (refl, tt)
 
--- of the bytes EF and BB
+-- for the bytes EF BB
 front-ef_bb : (e : Encoding) → IsPlainFront e (0xef ∷ 0xbb ∷ [])
 front-ef_bb windows_1252 = (refl, (refl, (refl, tt)))
 front-ef_bb utf_8 = (refl, (refl, (refl, tt)))
 front-ef_bb utf_16le = (refl, (refl, tt))
 front-ef_bb utf_16be = (refl, (refl, tt))
 
--- of one byte that waits for a byte order mark
+-- for one byte that waits for a byte order mark
 front-one : (e : Encoding) (b : ℕ) → awaits_bom (b ∷ []) ≡ true → IsPlainFront e (b ∷ [])
 front-one e b h = elim (eqb_tells 0xef b) [
   | inl k ↦ rw (← k.1) (front-ef e)
@@ -66,12 +66,12 @@ front-one e b h = elim (eqb_tells 0xef b) [
   ]
 ]
 
--- a test and a false one don't both hold
+-- A test combined with a failing one fails.
 and-false : (b : Bool) → (b && false) ≡ false
 and-false true = refl
 and-false false = refl
 
--- and of two bytes that wait for one
+-- for two bytes that wait for a byte order mark
 front-two : (e : Encoding) (b c : ℕ) → awaits_bom (b ∷ c ∷ []) ≡ true → IsPlainFront e (b ∷ c ∷ [])
 front-two e b c h = elim (eqb_tells 0xef b) [
   | inl k ↦ elim (eqb_tells 0xbb c) [
@@ -83,14 +83,14 @@ front-two e b c h = elim (eqb_tells 0xef b) [
       absurd (cc)
 ]
 
--- Bytes that wait for a byte order mark are none by themselves.
+-- Bytes that wait for a byte order mark contain none, and contain no line end.
 pub waiting-front : (e : Encoding) (b : List ℕ) → awaits_bom b ≡ true → IsPlainFront e b
 waiting-front e [] h = front-none e
 waiting-front e (b ∷ []) h = front-one e b h
 waiting-front e (b ∷ c ∷ []) h = front-two e b c h
 waiting-front e (b ∷ c ∷ d ∷ more) h = let f : awaits_bom (b ∷ c ∷ d ∷ more) ≡ false = awaits_bom-long (b ∷ c ∷ d ∷ more) (omega arith) in absurd (cc)
 
--- A reader that still waits for a byte order mark where nothing comes holds no line end.
+-- A reader that still waits for a byte order mark when nothing more comes holds no line end.
 pub waiting-no_end : (s : ReaderState) → s.is_done ≡ false → awaits_bom s.held ≡ true → HoldsNoEnd (after_decided s)
 waiting-no_end s h k =
     let f = waiting-front s.encoding s.held k in
@@ -98,14 +98,14 @@ waiting-no_end s h k =
 
 -- ---- An LF.
 
--- the first byte
+-- The first byte decides.
 lf-byte : (c : ℕ) → (line_feed == c && true) ≡ (c == line_feed)
 lf-byte c = elim (eqb_tells line_feed c) [
   | inl k ↦ rw (← k.1) refl
   | inr k ↦ rw k.0 (sym (ne_eqb c line_feed (λ m. let f : (line_feed == c) ≡ true = eq-eqb line_feed c (sym m) in cc)))
 ]
 
--- the first two bytes
+-- The first two bytes decide, with the low byte first.
 low-unit : (a b : ℕ) → (line_feed == a && (0 == b && true)) ≡ (low_first a b == line_feed)
 low-unit a b = elim (eqb_tells line_feed a) [
   | inl k ↦ elim (eqb_tells 0 b) [
@@ -115,7 +115,7 @@ low-unit a b = elim (eqb_tells line_feed a) [
   | inr k ↦ rw k.0 (sym (ne_eqb (low_first a b) line_feed (λ e. let n = eqb-false line_feed a k.0 in omega arith)))
 ]
 
--- and where the high byte comes first
+-- The first two bytes decide, with the high byte first.
 high-unit : (a b : ℕ) → (0 == a && (line_feed == b && true)) ≡ (high_first a b == line_feed)
 high-unit a b = elim (eqb_tells 0 a) [
   | inl k ↦ elim (eqb_tells line_feed b) [
@@ -125,7 +125,7 @@ high-unit a b = elim (eqb_tells 0 a) [
   | inr k ↦ rw k.0 (sym (ne_eqb (high_first a b) line_feed (λ e. let n = eqb-false 0 a k.0 in omega arith)))
 ]
 
--- bytes begin with an LF unit exactly where they begin with its bytes
+-- Bytes begin with an LF unit exactly if they begin with its bytes.
 pub lf_first-bytes : (e : Encoding) (d : List ℕ) → begins_with (ascii_bytes e line_feed) d ≡ begins_with_lf (units e d)
 lf_first-bytes windows_1252 [] = refl
 lf_first-bytes windows_1252 (c ∷ d) = lf-byte c

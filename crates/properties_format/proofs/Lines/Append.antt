@@ -1,4 +1,4 @@
--- The lines of two texts together: where the second one comes after the first, the lines that the first ends stay.
+-- The lines of two texts, one after the other: the lines that the first text ends stay.
 use Rattle.std.proofs.Common.{◌≡◌, ℕ, ◌+◌, ◌==◌, false, List, [], ◌∷◌, ◌++◌, length, refl, ap, sym, ◌∙◌, add-zero}
 use Rattle.properties_format.specs.Text.{line_feed, carriage_return, LineEnding, lf, cr, crlf, line_ending_text}
 use Rattle.properties_format.specs.Lines.{Ended, put_together, HoldsNoLineEnd, BeginsWithNoLoneLf, AreLines, InputEnd, more, line_ends, numbered}
@@ -9,17 +9,17 @@ use Rattle.properties_format.proofs.Lines.Steps.{lines_to_come-cr, lines_to_come
 
 -- ---- the numbered lines
 
--- the lines of a text to which more comes, where the text is given by its lines
+-- the lines of a text that more follows, if the text is given by its lines
 Goes : List Ended → List ℕ → Type 0
 Goes ls last = (n : ℕ) (y : List ℕ) (e : InputEnd)
     → lines_to_come n false [] (put_together ls last ++ y) e ≡ numbered n ls last more ++ lines_to_come (n + length ls) (ends_in_cr (put_together ls last)) last y e
 
--- a last line without a line end
+-- A last line without a line end.
 goes-last : (last : List ℕ) → HoldsNoLineEnd last → Goes [] last
 unfolding Goes
 goes-last last h n y e = rw (plain-no_cr last h, add-zero n) refl
 
--- a line with an end that needs no look at what comes
+-- A line whose end doesn't depend on what follows.
 goes-line : (text : List ℕ) (by : LineEnding) (ls : List Ended) (last : List ℕ) → HoldsNoLineEnd text
     → ((y : List ℕ) → by ≡ cr → begins_with_lf (put_together ls last ++ y) ≡ false)
     → ends_in_cr (text ++ (line_ending_text by ++ put_together ls last)) ≡ ends_in_cr (put_together ls last)
@@ -31,7 +31,7 @@ goes-line text by ls last h k m goes n y e =
     ∙ ap (λ v. record { number = n + 1; text = text } ∷ v) (goes (n + 1) y e)
     ∙ rw (m, one-more n (length ls)) refl
 
--- a CR at the end of the text
+-- A CR at the end of the text.
 goes-cr : (text : List ℕ) → HoldsNoLineEnd text → Goes (record { text = text; by = cr } ∷ []) []
 unfolding Goes
 goes-cr text h n y e =
@@ -39,13 +39,13 @@ goes-cr text h n y e =
     ∙ lines_to_come-cr n false text y e h
     ∙ ap (λ v. record { number = n + 1; text = text } ∷ lines_to_come (n + 1) v [] y e) (sym (ends_in_cr-append text carriage_return []))
 
--- the end by a CR that no LF comes after, before a text that is not empty
+-- A CR that no LF follows ends its line, before a text that isn't empty.
 goes-cr-on : (text : List ℕ) (ls : List Ended) (last : List ℕ) (c : ℕ) (x : List ℕ) → put_together ls last ≡ c ∷ x → (c == line_feed) ≡ false
     → HoldsNoLineEnd text → Goes ls last → Goes (record { text = text; by = cr } ∷ ls) last
 goes-cr-on text ls last c x is_some no_lf h goes =
     goes-line text cr ls last h (λ y e. rw is_some no_lf) (rw is_some (ends-after text cr c x)) goes
 
--- whether or not the rest is empty
+-- This holds whether or not the rest is empty.
 goes-cr-rest : (text : List ℕ) (ls : List Ended) (last : List ℕ) → HoldsNoLineEnd text → AreLines ls last → BeginsWithNoLoneLf ls → Goes ls last → Goes (record { text = text; by = cr } ∷ ls) last
 goes-cr-rest text [] [] h are none goes = goes-cr text h
 goes-cr-rest text [] (c ∷ cs) h are none goes = goes-cr-on text [] (c ∷ cs) c cs refl (no_lf_first [] (c ∷ cs) are none) h goes
@@ -60,19 +60,19 @@ goes-cr-rest text (l ∷ ls) last h are none goes = of_line l.text l.by refl
     of_line [] cr e = goes-cr-on text (l ∷ ls) last carriage_return (put_together ls last) (ap (λ v. put_together (v ∷ ls) last) e) (rw e at k) h goes
     of_line [] crlf e = goes-cr-on text (l ∷ ls) last carriage_return (line_feed ∷ put_together ls last) (ap (λ v. put_together (v ∷ ls) last) e) (rw e at k) h goes
 
--- any line with its end, in front of such lines
+-- Any line with its end, before lines for which this holds.
 goes-any : (text : List ℕ) (by : LineEnding) (ls : List Ended) (last : List ℕ) → HoldsNoLineEnd text → (by ≡ cr → BeginsWithNoLoneLf ls) → AreLines ls last → Goes ls last
     → Goes (record { text = text; by = by } ∷ ls) last
 goes-any text lf ls last h k are goes = goes-line text lf ls last h (λ y e. absurd (cc)) (ends-lf text (put_together ls last)) goes
 goes-any text cr ls last h k are goes = goes-cr-rest text ls last h are (k refl) goes
 goes-any text crlf ls last h k are goes = goes-line text crlf ls last h (λ y e. absurd (cc)) (ends-crlf text (put_together ls last)) goes
 
--- all lines of a text are such
+-- This holds for all lines of a text.
 goes : (ls : List Ended) (last : List ℕ) → AreLines ls last → Goes ls last
 goes [] last h = goes-last last h
 goes (l ∷ ls) last h = goes-any l.text l.by ls last h.0 h.1 h.2 (goes ls last h.2)
 
--- The lines of a text to which more comes: those that the text ends, and then those of its last line and what comes.
+-- The lines of a text that more follows: those that the text ends, followed by those of its last line and what comes.
 pub lines_to_come-append : (n : ℕ) (x y : List ℕ) (e : InputEnd)
     → lines_to_come n false [] (x ++ y) e
     ≡ lines_to_come n false [] x more ++ lines_to_come (n + line_ends (lines_of x)) (ends_in_cr x) (lines_of x).last y e

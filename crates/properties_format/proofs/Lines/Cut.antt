@@ -1,4 +1,5 @@
--- Where a text may be cut: the lines of the two parts are the lines of the whole, save that no CR and LF may be parted.
+-- Where a text may be cut so that the lines of the two parts are the lines of the whole: anywhere except between a CR
+-- and an LF.
 use Rattle.std.proofs.Common.{◌≡◌, ℕ, true, false, List, [], ◌∷◌, ◌++◌, refl, ap, ◌∙◌}
 use Rattle.properties_format.specs.Text.{carriage_return, LineEnding, lf, cr, crlf, line_ending_text}
 use Rattle.properties_format.specs.Lines.{Ended, Lines, put_together, AreLines}
@@ -7,11 +8,11 @@ use Rattle.properties_format.proofs.Lines.Meets.{lines_of-meets}
 use Rattle.properties_format.proofs.Lines.Plain.{no_lf_first, ends_in_cr-append, ends-after, regroup}
 use Rattle.properties_format.proofs.Lines.Steps.{lines_of-line}
 
--- no CR at the end of the first is parted from an LF at the front of the second
+-- no CR at the end of the first text is separated from an LF at the front of the second
 abbrev pub PartsNoEnd : List ℕ → List ℕ → Type 0
 PartsNoEnd x y = ends_in_cr x ≡ true → begins_with_lf y ≡ false
 
--- where a cut parts no CR from an LF, it parts none either without the first line and its end
+-- If a cut separates no CR from an LF, it still separates none without the first line and its end.
 after-line : (text : List ℕ) (by : LineEnding) (x y : List ℕ) → (by ≡ cr → begins_with_lf x ≡ false) → PartsNoEnd (text ++ (line_ending_text by ++ x)) y
     → (by ≡ cr → begins_with_lf (x ++ y) ≡ false) × PartsNoEnd x y
 after-line text lf [] y h k = ((λ e. absurd (cc)), (λ e. absurd (cc)))
@@ -19,11 +20,11 @@ after-line text cr [] y h k = ((λ e. k (ends_in_cr-append text carriage_return 
 after-line text crlf [] y h k = ((λ e. absurd (cc)), (λ e. absurd (cc)))
 after-line text by (c ∷ x) y h k = (h, (λ e. k (ends-after text by c x ∙ e)))
 
--- lines, and then those of the last one and of what comes
+-- the lines, followed by those of the last one and what follows it
 abbrev pub lines_on : List Ended → Lines → Lines
 lines_on ls lines = record { ended = ls ++ lines.ended; last = lines.last }
 
--- the lines of a text and of what comes after it: its ended ones, and then those of its last line and what comes
+-- The lines of a text and of what follows it: its ended lines, followed by those of its last line and what follows.
 of-lines : (ls : List Ended) (last y : List ℕ) → AreLines ls last → PartsNoEnd (put_together ls last) y
     → lines_of (put_together ls last ++ y) ≡ lines_on ls (lines_of (last ++ y))
 of-lines [] last y h k = refl
@@ -33,7 +34,8 @@ of-lines (l ∷ ls) last y h k =
     ∙ lines_of-line l.text l.by (put_together ls last ++ y) h.0 both.0
     ∙ ap (lines_on (l ∷ [])) (of-lines ls last y h.2 both.1)
 
--- the lines of a whole from the lines of its parts, the last line of the first part being the beginning of the second's first
+-- The lines of a whole, given those of its parts; the last line of the first part is the beginning of the second part's
+-- first line.
 pub lines_of-append : (x y : List ℕ) → PartsNoEnd x y → lines_of (x ++ y) ≡ lines_on (lines_of x).ended (lines_of ((lines_of x).last ++ y))
 lines_of-append x y h =
     let m = lines_of-meets x in

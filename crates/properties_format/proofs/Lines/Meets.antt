@@ -1,4 +1,4 @@
--- What is computed from a text are its lines.
+-- The computed lines of a text are its lines.
 use Rattle.std.proofs.Common.{◌≡◌, ℕ, ◌==◌, false, List, [], ◌∷◌, refl, ap, inl, inr}
 use Rattle.std.proofs.lemmas.Bool.{or_from, or_parts}
 use Rattle.std.proofs.lemmas.Bool.Decides.{eqb_tells}
@@ -6,18 +6,18 @@ use Rattle.properties_format.specs.Text.{line_feed, carriage_return, is_line_end
 use Rattle.properties_format.specs.Lines.{Ended, Lines, IsLines}
 use Rattle.properties_format.specs.Reading.Lines.{end_before, cr_before, character_before, before, lines_of}
 
--- a character that ends no line is none of the two that do
+-- A character that ends no line is neither a CR nor an LF.
 pub before-plain : (c : ℕ) (lines : Lines) → is_line_end c ≡ false → before c lines ≡ character_before c lines.ended lines.last
 before-plain c lines h =
     let e : (c == line_feed) ≡ false = (or_parts (c == line_feed) (c == carriage_return) h).0 in
     let f : (c == carriage_return) ≡ false = (or_parts (c == line_feed) (c == carriage_return) h).1 in
     rw e (rw f refl)
 
--- an LF before any lines
+-- An LF before any lines.
 lf-meets : (x : List ℕ) (lines : Lines) → IsLines x lines → IsLines (line_feed ∷ x) (record lines { ended = end_before lf lines.ended })
 lf-meets x lines h = record { text = ap (λ v. line_feed ∷ v) h.text; are_lines = (tt, (λ k. absurd (cc)), h.are_lines) }
 
--- a CR before a line
+-- A CR before a line.
 cr-meets-line : (text : List ℕ) (by : LineEnding) (ls : List Ended) (last x : List ℕ)
     → IsLines x (record { ended = record { text = text; by = by } ∷ ls; last = last })
     → IsLines (carriage_return ∷ x) (record { ended = cr_before (record { text = text; by = by } ∷ ls); last = last })
@@ -26,19 +26,19 @@ cr-meets-line [] cr ls last x h = record { text = ap (λ v. carriage_return ∷ 
 cr-meets-line [] crlf ls last x h = record { text = ap (λ v. carriage_return ∷ v) h.text; are_lines = (tt, (λ k p. absurd (cc)), h.are_lines) }
 cr-meets-line (c ∷ cs) by ls last x h = record { text = ap (λ v. carriage_return ∷ v) h.text; are_lines = (tt, (λ k p. absurd (cc)), h.are_lines) }
 
--- a CR before any lines, or before none
+-- A CR before any lines, or before none.
 cr-meets : (ended : List Ended) (last x : List ℕ) → IsLines x (record { ended = ended; last = last })
     → IsLines (carriage_return ∷ x) (record { ended = cr_before ended; last = last })
 cr-meets [] last x h = record { text = ap (λ v. carriage_return ∷ v) h.text; are_lines = (tt, (λ k. tt), h.are_lines) }
 cr-meets (l ∷ ls) last x h = cr-meets-line l.text l.by ls last x h
 
--- any other character before any lines
+-- Any other character before any lines.
 character-meets : (c : ℕ) (ended : List Ended) (last x : List ℕ) → is_line_end c ≡ false → IsLines x (record { ended = ended; last = last })
     → IsLines (c ∷ x) (character_before c ended last)
 character-meets c [] last x e h = record { text = ap (λ v. c ∷ v) h.text; are_lines = (e, h.are_lines) }
 character-meets c (l ∷ ls) last x e h = record { text = ap (λ v. c ∷ v) h.text; are_lines = ((e, h.are_lines.0), h.are_lines.1, h.are_lines.2) }
 
--- each character before any lines
+-- Any character before any lines.
 before-meets : (c : ℕ) (x : List ℕ) (lines : Lines) → IsLines x lines → IsLines (c ∷ x) (before c lines)
 before-meets c x lines h = elim (eqb_tells c line_feed) [
   | inl k ↦ rw k.1 (lf-meets x lines h)
@@ -50,7 +50,7 @@ before-meets c x lines h = elim (eqb_tells c line_feed) [
   ]
 ]
 
--- what is computed are lines of the text
+-- The computed lines are lines of the text.
 pub lines_of-meets : (x : List ℕ) → IsLines x (lines_of x)
 lines_of-meets [] = record { text = refl; are_lines = tt }
 lines_of-meets (c ∷ cs) = before-meets c cs (lines_of cs) (lines_of-meets cs)

@@ -1,16 +1,16 @@
--- A text has one list of lines, and a line in front of a text is in front of its lines.
+-- A text has exactly one list of lines, and a line before a text is a line before its lines.
 use Rattle.std.proofs.Common.{◌≡◌, ℕ, List, [], ◌∷◌, ◌++◌, refl, ap, sym, ◌∙◌}
 use Rattle.properties_format.specs.Text.{line_feed, carriage_return, LineEnding, lf, cr, crlf, line_ending_text}
 use Rattle.properties_format.specs.Lines.{Ended, Lines, put_together, HoldsNoLineEnd, BeginsWithNoLoneLf, AreLines, IsLines}
 use Rattle.properties_format.specs.Reading.Lines.{end_before, cr_before, before, lines_of}
 use Rattle.properties_format.proofs.Lines.Meets.{before-plain}
 
--- a text without line ends is one line
+-- A text without line ends is one line.
 pub lines_of-plain : (l : List ℕ) → HoldsNoLineEnd l → lines_of l ≡ record { ended = []; last = l }
 lines_of-plain [] h = refl
 lines_of-plain (c ∷ l) h = ap (before c) (lines_of-plain l h.1) ∙ before-plain c (record { ended = []; last = l }) h.0
 
--- before a line that is no lone LF, a CR ends an empty line
+-- A CR ends an empty line, if the line after it isn't an empty one that an LF ends.
 cr-before-line : (text : List ℕ) (by : LineEnding) (ls : List Ended) → ¬ ((text ≡ []) × (by ≡ lf))
     → cr_before (record { text = text; by = by } ∷ ls) ≡ end_before cr (record { text = text; by = by } ∷ ls)
 cr-before-line [] lf ls h = absurd (h (refl, refl))
@@ -18,12 +18,12 @@ cr-before-line [] cr ls h = refl
 cr-before-line [] crlf ls h = refl
 cr-before-line (c ∷ cs) by ls h = refl
 
--- a CR takes nothing but a lone LF
+-- A CR takes only the LF of an empty line that an LF ends.
 pub cr-before : (ls : List Ended) → BeginsWithNoLoneLf ls → cr_before ls ≡ end_before cr ls
 cr-before [] h = refl
 cr-before (l ∷ ls) h = cr-before-line l.text l.by ls h
 
--- a line and its end, before a text whose lines are known
+-- A line and its end before a text whose lines are known.
 pub lines_of-before : (text : List ℕ) (by : LineEnding) (y : List ℕ) (ls : List Ended) (last : List ℕ)
     → HoldsNoLineEnd text → (by ≡ cr → BeginsWithNoLoneLf ls) → lines_of y ≡ record { ended = ls; last = last }
     → lines_of (text ++ (line_ending_text by ++ y)) ≡ record { ended = record { text = text; by = by } ∷ ls; last = last }
@@ -33,15 +33,15 @@ lines_of-before [] crlf y ls last h k e = ap (λ v. before carriage_return (befo
 lines_of-before (c ∷ text) by y ls last h k e =
     ap (before c) (lines_of-before text by y ls last h.1 k e) ∙ before-plain c (record { ended = record { text = text; by = by } ∷ ls; last = last }) h.0
 
--- lines that are put together are the lines of that text
+-- Lines that are put together are the lines of the resulting text.
 pub lines_of-together : (ls : List Ended) (last : List ℕ) → AreLines ls last → lines_of (put_together ls last) ≡ record { ended = ls; last = last }
 lines_of-together [] last h = lines_of-plain last h
 lines_of-together (l ∷ ls) last h = lines_of-before l.text l.by (put_together ls last) ls last h.0 h.1 (lines_of-together ls last h.2)
 
--- lines of the text are what is computed
+-- Lines of the text are the computed ones.
 pub lines_of-only : (x : List ℕ) (lines : Lines) → IsLines x lines → lines ≡ lines_of x
 lines_of-only x lines h = sym (ap lines_of h.text ∙ lines_of-together lines.ended lines.last h.are_lines)
 
--- two lists of lines of one text are the same
+-- Two lists of lines of one text are equal.
 pub lines-unique : (x : List ℕ) (a b : Lines) → IsLines x a → IsLines x b → a ≡ b
 lines-unique x a b h k = lines_of-only x a h ∙ sym (lines_of-only x b k)

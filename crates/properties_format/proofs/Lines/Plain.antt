@@ -1,4 +1,4 @@
--- Texts without line ends, and what the lines of a text say of its first and its last character.
+-- Texts without line ends, and what the lines of a text say about its first and its last character.
 use Rattle.std.proofs.Common.{◌≡◌, ℕ, ◌==◌, true, false, List, [], ◌∷◌, ◌++◌, refl, ap, sym, ◌∙◌, suc, ◌+◌, append_assoc, arith}
 use Rattle.std.proofs.lemmas.Bool.{or_parts, eqb-true}
 use Rattle.properties_format.specs.Text.{line_feed, carriage_return, LineEnding, lf, cr, crlf, line_ending_text}
@@ -6,22 +6,22 @@ use Rattle.properties_format.specs.Lines.{Ended, put_together, HoldsNoLineEnd, B
 use Rattle.properties_format.specs.Reading.Lines.{begins_with_lf, ends_in_cr, without_leading_lf, lines_of}
 use Rattle.properties_format.proofs.Lines.Meets.{lines_of-meets}
 
--- a text without a line end and then another have none together
+-- Two texts without line ends have none together.
 pub plain-append : (x y : List ℕ) → HoldsNoLineEnd x → HoldsNoLineEnd y → HoldsNoLineEnd (x ++ y)
 plain-append [] y h k = k
 plain-append (c ∷ x) y h k = (h.0, plain-append x y h.1 k)
 
--- a text without a line end has none in its front
+-- The front of a text without line ends has none.
 pub plain-left : (x y : List ℕ) → HoldsNoLineEnd (x ++ y) → HoldsNoLineEnd x
 plain-left [] y h = tt
 plain-left (c ∷ x) y h = (h.0, plain-left x y h.1)
 
--- and none in the rest
+-- The rest of a text without line ends has none.
 pub plain-right : (x y : List ℕ) → HoldsNoLineEnd (x ++ y) → HoldsNoLineEnd y
 plain-right [] y h = h
 plain-right (c ∷ x) y h = plain-right x y h.1
 
--- the last line of a text is plain
+-- The last line of a text contains no line end.
 pub last-plain : (x : List ℕ) → HoldsNoLineEnd (lines_of x).last
 last-plain x = of_lines (lines_of x).ended (lines_of x).last (lines_of-meets x).are_lines
   where
@@ -29,18 +29,18 @@ last-plain x = of_lines (lines_of x).ended (lines_of x).last (lines_of-meets x).
     of_lines [] last h = h
     of_lines (l ∷ ls) last h = of_lines ls last h.2
 
--- a plain text does not begin with an LF
+-- A text without line ends doesn't begin with an LF.
 pub plain-no_lf : (x : List ℕ) → HoldsNoLineEnd x → begins_with_lf x ≡ false
 plain-no_lf [] h = refl
 plain-no_lf (c ∷ x) h = (or_parts (c == line_feed) (c == carriage_return) h.0).0
 
--- and does not end in a CR
+-- A text without line ends doesn't end in a CR.
 pub plain-no_cr : (x : List ℕ) → HoldsNoLineEnd x → ends_in_cr x ≡ false
 plain-no_cr [] h = refl
 plain-no_cr (c ∷ []) h = (or_parts (c == line_feed) (c == carriage_return) h.0).1
 plain-no_cr (c ∷ d ∷ ds) h = plain-no_cr (d ∷ ds) h.1
 
--- where no LF comes first, no lone LF is the first line
+-- If no LF comes first, the first line isn't an empty one that an LF ends.
 pub no_lone_lf : (ls : List Ended) (last : List ℕ) → begins_with_lf (put_together ls last) ≡ false → BeginsWithNoLoneLf ls
 no_lone_lf [] last h = tt
 no_lone_lf (l ∷ ls) last h = of_line l.text l.by (put_together ls last) h
@@ -51,7 +51,7 @@ no_lone_lf (l ∷ ls) last h = of_line l.text l.by (put_together ls last) h
     of_line [] crlf y h = λ p. absurd (cc p.1)
     of_line (c ∷ text) by y h = λ p. absurd (cc p.0)
 
--- and the other way round
+-- If the first line isn't an empty one that an LF ends, no LF comes first.
 pub no_lf_first : (ls : List Ended) (last : List ℕ) → AreLines ls last → BeginsWithNoLoneLf ls → begins_with_lf (put_together ls last) ≡ false
 no_lf_first [] last h k = plain-no_lf last h
 no_lf_first (l ∷ ls) last h k = of_line l.text l.by (put_together ls last) h.0 k
@@ -62,53 +62,53 @@ no_lf_first (l ∷ ls) last h k = of_line l.text l.by (put_together ls last) h.0
     of_line [] crlf y h k = refl
     of_line (c ∷ text) by y h k = plain-no_lf (c ∷ text) h
 
--- so it is of the lines of a text
+-- If no LF comes first in a text, the first of its lines isn't an empty one that an LF ends.
 pub lines_of-no_lone_lf : (y : List ℕ) → begins_with_lf y ≡ false → BeginsWithNoLoneLf (lines_of y).ended
 lines_of-no_lone_lf y h = no_lone_lf (lines_of y).ended (lines_of y).last (sym (ap begins_with_lf (lines_of-meets y).text) ∙ h)
 
--- what does not begin with an LF has none to lose
+-- A text that doesn't begin with an LF has none to lose.
 pub without_leading_lf-none : (y : List ℕ) → begins_with_lf y ≡ false → without_leading_lf y ≡ y
 without_leading_lf-none [] h = refl
 without_leading_lf-none (c ∷ cs) h = rw h refl
 
--- how a text ends is how its last part ends
+-- A text ends as its last part ends.
 pub ends_in_cr-append : (x : List ℕ) (c : ℕ) (y : List ℕ) → ends_in_cr (x ++ c ∷ y) ≡ ends_in_cr (c ∷ y)
 ends_in_cr-append [] c y = refl
 ends_in_cr-append (b ∷ []) c y = refl
 ends_in_cr-append (b ∷ d ∷ x) c y = ends_in_cr-append (d ∷ x) c y
 
--- the test is true of the texts that end in a CR, and of no others
+-- If the test passes, the text ends in a CR.
 pub ends_in_cr-meets : (x : List ℕ) → ends_in_cr x ≡ true → EndsInCr x
 ends_in_cr-meets [] h = absurd (cc)
 ends_in_cr-meets (c ∷ []) h = ([], ap (λ v. v ∷ []) (eqb-true c carriage_return h))
 ends_in_cr-meets (c ∷ d ∷ ds) h = let k : EndsInCr (d ∷ ds) = ends_in_cr-meets (d ∷ ds) h in (c ∷ k.0, ap (λ v. c ∷ v) k.1)
 
--- it is true of each of them
+-- A text that ends in a CR passes the test.
 pub ends_in_cr-only : (x : List ℕ) → EndsInCr x → ends_in_cr x ≡ true
 ends_in_cr-only x h = ap ends_in_cr h.1 ∙ ends_in_cr-append h.0 carriage_return []
 
--- a text with a first character ends as it does after a line end
+-- A text with characters after a line end ends in a CR exactly if those characters do.
 pub ends-after : (text : List ℕ) (by : LineEnding) (c : ℕ) (x : List ℕ) → ends_in_cr (text ++ (line_ending_text by ++ c ∷ x)) ≡ ends_in_cr (c ∷ x)
 ends-after text lf c x = ends_in_cr-append text line_feed (c ∷ x)
 ends-after text cr c x = ends_in_cr-append text carriage_return (c ∷ x)
 ends-after text crlf c x = ends_in_cr-append text carriage_return (line_feed ∷ c ∷ x)
 
--- an LF at the end is no CR
+-- A text ends in a CR exactly if what follows an LF in it does.
 pub ends-lf : (text : List ℕ) (x : List ℕ) → ends_in_cr (text ++ line_feed ∷ x) ≡ ends_in_cr x
 ends-lf text [] = ends_in_cr-append text line_feed []
 ends-lf text (c ∷ x) = ends_in_cr-append text line_feed (c ∷ x)
 
--- and neither is a CR LF
+-- A text ends in a CR exactly if what follows a CR LF in it does.
 pub ends-crlf : (text : List ℕ) (x : List ℕ) → ends_in_cr (text ++ carriage_return ∷ line_feed ∷ x) ≡ ends_in_cr x
 ends-crlf text [] = ends_in_cr-append text carriage_return (line_feed ∷ [])
 ends-crlf text (c ∷ x) = ends_in_cr-append text carriage_return (line_feed ∷ c ∷ x)
 
--- ---- steps in sums and texts
+-- ---- regrouping sums and texts
 
--- one more than n, and m more, are n and one more than m
+-- (n + 1) + m equals n + (m + 1).
 pub one-more : (n m : ℕ) → n + 1 + m ≡ n + suc m
 one-more n m = omega arith
 
--- a line, its end and what comes after them, before more, are the line and its end before all of it
+-- A line, its end and what follows, all before more text, are the line and its end before the rest.
 pub regroup : (text : List ℕ) (by : LineEnding) (whole y : List ℕ) → (text ++ (line_ending_text by ++ whole)) ++ y ≡ text ++ (line_ending_text by ++ (whole ++ y))
 regroup text by whole y = append_assoc text (line_ending_text by ++ whole) y ∙ ap (λ v. text ++ v) (append_assoc (line_ending_text by) whole y)

@@ -1,4 +1,4 @@
--- How the lines go on with the next line end or the next character.
+-- The lines, given the next line end or the next character.
 use Rattle.std.proofs.Common.{◌≡◌, ℕ, ◌+◌, Bool, true, false, List, [], ◌∷◌, ◌++◌, refl, ap, sym, ◌∙◌, inl, inr, append_assoc, append-nil}
 use Rattle.std.specs.Prelude.{if◌then◌else◌}
 use Rattle.std.proofs.lemmas.Bool.Decides.{eqb_tells}
@@ -8,16 +8,16 @@ use Rattle.properties_format.specs.Reading.Lines.{begins_with_lf, without_leadin
 use Rattle.properties_format.proofs.Lines.Only.{lines_of-plain, lines_of-before}
 use Rattle.properties_format.proofs.Lines.Plain.{plain-append, lines_of-no_lone_lf, without_leading_lf-none}
 
--- a line and its end, before any text; a CR is an end by itself only where no LF comes
+-- A line and its end before any text; a CR is a line end by itself only if no LF follows.
 pub lines_of-line : (text : List ℕ) (by : LineEnding) (y : List ℕ) → HoldsNoLineEnd text → (by ≡ cr → begins_with_lf y ≡ false)
     → lines_of (text ++ (line_ending_text by ++ y)) ≡ record { ended = record { text = text; by = by } ∷ (lines_of y).ended; last = (lines_of y).last }
 lines_of-line text by y h k = lines_of-before text by y (lines_of y).ended (lines_of y).last h (λ e. lines_of-no_lone_lf y (k e)) refl
 
--- the end that a CR is, or is a part of
+-- the line end that a CR is, or is a part of
 abbrev pub cr_end : List ℕ → LineEnding
 cr_end y = if begins_with_lf y then crlf else cr
 
--- a line and a CR, before any text
+-- A line and a CR before any text.
 pub lines_of-cr : (text y : List ℕ) → HoldsNoLineEnd text
     → lines_of (text ++ carriage_return ∷ y)
     ≡ record { ended = record { text = text; by = cr_end y } ∷ (lines_of (without_leading_lf y)).ended; last = (lines_of (without_leading_lf y)).last }
@@ -29,34 +29,34 @@ lines_of-cr text (c ∷ y) h = elim (eqb_tells c line_feed) [
 
 -- ---- the numbered lines to come
 
--- nothing comes
+-- Nothing comes.
 after-nothing : (n : ℕ) (after_cr : Bool) (held : List ℕ) (e : InputEnd) → HoldsNoLineEnd held → lines_to_come n after_cr held [] e ≡ numbered n [] held e
 after-nothing n true held e h = let g : Lines → List Line = λ v. numbered n v.ended v.last e in ap (λ v. g (lines_of v)) (append-nil held) ∙ ap g (lines_of-plain held h)
 after-nothing n false held e h = let g : Lines → List Line = λ v. numbered n v.ended v.last e in ap (λ v. g (lines_of v)) (append-nil held) ∙ ap g (lines_of-plain held h)
 
--- at the end the line that is held is the last one
+-- If the input ends, the line that is held is the last one.
 pub lines_to_come-end : (n : ℕ) (after_cr : Bool) (held : List ℕ) → HoldsNoLineEnd held
     → lines_to_come n after_cr held [] end ≡ record { number = n + 1; text = held } ∷ []
 lines_to_come-end n after_cr held h = after-nothing n after_cr held end h
 
--- where no LF comes first, a CR before it does not matter
+-- If no LF comes first, a CR before it doesn't matter.
 pub lines_to_come-no_lf : (n : ℕ) (after_cr : Bool) (held y : List ℕ) (e : InputEnd) → begins_with_lf y ≡ false
     → lines_to_come n after_cr held y e ≡ lines_to_come n false held y e
 lines_to_come-no_lf n true held y e h = ap (λ v. lines_to_come n false held v e) (without_leading_lf-none y h)
 lines_to_come-no_lf n false held y e h = refl
 
--- characters may be held or come
+-- Whether characters are held or still to come doesn't matter.
 pub lines_to_come-held : (n : ℕ) (held x y : List ℕ) (e : InputEnd) → lines_to_come n false held (x ++ y) e ≡ lines_to_come n false (held ++ x) y e
 lines_to_come-held n held x y e = ap (λ v. lines_to_come n false [] v e) (sym (append_assoc held x y))
 
--- a CR ends the line that is held, and an LF after the CR is of the same end
+-- A CR ends the line that is held, and an LF after the CR belongs to the same line end.
 pub lines_to_come-cr : (n : ℕ) (after_cr : Bool) (held y : List ℕ) (e : InputEnd) → HoldsNoLineEnd held
     → lines_to_come n after_cr held (carriage_return ∷ y) e ≡ record { number = n + 1; text = held } ∷ lines_to_come (n + 1) true [] y e
 lines_to_come-cr n after_cr held y e h =
     lines_to_come-no_lf n after_cr held (carriage_return ∷ y) e refl
     ∙ ap (λ v. let w : Lines = v in numbered n w.ended w.last e) (lines_of-cr held y h)
 
--- a line end ends it, whole
+-- A whole line end ends the line that is held.
 pub lines_to_come-line : (n : ℕ) (held text : List ℕ) (by : LineEnding) (y : List ℕ) (e : InputEnd) → HoldsNoLineEnd held → HoldsNoLineEnd text → (by ≡ cr → begins_with_lf y ≡ false)
     → lines_to_come n false held (text ++ (line_ending_text by ++ y)) e ≡ record { number = n + 1; text = held ++ text } ∷ lines_to_come (n + 1) false [] y e
 lines_to_come-line n held text by y e h k m =

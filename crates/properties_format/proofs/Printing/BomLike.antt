@@ -13,9 +13,9 @@ use Rattle.properties_format.specs.Printing.{in_key_or_value, unit_escape, high_
 use Rattle.properties_format.proofs.Encodings.Windows1252.{windows_1252_character-byte}
 use Rattle.properties_format.proofs.Printing.Characters.{encoded_text-append, below-scalar}
 
--- ---- a character in a key is escaped, or stands as itself
+-- ---- a character of a key is escaped or unescaped
 
--- what is spelt begins with a backslash
+-- what is printed begins with a backslash
 abbrev pub IsEscape : List ℕ → Type 0
 IsEscape x = (rest : List ℕ) × (x ≡ backslash ∷ rest)
 
@@ -29,33 +29,33 @@ unicode-is_escape c = elim (cases_Bool (nat_lt c 0x1_0000)) [
   | inr e ↦ (_, cond-false (nat_lt c 0x1_0000) (unit_escape c) (unit_escape (high_surrogate c) ++ unit_escape (low_surrogate c)) e)
 ]
 
--- the same of an equal text
+-- If this holds for a text, it holds for an equal text.
 same-cases : (e : Encoding) (c : ℕ) (x y : List ℕ) → x ≡ y → IsEscapedOrItself e c y → IsEscapedOrItself e c x
 same-cases e c x y p (inl k) = inl (k.0, p ∙ k.1)
 same-cases e c x y p (inr k) = inr (p ∙ k.0, k.1)
 
--- a character that stands as itself where it may, and is escaped elsewhere
+-- A character that is unescaped if that is allowed, and escaped otherwise.
 literal-cases : (e : Encoding) (c : ℕ) → IsEscapedOrItself e c (literal e false c)
 literal-cases e c = elim (cases_Bool (is_some (encoded e c))) [
   | inl k ↦ inr (cond-true (is_some (encoded e c)) (c ∷ []) (unicode_escape c) k, k)
   | inr k ↦ same-cases e c (literal e false c) (unicode_escape c) (cond-false (is_some (encoded e c)) (c ∷ []) (unicode_escape c) k) (inl (unicode-is_escape c))
 ]
 
--- or that is escaped below a space
+-- A character that is escaped if it is below the space.
 control-cases : (e : Encoding) (c : ℕ) → IsEscapedOrItself e c (cond (nat_lt c space) (unicode_escape c) (literal e false c))
 control-cases e c = elim (cases_Bool (nat_lt c space)) [
   | inl k ↦ same-cases e c _ (unicode_escape c) (cond-true (nat_lt c space) (unicode_escape c) (literal e false c) k) (inl (unicode-is_escape c))
   | inr k ↦ same-cases e c _ (literal e false c) (cond-false (nat_lt c space) (unicode_escape c) (literal e false c) k) (literal-cases e c)
 ]
 
--- or that is escaped by a letter
+-- A character that has a letter escape.
 letter-cases : (e : Encoding) (c : ℕ) → IsEscapedOrItself e c (cond (has_letter c) (letter_escape c) (cond (nat_lt c space) (unicode_escape c) (literal e false c)))
 letter-cases e c = elim (cases_Bool (has_letter c)) [
   | inl k ↦ inl (_, cond-true (has_letter c) (letter_escape c) (cond (nat_lt c space) (unicode_escape c) (literal e false c)) k)
   | inr k ↦ same-cases e c _ _ (cond-false (has_letter c) (letter_escape c) (cond (nat_lt c space) (unicode_escape c) (literal e false c)) k) (control-cases e c)
 ]
 
--- what is printed for a character in a key is an escape, or the character itself
+-- What is printed for a character of a key is an escape, or the character itself.
 pub spelt-cases : (e : Encoding) (c : ℕ) → IsEscapedOrItself e c (spelt e false in_key_or_value c)
 spelt-cases e c =
     let rest = cond (has_letter c) (letter_escape c) (cond (nat_lt c space) (unicode_escape c) (literal e false c)) in
@@ -66,7 +66,7 @@ spelt-cases e c =
 
 -- ---- windows-1252
 
--- a character that stands as itself in a key, and whose byte has its number; a backslash is none
+-- A raw character: it is unescaped in a key, and its byte has its number. A backslash isn't one.
 record IsRaw (m : ℕ) : Type 0 where
   itself : spelt windows_1252 false in_key_or_value m ≡ m ∷ []
   byte : encoded windows_1252 m ≡ Some (m ∷ [])
@@ -80,20 +80,20 @@ AreRaw (m ∷ ms) = IsRaw m × AreRaw ms
 abbrev bytes_of : List ℕ → List ℕ
 bytes_of key = encoded_text windows_1252 (spelt_text windows_1252 false in_key_or_value key)
 
--- the bytes of a key by those of its first character
+-- The bytes of a key, given those of its first character.
 bytes-cons : (c : ℕ) (cs x : List ℕ) → spelt windows_1252 false in_key_or_value c ≡ x → bytes_of (c ∷ cs) ≡ encoded_text windows_1252 x ++ bytes_of cs
 bytes-cons c cs x e =
     encoded_text-append windows_1252 (spelt windows_1252 false in_key_or_value c) (spelt_text windows_1252 false in_key_or_value cs)
     ∙ ap (λ v. encoded_text windows_1252 v ++ bytes_of cs) e
 
--- another byte than m is in front, where c is another character
+-- If c is another character than m, a byte other than m is at the front.
 other-byte : (m c : ℕ) (ms : List ℕ) (o : Option ℕ) (y : List ℕ) → IsRaw m → m ≢ c → windows_1252_byte c ≡ o → is_some (one_byte o) ≡ true
     → begins_with (m ∷ ms) ((unwrap_or (one_byte o) [] ++ []) ++ y) ≡ false
 other-byte m c ms None y raw other e some = cc
 other-byte m c ms (Some b) y raw other e some =
     and_left (m == b) (begins_with ms y) (ne_eqb m b (λ k. other (sym raw.character ∙ ap windows_1252_character k ∙ (windows_1252_character-byte c b e).0)))
 
--- so the bytes of a key with another first character don't begin with m
+-- The bytes of a key with another first character don't begin with m.
 other-front : (m c : ℕ) (ms cs : List ℕ) → IsRaw m → m ≢ c → IsEscapedOrItself windows_1252 c (spelt windows_1252 false in_key_or_value c)
     → begins_with (m ∷ ms) (bytes_of (c ∷ cs)) ≡ false
 other-front m c ms cs raw other (inl k) =
@@ -101,12 +101,12 @@ other-front m c ms cs raw other (inl k) =
 other-front m c ms cs raw other (inr k) =
     ap (begins_with (m ∷ ms)) (bytes-cons c cs (c ∷ []) k.0) ∙ other-byte m c ms (windows_1252_byte c) (bytes_of cs) raw other refl k.1
 
--- where it is the first character, the others decide
+-- If m is the first character, the others decide.
 same-front : (m : ℕ) (ms cs : List ℕ) → IsRaw m → begins_with (m ∷ ms) (bytes_of (m ∷ cs)) ≡ ((m == m) && begins_with ms (bytes_of cs))
 same-front m ms cs raw =
     ap (begins_with (m ∷ ms)) (bytes-cons m cs (m ∷ []) raw.itself ∙ ap (λ o. (unwrap_or o [] ++ []) ++ bytes_of cs) raw.byte)
 
--- the bytes of a key begin with these numbers, where the key does
+-- The bytes of a key begin with these numbers if the key does.
 key-begins : (ms key : List ℕ) → AreRaw ms → begins_with ms (bytes_of key) ≡ begins_with ms key
 key-begins [] key raw = refl
 key-begins (m ∷ ms) [] raw = refl
@@ -115,27 +115,28 @@ key-begins (m ∷ ms) (c ∷ cs) raw = elim (eqb_tells m c) [
   | inr k ↦ other-front m c ms cs raw.0 k.1 (spelt-cases windows_1252 c) ∙ sym (and_left (m == c) (begins_with ms cs) k.0)
 ]
 
--- U+00EF is such
+-- U+00EF is raw.
 raw-ef : IsRaw 0xef
 raw-ef = record { itself = refl; byte = refl; character = refl; no_escape = refl }
 
--- U+00BB
+-- U+00BB is raw.
 raw-bb : IsRaw 0xbb
 raw-bb = record { itself = refl; byte = refl; character = refl; no_escape = refl }
 
--- U+00BF
+-- U+00BF is raw.
 raw-bf : IsRaw 0xbf
 raw-bf = record { itself = refl; byte = refl; character = refl; no_escape = refl }
 
--- U+00FE
+-- U+00FE is raw.
 raw-fe : IsRaw 0xfe
 raw-fe = record { itself = refl; byte = refl; character = refl; no_escape = refl }
 
--- and U+00FF
+-- U+00FF is raw.
 raw-ff : IsRaw 0xff
 raw-ff = record { itself = refl; byte = refl; character = refl; no_escape = refl }
 
--- Under windows-1252 the keys that begin like a byte order mark are those that begin with U+00EF U+00BB U+00BF, with U+00FE U+00FF, or with U+00FF U+00FE.
+-- In windows-1252, the keys that begin like a byte order mark are those that begin with U+00EF U+00BB U+00BF, with
+-- U+00FE U+00FF, or with U+00FF U+00FE.
 pub is_bom_like-windows_1252 : (key : List ℕ) → is_bom_like windows_1252 false key
     ≡ (begins_with (0xef ∷ 0xbb ∷ 0xbf ∷ []) key || (begins_with (0xfe ∷ 0xff ∷ []) key || begins_with (0xff ∷ 0xfe ∷ []) key))
 is_bom_like-windows_1252 key =
@@ -148,11 +149,11 @@ is_bom_like-windows_1252 key =
 abbrev utf_8_bytes_of : List ℕ → List ℕ
 utf_8_bytes_of key = encoded_text utf_8 (spelt_text utf_8 false in_key_or_value key)
 
--- the bytes of a key by those of its first character
+-- The bytes of a key, given those of its first character.
 utf_8_bytes-cons : (c : ℕ) (cs x : List ℕ) → spelt utf_8 false in_key_or_value c ≡ x → utf_8_bytes_of (c ∷ cs) ≡ encoded_text utf_8 x ++ utf_8_bytes_of cs
 utf_8_bytes-cons c cs x e = encoded_text-append utf_8 (spelt utf_8 false in_key_or_value c) (spelt_text utf_8 false in_key_or_value cs) ∙ ap (λ v. encoded_text utf_8 v ++ utf_8_bytes_of cs) e
 
--- what begins with a list is that list and a rest
+-- A text that begins with a list is that list followed by a rest.
 begins-rest : (ms d : List ℕ) → begins_with ms d ≡ true → (rest : List ℕ) × (d ≡ ms ++ rest)
 begins-rest [] d h = (d, refl)
 begins-rest (m ∷ ms) [] h = cc
@@ -161,16 +162,17 @@ begins-rest (m ∷ ms) (b ∷ d) h =
     let r = begins-rest ms d p.1 in
     (r.0, ap (λ v. v ∷ d) (sym (eqb-true m b p.0)) ∙ ap (λ v. m ∷ v) r.1)
 
--- U+FEFF is encoded as the byte order mark of UTF-8
+-- U+FEFF is encoded as the byte order mark of UTF-8.
 feff-bytes : encode_utf8 0xfeff ≡ utf_8_bom
 unfolding encode_utf8
 feff-bytes = refl
 
--- the bytes of a character and of what is after it begin with the byte order mark of UTF-8 where the character is U+FEFF
+-- The bytes of a character, followed by others, begin with the byte order mark of UTF-8 exactly if the character is
+-- U+FEFF.
 byte_order_mark-of_feff : (c : ℕ) (y : List ℕ) → begins_with utf_8_bom (encode_utf8 c ++ y) ≡ true → c ≡ 0xfeff
 byte_order_mark-of_feff c y h = let r = begins-rest utf_8_bom (encode_utf8 c ++ y) h in (encode_same c 0xfeff y r.0 (r.1 ∙ ap (λ v. v ++ r.0) (sym feff-bytes))).0
 
--- no character's first byte is FE or FF
+-- No character's first byte is FE or FF.
 first-byte : (c : ℕ) → c < 0x11_0000 → (b : ℕ) × (bs : List ℕ) × (encode_utf8 c ≡ b ∷ bs) × (b < 0xfe)
 unfolding encode_utf8
 first-byte c h = elim (cases_Bool (nat_lt c 128)) [
@@ -184,13 +186,13 @@ first-byte c h = elim (cases_Bool (nat_lt c 128)) [
   ]
 ]
 
--- so the bytes of a character don't begin with a number from FE on
+-- The bytes of a character don't begin with FE or above.
 not-first : (m : ℕ) (ms : List ℕ) (c : ℕ) (y : List ℕ) → 0xfe ≤ m → c < 0x11_0000 → begins_with (m ∷ ms) (encode_utf8 c ++ y) ≡ false
 not-first m ms c y k h =
     let (b, bs, e, below) = first-byte c h in
     ap (λ v. begins_with (m ∷ ms) (v ++ y)) e ∙ and_left (m == b) (begins_with ms (bs ++ y)) (ne_eqb m b (λ q. absurd (omega arith)))
 
--- the three tests, where the character stands as itself
+-- The three tests for a character that is unescaped.
 utf_8-itself : (c : ℕ) (y : List ℕ) → c < 0x11_0000 → begins_like_bom (encode_utf8 c ++ y) ≡ ((0xfeff == c) && true)
 utf_8-itself c y h =
     ap (λ b. begins_with utf_8_bom (encode_utf8 c ++ y) || (b || begins_with utf_16le_bom (encode_utf8 c ++ y))) (not-first 0xfe (0xff ∷ []) c y (lit≤ tt) h)
@@ -201,18 +203,18 @@ utf_8-itself c y h =
     either (inl k) = rw (← k.1, feff-bytes)
     either (inr k) = ap (λ b. b || false) (false_from_ne_true (begins_with utf_8_bom (encode_utf8 c ++ y)) (λ t. k.1 (sym (byte_order_mark-of_feff c y t)))) ∙ sym (and_left (0xfeff == c) true k.0)
 
--- a character that is escaped is not U+FEFF, which stands as itself
+-- A character that is escaped isn't U+FEFF, which is unescaped.
 not-feff : (c : ℕ) (rest : List ℕ) → spelt utf_8 false in_key_or_value c ≡ backslash ∷ rest → 0xfeff ≡ c → ⊥
 not-feff c rest e q = let k : ◌≡◌ {A = ℕ} 0x5c 0xfeff = ap (λ v. get_or v 0 0) (sym e ∙ ap (spelt utf_8 false in_key_or_value) (sym q)) in omega arith
 
--- a key that isn't empty begins like a byte order mark exactly where its first character is U+FEFF
+-- A key that isn't empty begins like a byte order mark exactly if its first character is U+FEFF.
 utf_8-cons : (c : ℕ) (cs : List ℕ) → c < 0x11_0000 → IsEscapedOrItself utf_8 c (spelt utf_8 false in_key_or_value c) → is_bom_like utf_8 false (c ∷ cs) ≡ ((0xfeff == c) && true)
 unfolding encode_utf8
 utf_8-cons c cs h (inl k) = ap begins_like_bom (utf_8_bytes-cons c cs (backslash ∷ k.0) k.1) ∙ sym (and_left (0xfeff == c) true (ne_eqb 0xfeff c (not-feff c k.0 k.1)))
 utf_8-cons c cs h (inr k) =
     ap begins_like_bom (utf_8_bytes-cons c cs (c ∷ []) k.0 ∙ append_assoc (encode_utf8 c) [] (utf_8_bytes_of cs)) ∙ utf_8-itself c (utf_8_bytes_of cs) h
 
--- Under UTF-8 the keys that begin like a byte order mark are those that begin with U+FEFF.
+-- In UTF-8, the keys that begin like a byte order mark are those that begin with U+FEFF.
 pub is_bom_like-utf_8 : (key : List ℕ) → All scalar key → is_bom_like utf_8 false key ≡ begins_with (0xfeff ∷ []) key
 is_bom_like-utf_8 [] h = refl
 is_bom_like-utf_8 (c ∷ cs) h = utf_8-cons c cs (below-scalar c (h 0 c (omega arith))) (spelt-cases utf_8 c)

@@ -1,4 +1,4 @@
--- How printed lines are put together, and that they hold only characters that the encoding can encode.
+-- How printed lines are put together. They contain only characters that can be encoded.
 use Rattle.std.proofs.Common.{◌≡◌, ℕ, ◌+◌, ◌/◌, ◌%◌, ◌<◌, ◌==◌, ◌||◌, ◌&&◌, not, Bool, true, false, cond, List, [], ◌∷◌, ◌++◌, refl, ap, sym, ◌∙◌, inl, inr, append_assoc, arith, lit<, lt-ltb, eqb-true}
 use Rattle.std.specs.Prelude.{Some, is_some, unwrap_or, nat_lt}
 use Rattle.std.specs.Char.{digit_char}
@@ -12,15 +12,15 @@ use Rattle.properties_format.specs.Settings.{Settings, IsGoodSeparator}
 use Rattle.properties_format.specs.Printing.{Place, in_key_or_value, in_comment, in_prefix, unit_escape, high_surrogate, low_surrogate, unicode_escape, may_stand, literal, is_special, letter_escape, has_letter, spelt, spelt_text, encoded_text, is_bom_like, with_first_escaped, spelt_key, printed_text, printed}
 use Rattle.properties_format.proofs.Encodings.Windows1252.{windows_1252_byte-ascii}
 
--- ---- texts, one after another
+-- ---- two texts, one after another
 
--- the bytes of a text and then of another
+-- The bytes of two texts.
 pub encoded_text-append : (e : Encoding) (x y : List ℕ) → encoded_text e (x ++ y) ≡ encoded_text e x ++ encoded_text e y
 encoded_text-append e [] y = refl
 encoded_text-append e (c ∷ x) y =
     ap (λ v. unwrap_or (encoded e c) [] ++ v) (encoded_text-append e x y) ∙ sym (append_assoc (unwrap_or (encoded e c) []) (encoded_text e x) (encoded_text e y))
 
--- what is printed for a text and then for another
+-- What is printed for two texts.
 pub spelt_text-append : (e : Encoding) (only : Bool) (place : Place) (x y : List ℕ) → spelt_text e only place (x ++ y) ≡ spelt_text e only place x ++ spelt_text e only place y
 spelt_text-append e only place [] y = refl
 spelt_text-append e only place (c ∷ x) y = ap (λ v. spelt e only place c ++ v) (spelt_text-append e only place x y)
@@ -32,13 +32,13 @@ spelt_text-append e only place (c ∷ x) y = ap (λ v. spelt e only place c ++ v
 three-parts : (e : Encoding) (x y z : List ℕ) → encoded_text e (x ++ (y ++ z)) ≡ encoded_text e x ++ (encoded_text e y ++ encoded_text e z)
 three-parts e x y z = encoded_text-append e x (y ++ z) ∙ ap (λ v. encoded_text e x ++ v) (encoded_text-append e y z)
 
--- a comment: the bytes of the prefix, of the text and of the line ending
+-- A comment: the bytes of the prefix, of the text and of the line ending.
 pub printed-comment : (e : Encoding) (s : Settings) (first : Bool) (text : List ℕ)
     → printed e s first (comment text) ≡ encoded_text e (spelt_text e s.ascii_only in_prefix s.comment_prefix)
     ++ (encoded_text e (spelt_text e s.ascii_only in_comment text) ++ encoded_text e (line_ending_text s.line_ending))
 printed-comment e s first text = three-parts e (spelt_text e s.ascii_only in_prefix s.comment_prefix) (spelt_text e s.ascii_only in_comment text) (line_ending_text s.line_ending)
 
--- a pair: the bytes of the key, of the separator, of the value and of the line ending
+-- A pair: the bytes of the key, of the separator, of the value and of the line ending.
 pub printed-pair : (e : Encoding) (s : Settings) (first : Bool) (key value : List ℕ)
     → printed e s first (pair key value)
     ≡ encoded_text e (spelt_key e s.ascii_only first key)
@@ -58,24 +58,24 @@ abbrev pub AreEncodable : Encoding → List ℕ → Type 0
 AreEncodable e [] = Unit {0}
 AreEncodable e (c ∷ cs) = (is_some (encoded e c) ≡ true) × AreEncodable e cs
 
--- two such texts together
+-- Two texts that can be encoded can be encoded together.
 pub AreEncodable-append : (e : Encoding) (x y : List ℕ) → AreEncodable e x → AreEncodable e y → AreEncodable e (x ++ y)
 AreEncodable-append e [] y h k = k
 AreEncodable-append e (c ∷ x) y h k = (h.0, AreEncodable-append e x y h.1 k)
 
--- an ASCII character is encoded as itself, whatever encoding is asked for
+-- An ASCII character is encoded as itself in every encoding.
 pub encoded-ascii : (e : Encoding) (c : ℕ) → c < 0x80 → encoded e c ≡ Some (c ∷ [])
 encoded-ascii windows_1252 c h = ap one_byte (windows_1252_byte-ascii c h)
 encoded-ascii utf_8 c h = ap Some (encode_ascii c h)
 encoded-ascii utf_16le c h = ap Some (encode_ascii c h)
 encoded-ascii utf_16be c h = ap Some (encode_ascii c h)
 
--- every character of the text is an ASCII one
+-- every character of the text is ASCII
 abbrev pub AreAscii : List ℕ → Type 0
 AreAscii [] = Unit {0}
 AreAscii (c ∷ cs) = (c < 0x80) × AreAscii cs
 
--- two such texts together
+-- Two ASCII texts together are ASCII.
 pub AreAscii-append : (x y : List ℕ) → AreAscii x → AreAscii y → AreAscii (x ++ y)
 AreAscii-append [] y h k = k
 AreAscii-append (c ∷ x) y h k = (h.0, AreAscii-append x y h.1 k)
@@ -96,13 +96,13 @@ line_end-ascii lf = (lit< tt, tt)
 line_end-ascii cr = (lit< tt, tt)
 line_end-ascii crlf = (lit< tt, (lit< tt, tt))
 
--- ---- what is spelt can be encoded
+-- ---- what is printed can be encoded
 
 -- the digit of a number below 16 is an ASCII character
 digit-ascii : (d : ℕ) → d < 0x10 → digit_char d < 0x80
 digit-ascii d h = cond_both (nat_lt d 10) (48 + d) (87 + d) (λ v. v < 0x80) (λ k. omega arith) (λ k. omega arith)
 
--- and so that of a remainder by 16
+-- The digit of a remainder modulo 16 is an ASCII character.
 digit_of-ascii : (n : ℕ) → digit_char (n % 0x10) < 0x80
 digit_of-ascii n = digit-ascii (n % 0x10) (omega arith)
 
@@ -110,14 +110,14 @@ digit_of-ascii n = digit-ascii (n % 0x10) (omega arith)
 unit_escape-ascii : (u : ℕ) → AreAscii (unit_escape u)
 unit_escape-ascii u = (lit< tt, (lit< tt, (digit_of-ascii (u / 0x1000), (digit_of-ascii (u / 0x100), (digit_of-ascii (u / 0x10), (digit_of-ascii u, tt))))))
 
--- and so are the escapes of a character
+-- The escapes of a character are an ASCII text.
 pub unicode_escape-ascii : (c : ℕ) → AreAscii (unicode_escape c)
 unicode_escape-ascii c =
     cond_both (nat_lt c 0x1_0000) (unit_escape c) (unit_escape (high_surrogate c) ++ unit_escape (low_surrogate c)) AreAscii
     (λ k. unit_escape-ascii c)
     (λ k. AreAscii-append (unit_escape (high_surrogate c)) (unit_escape (low_surrogate c)) (unit_escape-ascii (high_surrogate c)) (unit_escape-ascii (low_surrogate c)))
 
--- and a backslash with a letter
+-- A backslash with a letter is an ASCII text.
 pub letter_escape-ascii : (c : ℕ) → AreAscii (letter_escape c)
 letter_escape-ascii c = (lit< tt, (letter c, tt))
   where
@@ -127,11 +127,11 @@ letter_escape-ascii c = (lit< tt, (letter c, tt))
         (λ k. cond_both (c == 0x0a) 0x6e (cond (c == 0x0c) 0x66 0x72) (λ v. v < 0x80) (λ k. lit< tt)
         (λ k. cond_both (c == 0x0c) 0x66 0x72 (λ v. v < 0x80) (λ k. lit< tt) (λ k. lit< tt)))
 
--- a character that is equal to an ASCII one is ASCII
+-- A character that equals an ASCII character is ASCII.
 is-ascii : (c k : ℕ) → k < 0x80 → (c == k) ≡ true → c < 0x80
 is-ascii c k h e = rw (eqb-true c k e) h
 
--- a character that takes a backslash before it is ASCII
+-- A character that is escaped with a backslash is ASCII.
 pub special-ascii : (c : ℕ) → is_special c ≡ true → c < 0x80
 special-ascii c h = elim (or_cases (c == backslash) (c == space || (is_separator c || is_comment_sign c)) h) [
   | inl e ↦ is-ascii c backslash (lit< tt) e
@@ -144,24 +144,24 @@ special-ascii c h = elim (or_cases (c == backslash) (c == space || (is_separator
   ]
 ]
 
--- what may stand as itself can be encoded, and every ASCII character may
+-- A character that may be written unescaped can be encoded.
 may_stand-encodable : (e : Encoding) (only : Bool) (c : ℕ) → may_stand e only c ≡ true → is_some (encoded e c) ≡ true
 may_stand-encodable e only c h = (and_parts (not only || nat_lt c 0x80) (is_some (encoded e c)) h).1
 
--- and every ASCII character may stand
+-- With ASCII-only output on or off, every ASCII character may be written unescaped.
 pub may_stand-ascii : (e : Encoding) (only : Bool) (c : ℕ) → c < 0x80 → may_stand e only c ≡ true
 may_stand-ascii e true c h = and_from (nat_lt c 0x80) (is_some (encoded e c)) (lt-ltb c 0x80 h) (ap is_some (encoded-ascii e c h))
 may_stand-ascii e false c h = ap is_some (encoded-ascii e c h)
 
--- with its backslash it is an ASCII text
+-- A special character with its backslash is an ASCII text.
 special-escape : (c : ℕ) → is_special c ≡ true → AreAscii (backslash ∷ c ∷ [])
 special-escape c h = (lit< tt, (special-ascii c h, tt))
 
--- so it is of a character that stands as itself where it may, and is escaped elsewhere
+-- A character that is unescaped if that is allowed, and escaped otherwise, is printed as an ASCII text or as itself.
 literal-either : (e : Encoding) (only : Bool) (c : ℕ) (P : List ℕ → Type 0) → ((x : List ℕ) → AreAscii x → P x) → (may_stand e only c ≡ true → P (c ∷ [])) → P (literal e only c)
 literal-either e only c P ascii as_it_is = cond_both (may_stand e only c) (c ∷ []) (unicode_escape c) P as_it_is (λ k. ascii (unicode_escape c) (unicode_escape-ascii c))
 
--- What is spelt is an ASCII text, or the character itself, which may stand.
+-- What is printed is an ASCII text; or it is the character itself, which may be written unescaped.
 pub spelt-either : (e : Encoding) (only : Bool) (place : Place) (c : ℕ) (P : List ℕ → Type 0) → ((x : List ℕ) → AreAscii x → P x) → (may_stand e only c ≡ true → P (c ∷ []))
     → P (spelt e only place c)
 spelt-either e only in_key_or_value c P ascii as_it_is =
@@ -184,18 +184,18 @@ spelt-either e only in_prefix c P ascii as_it_is = literal-either e only c P asc
 pub spelt-encodable : (e : Encoding) (only : Bool) (place : Place) (c : ℕ) → AreEncodable e (spelt e only place c)
 spelt-encodable e only place c = spelt-either e only place c (AreEncodable e) (AreEncodable-ascii e) (λ k. (may_stand-encodable e only c k, tt))
 
--- and so what is printed for a text
+-- What is printed for a text can be encoded.
 pub spelt_text-encodable : (e : Encoding) (only : Bool) (place : Place) (x : List ℕ) → AreEncodable e (spelt_text e only place x)
 spelt_text-encodable e only place [] = tt
 spelt_text-encodable e only place (c ∷ x) = AreEncodable-append e (spelt e only place c) (spelt_text e only place x) (spelt-encodable e only place c) (spelt_text-encodable e only place x)
 
--- and a key with its first character escaped
+-- A key with its first character escaped can be encoded.
 with_first_escaped-encodable : (e : Encoding) (only : Bool) (key : List ℕ) → AreEncodable e (with_first_escaped e only key)
 with_first_escaped-encodable e only [] = tt
 with_first_escaped-encodable e only (c ∷ cs) =
     AreEncodable-append e (unicode_escape c) (spelt_text e only in_key_or_value cs) (AreEncodable-ascii e (unicode_escape c) (unicode_escape-ascii c)) (spelt_text-encodable e only in_key_or_value cs)
 
--- and any key that is printed
+-- Any printed key can be encoded.
 pub spelt_key-encodable : (e : Encoding) (only : Bool) (first : Bool) (key : List ℕ) → AreEncodable e (spelt_key e only first key)
 spelt_key-encodable e only first key =
     cond_both (first && is_bom_like e only key) (with_first_escaped e only key) (spelt_text e only in_key_or_value key) (AreEncodable e)
@@ -210,7 +210,7 @@ blank-ascii c h = elim (or_cases (c == 0x20) (c == 0x09 || c == 0x0c) h) [
   | inr h ↦ elim (or_cases (c == 0x09) (c == 0x0c) h) [ inl e ↦ is-ascii c 0x09 (lit< tt) e | inr e ↦ is-ascii c 0x0c (lit< tt) e ]
 ]
 
--- and so is a separator
+-- A separator is an ASCII character.
 pub separator-ascii : (c : ℕ) → is_separator c ≡ true → c < 0x80
 separator-ascii c h = elim (or_cases (c == 0x3d) (c == 0x3a) h) [ inl e ↦ is-ascii c 0x3d (lit< tt) e | inr e ↦ is-ascii c 0x3a (lit< tt) e ]
 
@@ -219,13 +219,13 @@ pub blanks-ascii : (x : List ℕ) → AreBlanks x → AreAscii x
 blanks-ascii [] h = tt
 blanks-ascii (c ∷ x) h = (blank-ascii c h.0, blanks-ascii x h.1)
 
--- a good separator is printed as it is
+-- A good separator is an ASCII text.
 pub good_separator-ascii : (separator : List ℕ) → IsGoodSeparator separator → AreAscii separator
 good_separator-ascii separator (inl g) =
     rw g.division (AreAscii-append g.before (g.sign ∷ g.after) (blanks-ascii g.before g.blank_before) (separator-ascii g.sign g.signed, blanks-ascii g.after g.blank_after))
 good_separator-ascii separator (inr g) = blanks-ascii separator g.blank
 
--- a printed line can be encoded, where its separator is good
+-- A printed line can be encoded if its separator is good.
 pub printed_text-encodable : (e : Encoding) (s : Settings) (first : Bool) (line : Content) → IsGoodSeparator s.kv_separator → AreEncodable e (printed_text e s first line)
 printed_text-encodable e s first (comment text) g =
     AreEncodable-append e (spelt_text e s.ascii_only in_prefix s.comment_prefix)

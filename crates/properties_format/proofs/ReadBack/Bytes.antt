@@ -1,4 +1,4 @@
--- The bytes that are written are decoded to what was printed.
+-- The bytes that are written decode to what was printed.
 use Rattle.std.proofs.Common.{◌≡◌, ℕ, ◌+◌, ◌==◌, ◌&&◌, not, Bool, true, false, if◌then◌else◌, List, [], ◌∷◌, ◌++◌, refl, ap, ◌∙◌, inl, arith}
 use Rattle.std.specs.Prelude.{Option, Some, None, is_some, unwrap_or, All}
 use Rattle.std.specs.List.{AllByRecursion}
@@ -16,9 +16,9 @@ use Rattle.properties_format.proofs.Encodings.Characters.{pieces_of-encoded}
 use Rattle.properties_format.proofs.Printing.Characters.{AreEncodable, AreEncodable-append, AreAscii, line_end-ascii, unicode_escape-ascii, good_separator-ascii, spelt-either, printed_text-encodable}
 use Rattle.properties_format.proofs.ReadBack.Lines.{line_text, wrote_text, settings_after_call-good}
 
--- ---- what can be encoded is decoded to itself
+-- ---- what can be encoded decodes to itself
 
--- a character that can be encoded is decoded from its bytes, whatever follows
+-- A character that can be encoded is decoded from its bytes, whatever follows.
 decoded-front : (e : Encoding) (c : ℕ) (o : Option (List ℕ)) (y : List ℕ) → scalar c → encoded e c ≡ o → is_some o ≡ true
     → characters (pieces_of (output_encoding e) (unwrap_or o [] ++ y)) ≡ c ∷ characters (pieces_of (output_encoding e) y)
 decoded-front e c None y h same some = cc
@@ -29,43 +29,43 @@ pub text-decoded : (e : Encoding) (x : List ℕ) → AllByRecursion scalar x →
 text-decoded e [] h k = ap characters (pieces_of-nil (output_encoding e))
 text-decoded e (c ∷ x) h k = decoded-front e c (encoded e c) (encoded_text e x) h.0 refl k.0 ∙ ap (λ v. c ∷ v) (text-decoded e x h.1 k.1)
 
--- ---- what is printed holds scalar values
+-- ---- what is printed consists of scalar values
 
--- two texts of scalars together
+-- Two texts of scalar values together.
 scalars-append : (x y : List ℕ) → AllByRecursion scalar x → AllByRecursion scalar y → AllByRecursion scalar (x ++ y)
 scalars-append [] y h k = k
 scalars-append (c ∷ x) y h k = (h.0, scalars-append x y h.1 k)
 
--- an ASCII text is of scalars
+-- An ASCII text consists of scalar values.
 pub ascii-scalars : (x : List ℕ) → AreAscii x → AllByRecursion scalar x
 ascii-scalars [] h = tt
 ascii-scalars (c ∷ x) h = (inl (let b = h.0 in omega arith), ascii-scalars x h.1)
 
--- what is printed for a text of scalars is of scalars
+-- What is printed for a text of scalar values consists of scalar values.
 spelt_text-scalars : (e : Encoding) (only : Bool) (place : Place) (x : List ℕ) → AllByRecursion scalar x → AllByRecursion scalar (spelt_text e only place x)
 spelt_text-scalars e only place [] h = tt
 spelt_text-scalars e only place (c ∷ x) h =
     scalars-append (spelt e only place c) (spelt_text e only place x) (spelt-either e only place c (AllByRecursion scalar) ascii-scalars (λ k. (h.0, tt))) (spelt_text-scalars e only place x h.1)
 
--- and so is a key with its first character escaped
+-- A key of scalar values with its first character escaped consists of scalar values.
 with_first_escaped-scalars : (e : Encoding) (only : Bool) (key : List ℕ) → AllByRecursion scalar key → AllByRecursion scalar (with_first_escaped e only key)
 with_first_escaped-scalars e only [] h = tt
 with_first_escaped-scalars e only (c ∷ cs) h =
     scalars-append (unicode_escape c) (spelt_text e only in_key_or_value cs) (ascii-scalars (unicode_escape c) (unicode_escape-ascii c))
     (spelt_text-scalars e only in_key_or_value cs h.1)
 
--- and any key that is printed
+-- Any printed key of scalar values consists of scalar values.
 pub key-scalars : (e : Encoding) (only : Bool) (first : Bool) (key : List ℕ) → AllByRecursion scalar key → AllByRecursion scalar (spelt_key e only first key)
 key-scalars e only first key h =
     cond_both (first && is_bom_like e only key) (with_first_escaped e only key) (spelt_text e only in_key_or_value key)
     (AllByRecursion scalar) (λ k. with_first_escaped-scalars e only key h) (λ k. spelt_text-scalars e only in_key_or_value key h)
 
--- the texts of a line are of scalars
+-- the texts of a line consist of scalar values
 ContentScalars : Content → Type 0
 ContentScalars (comment text) = All scalar text
 ContentScalars (pair key value) = All scalar key × All scalar value
 
--- a line of scalars is printed as scalars, under good settings
+-- Under good settings, a line of scalar values is printed as scalar values.
 printed-scalars : (e : Encoding) (s : Settings) (first : Bool) (line : Content) → AreGoodSettings s → ContentScalars line → AllByRecursion scalar (printed_text e s first line)
 unfolding ContentScalars
 printed-scalars e s first (comment text) g h =
@@ -83,29 +83,29 @@ printed-scalars e s first (pair key value) g h =
     (spelt_text-scalars e s.ascii_only in_key_or_value value (recursion_from_All scalar value h.1))
     (ascii-scalars (line_ending_text s.line_ending) (line_end-ascii s.line_ending))))
 
--- ---- all that is written
+-- ---- everything that is written
 
--- scalar values that can be encoded
+-- A writable text: it consists of scalar values that can be encoded.
 pub record AreWritable (e : Encoding) (x : List ℕ) : Type 0 where
   pub scalars : AllByRecursion scalar x
   pub encodable : AreEncodable e x
 
--- two such texts together
+-- Two writable texts together are writable.
 pub writable-append : (e : Encoding) (x y : List ℕ) → AreWritable e x → AreWritable e y → AreWritable e (x ++ y)
 writable-append e x y h k = record { scalars = scalars-append x y h.scalars k.scalars; encodable = AreEncodable-append e x y h.encodable k.encodable }
 
--- a line of scalars is printed as such a text, under good settings
+-- Under good settings, a line of scalar values is printed as a writable text.
 line-writable : (e : Encoding) (s : Settings) (n : ℕ) (line : Content) → AreGoodSettings s → ContentScalars line → AreWritable e (printed_text e s (n == 0) line)
 line-writable e s n line g h = record { scalars = printed-scalars e s (n == 0) line g h; encodable = printed_text-encodable e s (n == 0) line g.separator }
 
--- a pair, where it is accepted and where it is not
+-- A pair, whether or not it is accepted.
 pair-writable : (e : Encoding) (s : Settings) (n : ℕ) (key value : List ℕ) (b : Bool) → AreGoodSettings s → All scalar key
     → All scalar value → AreWritable e (line_text e s n (if b then Some (pair key value) else None))
 unfolding ContentScalars
 pair-writable e s n key value true g h k = line-writable e s n (pair key value) g (h, k)
 pair-writable e s n key value false g h k = record { scalars = tt; encodable = tt }
 
--- and so are all lines that calls write, from good settings on
+-- Starting with good settings, all lines that calls write are writable.
 pub wrote_text-writable : (e : Encoding) (s : Settings) (n : ℕ) (calls : List Call) → AreGoodSettings s → AreOfScalars calls → AreWritable e (wrote_text e s n calls)
 unfolding ContentScalars
 wrote_text-writable e s n [] g h = record { scalars = tt; encodable = tt }

@@ -1,4 +1,5 @@
--- A printed comment is a line of its own, and is read as its prefix's tail and its text, without the blanks at both ends.
+-- A printed comment is a line of its own, and is read as what follows its prefix's comment sign and its text, without
+-- the blanks at both ends.
 use Rattle.std.proofs.Common.{◌≡◌, ◌⊎◌, ℕ, ◌<◌, ◌==◌, true, false, List, [], ◌∷◌, ◌++◌, map, refl, ap, sym, ◌∙◌, inl, inr, append_assoc, lit<, eqb-true, ap₂, subst}
 use Rattle.std.specs.Prelude.{Bool}
 use Rattle.std.specs.List.{AllByRecursion}
@@ -27,7 +28,7 @@ use Rattle.properties_format.proofs.ReadBack.Spellings.{IsSafe, IsPlainlySpelt, 
 use Rattle.properties_format.proofs.ReadBack.Texts.{safe-whole, safe-plain}
 use Rattle.properties_format.proofs.ReadBack.Pairs.{IsReadAs, blanks-plain, cons-front}
 
--- x is the text of whole spellings of y that keep blanks, and holds no line end
+-- x is plainly spelt for y: it is the text of whole spellings of y that keep blanks, and contains no line end.
 record ArePlainlySpelt (x y : List ℕ) : Type 0 where
   spellings : List Spelling
   text : x ≡ spelt_before spellings []
@@ -36,19 +37,19 @@ record ArePlainlySpelt (x y : List ℕ) : Type 0 where
   keep : AllKeepBlanks spellings
   plain : HoldsNoLineEnd x
 
--- ---- one character in front
+-- ---- one more character at the front
 
--- a spelling that is safe, or a character as itself, is whole
+-- A safe spelling, or a character as itself, is whole.
 plainly-whole : (c : ℕ) (p : Spelling) → IsSafe p ⊎ ((p ≡ itself c) × ((c == backslash) ≡ false) × (is_line_end c ≡ false)) → IsWhole p
 plainly-whole c p (inl h) = safe-whole p h
 plainly-whole c p (inr h) = subst IsWhole (sym h.0) h.1
 
--- and holds no line end
+-- It contains no line end.
 plainly-plain : (c : ℕ) (p : Spelling) → IsSafe p ⊎ ((p ≡ itself c) × ((c == backslash) ≡ false) × (is_line_end c ≡ false)) → HoldsNoLineEnd (spelling_text p)
 plainly-plain c p (inl h) = safe-plain p h
 plainly-plain c p (inr h) = subst (λ v. HoldsNoLineEnd (spelling_text v)) (sym h.0) (h.2, tt)
 
--- a character that is plainly spelt in front of such a text
+-- A plainly spelt character before a plainly spelt text.
 plainly-cons : (x y : List ℕ) (c : ℕ) (cs : List ℕ) → IsPlainlySpelt x c → ArePlainlySpelt y cs → ArePlainlySpelt (x ++ y) (c ∷ cs)
 plainly-cons x y c cs s t =
     record {
@@ -62,16 +63,16 @@ plainly-cons x y c cs s t =
 
 -- ---- the text of a comment, and the tail of a prefix before it
 
--- what is printed for the text of a comment is such
+-- What is printed for the text of a comment is plainly spelt.
 comment-plainly : (e : Encoding) (only : Bool) (x : List ℕ) → AllByRecursion scalar x → ArePlainlySpelt (spelt_text e only in_comment x) x
 comment-plainly e only [] h = record { spellings = []; text = refl; characters = refl; whole = tt; keep = tt; plain = tt }
 comment-plainly e only (c ∷ x) h = plainly-cons (spelt e only in_comment c) (spelt_text e only in_comment x) c x (in_comment-spelt e only c h.0) (comment-plainly e only x h.1)
 
--- and so is an equal text
+-- A text equal to a plainly spelt one is plainly spelt.
 same-plainly : (x y z : List ℕ) → x ≡ y → ArePlainlySpelt y z → ArePlainlySpelt x z
 same-plainly x y z e s = subst (λ v. ArePlainlySpelt v z) (sym e) s
 
--- and the tail of a prefix, which holds no backslash, in front of such a text
+-- The tail of a prefix without a backslash, before a plainly spelt text, is plainly spelt.
 tail-plainly : (e : Encoding) (only : Bool) (tail y cs : List ℕ) → AllByRecursion scalar tail → HoldsNoBackslash tail → HoldsNoLineEnd tail
     → ArePlainlySpelt y cs → ArePlainlySpelt (spelt_text e only in_prefix tail ++ y) (tail ++ cs)
 tail-plainly e only [] y cs h b p s = s
@@ -81,39 +82,40 @@ tail-plainly e only (c ∷ tail) y cs h b p s =
 
 -- ---- the prefix
 
--- an ASCII character stands as itself
+-- An ASCII character is printed unescaped.
 literal-ascii : (e : Encoding) (only : Bool) (c : ℕ) → c < 0x80 → literal e only c ≡ c ∷ []
 literal-ascii e only c h = cond-true (may_stand e only c) (c ∷ []) (unicode_escape c) (may_stand-ascii e only c h)
 
--- a comment sign is ASCII, and no line end
+-- A comment sign is ASCII, and isn't a line end.
 pub sign-ascii : (c : ℕ) → is_comment_sign c ≡ true → (c < 0x80) × (is_line_end c ≡ false)
 sign-ascii c h = elim (or_cases (c == 0x23) (c == 0x21) h) [ inl e ↦ rw (eqb-true c 0x23 e) (lit< tt, refl) | inr e ↦ rw (eqb-true c 0x21 e) (lit< tt, refl) ]
 
--- the blanks and the comment sign of a prefix are printed as they are
+-- The blanks and the comment sign of a prefix are printed unescaped.
 pub prefix-spelt : (e : Encoding) (only : Bool) (indent : List ℕ) (sign : ℕ) (tail : List ℕ) → AreBlanks indent → is_comment_sign sign ≡ true
     → spelt_text e only in_prefix (indent ++ (sign ∷ tail)) ≡ indent ++ (sign ∷ spelt_text e only in_prefix tail)
 prefix-spelt e only [] sign tail b m = ap (λ v. v ++ spelt_text e only in_prefix tail) (literal-ascii e only sign (sign-ascii sign m).0)
 prefix-spelt e only (c ∷ indent) sign tail b m =
     ap (λ v. v ++ spelt_text e only in_prefix (indent ++ (sign ∷ tail))) (literal-ascii e only c (blank-ascii c b.0)) ∙ ap (λ v. c ∷ v) (prefix-spelt e only indent sign tail b.1 m)
 
--- the rest of a text of scalars is of scalars
+-- The rest of a text of scalar values consists of scalar values.
 scalar-right : (x y : List ℕ) → AllByRecursion scalar (x ++ y) → AllByRecursion scalar y
 scalar-right [] y h = h
 scalar-right (c ∷ x) y h = scalar-right x y h.1
 
--- the rest of a text without a backslash has none
+-- The rest of a text without a backslash contains none.
 slashes-right : (x y : List ℕ) → HoldsNoBackslash (x ++ y) → HoldsNoBackslash y
 slashes-right [] y h = h
 slashes-right (c ∷ x) y h = slashes-right x y h.1
 
 -- ---- the line of a comment
 
--- blanks and then a comment sign begin a comment line
+-- Blanks followed by a comment sign begin a comment line.
 comment_line-after : (indent : List ℕ) (sign : ℕ) (rest : List ℕ) → AreBlanks indent → is_comment_sign sign ≡ true → is_comment_line (indent ++ (sign ∷ rest)) ≡ true
 comment_line-after [] sign rest b m = is_comment_line-other sign rest (sign-full sign m) ∙ m
 comment_line-after (c ∷ indent) sign rest b m = is_comment_line-blank c (indent ++ (sign ∷ rest)) b.0 ∙ comment_line-after indent sign rest b.1 m
 
--- blanks, a comment sign and such a text are read as the comment that it spells, without the blanks at its ends
+-- Blanks, a comment sign and a plainly spelt text are read as the comment that is spelt, without the blanks at its
+-- ends.
 comment-at : (indent : List ℕ) (sign : ℕ) (rest content : List ℕ) → AreBlanks indent → is_comment_sign sign ≡ true → ArePlainlySpelt rest content
     → IsReadAs (indent ++ (sign ∷ rest)) (comment (trimmed content))
 comment-at indent sign rest content b m s =

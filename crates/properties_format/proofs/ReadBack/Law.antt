@@ -1,4 +1,4 @@
--- Reading inverts writing: what a new writer's calls wrote is read back as one item a line.
+-- Reading inverts writing: what a new writer's calls wrote is read back as one item per line.
 use Rattle.std.proofs.Common.{◌≡◌, List, [], ◌∷◌, refl, ap, ◌∙◌, lit<, inl, subst}
 use Rattle.std.proofs.lemmas.List.Elements.{All-from_recursion}
 use Rattle.properties_format.specs.Text.{scalar, number_sign, space}
@@ -27,14 +27,14 @@ default_settings-good =
       separator = IsGoodSeparator-from_test default_settings.kv_separator refl;
     }
 
--- an output encoding is its own
+-- An output encoding is its own output encoding.
 pub output_encoding-own : (e : Encoding) → output_encoding (output_encoding e) ≡ output_encoding e
 output_encoding-own windows_1252 = refl
 output_encoding-own utf_8 = refl
 output_encoding-own utf_16le = refl
 output_encoding-own utf_16be = refl
 
--- the bytes that are written are decoded to what was printed, in an encoding that a writer writes
+-- In an encoding that can be written, the bytes that are written decode to what was printed.
 pub wrote-decoded : (e : Encoding) (s : Settings) (calls : List Call) → output_encoding e ≡ e → AreGoodSettings s → AreOfScalars calls → decoded_of e (wrote e s 0 calls) ≡ wrote_text e s 0 calls
 wrote-decoded e s calls own g h =
     let x = wrote_text e s 0 calls in
@@ -43,14 +43,14 @@ wrote-decoded e s calls own g h =
     ∙ decoded_of-unmarked e (encoded_text e x) (wrote_text-unmarked e s calls g h)
     ∙ subst (λ a. characters (pieces_of a (encoded_text e x)) ≡ x) own (text-decoded e x w.scalars w.encodable)
 
--- What a writer's calls wrote, from good settings on and with no line before them, has the items that they told.
+-- Starting with good settings and no lines, what a writer's calls wrote has the items that they wrote.
 pub items_of-wrote : (e : Encoding) (s : Settings) (calls : List Call) → output_encoding e ≡ e → AreGoodSettings s → ArePrefixesClean s calls → AreOfScalars calls
     → items_of e (wrote e s 0 calls) end ≡ items_read_back s 0 calls
 unfolding items_of
 items_of-wrote e s calls own g c h =
     ap (λ x. items_of_lines (lines_of x) end) (wrote-decoded e s calls own g h) ∙ (text-read e (line_ends (lines_of (wrote_text e s 0 calls))) s 0 calls g c h).read
 
--- The same of the relation.
+-- What the calls wrote has these items by the definition of items.
 pub IsItems-wrote : (e : Encoding) (s : Settings) (calls : List Call) → output_encoding e ≡ e → AreGoodSettings s → ArePrefixesClean s calls → AreOfScalars calls
     → IsItems e (wrote e s 0 calls) end (items_read_back s 0 calls)
 IsItems-wrote e s calls own g c h = subst (IsItems e (wrote e s 0 calls) end) (items_of-wrote e s calls own g c h) (items_of-meets e (wrote e s 0 calls) end)

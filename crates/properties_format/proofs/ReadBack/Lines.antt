@@ -1,4 +1,4 @@
--- What a list of calls prints is read line by line, as one item a line.
+-- What a list of calls prints is read line by line, as one item per line.
 use Rattle.std.proofs.Common.{◌≡◌, ◌≢◌, ℕ, ◌+◌, ◌==◌, ◌&&◌, not, Bool, true, false, if◌then◌else◌, List, [], ◌∷◌, ◌++◌, refl, ap, sym, ◌∙◌, inl, inr, append_assoc, ap₂, subst}
 use Rattle.std.specs.Prelude.{All, Option, Some, None}
 use Rattle.std.proofs.lemmas.List.Elements.{recursion_from_All}
@@ -28,7 +28,7 @@ use Rattle.properties_format.proofs.ReadBack.Comments.{comment-read}
 
 -- ---- the characters that are written
 
--- the characters of a line, where there is one
+-- the characters of a line, if there is one
 abbrev pub line_text : Encoding → Settings → ℕ → Option Content → List ℕ
 line_text e s n None = []
 line_text e s n (Some line) = printed_text e s (n == 0) line
@@ -42,7 +42,7 @@ line-bytes : (e : Encoding) (s : Settings) (n : ℕ) (o : Option Content) → li
 line-bytes e s n None = refl
 line-bytes e s n (Some line) = refl
 
--- and so are those of all lines
+-- The bytes of all lines are those of their characters.
 pub wrote-text : (e : Encoding) (s : Settings) (n : ℕ) (calls : List Call) → wrote e s n calls ≡ encoded_text e (wrote_text e s n calls)
 wrote-text e s n [] = refl
 wrote-text e s n (call ∷ calls) =
@@ -52,13 +52,13 @@ wrote-text e s n (call ∷ calls) =
 
 -- ---- one line
 
--- a text, and then its line end; the text is read as this
+-- A text followed by its line end, and what the text is read as.
 pub record IsLineReadAs (by : LineEnding) (x : List ℕ) (content : Content) : Type 0 where
   pub text : List ℕ
   pub whole : x ≡ text ++ line_ending_text by
   pub read : IsReadAs text content
 
--- a comment, under good settings and a prefix without a backslash
+-- A comment, under good settings and a prefix without a backslash.
 pub comment-line : (e : Encoding) (s : Settings) (first : Bool) (text : List ℕ) → AreGoodSettings s → HoldsNoBackslash s.comment_prefix → All scalar text
     → IsLineReadAs s.line_ending (printed_text e s first (comment text)) (content_read_back s (comment text))
 comment-line e s first text g b h =
@@ -68,7 +68,7 @@ comment-line e s first text g b h =
       read = comment-read e s.ascii_only s.comment_prefix text g.prefix b (recursion_from_All scalar s.comment_prefix g.scalars) (recursion_from_All scalar text h);
     }
 
--- a pair, under good settings and a separator that is not blanks alone where the key is empty
+-- A pair, under good settings; if the key is empty, the separator isn't blanks only.
 pub pair-line : (e : Encoding) (s : Settings) (first : Bool) (key value : List ℕ) → AreGoodSettings s → (key ≡ [] → is_blanks s.kv_separator ≡ false) → All scalar key → All scalar value
     → IsLineReadAs s.line_ending (printed_text e s first (pair key value)) (pair key value)
 pair-line e s first key value g some h k =
@@ -83,22 +83,22 @@ pair-line e s first key value g some h k =
 
 -- ---- all lines
 
--- the text, after n line ends, is read as these entries, and no LF is at its front
+-- After n line ends, the text is read as these entries, and no LF is at its front.
 pub record IsTextReadAs (m n : ℕ) (x : List ℕ) (entries : List Entry) : Type 0 where
   pub read : entries_of m end (groups_of (lines_to_come n false [] x end) end) ≡ entries
   pub no_lf : begins_with_lf x ≡ false
 
--- a line that stands alone is its own logical line
+-- A comment line, or a line that isn't open, is its own logical line.
 pub joined-alone : (l : Line) → StandsAlone l.text → joined (l ∷ []) ≡ l.text
 joined-alone l (inl m) = joined-comment_line l [] m
 joined-alone l (inr m) = joined-closed l m
 
--- a text that is not empty and holds no line end begins with no LF, whatever follows
+-- A text that isn't empty and contains no line end doesn't begin with an LF, whatever follows.
 front-no_lf : (x y : List ℕ) → x ≢ [] → HoldsNoLineEnd x → begins_with_lf (x ++ y) ≡ false
 front-no_lf [] y some h = absurd (some refl)
 front-no_lf (c ∷ x) y some h = plain-no_lf (c ∷ x) h
 
--- a line with its end gives its item, and then come the entries of what follows
+-- A line with its end has its item, followed by the entries of what comes after it.
 line-read : (m n : ℕ) (by : LineEnding) (text y : List ℕ) (content : Content) (entries : List Entry) → IsReadAs text content → IsTextReadAs m (n + 1) y entries
     → entries_of m end (groups_of (lines_to_come n false [] (text ++ (line_ending_text by ++ y)) end) end) ≡ item (n + 1) content ∷ entries
 line-read m n by text y content entries r t =
@@ -106,7 +106,7 @@ line-read m n by text y content entries r t =
     ap (λ v. entries_of m end v) (groups-line n text by y end r.plain (λ _. t.no_lf) r.alone)
     ∙ ap₂ (λ o v. followed (n + 1) o v) (ap outcome_of (joined-alone l r.alone) ∙ r.outcome) t.read
 
--- one line in front of such a text
+-- One line before such a text.
 line-then : (m n : ℕ) (by : LineEnding) (x y : List ℕ) (content : Content) (entries : List Entry) → IsLineReadAs by x content → IsTextReadAs m (n + 1) y entries
     → IsTextReadAs m n (x ++ y) (item (n + 1) content ∷ entries)
 line-then m n by x y content entries l t =
@@ -116,7 +116,7 @@ line-then m n by x y content entries l t =
       no_lf = ap begins_with_lf same ∙ front-no_lf l.text (line_ending_text by ++ y) l.read.some l.read.plain;
     }
 
--- where nothing is written, nothing is read
+-- If nothing is written, nothing is read.
 nothing-read : (m n : ℕ) → IsTextReadAs m n [] []
 nothing-read m n =
     record {
@@ -126,17 +126,17 @@ nothing-read m n =
 
 -- ---- settings stay good
 
--- where a good prefix is set
+-- Setting a good prefix keeps the settings good.
 prefix-good : (s : Settings) (prefix : List ℕ) (b : Bool) → is_good_prefix prefix ≡ b → AreGoodSettings s → All scalar prefix → AreGoodSettings (if b then record s { comment_prefix = prefix } else s)
 prefix-good s prefix true e g h = record { prefix = IsGoodPrefix-from_test prefix e; scalars = h; separator = g.separator }
 prefix-good s prefix false e g h = g
 
--- where a good separator is set
+-- Setting a good separator keeps the settings good.
 separator-good : (s : Settings) (separator : List ℕ) (b : Bool) → is_good_separator separator ≡ b → AreGoodSettings s → AreGoodSettings (if b then record s { kv_separator = separator } else s)
 separator-good s separator true e g = record { prefix = g.prefix; scalars = g.scalars; separator = IsGoodSeparator-from_test separator e }
 separator-good s separator false e g = g
 
--- after a call
+-- Any call keeps the settings good.
 pub settings_after_call-good : (s : Settings) (call : Call) → AreGoodSettings s → IsOfScalars call → AreGoodSettings (settings_after_call s call)
 settings_after_call-good s (comment_call text) g h = g
 settings_after_call-good s (pair_call key value) g h = g
@@ -148,7 +148,7 @@ settings_after_call-good s (ascii_only_call on) g h = record { prefix = g.prefix
 
 -- ---- calls
 
--- a pair, which is a line where it is accepted
+-- A pair, which is a line if it is accepted.
 pair-step : (e : Encoding) (m : ℕ) (s : Settings) (n : ℕ) (key value : List ℕ) (calls : List Call) (b : Bool) → not (is_empty key && is_blanks s.kv_separator) ≡ b → AreGoodSettings s
     → All scalar key → All scalar value → ((k : ℕ) → IsTextReadAs m k (wrote_text e s k calls) (items_read_back s k calls))
     → (o : Option Content) → o ≡ (if b then Some (pair key value) else None)
@@ -159,7 +159,7 @@ pair-step e m s n key value calls true accepted g h k rest o same =
     (pair-line e s (n == 0) key value g some h k) (rest (n + 1)))
 pair-step e m s n key value calls false refused g h k rest o same = rw same (rest n)
 
--- What calls write is read as the items that they told.
+-- What calls write is read as the items that they wrote.
 pub text-read : (e : Encoding) (m : ℕ) (s : Settings) (n : ℕ) (calls : List Call) → AreGoodSettings s → ArePrefixesClean s calls → AreOfScalars calls
     → IsTextReadAs m n (wrote_text e s n calls) (items_read_back s n calls)
 text-read e m s n [] g c h = nothing-read m n

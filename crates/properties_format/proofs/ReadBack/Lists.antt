@@ -1,4 +1,4 @@
--- Lists of pairs that are written are read back as they were.
+-- Lists of pairs that are written are read back unchanged.
 use Rattle.std.proofs.Common.{◌≡◌, ℕ, ◌+◌, List, [], ◌∷◌, ◌++◌, refl, ap, sym, ◌∙◌, cond}
 use Rattle.std.specs.Prelude.{Some, None}
 use Rattle.properties_format.specs.Encoding.{Encoding, output_encoding}
@@ -12,7 +12,7 @@ use Rattle.properties_format.specs.Pairs.{Pair, pairs_in, calls_of, items_after,
 use Rattle.properties_format.proofs.Items.Unique.{items_of-only}
 use Rattle.properties_format.proofs.ReadBack.Law.{items_of-wrote}
 
--- accepted pairs are read back one a line
+-- Accepted pairs are read back, one per line.
 pub read_back-pairs : (s : Settings) (n : ℕ) (ps : List Pair) → AreAccepted s ps → items_read_back s n (calls_of ps) ≡ items_after n ps
 read_back-pairs s n [] h = refl
 read_back-pairs s n (p ∷ ps) h =
@@ -20,27 +20,27 @@ read_back-pairs s n (p ∷ ps) h =
     ap (λ o. item_read_back s n o ++ items_read_back s (lines_with n o) (calls_of ps)) line
     ∙ ap (λ v. item_read_back s n (Some (pair p.0 p.1)) ++ v) (read_back-pairs s (n + 1) ps h.1)
 
--- the pairs among the items of pairs
+-- The pairs in the items of pairs.
 pub pairs_in-items : (n : ℕ) (ps : List Pair) → pairs_in (items_after n ps) ≡ ps
 pairs_in-items n [] = refl
 pairs_in-items n (p ∷ ps) = ap (λ v. p ∷ v) (pairs_in-items (n + 1) ps)
 
--- pairs are written under no prefix
+-- Pairs are written under no prefix.
 pub calls_of-clean : (s : Settings) (ps : List Pair) → ArePrefixesClean s (calls_of ps)
 calls_of-clean s [] = tt
 calls_of-clean s (p ∷ ps) = calls_of-clean s ps
 
--- the calls that write pairs of scalars are of scalars
+-- The calls that write pairs of scalar values have texts of scalar values.
 pub calls_of-scalars : (ps : List Pair) → ArePairsOfScalars ps → AreOfScalars (calls_of ps)
 calls_of-scalars [] h = tt
 calls_of-scalars (p ∷ ps) h = (h.0, calls_of-scalars ps h.1)
 
 module _ (e : Encoding) (s : Settings) (own : output_encoding e ≡ e) (good : AreGoodSettings s) where
-  -- the items of what was written are the pairs, one a line
+  -- The items of what was written are the pairs, one per line.
   pub items_of-pairs : (ps : List Pair) → AreAccepted s ps → ArePairsOfScalars ps → items_of e (wrote e s 0 (calls_of ps)) end ≡ items_after 0 ps
   items_of-pairs ps a h = items_of-wrote e s (calls_of ps) own good (calls_of-clean s ps) (calls_of-scalars ps h) ∙ read_back-pairs s 0 ps a
 
-  -- they are the pairs whose items the bytes have
+  -- The pairs are those whose items the bytes have.
   pub pairs-of_items : (ps : List Pair) (entries : List Entry) → AreAccepted s ps → ArePairsOfScalars ps → IsItems e (wrote e s 0 (calls_of ps)) end entries
       → pairs_in entries ≡ ps
   pairs-of_items ps entries a h is =
@@ -54,7 +54,7 @@ module _ (e : Encoding) (s : Settings) (own : output_encoding e ≡ e) (good : A
       ∙ ap pairs_in (sym (items_of-pairs ps a h) ∙ ap (λ v. items_of e v end) same ∙ items_of-pairs qs b k)
       ∙ pairs_in-items 0 qs
 
-  -- Pairs that are read and written anew, under the same settings, are the same bytes.
+  -- Pairs that are read and written again, under the same settings, are the same bytes.
   pub pairs-settle : (ps : List Pair) (entries : List Entry) → AreAccepted s ps → ArePairsOfScalars ps → IsItems e (wrote e s 0 (calls_of ps)) end entries
       → wrote e s 0 (calls_of (pairs_in entries)) ≡ wrote e s 0 (calls_of ps)
   pairs-settle ps entries a h is = ap (λ v. wrote e s 0 (calls_of v)) (pairs-of_items ps entries a h is)

@@ -24,7 +24,7 @@ use Rattle.properties_format.proofs.Settings.Tests.{is_blanks-from}
 use Rattle.properties_format.proofs.ReadBack.Spellings.{unicode-spelt}
 use Rattle.properties_format.proofs.ReadBack.Texts.{AreSafe, AreSafelySpelt, spelt-cons, texts-spelt, spelt-means, spelt-plain, spelt-closed, are_safe-key, BeginsFull, safe-begins, are_safe-begin}
 
--- what a line's text is read as, and that it is a line of its own
+-- What a line's text is read as, if it is a line of its own.
 pub record IsReadAs (text : List ℕ) (content : Content) : Type 0 where
   pub some : text ≢ []
   pub plain : HoldsNoLineEnd text
@@ -33,16 +33,16 @@ pub record IsReadAs (text : List ℕ) (content : Content) : Type 0 where
 
 -- ---- keys
 
--- a key with its first character escaped is safely spelt
+-- A key with its first character escaped is safely spelt.
 with_first_escaped-spelt : (e : Encoding) (only : Bool) (key : List ℕ) → AllByRecursion scalar key → AreSafelySpelt (with_first_escaped e only key) key
 with_first_escaped-spelt e only [] h = record { spellings = []; text = refl; characters = refl; safe = tt }
 with_first_escaped-spelt e only (c ∷ cs) h = spelt-cons (unicode_escape c) (spelt_text e only in_key_or_value cs) c cs (unicode-spelt c h.0) (texts-spelt e only cs h.1)
 
--- an equal text is safely spelt too
+-- A text equal to a safely spelt one is safely spelt.
 same-texts : (x y z : List ℕ) → x ≡ y → AreSafelySpelt y z → AreSafelySpelt x z
 same-texts x y z e s = record { spellings = s.spellings; text = e ∙ s.text; characters = s.characters; safe = s.safe }
 
--- every key that is printed is safely spelt
+-- Every printed key is safely spelt.
 pub key-spelt : (e : Encoding) (only : Bool) (first : Bool) (key : List ℕ) → AllByRecursion scalar key → AreSafelySpelt (spelt_key e only first key) key
 key-spelt e only first key h = elim (cases_Bool (first && is_bom_like e only key)) [
   | inl k ↦ same-texts _ (with_first_escaped e only key) key
@@ -53,23 +53,23 @@ key-spelt e only first key h = elim (cases_Bool (first && is_bom_like e only key
 
 -- ---- separators
 
--- a separator is no backslash, and no line end
+-- A separator isn't a backslash or a line end.
 separator-other : (c : ℕ) → is_separator c ≡ true → ((c == backslash) ≡ false) × (is_line_end c ≡ false)
 separator-other c h = elim (or_cases (c == 0x3d) (c == 0x3a) h) [ inl e ↦ rw (eqb-true c 0x3d e) (refl, refl) | inr e ↦ rw (eqb-true c 0x3a e) (refl, refl) ]
 
--- a blank is no line end
+-- A blank isn't a line end.
 blank-plain : (c : ℕ) → is_blank c ≡ true → is_line_end c ≡ false
 blank-plain c h = elim (or_cases (c == 0x20) (c == 0x09 || c == 0x0c) h) [
   | inl e ↦ rw (eqb-true c 0x20 e) refl
   | inr h ↦ elim (or_cases (c == 0x09) (c == 0x0c) h) [ inl e ↦ rw (eqb-true c 0x09 e) refl | inr e ↦ rw (eqb-true c 0x0c e) refl ]
 ]
 
--- no backslash, and no line end
+-- A quiet text: it contains no backslash and no line end.
 pub record IsQuiet (x : List ℕ) : Type 0 where
   pub slashes : HoldsNoBackslash x
   pub plain : HoldsNoLineEnd x
 
--- two such texts together
+-- Two quiet texts together are quiet.
 quiet-append : (x y : List ℕ) → IsQuiet x → IsQuiet y → IsQuiet (x ++ y)
 quiet-append x y h k = record { slashes = go x y h.slashes k.slashes; plain = plain-append x y h.plain k.plain }
   where
@@ -77,40 +77,40 @@ quiet-append x y h k = record { slashes = go x y h.slashes k.slashes; plain = pl
     go [] y h k = k
     go (c ∷ x) y h k = (h.0, go x y h.1 k)
 
--- blanks hold no line end
+-- Blanks contain no line end.
 pub blanks-plain : (x : List ℕ) → AreBlanks x → HoldsNoLineEnd x
 blanks-plain [] h = tt
 blanks-plain (c ∷ x) h = (blank-plain c h.0, blanks-plain x h.1)
 
--- and no backslash
+-- Blanks contain no backslash.
 blanks-slashes : (x : List ℕ) → AreBlanks x → HoldsNoBackslash x
 blanks-slashes [] h = tt
 blanks-slashes (c ∷ x) h = (blank-other c h.0, blanks-slashes x h.1)
 
--- so blanks are such
+-- Blanks are quiet.
 blanks-quiet : (x : List ℕ) → AreBlanks x → IsQuiet x
 blanks-quiet x h = record { slashes = blanks-slashes x h; plain = blanks-plain x h }
 
--- and a separator in front of such a text
+-- A separator before a quiet text is quiet.
 sign-quiet : (c : ℕ) (x : List ℕ) → is_separator c ≡ true → IsQuiet x → IsQuiet (c ∷ x)
 sign-quiet c x h k = let s = separator-other c h in record { slashes = (s.0, k.slashes); plain = (s.1, k.plain) }
 
--- and a good separator
+-- A good separator is quiet.
 pub separator-quiet : (x : List ℕ) → IsGoodSeparator x → IsQuiet x
 separator-quiet x (inl g) = rw g.division (quiet-append g.before (g.sign ∷ g.after) (blanks-quiet g.before g.blank_before) (sign-quiet g.sign g.after g.signed (blanks-quiet g.after g.blank_after)))
 separator-quiet x (inr g) = blanks-quiet x g.blank
 
--- a text with a character in it is not empty
+-- A text that contains a character isn't empty.
 pub cons-front : (x y : List ℕ) (c : ℕ) → x ++ (c ∷ y) ≢ []
 cons-front [] y c h = cc
 cons-front (d ∷ x) y c h = cc
 
--- a good separator is not empty
+-- A good separator isn't empty.
 pub separator-some : (x : List ℕ) → IsGoodSeparator x → x ≢ []
 separator-some x (inl g) = λ q. cons-front g.before g.after g.sign (sym g.division ∙ q)
 separator-some x (inr g) = g.some
 
--- after a separator only what follows it counts
+-- After a separator, only what follows it decides whether a line is open.
 pub closed-after : (x sep y : List ℕ) → HoldsNoBackslash sep → sep ≢ [] → is_open y ≡ false → is_open (x ++ (sep ++ y)) ≡ false
 closed-after x [] y h some o = absurd (some refl)
 closed-after x (c ∷ []) y h some o = is_open-after x c y h.0 ∙ o
@@ -118,28 +118,28 @@ closed-after x (c ∷ d ∷ sep) y h some o = is_open-after x c (d ∷ sep ++ y)
 
 -- ---- the line of a pair
 
--- a separator with its sign, and then a value of safe spellings, are a pair with an empty key
+-- A separator with a sign, followed by a value of safe spellings, is a pair with an empty key.
 split-empty_key : (vs : List Spelling) (sep : List ℕ) → AreSafe vs → IsSignedSeparator sep → split_of (sep ++ spelt_before vs []) ≡ Logical.pair [] (spelt_before vs [])
 split-empty_key vs sep v g =
     ap split_of (ap (λ x. x ++ spelt_before vs []) g.division ∙ append_assoc g.before (g.sign ∷ g.after) (spelt_before vs []))
     ∙ split_of-empty_key g.before g.sign g.after (spelt_before vs []) g.blank_before g.signed g.blank_after (are_safe-begin vs v).no_blank
 
--- a good separator stands between a key and a value of safe spellings
+-- A good separator may separate a key from a value of safe spellings.
 between-of : (vs : List Spelling) (sep : List ℕ) → AreSafe vs → IsGoodSeparator sep → IsBetween sep (spelt_before vs [])
 between-of vs sep v (inl g) = separator g.before g.sign g.after g.division g.blank_before g.signed g.blank_after (are_safe-begin vs v).no_blank
 between-of vs sep v (inr g) = let b = are_safe-begin vs v in blanks g.some g.blank b.no_blank b.no_separator
 
--- safe spellings, one at least, begin with no blank, no separator and no comment sign, whatever follows
+-- At least one safe spelling doesn't begin with a blank, a separator or a comment sign, whatever follows.
 some-after : (p : Spelling) (ps : List Spelling) (y : List ℕ) → AreSafe (p ∷ ps) → BeginsFull (spelt_before (p ∷ ps) [] ++ y)
 some-after p ps y h = rw (append_assoc (spelling_text p) (spelt_before ps []) y) (safe-begins p (spelt_before ps [] ++ y) h.0)
 
--- three texts of which the second is not empty are not empty together
+-- Three texts together aren't empty if the second isn't.
 append-some : (x y z : List ℕ) → y ≢ [] → x ++ (y ++ z) ≢ []
 append-some [] [] z some q = some refl
 append-some [] (c ∷ y) z some q = cc
 append-some (c ∷ x) y z some q = cc
 
--- a key and a value of safe spellings around a good separator, not blanks alone where the key is empty
+-- A key and a value of safe spellings around a good separator, which isn't blanks only if the key is empty.
 split-pair : (ks vs : List Spelling) (sep : List ℕ) → AreSafe ks → AreSafe vs → IsGoodSeparator sep → (ks ≡ [] → is_blanks sep ≡ false)
     → split_of (spelt_before ks [] ++ (sep ++ spelt_before vs [])) ≡ Logical.pair (spelt_before ks []) (spelt_before vs [])
 split-pair [] vs sep k v (inl g) some = split-empty_key vs sep v g
@@ -149,7 +149,7 @@ split-pair (p ∷ ps) vs sep k v g some =
     split_of-pair [] (spelt_before (p ∷ ps) []) sep (spelt_before vs []) tt (append-some (spelt_before (p ∷ ps) []) sep (spelt_before vs []) (separator-some sep g))
     b.no_blank b.no_sign (are_safe-key (p ∷ ps) (sep ++ spelt_before vs []) k) (between-of vs sep v g)
 
--- A key and a value, each safely spelt, around a good separator, which is not blanks alone where the key is empty.
+-- A key and a value, both safely spelt, around a good separator, which isn't blanks only if the key is empty.
 pub pair-read : (k v sep key value : List ℕ) → AreSafelySpelt k key → AreSafelySpelt v value → IsGoodSeparator sep → (key ≡ [] → is_blanks sep ≡ false)
     → IsReadAs (k ++ (sep ++ v)) (pair key value)
 pair-read k v sep key value ks vs g some =

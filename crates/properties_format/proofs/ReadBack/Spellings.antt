@@ -10,7 +10,7 @@ use Rattle.properties_format.proofs.Escapes.Digits.{unit_digits, unit_digits-hex
 use Rattle.properties_format.proofs.Escapes.Trimmed.{KeepsBlanks, KeepsBlanks-itself, KeepsBlanks-escaped, KeepsBlanks-unicode, KeepsBlanks-surrogates}
 use Rattle.properties_format.proofs.Printing.Characters.{may_stand-ascii, below-scalar}
 
--- a spelling that may stand in a key or a value
+-- the spelling may be used in a key or a value
 abbrev pub IsSafe : Spelling → Type 0
 IsSafe (itself c) = ((c == backslash) ≡ false) × (is_blank c ≡ false) × (is_separator c ≡ false) × (is_comment_sign c ≡ false) × (is_line_end c ≡ false)
 IsSafe (escaped c) = ((c == letter_u) ≡ false) × (is_line_end c ≡ false)
@@ -18,14 +18,14 @@ IsSafe (unicode d) = (are_hexadecimal d ≡ true) × (is_surrogate (code_unit d)
 IsSafe (surrogates high low) = IsSpelling (surrogates high low) []
 IsSafe last = ⊥
 
--- x is a safe spelling of c
+-- x is a safe spelling of c.
 pub record IsSafelySpelt (x : List ℕ) (c : ℕ) : Type 0 where
   pub spelling : Spelling
   pub text : x ≡ spelling_text spelling
   pub character : spelt_character spelling ≡ c
   pub safe : IsSafe spelling
 
--- x is a safe spelling of c, or c itself, which is no backslash and ends no line; and it keeps blanks
+-- x is a safe spelling of c, or c itself, which isn't a backslash or a line end; and it keeps blanks.
 pub record IsPlainlySpelt (x : List ℕ) (c : ℕ) : Type 0 where
   pub spelling : Spelling
   pub text : x ≡ spelling_text spelling
@@ -35,7 +35,7 @@ pub record IsPlainlySpelt (x : List ℕ) (c : ℕ) : Type 0 where
 
 -- ---- `\u` escapes
 
--- a scalar is no surrogate
+-- A scalar value isn't a surrogate.
 scalar-no_surrogate : (c : ℕ) → scalar c → is_surrogate c ≡ false
 scalar-no_surrogate c (inl h) =
     or_from (is_high c) (is_low c) (and_left (nat_le 0xd800 c) (nat_lt c 0xdc00) (lt-leb 0xd800 c h)) (and_left (nat_le 0xdc00 c) (nat_lt c 0xe000) (lt-leb 0xdc00 c (omega arith)))
@@ -51,19 +51,19 @@ unit-spelt c h k =
       safe = (unit_digits-hexadecimal c, subst (λ v. is_surrogate v ≡ false) (sym (unit_digits-unit c k)) (scalar-no_surrogate c h));
     }
 
--- one escape keeps blanks, where it is of none
+-- One escape keeps blanks if it isn't that of a blank.
 unit-keeps : (c : ℕ) → c < 0x1_0000 → is_blank c ≡ false → KeepsBlanks (unicode (unit_digits c))
 unit-keeps c k b = KeepsBlanks-unicode (unit_digits c) (unit_digits-hexadecimal c) (subst (λ v. is_blank v ≡ false) (sym (unit_digits-unit c k)) b)
 
--- the first four digits write the high surrogate
+-- The value of the first four digits is the high surrogate.
 high-unit : (c : ℕ) → c < 0x11_0000 → code_unit (unit_digits (high_surrogate c)) ≡ high_surrogate c
 high-unit c h = unit_digits-unit (high_surrogate c) (omega arith)
 
--- and the second four the low one
+-- The value of the second four digits is the low surrogate.
 low-unit : (c : ℕ) → code_unit (unit_digits (low_surrogate c)) ≡ low_surrogate c
 low-unit c = unit_digits-unit (low_surrogate c) (omega arith)
 
--- the two make the character
+-- The two together are the character.
 pair-is : (c : ℕ) → scalar c → 0x1_0000 ≤ c → pair_character (code_unit (unit_digits (high_surrogate c))) (code_unit (unit_digits (low_surrogate c))) ≡ c
 pair-is c h k = ap₂ pair_character (high-unit c (below-scalar c h)) (low-unit c) ∙ pair_character-surrogates c k
 
@@ -81,21 +81,21 @@ pair-spelt c h k =
       );
     }
 
--- two escapes keep blanks, where they are of none
+-- Two escapes keep blanks if they aren't those of a blank.
 pair-keeps : (c : ℕ) → scalar c → 0x1_0000 ≤ c → is_blank c ≡ false → KeepsBlanks (surrogates (unit_digits (high_surrogate c)) (unit_digits (low_surrogate c)))
 pair-keeps c h k b =
     KeepsBlanks-surrogates (unit_digits (high_surrogate c)) (unit_digits (low_surrogate c)) (unit_digits-hexadecimal (low_surrogate c))
     (subst (λ v. is_blank v ≡ false) (sym (pair-is c h k)) b)
 
--- an equal text is a safe spelling too
+-- A text equal to a safe spelling is a safe spelling.
 same-spelt : (x y : List ℕ) (c : ℕ) → x ≡ y → IsSafelySpelt y c → IsSafelySpelt x c
 same-spelt x y c e s = record { spelling = s.spelling; text = e ∙ s.text; character = s.character; safe = s.safe }
 
--- and a plain one
+-- A text equal to a plain spelling is a plain spelling.
 same-plainly : (x y : List ℕ) (c : ℕ) → x ≡ y → IsPlainlySpelt y c → IsPlainlySpelt x c
 same-plainly x y c e s = record { spelling = s.spelling; text = e ∙ s.text; character = s.character; safe = s.safe; keeps = s.keeps }
 
--- `\u` escapes spell a scalar safely
+-- `\u` escapes are a safe spelling of a scalar value.
 pub unicode-spelt : (c : ℕ) → scalar c → IsSafelySpelt (unicode_escape c) c
 unicode-spelt c h =
     let whole = unit_escape c in
@@ -105,7 +105,7 @@ unicode-spelt c h =
       | inr k ↦ same-spelt (unicode_escape c) two c (cond-false (nat_lt c 0x1_0000) whole two k) (pair-spelt c h (ltb-false c 0x1_0000 k))
     ]
 
--- and plainly, where it is no blank
+-- `\u` escapes are a plain spelling of a scalar value that isn't a blank.
 pub unicode-plainly : (c : ℕ) → scalar c → is_blank c ≡ false → IsPlainlySpelt (unicode_escape c) c
 unicode-plainly c h b =
     let whole = unit_escape c in
@@ -127,17 +127,17 @@ unicode-plainly c h b =
           })
     ]
 
--- ---- characters as they stand, and escapes with a backslash alone
+-- ---- unescaped characters, and escapes of a backslash and one character
 
--- a backslash and a character other than u, no line end, spell safely what they stand for
+-- A backslash and a character that isn't u or a line end are a safe spelling of what they mean.
 escape-spelt : (c d : ℕ) → (d == letter_u) ≡ false → is_line_end d ≡ false → escaped_character d ≡ c → IsSafelySpelt (backslash ∷ d ∷ []) c
 escape-spelt c d u l e = record { spelling = escaped d; text = refl; character = e; safe = (u, l) }
 
--- what spells one character spells an equal one
+-- What spells one character spells an equal one.
 at-character : (c d : ℕ) (x : ℕ → List ℕ) → (c == d) ≡ true → IsSafelySpelt (x d) d → IsSafelySpelt (x c) c
 at-character c d x e s = rw (eqb-true c d e) s
 
--- a backslash and a character that takes one spell it safely
+-- A backslash and a special character are a safe spelling of that character.
 pub special-spelt : (c : ℕ) → is_special c ≡ true → IsSafelySpelt (backslash ∷ c ∷ []) c
 special-spelt c h = elim (or_cases (c == backslash) (c == space || (is_separator c || is_comment_sign c)) h) [
   | inl e ↦ at-character c backslash (λ v. backslash ∷ v ∷ []) e (escape-spelt backslash backslash refl refl refl)
@@ -156,7 +156,7 @@ special-spelt c h = elim (or_cases (c == backslash) (c == space || (is_separator
   ]
 ]
 
--- and so do a backslash and its letter
+-- A backslash and a letter are a safe spelling of the character that has that letter escape.
 letter-spelt : (c : ℕ) → has_letter c ≡ true → IsSafelySpelt (letter_escape c) c
 letter-spelt c h = elim (or_cases (c == tab || c == line_feed) (c == form_feed || c == carriage_return) h) [
   | inl h ↦ elim (or_cases (c == tab) (c == line_feed) h) [
@@ -171,16 +171,16 @@ letter-spelt c h = elim (or_cases (c == tab || c == line_feed) (c == form_feed |
 
 -- ---- keys and values
 
--- what has no escape of its own in a key
+-- The character has no escape of its own in a key.
 record IsOrdinary (c : ℕ) : Type 0 where
   special : is_special c ≡ false
   letter : has_letter c ≡ false
 
--- a character that is no space, no tab and no form feed is no blank
+-- A character that isn't a space, a tab or a form feed isn't a blank.
 blank-cases : (c : ℕ) → (c == space) ≡ false → (c == tab) ≡ false → (c == form_feed) ≡ false → is_blank c ≡ false
 blank-cases c a b d = or_from (c == space) (c == tab || c == form_feed) a (or_from (c == tab) (c == form_feed) b d)
 
--- such a character spells itself safely
+-- Such a character is a safe spelling of itself.
 itself-spelt : (c : ℕ) → IsOrdinary c → IsSafelySpelt (c ∷ []) c
 itself-spelt c o =
     let a = or_parts (c == backslash) (c == space || (is_separator c || is_comment_sign c)) o.special in
@@ -196,14 +196,14 @@ itself-spelt c o =
       safe = (a.0, blank-cases c b.0 g.0 i.0, d.0, d.1, or_from (c == line_feed) (c == carriage_return) g.1 i.1);
     }
 
--- and so it does as itself where it may stand, or else escaped
+-- Unescaped if that is allowed, otherwise escaped, such a character is safely spelt.
 literal-spelt : (e : Encoding) (only : Bool) (c : ℕ) → scalar c → IsOrdinary c → IsSafelySpelt (literal e only c) c
 literal-spelt e only c h o = elim (cases_Bool (may_stand e only c)) [
   | inl k ↦ same-spelt (literal e only c) (c ∷ []) c (cond-true (may_stand e only c) (c ∷ []) (unicode_escape c) k) (itself-spelt c o)
   | inr k ↦ same-spelt (literal e only c) (unicode_escape c) c (cond-false (may_stand e only c) (c ∷ []) (unicode_escape c) k) (unicode-spelt c h)
 ]
 
--- What is printed for a character in a key or a value spells it safely.
+-- What is printed for a character in a key or a value is a safe spelling of it.
 pub in_key_or_value-spelt : (e : Encoding) (only : Bool) (c : ℕ) → scalar c → IsSafelySpelt (spelt e only in_key_or_value c) c
 in_key_or_value-spelt e only c h =
     let last_two = cond (nat_lt c space) (unicode_escape c) (literal e only c) in
@@ -223,16 +223,16 @@ in_key_or_value-spelt e only c h =
 
 -- ---- comments and prefixes
 
--- a backslash and a character, neither a blank themselves nor spelling one, spell plainly
+-- A backslash and a character are a plain spelling, if neither that character nor the one they mean is a blank.
 escape-plainly : (c d : ℕ) → (d == letter_u) ≡ false → is_line_end d ≡ false → escaped_character d ≡ c → is_blank d ≡ false
     → is_blank (escaped_character d) ≡ false → IsPlainlySpelt (backslash ∷ d ∷ []) c
 escape-plainly c d u l e b f = record { spelling = escaped d; text = refl; character = e; safe = inl (u, l); keeps = KeepsBlanks-escaped d b f }
 
--- what plainly spells one character spells an equal one
+-- What plainly spells one character plainly spells an equal one.
 at-character_plainly : (c d : ℕ) (x : ℕ → List ℕ) → (c == d) ≡ true → IsPlainlySpelt (x d) d → IsPlainlySpelt (x c) c
 at-character_plainly c d x e s = rw (eqb-true c d e) s
 
--- a blank may stand as itself, as ASCII characters may
+-- A blank may be written unescaped, because it is ASCII.
 blank-stands : (e : Encoding) (only : Bool) (c : ℕ) → is_blank c ≡ true → may_stand e only c ≡ true
 blank-stands e only c h = elim (or_cases (c == space) (c == tab || c == form_feed) h) [
   | inl k ↦ may_stand-ascii e only c (rw (eqb-true c space k) (lit< tt))
@@ -242,11 +242,11 @@ blank-stands e only c h = elim (or_cases (c == space) (c == tab || c == form_fee
   ]
 ]
 
--- so a character that may not stand is no blank
+-- A character that may not be written unescaped isn't a blank.
 escaped-full : (e : Encoding) (only : Bool) (c : ℕ) → may_stand e only c ≡ false → is_blank c ≡ false
 escaped-full e only c h = elim (cases_Bool (is_blank c)) [ inl b ↦ (let k = blank-stands e only c b in cc) | inr b ↦ b ]
 
--- as itself where it may stand, or else escaped, a character that is no backslash and no line end is plainly spelt
+-- Unescaped if that is allowed, otherwise escaped, a character that isn't a backslash or a line end is plainly spelt.
 pub literal-plainly : (e : Encoding) (only : Bool) (c : ℕ) → scalar c → (c == backslash) ≡ false → is_line_end c ≡ false → IsPlainlySpelt (literal e only c) c
 literal-plainly e only c h b l = elim (cases_Bool (may_stand e only c)) [
   | inl k ↦ same-plainly (literal e only c) (c ∷ []) c (cond-true (may_stand e only c) (c ∷ []) (unicode_escape c) k)
@@ -254,7 +254,7 @@ literal-plainly e only c h b l = elim (cases_Bool (may_stand e only c)) [
   | inr k ↦ same-plainly (literal e only c) (unicode_escape c) c (cond-false (may_stand e only c) (c ∷ []) (unicode_escape c) k) (unicode-plainly c h (escaped-full e only c k))
 ]
 
--- What is printed for a character in a comment spells it plainly.
+-- What is printed for a character in a comment is a plain spelling of it.
 pub in_comment-spelt : (e : Encoding) (only : Bool) (c : ℕ) → scalar c → IsPlainlySpelt (spelt e only in_comment c) c
 in_comment-spelt e only c h =
     let rest = cond (c == line_feed || c == carriage_return) (letter_escape c) (literal e only c) in

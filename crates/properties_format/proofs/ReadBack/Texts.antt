@@ -1,4 +1,4 @@
--- What is printed for a text means that text, holds no line end, and ends in no open backslash.
+-- What is printed for a text means that text, contains no line end, and doesn't end in an open backslash.
 use Rattle.std.proofs.Common.{◌≡◌, ℕ, ◌==◌, ◌&&◌, Bool, true, false, List, [], ◌∷◌, ◌++◌, map, refl, ap, sym, ◌∙◌, inl, inr, append_assoc, append-nil, arith, eqb-true, ap₂}
 use Rattle.std.specs.List.{AllByRecursion}
 use Rattle.std.proofs.lemmas.Bool.{cases_Bool, and_parts}
@@ -22,14 +22,14 @@ abbrev pub AreSafe : List Spelling → Type 0
 AreSafe [] = Unit {0}
 AreSafe (p ∷ ps) = IsSafe p × AreSafe ps
 
--- x is the text of safe spellings of y
+-- x is the text of safe spellings of y.
 pub record AreSafelySpelt (x y : List ℕ) : Type 0 where
   pub spellings : List Spelling
   pub text : x ≡ spelt_before spellings []
   pub characters : map spelt_character spellings ≡ y
   pub safe : AreSafe spellings
 
--- one character in front
+-- One more character at the front.
 pub spelt-cons : (x y : List ℕ) (c : ℕ) (cs : List ℕ) → IsSafelySpelt x c → AreSafelySpelt y cs → AreSafelySpelt (x ++ y) (c ∷ cs)
 spelt-cons x y c cs s t =
     record { spellings = s.spelling ∷ t.spellings; text = ap₂ (λ v w. v ++ w) s.text t.text; characters = ap₂ (λ v w. v ∷ w) s.character t.characters; safe = (s.safe, t.safe) }
@@ -49,22 +49,22 @@ safe-whole (unicode d) h = h
 safe-whole (surrogates high low) h = h
 safe-whole last h = h
 
--- and so are safe spellings
+-- Safe spellings are whole.
 are_safe-whole : (ps : List Spelling) → AreSafe ps → AreWhole ps
 are_safe-whole [] h = tt
 are_safe-whole (p ∷ ps) h = (safe-whole p h.0, are_safe-whole ps h.1)
 
--- a text that is safely spelt means what it spells
+-- A safely spelt text means what it spells.
 pub spelt-means : (x y : List ℕ) → AreSafelySpelt x y → meaning_of x ≡ means y
 spelt-means x y s = ap meaning_of s.text ∙ meaning_of-all s.spellings (are_safe-whole s.spellings s.safe) ∙ ap means s.characters
 
 -- ---- no line end
 
--- a hexadecimal digit is no line end
+-- A hexadecimal digit isn't a line end.
 digit-plain : (c : ℕ) → is_hexadecimal c ≡ true → is_line_end c ≡ false
 digit-plain c h = grind (arith, nat_tests)
 
--- each of four hexadecimal digits is one
+-- Each of four hexadecimal digits is a hexadecimal digit.
 four-digits : (d : Four) → are_hexadecimal d ≡ true → (is_hexadecimal d.first ≡ true) × (is_hexadecimal d.second ≡ true) × (is_hexadecimal d.third ≡ true) × (is_hexadecimal d.fourth ≡ true)
 four-digits d h =
     let p = and_parts (is_hexadecimal d.first && is_hexadecimal d.second) (is_hexadecimal d.third && is_hexadecimal d.fourth) h in
@@ -72,11 +72,11 @@ four-digits d h =
     let r = and_parts (is_hexadecimal d.third) (is_hexadecimal d.fourth) p.1 in
     (q.0, q.1, r.0, r.1)
 
--- a `\u` escape holds no line end
+-- A `\u` escape contains no line end.
 unit-plain : (d : Four) → are_hexadecimal d ≡ true → HoldsNoLineEnd (backslash ∷ letter_u ∷ four_text d)
 unit-plain d h = let f = four-digits d h in (refl, (refl, (digit-plain d.first f.0, (digit-plain d.second f.1, (digit-plain d.third f.2, (digit-plain d.fourth f.3, tt))))))
 
--- a safe spelling holds none
+-- A safe spelling contains no line end.
 pub safe-plain : (p : Spelling) → IsSafe p → HoldsNoLineEnd (spelling_text p)
 safe-plain (itself c) h = (h.4, tt)
 safe-plain (escaped c) h = (refl, (h.1, tt))
@@ -84,28 +84,28 @@ safe-plain (unicode d) h = unit-plain d h.0
 safe-plain (surrogates high low) h = plain-append (backslash ∷ letter_u ∷ four_text high) (backslash ∷ letter_u ∷ four_text low) (unit-plain high h.0) (unit-plain low h.2)
 safe-plain last h = absurd h
 
--- and safe spellings hold none
+-- Safe spellings contain no line end.
 are_safe-plain : (ps : List Spelling) → AreSafe ps → HoldsNoLineEnd (spelt_before ps [])
 are_safe-plain [] h = tt
 are_safe-plain (p ∷ ps) h = plain-append (spelling_text p) (spelt_before ps []) (safe-plain p h.0) (are_safe-plain ps h.1)
 
--- nor does a text that is safely spelt
+-- A safely spelt text contains no line end.
 pub spelt-plain : (x y : List ℕ) → AreSafelySpelt x y → HoldsNoLineEnd x
 spelt-plain x y s = rw s.text (are_safe-plain s.spellings s.safe)
 
 -- ---- no open backslash
 
--- after a text that is not open, one that ends in another character than a backslash is not open
+-- A text that isn't open, followed by one that ends in a character other than a backslash, isn't open.
 other-closed : (x y : List ℕ) (c : ℕ) → (c == backslash) ≡ false → is_open (x ++ (y ++ c ∷ [])) ≡ false
 other-closed x y c h = ap is_open (sym (append_assoc x y (c ∷ []))) ∙ is_open-other (x ++ y) c h
 
--- nor is one that ends in a `\u` escape
+-- A text that isn't open, followed by one that ends in a `\u` escape, isn't open.
 unit-closed : (x y : List ℕ) (d : Four) → are_hexadecimal d ≡ true → is_open (x ++ (y ++ (backslash ∷ letter_u ∷ four_text d))) ≡ false
 unit-closed x y d h =
     ap (λ v. is_open (x ++ v)) (sym (append_assoc y (backslash ∷ letter_u ∷ d.first ∷ d.second ∷ d.third ∷ []) (d.fourth ∷ [])))
     ∙ other-closed x (y ++ (backslash ∷ letter_u ∷ d.first ∷ d.second ∷ d.third ∷ [])) d.fourth (hexadecimal-plain d.fourth (four-digits d h).3).0
 
--- after a text that is not open, nor is one that ends in a safe spelling
+-- A text that isn't open, followed by a safe spelling, isn't open.
 pub safe-closed : (p : Spelling) (x : List ℕ) → IsSafe p → is_open x ≡ false → is_open (x ++ spelling_text p) ≡ false
 safe-closed (itself c) x h o = is_open-other x c h.0
 safe-closed (escaped c) x h o = elim (cases_Bool (c == backslash)) [
@@ -116,19 +116,19 @@ safe-closed (unicode d) x h o = unit-closed x [] d h.0
 safe-closed (surrogates high low) x h o = unit-closed x (backslash ∷ letter_u ∷ four_text high) low h.2
 safe-closed last x h o = absurd h
 
--- nor in safe spellings
+-- A text that isn't open, followed by safe spellings, isn't open.
 are_safe-closed : (ps : List Spelling) (x : List ℕ) → AreSafe ps → is_open x ≡ false → is_open (x ++ spelt_before ps []) ≡ false
 are_safe-closed [] x h o = ap is_open (append-nil x) ∙ o
 are_safe-closed (p ∷ ps) x h o =
     ap is_open (sym (append_assoc x (spelling_text p) (spelt_before ps []))) ∙ are_safe-closed ps (x ++ spelling_text p) h.1 (safe-closed p x h.0 o)
 
--- so a text that is safely spelt is not open
+-- A safely spelt text isn't open.
 pub spelt-closed : (x y : List ℕ) → AreSafelySpelt x y → is_open x ≡ false
 spelt-closed x y s = ap is_open s.text ∙ are_safe-closed s.spellings [] s.safe refl
 
 -- ---- a key, and how it begins
 
--- a safe spelling in front of a key
+-- A safe spelling at the front of a key.
 safe-key : (p : Spelling) (y rest : List ℕ) → IsSafe p → IsKey y rest → IsKey (spelling_text p ++ y) rest
 safe-key (itself c) y rest h k = IsKey-plain c y rest h.0 h.1 h.2 k
 safe-key (escaped c) y rest h k = IsKey-escaped c y rest k
@@ -136,18 +136,18 @@ safe-key (unicode d) y rest h k = IsKey-unicode d y rest h.0 k
 safe-key (surrogates high low) y rest h k = IsKey-unicode high (backslash ∷ letter_u ∷ four_text low ++ y) rest h.0 (IsKey-unicode low y rest h.2 k)
 safe-key last y rest h k = absurd h
 
--- so safe spellings are a key, whatever follows
+-- Safe spellings are a key, whatever follows.
 pub are_safe-key : (ps : List Spelling) (rest : List ℕ) → AreSafe ps → IsKey (spelt_before ps []) rest
 are_safe-key [] rest h = IsKey-nil rest
 are_safe-key (p ∷ ps) rest h = safe-key p (spelt_before ps []) rest h.0 (are_safe-key ps rest h.1)
 
--- what begins with none of these
+-- The text doesn't begin with a blank, a separator or a comment sign.
 pub record BeginsFull (x : List ℕ) : Type 0 where
   pub no_blank : begins is_blank x ≡ false
   pub no_separator : begins is_separator x ≡ false
   pub no_sign : begins is_comment_sign x ≡ false
 
--- a text with a safe spelling in front is such
+-- A text with a safe spelling at its front doesn't begin with a blank, a separator or a comment sign.
 pub safe-begins : (p : Spelling) (y : List ℕ) → IsSafe p → BeginsFull (spelling_text p ++ y)
 safe-begins (itself c) y h = record { no_blank = h.1; no_separator = h.2; no_sign = h.3 }
 safe-begins (escaped c) y h = record { no_blank = refl; no_separator = refl; no_sign = refl }
@@ -155,7 +155,7 @@ safe-begins (unicode d) y h = record { no_blank = refl; no_separator = refl; no_
 safe-begins (surrogates high low) y h = record { no_blank = refl; no_separator = refl; no_sign = refl }
 safe-begins last y h = absurd h
 
--- and so are safe spellings
+-- The text of safe spellings doesn't begin with a blank, a separator or a comment sign.
 pub are_safe-begin : (ps : List Spelling) → AreSafe ps → BeginsFull (spelt_before ps [])
 are_safe-begin [] h = record { no_blank = refl; no_separator = refl; no_sign = refl }
 are_safe-begin (p ∷ ps) h = safe-begins p (spelt_before ps []) h.0

@@ -1,4 +1,4 @@
--- What a new writer writes does not begin like a byte order mark.
+-- What a new writer writes doesn't begin like a byte order mark.
 use Rattle.std.proofs.Common.{◌≡◌, ℕ, ◌<◌, ◌==◌, ◌&&◌, ◌||◌, not, Bool, true, false, if◌then◌else◌, List, [], ◌∷◌, ◌++◌, refl, ap, ◌∙◌, inl, inr, append_assoc, arith, lit<, ne_eqb}
 use Rattle.std.specs.Prelude.{Some, None, unwrap_or}
 use Rattle.std.proofs.lemmas.Bool.{cases_Bool, cond-true, cond-false, and_left}
@@ -17,22 +17,22 @@ use Rattle.properties_format.proofs.ReadBack.Lines.{line_text, wrote_text, setti
 
 -- ---- no byte order mark has an ASCII byte
 
--- none of these numbers is this one
+-- this number isn't among these
 abbrev HasNot : ℕ → List ℕ → Type 0
 HasNot c [] = Unit {0}
 HasNot c (m ∷ ms) = ((m == c) ≡ false) × HasNot c ms
 
--- a number above 80 hexadecimal is no ASCII one
+-- A number above 80 hexadecimal isn't an ASCII one.
 no-ascii : (m c : ℕ) → c < 0x80 → 0x80 < m → (m == c) ≡ false
 no-ascii m c h k = ne_eqb m c (λ q. absurd (omega arith))
 
--- an ASCII byte ends what can be taken for a byte order mark
+-- A byte order mark can't extend past an ASCII byte.
 begins-cut : (ms x : List ℕ) (c : ℕ) (y : List ℕ) → HasNot c ms → begins_with ms (x ++ (c ∷ y)) ≡ begins_with ms x
 begins-cut [] x c y h = refl
 begins-cut (m ∷ ms) [] c y h = and_left (m == c) (begins_with ms y) h.0
 begins-cut (m ∷ ms) (b ∷ x) c y h = ap (λ v. (m == b) && v) (begins-cut ms x c y h.1)
 
--- an ASCII byte, and what comes after it, does not matter to the byte order mark
+-- An ASCII byte and what follows it don't affect the byte order mark.
 pub byte_order_mark-cut : (x : List ℕ) (c : ℕ) (y : List ℕ) → c < 0x80 → begins_like_bom (x ++ (c ∷ y)) ≡ begins_like_bom x
 byte_order_mark-cut x c y h =
     let ef = no-ascii 0xef c h (lit< tt) in
@@ -44,7 +44,7 @@ byte_order_mark-cut x c y h =
     ∙ ap (λ b. begins_with utf_8_bom x || (b || begins_with utf_16le_bom (x ++ (c ∷ y)))) (begins-cut utf_16be_bom x c y (fe, (ff, tt)))
     ∙ ap (λ b. begins_with utf_8_bom x || (begins_with utf_16be_bom x || b)) (begins-cut utf_16le_bom x c y (ff, (fe, tt)))
 
--- the bytes of a text with an ASCII character in it, up to that character
+-- The bytes of a text up to its first ASCII character.
 text-cut : (e : Encoding) (x : List ℕ) (c : ℕ) (y : List ℕ) → c < 0x80 → begins_like_bom (encoded_text e (x ++ (c ∷ y))) ≡ begins_like_bom (encoded_text e x)
 text-cut e x c y h =
     ap begins_like_bom (encoded_text-append e x (c ∷ y) ∙ ap (λ o. encoded_text e x ++ (unwrap_or o [] ++ encoded_text e y)) (encoded-ascii e c h))
@@ -55,16 +55,16 @@ text-cut e x c y h =
 abbrev pub IsUnmarked : Encoding → List ℕ → Type 0
 IsUnmarked e x = begins_like_bom (encoded_text e x) ≡ false
 
--- the characters of a text that begins with an ASCII one
+-- A text that begins with an ASCII character doesn't begin like a byte order mark.
 pub front-unmarked : (e : Encoding) (x : List ℕ) (c : ℕ) (y : List ℕ) → x ≡ c ∷ y → c < 0x80 → IsUnmarked e x
 front-unmarked e x c y same h = ap (λ v. begins_like_bom (encoded_text e v)) same ∙ text-cut e [] c y h
 
--- blanks and a comment sign begin with an ASCII character
+-- Blanks followed by a comment sign begin with an ASCII character.
 indent-front : (indent : List ℕ) (sign : ℕ) (rest : List ℕ) → AreBlanks indent → is_comment_sign sign ≡ true → (c : ℕ) × (y : List ℕ) × (indent ++ (sign ∷ rest) ≡ c ∷ y) × (c < 0x80)
 indent-front [] sign rest b m = (sign, rest, refl, (sign-ascii sign m).0)
 indent-front (c ∷ indent) sign rest b m = (c, indent ++ (sign ∷ rest), refl, blank-ascii c b.0)
 
--- a comment on the first line, with what comes after its prefix
+-- A comment on the first line, with what follows its prefix.
 comment-unmarked : (e : Encoding) (only : Bool) (prefix rest : List ℕ) → IsGoodPrefix prefix → IsUnmarked e (spelt_text e only in_prefix prefix ++ rest)
 comment-unmarked e only prefix rest g =
     let (c, y, same, h) = indent-front g.indent g.sign (spelt_text e only in_prefix g.tail) g.indented g.signed in
@@ -76,7 +76,7 @@ separator-front : (sep : List ℕ) → IsGoodSeparator sep → (c : ℕ) × (y :
 separator-front [] g = absurd (separator-some [] g refl)
 separator-front (c ∷ y) g = (c, y, refl, (good_separator-ascii (c ∷ y) g).0)
 
--- a key with its first character escaped, with what comes after it
+-- A key with its first character escaped, with what follows it.
 with_first_escaped-unmarked : (e : Encoding) (only : Bool) (key rest : List ℕ) → is_bom_like e only key ≡ true → IsUnmarked e (with_first_escaped e only key ++ rest)
 with_first_escaped-unmarked e only [] rest h = cc
 with_first_escaped-unmarked e only (c ∷ cs) rest h =
@@ -84,13 +84,13 @@ with_first_escaped-unmarked e only (c ∷ cs) rest h =
     front-unmarked e (with_first_escaped e only (c ∷ cs) ++ rest) backslash ((y ++ spelt_text e only in_key_or_value cs) ++ rest)
     (ap (λ v. (v ++ spelt_text e only in_key_or_value cs) ++ rest) same) (lit< tt)
 
--- a key that begins like no byte order mark, with what comes after its separator
+-- A key that doesn't begin like a byte order mark, with what follows its separator.
 plain-unmarked : (e : Encoding) (only : Bool) (key sep rest : List ℕ) → IsGoodSeparator sep → is_bom_like e only key ≡ false → IsUnmarked e (spelt_text e only in_key_or_value key ++ (sep ++ rest))
 plain-unmarked e only key sep rest g h =
     let (c, y, same, k) = separator-front sep g in
     ap (λ v. begins_like_bom (encoded_text e (spelt_text e only in_key_or_value key ++ (v ++ rest)))) same ∙ text-cut e (spelt_text e only in_key_or_value key) c (y ++ rest) k ∙ h
 
--- a pair on the first line, with what comes after its separator
+-- A pair on the first line, with what follows its separator.
 pub pair-unmarked : (e : Encoding) (only : Bool) (key sep rest : List ℕ) → IsGoodSeparator sep
     → begins_like_bom (encoded_text e (spelt_key e only true key ++ (sep ++ rest))) ≡ false
 pair-unmarked e only key sep rest g = elim (cases_Bool (is_bom_like e only key)) [
@@ -100,7 +100,7 @@ pair-unmarked e only key sep rest g = elim (cases_Bool (is_bom_like e only key))
       (cond-false (is_bom_like e only key) (with_first_escaped e only key) (spelt_text e only in_key_or_value key) h) ∙ plain-unmarked e only key sep rest g h
 ]
 
--- a printed first line, with what comes after it
+-- A printed first line, with what follows it.
 printed-unmarked : (e : Encoding) (s : Settings) (line : Content) (rest : List ℕ) → AreGoodSettings s → IsUnmarked e (printed_text e s true line ++ rest)
 printed-unmarked e s (comment text) rest g =
     ap (λ v. begins_like_bom (encoded_text e v)) (append_assoc (spelt_text e s.ascii_only in_prefix s.comment_prefix) _ rest) ∙ comment-unmarked e s.ascii_only s.comment_prefix _ g.prefix
@@ -111,13 +111,13 @@ printed-unmarked e s (pair key value) rest g =
 
 -- ---- all lines
 
--- a pair, where it is accepted and where it is not, with what comes after it
+-- A pair, whether or not it is accepted, with what follows it.
 pair-step : (e : Encoding) (s : Settings) (key value : List ℕ) (calls : List Call) (b : Bool) → AreGoodSettings s → IsUnmarked e (wrote_text e s 0 calls)
     → IsUnmarked e (line_text e s 0 (if b then Some (pair key value) else None) ++ wrote_text e s (lines_with 0 (if b then Some (pair key value) else None)) calls)
 pair-step e s key value calls true g h = printed-unmarked e s (pair key value) (wrote_text e s 1 calls) g
 pair-step e s key value calls false g h = h
 
--- What calls write, with no line before them, begins like no byte order mark.
+-- What calls write, with no line before them, doesn't begin like a byte order mark.
 pub wrote_text-unmarked : (e : Encoding) (s : Settings) (calls : List Call) → AreGoodSettings s → AreOfScalars calls → begins_like_bom (encoded_text e (wrote_text e s 0 calls)) ≡ false
 wrote_text-unmarked e s [] g h = refl
 wrote_text-unmarked e s (comment_call text ∷ calls) g h = printed-unmarked e s (comment text) (wrote_text e s 1 calls) g

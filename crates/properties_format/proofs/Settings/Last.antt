@@ -1,4 +1,4 @@
--- The settings after some calls are the last ones that were accepted, or else those at the start.
+-- The settings after some calls are the last ones that were accepted, or else the initial ones.
 use Rattle.std.proofs.Common.{◌≡◌, ℕ, Bool, true, false, List, [], ◌∷◌, refl, ap, ◌∙◌}
 use Rattle.std.specs.Prelude.{Option, Some, None, unwrap_or, if◌then◌else◌}
 use Rattle.properties_format.specs.Text.{LineEnding}
@@ -6,17 +6,17 @@ use Rattle.properties_format.specs.Settings.{Settings}
 use Rattle.properties_format.specs.Reading.Settings.{is_good_prefix, is_good_separator}
 use Rattle.properties_format.specs.Writing.{Call, comment_call, pair_call, prefix_call, separator_call, ending_call, flush_call, ascii_only_call, settings_after_call, settings_after}
 
--- the second value, if there is one, else the first
+-- the second value if there is one, otherwise the first
 abbrev pub later : {A : Type 0} → Option A → Option A → Option A
 later o None = o
 later o (Some x) = Some x
 
--- the last value that a call of the list gives
+-- the last value that one of the calls sets
 abbrev pub last_given : {A : Type 0} → (Call → Option A) → List Call → Option A
 last_given given [] = None
 last_given given (call ∷ calls) = later (given call) (last_given given calls)
 
--- the prefix, the separator, the line end and the mode that a call sets, if it is accepted
+-- the prefix, the separator, the line ending and the ASCII-only mode that a call sets, if it is accepted
 abbrev pub prefix_of : Call → Option (List ℕ)
 prefix_of (comment_call text) = None
 prefix_of (pair_call key value) = None
@@ -55,7 +55,7 @@ ascii_only_of (ascii_only_call on) = Some on
 
 -- ---- after one call
 
--- a prefix is set where it is accepted, and every other setting stays
+-- A prefix is set if it is accepted, and every other setting is unchanged.
 after-prefix : (s : Settings) (prefix : List ℕ) (b : Bool)
     → ((if b then record s { comment_prefix = prefix } else s).comment_prefix ≡ unwrap_or (if b then Some prefix else None) s.comment_prefix)
     × ((if b then record s { comment_prefix = prefix } else s).kv_separator ≡ s.kv_separator)
@@ -64,7 +64,7 @@ after-prefix : (s : Settings) (prefix : List ℕ) (b : Bool)
 after-prefix s prefix true = (refl, refl, refl, refl)
 after-prefix s prefix false = (refl, refl, refl, refl)
 
--- and so a separator
+-- A separator is set if it is accepted, and every other setting is unchanged.
 after-separator : (s : Settings) (separator : List ℕ) (b : Bool)
     → ((if b then record s { kv_separator = separator } else s).kv_separator ≡ unwrap_or (if b then Some separator else None) s.kv_separator)
     × ((if b then record s { kv_separator = separator } else s).comment_prefix ≡ s.comment_prefix)
@@ -73,7 +73,7 @@ after-separator : (s : Settings) (separator : List ℕ) (b : Bool)
 after-separator s separator true = (refl, refl, refl, refl)
 after-separator s separator false = (refl, refl, refl, refl)
 
--- the prefix after a call is the one that it sets, or else the one before it
+-- The prefix after a call is the one that it sets, or else the one before it.
 prefix-after_call : (s : Settings) (call : Call) → (settings_after_call s call).comment_prefix ≡ unwrap_or (prefix_of call) s.comment_prefix
 prefix-after_call s (comment_call text) = refl
 prefix-after_call s (pair_call key value) = refl
@@ -83,7 +83,7 @@ prefix-after_call s (ending_call line_ending) = refl
 prefix-after_call s flush_call = refl
 prefix-after_call s (ascii_only_call on) = refl
 
--- and so the separator
+-- The separator after a call is the one that it sets, or else the one before it.
 separator-after_call : (s : Settings) (call : Call) → (settings_after_call s call).kv_separator ≡ unwrap_or (separator_of call) s.kv_separator
 separator-after_call s (comment_call text) = refl
 separator-after_call s (pair_call key value) = refl
@@ -93,7 +93,7 @@ separator-after_call s (ending_call line_ending) = refl
 separator-after_call s flush_call = refl
 separator-after_call s (ascii_only_call on) = refl
 
--- and the line ending
+-- The line ending after a call is the one that it sets, or else the one before it.
 ending-after_call : (s : Settings) (call : Call) → (settings_after_call s call).line_ending ≡ unwrap_or (ending_of call) s.line_ending
 ending-after_call s (comment_call text) = refl
 ending-after_call s (pair_call key value) = refl
@@ -103,7 +103,7 @@ ending-after_call s (ending_call line_ending) = refl
 ending-after_call s flush_call = refl
 ending-after_call s (ascii_only_call on) = refl
 
--- and whether ASCII alone is on
+-- The ASCII-only mode after a call is the one that it sets, or else the one before it.
 pub ascii_only-after_call : (s : Settings) (call : Call) → (settings_after_call s call).ascii_only ≡ unwrap_or (ascii_only_of call) s.ascii_only
 ascii_only-after_call s (comment_call text) = refl
 ascii_only-after_call s (pair_call key value) = refl
@@ -115,12 +115,12 @@ ascii_only-after_call s (ascii_only_call on) = refl
 
 -- ---- after a list of calls
 
--- the later of two values where there is one, or else the one at the start
+-- The later of two values, if there is one, or else the initial one.
 unwrap-later : {A : Type 0} (o p : Option A) (x : A) → unwrap_or p (unwrap_or o x) ≡ unwrap_or (later o p) x
 unwrap-later o None x = refl
 unwrap-later o (Some y) x = refl
 
--- The prefix is the last one that was accepted, or else the one at the start.
+-- The prefix is the last one that was accepted, or else the initial one.
 pub prefix-after : (s : Settings) (calls : List Call) → (settings_after s calls).comment_prefix ≡ unwrap_or (last_given prefix_of calls) s.comment_prefix
 prefix-after s [] = refl
 prefix-after s (call ∷ calls) =
@@ -128,7 +128,7 @@ prefix-after s (call ∷ calls) =
     ∙ ap (unwrap_or (last_given prefix_of calls)) (prefix-after_call s call)
     ∙ unwrap-later (prefix_of call) (last_given prefix_of calls) s.comment_prefix
 
--- And so is the separator.
+-- The separator is the last one that was accepted, or else the initial one.
 pub separator-after : (s : Settings) (calls : List Call) → (settings_after s calls).kv_separator ≡ unwrap_or (last_given separator_of calls) s.kv_separator
 separator-after s [] = refl
 separator-after s (call ∷ calls) =
@@ -136,7 +136,7 @@ separator-after s (call ∷ calls) =
     ∙ ap (unwrap_or (last_given separator_of calls)) (separator-after_call s call)
     ∙ unwrap-later (separator_of call) (last_given separator_of calls) s.kv_separator
 
--- The line ending is the last one that was set, or else the one at the start.
+-- The line ending is the last one that was set, or else the initial one.
 pub ending-after : (s : Settings) (calls : List Call) → (settings_after s calls).line_ending ≡ unwrap_or (last_given ending_of calls) s.line_ending
 ending-after s [] = refl
 ending-after s (call ∷ calls) =
@@ -144,7 +144,7 @@ ending-after s (call ∷ calls) =
     ∙ ap (unwrap_or (last_given ending_of calls)) (ending-after_call s call)
     ∙ unwrap-later (ending_of call) (last_given ending_of calls) s.line_ending
 
--- And so is whether ASCII alone is on.
+-- The ASCII-only mode is the last one that was set, or else the initial one.
 pub ascii_only-after : (s : Settings) (calls : List Call) → (settings_after s calls).ascii_only ≡ unwrap_or (last_given ascii_only_of calls) s.ascii_only
 ascii_only-after s [] = refl
 ascii_only-after s (call ∷ calls) =

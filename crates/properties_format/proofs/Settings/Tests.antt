@@ -1,4 +1,4 @@
--- The tests of settings answer true at good settings, and at no others.
+-- The tests of settings pass for exactly the good settings.
 use Rattle.std.proofs.Common.{◌≡◌, ℕ, ◌==◌, ◌&&◌, ◌||◌, not, true, false, List, [], ◌∷◌, ◌++◌, refl, ap, sym, ◌∙◌, inl, inr}
 use Rattle.std.specs.Bool.{Decides}
 use Rattle.std.proofs.lemmas.Bool.{cases_Bool, cond-true, cond-false, and_parts, and_from, or_cases, or_left, or_right, not-true, not_from_false, eqb-true}
@@ -12,29 +12,29 @@ use Rattle.properties_format.proofs.Split.Unique.{sign-full, separator-full}
 
 -- ---- blanks, and texts without a line end
 
--- a text that passes the test is blanks
+-- A text that passes the test is blanks.
 pub AreBlanks-from_test : (x : List ℕ) → is_blanks x ≡ true → AreBlanks x
 AreBlanks-from_test [] h = tt
 AreBlanks-from_test (c ∷ x) h = let p = and_parts (is_blank c) (is_blanks x) h in (p.0, AreBlanks-from_test x p.1)
 
--- and blanks pass it
+-- Blanks pass the test.
 pub is_blanks-from : (x : List ℕ) → AreBlanks x → is_blanks x ≡ true
 is_blanks-from [] h = refl
 is_blanks-from (c ∷ x) h = and_from (is_blank c) (is_blanks x) h.0 (is_blanks-from x h.1)
 
--- a text that passes the test holds no line end
+-- A text that passes the test contains no line end.
 pub HoldsNoLineEnd-from_test : (x : List ℕ) → holds_no_line_end x ≡ true → HoldsNoLineEnd x
 HoldsNoLineEnd-from_test [] h = tt
 HoldsNoLineEnd-from_test (c ∷ x) h = let p = and_parts (not (is_line_end c)) (holds_no_line_end x) h in (not-true (is_line_end c) p.0, HoldsNoLineEnd-from_test x p.1)
 
--- and a text that holds none passes it
+-- A text without line ends passes the test.
 pub holds_no_line_end-from : (x : List ℕ) → HoldsNoLineEnd x → holds_no_line_end x ≡ true
 holds_no_line_end-from [] h = refl
 holds_no_line_end-from (c ∷ x) h = and_from (not (is_line_end c)) (holds_no_line_end x) (not_from_false (is_line_end c) h.0) (holds_no_line_end-from x h.1)
 
 -- ---- no comment sign and no separator is a blank
 
--- no blank is a comment sign
+-- No blank is a comment sign.
 pub blank_not_sign : (c : ℕ) → is_blank c ≡ true → is_comment_sign c ≡ false
 blank_not_sign c h = elim (or_cases (c == 0x20) (c == 0x09 || c == 0x0c) h) [
   | inl e ↦ ap is_comment_sign (eqb-true c 0x20 e)
@@ -43,15 +43,15 @@ blank_not_sign c h = elim (or_cases (c == 0x20) (c == 0x09 || c == 0x0c) h) [
 
 -- ---- prefixes
 
--- a blank in front doesn't decide whether a prefix is good
+-- A blank at the front doesn't decide whether a prefix is good.
 prefix-of_blank : (c : ℕ) (cs : List ℕ) → is_blank c ≡ true → is_good_prefix (c ∷ cs) ≡ is_good_prefix cs
 prefix-of_blank c cs e = cond-true (is_blank c) _ _ e
 
--- any other character does, with what follows it
+-- Any other character at the front decides it, with what follows.
 prefix-of_other : (c : ℕ) (cs : List ℕ) → is_blank c ≡ false → is_good_prefix (c ∷ cs) ≡ (is_comment_sign c && holds_no_line_end cs)
 prefix-of_other c cs e = cond-false (is_blank c) _ _ e
 
--- a good prefix with a blank in front is good
+-- A good prefix with a blank at the front is good.
 blank-in_front : (c : ℕ) (cs : List ℕ) → is_blank c ≡ true → IsGoodPrefix cs → IsGoodPrefix (c ∷ cs)
 blank-in_front c cs e g =
     record { indent = c ∷ g.indent; sign = g.sign; tail = g.tail; division = ap (λ v. c ∷ v) g.division; indented = (e, g.indented); signed = g.signed; one_line = g.one_line }
@@ -66,44 +66,44 @@ IsGoodPrefix-from_test (c ∷ cs) h = elim (cases_Bool (is_blank c)) [
       record { indent = []; sign = c; tail = cs; division = refl; indented = tt; signed = p.0; one_line = HoldsNoLineEnd-from_test cs p.1 }
 ]
 
--- blanks, a comment sign and a text without a line end pass it
+-- Blanks, a comment sign and a text without a line end pass the test.
 divided-is_good : (indent : List ℕ) (sign : ℕ) (tail : List ℕ) → AreBlanks indent → is_comment_sign sign ≡ true → HoldsNoLineEnd tail → is_good_prefix (indent ++ (sign ∷ tail)) ≡ true
 divided-is_good [] sign tail h m p = prefix-of_other sign tail (sign-full sign m) ∙ and_from (is_comment_sign sign) (holds_no_line_end tail) m (holds_no_line_end-from tail p)
 divided-is_good (c ∷ indent) sign tail h m p = prefix-of_blank c (indent ++ (sign ∷ tail)) h.0 ∙ divided-is_good indent sign tail h.1 m p
 
--- so a good prefix passes it
+-- A good prefix passes the test.
 pub is_good_prefix-from : (prefix : List ℕ) → IsGoodPrefix prefix → is_good_prefix prefix ≡ true
 is_good_prefix-from prefix g = ap is_good_prefix g.division ∙ divided-is_good g.indent g.sign g.tail g.indented g.signed g.one_line
 
--- The test is true of the good prefixes, and of no others.
+-- The test passes for exactly the good prefixes.
 pub is_good_prefix-Decides : (prefix : List ℕ) → Decides (is_good_prefix prefix) (IsGoodPrefix prefix)
 is_good_prefix-Decides prefix = (IsGoodPrefix-from_test prefix, is_good_prefix-from prefix)
 
--- what follows the first comment sign is the tail of the division
+-- What follows the first comment sign is the tail of the division.
 tail-divided : (indent : List ℕ) (sign : ℕ) (tail : List ℕ) → AreBlanks indent → is_comment_sign sign ≡ true → tail_of (indent ++ (sign ∷ tail)) ≡ tail
 tail-divided [] sign tail h m = cond-true (is_comment_sign sign) _ _ m
 tail-divided (c ∷ indent) sign tail h m = cond-false (is_comment_sign c) _ _ (blank_not_sign c h.0) ∙ tail-divided indent sign tail h.1 m
 
--- so it is the tail of a good prefix
+-- What follows the first comment sign is the tail of a good prefix.
 pub tail_of-good : (prefix : List ℕ) (g : IsGoodPrefix prefix) → tail_of prefix ≡ g.tail
 tail_of-good prefix g = ap tail_of g.division ∙ tail-divided g.indent g.sign g.tail g.indented g.signed
 
 -- ---- separators
 
--- a blank in front doesn't decide whether a separator has its sign
+-- A blank at the front doesn't decide whether a separator has a sign.
 signed-of_blank : (c : ℕ) (cs : List ℕ) → is_blank c ≡ true → is_signed_separator (c ∷ cs) ≡ is_signed_separator cs
 signed-of_blank c cs e = cond-true (is_blank c) _ _ e
 
--- any other character does, with what follows it
+-- Any other character at the front decides it, with what follows.
 signed-of_other : (c : ℕ) (cs : List ℕ) → is_blank c ≡ false → is_signed_separator (c ∷ cs) ≡ (is_separator c && is_blanks cs)
 signed-of_other c cs e = cond-false (is_blank c) _ _ e
 
--- a separator with its sign has it with a blank in front
+-- A separator with a sign has one with a blank at the front too.
 blank-in_front_of_signed : (c : ℕ) (cs : List ℕ) → is_blank c ≡ true → IsSignedSeparator cs → IsSignedSeparator (c ∷ cs)
 blank-in_front_of_signed c cs e g =
     record { before = c ∷ g.before; sign = g.sign; after = g.after; division = ap (λ v. c ∷ v) g.division; blank_before = (e, g.blank_before); signed = g.signed; blank_after = g.blank_after }
 
--- a separator that passes the test has its sign
+-- A separator that passes the test has a sign.
 pub IsSignedSeparator-from_test : (separator : List ℕ) → is_signed_separator separator ≡ true → IsSignedSeparator separator
 IsSignedSeparator-from_test [] h = cc
 IsSignedSeparator-from_test (c ∷ cs) h = elim (cases_Bool (is_blank c)) [
@@ -113,16 +113,16 @@ IsSignedSeparator-from_test (c ∷ cs) h = elim (cases_Bool (is_blank c)) [
       record { before = []; sign = c; after = cs; division = refl; blank_before = tt; signed = p.0; blank_after = AreBlanks-from_test cs p.1 }
 ]
 
--- blanks, a sign and blanks pass it
+-- Blanks, a sign and blanks pass the test.
 divided-is_signed : (before : List ℕ) (sign : ℕ) (after : List ℕ) → AreBlanks before → is_separator sign ≡ true → AreBlanks after → is_signed_separator (before ++ (sign ∷ after)) ≡ true
 divided-is_signed [] sign after h m p = signed-of_other sign after (separator-full sign m) ∙ and_from (is_separator sign) (is_blanks after) m (is_blanks-from after p)
 divided-is_signed (c ∷ before) sign after h m p = signed-of_blank c (before ++ (sign ∷ after)) h.0 ∙ divided-is_signed before sign after h.1 m p
 
--- so a separator with its sign passes it
+-- A separator with a sign passes the test.
 pub is_signed_separator-from : (separator : List ℕ) → IsSignedSeparator separator → is_signed_separator separator ≡ true
 is_signed_separator-from separator g = ap is_signed_separator g.division ∙ divided-is_signed g.before g.sign g.after g.blank_before g.signed g.blank_after
 
--- a separator that passes the other test is good
+-- A separator that passes the other test is good.
 pub IsGoodSeparator-from_test : (separator : List ℕ) → is_good_separator separator ≡ true → IsGoodSeparator separator
 IsGoodSeparator-from_test [] h = cc
 IsGoodSeparator-from_test (c ∷ cs) h = elim (or_cases (is_signed_separator (c ∷ cs)) (is_blanks (c ∷ cs)) h) [
@@ -130,13 +130,13 @@ IsGoodSeparator-from_test (c ∷ cs) h = elim (or_cases (is_signed_separator (c 
   | inr e ↦ inr (record { blank = AreBlanks-from_test (c ∷ cs) e; some = λ k. cc })
 ]
 
--- and a good separator passes it
+-- A good separator passes the other test.
 pub is_good_separator-from : (separator : List ℕ) → IsGoodSeparator separator → is_good_separator separator ≡ true
 is_good_separator-from [] (inl g) = is_signed_separator-from [] g
 is_good_separator-from [] (inr g) = absurd (g.some refl)
 is_good_separator-from (c ∷ cs) (inl g) = or_left (is_signed_separator (c ∷ cs)) (is_blanks (c ∷ cs)) (is_signed_separator-from (c ∷ cs) g)
 is_good_separator-from (c ∷ cs) (inr g) = or_right (is_signed_separator (c ∷ cs)) (is_blanks (c ∷ cs)) (is_blanks-from (c ∷ cs) g.blank)
 
--- The test is true of the good separators, and of no others.
+-- The test passes for exactly the good separators.
 pub is_good_separator-Decides : (separator : List ℕ) → Decides (is_good_separator separator) (IsGoodSeparator separator)
 is_good_separator-Decides separator = (IsGoodSeparator-from_test separator, is_good_separator-from separator)

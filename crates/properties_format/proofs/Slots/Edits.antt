@@ -1,4 +1,4 @@
--- Edits in turn, each made to the bytes that the one before gave, are the same edits made to the slots of the source.
+-- Edits made one after the other to bytes give the same result as the same edits made to the slots of the source.
 use Rattle.std.proofs.Common.{◌≡◌, ℕ, Bool, true, false, List, [], ◌∷◌, ◌++◌, length, take, drop, refl, ap, ap₂, sym, ◌∙◌, inl, inr, subst, arith, if◌then◌else◌, None, append-nil, append_assoc}
 use Rattle.std.proofs.lemmas.List.{drop_at, take_at}
 use Rattle.std.proofs.lemmas.Bool.{cases_Bool}
@@ -6,21 +6,28 @@ use Rattle.properties_format.specs.Text.{LineEnding}
 use Rattle.properties_format.specs.Encoding.{Encoding, InForce, byte_order_mark, begins_like_bom, utf_8_bom}
 use Rattle.properties_format.specs.Reading.Lines.{ends_in_cr}
 use Rattle.properties_format.specs.Body.{HeldLine, AreGroupsOf, ending_bytes, group_bytes, groups_bytes, last_ending}
-use Rattle.properties_format.specs.Edited.{IsKeySet, bom_of, IsKeyRemoved, is_empty_line, is_left_open, final_group, is_editable, Edit, put, remove, IsScalarEdit, AreScalarEdits}
+use Rattle.properties_format.specs.Edited.{IsKeySet, bom_of, IsKeyRemoved, is_empty_line, is_left_open, final_group, is_editable}
+use Rattle.properties_format.specs.Edits.{Edit, put, remove, set_value, IsScalarEdit, AreScalarEdits}
+use Rattle.properties_format.specs.Valued.{IsValueSet}
 use Rattle.properties_format.specs.Reading.Body.{held_groups_of}
-use Rattle.properties_format.specs.Reading.Edited.{without, edit_made, edits_made, result_of, edit_all_result}
-use Rattle.properties_format.specs.Reading.Slots.{slots_bytes, slot_list, Slots, Closing, left_out, ended_by, closed_by, unended_bytes, safe_ending, slots_of, slots_edited, slots_after_edits, slots_made}
+use Rattle.properties_format.specs.Reading.Edited.{without, result_of}
+use Rattle.properties_format.specs.Reading.Edits.{edit_made, edits_made, edit_all_result}
+use Rattle.properties_format.specs.Reading.Slots.{slots_bytes, slot_list, Slots, Closing, left_out, ended_by, closed_by, unended_bytes, safe_ending, slots_of}
+use Rattle.properties_format.specs.Reading.EditedSlots.{slots_edited, slots_after_edits, slots_made}
 use Rattle.properties_format.proofs.Body.Groups.{held_groups_of-meets, held-body}
 use Rattle.properties_format.proofs.Edited.Made.{key_set-only, without-meets, key_removed-only}
 use Rattle.properties_format.proofs.Edited.ByteOrderMarks.{has_bom, source-whole, key_set-in_force, key_removed-in_force}
 use Rattle.properties_format.proofs.Slots.Lines.{bytes-unended, ending-of}
 use Rattle.properties_format.proofs.Slots.Merged.{AreInTurn, in-turn, merged, merged-groups}
 use Rattle.properties_format.proofs.Slots.Removed.{removed}
+use Rattle.properties_format.proofs.Slots.Revalued.{value-in}
+use Rattle.properties_format.proofs.Valued.Made.{value_set-only}
+use Rattle.properties_format.proofs.Valued.Marks.{value_set-in_force}
 use Rattle.properties_format.proofs.Slots.Put.{put-in}
 
 -- ---- the byte order mark
 
--- A CR at the end of the source is one at the end of its body.
+-- A CR at the end of the source is at the end of its body.
 ends-body : (e : Encoding) (source : List ℕ) → is_editable (byte_order_mark e source).encoding ≡ true
     → ends_in_cr source ≡ ends_in_cr (byte_order_mark e source).body
 ends-body e source ok =
@@ -34,7 +41,7 @@ ends-body e source ok =
     marked [] = refl
     marked (c ∷ x) = refl
 
--- Where this body is in force after the byte order mark of a source, the mark is the same.
+-- If this body is in force after the byte order mark of a source, the mark is the same.
 bom-kept : (e : Encoding) (source body : List ℕ) → is_editable (byte_order_mark e source).encoding ≡ true
     → byte_order_mark e (bom_of source ++ body) ≡ record { encoding = (byte_order_mark e source).encoding; body = body }
     → (bom_of (bom_of source ++ body) ≡ bom_of source) × (begins_like_bom (bom_of source ++ body) ≡ begins_like_bom source)
@@ -65,22 +72,22 @@ bom-kept e source body ok h = elim (has_bom e source ok) [
 -- ---- one edit
 
 -- the bytes of the slots of groups
-slots-bytes : (gs : List (List HeldLine)) → slots_bytes (slot_list gs) ≡ groups_bytes gs
+pub slots-bytes : (gs : List (List HeldLine)) → slots_bytes (slot_list gs) ≡ groups_bytes gs
 slots-bytes [] = refl
 slots-bytes (g ∷ gs) = ap₂ (λ u v. u ++ v) (sym (bytes-unended g)) (slots-bytes gs)
 
--- groups in turn that have the bytes of the source's body
+-- Groups in turn that have the bytes of the source's body.
 record AreOf (e : Encoding) (source : List ℕ) (gs : List (List HeldLine)) : Type 0 where
   bytes : groups_bytes gs ≡ (byte_order_mark e source).body
   in_turn : AreInTurn (byte_order_mark e source).encoding gs
 
--- such groups, where each CR takes the LF alone after it, are the groups of the body
+-- Such groups, with each CR and the single LF after it made one line ending, are the groups of the body.
 groups-of : (e : Encoding) (source : List ℕ) (gs : List (List HeldLine)) → is_editable (byte_order_mark e source).encoding ≡ true → AreOf e source gs
     → AreGroupsOf (byte_order_mark e source).encoding (byte_order_mark e source).body (merged gs)
 groups-of e source gs ok a =
     let f = (byte_order_mark e source).encoding in subst (λ v. AreGroupsOf f v (merged gs)) a.bytes (merged-groups f gs ok a.in_turn)
 
--- An edit of the source: groups that are in force, and the slots of which are the edited slots.
+-- An edit of the source: groups that are in force, and whose slots are the edited slots.
 record IsStep (e : Encoding) (source : List ℕ) (edit : Edit) (gs : List (List HeldLine)) : Type 0 where
   groups : List (List HeldLine)
   in_turn : AreInTurn (byte_order_mark e source).encoding groups
@@ -88,7 +95,7 @@ record IsStep (e : Encoding) (source : List ℕ) (edit : Edit) (gs : List (List 
   in_force : byte_order_mark e (bom_of source ++ groups_bytes groups) ≡ record { encoding = (byte_order_mark e source).encoding; body = groups_bytes groups }
   slots : slots_of groups ≡ slots_edited (byte_order_mark e source).encoding (begins_like_bom source) edit (slots_of gs)
 
--- an edit whose texts are of scalar values has such groups
+-- An edit whose texts consist of scalar values has such groups.
 step : (e : Encoding) (source : List ℕ) (edit : Edit) (gs : List (List HeldLine)) → is_editable (byte_order_mark e source).encoding ≡ true
     → IsScalarEdit edit → AreOf e source gs → IsStep e source edit gs
 step e source (put key value) gs ok k a =
@@ -123,10 +130,23 @@ step e source (remove key) gs ok k a =
       in_force = key_removed-in_force e source key result ok h ∙ ap (λ v. let w : InForce = record { encoding = f; body = v } in w) (sym m.bytes);
       slots = m.slots;
     }
+step e source (set_value key value) gs ok k a =
+    let f = (byte_order_mark e source).encoding in
+    let m = value-in f key value gs ok k.0 k.1 a.in_turn in
+    let result = bom_of source ++ groups_bytes m.groups in
+    let h : IsValueSet e source key value result =
+    record { groups = merged gs; held = groups-of e source gs ok a; body = groups_bytes m.groups; edited = m.edited; whole = refl } in
+    record {
+      groups = m.groups;
+      in_turn = m.in_turn;
+      whole = value_set-only e source key value result ok h;
+      in_force = value_set-in_force e source key value result ok h;
+      slots = m.slots;
+    }
 
--- ---- edits in turn
+-- ---- several edits
 
--- Edits of the source: groups that have the edited body's bytes, and the slots of which are the edited slots.
+-- Edits of the source: groups that have the bytes of the edited body, and whose slots are the edited slots.
 pub record AreReached (e : Encoding) (source : List ℕ) (edits : List Edit) (gs : List (List HeldLine)) : Type 0 where
   pub groups : List (List HeldLine)
   pub in_turn : AreInTurn (byte_order_mark e source).encoding groups
@@ -134,7 +154,7 @@ pub record AreReached (e : Encoding) (source : List ℕ) (edits : List Edit) (gs
   pub in_force : byte_order_mark e (bom_of source ++ groups_bytes groups) ≡ record { encoding = (byte_order_mark e source).encoding; body = groups_bytes groups }
   pub slots : slots_of groups ≡ slots_after_edits (byte_order_mark e source).encoding (begins_like_bom source) edits (slots_of gs)
 
--- edits whose texts are of scalar values have such groups, from any groups in turn on
+-- Starting with any groups in turn, edits whose texts consist of scalar values have such groups.
 reach : (e : Encoding) (source : List ℕ) (edits : List Edit) (gs : List (List HeldLine)) → is_editable (byte_order_mark e source).encoding ≡ true
     → AreScalarEdits edits → AreOf e source gs → AreReached e source edits gs
 reach e source [] gs ok k a =
@@ -166,7 +186,7 @@ reach e source (edit ∷ edits) gs ok k a =
       slots = n.slots ∙ ap₂ (λ u v. slots_after_edits u v edits (slots_of m.groups)) same bom.1 ∙ ap (slots_after_edits f marked edits) m.slots;
     }
 
--- and so from the groups of the source on
+-- Starting with the groups of the source, edits whose texts consist of scalar values have such groups.
 pub reached : (e : Encoding) (source : List ℕ) (edits : List Edit) → is_editable (byte_order_mark e source).encoding ≡ true → AreScalarEdits edits
     → AreReached e source edits (held_groups_of (byte_order_mark e source).encoding (byte_order_mark e source).body)
 reached e source edits ok k =
@@ -175,14 +195,14 @@ reached e source edits ok k =
     let h = held_groups_of-meets f.encoding f.body in
     reach e source edits gs ok k (record { bytes = held-body f.encoding f.body gs ok h; in_turn = in-turn f.encoding f.body gs ok h })
 
--- Edits in turn are edits of the slots: the source is read once, and the bytes are made once, after the last edit.
+-- Edits are edits of the slots: the source is read once, and the bytes are made once, after the last edit.
 pub edits_made-slots : (e : Encoding) (source : List ℕ) (edits : List Edit) → is_editable (byte_order_mark e source).encoding ≡ true → AreScalarEdits edits
     → edits_made e source edits ≡ slots_made e source edits
 edits_made-slots e source edits ok k =
     let m = reached e source edits ok k in
     m.whole ∙ ap (λ v. bom_of source ++ v) (sym (slots-bytes m.groups) ∙ ap (λ v. let w : Slots = v in slots_bytes w.list) m.slots)
 
--- And so is the result of edits in turn.
+-- The result of several edits is made of the slots in this way.
 pub edit_all_result-slots : (e : Encoding) (source : List ℕ) (edits : List Edit) → AreScalarEdits edits
     → edit_all_result e source edits ≡ result_of e source (slots_made e source edits)
 edit_all_result-slots e source edits k = elim (cases_Bool (is_editable (byte_order_mark e source).encoding)) [
@@ -190,7 +210,7 @@ edit_all_result-slots e source edits k = elim (cases_Bool (is_editable (byte_ord
   | inr n ↦ rw n refl
 ]
 
--- one more edit, after others
+-- One more edit after others.
 pub slots_after-push : (e : Encoding) (marked : Bool) (edits : List Edit) (edit : Edit) (s : Slots)
     → slots_after_edits e marked (edits ++ edit ∷ []) s ≡ slots_edited e marked edit (slots_after_edits e marked edits s)
 slots_after-push e marked [] edit s = refl
@@ -198,17 +218,17 @@ slots_after-push e marked (other ∷ edits) edit s = slots_after-push e marked e
 
 -- ---- the slots of a source
 
--- what becomes of a last group after which a pair comes, with this ending
+-- what happens to a last group when a pair with this line ending is appended after it
 abbrev pub closing_by : LineEnding → List HeldLine → Closing
 closing_by by g = if is_empty_line g then left_out else (if is_left_open g then closed_by by else ended_by by)
 
--- the last of these groups has no line ending
+-- The last of these groups has no line ending.
 turn-final : (e : Encoding) (gs : List (List HeldLine)) → AreInTurn e gs → last_ending (final_group gs) ≡ None
 turn-final e [] a = absurd a
 turn-final e (g ∷ []) a = ending-of e None g a.0
 turn-final e (g ∷ h ∷ gs) a = turn-final e (h ∷ gs) a.1
 
--- It is one too where the bytes of its last slot end in one.
+-- The line ending that is added can be chosen by the bytes of the last slot, because the last group has no line ending.
 pub slots-closing : (e : Encoding) (body : List ℕ) → is_editable e ≡ true
     → let g = final_group (held_groups_of e body) in (slots_of (held_groups_of e body)).closing ≡ closing_by (safe_ending (unended_bytes g)) g
 slots-closing e body ok =
@@ -217,7 +237,7 @@ slots-closing e body ok =
     let none = turn-final e gs (in-turn e body gs ok (held_groups_of-meets e body)) in
     ap (λ v. closing_by (safe_ending v) g) (bytes-unended g ∙ ap (λ o. unended_bytes g ++ ending_bytes o) none ∙ append-nil (unended_bytes g))
 
--- The bytes of a slot of a source stand in the body where its group stands.
+-- The bytes of a slot of a source are in the body at the position of its group.
 pub span-unended : (body front : List ℕ) (g : List HeldLine) (back : List ℕ) → body ≡ front ++ (group_bytes g ++ back)
     → take (length (unended_bytes g)) (drop (length front) body) ≡ unended_bytes g
 span-unended body front g back s =

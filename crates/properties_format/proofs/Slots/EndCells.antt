@@ -1,4 +1,4 @@
--- A pair put after all slots in one array: the last cell is closed, and two new ones come after it.
+-- A pair appended after all slots in one array: the last cell is ended, and two new ones follow it.
 use Rattle.std.proofs.Common.{◌≡◌, ℕ, ◌+◌, ◌&&◌, Bool, true, false, List, [], ◌∷◌, ◌++◌, length, get_or, set, Option, Some, None, refl, ap, ap₂, sym, ◌∙◌, inl, inr, arith, if◌then◌else◌, subst}
 use Rattle.std.proofs.lemmas.Bool.{cases_Bool}
 use Rattle.std.proofs.lemmas.List.{set_at, length-append}
@@ -10,14 +10,14 @@ use Rattle.properties_format.proofs.Slots.Places.{put-appends}
 use Rattle.properties_format.proofs.Slots.Cells.{live-alive, live-append, cell-at, places-append, places-none}
 use Rattle.properties_format.proofs.Slots.PutCell.{ends-back}
 
--- the cells before the last one
+-- The cells before the last one.
 pub record IsLastAt (cells : List Cell) (i : ℕ) (d : Cell) : Type 0 where
   pub before : List Cell
   pub division : cells ≡ before ++ get_or cells i d ∷ []
   pub number : length before ≡ i
   pub alive : (get_or cells i d).alive ≡ true
 
--- where the last cell is left, the cells are those before it and the one at the last place
+-- If the last cell isn't removed, the cells are those before it and the one at the last index.
 pub last-at : (cells : List Cell) (i : ℕ) (d : Cell) → EndsAlive cells → i + 1 ≡ length cells → IsLastAt cells i d
 last-at cells i d a h =
     let m = cell-at cells i d (omega arith) in of-after m.before (get_or cells i d) m.after m.division m.number refl
@@ -34,12 +34,12 @@ last-at cells i d a h =
         let all : length cells ≡ length (before ++ c ∷ e ∷ after) = ap length s in
         absurd (omega arith)
 
--- Such cells are the slots before the last one, and that one.
+-- Such cells have the slots before the last one, and that one.
 pub live-last : (cells : List Cell) (i : ℕ) (d : Cell) → (m : IsLastAt cells i d) → live cells ≡ live m.before ++ (get_or cells i d).slot ∷ []
 live-last cells i d m =
     ap live m.division ∙ live-append m.before (get_or cells i d ∷ []) ∙ ap (λ v. live m.before ++ v) (live-alive (get_or cells i d) [] m.alive)
 
--- the last slot that is left is that of the last cell
+-- The last slot that is left is that of the last cell.
 pub final-live : (cells : List Cell) (i : ℕ) (d : Cell) → EndsAlive cells → i + 1 ≡ length cells → final_slot (live cells) ≡ (get_or cells i d).slot
 final-live cells i d a h =
     let m = last-at cells i d a h in ap final_slot (live-last cells i d m) ∙ push (live m.before) (get_or cells i d).slot
@@ -49,19 +49,19 @@ final-live cells i d a h =
     push (x ∷ []) s = refl
     push (x ∷ y ∷ xs) s = push (y ∷ xs) s
 
--- what becomes of the last slot changes no other
+-- What happens to the last slot changes no other slot.
 closed-push : (c : Closing) (xs : List Slot) (s : Slot) → closed_slots c (xs ++ s ∷ []) ≡ xs ++ closed_slot c s
 closed-push c [] s = refl
 closed-push c (x ∷ []) s = refl
 closed-push c (x ∷ y ∷ xs) s = ap (λ v. x ∷ v) (closed-push c (y ∷ xs) s)
 
--- what a closed cell leaves is its slot, closed
+-- The slot of an ended cell is its slot, ended.
 closed-live : (closing : Closing) (c : Cell) → c.alive ≡ true → live (closed_cell closing c ∷ []) ≡ closed_slot closing c.slot
 closed-live left_out c k = refl
 closed-live (ended_by by) c k = rw k refl
 closed-live (closed_by by) c k = rw k refl
 
--- The last cell is closed,
+-- The last cell is ended.
 pub close-end : (cells : List Cell) (closing : Closing) (i : ℕ) (d : Cell) → EndsAlive cells → i + 1 ≡ length cells
     → live (set cells i (closed_cell closing (get_or cells i d))) ≡ closed_slots closing (live cells)
 close-end cells closing i d a h =
@@ -73,7 +73,7 @@ close-end cells closing i d a h =
     ∙ ap (λ v. live m.before ++ v) (closed-live closing c m.alive)
     ∙ sym (ap (closed_slots closing) (live-last cells i d m) ∙ closed-push closing (live m.before) c.slot)
 
--- and the printed pair and an empty slot come after it.
+-- The printed pair and an empty slot follow it.
 pub put-end : (e : Encoding) (key value : List ℕ) (cells : List Cell) (closing : Closing) (i : ℕ) (d : Cell) → EndsAlive cells → i + 1 ≡ length cells
     → places key cells ≡ []
     → let kept : List Cell = set cells i (closed_cell closing (get_or cells i d)) in
@@ -90,7 +90,7 @@ put-end e key value cells closing i d a h n =
     ∙ ap (λ v. record { list = v; closing = left_out })
     (sym (live-append kept (record { slot = pair_slot e (is_first (live kept)) key value (Some lf); alive = true } ∷ record { slot = empty_slot None; alive = true } ∷ [])))
 
--- a closed cell has the key where it had it, if one that is left out is no pair
+-- If a cell that is left out is no pair, an ended cell has the key exactly if it had it before.
 closed-has : (key : List ℕ) (closing : Closing) (c : Cell) → (closing ≡ left_out → c.slot.key ≡ None) → cell_has key (closed_cell closing c) ≡ cell_has key c
 closed-has key left_out c n = of-key c.slot.key c.alive (n refl)
   where
@@ -101,7 +101,7 @@ closed-has key left_out c n = of-key c.slot.key c.alive (n refl)
 closed-has key (ended_by by) c n = refl
 closed-has key (closed_by by) c n = refl
 
--- The places of the key are those before, and that of the pair where it has the key.
+-- The indices of the key are those before, followed by that of the pair if it has the key.
 pub places-end : (key : List ℕ) (cells : List Cell) (closing : Closing) (i : ℕ) (s : Slot) (d : Cell) → EndsAlive cells → i + 1 ≡ length cells
     → (closing ≡ left_out → (get_or cells i d).slot.key ≡ None)
     → places key (set cells i (closed_cell closing (get_or cells i d)) ++ record { slot = s; alive = true } ∷ record { slot = empty_slot None; alive = true } ∷ [])

@@ -1,4 +1,4 @@
--- The end of a removal in one array: the LF of a pair's line ending, the last slot, and the LF that guards the front.
+-- The end of a removal in one array: the LF of a pair's line ending, the last slot, and the LF at the front.
 use Rattle.std.proofs.Common.{◌≡◌, ◌<◌, ℕ, ◌+◌, ◌&&◌, not, Bool, true, false, List, [], ◌∷◌, ◌++◌, length, get_or, set, drop, Some, None, refl, ap, ap₂, sym, ◌∙◌, inl, inr, arith, subst, append_assoc, append-nil}
 use Rattle.std.proofs.lemmas.Bool.{cases_Bool, and_parts}
 use Rattle.std.proofs.lemmas.List.{set_at, get_or_at, length-append}
@@ -14,9 +14,9 @@ use Rattle.properties_format.proofs.Slots.EndCells.{last-at, live-last}
 use Rattle.properties_format.proofs.Slots.Kept.{kept-none, kept-both, without-kept}
 use Rattle.properties_format.proofs.Slots.RemoveCells.{first-cell, next, next-cell, same-cell}
 
--- ---- a pair is left out with its LF
+-- ---- a pair is removed with its LF
 
--- A pair is left out, and with it the LF of the same line ending, where that is the next cell: what is kept is the same.
+-- If a pair is removed together with the LF of its line ending, which is the next cell, the same slots are kept.
 pub kill-both-kept : (key : List ℕ) (cells : List Cell) (i j : ℕ) (stack : List ℕ) (d : Cell) → places key cells ≡ i ∷ stack
     → let left : List Cell = set cells i (dead (get_or cells i d)) in
     i < j → j < length left → AreDeadBetween left i j d → (get_or left j d).alive ≡ true
@@ -52,9 +52,9 @@ kill-both-kept key cells i j stack d s h l a k one =
     ∙ ap (slots_kept key)
     (live-append m.before (m.cell ∷ m.after) ∙ ap (λ v. live m.before ++ v) (live-alive m.cell m.after m.alive ∙ ap (λ v. m.cell.slot ∷ v) old)))
 
--- ---- all pairs are left out
+-- ---- all pairs are removed
 
--- Where no place is left, what is kept is what is left.
+-- If no index is left, the slots that are kept are those that are left.
 pub kept-end : (key : List ℕ) (cells : List Cell) → places key cells ≡ [] → slots_kept key (live cells) ≡ live cells
 kept-end key cells s = kept-none key (live cells) (places-none key 0 cells s)
 
@@ -69,12 +69,12 @@ last_has-cell key cells i d a h =
     push (x ∷ []) s = refl
     push (x ∷ y ∷ xs) s = push (y ∷ xs) s
 
--- What is left is the slots without the key, where the last slot has another,
+-- If the last slot doesn't have the key, the slots that are left are those without the key.
 pub without-cells : (key : List ℕ) (before after : List Cell) → AreWellEnded (live before) → slots_kept key (live after) ≡ slots_kept key (live before)
     → places key after ≡ [] → last_has key (live before) ≡ false → slots_without key (live before) ≡ live after
 without-cells key before after a k s n = without-kept key (live before) a ∙ rw n (sym k ∙ kept-end key after s)
 
--- and where it has the key an empty slot comes last.
+-- If the last slot has the key, an empty slot comes last.
 pub without-last : (key : List ℕ) (before after : List Cell) → AreWellEnded (live before) → slots_kept key (live after) ≡ slots_kept key (live before)
     → places key after ≡ [] → last_has key (live before) ≡ true
     → slots_without key (live before) ≡ live (after ++ record { slot = empty_slot None; alive = true } ∷ [])
@@ -83,30 +83,30 @@ without-last key before after a k s n =
     ∙ rw n (ap (λ v. v ++ empty_slot None ∷ []) (sym k ∙ kept-end key after s))
     ∙ sym (live-append after (record { slot = empty_slot None; alive = true } ∷ []))
 
--- ---- which slots are an LF alone
+-- ---- which slots are a single LF
 
--- no slot that is an LF alone has a key
+-- no slot that is a single LF has a key
 abbrev pub AreLonesKeyless : List Slot → Type 0
 AreLonesKeyless [] = Unit {0}
 AreLonesKeyless (s ∷ ss) = (is_lf_alone s ≡ true → s.key ≡ None) × AreLonesKeyless ss
 
--- so it is where no LF alone is a pair and the last slot has no ending
+-- This holds if no single LF is a pair and the last slot has no line ending.
 pub well_ended-lones : (ss : List Slot) → AreWellEnded ss → AreLonesKeyless ss
 well_ended-lones [] a = absurd a
 well_ended-lones (s ∷ []) a = ((λ k. let m = by_lf-is s.ending (and_parts (is_by_lf s.ending) (is_empty s.bytes) k).0 in absurd (cc)), tt)
 well_ended-lones (s ∷ t ∷ ss) a = (a.0, well_ended-lones (t ∷ ss) a.1)
 
--- where it is so of slots, it is so of each of two parts of them
+-- If it holds for slots, it holds for both of two parts of them.
 lones-parts : (xs ys : List Slot) → AreLonesKeyless (xs ++ ys) → AreLonesKeyless xs × AreLonesKeyless ys
 lones-parts [] ys a = (tt, a)
 lones-parts (x ∷ xs) ys a = let m = lones-parts xs ys a.1 in ((a.0, m.0), m.1)
 
--- and where it is so of two parts, it is so of both together
+-- If it holds for both parts, it holds for the whole.
 lones-append : (xs ys : List Slot) → AreLonesKeyless xs → AreLonesKeyless ys → AreLonesKeyless (xs ++ ys)
 lones-append [] ys a b = b
 lones-append (x ∷ xs) ys a b = (a.0, lones-append xs ys a.1 b)
 
--- A cell that is left and is an LF alone has no key.
+-- A cell that isn't removed and is a single LF has no key.
 pub lone-at : (cells : List Cell) (j : ℕ) (d : Cell) → AreLonesKeyless (live cells) → j < length cells → (get_or cells j d).alive ≡ true
     → is_lf_alone (get_or cells j d).slot ≡ true
     → (get_or cells j d).slot.key ≡ None
@@ -116,7 +116,7 @@ lone-at cells j d a h k l =
     let b = subst AreLonesKeyless (ap live m.division ∙ live-append m.before (c ∷ m.after) ∙ ap (λ v. live m.before ++ v) (live-alive c m.after k)) a in
     (lones-parts (live m.before) (c.slot ∷ live m.after) b).1.0 l
 
--- So it stays where a cell is left out.
+-- This still holds if a cell is removed.
 pub lones-kill : (cells : List Cell) (i : ℕ) (d : Cell) → i < length cells → AreLonesKeyless (live cells)
     → AreLonesKeyless (live (set cells i (dead (get_or cells i d))))
 lones-kill cells i d h a =
@@ -135,7 +135,7 @@ lones-kill cells i d h a =
 
 -- ---- the LF in front
 
--- the first cell that is left has the first slot
+-- The first cell that isn't removed has the first slot.
 live-first : (cells : List Cell) (j : ℕ) (d : Cell) → j < length cells → ((k : ℕ) → k < j → (get_or cells k d).alive ≡ false)
     → (get_or cells j d).alive ≡ true
     → (rest : List Slot) × (live cells ≡ (get_or cells j d).slot ∷ rest)
@@ -149,7 +149,8 @@ live-first cells j d h a k =
           ∙ live-alive c m.rest k,
     )
 
--- Where the first slot that is left begins like no byte order mark, or one stands before the body, no LF comes in front,
+-- If the first slot that is left doesn't begin like a byte order mark, or one comes before the body, no LF comes in
+-- front.
 pub guard-none : (marked : Bool) (cells : List Cell) (j : ℕ) (d : Cell) → j < length cells → ((k : ℕ) → k < j → (get_or cells k d).alive ≡ false)
     → (get_or cells j d).alive ≡ true
     → (not marked && begins_like_bom (get_or cells j d).slot.bytes) ≡ false
@@ -157,7 +158,7 @@ pub guard-none : (marked : Bool) (cells : List Cell) (j : ℕ) (d : Cell) → j 
 guard-none marked cells j d h a k n =
     let m = live-first cells j d h a k in ap (slots_guarded marked) m.1 ∙ rw n refl ∙ sym m.1
 
--- and else it is the first cell, which was kept for it.
+-- Otherwise the LF is the first cell, which was reserved for it.
 pub guard-first : (marked : Bool) (guard : Cell) (cells : List Cell) (j : ℕ) (d : Cell) → guard.alive ≡ false → guard.slot ≡ empty_slot (Some lf)
     → j < length (guard ∷ cells) → ((k : ℕ) → k < j → (get_or (guard ∷ cells) k d).alive ≡ false) → (get_or (guard ∷ cells) j d).alive ≡ true
     → (not marked && begins_like_bom (get_or (guard ∷ cells) j d).slot.bytes) ≡ true

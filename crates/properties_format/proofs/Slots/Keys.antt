@@ -1,4 +1,4 @@
--- The keys of a source after edits are those of its slots, each where its first slot stands.
+-- The keys of a source after edits are those of its slots, each in the position of its first slot.
 use Rattle.std.proofs.Common.{◌≡◌, ◌≢◌, ◌<◌, ℕ, zero, suc, ◌+◌, true, false, List, [], ◌∷◌, ◌++◌, length, length-append, get_or, refl, ap, ap₂, sym, ◌∙◌, inl, inr, subst, arith}
 use Rattle.std.specs.Prelude.{Option, Some, None, Contains, AllPairs, filter_map, bytes_eq}
 use Rattle.std.specs.List.{AllByRecursion, cons_option}
@@ -14,14 +14,16 @@ use Rattle.properties_format.specs.Entries.{comment, pair, Entry, item, malforme
 use Rattle.properties_format.specs.Items.{Outcome, ignored, given, broken}
 use Rattle.properties_format.specs.Maps.{HasNoPair, IsLastValue, IsValue, StandsBefore, AreKeys}
 use Rattle.properties_format.specs.Body.{HeldLine, as_lines, groups_bytes}
-use Rattle.properties_format.specs.Edited.{is_editable, Edit, AreScalarEdits}
+use Rattle.properties_format.specs.Edited.{is_editable}
+use Rattle.properties_format.specs.Edits.{Edit, AreScalarEdits}
 use Rattle.properties_format.specs.Reading.Body.{entries_in, held_groups_of}
 use Rattle.properties_format.specs.Reading.Cells.{Cell, live, cell_has, places_from, places}
-use Rattle.properties_format.specs.Reading.Edited.{edits_made}
+use Rattle.properties_format.specs.Reading.Edits.{edits_made}
 use Rattle.properties_format.specs.Reading.Items.{outcome_of, followed, items_of}
 use Rattle.properties_format.specs.Reading.Keys.{Has, HasNot, ComesBefore, AreFirstOf, slot_keys, IsFirstPlace, AreFirsts, keys_at}
 use Rattle.properties_format.specs.Reading.Maps.{value_in}
-use Rattle.properties_format.specs.Reading.Slots.{Slot, Slots, slot_has, slot_of, slot_list, slots_after, key_told, are_one_ending}
+use Rattle.properties_format.specs.Reading.Slots.{Slot, Slots, slot_has, slot_of, slot_list, key_told, are_one_ending}
+use Rattle.properties_format.specs.Reading.EditedSlots.{slots_after}
 use Rattle.properties_format.proofs.Body.Groups.{held_groups_of-only}
 use Rattle.properties_format.proofs.Body.Numbers.{items_of-groups}
 use Rattle.properties_format.proofs.Maps.{value_in-meets}
@@ -74,7 +76,7 @@ no-pair key (item m (comment text) ∷ entries) n h = no-pair key entries n h
 no-pair key (malformed kind m ∷ entries) n h = no-pair key entries n h
 no-pair key (read_fault m ∷ entries) n h = no-pair key entries n h
 
--- a key of a pair has a value,
+-- The key of a pair has a value.
 key-value : (key : List ℕ) (entries : List Entry) → Has key (pair_keys entries) → (value : List ℕ) × IsLastValue entries key value
 key-value key entries h = of-value (value_in entries key) (value_in-meets entries key)
   where
@@ -82,7 +84,7 @@ key-value key entries h = of-value (value_in entries key) (value_in-meets entrie
     of-value (Some value) i = (value, i)
     of-value None n = absurd (no-pair key entries n h)
 
--- and what has a value is the key of a pair
+-- A key with a value is the key of a pair.
 value-key : (key value : List ℕ) (n : ℕ) (before after : List Entry) → Has key (pair_keys (before ++ (item n (pair key value) ∷ after)))
 value-key key value n [] after = inl refl
 value-key key value n (item m (pair k v) ∷ before) after = inr (value-key key value n before after)
@@ -90,7 +92,7 @@ value-key key value n (item m (comment text) ∷ before) after = value-key key v
 value-key key value n (malformed kind m ∷ before) after = value-key key value n before after
 value-key key value n (read_fault m ∷ before) after = value-key key value n before after
 
--- what stands before a pair with the key
+-- One more entry at the front keeps the order of two keys, if it isn't a pair with the later one.
 stands-on : (entry : Entry) {entries : List Entry} {key other : List ℕ} → ((others : List Entry) → HasNoPair other others → HasNoPair other (entry ∷ others))
     → StandsBefore entries key other → StandsBefore (entry ∷ entries) key other
 stands-on entry none p =
@@ -119,7 +121,7 @@ stands (item m (comment text) ∷ entries) xs ys key other e n a = stands-on (it
 stands (malformed kind m ∷ entries) xs ys key other e n a = stands-on (malformed kind m) (λ others none. none) (stands entries xs ys key other e n a)
 stands (read_fault m ∷ entries) xs ys key other e n a = stands-on (read_fault m) (λ others none. none) (stands entries xs ys key other e n a)
 
--- The keys of the pairs, each once by its first pair, are the keys of the entries.
+-- The keys of the pairs, each once in the order of their first pairs, are the keys of the entries.
 pub are-keys : (entries : List Entry) (all keys : List (List ℕ)) → pair_keys entries ≡ all → AreFirstOf all keys → AreKeys entries keys
 are-keys entries all keys same h =
     record {
@@ -139,13 +141,13 @@ followed-key n (given (comment text)) rest keys a k = k a
 followed-key n (given (pair key value)) rest keys a k = ap (λ v. key ∷ v) (k a)
 followed-key n (broken kind) rest keys a k = absurd a
 
--- what groups say that are all sound has the keys of their slots
+-- The entries of groups without malformed escapes have the keys of their slots.
 entries-keys : (n : ℕ) (gs : List (List HeldLine)) → AreItems (entries_in n gs) → pair_keys (entries_in n gs) ≡ slot_keys (slot_list gs)
 entries-keys n [] a = refl
 entries-keys n (g ∷ gs) a =
     followed-key n (outcome_of (joined (as_lines g))) (entries_in (n + length g) gs) (slot_keys (slot_list gs)) a (entries-keys (n + length g) gs)
 
--- A CR that takes the LF alone after it changes no key.
+-- Making a CR and the single LF after it one line ending changes no key.
 merged-keys : (e : Encoding) (gs : List (List HeldLine)) → AreInTurn e gs → slot_keys (slot_list (merged gs)) ≡ slot_keys (slot_list gs)
 merged-keys e [] a = absurd a
 merged-keys e (g ∷ []) a = refl
@@ -185,7 +187,7 @@ slots-keys e source edits ok k items =
 
 -- ---- the first slot of each key
 
--- the cell at a first place
+-- The cell at the first index of a key.
 record IsFirstCell (key : List ℕ) (n : ℕ) (cells : List Cell) (i : ℕ) : Type 0 where
   before : List Cell
   cell : Cell
@@ -216,7 +218,7 @@ first-cell key n (c ∷ cs) i rest e = elim (cases_Bool (cell_has key c)) [
       }
 ]
 
--- a slot that has the key is a pair with it
+-- A slot that has the key is a pair with it.
 has-key : (key : List ℕ) (s : Slot) → slot_has key s ≡ true → s.key ≡ Some key
 has-key key s h = of-key s.key refl
   where
@@ -224,7 +226,7 @@ has-key key s h = of-key s.key refl
     of-key None e = let no : slot_has key s ≡ false = rw e refl in absurd (cc)
     of-key (Some k) e = let is : slot_has key s ≡ bytes_eq k key = rw e refl in e ∙ ap Some ((bytes_eq-Decides k key).0 (sym is ∙ h))
 
--- slots none of which has the key have other keys
+-- Slots that don't have the key have other keys.
 no-slot : (key : List ℕ) (ss : List Slot) → NoSlotHas key ss → HasNot key (slot_keys ss)
 no-slot key [] n = tt
 no-slot key (s ∷ ss) n = of-key s.key refl (no-slot key ss n.1)
@@ -235,11 +237,11 @@ no-slot key (s ∷ ss) n = of-key s.key refl (no-slot key ss n.1)
         let is : slot_has key s ≡ bytes_eq k key = rw e refl in
         rw e ((λ q. let yes = (bytes_eq-Decides k key).1 q in let no = n.0 in cc), rest)
 
--- the keys of the slots that are left of cells
+-- the keys of the slots that are left
 abbrev live_keys : List Cell → List (List ℕ)
 live_keys cells = slot_keys (live cells)
 
--- a cell with the key divides them
+-- A cell with the key divides these keys.
 live-divided : (key : List ℕ) (before : List Cell) (c : Cell) (after : List Cell) → cell_has key c ≡ true
     → live_keys (before ++ c ∷ after) ≡ live_keys before ++ key ∷ live_keys after
 live-divided key before c after h =
@@ -248,13 +250,13 @@ live-divided key before c after h =
     ∙ filter_map-append (λ s. s.key) (live before) (c.slot ∷ live after)
     ∙ ap (λ v. live_keys before ++ cons_option v (live_keys after)) (has-key key c.slot m.1)
 
--- a key with a first place is one of them,
+-- A key with a first index is one of these keys.
 first-has : (cells : List Cell) (key : List ℕ) (i : ℕ) → IsFirstPlace cells key i → Has key (live_keys cells)
 first-has cells key i p =
     let m = first-cell key 0 cells i p.0 p.1 in
     subst (Has key) (sym (ap live_keys m.division ∙ live-divided key m.before m.cell m.after m.has)) (has-middle key (live_keys m.before) (live_keys m.after))
 
--- and each of them has a first place
+-- Each of these keys has a first index.
 has-first : (cells : List Cell) (key : List ℕ) → Has key (live_keys cells) → (i : ℕ) × IsFirstPlace cells key i
 has-first cells key h = of-places (places key cells) refl
   where
@@ -262,7 +264,7 @@ has-first cells key h = of-places (places key cells) refl
     of-places [] e = absurd (not-both key (live_keys cells) (no-slot key (live cells) (places-none key 0 cells e)) h)
     of-places (i ∷ rest) e = (i, (rest, e))
 
--- the first places of two keys
+-- The first indices of two keys.
 record AreApart (cells : List Cell) (key other : List ℕ) : Type 0 where
   place : ℕ
   is_place : IsFirstPlace cells key place
@@ -270,7 +272,7 @@ record AreApart (cells : List Cell) (key other : List ℕ) : Type 0 where
   is_other : IsFirstPlace cells other other_place
   below : place < other_place
 
--- a key whose first place is before that of another comes before it
+-- A key whose first index is before that of another comes before it.
 comes-before : (cells : List Cell) (key other : List ℕ) → AreApart cells key other → ComesBefore (live_keys cells) key other
 comes-before cells key other h =
     let m = first-cell key 0 cells h.place h.is_place.0 h.is_place.1 in
@@ -302,7 +304,7 @@ comes-before cells key other h =
         let n : p ≡ h.other_place = cc in
         absurd (omega (arith, length-append {A = Cell}))
 
--- a key at a place is one of the keys,
+-- A key at an index is one of the keys.
 at-has : (firsts : List (Option (List ℕ))) (i : ℕ) (key : List ℕ) → get_or firsts i None ≡ Some key → Has key (keys_at firsts)
 at-has [] i key e = absurd (cc)
 at-has (None ∷ firsts) zero key e = absurd (cc)
@@ -310,21 +312,21 @@ at-has (Some k ∷ firsts) zero key e = inl (cc)
 at-has (None ∷ firsts) (suc i) key e = at-has firsts i key e
 at-has (Some k ∷ firsts) (suc i) key e = inr (at-has firsts i key e)
 
--- and each of them stands at one
+-- Each of the keys is at an index.
 has-at : (firsts : List (Option (List ℕ))) (key : List ℕ) → Has key (keys_at firsts) → (i : ℕ) × (get_or firsts i None ≡ Some key)
 has-at [] key h = absurd h
 has-at (None ∷ firsts) key h = let m = has-at firsts key h in (suc m.0, m.1)
 has-at (Some k ∷ firsts) key (inl e) = (0, ap Some e)
 has-at (Some k ∷ firsts) key (inr h) = let m = has-at firsts key h in (suc m.0, m.1)
 
--- keys at places from this one on, each of which is the key's first place
+-- the keys from this index on, each of which has its first index there
 abbrev StandFrom : List Cell → ℕ → List (Option (List ℕ)) → Type 0
 StandFrom cells n firsts = (i : ℕ) (key : List ℕ) → get_or firsts i None ≡ Some key → IsFirstPlace cells key (n + i)
 
 stand-next : (cells : List Cell) (n : ℕ) (o : Option (List ℕ)) (firsts : List (Option (List ℕ))) → StandFrom cells n (o ∷ firsts) → StandFrom cells (n + 1) firsts
 stand-next cells n o firsts h i key e = let m : n + suc i ≡ n + 1 + i = omega arith in subst (IsFirstPlace cells key) m (h (suc i) key e)
 
--- a key at an earlier place is apart from each of them
+-- A key at an earlier index differs from each of them.
 later-keys : (cells : List Cell) (key : List ℕ) (place : ℕ) → IsFirstPlace cells key place → (n : ℕ) (firsts : List (Option (List ℕ))) → place < n → StandFrom cells n firsts
     → AllByRecursion (AreApart cells key) (keys_at firsts)
 later-keys cells key place p n [] l h = tt
@@ -343,7 +345,7 @@ all-apart cells n (Some key ∷ firsts) h =
     (All-from_recursion (AreApart cells key) (keys_at firsts) (later-keys cells key (n + 0) (h 0 key refl) (n + 1) firsts (omega arith) next))
     (all-apart cells (n + 1) firsts next)
 
--- The keys at their first places are the keys of the slots that are left.
+-- The keys at their first indices are the keys of the slots that are left.
 pub first-keys : (cells : List Cell) (firsts : List (Option (List ℕ))) → AreFirsts cells firsts → AreFirstOf (slot_keys (live cells)) (keys_at firsts)
 first-keys cells firsts h =
     let apart = all-apart cells 0 firsts (λ i key e. let m : i ≡ 0 + i = omega arith in subst (IsFirstPlace cells key) m (h.only i key e)) in
@@ -353,7 +355,7 @@ first-keys cells firsts h =
       in_order = λ i j d l m. comes-before cells _ _ (apart i j d l m);
     }
 
--- Two keys whose first pair is the same are one.
+-- Two keys with the same first pair are equal.
 pub first-only : (cells : List Cell) (key other : List ℕ) (i : ℕ) → IsFirstPlace cells key i → IsFirstPlace cells other i → key ≡ other
 first-only cells key other i p q =
     let m = first-cell key 0 cells i p.0 p.1 in
@@ -374,7 +376,7 @@ first-only cells key other i p q =
     at-middle [] c after d = refl
     at-middle (b ∷ before) c after d = at-middle before c after d
 
--- A first place is that of a cell.
+-- A first index is that of a cell.
 pub first-inside : (cells : List Cell) (key : List ℕ) (i : ℕ) → IsFirstPlace cells key i → i < length cells
 first-inside cells key i p =
     let m = first-cell key 0 cells i p.0 p.1 in

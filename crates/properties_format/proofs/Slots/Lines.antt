@@ -1,4 +1,4 @@
--- The lines of a group by itself, and the same lines with another last ending.
+-- The lines of a group by itself, and these lines with another last line ending.
 use Rattle.std.proofs.Common.{◌≡◌, ◌≢◌, ℕ, true, false, List, [], ◌∷◌, ◌++◌, Option, Some, None, refl, ap, ap₂, sym, ◌∙◌, append_assoc, append-nil}
 use Rattle.properties_format.specs.Text.{LineEnding, lf, cr, crlf, line_ending_text}
 use Rattle.properties_format.specs.Encoding.{Encoding}
@@ -17,7 +17,8 @@ use Rattle.properties_format.proofs.Edited.Contents.{ends-right}
 
 -- ---- the lines of a group
 
--- These are lines of which the last has this ending: each has its own text, all but the last are ended, and no CR is parted from an LF.
+-- The last of these lines has this ending, each line has its own text, all but the last are ended, and no CR is
+-- separated from an LF.
 abbrev pub AreLinesBy : Encoding → Option LineEnding → List HeldLine → Type 0
 AreLinesBy e o [] = ⊥
 AreLinesBy e o (h ∷ []) = HoldsNoLineEnd h.bytes × (h.text ≡ decoded_line e h.bytes) × (h.ending ≡ o)
@@ -26,12 +27,12 @@ AreLinesBy e o (h ∷ i ∷ hs) =
     × ((by : LineEnding) × (h.ending ≡ Some by) × (by ≡ cr → begins_with_lf (group_bytes (i ∷ hs)) ≡ false))
     × AreLinesBy e o (i ∷ hs)
 
--- a line is its bytes, their text and its ending
+-- A line is its bytes, their text and its ending.
 line-made : (e : Encoding) (h : HeldLine) (o : Option LineEnding) → h.text ≡ decoded_line e h.bytes → h.ending ≡ o
     → record { bytes = h.bytes; text = decoded_line e h.bytes; ending = o } ≡ h
 line-made e h o s t = ap₂ (λ v w. record { bytes = h.bytes; text = v; ending = w }) (sym s) (sym t)
 
--- an ended line in front of any bytes
+-- An ended line before any bytes.
 lines-next : (e : Encoding) (h : HeldLine) (by : LineEnding) (y : List ℕ) → is_editable e ≡ true → HoldsNoLineEnd h.bytes → h.text ≡ decoded_line e h.bytes
     → h.ending ≡ Some by → (by ≡ cr → begins_with_lf y ≡ false)
     → held_lines_of e (h.bytes ++ (ending_bytes h.ending ++ y)) ≡ h ∷ held_lines_of e y
@@ -40,26 +41,26 @@ lines-next e h by y ok p s t k =
     ∙ ap (λ v. let w : Lines = v in held_of e w.ended w.last) (cut_of-lines e (h.bytes ++ (line_ending_text by ++ y)) ok ∙ lines_of-line h.bytes by y p k)
     ∙ ap₂ (λ u v. let w : Lines = v in u ∷ held_of e w.ended w.last) (line-made e h (Some by) s t) (sym (cut_of-lines e y ok))
 
--- an LF in front of two parts is in front of the first, or of the second where the first is nothing
+-- An LF at the front of two parts is at the front of the first; or of the second, if the first is empty.
 pub first-none : (x y : List ℕ) → begins_with_lf x ≡ false → (x ≡ [] → begins_with_lf y ≡ false) → begins_with_lf (x ++ y) ≡ false
 first-none [] y h k = k refl
 first-none (c ∷ x) y h k = h
 
--- a text that holds a line ending is not empty
+-- A text that contains a line ending isn't empty.
 ended-some : (x : List ℕ) (by : LineEnding) (z : List ℕ) → x ++ (line_ending_text by ++ z) ≡ [] → ⊥
 ended-some [] lf z k = cc
 ended-some [] cr z k = cc
 ended-some [] crlf z k = cc
 ended-some (c ∷ x) by z k = cc
 
--- a group that has an ending has bytes
+-- A group that has a line ending has bytes.
 pub lines-some : (e : Encoding) (by : LineEnding) (g : List HeldLine) → AreLinesBy e (Some by) g → group_bytes g ≢ []
 lines-some e by [] a r = a
 lines-some e by (h ∷ []) (p, s, t) r = ended-some h.bytes by [] (ap (λ o. h.bytes ++ (ending_bytes o ++ [])) (sym t) ∙ r)
 lines-some e by (h ∷ i ∷ hs) (p, s, (own, t, n), a) r =
     ended-some h.bytes own (group_bytes (i ∷ hs)) (ap (λ o. h.bytes ++ (ending_bytes o ++ group_bytes (i ∷ hs))) (sym t) ∙ r)
 
--- the lines of a group that has an ending, in front of any bytes
+-- The lines of a group that has a line ending, before any bytes.
 pub lines-front : (e : Encoding) (by : LineEnding) (g : List HeldLine) (y : List ℕ) → is_editable e ≡ true → AreLinesBy e (Some by) g
     → (by ≡ cr → begins_with_lf y ≡ false)
     → held_lines_of e (group_bytes g ++ y) ≡ g ++ held_lines_of e y
@@ -74,7 +75,7 @@ lines-front e by (h ∷ i ∷ hs) y ok (p, s, (own, t, n), a) k =
     ∙ lines-next e h own (group_bytes (i ∷ hs) ++ y) ok p s t (λ q. first-none (group_bytes (i ∷ hs)) y (n q) (λ r. absurd (lines-some e by (i ∷ hs) a r)))
     ∙ ap (λ v. h ∷ v) (lines-front e by (i ∷ hs) y ok a k)
 
--- the lines of a group that has none
+-- The lines of a group that has no line ending.
 pub lines-last : (e : Encoding) (g : List HeldLine) → is_editable e ≡ true → AreLinesBy e None g → held_lines_of e (group_bytes g) ≡ g
 lines-last e [] ok a = absurd a
 lines-last e (h ∷ []) ok (p, s, t) =
@@ -85,9 +86,9 @@ lines-last e (h ∷ []) ok (p, s, t) =
 lines-last e (h ∷ i ∷ hs) ok (p, s, (own, t, n), a) =
     lines-next e h own (group_bytes (i ∷ hs)) ok p s t n ∙ ap (λ v. h ∷ v) (lines-last e (i ∷ hs) ok a)
 
--- ---- the last ending
+-- ---- the last line ending
 
--- the bytes of a group are those up to its last line ending, and that ending
+-- The bytes of a group are those up to its last line ending, followed by that ending.
 pub bytes-unended : (g : List HeldLine) → group_bytes g ≡ unended_bytes g ++ ending_bytes (last_ending g)
 bytes-unended [] = refl
 bytes-unended (h ∷ []) = ap (λ v. h.bytes ++ v) (append-nil (ending_bytes h.ending))
@@ -98,54 +99,54 @@ bytes-unended (h ∷ i ∷ hs) =
     ∙ ap (λ v. h.bytes ++ v) (sym (append_assoc (ending_bytes h.ending) x y))
     ∙ sym (append_assoc h.bytes (ending_bytes h.ending ++ x) y)
 
--- lines of which the last has this ending are a group that ends in it
+-- If the last of these lines has this ending, so does the group.
 pub ending-of : (e : Encoding) (o : Option LineEnding) (g : List HeldLine) → AreLinesBy e o g → last_ending g ≡ o
 ending-of e o [] a = absurd a
 ending-of e o (h ∷ []) a = a.2
 ending-of e o (h ∷ i ∷ hs) a = ending-of e o (i ∷ hs) a.3
 
--- and their bytes are those up to it, and its own
+-- The group's bytes are those up to the ending, followed by the ending.
 pub bytes-of : (e : Encoding) (o : Option LineEnding) (g : List HeldLine) → AreLinesBy e o g → group_bytes g ≡ unended_bytes g ++ ending_bytes o
 bytes-of e o g a = bytes-unended g ∙ ap (λ v. unended_bytes g ++ ending_bytes v) (ending-of e o g a)
 
--- a group with nothing before its last ending is an empty line
+-- A group with nothing before its last line ending is an empty line.
 pub unended-some : (e : Encoding) (o : Option LineEnding) (g : List HeldLine) → AreLinesBy e o g → unended_bytes g ≡ [] → is_empty_line g ≡ true
 unended-some e o [] a k = absurd a
 unended-some e o (h ∷ []) a k = rw k refl
 unended-some e o (h ∷ i ∷ hs) (p, s, (by, t, n), a) k =
     absurd (ended-some h.bytes by (unended_bytes (i ∷ hs)) (ap (λ v. h.bytes ++ (ending_bytes v ++ unended_bytes (i ∷ hs))) (sym t) ∙ k))
 
--- the group with another last ending
+-- the group with another last line ending
 abbrev pub with_ending : Option LineEnding → List HeldLine → List HeldLine
 with_ending o [] = []
 with_ending o (h ∷ []) = record { bytes = h.bytes; text = h.text; ending = o } ∷ []
 with_ending o (h ∷ i ∷ hs) = h ∷ with_ending o (i ∷ hs)
 
--- it has the same texts
+-- It has the same texts.
 pub texts-with : (o : Option LineEnding) (g : List HeldLine) → as_lines (with_ending o g) ≡ as_lines g
 texts-with o [] = refl
 texts-with o (h ∷ []) = refl
 texts-with o (h ∷ i ∷ hs) = ap (λ v. record { number = 0; text = h.text } ∷ v) (texts-with o (i ∷ hs))
 
--- its last ending is that one
+-- Its last line ending is the new one.
 pub ending-with : (o : Option LineEnding) (h : HeldLine) (hs : List HeldLine) → last_ending (with_ending o (h ∷ hs)) ≡ o
 ending-with o h [] = refl
 ending-with o h (i ∷ []) = refl
 ending-with o h (i ∷ j ∷ hs) = ending-with o i (j ∷ hs)
 
--- the bytes up to the last ending are the same
+-- Its bytes up to the last line ending are the same.
 pub unended-with : (o : Option LineEnding) (g : List HeldLine) → unended_bytes (with_ending o g) ≡ unended_bytes g
 unended-with o [] = refl
 unended-with o (h ∷ []) = refl
 unended-with o (h ∷ i ∷ []) = refl
 unended-with o (h ∷ i ∷ j ∷ hs) = ap (λ v. h.bytes ++ (ending_bytes h.ending ++ v)) (unended-with o (i ∷ j ∷ hs))
 
--- its bytes are those, and then those of the new ending
+-- Its bytes are those, followed by those of the new line ending.
 pub bytes-with : (o : Option LineEnding) (h : HeldLine) (hs : List HeldLine)
     → group_bytes (with_ending o (h ∷ hs)) ≡ unended_bytes (h ∷ hs) ++ ending_bytes o
 bytes-with o h hs = bytes-unended (with_ending o (h ∷ hs)) ∙ ap₂ (λ v w. v ++ ending_bytes w) (unended-with o (h ∷ hs)) (ending-with o h hs)
 
--- a line before others
+-- A line before others.
 line-before : (e : Encoding) (o : Option LineEnding) (h : HeldLine) (by : LineEnding) (w : List HeldLine) → HoldsNoLineEnd h.bytes
     → h.text ≡ decoded_line e h.bytes
     → h.ending ≡ Some by
@@ -153,7 +154,7 @@ line-before : (e : Encoding) (o : Option LineEnding) (h : HeldLine) (by : LineEn
 line-before e o h by [] p s t k a = absurd a
 line-before e o h by (i ∷ w) p s t k a = (p, s, (by, t, k), a)
 
--- Another last ending keeps them such lines, where it makes no CR LF with what is before it.
+-- With another last line ending they are still such lines, if the ending forms no CR LF with what comes before it.
 pub lines-with : (e : Encoding) (o p : Option LineEnding) (g : List HeldLine) → AreLinesBy e o g
     → (ends_in_cr (unended_bytes g) ≡ true → begins_with_lf (ending_bytes p) ≡ false)
     → AreLinesBy e p (with_ending p g)
@@ -178,7 +179,7 @@ lines-with e o p (h ∷ i ∷ hs) (b, s, (by, t, k), a) m =
         ap begins_with_lf (bytes-with p i hs)
         ∙ first-none x (ending_bytes p) (first-left x (ending_bytes o) (ap begins_with_lf (sym (bytes-of e o (i ∷ hs) a)) ∙ k q)) (λ r. m (ends q r))
 
--- Lines and then others are such lines, where no CR is parted from an LF.
+-- Two lists of such lines are such lines together, if no CR is separated from an LF.
 pub lines-append : (e : Encoding) (by : LineEnding) (o : Option LineEnding) (g w : List HeldLine) → AreLinesBy e (Some by) g → AreLinesBy e o w
     → (by ≡ cr → begins_with_lf (group_bytes w) ≡ false)
     → AreLinesBy e o (g ++ w)

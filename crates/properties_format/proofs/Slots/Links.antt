@@ -1,15 +1,17 @@
--- Links over the cells of one array that are not left: they stay such where a cell is left out, replaced or added, and may be shortened.
+-- Links that skip removed cells of one array: they stay links if a cell is removed, replaced or added, and may be
+-- shortened.
 use Rattle.std.proofs.Common.{◌≡◌, ◌≢◌, ◌<◌, ℕ, ◌+◌, true, false, List, [], ◌∷◌, ◌++◌, length, get_or, set, refl, ap, sym, ◌∙◌, inl, inr, arith}
 use Rattle.std.proofs.lemmas.Bool.{cases_lt}
 use Rattle.std.proofs.lemmas.Bool.Decides.{eqb_tells}
 use Rattle.std.proofs.lemmas.List.{get_or-set_same, get_or-set_other, get_or_append_left, length-append, length-set, get_or_at}
 use Rattle.properties_format.specs.Reading.Cells.{Cell, dead, AreDeadBetween, AreLinks}
 
--- equal cells are both left, or neither is
+-- Of two equal cells, both are removed or neither is.
 alive-same : (a b : Cell) → a ≡ b → a.alive ≡ b.alive
 alive-same a b s = ap (λ v. let w : Cell = v in w.alive) s
 
--- where another cell takes a place, none between two is left still, if it is not left or not between them
+-- If a cell is replaced, all cells between two indices are still removed, provided that the new one is removed or isn't
+-- between them.
 between-set : (cells : List Cell) (m i j : ℕ) (n d : Cell) → m < length cells → AreDeadBetween cells i j d → (i < m → m < j → n.alive ≡ false)
     → AreDeadBetween (set cells m n) i j d
 between-set cells m i j n d h a f k l r = elim (eqb_tells k m) [
@@ -21,7 +23,7 @@ between-set cells m i j n d h a f k l r = elim (eqb_tells k m) [
   | inr s ↦ alive-same (get_or (set cells m n) k d) (get_or cells k d) (get_or-set_other cells m k n d s.1) ∙ a k l r
 ]
 
--- Another cell takes a place: the links stay links, where they lead over it only if it is not left.
+-- If a cell is replaced, the links stay links, provided that a link leads over it only if it is removed.
 pub links-set : (cells : List Cell) (links : List ℕ) (m : ℕ) (n d : Cell) → AreLinks cells links d → m < length cells
     → ((i : ℕ) → i < length cells → i < m → m < get_or links i 0 → n.alive ≡ false)
     → AreLinks (set cells m n) links d
@@ -32,20 +34,20 @@ links-set cells links m n d a h f i l =
     let within = b.1 in
     (b.0, omega arith, between-set cells m i (get_or links i 0) n d h b.2 (f i own))
 
--- So they do where a cell is left out,
+-- If a cell is removed, the links stay links.
 pub links-kill : (cells : List Cell) (links : List ℕ) (m : ℕ) (c d : Cell) → AreLinks cells links d → m < length cells → AreLinks (set cells m (dead c)) links d
 links-kill cells links m c d a h = links-set cells links m (dead c) d a h (λ i l r s. refl)
 
--- where the cell before it was left,
+-- They stay links if the cell that is replaced wasn't removed.
 pub links-alive : (cells : List Cell) (links : List ℕ) (m : ℕ) (n d : Cell) → AreLinks cells links d → m < length cells → (get_or cells m d).alive ≡ true
     → AreLinks (set cells m n) links d
 links-alive cells links m n d a h k = links-set cells links m n d a h (λ i l r s. let b = (a i l).2 m r s in absurd (cc))
 
--- and at the first cell, over which no link leads.
+-- They stay links if the first cell is replaced, because no link leads over it.
 pub links-first : (cells : List Cell) (links : List ℕ) (n d : Cell) → AreLinks cells links d → 0 < length cells → AreLinks (set cells 0 n) links d
 links-first cells links n d a h = links-set cells links 0 n d a h (λ i l r s. absurd (omega arith))
 
--- One more cell has a link to the end.
+-- One more cell gets a link to the end.
 pub links-push : (cells : List Cell) (links : List ℕ) (c d : Cell) → AreLinks cells links d → length links ≡ length cells
     → AreLinks (cells ++ c ∷ []) (links ++ (length cells + 1) ∷ []) d
 links-push cells links c d a size i h = elim (eqb_tells i (length cells)) [
@@ -71,7 +73,7 @@ links-push cells links c d a size i h = elim (eqb_tells i (length cells)) [
     below : (x y : ℕ) → x < y + 1 → x ≢ y → x < y
     below x y l n = omega arith
 
--- A link to a cell that is not left may lead where that one's link leads.
+-- A link to a removed cell may lead where that cell's link leads.
 pub links-shorten : (cells : List Cell) (links : List ℕ) (i : ℕ) (d : Cell) → AreLinks cells links d → length links ≡ length cells → i < length cells
     → get_or links i 0 < length cells
     → (get_or cells (get_or links i 0) d).alive ≡ false

@@ -1,4 +1,5 @@
--- Groups among which a CR may stand before an LF alone: the groups of their bytes are these with the two made one line ending.
+-- Groups in which a CR may come before a single LF: the groups of their bytes are these, with each such CR and LF made
+-- one line ending.
 use Rattle.std.proofs.Common.{◌≡◌, ◌≢◌, ℕ, ◌&&◌, true, false, List, [], ◌∷◌, ◌++◌, Option, Some, None, refl, ap, ap₂, sym, ◌∙◌, inl, inr, append_assoc, append-nil, subst, if◌then◌else◌}
 use Rattle.std.proofs.lemmas.Bool.{cases_Bool, and_parts}
 use Rattle.properties_format.specs.Text.{LineEnding, lf, cr, crlf, carriage_return, line_feed}
@@ -22,7 +23,7 @@ use Rattle.properties_format.proofs.Slots.Lines.{AreLinesBy, first-none, lines-f
 
 -- ---- groups in turn
 
--- a whole group that has an ending
+-- a whole group that has a line ending
 abbrev pub IsEndedGroup : Encoding → List HeldLine → Type 0
 IsEndedGroup e g = (by : LineEnding) × AreLinesBy e (Some by) g × IsWhole (as_lines g)
 
@@ -30,22 +31,22 @@ IsEndedGroup e g = (by : LineEnding) × AreLinesBy e (Some by) g × IsWhole (as_
 abbrev pub IsLastGroup : Encoding → List HeldLine → Type 0
 IsLastGroup e g = AreLinesBy e None g × IsLastFit g
 
--- There is a group at least, and all but the last have endings.
+-- Groups in turn: there is at least one, and all but the last have line endings.
 abbrev pub AreInTurn : Encoding → List (List HeldLine) → Type 0
 AreInTurn e [] = ⊥
 AreInTurn e (g ∷ []) = IsLastGroup e g
 AreInTurn e (g ∷ h ∷ gs) = IsEndedGroup e g × AreInTurn e (h ∷ gs)
 
--- ---- the groups of a body are such
+-- ---- the groups of a body are in turn
 
--- lines that are all ended are lines of which the last has an ending
+-- Ended lines are lines, the last of which has a line ending.
 ended-lines : (e : Encoding) (l : Ended) (ls : List Ended) → AreLines (l ∷ ls) [] → (by : LineEnding) × AreLinesBy e (Some by) (held_ended e (l ∷ ls))
 ended-lines e l [] h = (l.by, (h.0, refl, refl))
 ended-lines e l (m ∷ ls) h =
     let n = ended-lines e m ls h.2 in
     (n.0, (h.0, refl, (l.by, refl, (λ q. ap begins_with_lf (ended-bytes e (m ∷ ls)) ∙ no_lf_first (m ∷ ls) [] h.2 (h.1 q))), n.1))
 
--- the lines of a text are lines of which the last has none
+-- The lines of a text are lines, the last of which has no line ending.
 last-lines : (e : Encoding) (ls : List Ended) (last : List ℕ) → AreLines ls last → AreLinesBy e None (held_of e ls last)
 last-lines e [] last h = (h, refl, refl)
 last-lines e (l ∷ []) last h =
@@ -53,7 +54,7 @@ last-lines e (l ∷ []) last h =
 last-lines e (l ∷ m ∷ ls) last h =
     (h.0, refl, (l.by, refl, (λ q. ap begins_with_lf (held-bytes e (m ∷ ls) last) ∙ no_lf_first (m ∷ ls) last h.2 (h.1 q))), last-lines e (m ∷ ls) last h.2)
 
--- a group with others after it is a whole one that has an ending
+-- A group that others follow is a whole one with a line ending.
 ended-group : (e : Encoding) (g : List HeldLine) → IsHeldFront e g → IsEndedGroup e g
 ended-group e g h = of-lines h.lines h.held h.are_lines
   where
@@ -62,71 +63,71 @@ ended-group e g h = of-lines h.lines h.held h.are_lines
     of-lines (l ∷ ls) s a =
         let n = ended-lines e l ls a in (n.0, subst (AreLinesBy e (Some n.0)) (sym s) n.1, h.front.whole)
 
--- the last group of a body has none, and is whole or ends open
+-- The last group of a body has no line ending, and is whole or ends open.
 last-group : (e : Encoding) (g : List HeldLine) → IsHeldLast e g → IsLastGroup e g
 last-group e g h = (subst (AreLinesBy e None) (sym h.held) (last-lines e h.lines.ended h.lines.last h.are_lines), h.fits)
 
--- groups of a body, one by one, stand in turn
+-- The groups of a body, one by one, are in turn.
 held-turn : (e : Encoding) (gs : List (List HeldLine)) → AreHeldGroups e gs → AreInTurn e gs
 held-turn e [] h = absurd h
 held-turn e (g ∷ []) h = last-group e g h
 held-turn e (g ∷ i ∷ gs) h = (ended-group e g h.0, held-turn e (i ∷ gs) h.1)
 
--- The groups of a body stand in turn.
+-- The groups of a body are in turn.
 pub in-turn : (e : Encoding) (body : List ℕ) (gs : List (List HeldLine)) → is_editable e ≡ true → AreGroupsOf e body gs → AreInTurn e gs
 in-turn e body gs ok h = held-turn e gs (held-groups e body gs ok h)
 
--- ---- a CR and an LF alone
+-- ---- a CR and a single LF
 
--- the groups where each CR takes the LF alone that comes after it
+-- the groups, with each CR and the single LF after it made one line ending
 abbrev pub merged : List (List HeldLine) → List (List HeldLine)
 merged [] = []
 merged (g ∷ []) = g ∷ []
 merged (g ∷ h ∷ gs) = if are_one_ending (slot_of g) (slot_of h) then with_ending (Some crlf) g ∷ merged gs else g ∷ merged (h ∷ gs)
 
--- a group that ends in a CR takes the LF alone after it, and ends in CR LF
+-- A group that ends in a CR takes the single LF after it, and ends in CR LF.
 pub merged-one : (g h : List HeldLine) (gs : List (List HeldLine)) → are_one_ending (slot_of g) (slot_of h) ≡ true
     → merged (g ∷ h ∷ gs) ≡ with_ending (Some crlf) g ∷ merged gs
 merged-one g h gs k = rw k refl
 
--- any other group in front stays as it is
+-- Any other group at the front is unchanged.
 pub merged-two : (g h : List HeldLine) (gs : List (List HeldLine)) → are_one_ending (slot_of g) (slot_of h) ≡ false
     → merged (g ∷ h ∷ gs) ≡ g ∷ merged (h ∷ gs)
 merged-two g h gs k = rw k refl
 
--- an ending that is told to be an LF is one
+-- A line ending that passes the test for an LF is one.
 pub by_lf-is : (o : Option LineEnding) → is_by_lf o ≡ true → o ≡ Some lf
 by_lf-is None k = absurd (cc)
 by_lf-is (Some lf) k = refl
 by_lf-is (Some cr) k = absurd (cc)
 by_lf-is (Some crlf) k = absurd (cc)
 
--- and one that is told to be a CR is a CR
+-- A line ending that passes the test for a CR is one.
 pub by_cr-is : (o : Option LineEnding) → is_by_cr o ≡ true → o ≡ Some cr
 by_cr-is None k = absurd (cc)
 by_cr-is (Some lf) k = absurd (cc)
 by_cr-is (Some cr) k = refl
 by_cr-is (Some crlf) k = absurd (cc)
 
--- a text that is told to be empty has no characters
+-- A text that passes the test for an empty one is empty.
 pub empty-is : (x : List ℕ) → is_empty x ≡ true → x ≡ []
 empty-is [] k = refl
 empty-is (c ∷ x) k = absurd (cc)
 
--- the first ends in a CR, and the second is an LF and nothing else
+-- The first group ends in a CR, and the second is a single LF.
 pub record IsOneEnding (g h : List HeldLine) : Type 0 where
   pub by_cr : last_ending g ≡ Some cr
   pub by_lf : last_ending h ≡ Some lf
   pub empty : unended_bytes h ≡ []
 
--- two groups are so where their slots are told to be of one line ending
+-- Two groups are of this kind if their slots pass the test for one line ending.
 pub one-ending : (g h : List HeldLine) → are_one_ending (slot_of g) (slot_of h) ≡ true → IsOneEnding g h
 one-ending g h k =
     let m = and_parts (is_by_cr (last_ending g)) (is_by_lf (last_ending h) && is_empty (unended_bytes h)) k in
     let n = and_parts (is_by_lf (last_ending h)) (is_empty (unended_bytes h)) m.1 in
     record { by_cr = by_cr-is (last_ending g) m.0; by_lf = by_lf-is (last_ending h) n.0; empty = empty-is (unended_bytes h) n.1 }
 
--- their bytes are those of the first with a CR LF
+-- Their bytes are those of the first group with a CR LF.
 pub one-bytes : (g h : List HeldLine) → IsOneEnding g h → group_bytes (with_ending (Some crlf) g) ≡ group_bytes g ++ group_bytes h
 one-bytes [] h k = let s = k.by_cr in absurd (cc)
 one-bytes (i ∷ is) h k =
@@ -135,7 +136,7 @@ one-bytes (i ∷ is) h k =
     ∙ sym (append_assoc x (carriage_return ∷ []) (line_feed ∷ []))
     ∙ sym (ap₂ (λ u v. u ++ v) (bytes-unended (i ∷ is) ∙ ap (λ o. x ++ ending_bytes o) k.by_cr) (bytes-unended h ∙ ap₂ (λ u o. u ++ ending_bytes o) k.empty k.by_lf))
 
--- The bytes stay.
+-- The bytes are unchanged.
 pub merged-bytes : (gs : List (List HeldLine)) → groups_bytes (merged gs) ≡ groups_bytes gs
 merged-bytes [] = refl
 merged-bytes (g ∷ []) = refl
@@ -149,13 +150,13 @@ merged-bytes (g ∷ h ∷ gs) = elim (cases_Bool (are_one_ending (slot_of g) (sl
 
 -- ---- which groups begin with an LF
 
--- the first line of several is open
+-- The first of several lines of a group is open.
 fit-open_line : (h i : HeldLine) (hs : List HeldLine) → IsLastFit (h ∷ i ∷ hs) → is_open h.text ≡ true
 fit-open_line h i hs (inl (inl w)) = absurd (cc (w.1))
 fit-open_line h i hs (inl (inr w)) = w.1.0
 fit-open_line h i hs (inr u) = u.1.0
 
--- no LF comes before the last ending of a group
+-- No LF comes before the last line ending of a group.
 unended-no_lf : (e : Encoding) (o : Option LineEnding) (g : List HeldLine) → AreLinesBy e o g → IsLastFit g → begins_with_lf (unended_bytes g) ≡ false
 unended-no_lf e o [] a f = absurd a
 unended-no_lf e o (h ∷ []) a f = plain-no_lf h.bytes a.0
@@ -166,7 +167,7 @@ unended-no_lf e o (h ∷ i ∷ hs) a f =
     closed : is_open h.text ≡ false → is_open h.text ≡ true → ⊥
     closed p q = cc
 
--- After a CR no LF comes first, where the two are no one ending.
+-- After a CR, no LF comes first unless the two are one line ending.
 after-cr : (e : Encoding) (g h : List HeldLine) (gs : List (List HeldLine)) → AreInTurn e (h ∷ gs) → last_ending g ≡ Some cr
     → are_one_ending (slot_of g) (slot_of h) ≡ false
     → begins_with_lf (groups_bytes (h ∷ gs)) ≡ false
@@ -193,12 +194,13 @@ after-cr e g h gs a s k = of-turn gs a
 
 -- ---- the groups of the bytes
 
--- after an LF alone there are more
+-- After a single LF, other groups follow.
 pub after-lf : (e : Encoding) (h : List HeldLine) (gs : List (List HeldLine)) → AreInTurn e (h ∷ gs) → last_ending h ≡ Some lf → AreInTurn e gs
 after-lf e h [] a s = let t = ending-of e None h a.0 in absurd (cc)
 after-lf e h (i ∷ gs) a s = a.1
 
--- the lines of the bytes of groups in turn are theirs, with each CR and the LF alone after it made one ending
+-- The lines of the bytes of groups in turn are the groups' lines, with each CR and the single LF after it made one line
+-- ending.
 merged-lines : (e : Encoding) (gs : List (List HeldLine)) → is_editable e ≡ true → AreInTurn e gs → held_lines_of e (groups_bytes gs) ≡ held_in (merged gs)
 merged-lines e [] ok a = absurd a
 merged-lines e (g ∷ []) ok a = ap (held_lines_of e) (append-nil (group_bytes g)) ∙ lines-last e g ok a.0 ∙ sym (append-nil g)
@@ -215,12 +217,12 @@ merged-lines e (g ∷ h ∷ gs) ok ((by, a, w), r) = elim (cases_Bool (are_one_e
       ∙ ap held_in (sym (merged-two g h gs k))
 ]
 
--- a whole group in front of groups of which all but the last are whole
+-- A whole group before groups, all of which but the last are whole.
 fit-before : (g : List HeldLine) (gs : List (List HeldLine)) → IsWhole (as_lines g) → AreFit gs → AreFit (g ∷ gs)
 fit-before g [] w f = inl w
 fit-before g (h ∷ gs) w f = (w, f)
 
--- with such endings made one, all groups in turn but the last are whole
+-- With such line endings made one, all groups in turn but the last are whole.
 merged-fit : (e : Encoding) (gs : List (List HeldLine)) → AreInTurn e gs → AreFit (merged gs)
 merged-fit e [] a = absurd a
 merged-fit e (g ∷ []) a = a.1
@@ -232,7 +234,7 @@ merged-fit e (g ∷ h ∷ gs) ((by, a, w), r) = elim (cases_Bool (are_one_ending
   | inr k ↦ subst AreFit (sym (merged-two g h gs k)) (fit-before g (merged (h ∷ gs)) w (merged-fit e (h ∷ gs) r))
 ]
 
--- groups of which all but the last are whole, and the last whole or ending open, are the groups of their lines
+-- If all groups but the last are whole, and the last is whole or ends open, they are the groups of their lines.
 fit-groups : (gs : List (List HeldLine)) → AreFit gs → IsGroups (as_lines (held_in gs)) end (as_groups gs)
 fit-groups [] f = record { whole = []; unfinished = []; are_lines = refl; are_whole = tt; is_unfinished = tt; are_groups = refl }
 fit-groups (g ∷ []) (inl w) = record {
@@ -263,7 +265,7 @@ fit-groups (g ∷ h ∷ gs) (w, f) =
       are_groups = ap (λ v. as_lines g ∷ v) {y = m.whole ++ last_group m.unfinished end} m.are_groups;
     }
 
--- Groups in turn, with each CR and LF one ending, are the groups of their bytes.
+-- Groups in turn, with each CR and single LF made one line ending, are the groups of their bytes.
 pub merged-groups : (e : Encoding) (gs : List (List HeldLine)) → is_editable e ≡ true → AreInTurn e gs → AreGroupsOf e (groups_bytes gs) (merged gs)
 merged-groups e gs ok a =
     let body = groups_bytes gs in
@@ -274,17 +276,17 @@ merged-groups e gs ok a =
       grouped = fit-groups (merged gs) (merged-fit e gs a);
     }
 
--- ---- what else stays
+-- ---- what else is unchanged
 
--- which groups have the key
+-- Whether a group has the key doesn't depend on its last line ending.
 pub key-with : (key : List ℕ) (o : Option LineEnding) (g : List HeldLine) → HasKey key g → HasKey key (with_ending o g)
 key-with key o g (value, h) = (value, subst (λ v. IsOutcome (joined v) (given (pair key value))) (sym (texts-with o g)) h)
 
--- and which have not, under any last ending
+-- Whether a group doesn't have the key doesn't depend on its last line ending.
 no_key-with : (key : List ℕ) (o : Option LineEnding) (g : List HeldLine) → ¬ (HasKey key g) → ¬ (HasKey key (with_ending o g))
 no_key-with key o g n (value, h) = n (value, subst (λ v. IsOutcome (joined v) (given (pair key value))) (texts-with o g) h)
 
--- where no group has the key, none has it once endings are made one
+-- If no group has the key, none has it once line endings are made one.
 pub merged-none : (key : List ℕ) (gs : List (List HeldLine)) → NoneHasKey key gs → NoneHasKey key (merged gs)
 merged-none key [] n = tt
 merged-none key (g ∷ []) n = n
@@ -298,7 +300,7 @@ pub final-next : (g : List HeldLine) (gs : List (List HeldLine)) → gs ≢ [] �
 final-next g [] n = absurd (n refl)
 final-next g (h ∷ gs) n = refl
 
--- where there is a group, there is one once endings are made one
+-- If there is a group, there is one once line endings are made one.
 merged-some : (gs : List (List HeldLine)) → gs ≢ [] → merged gs ≢ []
 merged-some [] n = n
 merged-some (g ∷ []) n = n
@@ -307,12 +309,12 @@ merged-some (g ∷ h ∷ gs) n = elim (cases_Bool (are_one_ending (slot_of g) (s
   | inr k ↦ let s = merged-two g h gs k in λ q. cc
 ]
 
--- groups in turn are one at least
+-- Groups in turn are at least one.
 pub turn-some : (e : Encoding) (gs : List (List HeldLine)) → AreInTurn e gs → gs ≢ []
 turn-some e [] a q = a
 turn-some e (g ∷ gs) a q = cc
 
--- once endings are made one, the last group is the same
+-- Once line endings are made one, the last group is the same.
 pub merged-final : (e : Encoding) (gs : List (List HeldLine)) → AreInTurn e gs → final_group (merged gs) ≡ final_group gs
 merged-final e [] a = absurd a
 merged-final e (g ∷ []) a = refl

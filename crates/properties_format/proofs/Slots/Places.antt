@@ -1,4 +1,4 @@
--- The last slot with a key, and where a key is put.
+-- The last slot with a key, and where a key is set.
 use Rattle.std.proofs.Common.{◌≡◌, ℕ, Bool, true, false, List, [], ◌∷◌, ◌++◌, Option, Some, None, refl, ap, ◌∙◌, inl, inr, if◌then◌else◌}
 use Rattle.std.proofs.lemmas.Bool.{cases_Bool}
 use Rattle.std.proofs.lemmas.Slice.Eq.{bytes_eq-Decides}
@@ -13,18 +13,18 @@ abbrev pub NoSlotHas : List ℕ → List Slot → Type 0
 NoSlotHas key [] = Unit {0}
 NoSlotHas key (s ∷ ss) = (slot_has key s ≡ false) × NoSlotHas key ss
 
--- where no slot has the key, there is no last one with it
+-- If no slot has the key, there is no last one with it.
 pub last_slot-none : (key : List ℕ) (ss : List Slot) → NoSlotHas key ss → last_slot key ss ≡ None
 last_slot-none key [] n = refl
 last_slot-none key (s ∷ ss) n = let k = n.0 in ap (slot_after key s ss) (last_slot-none key ss n.1) ∙ rw k refl
 
--- a slot that has the key, with none after it that has it, is the last one
+-- A slot with the key is the last one if no later slot has the key.
 pub last_slot-some : (key : List ℕ) (before : List Slot) (s : Slot) (after : List Slot) → slot_has key s ≡ true → NoSlotHas key after
     → last_slot key (before ++ s ∷ after) ≡ Some (record { before = before; slot = s; after = after })
 last_slot-some key [] s after k n = ap (slot_after key s after) (last_slot-none key after n) ∙ rw k refl
 last_slot-some key (b ∷ before) s after k n = ap (slot_after key b (before ++ s ∷ after)) (last_slot-some key before s after k n)
 
--- the place is that of the last slot with the key
+-- The place is that of the last slot with the key.
 pub record IsLastSlot (key : List ℕ) (ss : List Slot) (p : SlotPlace) : Type 0 where
   pub division : ss ≡ p.before ++ p.slot ∷ p.after
   pub has : slot_has key p.slot ≡ true
@@ -34,7 +34,7 @@ abbrev pub IsSlotPlace : List ℕ → List Slot → Option SlotPlace → Type 0
 IsSlotPlace key ss None = NoSlotHas key ss
 IsSlotPlace key ss (Some p) = IsLastSlot key ss p
 
--- What is computed is the place of the last slot with the key.
+-- The computed place is that of the last slot with the key.
 pub last_slot-meets : (key : List ℕ) (ss : List Slot) → IsSlotPlace key ss (last_slot key ss)
 last_slot-meets key [] = tt
 last_slot-meets key (s ∷ ss) = of-place (last_slot key ss) (last_slot-meets key ss)
@@ -46,13 +46,13 @@ last_slot-meets key (s ∷ ss) = of-place (last_slot key ss) (last_slot-meets ke
       | inr k ↦ rw k (k, h)
     ]
 
--- ---- a key is put
+-- ---- setting a key
 
 -- the slot of a printed pair has its key
 pub pair_slot-has : (e : Encoding) (first : Bool) (key value : List ℕ) (ending : Option LineEnding) → slot_has key (pair_slot e first key value ending) ≡ true
 pair_slot-has e first key value ending = (bytes_eq-Decides key key).1 refl
 
--- The pair takes the place of the last slot with the key.
+-- The pair replaces the last slot with the key.
 pub put-replaces : (e : Encoding) (key value : List ℕ) (s : Slots) (before : List Slot) (t : Slot) (after : List Slot) → s.list ≡ before ++ t ∷ after
     → slot_has key t ≡ true → NoSlotHas key after
     → slots_put_at e key value s (last_slot key s.list)
@@ -62,7 +62,7 @@ pub put-replaces : (e : Encoding) (key value : List ℕ) (s : Slots) (before : L
     }
 put-replaces e key value s before t after d k n = ap (slots_put_at e key value s) (ap (last_slot key) d ∙ last_slot-some key before t after k n)
 
--- Where no slot has the key it comes after the closed slots.
+-- If no slot has the key, the pair comes after the ended slots.
 pub put-appends : (e : Encoding) (key value : List ℕ) (s : Slots) → NoSlotHas key s.list
     → slots_put_at e key value s (last_slot key s.list)
     ≡ record {
@@ -71,14 +71,14 @@ pub put-appends : (e : Encoding) (key value : List ℕ) (s : Slots) → NoSlotHa
     }
 put-appends e key value s n = ap (slots_put_at e key value s) (last_slot-none key s.list n)
 
--- Putting a key twice puts it once, with the later value.
+-- Setting a key twice sets it once, to the later value.
 pub put-twice : (e : Encoding) (key first second : List ℕ) (s : Slots)
     → let t : Slots = slots_put_at e key first s (last_slot key s.list) in
     let twice : Slots = slots_put_at e key second t (last_slot key t.list) in
     let once : Slots = slots_put_at e key second s (last_slot key s.list) in twice.list ≡ once.list
 put-twice e key first second s = of-place (last_slot key s.list) (last_slot-meets key s.list)
   where
-    -- the second takes the place of the first
+    -- The second pair replaces the first.
     again : (t : Slots) (before : List Slot) (ending : Option LineEnding) (after : List Slot)
         → t.list ≡ before ++ pair_slot e (is_first before) key first ending ∷ after → NoSlotHas key after
         → (slots_put_at e key second t (last_slot key t.list)).list ≡ before ++ pair_slot e (is_first before) key second ending ∷ after

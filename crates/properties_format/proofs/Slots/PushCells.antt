@@ -10,16 +10,16 @@ use Rattle.properties_format.proofs.Slots.PutCell.{ends-after}
 
 -- ---- one more slot
 
--- one more group is one more slot
+-- One more group is one more slot.
 pub slot_list-push : (gs : List (List HeldLine)) (g : List HeldLine) → slot_list (gs ++ g ∷ []) ≡ slot_list gs ++ slot_of g ∷ []
 slot_list-push [] g = refl
 slot_list-push (f ∷ gs) g = ap (λ v. slot_of f ∷ v) (slot_list-push gs g)
 
--- one more cell that is left is one more slot
+-- One more cell that isn't removed is one more slot.
 pub live-push : (cells : List Cell) (s : Slot) → live (cells ++ record { slot = s; alive = true } ∷ []) ≡ live cells ++ s ∷ []
 live-push cells s = live-append cells (record { slot = s; alive = true } ∷ [])
 
--- its place is the last of its key
+-- Its index is the last of its key.
 pub places-push : (key : List ℕ) (cells : List Cell) (s : Slot)
     → places key (cells ++ record { slot = s; alive = true } ∷ []) ≡ places key cells ++ (if slot_has key s then length cells ∷ [] else [])
 places-push key cells s =
@@ -27,20 +27,20 @@ places-push key cells s =
     places-append key 0 cells (record { slot = s; alive = true } ∷ [])
     ∙ ap (λ p. places key cells ++ (if slot_has key s then p ∷ [] else [])) n
 
--- the last cell is then left
+-- The last cell isn't removed then.
 pub ends-push : (cells : List Cell) (s : Slot) → EndsAlive (cells ++ record { slot = s; alive = true } ∷ [])
 ends-push cells s = ends-after cells (record { slot = s; alive = true } ∷ []) refl
 
 -- ---- the bytes
 
--- the bytes of slots and then of more slots
+-- The bytes of two lists of slots.
 pub slots_bytes-append : (xs ys : List Slot) → slots_bytes (xs ++ ys) ≡ slots_bytes xs ++ slots_bytes ys
 slots_bytes-append [] ys = refl
 slots_bytes-append (x ∷ xs) ys =
     ap (λ v. (x.bytes ++ ending_bytes x.ending) ++ v) (slots_bytes-append xs ys)
     ∙ sym (append_assoc (x.bytes ++ ending_bytes x.ending) (slots_bytes xs) (slots_bytes ys))
 
--- the bytes of one more cell come last
+-- The bytes of one more cell come last.
 pub bytes-push : (cells : List Cell) (c : Cell) → slots_bytes (live (cells ++ c ∷ [])) ≡ slots_bytes (live cells) ++ cell_bytes c
 bytes-push cells c =
     ap slots_bytes (live-append cells (c ∷ [])) ∙ slots_bytes-append (live cells) (live (c ∷ [])) ∙ ap (λ v. slots_bytes (live cells) ++ v) one
@@ -51,7 +51,7 @@ bytes-push cells c =
       | inr k ↦ ap slots_bytes (live-dead c [] k) ∙ sym (rw k refl)
     ]
 
--- The bytes of the cells up to a place, and of the cell there.
+-- The bytes of the cells up to an index, followed by those of the cell there.
 pub bytes-take : (cells : List Cell) (i : ℕ) (d : Cell) → i < length cells
     → slots_bytes (live (take (i + 1) cells)) ≡ slots_bytes (live (take i cells)) ++ cell_bytes (get_or cells i d)
 bytes-take cells i d h =

@@ -1,4 +1,4 @@
--- A key put into the slots of groups: the edited slots are those of the groups of the edited body.
+-- A key set in the slots of groups: the edited slots are those of the groups of the edited body.
 use Rattle.std.proofs.Common.{◌≡◌, ◌≢◌, ◌⊎◌, All, ℕ, ◌&&◌, Bool, true, false, List, [], ◌∷◌, ◌++◌, Option, Some, None, refl, ap, ap₂, sym, ◌∙◌, inl, inr, append_assoc, append-nil, subst, if◌then◌else◌}
 use Rattle.std.proofs.lemmas.Bool.{cases_Bool, and_parts}
 use Rattle.properties_format.specs.Text.{scalar, LineEnding, lf, cr, crlf, line_ending_text, line_feed}
@@ -25,27 +25,27 @@ use Rattle.properties_format.proofs.Slots.Removed.{slot-has, empty_group, empty-
 
 -- ---- the printed pair
 
--- the line of a printed pair, a group by itself
+-- the line of a printed pair, as a group
 abbrev pair_group : Encoding → Bool → List ℕ → List ℕ → Option LineEnding → List HeldLine
 pair_group e first key value ending = record { bytes = pair_bytes e first key value; text = pair_text e first key value; ending = ending } ∷ []
 
--- it is one line with its text and this ending
+-- It is one line with its text and this line ending.
 pair-lines : (e : Encoding) (first : Bool) (key value : List ℕ) (o : Option LineEnding) → is_editable e ≡ true → All scalar key → All scalar value
     → AreLinesBy e o (pair_group e first key value o)
 pair-lines e first key value o ok k v = (pair-plain e first key value ok k v, sym (pair-decoded e first key value ok k v), refl)
 
--- its slot is that of the printed pair
+-- Its slot is that of the printed pair.
 pair-slot : (e : Encoding) (first : Bool) (key value : List ℕ) (o : Option LineEnding) → All scalar key → All scalar value
     → slot_of (pair_group e first key value o) ≡ pair_slot e first key value o
 pair-slot e first key value o k v =
     ap (λ w. record { bytes = pair_bytes e first key value; ending = o; key = key_told w }) (pair-outcome e first key value k v)
 
 -- a text that has characters is told not to be empty
-some-empty : (x : List ℕ) → x ≢ [] → is_empty x ≡ false
+pub some-empty : (x : List ℕ) → x ≢ [] → is_empty x ≡ false
 some-empty [] n = absurd (n refl)
 some-empty (c ∷ x) n = refl
 
--- a printed pair has bytes
+-- A printed pair has bytes.
 pub pair-some : (e : Encoding) (first : Bool) (key value : List ℕ) → pair_bytes e first key value ≢ []
 pair-some e first key value = let a = pair-ascii e first key value in some (pair_bytes e first key value) a.0 a.1 a.2 a.3
   where
@@ -53,7 +53,7 @@ pair-some e first key value = let a = pair-ascii e first key value in some (pair
     some x [] c v s q = cc
     some x (d ∷ u) c v s q = cc
 
--- another pair after it is parted from it by an LF
+-- Another pair after it is separated from it by an LF.
 pair-closing : (e : Encoding) (first : Bool) (key value : List ℕ) → is_editable e ≡ true → All scalar key → All scalar value
     → closing_of (pair_group e first key value None) ≡ ended_by lf
 pair-closing e first key value ok k v =
@@ -67,26 +67,26 @@ pair-closing e first key value ok k v =
     closed (inl w) = let s = w.0 in rw s refl
     closed (inr w) = let s = w.0 in let t = w.1 in rw (s, t) refl
 
--- ---- groups in front
+-- ---- groups at the front
 
-abbrev AreEnded : Encoding → List (List HeldLine) → Type 0
+abbrev pub AreEnded : Encoding → List (List HeldLine) → Type 0
 AreEnded e [] = Unit {0}
 AreEnded e (g ∷ gs) = IsEndedGroup e g × AreEnded e gs
 
 -- groups that have endings, in front of groups in turn, stand in turn with them
-ended-turn : (e : Encoding) (gs hs : List (List HeldLine)) → AreEnded e gs → AreInTurn e hs → AreInTurn e (gs ++ hs)
+pub ended-turn : (e : Encoding) (gs hs : List (List HeldLine)) → AreEnded e gs → AreInTurn e hs → AreInTurn e (gs ++ hs)
 ended-turn e [] hs a b = b
 ended-turn e (g ∷ gs) hs a b = turn-before e g (gs ++ hs) a.0 (ended-turn e gs hs a.1 b)
 
 -- of groups in turn those before one have endings, and from that one on they stand in turn
-turn-split : (e : Encoding) (before : List (List HeldLine)) (g : List HeldLine) (after : List (List HeldLine)) → AreInTurn e (before ++ g ∷ after)
+pub turn-split : (e : Encoding) (before : List (List HeldLine)) (g : List HeldLine) (after : List (List HeldLine)) → AreInTurn e (before ++ g ∷ after)
     → AreEnded e before × AreInTurn e (g ∷ after)
 turn-split e [] g after a = (tt, a)
 turn-split e (b ∷ []) g after a = ((a.0, tt), a.1)
 turn-split e (b ∷ c ∷ before) g after a = let m = turn-split e (c ∷ before) g after a.1 in ((a.0, m.0), m.1)
 
 -- where they have no bytes there are none
-ended-first : (e : Encoding) (gs : List (List HeldLine)) → AreEnded e gs → is_empty (groups_bytes gs) ≡ is_first (slot_list gs)
+pub ended-first : (e : Encoding) (gs : List (List HeldLine)) → AreEnded e gs → is_empty (groups_bytes gs) ≡ is_first (slot_list gs)
 ended-first e [] a = refl
 ended-first e (g ∷ gs) ((by, a, w), r) = some (group_bytes g) (lines-some e by g a)
   where
@@ -95,12 +95,12 @@ ended-first e (g ∷ gs) ((by, a, w), r) = some (group_bytes g) (lines-some e by
     some (c ∷ x) n = refl
 
 -- the slots of groups and then of more groups
-slot_list-append : (gs hs : List (List HeldLine)) → slot_list (gs ++ hs) ≡ slot_list gs ++ slot_list hs
+pub slot_list-append : (gs hs : List (List HeldLine)) → slot_list (gs ++ hs) ≡ slot_list gs ++ slot_list hs
 slot_list-append [] hs = refl
 slot_list-append (g ∷ gs) hs = ap (λ v. slot_of g ∷ v) (slot_list-append gs hs)
 
 -- groups in front don't change which is the last
-final-after : (gs : List (List HeldLine)) (g : List HeldLine) (hs : List (List HeldLine)) → final_group (gs ++ g ∷ hs) ≡ final_group (g ∷ hs)
+pub final-after : (gs : List (List HeldLine)) (g : List HeldLine) (hs : List (List HeldLine)) → final_group (gs ++ g ∷ hs) ≡ final_group (g ∷ hs)
 final-after [] g hs = refl
 final-after (f ∷ []) g hs = refl
 final-after (f ∷ i ∷ gs) g hs = final-after (i ∷ gs) g hs
@@ -108,14 +108,14 @@ final-after (f ∷ i ∷ gs) g hs = final-after (i ∷ gs) g hs
 -- ---- the last slot with a key
 
 -- where no group has the key, no slot has it
-none-slots : (key : List ℕ) (gs : List (List HeldLine)) → NoneHasKey key gs → NoSlotHas key (slot_list gs)
+pub none-slots : (key : List ℕ) (gs : List (List HeldLine)) → NoneHasKey key gs → NoSlotHas key (slot_list gs)
 none-slots key [] n = tt
 none-slots key (g ∷ gs) n = (slot-has key g ∙ no_key-test key g n.0, none-slots key gs n.1)
 
--- ---- the last pair is replaced
+-- ---- replacing the last pair
 
 -- a pair is no LF alone
-pair-no_lf : (e : Encoding) (key : List ℕ) (o : Option LineEnding) (g : List HeldLine) → AreLinesBy e o g → HasKey key g
+pub pair-no_lf : (e : Encoding) (key : List ℕ) (o : Option LineEnding) (g : List HeldLine) → AreLinesBy e o g → HasKey key g
     → (is_by_lf (last_ending g) && is_empty (unended_bytes g)) ≡ false
 pair-no_lf e key o g a h = elim (cases_Bool (is_by_lf (last_ending g) && is_empty (unended_bytes g))) [
   | inl k ↦
@@ -127,7 +127,7 @@ pair-no_lf e key o g a h = elim (cases_Bool (is_by_lf (last_ending g) && is_empt
 ]
 
 -- such a group takes no part in the ending before it
-merged-split : (before : List (List HeldLine)) (g : List HeldLine) (after : List (List HeldLine))
+pub merged-split : (before : List (List HeldLine)) (g : List HeldLine) (after : List (List HeldLine))
     → (is_by_lf (last_ending g) && is_empty (unended_bytes g)) ≡ false
     → merged (before ++ g ∷ after) ≡ merged before ++ merged (g ∷ after)
 merged-split [] g after n = refl
@@ -147,7 +147,7 @@ merged-split (b ∷ c ∷ before) g after n = elim (cases_Bool (are_one_ending (
       ∙ ap (λ v. v ++ merged (g ∷ after)) (sym (merged-two b c before k))
 ]
 
--- a group and what comes after it, with the endings made one
+-- A group and what follows it, with the line endings made one.
 record IsMergedAt (key : List ℕ) (g : List HeldLine) (after : List (List HeldLine)) : Type 0 where
   group : List HeldLine
   rest : List (List HeldLine)
@@ -156,7 +156,7 @@ record IsMergedAt (key : List ℕ) (g : List HeldLine) (after : List (List HeldL
   none : NoneHasKey key after → NoneHasKey key rest
   bytes : ending_bytes (last_ending group) ++ groups_bytes rest ≡ ending_bytes (last_ending g) ++ groups_bytes after
 
--- every group, with what comes after it, comes to such a group and rest
+-- Every group, with what follows it, is such a group and rest once line endings are made one.
 merged-at : (key : List ℕ) (g : List HeldLine) (after : List (List HeldLine)) → IsMergedAt key g after
 merged-at key g [] = record { group = g; rest = []; is = refl; has = λ h. h; none = λ n. n; bytes = refl }
 merged-at key g (h ∷ after) = elim (cases_Bool (are_one_ending (slot_of g) (slot_of h))) [
@@ -187,14 +187,14 @@ merged-at key g (h ∷ after) = elim (cases_Bool (are_one_ending (slot_of g) (sl
     one-last [] s = absurd (cc)
     one-last (i ∷ is) s = ending-with (Some crlf) i is
 
--- Groups whose bytes are the edited body and whose slots are the edited slots.
+-- Groups whose bytes are the edited body, and whose slots are the edited slots.
 pub record ArePut (e : Encoding) (source key value : List ℕ) (gs : List (List HeldLine)) : Type 0 where
   pub groups : List (List HeldLine)
   pub in_turn : AreInTurn e groups
   pub edited : IsReplaced e (merged gs) key value (groups_bytes groups) ⊎ IsAppended e source (merged gs) key value (groups_bytes groups)
   pub slots : slots_of groups ≡ slots_put_at e key value (slots_of gs) (last_slot key (slot_list gs))
 
--- the printed pair takes the place of the last group in turn that has the key
+-- The printed pair replaces the last group in turn that has the key.
 replaced : (e : Encoding) (source key value : List ℕ) (before : List (List HeldLine)) (g : List HeldLine) (after : List (List HeldLine))
     → is_editable e ≡ true → All scalar key → All scalar value → AreInTurn e (before ++ g ∷ after) → HasKey key g → NoneHasKey key after
     → ArePut e source key value (before ++ g ∷ after)
@@ -262,9 +262,9 @@ replaced e source key value before g after ok k v a has no_later = record {
     at-end (i ∷ after) r =
         ap closing_of (final-after before (pair_group e first key value (last_ending g)) (i ∷ after) ∙ sym (final-after before g (i ∷ after)))
 
--- ---- a pair is appended
+-- ---- appending a pair
 
--- the bytes end as the last group does, where that is no empty line
+-- The bytes end as the last group does, unless that is an empty line.
 pub ends-last : (e : Encoding) (gs : List (List HeldLine)) → AreInTurn e gs → is_empty_line (final_group gs) ≡ false
     → (groups_bytes gs ≢ []) × (ends_in_cr (groups_bytes gs) ≡ ends_in_cr (group_bytes (final_group gs)))
 ends-last e [] a n = absurd a
@@ -291,10 +291,10 @@ ends-last e (g ∷ h ∷ gs) (a, r) n =
     ends-back x (c ∷ y) k = ends_in_cr-append x c y
 
 -- a slot by its bytes, ending and key
-slot-same : (s t : Slot) → s.bytes ≡ t.bytes → s.ending ≡ t.ending → s.key ≡ t.key → s ≡ t
+pub slot-same : (s t : Slot) → s.bytes ≡ t.bytes → s.ending ≡ t.ending → s.key ≡ t.key → s ≡ t
 slot-same s t p q r = ap₂ (λ u v. record { bytes = u; ending = v; key = s.key }) p q ∙ ap (λ v. record { bytes = t.bytes; ending = t.ending; key = v }) r
 
--- one more line at the end: up to its ending, the bytes are those of the group and of that line
+-- One more line at the end: up to its line ending, the bytes are those of the group and of that line.
 unended-push : (g : List HeldLine) (l : HeldLine) → g ≢ [] → unended_bytes (g ++ l ∷ []) ≡ group_bytes g ++ l.bytes
 unended-push [] l n = absurd (n refl)
 unended-push (h ∷ []) l n = sym (append_assoc h.bytes (ending_bytes h.ending) l.bytes) ∙ ap (λ v. (h.bytes ++ v) ++ l.bytes) (sym (append-nil (ending_bytes h.ending)))
@@ -303,7 +303,8 @@ unended-push (h ∷ i ∷ g) l n =
     ∙ ap (λ v. h.bytes ++ v) (sym (append_assoc (ending_bytes h.ending) (group_bytes (i ∷ g)) l.bytes))
     ∙ sym (append_assoc h.bytes (ending_bytes h.ending ++ group_bytes (i ∷ g)) l.bytes)
 
--- Groups with endings, whose bytes are those of the body up to a pair that is appended, and whose slots are the closed slots.
+-- Groups with line endings, whose bytes are those of the body up to an appended pair, and whose slots are the ended
+-- slots.
 record AreClosed (e : Encoding) (source : List ℕ) (gs : List (List HeldLine)) : Type 0 where
   groups : List (List HeldLine)
   are_ended : AreEnded e groups
@@ -311,14 +312,14 @@ record AreClosed (e : Encoding) (source : List ℕ) (gs : List (List HeldLine)) 
   slots : slot_list groups ≡ closed_slots (closing_of (final_group gs)) (slot_list gs)
 
 -- the last group with an ending, as bytes and as a slot
-bytes-ended : (e : Encoding) (by : LineEnding) (g : List HeldLine) → AreLinesBy e None g
+pub bytes-ended : (e : Encoding) (by : LineEnding) (g : List HeldLine) → AreLinesBy e None g
     → group_bytes (with_ending (Some by) g) ≡ group_bytes g ++ line_ending_text by
 bytes-ended e by [] a = absurd a
 bytes-ended e by (h ∷ hs) a =
     bytes-with (Some by) h hs ∙ ap (λ v. v ++ line_ending_text by) (sym (bytes-of e None (h ∷ hs) a ∙ append-nil (unended_bytes (h ∷ hs))))
 
 -- the slot has that ending, and the same bytes and key
-slot-ended : (e : Encoding) (by : LineEnding) (g : List HeldLine) → AreLinesBy e None g
+pub slot-ended : (e : Encoding) (by : LineEnding) (g : List HeldLine) → AreLinesBy e None g
     → slot_of (with_ending (Some by) g) ≡ record { bytes = unended_bytes g; ending = Some by; key = (slot_of g).key }
 slot-ended e by [] a = absurd a
 slot-ended e by (h ∷ hs) a =
@@ -326,12 +327,12 @@ slot-ended e by (h ∷ hs) a =
     (unended-with (Some by) (h ∷ hs)) (ending-with (Some by) h hs) (ap (λ v. key_told (outcome_of (joined v))) (texts-with (Some by) (h ∷ hs)))
 
 -- a group with another last ending has lines still
-with-some : (o : Option LineEnding) (h : HeldLine) (hs : List HeldLine) → with_ending o (h ∷ hs) ≢ []
+pub with-some : (o : Option LineEnding) (h : HeldLine) (hs : List HeldLine) → with_ending o (h ∷ hs) ≢ []
 with-some o h [] q = cc
 with-some o h (i ∷ hs) q = cc
 
 -- and with an empty line after it, where it ends open
-slot-closed : (e : Encoding) (by : LineEnding) (g : List HeldLine) → AreLinesBy e None g → EndsOpen (as_lines g)
+pub slot-closed : (e : Encoding) (by : LineEnding) (g : List HeldLine) → AreLinesBy e None g → EndsOpen (as_lines g)
     → slot_of (with_ending (Some by) g ++ empty_group (Some by))
     ≡ record { bytes = unended_bytes g ++ line_ending_text by; ending = Some by; key = (slot_of g).key }
 slot-closed e by [] a u = absurd a
@@ -345,7 +346,8 @@ slot-closed e by (h ∷ hs) a u =
     (ap (λ v. outcome_of (joined v)) (as_lines-append w (l ∷ []) ∙ ap (λ v. v ++ record { number = 0; text = [] } ∷ []) (texts-with (Some by) (h ∷ hs)))
     ∙ ap outcome_of (closed-by_empty (as_lines (h ∷ hs)) u).1))
 
--- a last group alone is closed, or left out where it is empty, if the ending that is added is safe after it
+-- A single last group is ended, or left out if it is empty, provided that the added line ending forms no CR LF after
+-- it.
 close-last : (e : Encoding) (source : List ℕ) (g : List HeldLine) → AreLinesBy e None g → IsLastFit g
     → (is_empty_line g ≡ false → added_ending source ≡ line_ending_text (safe_ending (group_bytes g)))
     → AreClosed e source (g ∷ [])
@@ -407,7 +409,7 @@ close-last e source g a f same = elim (cases_Bool (is_empty_line g)) [
     one : is_empty_line g ≡ false → is_left_open g ≡ false → parting source g ≡ added_ending source
     one x y = rw (x, y) refl
 
--- and so are groups in turn
+-- Groups in turn are ended in this way.
 close : (e : Encoding) (source : List ℕ) (gs : List (List HeldLine)) → AreInTurn e gs
     → (is_empty_line (final_group gs) ≡ false → added_ending source ≡ line_ending_text (safe_ending (group_bytes (final_group gs))))
     → AreClosed e source gs
@@ -422,7 +424,7 @@ close e source (g ∷ h ∷ gs) (a, r) same =
       slots = ap (λ v. slot_of g ∷ v) m.slots;
     }
 
--- a key that no group in turn has comes after all of them
+-- If no group in turn has the key, a pair with it comes after all of them.
 appended : (e : Encoding) (source key value : List ℕ) (gs : List (List HeldLine)) → is_editable e ≡ true → All scalar key → All scalar value
     → ends_in_cr source ≡ ends_in_cr (groups_bytes gs)
     → AreInTurn e gs → NoneHasKey key gs → ArePut e source key value gs
@@ -461,7 +463,7 @@ appended e source key value gs ok k v alike a none = record {
     new : List HeldLine
     new = pair_group e (is_first (slot_list (close e source gs a same).groups)) key value (Some lf)
 
--- A key put into the groups: the last pair with it is replaced, or where there is none a new last one comes after all.
+-- A key set in the groups: the last pair with it is replaced, or a new last pair is appended if there is none.
 pub put-in : (e : Encoding) (source key value : List ℕ) (gs : List (List HeldLine)) → is_editable e ≡ true → All scalar key → All scalar value
     → ends_in_cr source ≡ ends_in_cr (groups_bytes gs)
     → AreInTurn e gs → ArePut e source key value gs

@@ -1,4 +1,4 @@
--- A key put into slots in one array: a cell is replaced at its place, or two new ones come last.
+-- A key set in slots in one array: a cell is replaced at its index, or two new ones come last.
 use Rattle.std.proofs.Common.{◌≡◌, ◌<◌, ◌≤◌, ℕ, ◌+◌, suc, zero, Bool, true, false, List, [], ◌∷◌, ◌++◌, length, get_or, set, take, drop, Option, Some, None, refl, ap, ap₂, sym, ◌∙◌, inl, inr, arith, if◌then◌else◌, subst, append_assoc, append-nil}
 use Rattle.std.specs.Prelude.{bytes_eq}
 use Rattle.std.proofs.lemmas.Bool.{cases_Bool}
@@ -11,22 +11,22 @@ use Rattle.properties_format.specs.Reading.Cells.{Cell, live, cell_has, places_f
 use Rattle.properties_format.proofs.Slots.Places.{put-replaces}
 use Rattle.properties_format.proofs.Slots.Cells.{live-alive, live-dead, live-append, cell-at, places-append, last-cell}
 
--- ---- where the last cell is left
+-- ---- if the last cell isn't removed
 
--- where the last of the cells is left, so is the last of those from a place on
+-- If the last of the cells isn't removed, neither is the last of those from an index on.
 pub ends-back : (before : List Cell) (c : Cell) (after : List Cell) → EndsAlive (before ++ c ∷ after) → EndsAlive (c ∷ after)
 ends-back [] c after a = a
 ends-back (b ∷ []) c after a = a
 ends-back (b ∷ d ∷ before) c after a = ends-back (d ∷ before) c after a
 
--- and so it is with any cells in front
+-- This holds with any cells at the front.
 pub ends-after : (xs ys : List Cell) → EndsAlive ys → EndsAlive (xs ++ ys)
 ends-after [] ys a = a
 ends-after (x ∷ []) [] a = absurd a
 ends-after (x ∷ []) (y ∷ ys) a = a
 ends-after (x ∷ z ∷ xs) ys a = ends-after (z ∷ xs) ys a
 
--- where the last cell is left, a slot is left
+-- If the last cell isn't removed, a slot is left.
 ends-live : (cells : List Cell) → EndsAlive cells → is_first (live cells) ≡ false
 ends-live [] a = absurd a
 ends-live (c ∷ []) a = rw a refl
@@ -35,12 +35,12 @@ ends-live (c ∷ d ∷ cs) a = elim (cases_Bool c.alive) [
   | inr k ↦ ap is_first (live-dead c (d ∷ cs) k) ∙ ends-live (d ∷ cs) a
 ]
 
--- the last cell is left where a cell that is left takes the place of the first one
+-- The last cell isn't removed after a cell that isn't removed replaces the first one.
 ends-replaced : (c n : Cell) (after : List Cell) → n.alive ≡ true → EndsAlive (c ∷ after) → EndsAlive (n ∷ after)
 ends-replaced c n [] k a = k
 ends-replaced c n (d ∷ after) k a = a
 
--- the last cell is left where the one at the last place is
+-- The last cell isn't removed if the one at the last index isn't.
 pub ends-at : (cells : List Cell) (i : ℕ) (d : Cell) → i + 1 ≡ length cells → (get_or cells i d).alive ≡ true → EndsAlive cells
 ends-at [] i d h k = absurd (omega arith)
 ends-at (c ∷ []) zero d h k = k
@@ -48,25 +48,25 @@ ends-at (c ∷ []) (suc i) d h k = absurd (omega arith)
 ends-at (c ∷ e ∷ cs) zero d h k = absurd (omega arith)
 ends-at (c ∷ e ∷ cs) (suc i) d h k = ends-at (e ∷ cs) i d (omega arith) k
 
--- The last cell stays left, where another one takes its place.
+-- The last cell still isn't removed after another that isn't removed replaces it.
 pub ends-set : (cells : List Cell) (i : ℕ) (n : Cell) → i < length cells → n.alive ≡ true → EndsAlive cells → EndsAlive (set cells i n)
 ends-set cells i n h k a =
     let m = cell-at cells i n h in
     subst EndsAlive (sym (ap (λ v. set v i n) m.division ∙ set_at m.before (get_or cells i n) m.after n i m.number))
     (ends-after m.before (n ∷ m.after) (ends-replaced (get_or cells i n) n m.after k (ends-back m.before (get_or cells i n) m.after (subst EndsAlive m.division a))))
 
--- the cells after a place are those after its cell
+-- The cells after an index are those after its cell.
 pub drop-next : (before : List Cell) (c : Cell) (after : List Cell) (i : ℕ) → length before ≡ i → drop (i + 1) (before ++ c ∷ after) ≡ after
 drop-next before c after i s =
     let size = length-append before (c ∷ []) in
     let t : length (before ++ c ∷ []) ≡ i + 1 = omega arith in
     ap (drop (i + 1)) (sym (append_assoc before (c ∷ []) after)) ∙ drop_at (before ++ c ∷ []) after (i + 1) t
 
--- Whether a cell is the last one: then no slot comes after it, and else one does.
+-- No slot comes after the last cell.
 pub none-after : (cells : List Cell) (i : ℕ) → i + 1 ≡ length cells → live (drop (i + 1) cells) ≡ []
 none-after cells i s = ap (λ n. live (drop n cells)) s ∙ ap live (sym (ap (drop (length cells)) (append-nil cells)) ∙ drop_at cells [] (length cells) refl)
 
--- and a slot comes after any other cell, where the last one is left
+-- A slot comes after any other cell, if the last one isn't removed.
 pub some-after : (cells : List Cell) (i : ℕ) (d : Cell) → EndsAlive cells → i + 1 < length cells → is_first (live (drop (i + 1) cells)) ≡ false
 some-after cells i d a h =
     let m = cell-at cells i d (omega arith) in
@@ -84,7 +84,7 @@ some-after cells i d a h =
 
 -- ---- which slot is the first
 
--- No slot comes before a place before which no cell is left,
+-- No slot comes before an index if all cells before it are removed.
 pub none-before : (cells : List Cell) (i : ℕ) (d : Cell) → i ≤ length cells → ((k : ℕ) → k < i → (get_or cells k d).alive ≡ false)
     → is_first (live (take i cells)) ≡ true
 none-before cells zero d h a = refl
@@ -92,7 +92,7 @@ none-before [] (suc i) d h a = absurd (omega arith)
 none-before (c ∷ cs) (suc i) d h a =
     ap is_first (live-dead c (take i cs) (a 0 (omega arith))) ∙ none-before cs i d (omega arith) (λ k l. a (suc k) (omega arith))
 
--- and one comes after a cell that is left.
+-- A slot comes before an index if a cell before it isn't removed.
 pub some-before : (cells : List Cell) (i k : ℕ) (d : Cell) → i ≤ length cells → k < i → (get_or cells k d).alive ≡ true
     → is_first (live (take i cells)) ≡ false
 some-before cells zero k d h l a = absurd (omega arith)
@@ -103,9 +103,9 @@ some-before (c ∷ cs) (suc i) (suc k) d h l a = elim (cases_Bool c.alive) [
   | inr m ↦ ap is_first (live-dead c (take i cs) m) ∙ some-before cs i k d (omega arith) (omega arith) a
 ]
 
--- ---- the pair takes the place of another
+-- ---- the pair replaces another
 
--- a slot of the printed pair has the keys that the slot before it has
+-- The slot of the printed pair has the same keys as the slot that it replaces.
 pub pair-same : (e : Encoding) (first : Bool) (key value k : List ℕ) (s : Slot) (o : Option LineEnding) → slot_has key s ≡ true
     → slot_has k (pair_slot e first key value o) ≡ slot_has k s
 pair-same e first key value k s o h = of-key s.key h
@@ -115,13 +115,13 @@ pair-same e first key value k s o h = of-key s.key h
     of-key None h = absurd (cc)
     of-key (Some l) h = ap (λ v. bytes_eq v k) (sym ((bytes_eq-Decides l key).0 h))
 
--- What holds where the last place with a key is i.
+-- What holds if the last index of a key is i.
 pub record IsPlaced (key : List ℕ) (cells : List Cell) (i : ℕ) (d : Cell) : Type 0 where
   pub inside : i < length cells
   pub alive : (get_or cells i d).alive ≡ true
   pub has : slot_has key (get_or cells i d).slot ≡ true
 
--- the last place with a key is within the cells, left, and has the key
+-- The last index of a key is within the cells, and its cell isn't removed and has the key.
 pub placed : (key : List ℕ) (cells : List Cell) (stack : List ℕ) (i : ℕ) (d : Cell) → places key cells ≡ stack ++ i ∷ [] → IsPlaced key cells i d
 placed key cells stack i d s =
     let m = last-cell key 0 cells stack i s in
@@ -136,7 +136,7 @@ placed key cells stack i d s =
       has = ap (λ v. let w : Cell = v in slot_has key w.slot) c ∙ m.has;
     }
 
--- The printed pair takes the last place with its key.
+-- The printed pair replaces the cell at the last index of its key.
 pub put-cell : (e : Encoding) (key value : List ℕ) (cells : List Cell) (closing : Closing) (stack : List ℕ) (i : ℕ) (d : Cell)
     → places key cells ≡ stack ++ i ∷ []
     → slots_put_at e key value (record { list = live cells; closing = closing }) (last_slot key (live cells))
@@ -166,7 +166,7 @@ put-cell e key value cells closing stack i d s =
     })
     (sym front) (sym c)
 
--- The places stay, where another cell that has the same keys takes a place.
+-- The indices are unchanged if a cell with the same keys replaces another.
 pub places-set : (key : List ℕ) (cells : List Cell) (i : ℕ) (n d : Cell) → i < length cells → cell_has key n ≡ cell_has key (get_or cells i d)
     → places key (set cells i n) ≡ places key cells
 places-set key cells i n d h k =

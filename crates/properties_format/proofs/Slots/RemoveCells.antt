@@ -1,4 +1,5 @@
--- A key removed from slots in one array: its places are left out one after the other, each with the LF of its line ending.
+-- A key removed from slots in one array: its cells are removed one after the other, each with the LF of its line
+-- ending.
 use Rattle.std.proofs.Common.{◌≡◌, ◌<◌, ℕ, ◌+◌, ◌-◌, suc, zero, ◌&&◌, true, false, List, [], ◌∷◌, ◌++◌, length, get_or, set, drop, Option, Some, None, refl, ap, ap₂, sym, ◌∙◌, inl, inr, arith}
 use Rattle.std.specs.Prelude.{bytes_eq}
 use Rattle.std.proofs.lemmas.Bool.{cases_Bool, and_parts, and_right}
@@ -11,7 +12,7 @@ use Rattle.properties_format.proofs.Slots.Cells.{live-alive, live-append, live-n
 use Rattle.properties_format.proofs.Slots.PutCell.{drop-next, places-set}
 use Rattle.properties_format.proofs.Slots.Kept.{begins_with_lf_alone, kept-plain}
 
--- ---- the first of the places
+-- ---- the first of the indices
 
 pub record IsFirstCell (key : List ℕ) (n : ℕ) (cells : List Cell) (i : ℕ) (stack : List ℕ) : Type 0 where
   pub before : List Cell
@@ -24,7 +25,8 @@ pub record IsFirstCell (key : List ℕ) (n : ℕ) (cells : List Cell) (i : ℕ) 
   pub no_earlier : NoSlotHas key (live before)
   pub rest : places_from key n (before ++ dead cell ∷ after) ≡ stack
 
--- The first place is that of the first slot that is left and has the key; without it the others are the places.
+-- The first index is that of the first slot that is left and has the key; without that slot, the other indices are
+-- left.
 pub first-cell : (key : List ℕ) (n : ℕ) (cells : List Cell) (i : ℕ) (stack : List ℕ) → places_from key n cells ≡ i ∷ stack
     → IsFirstCell key n cells i stack
 first-cell key n [] i stack s = absurd (cc)
@@ -51,14 +53,15 @@ first-cell key n (c ∷ cs) i stack s = elim (cases_Bool (cell_has key c)) [
       }
 ]
 
--- What holds where the first place with a key is i.
+-- What holds if the first index of a key is i.
 pub record IsFirstPlaced (key : List ℕ) (cells : List Cell) (i : ℕ) (stack : List ℕ) (d : Cell) : Type 0 where
   pub inside : i < length cells
   pub alive : (get_or cells i d).alive ≡ true
   pub has : slot_has key (get_or cells i d).slot ≡ true
   pub rest : places key (set cells i (dead (get_or cells i d))) ≡ stack
 
--- the first place with a key is within the cells, left, and has the key; without it the others are the places
+-- The first index of a key is within the cells, and its cell isn't removed and has the key; without that cell, the
+-- other indices are left.
 pub first-placed : (key : List ℕ) (cells : List Cell) (i : ℕ) (stack : List ℕ) (d : Cell) → places key cells ≡ i ∷ stack → IsFirstPlaced key cells i stack d
 first-placed key cells i stack d s =
     let m = first-cell key 0 cells i stack s in
@@ -78,7 +81,7 @@ first-placed key cells i stack d s =
           ∙ m.rest;
     }
 
--- a slot with the key has no other
+-- A slot with the key has no other key.
 other-key : (key k : List ℕ) (s : Slot) → slot_has key s ≡ true → bytes_eq key k ≡ false → slot_has k s ≡ false
 other-key key k s h n = of-key s.key h
   where
@@ -87,14 +90,14 @@ other-key key k s h n = of-key s.key h
     of-key None h = refl
     of-key (Some l) h = ap (λ v. bytes_eq v k) ((bytes_eq-Decides l key).0 h) ∙ n
 
--- The places of other keys stay.
+-- The indices of other keys are unchanged.
 pub kill-others : (key k : List ℕ) (cells : List Cell) (i : ℕ) (d : Cell) → i < length cells → slot_has key (get_or cells i d).slot ≡ true
     → bytes_eq key k ≡ false
     → places k (set cells i (dead (get_or cells i d))) ≡ places k cells
 kill-others key k cells i d h has n =
     places-set k cells i (dead (get_or cells i d)) d h (sym (and_right (get_or cells i d).alive _ (other-key key k (get_or cells i d).slot has n)))
 
--- So do all places where a cell that has no key is left out.
+-- All indices are unchanged if a cell without a key is removed.
 pub kill-no_key : (k : List ℕ) (cells : List Cell) (i : ℕ) (d : Cell) → i < length cells → (get_or cells i d).slot.key ≡ None
     → places k (set cells i (dead (get_or cells i d))) ≡ places k cells
 kill-no_key k cells i d h n =
@@ -103,7 +106,7 @@ kill-no_key k cells i d h n =
 
 -- ---- what comes next
 
--- cells of which the first ones are not left, up to this one
+-- All of the first cells are removed, up to this one.
 pub record IsNext (xs : List Cell) (m : ℕ) (d : Cell) : Type 0 where
   pub deads : List Cell
   pub rest : List Cell
@@ -111,7 +114,7 @@ pub record IsNext (xs : List Cell) (m : ℕ) (d : Cell) : Type 0 where
   pub are_dead : AreDead deads
   pub number : length deads ≡ m
 
--- cells of which none before a place is left are such
+-- Cells are of this kind if all of them before an index are removed.
 pub next : (xs : List Cell) (m : ℕ) (d : Cell) → m < length xs → ((k : ℕ) → k < m → (get_or xs k d).alive ≡ false) → IsNext xs m d
 next [] m d h a = absurd (omega arith)
 next (x ∷ xs) zero d h a = record { deads = []; rest = xs; division = refl; are_dead = tt; number = refl }
@@ -126,17 +129,17 @@ next (x ∷ xs) (suc m) d h a =
       number = omega arith;
     }
 
--- so are the cells after one place up to another, where none between the two is left
+-- The cells after one index up to another are of this kind if all cells between the two are removed.
 pub next-cell : (cells : List Cell) (i j : ℕ) (d : Cell) → i < j → j < length cells → AreDeadBetween cells i j d → IsNext (drop (i + 1) cells) (j - (i + 1)) d
 next-cell cells i j d h l a =
     let size = length-drop (i + 1) cells in
     next (drop (i + 1) cells) (j - (i + 1)) d (omega arith) (λ k n. ap (λ v. let w : Cell = v in w.alive) (get_or-drop (i + 1) cells k d) ∙ a (i + 1 + k) (omega arith) (omega arith))
 
--- a cell after a place, counted from behind it, is the same cell
+-- A cell after an index, counted from there, is the same cell.
 pub same-cell : (cells : List Cell) (i j : ℕ) (d : Cell) → i < j → get_or (drop (i + 1) cells) (j - (i + 1)) d ≡ get_or cells j d
 same-cell cells i j d h = let s : i + 1 + (j - (i + 1)) ≡ j = omega arith in get_or-drop (i + 1) cells (j - (i + 1)) d ∙ ap (λ n. get_or cells n d) s
 
--- The next cell that is left tells whether an LF alone comes next,
+-- The next cell that isn't removed decides whether a single LF comes next.
 pub next-alone : (cells : List Cell) (i j : ℕ) (d : Cell) → i < j → j < length cells → AreDeadBetween cells i j d → (get_or cells j d).alive ≡ true
     → begins_with_lf_alone (live (drop (i + 1) cells)) ≡ is_lf_alone (get_or cells j d).slot
 next-alone cells i j d h l a k =
@@ -148,7 +151,7 @@ next-alone cells i j d h l a k =
     ∙ ap begins_with_lf_alone (live-alive c m.rest (ap (λ v. let w : Cell = v in w.alive) s ∙ k))
     ∙ ap (λ v. let w : Cell = v in is_lf_alone w.slot) s
 
--- and none comes where no cell after it is left.
+-- No slot comes next if all later cells are removed.
 pub next-none : (cells : List Cell) (i : ℕ) (d : Cell) → AreDeadBetween cells i (length cells) d → begins_with_lf_alone (live (drop (i + 1) cells)) ≡ false
 next-none cells i d a =
     let size = length-drop (i + 1) cells in
@@ -159,9 +162,9 @@ next-none cells i d a =
     all-dead [] a = tt
     all-dead (x ∷ xs) a = (a 0 (omega arith), all-dead xs (λ k n. a (suc k) (omega arith)))
 
--- ---- one pair is left out
+-- ---- one pair is removed
 
--- A pair is left out: what is kept is the same, where no LF of its line ending comes next.
+-- If a pair is removed and no LF of its line ending comes next, the same slots are kept.
 pub kill-kept : (key : List ℕ) (cells : List Cell) (i : ℕ) (stack : List ℕ) (d : Cell) → places key cells ≡ i ∷ stack
     → (is_by_cr (get_or cells i d).slot.ending && begins_with_lf_alone (live (drop (i + 1) cells))) ≡ false
     → slots_kept key (live (set cells i (dead (get_or cells i d)))) ≡ slots_kept key (live cells)

@@ -8,11 +8,13 @@ use Rattle.properties_format.specs.Entries.{comment, pair}
 use Rattle.properties_format.specs.Items.{Outcome, ignored, given, broken}
 use Rattle.properties_format.specs.Reading.Items.{outcome_of}
 use Rattle.properties_format.specs.Body.{HeldLine, as_lines, group_bytes, groups_bytes, last_ending}
-use Rattle.properties_format.specs.Edited.{final_group, guarding_lf, remove}
+use Rattle.properties_format.specs.Edited.{final_group, guarding_lf}
+use Rattle.properties_format.specs.Edits.{remove}
 use Rattle.properties_format.specs.Reading.Cut.{decoded_line}
 use Rattle.properties_format.specs.Reading.Body.{is_pair_with, has_key}
 use Rattle.properties_format.specs.Reading.Edited.{without}
-use Rattle.properties_format.specs.Reading.Slots.{Closing, left_out, unended_bytes, key_told, slot_of, slot_list, closing_of, slots_of, slot_has, empty_slot, are_one_ending, slots_without, last_has, slots_guarded, slots_edited}
+use Rattle.properties_format.specs.Reading.Slots.{Closing, left_out, unended_bytes, key_told, slot_of, slot_list, closing_of, slots_of, slot_has, empty_slot, are_one_ending, slots_without, last_has, slots_guarded}
+use Rattle.properties_format.specs.Reading.EditedSlots.{slots_edited}
 use Rattle.properties_format.proofs.Body.Decoded.{decoded-nil}
 use Rattle.properties_format.proofs.Edited.Told.{outcome-empty}
 use Rattle.properties_format.proofs.Edited.ByteOrderMarks.{ending-cut}
@@ -21,7 +23,7 @@ use Rattle.properties_format.proofs.Slots.Merged.{IsEndedGroup, AreInTurn, merge
 
 -- ---- slots of groups
 
--- a slot has the key where its group does
+-- A slot has the key exactly if its group does.
 pub slot-has : (key : List ℕ) (g : List HeldLine) → slot_has key (slot_of g) ≡ has_key key g
 slot-has key g = of-outcome (outcome_of (joined (as_lines g)))
   where
@@ -31,30 +33,30 @@ slot-has key g = of-outcome (outcome_of (joined (as_lines g)))
     of-outcome (given (pair k v)) = refl
     of-outcome (broken kind) = refl
 
--- an empty line, a group by itself
+-- an empty line, as a group
 abbrev pub empty_group : Option LineEnding → List HeldLine
 empty_group ending = record { bytes = []; text = []; ending = ending } ∷ []
 
--- it is one line without bytes and with this ending
+-- It is one line without bytes and with this line ending.
 pub empty-lines : (e : Encoding) (o : Option LineEnding) → AreLinesBy e o (empty_group o)
 empty-lines e o = (tt, sym (decoded-nil e), refl)
 
--- it is a whole group
+-- It is a whole group.
 pub empty-whole : (o : Option LineEnding) → IsWhole (as_lines (empty_group o))
 empty-whole o = inr (refl, refl)
 
--- its slot is an empty one
+-- Its slot is an empty one.
 pub empty-slot : (o : Option LineEnding) → slot_of (empty_group o) ≡ empty_slot o
 empty-slot o = ap (λ v. record { bytes = []; ending = o; key = key_told v }) outcome-empty
 
--- a group in front of groups in turn
+-- A group before groups in turn.
 pub turn-before : (e : Encoding) (g : List HeldLine) (gs : List (List HeldLine)) → IsEndedGroup e g → AreInTurn e gs → AreInTurn e (g ∷ gs)
 turn-before e g [] a r = absurd r
 turn-before e g (h ∷ gs) a r = (a, r)
 
 -- ---- the groups that are left
 
--- an LF alone is no pair
+-- A single LF isn't a pair.
 pub lf-no_key : (e : Encoding) (key : List ℕ) (o : Option LineEnding) (h : List HeldLine) → AreLinesBy e o h → unended_bytes h ≡ [] → has_key key h ≡ false
 lf-no_key e key o [] a k = absurd a
 lf-no_key e key o (h ∷ []) a k =
@@ -62,19 +64,19 @@ lf-no_key e key o (h ∷ []) a k =
     ∙ ap (is_pair_with key) outcome-empty
 lf-no_key e key o (h ∷ i ∷ hs) a k = let m = unended-some e o (h ∷ i ∷ hs) a k in absurd (cc)
 
--- a group with the key is left out
+-- A group with the key is left out.
 without-has : (key : List ℕ) (g : List HeldLine) (gs : List (List HeldLine)) → has_key key g ≡ true → without key (g ∷ gs) ≡ without key gs
 without-has key g gs k = rw k refl
 
--- any other stays
+-- Any other group stays.
 without-other : (key : List ℕ) (g : List HeldLine) (gs : List (List HeldLine)) → has_key key g ≡ false → without key (g ∷ gs) ≡ group_bytes g ++ without key gs
 without-other key g gs k = rw k refl
 
--- a group with another last ending has the key where it had it
+-- A group with another last line ending has the key exactly if it had it before.
 has-with : (key : List ℕ) (o : Option LineEnding) (g : List HeldLine) → has_key key (with_ending o g) ≡ has_key key g
 has-with key o g = ap (λ v. is_pair_with key (outcome_of (joined v))) (texts-with o g)
 
--- what is left after an LF alone
+-- What is left after a single LF.
 after-alone : (e : Encoding) (key : List ℕ) (h : List HeldLine) (gs : List (List HeldLine)) → AreInTurn e (h ∷ gs) → last_ending h ≡ Some lf
     → unended_bytes h ≡ []
     → without key (merged (h ∷ gs)) ≡ group_bytes h ++ without key (merged gs)
@@ -83,16 +85,17 @@ after-alone e key h (i ∷ gs) ((by, a, w), r) s k =
     let j : are_one_ending (slot_of h) (slot_of i) ≡ false = rw s refl in
     ap (without key) (merged-two h i gs j) ∙ without-other key h (merged (i ∷ gs)) (lf-no_key e key (Some by) h a k)
 
--- what becomes of the last slot
+-- what happens to the last slot when a pair is appended
 abbrev closing_left : List ℕ → List (List HeldLine) → Closing
 closing_left key gs = if last_has key (slot_list gs) then left_out else closing_of (final_group gs)
 
--- a group in front of others doesn't change what becomes of the last slot
+-- A group before others doesn't change what happens to the last slot.
 closing-next : (key : List ℕ) (g : List HeldLine) (gs : List (List HeldLine)) → gs ≢ [] → closing_left key (g ∷ gs) ≡ closing_left key gs
 closing-next key g [] n = absurd (n refl)
 closing-next key g (h ∷ gs) n = refl
 
--- Groups that are left: their bytes are those that are left of the body, and their slots are left of the slots.
+-- Groups that are left: their bytes are those that are left of the body, and their slots are those that are left of the
+-- slots.
 record AreLeft (e : Encoding) (key : List ℕ) (gs : List (List HeldLine)) : Type 0 where
   groups : List (List HeldLine)
   in_turn : AreInTurn e groups
@@ -100,7 +103,7 @@ record AreLeft (e : Encoding) (key : List ℕ) (gs : List (List HeldLine)) : Typ
   slots : slot_list groups ≡ slots_without key (slot_list gs)
   closing : closing_of (final_group groups) ≡ closing_left key gs
 
--- of groups in turn such groups are left
+-- Such groups are left of groups in turn.
 left : (e : Encoding) (key : List ℕ) (gs : List (List HeldLine)) → AreInTurn e gs → AreLeft e key gs
 left e key [] a = absurd a
 left e key (g ∷ []) a = elim (cases_Bool (has_key key g)) [
@@ -167,7 +170,7 @@ left e key (g ∷ h ∷ gs) (a, r) = elim (cases_Bool (has_key key g)) [
 
 -- ---- the LF in front
 
--- the first slot tells whether the bytes begin like a byte order mark
+-- The first slot decides whether the bytes begin like a byte order mark.
 front-bom : (e : Encoding) (g : List HeldLine) (gs : List (List HeldLine)) → AreInTurn e (g ∷ gs)
     → begins_like_bom (groups_bytes (g ∷ gs)) ≡ begins_like_bom (unended_bytes g)
 front-bom e g [] (a, f) = ap begins_like_bom (append-nil (group_bytes g) ∙ bytes-of e None g a ∙ append-nil (unended_bytes g))
@@ -182,7 +185,7 @@ record AreGuarded (e : Encoding) (source : List ℕ) (gs : List (List HeldLine))
   slots : slot_list groups ≡ slots_guarded (begins_like_bom source) (slot_list gs)
   final : final_group groups ≡ final_group gs
 
--- groups in turn, and before them the LF that guards their front, where one does
+-- Groups in turn, with the LF before them if there is one.
 guard : (e : Encoding) (source : List ℕ) (gs : List (List HeldLine)) → AreInTurn e gs → AreGuarded e source gs
 guard e source [] a = absurd a
 guard e source (g ∷ gs) a =
@@ -201,16 +204,16 @@ guard e source (g ∷ gs) a =
       | inr k ↦ let n = m ∙ k in record { groups = g ∷ gs; in_turn = a; bytes = rw n refl; slots = rw k refl; final = refl }
     ]
 
--- ---- a key is removed
+-- ---- removing a key
 
--- Groups whose bytes are the edited body and whose slots are the edited slots.
+-- Groups whose bytes are the edited body, and whose slots are the edited slots.
 pub record AreRemoved (e : Encoding) (source key : List ℕ) (gs : List (List HeldLine)) : Type 0 where
   pub groups : List (List HeldLine)
   pub in_turn : AreInTurn e groups
   pub bytes : groups_bytes groups ≡ guarding_lf source (without key (merged gs)) ++ without key (merged gs)
   pub slots : slots_of groups ≡ slots_edited e (begins_like_bom source) (remove key) (slots_of gs)
 
--- A key removed from groups in turn leaves such groups.
+-- Removing a key from groups in turn leaves such groups.
 pub removed : (e : Encoding) (source key : List ℕ) (gs : List (List HeldLine)) → AreInTurn e gs → AreRemoved e source key gs
 removed e source key gs a =
     let m = left e key gs a in

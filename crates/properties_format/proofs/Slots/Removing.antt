@@ -1,4 +1,4 @@
--- A key is removed from slots in one array, place by place: what holds before each place, and what at the end.
+-- Removing a key from slots in one array, index by index: what holds before each index, and at the end.
 use Rattle.std.proofs.Common.{◌≡◌, ◌<◌, ℕ, ◌+◌, ◌&&◌, true, false, List, [], ◌∷◌, ◌++◌, length, get_or, set, drop, Some, None, refl, ap, sym, ◌∙◌, inl, inr, arith, subst}
 use Rattle.std.specs.Prelude.{bytes_eq}
 use Rattle.std.proofs.lemmas.Bool.{and_parts, and_right}
@@ -16,14 +16,14 @@ use Rattle.properties_format.proofs.Slots.Kept.{begins_with_lf_alone}
 use Rattle.properties_format.proofs.Slots.RemoveCells.{first-placed, kill-others, kill-no_key, kill-kept, next-alone, next-none}
 use Rattle.properties_format.proofs.Slots.GuardCells.{AreLonesKeyless, well_ended-lones, lone-at, lones-kill, kill-both-kept, last_has-cell, without-cells, without-last}
 
--- ---- before each place
+-- ---- before each index
 
--- the last cell has the slot that it had; it is left, or the slot has the key
+-- The last cell has the slot that it had; and it isn't removed, or the slot has the key.
 pub record IsLastSame (key : List ℕ) (old new : Cell) : Type 0 where
   pub slot : new.slot ≡ old.slot
   pub gone : new.alive ≡ false → slot_has key old.slot ≡ true
 
--- From the first cells these were made, and the key has these places still.
+-- These cells were made from the first cells, and the key still has these indices.
 pub record IsRemoving (key : List ℕ) (start now : List Cell) (todo : List ℕ) (d : Cell) : Type 0 where
   pub kept : slots_kept key (live now) ≡ slots_kept key (live start)
   pub places_left : places key now ≡ todo
@@ -33,13 +33,13 @@ pub record IsRemoving (key : List ℕ) (start now : List Cell) (todo : List ℕ)
   pub unended : (i : ℕ) → i + 1 ≡ length start → (get_or start i d).slot.ending ≡ None
   pub last : (i : ℕ) → i + 1 ≡ length start → IsLastSame key (get_or start i d) (get_or now i d)
 
--- the last of well ended slots has no ending
+-- The last of well-ended slots has no line ending.
 well_ended-last : (xs : List Slot) (s : Slot) → AreWellEnded (xs ++ s ∷ []) → s.ending ≡ None
 well_ended-last [] s a = a
 well_ended-last (x ∷ []) s a = a.1
 well_ended-last (x ∷ y ∷ xs) s a = well_ended-last (y ∷ xs) s a.1
 
--- It begins with all places.
+-- At the start, all indices are left.
 pub removing-start : (key : List ℕ) (start : List Cell) (d : Cell) → AreWellEnded (live start) → EndsAlive start
     → IsRemoving key start start (places key start) d
 removing-start key start d a e = record {
@@ -52,7 +52,7 @@ removing-start key start d a e = record {
   last = λ i h. let m = last-at start i d e h in let k = m.alive in record { slot = refl; gone = λ n. absurd (cc) };
 }
 
--- the last cell, where a cell that has the key is left out
+-- The last cell, after a cell that has the key is removed.
 last-kill : (key : List ℕ) (start now : List Cell) (i j : ℕ) (d : Cell) → j < length now
     → (i ≡ j → slot_has key (get_or now j d).slot ≡ true)
     → IsLastSame key (get_or start i d) (get_or now i d)
@@ -73,9 +73,9 @@ last-kill key start now i j d h has m = elim (eqb_tells i j) [
       }
 ]
 
--- ---- one place
+-- ---- one index
 
--- A pair is left out, and no LF of its line ending comes next.
+-- A pair is removed, and no LF of its line ending comes next.
 pub removing-plain : (key : List ℕ) (start now : List Cell) (i : ℕ) (todo : List ℕ) (d : Cell) → IsRemoving key start now (i ∷ todo) d
     → (is_by_cr (get_or now i d).slot.ending && begins_with_lf_alone (live (drop (i + 1) now))) ≡ false
     → IsRemoving key start (set now i (dead (get_or now i d))) todo d
@@ -91,13 +91,13 @@ removing-plain key start now i todo d r n =
       last = λ j h. last-kill key start now j i d m.inside (λ s. m.has) (r.last j h);
     }
 
--- So it is where the pair does not end in a CR,
+-- This is so if the pair doesn't end in a CR.
 pub removing-other : (key : List ℕ) (start now : List Cell) (i : ℕ) (todo : List ℕ) (d : Cell) → IsRemoving key start now (i ∷ todo) d
     → is_by_cr (get_or now i d).slot.ending ≡ false
     → IsRemoving key start (set now i (dead (get_or now i d))) todo d
 removing-other key start now i todo d r n = removing-plain key start now i todo d r (rw n refl)
 
--- where no cell after it is left,
+-- This is so if all later cells are removed.
 pub removing-end : (key : List ℕ) (start now : List Cell) (i : ℕ) (todo : List ℕ) (d : Cell) → IsRemoving key start now (i ∷ todo) d
     → let left : List Cell = set now i (dead (get_or now i d)) in AreDeadBetween left i (length left) d → IsRemoving key start left todo d
 removing-end key start now i todo d r a =
@@ -106,7 +106,7 @@ removing-end key start now i todo d r a =
     removing-plain key start now i todo d r
     (and_right (is_by_cr (get_or now i d).slot.ending) _ (ap (λ v. begins_with_lf_alone (live v)) (sym s) ∙ next-none left i d a))
 
--- and where the next cell that is left is of another line ending.
+-- This is so if the next cell that isn't removed belongs to another line ending.
 pub removing-apart : (key : List ℕ) (start now : List Cell) (i j : ℕ) (todo : List ℕ) (d : Cell) → IsRemoving key start now (i ∷ todo) d
     → let left : List Cell = set now i (dead (get_or now i d)) in
     i < j → j < length left → AreDeadBetween left i j d → (get_or left j d).alive ≡ true
@@ -118,7 +118,7 @@ removing-apart key start now i j todo d r h l a k n =
     removing-plain key start now i todo d r
     (ap (λ b. is_by_cr (get_or now i d).slot.ending && b) (ap (λ v. begins_with_lf_alone (live v)) (sym s) ∙ next-alone left i j d h l a k) ∙ n)
 
--- Where the next cell is the LF of the same line ending, it is left out too.
+-- If the next cell is the LF of the same line ending, it is removed too.
 pub removing-both : (key : List ℕ) (start now : List Cell) (i j : ℕ) (todo : List ℕ) (d : Cell) → IsRemoving key start now (i ∷ todo) d
     → let left : List Cell = set now i (dead (get_or now i d)) in
     i < j → j < length left → AreDeadBetween left i j d → (get_or left j d).alive ≡ true
@@ -150,7 +150,7 @@ removing-both key start now i j todo d r h l a k n =
 
 -- ---- at the end
 
--- a slot that is left has no key that none has
+-- A slot that is left doesn't have a key that no slot has.
 none-at : (key : List ℕ) (cells : List Cell) (i : ℕ) (d : Cell) → i < length cells → NoSlotHas key (live cells) → (get_or cells i d).alive ≡ true
     → slot_has key (get_or cells i d).slot ≡ false
 none-at key cells i d h n k =
@@ -163,7 +163,7 @@ none-at key cells i d h n k =
     of-parts [] ys n = n.0
     of-parts (x ∷ xs) ys n = of-parts xs ys n.1
 
--- The last cell is left: so the last slot has another key, and what is left is the slots without the key.
+-- If the last cell isn't removed, the last slot has another key, and the slots that are left are those without the key.
 pub removed-last_left : (key : List ℕ) (start now : List Cell) (i : ℕ) (d : Cell) → AreWellEnded (live start) → EndsAlive start → i + 1 ≡ length start
     → IsRemoving key start now [] d
     → (get_or now i d).alive ≡ true
@@ -175,7 +175,7 @@ removed-last_left key start now i d a e h r k =
     last_has-cell key start i d e h ∙ ap (slot_has key) (sym s) ∙ none-at key now i d (omega arith) (places-none key 0 now r.places_left) k in
     (n, without-cells key start now a r.kept r.places_left n)
 
--- It is not left: so the last slot had the key, and an empty one takes its place.
+-- If the last cell is removed, the last slot had the key, and an empty one replaces it.
 pub removed-last_gone : (key : List ℕ) (start now : List Cell) (i : ℕ) (d : Cell) → AreWellEnded (live start) → EndsAlive start → i + 1 ≡ length start
     → IsRemoving key start now [] d
     → (get_or now i d).alive ≡ false

@@ -1,4 +1,4 @@
--- What holds of the slots of a source, after any edits.
+-- What holds for the slots of a source, after any edits.
 use Rattle.std.proofs.Common.{◌≡◌, ℕ, true, List, [], ◌∷◌, Option, Some, None, refl, ap, ◌∙◌, inl, inr, subst}
 use Rattle.std.proofs.lemmas.Bool.{cases_Bool, and_parts}
 use Rattle.properties_format.specs.Text.{LineEnding}
@@ -8,15 +8,17 @@ use Rattle.properties_format.specs.Writing.{is_empty}
 use Rattle.properties_format.specs.Reading.Items.{outcome_of}
 use Rattle.properties_format.specs.Reading.Cut.{decoded_line}
 use Rattle.properties_format.specs.Body.{HeldLine, group_bytes, last_ending}
-use Rattle.properties_format.specs.Edited.{final_group, is_empty_line, is_left_open, is_editable, Edit, AreScalarEdits}
-use Rattle.properties_format.specs.Reading.Slots.{unended_bytes, key_told, slot_of, slot_list, left_out, ended_by, closed_by, safe_ending, closing_of, AreWellEnded, IsWellEnded, final_slot, is_by_lf, slots_after}
+use Rattle.properties_format.specs.Edited.{final_group, is_empty_line, is_left_open, is_editable}
+use Rattle.properties_format.specs.Edits.{Edit, AreScalarEdits}
+use Rattle.properties_format.specs.Reading.Slots.{unended_bytes, key_told, slot_of, slot_list, left_out, ended_by, closed_by, safe_ending, closing_of, AreWellEnded, IsWellEnded, final_slot, is_by_lf}
+use Rattle.properties_format.specs.Reading.EditedSlots.{slots_after}
 use Rattle.properties_format.proofs.Body.Decoded.{decoded-nil}
 use Rattle.properties_format.proofs.Edited.Told.{outcome-empty}
 use Rattle.properties_format.proofs.Slots.Lines.{AreLinesBy, ending-of, unended-some}
 use Rattle.properties_format.proofs.Slots.Merged.{AreInTurn, empty-is}
 use Rattle.properties_format.proofs.Slots.Edits.{reached}
 
--- an empty line is no pair
+-- An empty line isn't a pair.
 pub empty-key : (e : Encoding) (o : Option LineEnding) (g : List HeldLine) → AreLinesBy e o g → unended_bytes g ≡ [] → (slot_of g).key ≡ None
 empty-key e o [] a k = absurd a
 empty-key e o (h ∷ []) a k =
@@ -24,7 +26,7 @@ empty-key e o (h ∷ []) a k =
 empty-key e o (h ∷ i ∷ hs) a k = let m = unended-some e o (h ∷ i ∷ hs) a k in absurd (cc)
 
 -- of groups in turn no LF alone is a pair, and the last slot has no ending
-turn-well_ended : (e : Encoding) (gs : List (List HeldLine)) → AreInTurn e gs → AreWellEnded (slot_list gs)
+pub turn-well_ended : (e : Encoding) (gs : List (List HeldLine)) → AreInTurn e gs → AreWellEnded (slot_list gs)
 turn-well_ended e [] a = absurd a
 turn-well_ended e (g ∷ []) a = ending-of e None g a.0
 turn-well_ended e (g ∷ h ∷ gs) ((by, a, w), r) = (
@@ -33,7 +35,7 @@ turn-well_ended e (g ∷ h ∷ gs) ((by, a, w), r) = (
 )
 
 -- and where the last one is left out before a new pair, it is no pair itself
-turn-left_out : (e : Encoding) (gs : List (List HeldLine)) → AreInTurn e gs → closing_of (final_group gs) ≡ left_out → (final_slot (slot_list gs)).key ≡ None
+pub turn-left_out : (e : Encoding) (gs : List (List HeldLine)) → AreInTurn e gs → closing_of (final_group gs) ≡ left_out → (final_slot (slot_list gs)).key ≡ None
 turn-left_out e [] a k = absurd a
 turn-left_out e (g ∷ []) a k = elim (cases_Bool (is_empty_line g)) [
   | inl x ↦ empty-key e None g a.0 (empty-unended g x)
@@ -49,7 +51,7 @@ turn-left_out e (g ∷ []) a k = elim (cases_Bool (is_empty_line g)) [
     empty-unended (h ∷ i ∷ hs) x = absurd (cc)
 turn-left_out e (g ∷ h ∷ gs) a k = turn-left_out e (h ∷ gs) a.1 k
 
--- The slots of a source are such, after any edits.
+-- The slots of a source have these properties after any edits.
 pub slots_after-well_ended : (e : Encoding) (source : List ℕ) (edits : List Edit) → is_editable (byte_order_mark e source).encoding ≡ true → AreScalarEdits edits
     → IsWellEnded (slots_after e source edits)
 slots_after-well_ended e source edits ok k =

@@ -5,45 +5,45 @@ use Rattle.properties_format.specs.Text.{is_blank, without_leading_blanks}
 use Rattle.properties_format.specs.Split.{AreBlanks, begins, ends, IsTrimmed}
 use Rattle.properties_format.specs.Reading.Split.{without_trailing_blanks, unless_last_blank, trimmed}
 
--- a text of blanks that begins with none is empty
+-- Blanks that don't begin with a blank are an empty text.
 pub no_blanks : (h : List ℕ) → AreBlanks h → begins is_blank h ≡ false → h ≡ []
 no_blanks [] b e = refl
 no_blanks (c ∷ h) b e = absurd (both_ways (is_blank c) e b.0)
 
--- where a text begins with no such character, its front doesn't either
+-- If a text doesn't begin with such a character, neither does its front.
 pub begins-front : (kind : ℕ → Bool) (x y : List ℕ) → begins kind (x ++ y) ≡ false → begins kind x ≡ false
 begins-front kind [] y e = refl
 begins-front kind (c ∷ x) y e = e
 
 -- ---- at the front
 
--- a text that begins with no blank stays
+-- A text that doesn't begin with a blank is unchanged.
 pub without_leading_blanks-full : (y : List ℕ) → begins is_blank y ≡ false → without_leading_blanks y ≡ y
 without_leading_blanks-full [] e = refl
 without_leading_blanks-full (c ∷ y) e = rw e refl
 
--- blanks in front of a text are taken off, with those that it begins with
+-- Blanks before a text are removed, with those at the front of the text.
 pub without_leading_blanks-append : (h y : List ℕ) → AreBlanks h → without_leading_blanks (h ++ y) ≡ without_leading_blanks y
 without_leading_blanks-append [] y b = refl
 without_leading_blanks-append (c ∷ h) y b = rw b.0 (without_leading_blanks-append h y b.1)
 
--- blanks in front of a text that begins with none are taken off, and nothing else
+-- If a text doesn't begin with a blank, only the blanks before it are removed.
 pub without_leading_blanks-only : (h y : List ℕ) → AreBlanks h → begins is_blank y ≡ false → without_leading_blanks (h ++ y) ≡ y
 without_leading_blanks-only h y b e = without_leading_blanks-append h y b ∙ without_leading_blanks-full y e
 
--- of blanks alone nothing is left
+-- Of blanks only, nothing is left.
 pub without_leading_blanks-blanks : (h : List ℕ) → AreBlanks h → without_leading_blanks h ≡ []
 without_leading_blanks-blanks [] b = refl
 without_leading_blanks-blanks (c ∷ h) b = rw b.0 (without_leading_blanks-blanks h b.1)
 
--- x is blanks and y, and y begins with no blank
+-- x is blanks followed by y, and y doesn't begin with a blank.
 pub record IsPast (x y : List ℕ) : Type 0 where
   pub before : List ℕ
   pub whole : x ≡ before ++ y
   pub before_blank : AreBlanks before
   pub begins_full : begins is_blank y ≡ false
 
--- what is left of a text without its leading blanks is such
+-- This holds for a text and what is left of it without its leading blanks.
 pub without_leading_blanks-meets : (x : List ℕ) → IsPast x (without_leading_blanks x)
 without_leading_blanks-meets [] = record { before = []; whole = refl; before_blank = tt; begins_full = refl }
 without_leading_blanks-meets (c ∷ x) = elim (cases_Bool (is_blank c)) [
@@ -54,25 +54,25 @@ without_leading_blanks-meets (c ∷ x) = elim (cases_Bool (is_blank c)) [
 
 -- ---- at the end
 
--- of blanks alone nothing is left
+-- Of blanks only, nothing is left.
 pub without_trailing_blanks-blanks : (h : List ℕ) → AreBlanks h → without_trailing_blanks h ≡ []
 without_trailing_blanks-blanks [] b = refl
 without_trailing_blanks-blanks (c ∷ h) b = ap (unless_last_blank c) (without_trailing_blanks-blanks h b.1) ∙ rw b.0 refl
 
--- blanks after a text that ends with none are taken off, and nothing else
+-- If a text doesn't end with a blank, only the blanks after it are removed.
 pub without_trailing_blanks-only : (y h : List ℕ) → AreBlanks h → ends is_blank y ≡ false → without_trailing_blanks (y ++ h) ≡ y
 without_trailing_blanks-only [] h b e = without_trailing_blanks-blanks h b
 without_trailing_blanks-only (c ∷ []) h b e = ap (unless_last_blank c) (without_trailing_blanks-blanks h b) ∙ rw e refl
 without_trailing_blanks-only (c ∷ d ∷ y) h b e = ap (unless_last_blank c) (without_trailing_blanks-only (d ∷ y) h b e)
 
--- x is y and blanks, and y ends with no blank
+-- x is y followed by blanks, and y doesn't end with a blank.
 pub record IsBefore (x y : List ℕ) : Type 0 where
   pub after : List ℕ
   pub whole : x ≡ y ++ after
   pub after_blank : AreBlanks after
   pub ends_full : ends is_blank y ≡ false
 
--- a character in front stays, unless it is a blank with nothing left after it
+-- A character at the front stays, unless it is a blank with nothing left after it.
 before-step : (c : ℕ) (x y : List ℕ) → IsBefore x y → IsBefore (c ∷ x) (unless_last_blank c y)
 before-step c x [] r = elim (cases_Bool (is_blank c)) [
   | inl e ↦ rw e (record { after = c ∷ r.after; whole = ap (λ v. c ∷ v) r.whole; after_blank = (e, r.after_blank); ends_full = refl })
@@ -80,19 +80,19 @@ before-step c x [] r = elim (cases_Bool (is_blank c)) [
 ]
 before-step c x (d ∷ y) r = record { after = r.after; whole = ap (λ v. c ∷ v) r.whole; after_blank = r.after_blank; ends_full = r.ends_full }
 
--- what is left of a text without its trailing blanks is such
+-- This holds for a text and what is left of it without its trailing blanks.
 pub without_trailing_blanks-meets : (x : List ℕ) → IsBefore x (without_trailing_blanks x)
 without_trailing_blanks-meets [] = record { after = []; whole = refl; after_blank = tt; ends_full = refl }
 without_trailing_blanks-meets (c ∷ x) = before-step c x (without_trailing_blanks x) (without_trailing_blanks-meets x)
 
 -- ---- at both ends
 
--- an empty core has nothing after it, where what it is a part of begins with no blank
+-- An empty core has nothing after it, if the text that it is part of doesn't begin with a blank.
 empty_last : (x y after : List ℕ) → x ≡ y ++ after → AreBlanks after → begins is_blank x ≡ false → y ≡ [] → after ≡ []
 empty_last x [] after e b f k = no_blanks after b (rw (← e) f)
 empty_last x (c ∷ y) after e b f k = absurd (cc)
 
--- what is computed is the core of the text
+-- What is computed is the core of the text.
 pub trimmed-meets : (x : List ℕ) → IsTrimmed x (trimmed x)
 trimmed-meets x = whole (without_leading_blanks x) (without_leading_blanks-meets x) (without_trailing_blanks-meets (without_leading_blanks x))
   where
@@ -108,12 +108,12 @@ trimmed-meets x = whole (without_leading_blanks x) (without_leading_blanks-meets
       empty_last = empty_last y (without_trailing_blanks y) b.after b.whole b.after_blank p.begins_full;
     }
 
--- a core begins with no blank, also with what comes after it, where an empty one has nothing after it
+-- A core followed by what comes after it doesn't begin with a blank, if nothing comes after an empty core.
 core-begins : (core after : List ℕ) → begins is_blank core ≡ false → (core ≡ [] → after ≡ []) → begins is_blank (core ++ after) ≡ false
 core-begins [] after e k = rw (k refl) refl
 core-begins (c ∷ core) after e k = e
 
--- a core of the text is what is computed
+-- A core of the text is the computed one.
 pub trimmed-only : (x core : List ℕ) → IsTrimmed x core → core ≡ trimmed x
 trimmed-only x core t = sym (
     ap trimmed t.whole

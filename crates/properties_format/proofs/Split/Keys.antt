@@ -1,54 +1,54 @@
--- Where a key ends: the units of a key, and the reading that cuts it off.
+-- Where a key ends: the units of a key, and the computation that divides it from the rest.
 use Rattle.std.proofs.Common.{◌≡◌, ℕ, ◌==◌, Bool, true, false, List, [], ◌∷◌, ◌++◌, refl, ap, sym, ◌∙◌, inl, inr, append_assoc, append-nil}
 use Rattle.std.proofs.lemmas.Bool.{cases_Bool, both_ways, eqb-true}
 use Rattle.properties_format.specs.Text.{backslash, is_blank, is_separator}
 use Rattle.properties_format.specs.Split.{KeyUnit, plain, escaped, last, unit_text, units_before, IsUnit, AreUnits, IsKey}
 use Rattle.properties_format.specs.Reading.Split.{Cut, with_front, ends_key, cut_key}
 
--- the units put together before a rest are their text and the rest
+-- The units before a rest are their text followed by the rest.
 pub units_before-append : (us : List KeyUnit) (rest : List ℕ) → units_before us rest ≡ units_before us [] ++ rest
 units_before-append [] rest = refl
 units_before-append (u ∷ us) rest = ap (λ v. unit_text u ++ v) (units_before-append us rest) ∙ sym (append_assoc (unit_text u) (units_before us []) rest)
 
--- the key with a text in front
+-- the key with a text at its front
 abbrev pub with_text : List ℕ → Cut → Cut
 with_text x cut = record { key = x ++ cut.key; rest = cut.rest }
 
--- a text before which a key ends: an empty one, or one that begins with a blank or a separator
+-- whether a key ends before this text: it is empty, or begins with a blank or a separator
 abbrev pub ends_here : List ℕ → Bool
 ends_here [] = true
 ends_here (c ∷ cs) = ends_key c
 
--- a character that is no blank and no separator ends no key
+-- A character that is neither a blank nor a separator doesn't end a key.
 ends_key-plain : (c : ℕ) → is_blank c ≡ false → is_separator c ≡ false → ends_key c ≡ false
 ends_key-plain c b s = rw b s
 
--- and a character that ends no key is neither
+-- A character that doesn't end a key is neither a blank nor a separator.
 plain-parts : (c : ℕ) → ends_key c ≡ false → (is_blank c ≡ false) × (is_separator c ≡ false)
 plain-parts c e = elim (cases_Bool (is_blank c)) [
   | inl b ↦ absurd (both_ways (ends_key c) e (rw b refl))
   | inr b ↦ (b, rw b at e)
 ]
 
--- what ends a key is no backslash
+-- A character that ends a key isn't a backslash.
 pub ends_key-backslash : (c : ℕ) → ends_key c ≡ true → (c == backslash) ≡ false
 ends_key-backslash c e = elim (cases_Bool (c == backslash)) [
   | inl b ↦ absurd (both_ways (ends_key c) (rw (eqb-true c backslash b) refl) e)
   | inr b ↦ b
 ]
 
--- where a key ends at once, nothing is cut off
+-- If the key ends at once, it is empty.
 pub cut_key-ends : (rest : List ℕ) → ends_here rest ≡ true → cut_key rest false ≡ record { key = []; rest = rest }
 cut_key-ends [] e = refl
 cut_key-ends (c ∷ rest) e = rw (ends_key-backslash c e) (rw e refl)
 
--- a unit in front
+-- A unit at the front.
 pub cut_key-unit : (u : KeyUnit) (rest : List ℕ) → IsUnit u rest → cut_key (unit_text u ++ rest) false ≡ with_text (unit_text u) (cut_key rest false)
 cut_key-unit (plain c) rest h = rw h.0 (rw (ends_key-plain c h.1 h.2) refl)
 cut_key-unit (escaped c) rest h = refl
 cut_key-unit last rest h = rw h refl
 
--- units in front
+-- Units at the front.
 pub cut_key-units : (us : List KeyUnit) (rest : List ℕ) → AreUnits us rest → cut_key (units_before us rest) false ≡ with_text (units_before us []) (cut_key rest false)
 cut_key-units [] rest h = refl
 cut_key-units (u ∷ us) rest h =
@@ -56,7 +56,7 @@ cut_key-units (u ∷ us) rest h =
     ∙ ap (with_text (unit_text u)) (cut_key-units us rest h.1)
     ∙ ap (λ v. let cut : Cut = record { key = v; rest = (cut_key rest false).rest } in cut) (sym (append_assoc (unit_text u) (units_before us []) (cut_key rest false).key))
 
--- a key in front of what ends it
+-- A key before what ends it.
 pub cut_key-only : (key rest : List ℕ) → IsKey key rest → ends_here rest ≡ true → cut_key (key ++ rest) false ≡ record { key = key; rest = rest }
 cut_key-only key rest k e =
     ap (λ v. cut_key v false) (ap (λ v. v ++ rest) k.whole ∙ sym (units_before-append k.units rest))
@@ -64,18 +64,18 @@ cut_key-only key rest k e =
     ∙ ap (with_text (units_before k.units [])) (cut_key-ends rest e)
     ∙ ap (λ v. let cut : Cut = record { key = v; rest = rest } in cut) (append-nil (units_before k.units []) ∙ sym k.whole)
 
--- ---- each text is a key and what ends it
+-- ---- each text is a key followed by what ends it
 
 pub record IsCut (x : List ℕ) (cut : Cut) : Type 0 where
   pub whole : x ≡ cut.key ++ cut.rest
   pub is_key : IsKey cut.key cut.rest
   pub ends_it : ends_here cut.rest ≡ true
 
--- where a key ends at once, an empty key is cut off
+-- If the key ends at once, an empty key is divided off.
 nothing-cut : (rest : List ℕ) → ends_here rest ≡ true → IsCut rest (record { key = []; rest = rest })
 nothing-cut rest e = record { whole = refl; is_key = record { units = []; whole = refl; each = tt }; ends_it = e }
 
--- a unit in front of a key that has been cut off
+-- A unit before a key that has been divided off.
 unit-cut : (u : KeyUnit) (x : List ℕ) (cut : Cut) → IsUnit u x → IsCut x cut → IsCut (unit_text u ++ x) (with_text (unit_text u) cut)
 unit-cut u x cut h k = record {
   whole = ap (λ v. unit_text u ++ v) k.whole ∙ sym (append_assoc (unit_text u) cut.key cut.rest);
@@ -87,12 +87,12 @@ unit-cut u x cut h k = record {
   ends_it = k.ends_it;
 }
 
--- what has been cut, where a backslash may stand before it
+-- what was divided, if a backslash may come before it
 IsCutAfter : Bool → List ℕ → Type 0
 IsCutAfter true x = IsCut (backslash ∷ x) (with_front backslash (cut_key x true))
 IsCutAfter false x = IsCut x (cut_key x false)
 
--- each text is cut so, whether or not a backslash stands before it
+-- Each text is divided in this way, whether or not a backslash comes before it.
 cut-after : (x : List ℕ) (is_escaped : Bool) → IsCutAfter is_escaped x
 unfolding IsCutAfter
 cut-after [] true = unit-cut last [] (record { key = []; rest = [] }) refl (nothing-cut [] refl)
@@ -106,7 +106,7 @@ cut-after (c ∷ x) false = elim (cases_Bool (c == backslash)) [
   ])
 ]
 
--- what is computed is the key that the text begins with, and what ends it
+-- The computed parts are the key at the front of the text, and what ends it.
 pub cut_key-meets : (x : List ℕ) → IsCut x (cut_key x false)
 unfolding IsCutAfter
 cut_key-meets x = cut-after x false

@@ -1,4 +1,4 @@
--- What is told of a split line, for those who print one or take one apart.
+-- Facts about split lines, for code that prints or parses them.
 use Rattle.std.proofs.Common.{◌≡◌, ℕ, ◌==◌, ◌&&◌, true, false, List, [], ◌∷◌, ◌++◌, refl, ap, sym, ◌∙◌, arith}
 use Rattle.std.proofs.lemmas.Bool.{and_parts}
 use Rattle.std.proofs.lemmas.Bool.Decides.{nat_tests}
@@ -9,29 +9,29 @@ use Rattle.properties_format.specs.Escapes.{letter_u, is_hexadecimal, Four, four
 use Rattle.properties_format.proofs.Escapes.Digits.{hexadecimal-plain}
 use Rattle.properties_format.proofs.Split.Unique.{separator-full, split_of-pair, split_of-only}
 
--- a line is one thing in one way
+-- A line is exactly one thing, in one way.
 pub split-unique : (line : List ℕ) (one other : Logical) → IsSplit line one → IsSplit line other → one ≡ other
 split-unique line one other h k = split_of-only line one h ∙ sym (split_of-only line other k)
 
--- ---- a key that is put together
+-- ---- building a key
 
 -- an empty text is a key
 pub IsKey-nil : (rest : List ℕ) → IsKey [] rest
 IsKey-nil rest = record { units = []; whole = refl; each = tt }
 
--- with a character in front that is no backslash, no blank and no separator, a key is a key
+-- A key with one more character at its front, which isn't a backslash, a blank or a separator, is a key.
 pub IsKey-plain : (c : ℕ) (x rest : List ℕ) → (c == backslash) ≡ false → is_blank c ≡ false → is_separator c ≡ false → IsKey x rest → IsKey (c ∷ x) rest
 IsKey-plain c x rest h b s k = record { units = plain c ∷ k.units; whole = ap (λ v. c ∷ v) k.whole; each = ((h, b, s), k.each) }
 
--- and with a backslash and any character in front
+-- A key with a backslash and any character at its front is a key.
 pub IsKey-escaped : (c : ℕ) (x rest : List ℕ) → IsKey x rest → IsKey (backslash ∷ c ∷ x) rest
 IsKey-escaped c x rest k = record { units = escaped c ∷ k.units; whole = ap (λ v. backslash ∷ c ∷ v) k.whole; each = (tt, k.each) }
 
--- and with a hexadecimal digit in front
+-- A key with a hexadecimal digit at its front is a key.
 IsKey-digit : (c : ℕ) (x rest : List ℕ) → is_hexadecimal c ≡ true → IsKey x rest → IsKey (c ∷ x) rest
 IsKey-digit c x rest h k = let p = hexadecimal-plain c h in IsKey-plain c x rest p.0 p.1 p.2 k
 
--- a `\u` escape is a part of a key
+-- A key with a `\u` escape at its front is a key.
 pub IsKey-unicode : (d : Four) (x rest : List ℕ) → are_hexadecimal d ≡ true → IsKey x rest → IsKey (backslash ∷ letter_u ∷ four_text d ++ x) rest
 IsKey-unicode d x rest h k =
     let p = and_parts (is_hexadecimal d.first && is_hexadecimal d.second) (is_hexadecimal d.third && is_hexadecimal d.fourth) h in
@@ -43,11 +43,11 @@ IsKey-unicode d x rest h k =
 
 -- ---- pairs
 
--- a separator is no comment sign
+-- A separator isn't a comment sign.
 pub separator-sign : (c : ℕ) → is_separator c ≡ true → is_comment_sign c ≡ false
 separator-sign c h = grind (arith, nat_tests)
 
--- an empty key: what stands before the separator is then the line's indent
+-- If the key is empty, what comes before the separator is the line's indentation.
 pub split_of-empty_key : (before : List ℕ) (sign : ℕ) (after value : List ℕ) → AreBlanks before → is_separator sign ≡ true → AreBlanks after
     → begins is_blank value ≡ false → split_of (before ++ (sign ∷ (after ++ value))) ≡ pair [] value
 split_of-empty_key before sign after value b s d f =

@@ -1,4 +1,4 @@
--- Each line is blank, a comment or a pair in one way.
+-- Each line is blank, a comment or a pair, in exactly one way.
 use Rattle.std.proofs.Common.{◌≡◌, ◌≢◌, ℕ, true, false, List, [], ◌∷◌, ◌++◌, refl, ap, sym, ◌∙◌, inl, inr, append_assoc, append-nil, arith}
 use Rattle.std.proofs.lemmas.Bool.{cases_Bool, both_ways}
 use Rattle.properties_format.specs.Text.{is_blank, is_comment_sign, is_separator, without_leading_blanks}
@@ -9,7 +9,7 @@ use Rattle.properties_format.proofs.Split.Keys.{ends_here, cut_key-only, IsCut, 
 
 -- ---- what comes after a key
 
--- a separator is no blank
+-- A separator isn't a blank.
 pub separator-full : (c : ℕ) → is_separator c ≡ true → is_blank c ≡ false
 separator-full c e = elim (cases_Bool (is_blank c)) [
   | inl b ↦ absurd (grind (arith))
@@ -20,33 +20,33 @@ separator-full c e = elim (cases_Bool (is_blank c)) [
 ends_key-blank : (c : ℕ) → is_blank c ≡ true → ends_key c ≡ true
 ends_key-blank c b = rw b refl
 
--- and so does a separator
+-- A separator ends a key.
 ends_key-separator : (c : ℕ) → is_separator c ≡ true → ends_key c ≡ true
 ends_key-separator c s = rw (separator-full c s) s
 
--- a text that begins with no separator has none to pass over
+-- A text that doesn't begin with a separator has none to skip.
 past_separator-full : (y : List ℕ) → begins is_separator y ≡ false → past_separator y ≡ y
 past_separator-full [] e = refl
 past_separator-full (c ∷ y) e = rw e refl
 
--- a key ends where blanks come, one at least
+-- A key ends before at least one blank.
 blanks-end : (between value : List ℕ) → between ≢ [] → AreBlanks between → ends_here (between ++ value) ≡ true
 blanks-end [] value h b = absurd (h refl)
 blanks-end (c ∷ between) value h b = ends_key-blank c b.0
 
--- and where a separator comes, with blanks before it or none
+-- A key ends before a separator, with or without blanks before it.
 sign-end : (before : List ℕ) (sign : ℕ) (rest : List ℕ) → AreBlanks before → is_separator sign ≡ true → ends_here (before ++ (sign ∷ rest)) ≡ true
 sign-end [] sign rest b s = ends_key-separator sign s
 sign-end (c ∷ before) sign rest b s = ends_key-blank c b.0
 
--- where a key ends, what stands between comes or the line does
+-- A key ends before what separates it from its value, or at the end of the line.
 pub between-ends : (between value : List ℕ) → IsBetween between value → ends_here (between ++ value) ≡ true
 between-ends between value (nothing e f) = rw (e, f) refl
 between-ends between value (blanks h b e f) = blanks-end between value h b
 between-ends between value (separator before sign after e b s d f) =
     rw e (rw (append_assoc before (sign ∷ after) value) (sign-end before sign (after ++ value) b s))
 
--- after what stands between comes the value
+-- What separates the key from the value is followed by the value.
 pub between-value : (between value : List ℕ) → IsBetween between value → past_separator (without_leading_blanks (between ++ value)) ≡ value
 between-value between value (nothing e f) = rw (e, f) refl
 between-value between value (blanks h b e f) = ap past_separator (without_leading_blanks-only between value b e) ∙ past_separator-full value f
@@ -60,12 +60,12 @@ pub record IsBehind (rest value : List ℕ) : Type 0 where
   pub whole : rest ≡ between ++ value
   pub is_between : IsBetween between value
 
--- a key doesn't end before a character that is neither a blank nor a separator
+-- A key doesn't end before a character that is neither a blank nor a separator.
 not-here : (before : List ℕ) (c : ℕ) (y : List ℕ) → ends_here (before ++ (c ∷ y)) ≡ true → is_blank c ≡ false → is_separator c ≡ false → before ≢ []
 not-here [] c y k b s q = both_ways (ends_key c) (rw (b, s) refl) k
 not-here (d ∷ before) c y k b s q = absurd (cc)
 
--- a separator or none after the blanks
+-- After the blanks there is a separator, or there is none.
 after-step : (rest : List ℕ) (before y : List ℕ) → rest ≡ before ++ y → AreBlanks before → begins is_blank y ≡ false → ends_here rest ≡ true → IsBehind rest (past_separator y)
 after-step rest [] [] e b f k = record { between = []; whole = e; is_between = nothing refl refl }
 after-step rest (d ∷ before) [] e b f k = record { between = d ∷ before; whole = e; is_between = blanks (λ q. absurd (cc)) b refl refl }
@@ -78,14 +78,15 @@ after-step rest before (c ∷ y) e b f k = elim (cases_Bool (is_separator c)) [
   | inr s ↦ rw s (record { between = before; whole = e; is_between = blanks (not-here before c y (rw e at k) f s) b f s })
 ]
 
--- what comes after a key is what stands between and the value that is read
+-- After a key come the text that separates it from the computed value, and that value.
 after-meets : (rest : List ℕ) → ends_here rest ≡ true → IsBehind rest (past_separator (without_leading_blanks rest))
 after-meets rest k = let p : IsPast rest (without_leading_blanks rest) =
     without_leading_blanks-meets rest in after-step rest p.before (without_leading_blanks rest) p.whole p.before_blank p.begins_full k
 
--- ---- what is read is what the line is
+-- ---- the computed result is what the line is
 
--- blanks, and then a text that is not empty and begins with no blank and no comment sign, are the pair that is read
+-- Blanks, followed by a text that isn't empty and begins with neither a blank nor a comment sign, are the computed
+-- pair.
 full-pair : (line indent x : List ℕ) → line ≡ indent ++ x → AreBlanks indent → x ≢ [] → begins is_blank x ≡ false → begins is_comment_sign x ≡ false
     → IsSplit line (pair_of (cut_key x false))
 full-pair line indent x e b h f m = whole (cut_key x false) (cut_key-meets x)
@@ -106,7 +107,7 @@ full-pair line indent x e b h f m = whole (cut_key x false) (cut_key-meets x)
           is_between = r.is_between;
         }
 
--- blanks, and then a text that begins with no blank, are what is read of that text
+-- Blanks, followed by a text that doesn't begin with a blank, are what is computed for that text.
 full-meets : (line indent x : List ℕ) → line ≡ indent ++ x → AreBlanks indent → begins is_blank x ≡ false → IsSplit line (split_full x)
 full-meets line indent [] e b f = rw (e, append-nil indent) b
 full-meets line indent (c ∷ x) e b f = elim (cases_Bool (is_comment_sign c)) [
@@ -114,15 +115,15 @@ full-meets line indent (c ∷ x) e b f = elim (cases_Bool (is_comment_sign c)) [
   | inr m ↦ rw m (full-pair line indent (c ∷ x) e b (λ q. absurd (cc)) f m)
 ]
 
--- a line is what is computed
+-- A line is what is computed for it.
 pub split_of-meets : (line : List ℕ) → IsSplit line (split_of line)
 unfolding split_of
 split_of-meets line = let p : IsPast line (without_leading_blanks line) =
     without_leading_blanks-meets line in full-meets line p.before (without_leading_blanks line) p.whole p.before_blank p.begins_full
 
--- ---- what the line is, is read
+-- ---- what the line is, is the computed result
 
--- a comment sign is no blank
+-- A comment sign isn't a blank.
 pub sign-full : (c : ℕ) → is_comment_sign c ≡ true → is_blank c ≡ false
 sign-full c e = elim (cases_Bool (is_blank c)) [
   | inl b ↦ absurd (grind (arith))
@@ -140,12 +141,12 @@ pub split_of-comment : (indent : List ℕ) (sign : ℕ) (rest : List ℕ) → Ar
 unfolding split_of
 split_of-comment indent sign rest b m = ap split_full (without_leading_blanks-only indent (sign ∷ rest) b (sign-full sign m)) ∙ rw m refl
 
--- a text that is not empty and begins with no comment sign is read as a pair
+-- What is computed for a text that isn't empty and doesn't begin with a comment sign is a pair.
 split_full-pair : (x : List ℕ) → x ≢ [] → begins is_comment_sign x ≡ false → split_full x ≡ pair_of (cut_key x false)
 split_full-pair [] h m = absurd (h refl)
 split_full-pair (c ∷ x) h m = rw m refl
 
--- blanks, a key, what stands between, and a value
+-- Blanks, a key, what separates it from the value, and the value.
 pub split_of-pair : (indent key between value : List ℕ) → AreBlanks indent → key ++ (between ++ value) ≢ []
     → begins is_blank (key ++ (between ++ value)) ≡ false → begins is_comment_sign (key ++ (between ++ value)) ≡ false
     → IsKey key (between ++ value) → IsBetween between value → split_of (indent ++ (key ++ (between ++ value))) ≡ pair key value
@@ -156,7 +157,7 @@ split_of-pair indent key between value b h f m k w =
     ∙ ap pair_of (cut_key-only key (between ++ value) k (between-ends between value w))
     ∙ ap (pair key) (between-value between value w)
 
--- and it is nothing else
+-- A line is nothing else.
 pub split_of-only : (line : List ℕ) (what : Logical) → IsSplit line what → what ≡ split_of line
 split_of-only line blank h = sym (split_of-blank line h)
 split_of-only line (comment text) h =

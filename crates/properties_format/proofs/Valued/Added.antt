@@ -1,4 +1,5 @@
--- Groups with a new pair after them: the last is closed, then comes the pair, and an empty last line; they are those of their bytes.
+-- Groups followed by a new pair: the last group is ended, then come the pair and an empty last line. They are the
+-- groups of their bytes.
 use Rattle.std.proofs.Common.{◌≡◌, ◌≢◌, ℕ, true, false, List, [], ◌∷◌, ◌++◌, Option, Some, None, refl, ap, ap₂, sym, ◌∙◌, inl, inr, append_assoc, append-nil, subst}
 use Rattle.std.specs.Prelude.{unwrap_or}
 use Rattle.std.proofs.lemmas.Bool.{cases_Bool}
@@ -20,25 +21,26 @@ use Rattle.properties_format.proofs.Edited.Contents.{fit-closed, fit-open, close
 use Rattle.properties_format.proofs.Edited.Steps.{final_group-push}
 use Rattle.properties_format.proofs.Valued.Lined.{AreLined, last_by, lines-join, held_ended-append, held_in-append, AreAllWhole, fit-parts}
 
--- ---- the last group is closed
+-- ---- ending the last group
 
--- a line without bytes, with such an ending
+-- a line without bytes, with this line ending
 abbrev pub empty_line : Encoding → Option LineEnding → HeldLine
 empty_line e ending = record { bytes = []; text = decoded_line e []; ending = ending }
 
--- the lines with this ending after the last
+-- the lines, with this line ending after the last
 abbrev pub ended_with : LineEnding → List HeldLine → List HeldLine
 ended_with by [] = []
 ended_with by (h ∷ []) = record { bytes = h.bytes; text = h.text; ending = Some by } ∷ []
 ended_with by (h ∷ i ∷ hs) = h ∷ ended_with by (i ∷ hs)
 
--- the last group before a new pair: an empty line goes, one that is left open is closed by an empty line, and any other has an ending
+-- The last group before a new pair: an empty line is left out, a group that is left open is ended by an empty line, and
+-- any other group gets a line ending.
 data ClosesTo (e : Encoding) (by : LineEnding) (g : List HeldLine) : List (List HeldLine) → Type 0 where
   goes : is_empty_line g ≡ true → ClosesTo e by g []
   ends : is_empty_line g ≡ false → is_left_open g ≡ false → ClosesTo e by g (ended_with by g ∷ [])
   closes : is_empty_line g ≡ false → is_left_open g ≡ true → ClosesTo e by g ((ended_with by g ++ empty_line e (Some by) ∷ []) ∷ [])
 
--- each group closes to some
+-- Each group is ended in one of these ways.
 closes_to : (e : Encoding) (by : LineEnding) (g : List HeldLine) → (gs : List (List HeldLine)) × ClosesTo e by g gs
 closes_to e by g = elim (cases_Bool (is_empty_line g)) [
   | inl k ↦ ([], goes k)
@@ -48,22 +50,22 @@ closes_to e by g = elim (cases_Bool (is_empty_line g)) [
   ]
 ]
 
--- ---- lines that are ended
+-- ---- ended lines
 
--- all lines of a body, with an ending after the last
+-- All lines of a body, with a line ending after the last.
 ended-held : (e : Encoding) (by : LineEnding) (ls : List Ended) (last : List ℕ)
     → ended_with by (held_of e ls last) ≡ held_ended e (ls ++ record { text = last; by = by } ∷ [])
 ended-held e by [] last = refl
 ended-held e by (l ∷ []) last = refl
 ended-held e by (l ∷ m ∷ ls) last = ap (λ v. record { bytes = l.text; text = decoded_line e l.text; ending = Some l.by } ∷ v) (ended-held e by (m ∷ ls) last)
 
--- their texts are the same
+-- Their texts are the same.
 ended-texts : (by : LineEnding) (g : List HeldLine) → as_lines (ended_with by g) ≡ as_lines g
 ended-texts by [] = refl
 ended-texts by (h ∷ []) = refl
 ended-texts by (h ∷ i ∷ g) = ap (λ v. record { number = 0; text = h.text } ∷ v) (ended-texts by (i ∷ g))
 
--- the last of the endings
+-- The last of the line endings.
 pub ending-held : (e : Encoding) (by : LineEnding) (ls : List Ended) (last : List ℕ) → ending_among by (held_of e ls last) ≡ unwrap_or (last_by ls) by
 ending-held e by [] last = refl
 ending-held e by (l ∷ []) last = refl
@@ -75,12 +77,13 @@ ending-held e by (l ∷ m ∷ ls) last = ending-held e l.by (m ∷ ls) last ∙ 
 
 -- ---- the groups before a new pair
 
--- groups of which there is one are some and a last one
+-- A list with a group consists of some groups and a last one.
 last-group : (g : List HeldLine) (gs : List (List HeldLine)) → (init : List (List HeldLine)) × (final : List HeldLine) × (g ∷ gs ≡ init ++ final ∷ [])
 last-group g [] = ([], g, refl)
 last-group g (h ∷ gs) = let m = last-group h gs in (g ∷ m.0, m.1, ap (λ v. g ∷ v) {y = m.0 ++ m.1 ∷ []} m.2)
 
--- The groups before a new pair: their lines are ended ones, each group is whole, their bytes are those of the groups and what parts the pair from them, and they come to the same.
+-- The groups before a new pair: their lines are ended, each group is whole, their bytes are those of the groups and of
+-- what separates the pair from them, and their outcomes are the same.
 pub record AreClosed (e : Encoding) (gs : List (List HeldLine)) (closed : List (List HeldLine)) : Type 0 where
   pub lines : List Ended
   pub held : held_in closed ≡ held_ended e lines
@@ -89,7 +92,7 @@ pub record AreClosed (e : Encoding) (gs : List (List HeldLine)) (closed : List (
   pub bytes : groups_bytes closed ≡ groups_bytes gs ++ parted_by (ending_in gs) (final_group gs)
   pub told : told_by (as_groups closed) ≡ told_by (as_groups gs)
 
--- the lines with an ending after the last have it after their bytes
+-- If a line ending is added after the last line, it comes after the lines' bytes.
 ended-bytes : (e : Encoding) (by : LineEnding) (ls : List Ended) (last : List ℕ)
     → group_bytes (ended_with by (held_of e ls last)) ≡ group_bytes (held_of e ls last) ++ line_ending_text by
 ended-bytes e by [] last = ap (λ v. last ++ v) (append-nil (line_ending_text by)) ∙ ap (λ v. v ++ line_ending_text by) (sym (append-nil last))
@@ -102,33 +105,33 @@ ended-bytes e by (l ∷ m ∷ ls) last =
     ∙ sym (ap (λ v. l.text ++ v) (append_assoc (line_ending_text l.by) (group_bytes (held_of e (m ∷ ls) last)) (line_ending_text by)))
     ∙ sym (append_assoc l.text (line_ending_text l.by ++ group_bytes (held_of e (m ∷ ls) last)) (line_ending_text by))
 
--- the outcome of an empty line before others
+-- The outcome of an empty line before others.
 pub told-empty : (e : Encoding) (o : Option LineEnding) → outcome_of (joined (as_lines (empty_line e o ∷ []))) ≡ ignored
 told-empty e o = ap (λ v. outcome_of (joined (record { number = 0; text = v } ∷ []))) (decoded-nil e) ∙ outcome-empty
 
--- the last group is an empty line, the last of a body
+-- The last group is an empty line, which is the last line of a body.
 empty-held : (e : Encoding) (ls : List Ended) (last : List ℕ) → is_empty_line (held_of e ls last) ≡ true → (ls ≡ []) × (last ≡ [])
 empty-held e [] [] h = (refl, refl)
 empty-held e [] (c ∷ last) h = absurd (cc)
 empty-held e (l ∷ []) last h = absurd (cc)
 empty-held e (l ∷ m ∷ ls) last h = absurd (cc)
 
--- after all lines of a body, their last ending is one by itself
+-- After all lines of a body, their last line ending is a line end by itself.
 seam : (ls : List Ended) (by : LineEnding) (last : List ℕ) → by ≡ unwrap_or (last_by ls) lf → last_by ls ≡ Some cr
     → BeginsWithNoLoneLf (record { text = last; by = by } ∷ [])
 seam ls by last s q = λ z. let m : by ≡ cr = s ∙ ap (λ v. unwrap_or v lf) q in absurd (cc (z.1, m))
 
--- the last line holds no line end
+-- The last line contains no line end.
 last-plain : (ls : List Ended) (last : List ℕ) → AreLines ls last → HoldsNoLineEnd last
 last-plain [] last h = h
 last-plain (l ∷ ls) last h = last-plain ls last h.2
 
--- whole groups and then another are whole
+-- Whole groups followed by a whole group are whole.
 whole-join : (gs : List (List HeldLine)) (g : List HeldLine) → AreAllWhole gs → IsWhole (as_lines g) → AreAllWhole (gs ++ g ∷ [])
 whole-join [] g w k = (k, tt)
 whole-join (h ∷ gs) g w k = (w.0, whole-join gs g w.1 k)
 
--- the texts of lines and one more
+-- The texts of lines and of one more.
 as_lines-push : (g : List HeldLine) (h : HeldLine) → as_lines (g ++ h ∷ []) ≡ as_lines g ++ record { number = 0; text = h.text } ∷ []
 as_lines-push [] h = refl
 as_lines-push (i ∷ g) h = ap (λ v. record { number = 0; text = i.text } ∷ v) (as_lines-push g h)
@@ -139,19 +142,19 @@ fit-lines [] (inl k) q = k
 fit-lines [] (inr k) q = k
 fit-lines (h ∷ g) k q = absurd (cc)
 
--- nothing parts a pair from an empty line, two endings part it from a group that is left open, and one from any other
+-- Nothing separates a pair from an empty line.
 parted-none : (x : List ℕ) (g : List HeldLine) → is_empty_line g ≡ true → parted_by x g ≡ []
 parted-none x g h = rw h refl
 
--- two endings part it from a group that is left open
+-- Two line endings separate a pair from a group that is left open.
 parted-two : (x : List ℕ) (g : List HeldLine) → is_empty_line g ≡ false → is_left_open g ≡ true → parted_by x g ≡ x ++ x
 parted-two x g h k = rw (h, k) refl
 
--- and one from any other
+-- One line ending separates a pair from any other group.
 parted-one : (x : List ℕ) (g : List HeldLine) → is_empty_line g ≡ false → is_left_open g ≡ false → parted_by x g ≡ x
 parted-one x g h k = rw (h, k) refl
 
--- Where groups are those of their bytes, they are closed so.
+-- If groups are those of their bytes, they are ended in this way.
 pub closed-groups : (e : Encoding) (gs : List (List HeldLine)) → AreLined e gs → (closed : List (List HeldLine)) × AreClosed e gs closed
 closed-groups e [] h = absurd (held-some h.ended h.held)
   where

@@ -1,4 +1,4 @@
--- The last line ending of a body, as it stands among its bytes.
+-- The last line ending of a body, found in its bytes.
 use Rattle.std.proofs.Common.{◌≡◌, ℕ, true, false, List, [], ◌∷◌, ◌++◌, refl, ap, ◌∙◌}
 use Rattle.std.specs.Prelude.{unwrap_or}
 use Rattle.properties_format.specs.Text.{LineEnding, lf, cr, crlf, line_ending_text}
@@ -17,7 +17,7 @@ use Rattle.properties_format.proofs.Body.Groups.{held_of-only}
 use Rattle.properties_format.proofs.Valued.Lined.{last_by, last_by-append}
 use Rattle.properties_format.proofs.Valued.Added.{ending-held}
 
--- the last line ending of groups is that of the lines of their body
+-- The last line ending of groups is that of the lines of their body.
 ending-lines : (e : Encoding) (body : List ℕ) (gs : List (List HeldLine)) → is_editable e ≡ true → AreGroupsOf e body gs
     → ending_among lf (held_in gs) ≡ unwrap_or (last_by (lines_of body).ended) lf
 ending-lines e body gs ok h =
@@ -25,13 +25,13 @@ ending-lines e body gs ok h =
     ∙ ending-held e lf h.cut.ended h.cut.last
     ∙ ap (λ v. let w : Lines = v in unwrap_or (last_by w.ended) lf) (lines_of-only body h.cut (IsCut-lines e body h.cut ok h.is_cut))
 
--- a cut before a line ending parts no CR from an LF
+-- A cut before a line ending separates no CR from an LF.
 parts-none : (front : List ℕ) (by : LineEnding) (rest : List ℕ) → (by ≡ lf → ends_in_cr front ≡ false) → PartsNoEnd front (line_ending_text by ++ rest)
 parts-none front lf rest h q = let m = h refl in absurd (cc)
 parts-none front cr rest h q = refl
 parts-none front crlf rest h q = refl
 
--- A line ending after which no other comes is the last one; an LF is one by itself where no CR stands before it.
+-- A line ending that no other follows is the last one; an LF is one by itself if no CR comes before it.
 pub last-ending : (e : Encoding) (body : List ℕ) (gs : List (List HeldLine)) (front : List ℕ) (by : LineEnding) (rest : List ℕ) → is_editable e ≡ true → AreGroupsOf e body gs
     → body ≡ front ++ (line_ending_text by ++ rest) → HoldsNoLineEnd rest → (by ≡ lf → ends_in_cr front ≡ false)
     → ending_among lf (held_in gs) ≡ by
@@ -44,7 +44,7 @@ last-ending e body gs front by rest ok h s plain alone =
     ∙ ap (λ v. let w : Lines = v in (lines_of front).ended ++ l ∷ w.ended) (lines_of-plain rest plain) in
     ending-lines e body gs ok h ∙ ap (λ v. unwrap_or (last_by v) lf) lines ∙ ap (λ v. unwrap_or v lf) (last_by-append (lines_of front).ended (l ∷ []) (λ q. absurd (cc)))
 
--- A body without line endings has none, for which an LF stands.
+-- For a body without line endings, an LF is used.
 pub no-ending : (e : Encoding) (body : List ℕ) (gs : List (List HeldLine)) → is_editable e ≡ true → AreGroupsOf e body gs → HoldsNoLineEnd body
     → ending_among lf (held_in gs) ≡ lf
 no-ending e body gs ok h plain = ending-lines e body gs ok h ∙ ap (λ v. let w : Lines = v in unwrap_or (last_by w.ended) lf) (lines_of-plain body plain)

@@ -1,4 +1,4 @@
--- The front of a pair: what is computed is the front of its group, and the only one.
+-- The front of a pair: the computed front is the front of its group, and the only one.
 use Rattle.std.proofs.Common.{◌≡◌, ◌≢◌, ◌⊎◌, ◌<◌, ◌≤◌, ℕ, ◌==◌, ◌||◌, not, Bool, true, false, List, [], ◌∷◌, ◌++◌}
 use Rattle.std.proofs.Common.{None, length, drop, refl, ap, ap₂, sym, ◌∙◌, inl, inr, arith, append_assoc, append-nil, length-append, lit<, eqb-true, subst}
 use Rattle.std.specs.Prelude.{nat_le, if◌then◌else◌}
@@ -27,37 +27,37 @@ use Rattle.properties_format.proofs.Valued.Heads.{EndsInAscii, IsLittle, IsHeadO
 
 -- ---- what a line adds
 
--- whether a text is open doesn't hang on the blanks before it
+-- Whether a text is open doesn't depend on the blanks before it.
 pub open-past : (b y : List ℕ) → AreBlanks b → is_open (b ++ y) ≡ is_open y
 open-past [] y h = refl
 open-past (c ∷ b) y h = is_open-after [] c (b ++ y) (blank-other c h.0) ∙ open-past b y h.1
 
--- a text is blanks, and the text without its indent
+-- A text is blanks followed by the text without its indentation.
 pub record IsIndented (first : Bool) (x : List ℕ) : Type 0 where
   pub indent : List ℕ
   pub whole : x ≡ indent ++ without_indent first x
   pub blank : AreBlanks indent
 
--- each text is such, as a first line and as a later one
+-- Every text is of this form, as a first line and as a later one.
 pub indented : (first : Bool) (x : List ℕ) → IsIndented first x
 indented true x = record { indent = []; whole = refl; blank = tt }
 indented false x = let p = without_leading_blanks-meets x in record { indent = p.before; whole = p.whole; blank = p.before_blank }
 
--- without its indent a text is open where it was
+-- Without its indentation, a text is open exactly if it was before.
 pub open-indent : (first : Bool) (x : List ℕ) → is_open (without_indent first x) ≡ is_open x
 open-indent first x = let i = indented first x in sym (ap is_open i.whole ∙ open-past i.indent (without_indent first x) i.blank)
 
--- blanks after blanks
+-- The second part of blanks is blanks.
 pub blanks-right : (b y : List ℕ) → AreBlanks (b ++ y) → AreBlanks y
 blanks-right [] y h = h
 blanks-right (c ∷ b) y h = blanks-right b y h.1
 
--- and blanks together are blanks
+-- Blanks followed by blanks are blanks.
 pub blanks-append : (b y : List ℕ) → AreBlanks b → AreBlanks y → AreBlanks (b ++ y)
 blanks-append [] y h k = k
 blanks-append (c ∷ b) y h k = (h.0, blanks-append b y h.1 k)
 
--- the indent of a text that is not blank stands before any character of it that isn't one
+-- The indentation of a text comes before any of its characters that isn't a blank.
 pub past-head : (x y : List ℕ) → ¬ (AreBlanks x) → without_leading_blanks (x ++ y) ≡ without_leading_blanks x ++ y
 past-head [] y h = absurd (h tt)
 past-head (c ∷ x) y h = elim (cases_Bool (is_blank c)) [
@@ -65,12 +65,12 @@ past-head (c ∷ x) y h = elim (cases_Bool (is_blank c)) [
   | inr k ↦ rw k refl
 ]
 
--- so it is where the indent counts, and where it does not
+-- This holds whether or not the indentation counts.
 pub indent-head : (first : Bool) (x y : List ℕ) → ¬ (AreBlanks x) → without_indent first (x ++ y) ≡ without_indent first x ++ y
 indent-head true x y h = refl
 indent-head false x y h = past-head x y h
 
--- without the backslash that leaves it open a text isn't open
+-- Without its open backslash, a text isn't open.
 pub shut-closed : (x : List ℕ) → is_open (without_open_backslash x) ≡ false
 shut-closed x = elim (cases_Bool (is_open x)) [
   | inl k ↦
@@ -79,27 +79,27 @@ shut-closed x = elim (cases_Bool (is_open x)) [
   | inr k ↦ rw k k
 ]
 
--- the backslash that leaves a text open, where one does
+-- the backslash that leaves a text open, or nothing if it isn't open
 abbrev pub open_backslash : List ℕ → List ℕ
 open_backslash x = if is_open x then backslash ∷ [] else []
 
--- a text is the text without it, and it
+-- A text is the text without its open backslash, followed by that backslash.
 pub shut-whole : (x : List ℕ) → x ≡ without_open_backslash x ++ open_backslash x
 shut-whole x = elim (cases_Bool (is_open x)) [ inl k ↦ rw k (open-ends x k) | inr k ↦ rw k (sym (append-nil x)) ]
 
--- ---- what lines add together
+-- ---- what several lines add
 
--- the lines of a group, or those after its first
+-- what the lines of a group add, or those after its first line
 abbrev pub joined_by : Bool → List HeldLine → List ℕ
 joined_by first [] = []
 joined_by first (h ∷ hs) = added_by first h.text ++ joined_by false hs
 
--- the later lines of a group add so much
+-- What the later lines of a group add.
 joined_after-by : (hs : List HeldLine) → joined_after (as_lines hs) ≡ joined_by false hs
 joined_after-by [] = refl
 joined_after-by (h ∷ hs) = ap (λ v. added_by false h.text ++ v) (joined_after-by hs)
 
--- a group that begins with no comment line
+-- A group that doesn't begin with a comment line.
 pub joined-by : (h : HeldLine) (hs : List HeldLine) → is_comment_line h.text ≡ false → joined (as_lines (h ∷ hs)) ≡ joined_by true (h ∷ hs)
 joined-by h hs k = joined-unmarked (record { number = 0; text = h.text }) (as_lines hs) k ∙ ap (λ v. without_open_backslash h.text ++ v) (joined_after-by hs)
 
@@ -108,12 +108,12 @@ abbrev pub is_first_after : Bool → List HeldLine → Bool
 is_first_after first [] = first
 is_first_after first (h ∷ hs) = false
 
--- lines after others are no first ones
+-- A line after others isn't the first of its group.
 after-later : (a : List HeldLine) → is_first_after false a ≡ false
 after-later [] = refl
 after-later (i ∷ a) = refl
 
--- lines and then others
+-- What two lists of lines add.
 pub joined_by-append : (first : Bool) (a b : List HeldLine) → joined_by first (a ++ b) ≡ joined_by first a ++ joined_by (is_first_after first a) b
 joined_by-append first [] b = refl
 joined_by-append first (h ∷ a) b =
@@ -122,28 +122,28 @@ joined_by-append first (h ∷ a) b =
 
 -- ---- empty texts
 
--- of two texts that are empty together, the first is
+-- If two texts together are empty, the first is.
 pub none-left : (x y : List ℕ) → x ++ y ≡ [] → x ≡ []
 none-left [] y h = refl
 none-left (c ∷ x) y h = absurd (cc)
 
--- and so is the other
+-- If two texts together are empty, the second is.
 pub none-right : (x y : List ℕ) → x ++ y ≡ [] → y ≡ []
 none-right [] y h = h
 none-right (c ∷ x) y h = absurd (cc)
 
--- so two are not, where one isn't
+-- If the second of two texts isn't empty, the two together aren't.
 pub right-some : (x y : List ℕ) → y ≢ [] → x ++ y ≢ []
 right-some x y h = λ q. h (none-right x y q)
 
--- what isn't empty has a character
+-- A text that isn't empty has a character.
 pub some-length : (x : List ℕ) → x ≢ [] → 1 ≤ length x
 some-length [] h = absurd (h refl)
 some-length (c ∷ x) h = omega arith
 
--- ---- two divisions of one text
+-- ---- two divisions of the same text
 
--- the shorter front of two is the front of the longer
+-- The shorter of two fronts of a text is a front of the longer.
 pub split-longer : (p v a j : List ℕ) → a ++ j ≡ p ++ v → length p ≤ length a → (r : List ℕ) × (a ≡ p ++ r) × (v ≡ r ++ j)
 split-longer [] v a j s l = (a, refl, sym s)
 split-longer (c ∷ p) v [] j s l = absurd (omega arith)
@@ -155,24 +155,24 @@ split-longer (c ∷ p) v (d ∷ a) j s l =
 
 -- ---- where a head may end
 
--- a text ends in what ends a key, or nothing follows it
+-- the text ends with a character that ends a key, or nothing follows it
 abbrev pub MayEnd : List ℕ → List ℕ → Type 0
 MayEnd p v = (ends ends_key p ≡ true) ⊎ (v ≡ [])
 
--- the last character of a text
+-- The last character of a text.
 pub ends-last : (kind : ℕ → Bool) (p : List ℕ) → ends kind p ≡ true → (w : List ℕ) × (c : ℕ) × (p ≡ w ++ c ∷ []) × (kind c ≡ true)
 ends-last kind [] h = absurd (cc)
 ends-last kind (c ∷ []) h = ([], c, refl, h)
 ends-last kind (c ∷ d ∷ p) h = let m = ends-last kind (d ∷ p) h in (c ∷ m.0, m.1, ap (λ v. c ∷ v) m.2, m.3)
 
--- and of one that has another before it
+-- The last character of a text that another text precedes.
 pub ends-right : (kind : ℕ → Bool) (a p : List ℕ) → p ≢ [] → ends kind (a ++ p) ≡ ends kind p
 ends-right kind [] p h = refl
 ends-right kind (c ∷ []) [] h = absurd (h refl)
 ends-right kind (c ∷ []) (d ∷ p) h = refl
 ends-right kind (c ∷ b ∷ a) p h = ends-right kind (b ∷ a) p h
 
--- what ends a key is an ASCII character
+-- A character that ends a key is an ASCII character.
 pub ends_key-ascii : (c : ℕ) → ends_key c ≡ true → c < 0x80
 ends_key-ascii c h = elim (cases_Bool (is_blank c)) [
   | inl b ↦ elim (or_cases (c == 0x20) (c == 0x09 || c == 0x0c) b) [
@@ -186,7 +186,7 @@ ends_key-ascii c h = elim (cases_Bool (is_blank c)) [
 
 -- ---- the head of a line
 
--- The head of a line that is the first of its group or not: it adds this text.
+-- The head of a line, which is the first of its group or not, and the text that it adds.
 record IsHead (e : Encoding) (first : Bool) (line : HeldLine) (q head : List ℕ) : Type 0 where
   text : List ℕ
   rest : List ℕ
@@ -196,41 +196,42 @@ record IsHead (e : Encoding) (first : Bool) (line : HeldLine) (q head : List ℕ
   closed : is_open text ≡ false
   adds : without_indent first text ≡ q
 
--- what the front of the lines has in this line: a text that isn't blank in the first, and something in any other
+-- the front takes something from this line: in a first line, a text that isn't blank; in a later line, any text that
+-- isn't empty
 abbrev pub IsSome : Bool → List ℕ → Type 0
 IsSome true q = ¬ (AreBlanks q)
 IsSome false q = q ≢ []
 
--- blanks and then such a text are not blank, where the text begins with none in a later line
+-- Blanks followed by such a text aren't blank, if in a later line the text doesn't begin with a blank.
 some-full : (first : Bool) (b q : List ℕ) → IsSome first q → (first ≡ false → begins is_blank q ≡ false) → ¬ (AreBlanks (b ++ q))
 some-full true b q h k = λ m. h (blanks-right b q m)
 some-full false b [] h k = absurd (h refl)
 some-full false b (c ∷ q) h k = λ m. let n = blanks-right b (c ∷ q) m in let o = k refl in absurd (cc (n.0, o))
 
--- the text without its indent begins with no blank in a later line
+-- In a later line, the text without its indentation doesn't begin with a blank.
 indent-full : (first : Bool) (x q r : List ℕ) → first ≡ false → without_indent first x ≡ q ++ r → begins is_blank q ≡ false
 indent-full true x q r f s = absurd (cc)
 indent-full false x q r f s = begins-front is_blank q r (ap (begins is_blank) (sym s) ∙ (without_leading_blanks-meets x).begins_full)
 
--- such a text after its blanks is what is left without the indent
+-- Such a text is what is left of itself with blanks before it, without the indentation.
 indent-only : (first : Bool) (b q : List ℕ) → AreBlanks b → (first ≡ true → b ≡ []) → (first ≡ false → begins is_blank q ≡ false)
     → without_indent first (b ++ q) ≡ q
 indent-only true b q h k m = rw (k refl) refl
 indent-only false b q h k m = without_leading_blanks-only b q h (m refl)
 
--- a first line has none
+-- The indentation of a first line doesn't count.
 indent-none : (first : Bool) (x : List ℕ) → first ≡ true → (indented first x).indent ≡ []
 unfolding indented
 indent-none true x f = refl
 indent-none false x f = absurd (cc)
 
--- where a head may end, it is not open
+-- A head that ends where it may isn't open.
 may-closed : (y q r : List ℕ) → without_open_backslash y ≡ q ++ r → MayEnd q r → is_open q ≡ false
 may-closed y q r s (inl k) =
     let m = ends-last ends_key q k in ap is_open m.2 ∙ is_open-other m.0 m.1 (ends_key-backslash m.1 m.3)
 may-closed y q r s (inr k) = ap is_open (sym (s ∙ ap (λ v. q ++ v) k ∙ append-nil q)) ∙ shut-closed y
 
--- the size of the head
+-- The size of the head.
 pub head-size : (first : Bool) (x b q r : List ℕ) → x ≡ b ++ (q ++ r) → without_indent first x ≡ q ++ r → head_size first x q ≡ length (b ++ q)
 head-size first x b q r s t =
     let a : length x ≡ length (b ++ (q ++ r)) = ap length s in
@@ -240,7 +241,7 @@ head-size first x b q r s t =
     let g = length-append b q in
     omega arith
 
--- the computed head of a line
+-- The computed head of a line.
 head-meets : (e : Encoding) (first : Bool) (line : HeldLine) (q r : List ℕ) → is_editable e ≡ true → decoded_line e line.bytes ≡ line.text
     → added_by first line.text ≡ q ++ r → MayEnd q r → IsSome first q
     → IsHead e first line q (head_of e (head_size first line.text q) line.bytes)
@@ -263,16 +264,16 @@ head-meets e first line q r ok d s k some =
       adds = indent-only first b q i.blank (indent-none first line.text) full;
     }
 
--- a head adds its text, less its indent
+-- A head adds its text without its indentation.
 head-adds : (e : Encoding) (first : Bool) (line : HeldLine) (q head : List ℕ) (h : IsHead e first line q head) → added_by first h.text ≡ q
 head-adds e first line q head h = without_open_backslash-closed (without_indent first h.text) (open-indent first h.text ∙ h.closed) ∙ h.adds
 
--- the line without its indent is what the head adds, and the rest
+-- The line without its indentation is what the head adds, followed by the rest.
 head-line : (e : Encoding) (first : Bool) (line : HeldLine) (q head : List ℕ) (h : IsHead e first line q head) → without_indent first line.text ≡ q ++ h.rest
 head-line e first line q head h =
     ap (without_indent first) h.cut_text ∙ indent-head first h.text h.rest h.not_blank ∙ ap (λ v. v ++ h.rest) h.adds
 
--- and a head adds something
+-- A head adds something.
 head-some : (e : Encoding) (first : Bool) (line : HeldLine) (q head : List ℕ) → IsHead e first line q head → q ≢ []
 head-some e first line q head h = λ n.
     let i = indented first h.text in
@@ -297,22 +298,22 @@ abbrev pub AreDecoded : Encoding → List HeldLine → Type 0
 AreDecoded e [] = Unit {0}
 AreDecoded e (h ∷ hs) = (decoded_line e h.bytes ≡ h.text) × AreDecoded e hs
 
--- the front that is computed, where the text ends in the first line
+-- The computed front, if the text ends in the first line.
 pub front-here : (e : Encoding) (first : Bool) (p : List ℕ) (h : HeldLine) (hs : List HeldLine) → nat_le (length p) (length (added_by first h.text)) ≡ true
     → front_in e first p (h ∷ hs) ≡ head_of e (head_size first h.text p) h.bytes
 front-here e first p h hs k = rw (k, front_in) refl
 
--- and where it goes on
+-- The computed front, if the text continues after the first line.
 pub front-later : (e : Encoding) (first : Bool) (p : List ℕ) (h : HeldLine) (hs : List HeldLine) → nat_le (length p) (length (added_by first h.text)) ≡ false
     → front_in e first p (h ∷ hs) ≡ h.bytes ++ (ending_bytes h.ending ++ front_in e false (drop (length (added_by first h.text)) p) hs)
 front-later e first p h hs k = rw (k, front_in) refl
 
--- no text is not such
+-- An empty text isn't such a text.
 some-nil : (first : Bool) → IsSome first [] → ⊥
 some-nil true h = h tt
 some-nil false h = h refl
 
--- one more line in front
+-- One more line at the front.
 after-line : (e : Encoding) (first : Bool) (h : HeldLine) (hs : List HeldLine) (p q front : List ℕ) → p ≡ added_by first h.text ++ q → HasFront e false hs q front
     → HasFront e first (h ∷ hs) p (h.bytes ++ (ending_bytes h.ending ++ front))
 after-line e first h hs p q front s m = record {
@@ -330,7 +331,7 @@ after-line e first h hs p q front s m = record {
       ∙ sym (append_assoc h.bytes (ending_bytes h.ending ++ group_bytes m.kept) m.head);
 }
 
--- what is computed is the front of the lines
+-- The computed front is the front of the lines.
 front_in-meets : (e : Encoding) (first : Bool) (lines : List HeldLine) (p v : List ℕ) → is_editable e ≡ true → AreDecoded e lines
     → joined_by first lines ≡ p ++ v → MayEnd p v → IsSome first p
     → HasFront e first lines p (front_in e first p lines)
@@ -371,9 +372,9 @@ front_in-meets e first (h ∷ hs) p v ok d s k some = elim (cases_Bool (nat_le (
     may-later a q more t (inl z) = inl (sym (ends-right ends_key a q more) ∙ ap (ends ends_key) (sym t) ∙ z)
     may-later a q more t (inr z) = inr z
 
--- ---- there is one front
+-- ---- there is only one front
 
--- what is left of a line after its head, where nothing follows what the head adds
+-- What is left of a line after its head, if nothing follows what the head adds.
 little-left : (q rest j : List ℕ) → is_open q ≡ false → without_open_backslash (q ++ rest) ++ j ≡ q → IsLittle rest
 little-left q rest j o s = elim (cases_Bool (is_open (q ++ rest))) [
   | inl k ↦
@@ -394,7 +395,7 @@ little-left q rest j o s = elim (cases_Bool (is_open (q ++ rest))) [
     one (c ∷ []) (d ∷ y) h k = absurd (cc)
     one (c ∷ b ∷ x) (d ∷ y) h k = absurd (cc)
 
--- how the text of a head may end
+-- How the text of a head may end.
 head-ends : (e : Encoding) (first : Bool) (line : HeldLine) (more : List HeldLine) (q v head : List ℕ) (h : IsHead e first line q head)
     → joined_by first (line ∷ more) ≡ q ++ v → MayEnd q v → EndsInAscii h.text ⊎ IsLittle h.rest
 head-ends e first line more q v head h s (inl k) =
@@ -411,7 +412,7 @@ head-ends e first line more q v head h s (inr k) =
     inr (little-left q h.rest (joined_by false more) o
     (ap (λ w. without_open_backslash w ++ joined_by false more) (sym (head-line e first line q head h)) ∙ s ∙ ap (λ w. q ++ w) k ∙ append-nil q))
 
--- a line adds no less than its head does
+-- A line adds at least what its head adds.
 head-less : (e : Encoding) (first : Bool) (line : HeldLine) (q head : List ℕ) → IsHead e first line q head → length q ≤ length (added_by first line.text)
 head-less e first line q head h =
     let y = without_indent first line.text in
@@ -437,7 +438,7 @@ head-less e first line q head h =
           omega arith
     ]
 
--- a head is the one that is computed
+-- A head is the computed one.
 head-only : (e : Encoding) (first : Bool) (line : HeldLine) (more : List HeldLine) (q v head : List ℕ) → is_editable e ≡ true
     → decoded_line e line.bytes ≡ line.text → IsHead e first line q head → joined_by first (line ∷ more) ≡ q ++ v → MayEnd q v
     → head ≡ head_of e (head_size first line.text q) line.bytes
@@ -452,7 +453,7 @@ head-only e first line more q v head ok d h s k =
     (head_of-meets e line.bytes h.text h.rest ok (d ∙ h.cut_text))
     ∙ ap (λ n. head_of e n line.bytes) size
 
--- a front is the one that is computed
+-- A front is the computed one.
 front_in-only : (e : Encoding) (first : Bool) (kept : List HeldLine) (line : HeldLine) (more : List HeldLine) (p v q head : List ℕ) → is_editable e ≡ true
     → AreDecoded e (kept ++ line ∷ more) → joined_by first (kept ++ line ∷ more) ≡ p ++ v → MayEnd p v → IsHead e (is_first_after first kept) line q head
     → p ≡ joined_by first kept ++ q
@@ -488,25 +489,26 @@ front_in-only e first (i ∷ kept) line more p v q head ok d s k h u =
 
 -- ---- the front of a pair
 
--- a text that ends in blanks ends in what ends a key
+-- A text that ends in blanks ends with a character that ends a key.
 blanks-end : (x : List ℕ) → x ≢ [] → AreBlanks x → ends ends_key x ≡ true
 blanks-end [] h b = absurd (h refl)
 blanks-end (c ∷ []) h b = rw b.0 refl
 blanks-end (c ∷ d ∷ x) h b = blanks-end (d ∷ x) (λ q. cc) b.1
 
--- and so does a separator with blanks after it
+-- So does a separator with blanks after it.
 sign-end : (sign : ℕ) (x : List ℕ) → is_separator sign ≡ true → AreBlanks x → ends ends_key (sign ∷ x) ≡ true
 sign-end sign [] s b = rw (separator-full sign s) s
 sign-end sign (c ∷ x) s b = blanks-end (c ∷ x) (λ q. cc) b
 
--- what stands between key and value ends in what ends a key, or there is neither
+-- What separates the key from the value ends with a character that ends a key, or both the separator and the value are
+-- empty.
 pub between-end : (between value : List ℕ) → IsBetween between value → (between ≢ []) × (ends ends_key between ≡ true) ⊎ (between ≡ []) × (value ≡ [])
 between-end between value (nothing a b) = inr (a, b)
 between-end between value (blanks h b a c) = inl (h, blanks-end between h b)
 between-end between value (separator before sign after s b t c d) =
     inl ((λ q. right-some before (sign ∷ after) (λ z. cc) (sym s ∙ q)), ap (ends ends_key) s ∙ ends-right ends_key before (sign ∷ after) (λ q. cc) ∙ sign-end sign after t c)
 
--- what stands before the value of a pair may end a head
+-- What comes before the value of a pair may end a head.
 pub pair-end : (line key value : List ℕ) (h : IsPair line key value) → MayEnd (h.indent ++ (key ++ h.between)) value
 pair-end line key value h = elim (between-end h.between value h.is_between) [
   | inl m ↦
@@ -515,7 +517,7 @@ pair-end line key value h = elim (between-end h.between value h.is_between) [
   | inr m ↦ inr m.1
 ]
 
--- and it is not blank
+-- What comes before the value of a pair isn't blank.
 pub pair-some : (line key value : List ℕ) (h : IsPair line key value) → ¬ (AreBlanks (h.indent ++ (key ++ h.between)))
 pair-some line key value h = λ b.
     of-text (key ++ h.between) (blanks-right h.indent (key ++ h.between) b)
@@ -532,7 +534,7 @@ pair-some line key value h = λ b.
     of-text [] b f n = n refl
     of-text (c ∷ x) b f n = absurd (cc (b.0, f))
 
--- the lines that are kept, and the head, add what stands before the value
+-- The lines that are kept and the head add what comes before the value.
 kept-joined : (e : Encoding) (kept : List HeldLine) (line : HeldLine) (more : List HeldLine) (q head : List ℕ) (h : IsHead e (is_first_after true kept) line q head)
     → ((i : HeldLine) (is : List HeldLine) → kept ++ line ∷ more ≡ i ∷ is → is_comment_line i.text ≡ false)
     → joined (as_lines (kept ++ record { bytes = head; text = h.text; ending = None } ∷ [])) ≡ joined_by true kept ++ q
@@ -544,7 +546,7 @@ kept-joined e (i ∷ kept) line more q head h f =
     ∙ joined_by-append true (i ∷ kept) (l ∷ [])
     ∙ ap (λ v. joined_by true (i ∷ kept) ++ v) (append-nil (added_by false h.text) ∙ head-adds e false line q head h)
 
--- no line of a pair's group is a comment line at its front
+-- A pair's group doesn't begin with a comment line.
 pub pair-unmarked : (i : HeldLine) (is : List HeldLine) (key value : List ℕ) → IsPair (joined (as_lines (i ∷ is))) key value → is_comment_line i.text ≡ false
 pair-unmarked i is key value h = elim (cases_Bool (is_comment_line i.text)) [
   | inl k ↦
@@ -553,11 +555,11 @@ pair-unmarked i is key value h = elim (cases_Bool (is_comment_line i.text)) [
   | inr k ↦ k
 ]
 
--- no lines are no pair
+-- An empty list of lines isn't a pair.
 pub no_lines-no_pair : (key value : List ℕ) → IsPair (joined (as_lines [])) key value → ⊥
 no_lines-no_pair key value h = h.not_empty (none-right h.indent (key ++ (h.between ++ value)) (sym h.whole))
 
--- What is computed is the front of a group that is a pair.
+-- The computed front is the front of a group that is a pair.
 pub front_of-meets : (e : Encoding) (group : List HeldLine) (key value : List ℕ) → is_editable e ≡ true → AreDecoded e group
     → IsPair (joined (as_lines group)) key value
     → IsFrontOf e group (between_of group) (front_of e group)
@@ -596,7 +598,7 @@ front_of-meets e (i ∷ is) key value ok d h =
       bytes = ap (λ v. front_in e true v (i ∷ is)) before ∙ m.bytes;
     }
 
--- the head of a front is the head of its line
+-- The head of a front is the head of its line.
 front-head : (e : Encoding) (group : List HeldLine) (between front : List ℕ) (f : IsFrontOf e group between front)
     → IsHead e (is_first_after true f.kept) f.line (without_indent (is_first_after true f.kept) f.head_text) f.head
 front-head e group between front f = record {
@@ -614,13 +616,13 @@ front-head e group between front f = record {
   adds = refl;
 }
 
--- The first line of a front's group is no comment line.
+-- The first line of a front's group isn't a comment line.
 pub front-unmarked : (e : Encoding) (group : List HeldLine) (between front : List ℕ) (f : IsFrontOf e group between front) (i : HeldLine) (is : List HeldLine)
     → f.kept ++ f.line ∷ f.more ≡ i ∷ is → is_comment_line i.text ≡ false
 front-unmarked e group between front f i is s =
     pair-unmarked i is f.key f.value (subst (λ v. IsPair (joined (as_lines v)) f.key f.value) {x = group} (f.division ∙ s) f.is_pair)
 
--- What stands before the value is what the lines that are kept add, and the head.
+-- What comes before the value is what the lines that are kept add, followed by what the head adds.
 pub front-text : (e : Encoding) (group : List HeldLine) (between front : List ℕ) (f : IsFrontOf e group between front)
     → f.is_pair.indent ++ (f.key ++ between) ≡ joined_by true f.kept ++ without_indent (is_first_after true f.kept) f.head_text
 unfolding front-head
@@ -629,7 +631,7 @@ front-text e group between front f =
     ∙ kept-joined e f.kept f.line f.more (without_indent (is_first_after true f.kept) f.head_text) f.head (front-head e group between front f)
     (front-unmarked e group between front f)
 
--- A front of a group is the one that is computed.
+-- A front of a group is the computed one.
 pub front_of-only : (e : Encoding) (group : List HeldLine) (between front : List ℕ) → is_editable e ≡ true → AreDecoded e group
     → IsFrontOf e group between front
     → (between ≡ between_of group) × (front ≡ front_of e group)

@@ -1,4 +1,5 @@
--- The groups of a body with a value set: what they come to, and that setting another value gives what it gives on the body itself.
+-- The groups of a body with a value set: their outcomes, and that setting another value has the same result as on the
+-- original body.
 use Rattle.std.proofs.Common.{◌≡◌, ◌≢◌, ℕ, true, false, List, [], ◌∷◌, ◌++◌, Option, Some, None, refl, ap, ap₂, sym, ◌∙◌, inl, inr, append_assoc, append-nil, subst}
 use Rattle.std.specs.Prelude.{All}
 use Rattle.std.proofs.lemmas.Bool.{cases_Bool, cond-true, cond-false}
@@ -32,13 +33,13 @@ use Rattle.properties_format.proofs.Valued.Pair.{after-bytes, new_bytes, new_lin
 use Rattle.properties_format.proofs.Valued.Separators.{added_bytes, added_line, added-pair, new_separator-fit}
 use Rattle.properties_format.proofs.Valued.Added.{empty_line, told-empty, closed-groups}
 
--- ---- what they come to
+-- ---- their outcomes
 
--- contents to which these groups come
+-- the outcomes of these groups are contents with this property
 abbrev pub AreTold : List (List HeldLine) → (List Content → Type 0) → Type 0
 AreTold gs Such = (new : List Content) × Such new × (told_by (as_groups gs) ≡ givens new)
 
--- where the last pair with a key has a value, or gets it, the contents are those with the key set to it
+-- If the last pair with a key has a value, or gets it, the contents are those with the key set to it.
 pub pair-told : (before : List (List HeldLine)) (g h : List HeldLine) (after : List (List HeldLine)) (key value : List ℕ) (old : List Content)
     → HasKey key g → NoneHasKey key after → HasPair key value h → told_by (as_groups (before ++ g ∷ after)) ≡ givens old
     → AreTold (before ++ h ∷ after) (IsSetIn key value old)
@@ -73,19 +74,20 @@ pair-told before g h after key value old k n p t =
 
 -- ---- the body with a value set
 
--- the group in this place, where there is one, has not the value
+-- the group at this place, if there is one, doesn't have the value
 abbrev pub IsNotAt : List ℕ → Option KeyPlace → Type 0
 IsNotAt value None = Unit {0}
 IsNotAt value (Some p) = has_value value p.group ≡ false
 
--- What is so of a body with a value set: its groups, what they come to, where the pair stands, and what setting another value gives.
+-- What holds for a body with a value set: its groups, their outcomes, the place of the pair, and the result of setting
+-- another value.
 pub record IsValued (e : Encoding) (gs : List (List HeldLine)) (key value body : List ℕ) : Type 0 where
   pub groups : List (List HeldLine)
   pub held : AreGroupsOf e body groups
   pub said : (old : List Content) → told_by (as_groups gs) ≡ givens old → AreTold groups (IsSetIn key value old)
   pub again : (second : List ℕ) → IsNotAt second (last_place key gs) → valued_at e groups key second (last_place key groups) ≡ valued_at e gs key second (last_place key gs)
 
--- a group that is a pair has one value
+-- A group that is a pair has exactly one value.
 one-value : (key value second : List ℕ) (g : List HeldLine) → HasPair key value g → has_value second g ≡ true → value ≡ second
 one-value key value second g h k =
     let s = sym (outcome_of-only (joined (as_lines g)) (given (pair key value)) h) in
@@ -93,7 +95,7 @@ one-value key value second g h k =
     let m : given (pair key value) ≡ given (pair key second) = sym s ∙ t in
     cc
 
--- what setting a value gives at the place of a pair that has a value: it depends on the pair's front alone
+-- The result of setting a value at the place of a pair that has a value depends only on the pair's front.
 again-at : (e : Encoding) (groups before : List (List HeldLine)) (g : List HeldLine) (after : List (List HeldLine)) (key value second body : List ℕ)
     → groups ≡ before ++ g ∷ after → HasPair key value g → NoneHasKey key after → groups_bytes groups ≡ body
     → (made : List ℕ → List ℕ) → body ≡ made value
@@ -107,7 +109,7 @@ again-at e groups before g after key value second body s h n b made m r =
       | inr k ↦ cond-false (has_value second g) (groups_bytes groups) (revalued_at e second p) k ∙ r
     ])
 
--- the value is there
+-- The last pair already has the value.
 there-valued : (e : Encoding) (gs : List (List HeldLine)) (key value body : List ℕ) → is_editable e ≡ true → AreLined e gs → IsThere gs key value body
     → IsValued e gs key value body
 there-valued e gs key value body ok l h = record {
@@ -120,7 +122,7 @@ there-valued e gs key value body ok l h = record {
 }
 
 -- the bytes of the groups with another value
-revalued-bytes : (e : Encoding) (before : List (List HeldLine)) (kept : List HeldLine) (head between front value : List ℕ) (ending : Option LineEnding)
+pub revalued-bytes : (e : Encoding) (before : List (List HeldLine)) (kept : List HeldLine) (head between front value : List ℕ) (ending : Option LineEnding)
     (after : List (List HeldLine)) → front ≡ group_bytes kept ++ head
     → groups_bytes (before ++ (kept ++ new_line e head between value ending ∷ []) ∷ after)
     ≡ groups_bytes before ++ (front ++ (encoded_text e (value_text e between value) ++ (ending_bytes ending ++ groups_bytes after)))
@@ -136,12 +138,12 @@ revalued-bytes e before kept head between front value ending after s =
     ∙ ap (λ v. v ++ (x ++ ending_bytes ending)) (sym s))
     ∙ ap (λ v. groups_bytes before ++ v) (append_assoc front (x ++ ending_bytes ending) (groups_bytes after) ∙ ap (λ v. front ++ v) (append_assoc x (ending_bytes ending) (groups_bytes after)))
 
--- what comes after the front, where that is the old one and what is missing
+-- What follows the front, if that is the old front followed by what was missing.
 after-missing : (e : Encoding) (between value : List ℕ) → value_text e (between_after between) value ≡ value_after e between value
 after-missing e [] value = refl
 after-missing e (c ∷ cs) value = refl
 
--- the last pair has another value
+-- The last pair has another value.
 revalued-valued : (e : Encoding) (source_body : List ℕ) (gs : List (List HeldLine)) (key value body : List ℕ) → is_editable e ≡ true → All scalar value
     → AreGroupsOf e source_body gs → IsRevalued e gs key value body
     → IsValued e gs key value body
@@ -194,12 +196,12 @@ revalued-valued e source_body gs key value body ok v held r =
 
 -- ---- a new pair
 
--- a new pair after a front, with a text that stands between the same
+-- A new pair after a front, with the same text between key and value.
 added-text : (e : Encoding) (between sep value : List ℕ) → between ≢ [] → is_blanks between ≡ is_blanks sep → value_text e between value ≡ spelt_value e (is_blanks sep) value
 added-text e [] sep value some same = absurd (some refl)
 added-text e (c ∷ cs) sep value some same = ap (λ b. spelt_value e b value) same
 
--- no pair has the key, and a new one is added
+-- No pair has the key, and a new one is added.
 added-valued : (e : Encoding) (source_body : List ℕ) (gs : List (List HeldLine)) (key value body : List ℕ) → is_editable e ≡ true → All scalar key → All scalar value
     → AreGroupsOf e source_body gs → NoneHasKey key gs → body ≡ added_at e gs key value
     → IsValued e gs key value body
@@ -265,7 +267,7 @@ added-valued e source_body gs key value body ok k v held none s =
         let q = outcome_of-only (joined (as_lines (empty_line e None ∷ []))) (given (pair key x)) h ∙ told-empty e None in
         absurd (cc)
 
--- A body with a value set is such.
+-- A body with a value set has these properties.
 pub body-valued : (e : Encoding) (source_body : List ℕ) (gs : List (List HeldLine)) (key value body : List ℕ) → is_editable e ≡ true → All scalar key → All scalar value
     → AreGroupsOf e source_body gs → IsBodyValued e gs key value body
     → IsValued e gs key value body

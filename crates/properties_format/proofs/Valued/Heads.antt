@@ -1,4 +1,4 @@
--- The head of a line: the bytes of the characters up to a place of its text, and that there is one such head.
+-- The head of a line: the bytes of the characters up to a position in its text. There is only one such head.
 use Rattle.std.proofs.Common.{◌≡◌, ◌⊎◌, ◌<◌, ℕ, true, List, [], ◌∷◌, ◌++◌, length, take, refl, ap, ap₂, sym, ◌∙◌, inl, inr, arith, append_assoc, append-nil, length-append, lit<}
 use Rattle.std.proofs.lemmas.List.{append_cancel_right}
 use Rattle.properties_format.specs.Text.{backslash}
@@ -15,14 +15,14 @@ use Rattle.properties_format.proofs.Cut.Byline.{nothing-decoded}
 
 -- ---- the bytes of the characters at the front of a line
 
--- in an encoding that is edited any byte may begin a unit
+-- In an encoding that can be edited, every byte is at a unit's boundary.
 pub aligned-editable : (e : Encoding) (d : List ℕ) → is_editable e ≡ true → IsAligned e d
 aligned-editable windows_1252 d ok = tt
 aligned-editable utf_8 d ok = tt
 aligned-editable utf_16le d ok = absurd (cc)
 aligned-editable utf_16be d ok = absurd (cc)
 
--- bytes that are cut after these pieces: the head is their bytes, and what is left is of the other pieces
+-- Bytes that are cut after these pieces: the head has the bytes of these pieces, and the rest has those of the others.
 record IsCutAfter (e : Encoding) (d : List ℕ) (ps : List Piece) (x y : List ℕ) : Type 0 where
   tail : List ℕ
   joins : d ≡ pieces_bytes ps ++ tail
@@ -32,7 +32,7 @@ record IsCutAfter (e : Encoding) (d : List ℕ) (ps : List Piece) (x y : List �
   are_back : IsPieces e tail back
   back_text : characters back ≡ y
 
--- pieces whose characters are a text and then another may be cut between the two
+-- If the characters of pieces are two texts, one after the other, the pieces may be cut between the two.
 cut-pieces : (e : Encoding) (d : List ℕ) (ps : List Piece) (x y : List ℕ) → is_editable e ≡ true → IsPieces e d ps → characters ps ≡ x ++ y
     → IsCutAfter e d (take (length x) ps) x y
 cut-pieces e d ps [] y ok h s = record { tail = d; joins = refl; front = refl; front_text = refl; back = ps; are_back = h; back_text = s }
@@ -57,14 +57,14 @@ cut-pieces e d (p ∷ ps) (c ∷ x) y ok (rest, t, h, k) s =
       back_text = m.back_text;
     }
 
--- The bytes of a line, cut where the text is: the head has the first text, and what is left the second.
+-- The bytes of a line, cut where its text is cut: the head decodes to the first text, the rest to the second.
 pub record IsHeadOf (e : Encoding) (d x y head : List ℕ) : Type 0 where
   pub tail : List ℕ
   pub joins : d ≡ head ++ tail
   pub head_text : decoded_line e head ≡ x
   pub tail_text : decoded_line e tail ≡ y
 
--- the bytes of so many characters are such a head
+-- The bytes of this many characters are such a head.
 pub head_of-meets : (e : Encoding) (d x y : List ℕ) → is_editable e ≡ true → decoded_line e d ≡ x ++ y → IsHeadOf e d x y (head_of e (length x) d)
 head_of-meets e d x y ok s =
     let m = cut-pieces e d (pieces_of e d) x y ok (pieces_of-meets e d) s in
@@ -76,46 +76,47 @@ head_of-meets e d x y ok s =
       tail_text = ap characters (sym (pieces_of-only e m.tail m.back m.are_back)) ∙ m.back_text;
     }
 
--- ---- there is one such head
+-- ---- there is only one such head
 
--- a text ends in an ASCII character
+-- the text ends in an ASCII character
 abbrev pub EndsInAscii : List ℕ → Type 0
 EndsInAscii x = (w : List ℕ) × (c : ℕ) × (x ≡ w ++ c ∷ []) × (c < 0x80)
 
--- only the bytes of an ASCII character are decoded to it
+-- Only the bytes of an ASCII character decode to it.
 ascii-own : (e : Encoding) (c : ℕ) → is_editable e ≡ true → ascii_bytes e c ≡ c ∷ []
 ascii-own windows_1252 c ok = refl
 ascii-own utf_8 c ok = refl
 ascii-own utf_16le c ok = absurd (cc)
 ascii-own utf_16be c ok = absurd (cc)
 
--- bytes whose text ends in an ASCII character end in it, and what stands before it has the text before it
+-- Bytes whose text ends in an ASCII character end in that character, and the bytes before it decode to the text before
+-- it.
 pub record EndsAscii (e : Encoding) (d w : List ℕ) (c : ℕ) : Type 0 where
   pub front : List ℕ
   pub bytes : d ≡ front ++ c ∷ []
   pub text : decoded_line e front ≡ w
 
--- they are such
+-- Bytes whose text ends in an ASCII character are of this form.
 pub ascii-end : (e : Encoding) (d w : List ℕ) (c : ℕ) → is_editable e ≡ true → c < 0x80 → decoded_line e d ≡ w ++ c ∷ [] → EndsAscii e d w c
 ascii-end e d w c ok l s =
     let k = cut-at_ascii e d w c [] l s in
     let n : k.1 ≡ [] = nothing-decoded e k.1 k.2.back in
     record { front = k.0; bytes = k.2.joins ∙ ap₂ (λ v z. k.0 ++ (v ++ z)) (ascii-own e c ok) n; text = k.2.front }
 
--- the text of bytes with an ASCII character among them
+-- The text of bytes that contain an ASCII character.
 pub ascii-among : (e : Encoding) (u : List ℕ) (c : ℕ) (v : List ℕ) → is_editable e ≡ true → c < 0x80
     → decoded_line e (u ++ c ∷ v) ≡ decoded_line e u ++ c ∷ decoded_line e v
 ascii-among e u c v ok l =
     ap (λ z. decoded_line e (u ++ (z ++ v))) (sym (ascii-own e c ok)) ∙ characters-cut_ascii e c u v l (aligned-editable e u ok)
 
--- a text is not itself with more after it
+-- A text isn't equal to itself with more after it.
 no-more : (x : List ℕ) (c : ℕ) (y : List ℕ) → x ≡ x ++ c ∷ y → ⊥
 no-more x c y h =
     let l : length x ≡ length (x ++ c ∷ y) = ap length h in
     let m = length-append x (c ∷ y) in
     absurd (omega arith)
 
--- two fronts of the same bytes, each before the same character, with the same text
+-- Two fronts of the same bytes, each before the same character, with the same text.
 same-fronts : (e : Encoding) (u v : List ℕ) (c : ℕ) (y z : List ℕ) → is_editable e ≡ true → c < 0x80 → u ++ c ∷ y ≡ v ++ c ∷ z
     → (w : List ℕ) → decoded_line e (w ++ u) ≡ decoded_line e (w ++ v) → u ≡ v
 same-fronts e [] [] c y z ok l s w h = refl
@@ -136,7 +137,7 @@ same-fronts e (b ∷ u) (d ∷ v) c y z ok l s w h =
     (same-fronts e u v c y z ok l r (w ++ b ∷ [])
     (ap (decoded_line e) (append_assoc w (b ∷ []) u) ∙ h ∙ ap (λ p. decoded_line e (w ++ p ∷ v)) (sym k) ∙ ap (decoded_line e) (sym (append_assoc w (b ∷ []) v))))
 
--- two heads with the same text, which ends in an ASCII character
+-- Two heads with the same text, which ends in an ASCII character.
 heads-ascii : (e : Encoding) (d x y a b : List ℕ) → is_editable e ≡ true → EndsInAscii x → IsHeadOf e d x y a → IsHeadOf e d x y b → a ≡ b
 heads-ascii e d x y a b ok (w, c, s, l) h k =
     let m = ascii-end e a w c ok l (h.head_text ∙ s) in
@@ -150,21 +151,21 @@ heads-ascii e d x y a b ok (w, c, s, l) h k =
     ∙ append_assoc n.front (c ∷ []) k.tail in
     m.bytes ∙ ap (λ v. v ++ c ∷ []) (same-fronts e m.front n.front c h.tail k.tail ok l t [] (m.text ∙ sym n.text)) ∙ sym n.bytes
 
--- two heads before the same bytes
+-- Two heads before the same bytes.
 heads-before : (d a b t : List ℕ) → d ≡ a ++ t → d ≡ b ++ t → a ≡ b
 heads-before d a b t h k = append_cancel_right a b t (sym h ∙ k)
 
--- only a backslash is decoded to one
+-- Only a backslash decodes to a backslash.
 pub backslash-own : (e : Encoding) (d : List ℕ) → is_editable e ≡ true → decoded_line e d ≡ backslash ∷ [] → d ≡ backslash ∷ []
 backslash-own e d ok s =
     let m = ascii-end e d [] backslash ok (lit< tt) s in
     m.bytes ∙ ap (λ v. v ++ backslash ∷ []) (nothing-decoded e m.front m.text)
 
--- what is left of the text is nothing, or a backslash
+-- what is left of the text is nothing or a backslash
 abbrev pub IsLittle : List ℕ → Type 0
 IsLittle y = (y ≡ []) ⊎ (y ≡ backslash ∷ [])
 
--- Of two heads with the same text, where it ends in an ASCII character or little is left, each is the other.
+-- Two heads with the same text are equal, if the text ends in an ASCII character or at most a backslash is left.
 pub heads-same : (e : Encoding) (d x y a b : List ℕ) → is_editable e ≡ true → EndsInAscii x ⊎ IsLittle y → IsHeadOf e d x y a → IsHeadOf e d x y b → a ≡ b
 heads-same e d x y a b ok (inl i) h k = heads-ascii e d x y a b ok i h k
 heads-same e d x y a b ok (inr (inl s)) h k =

@@ -9,7 +9,8 @@ use Rattle.properties_format.specs.Items.{Outcome, ignored, given, broken, IsOut
 use Rattle.properties_format.specs.Reading.Items.{outcome_of, followed, items_of}
 use Rattle.properties_format.specs.Maps.{HasNoPair, IsLastValue, HasValue}
 use Rattle.properties_format.specs.Body.{HeldLine, as_lines, NoneHasKey, groups_bytes}
-use Rattle.properties_format.specs.Edited.{bom_of, put, edited}
+use Rattle.properties_format.specs.Edited.{bom_of, edited}
+use Rattle.properties_format.specs.Edits.{put}
 use Rattle.properties_format.specs.EditLaws.{SettingItsOwnValueChangesNothing, SettingAValueTwiceIsSettingItOnce, SettingAValueAgainChangesNothing, SettingAValueGivesIt}
 use Rattle.properties_format.specs.Valued.{HasPair, IsSetValueResult}
 use Rattle.properties_format.specs.Reading.Body.{held_groups_of, entries_in}
@@ -30,7 +31,7 @@ use Rattle.properties_format.proofs.Valued.Read.{value_set-says, set_value-reads
 
 -- ---- the value of a key in a source
 
--- where an outcome is no pair with the key, its entry is none either
+-- If an outcome isn't a pair with the key, neither is its entry.
 followed-other : (key : List ℕ) (n : ℕ) (o : Outcome) (entries : List Entry) → ((v : List ℕ) → o ≡ given (pair key v) → ⊥) → AreItems (followed n o entries)
     → (AreItems entries → HasNoPair key entries) → HasNoPair key (followed n o entries)
 followed-other key n ignored entries h a k = k a
@@ -38,7 +39,7 @@ followed-other key n (given (comment text)) entries h a k = k a
 followed-other key n (given (pair l v)) entries h a k = ((λ s. h v (ap (λ x. given (pair x v)) s)), k a)
 followed-other key n (broken kind) entries h a k = absurd a
 
--- where no group has the key, no item is a pair with it
+-- If no group has the key, no item is a pair with it.
 none-pairs : (key : List ℕ) (n : ℕ) (gs : List (List HeldLine)) → NoneHasKey key gs → AreItems (entries_in n gs) → HasNoPair key (entries_in n gs)
 none-pairs key n [] h a = tt
 none-pairs key n (g ∷ gs) h a =
@@ -46,7 +47,7 @@ none-pairs key n (g ∷ gs) h a =
     (λ v s. h.0 (v, subst (IsOutcome (joined (as_lines g))) s (outcome_of-meets (joined (as_lines g))))) a
     (none-pairs key (n + length g) gs h.1)
 
--- one more entry in front changes nothing of the last value
+-- One more entry at the front doesn't change the last value.
 followed-last : (key value : List ℕ) (n : ℕ) (o : Outcome) (entries : List Entry) → AreItems (followed n o entries)
     → (AreItems entries → IsLastValue entries key value) → IsLastValue (followed n o entries) key value
 followed-last key value n ignored entries a k = k a
@@ -55,7 +56,7 @@ followed-last key value n (given content) entries a k =
     record { before = item n content ∷ m.before; number = m.number; after = m.after; division = ap (λ v. item n content ∷ v) m.division; no_later = m.no_later }
 followed-last key value n (broken kind) entries a k = absurd a
 
--- where the last group with the key has the value, the last item with it does
+-- If the last group with the key has the value, so does the last item with the key.
 groups-last : (key value : List ℕ) (n : ℕ) (before : List (List HeldLine)) (g : List HeldLine) (after : List (List HeldLine)) → HasPair key value g
     → NoneHasKey key after → AreItems (entries_in n (before ++ g ∷ after))
     → IsLastValue (entries_in n (before ++ g ∷ after)) key value
@@ -68,7 +69,7 @@ groups-last key value n (f ∷ before) g after h k a =
     followed-last key value n (outcome_of (joined (as_lines f))) (entries_in (n + length f) (before ++ g ∷ after)) a
     (groups-last key value (n + length f) before g after h k)
 
--- what the place of a key says of the source's value for it
+-- If the key has a place, the pair there has the source's value for the key.
 place-value : (e : Encoding) (source key : List ℕ) → IsReadable e source → (p : KeyPlace)
     → last_place key (held_groups_of (byte_order_mark e source).encoding (byte_order_mark e source).body) ≡ Some p
     → (value : List ℕ) × HasPair key value p.group × IsLastValue (items_of e source end) key value
@@ -82,7 +83,7 @@ place-value e source key r p s =
       subst (λ v. IsLastValue v key m.has.0) (sym all) (groups-last key m.has.0 1 p.before p.group p.after m.has.1 m.no_later (subst AreItems all r.no_fault)),
     )
 
--- and where there is none, that it has none
+-- If the key has no place, the source has no value for it.
 no_place-value : (e : Encoding) (source key : List ℕ) → IsReadable e source
     → last_place key (held_groups_of (byte_order_mark e source).encoding (byte_order_mark e source).body) ≡ None
     → HasNoPair key (items_of e source end)
@@ -93,7 +94,7 @@ no_place-value e source key r s =
     let all = items_of-groups e source in
     subst (HasNoPair key) (sym all) (none-pairs key 1 gs m (subst AreItems all r.no_fault))
 
--- a source that doesn't have the value doesn't have it at that place
+-- If the source doesn't have the value, the pair at that place doesn't have it.
 not-at : (e : Encoding) (source key value : List ℕ) → IsReadable e source → ¬ (HasValue e source key (Some value))
     → IsNotAt value (last_place key (held_groups_of (byte_order_mark e source).encoding (byte_order_mark e source).body))
 not-at e source key value r h =
@@ -122,7 +123,7 @@ not-at e source key value r h =
             outcome_of-only (joined (as_lines p.group)) (given (pair key w)) a ∙ sym (outcome_of-only (joined (as_lines p.group)) (given (pair key value)) b) in
             cc
 
--- where it does, setting that value makes the source
+-- If the source has the value, setting that value results in the source.
 own-made : (e : Encoding) (source key value : List ℕ) → IsReadable e source → HasValue e source key (Some value) → value_set e source key value ≡ source
 own-made e source key value r h =
     let f = byte_order_mark e source in
@@ -151,12 +152,12 @@ own-made e source key value r h =
 
 -- ---- the laws
 
--- Setting the value that a key has already changes no byte.
+-- Setting a key to the value that it already has changes no byte.
 pub setting-own_value : (e : Encoding) (source key value : List ℕ) → SettingItsOwnValueChangesNothing e source key value
 setting-own_value e source key value has result h =
     value_set-only e source key value result h.0 h.2 ∙ own-made e source key value (readable e source h.0 h.1) has
 
--- Setting a value twice is setting it once, to the later value, where the source doesn't have that one already.
+-- Setting a value twice equals setting it once, to the later value, if the source doesn't have that value already.
 pub setting-value_twice : (e : Encoding) (source key first second : List ℕ) → SettingAValueTwiceIsSettingItOnce e source key first second
 setting-value_twice e source key first second k v w other between h result =
     let r = readable e source h.0 h.1 in
@@ -168,7 +169,7 @@ setting-value_twice e source key first second k v w other between h result =
       (λ i. subst (IsSetValueResult e between key second) (sym (set_value_result-only e source key second result i ∙ sym same)) (set_value_result-meets e between key second)),
     )
 
--- Setting a value again changes no byte.
+-- Setting a value a second time changes no byte.
 pub setting-value_again : (e : Encoding) (source key value : List ℕ) → SettingAValueAgainChangesNothing e source key value
 setting-value_again e source key value k v between h =
     let f = byte_order_mark e source in
@@ -203,7 +204,7 @@ setting-value_again e source key value k v between h =
             outcome_of-only (joined (as_lines p.group)) (given (pair key w)) a ∙ sym (outcome_of-only (joined (as_lines p.group)) (given (pair key value)) b) in
             cc
 
--- After a value is set, the map has it for the key, and for every other key what it had.
+-- After a value is set, the map has it for the key, and for every other key what it had before.
 pub setting-value_gives : (e : Encoding) (source key value : List ℕ) → SettingAValueGivesIt e source key value
 setting-value_gives e source key value k v result h old new =
     maps-differ e source result key (put key value) (Some value) old new

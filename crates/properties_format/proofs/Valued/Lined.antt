@@ -1,4 +1,4 @@
--- Groups that are those of their own bytes, and what they stay so by: one of them is changed, or others come after them.
+-- Groups that are the groups of their own bytes, and what keeps them so: one of them is changed, or others follow them.
 use Rattle.std.proofs.Common.{◌≡◌, ◌≢◌, ℕ, true, List, [], ◌∷◌, ◌++◌, Option, Some, None, refl, ap, ap₂, sym, ◌∙◌, inl, inr, append_assoc, append-nil, subst}
 use Rattle.properties_format.specs.Text.{LineEnding, cr}
 use Rattle.properties_format.specs.Encoding.{Encoding}
@@ -15,7 +15,8 @@ use Rattle.properties_format.proofs.Body.Decoded.{IsCut-lines, cut_of-lines}
 use Rattle.properties_format.proofs.Body.Groups.{held_of-meets, held_of-only, as_lines-append, IsLastFit, AreFit, fit}
 use Rattle.properties_format.proofs.Body.Groups.{held_ended, cut-off, lines-front, lines-back, held-bytes, groups-bytes, fit-some}
 
--- Such groups: their lines are lines of a text, each decoded by itself, all but the last group are whole, and the last is whole or ends open.
+-- Lined groups: their lines are lines of a text, each decoded by itself; all groups but the last are whole; and the
+-- last is whole or ends open.
 pub record AreLined (e : Encoding) (gs : List (List HeldLine)) : Type 0 where
   pub ended : List Ended
   pub last : List ℕ
@@ -23,7 +24,7 @@ pub record AreLined (e : Encoding) (gs : List (List HeldLine)) : Type 0 where
   pub are_lines : AreLines ended last
   pub fit : AreFit gs
 
--- The groups of a body are such.
+-- The groups of a body are lined.
 pub groups-lined : (e : Encoding) (body : List ℕ) (gs : List (List HeldLine)) → is_editable e ≡ true → AreGroupsOf e body gs → AreLined e gs
 groups-lined e body gs ok h = record {
   ended = h.cut.ended;
@@ -33,12 +34,12 @@ groups-lined e body gs ok h = record {
   fit = fit gs h.grouped.whole h.grouped.unfinished h.grouped.are_groups h.grouped.are_whole h.grouped.is_unfinished;
 }
 
--- the texts of the lines of groups are those of the groups' texts
+-- The texts of the groups' lines are the lines of the groups' texts.
 texts-in : (gs : List (List HeldLine)) → as_lines (held_in gs) ≡ lines_in (as_groups gs)
 texts-in [] = refl
 texts-in (g ∷ gs) = as_lines-append g (held_in gs) ∙ ap (λ v. as_lines g ++ v) (texts-in gs)
 
--- groups that fit are those of their texts
+-- Groups, all of which but possibly the last are whole, are the groups of their texts.
 fit-groups : (gs : List (List HeldLine)) → AreFit gs → IsGroups (lines_in (as_groups gs)) end (as_groups gs)
 fit-groups [] h = record { whole = []; unfinished = []; are_lines = refl; are_whole = tt; is_unfinished = tt; are_groups = refl }
 fit-groups (g ∷ []) (inl h) =
@@ -57,11 +58,11 @@ fit-groups (g ∷ i ∷ gs) h =
       are_groups = ap (λ v. as_lines g ∷ v) m.are_groups;
     }
 
--- lines of a text are those of the same bytes
+-- Lines of a text are those of the same bytes.
 lines-cut : (e : Encoding) (d : List ℕ) (lines : Lines) → is_editable e ≡ true → IsLines d lines → IsCut e d lines
 lines-cut e d lines ok h = subst (IsCut e d) (sym (lines_of-only d lines h ∙ sym (cut_of-lines e d ok))) (cut_of-meets e d)
 
--- Such groups are those of their bytes.
+-- Lined groups are the groups of their bytes.
 pub lined-groups : (e : Encoding) (gs : List (List HeldLine)) → is_editable e ≡ true → AreLined e gs → AreGroupsOf e (groups_bytes gs) gs
 lined-groups e gs ok h =
     let lines : Lines = record { ended = h.ended; last = h.last } in
@@ -78,59 +79,59 @@ lined-groups e gs ok h =
 
 -- ---- lines one after the other
 
--- how the last of ended lines ends
+-- the line ending of the last of these lines
 abbrev pub last_by : List Ended → Option LineEnding
 last_by [] = None
 last_by (l ∷ []) = Some l.by
 last_by (l ∷ m ∷ ls) = last_by (m ∷ ls)
 
--- lines and then others are lines together, where they part no CR from an LF
+-- Lines followed by others are lines together, if no CR is separated from an LF.
 pub lines-join : (x y : List Ended) (last : List ℕ) → AreLines x [] → (last_by x ≡ Some cr → BeginsWithNoLoneLf y) → AreLines y last → AreLines (x ++ y) last
 lines-join [] y last h s k = k
 lines-join (l ∷ []) y last h s k = (h.0, (λ q. s (ap Some q)), k)
 lines-join (l ∷ m ∷ x) y last h s k = (h.0, h.1, lines-join (m ∷ x) y last h.2 s k)
 
--- lines together part none
+-- Lines that are lines together separate no CR from an LF.
 pub lines-seam : (x y : List Ended) (last : List ℕ) → AreLines (x ++ y) last → last_by x ≡ Some cr → BeginsWithNoLoneLf y
 lines-seam [] y last h q = absurd (cc)
 lines-seam (l ∷ []) y last h q = h.1 (cc)
 lines-seam (l ∷ m ∷ x) y last h q = lines-seam (m ∷ x) y last h.2 q
 
--- how lines and then others end
+-- The line ending of the last of two lists of lines.
 pub last_by-append : (x y : List Ended) → y ≢ [] → last_by (x ++ y) ≡ last_by y
 last_by-append [] y h = refl
 last_by-append (l ∷ []) [] h = absurd (h refl)
 last_by-append (l ∷ []) (m ∷ y) h = refl
 last_by-append (l ∷ m ∷ x) y h = last_by-append (m ∷ x) y h
 
--- with another last line they are lines too
+-- With another last line, they are still lines.
 pub lines-last : (x : List Ended) (last : List ℕ) → AreLines x [] → HoldsNoLineEnd last → AreLines x last
 lines-last [] last h k = k
 lines-last (l ∷ x) last h k = (h.0, h.1, lines-last x last h.2 k)
 
--- ended lines and then all others
+-- Ended lines followed by all the others.
 pub held_of-append : (e : Encoding) (x y : List Ended) (last : List ℕ) → held_of e (x ++ y) last ≡ held_ended e x ++ held_of e y last
 held_of-append e [] y last = refl
 held_of-append e (l ∷ x) y last = ap (λ v. record { bytes = l.text; text = decoded_line e l.text; ending = Some l.by } ∷ v) (held_of-append e x y last)
 
--- ended lines and then others
+-- Ended lines followed by other ended lines.
 pub held_ended-append : (e : Encoding) (x y : List Ended) → held_ended e (x ++ y) ≡ held_ended e x ++ held_ended e y
 held_ended-append e [] y = refl
 held_ended-append e (l ∷ x) y = ap (λ v. record { bytes = l.text; text = decoded_line e l.text; ending = Some l.by } ∷ v) (held_ended-append e x y)
 
--- how the last of them ends
+-- The line ending of the last of them.
 pub last_ending-ended : (e : Encoding) (x : List Ended) → last_ending (held_ended e x) ≡ last_by x
 last_ending-ended e [] = refl
 last_ending-ended e (l ∷ []) = refl
 last_ending-ended e (l ∷ m ∷ x) = last_ending-ended e (m ∷ x)
 
--- the last of all lines of a body has none
+-- The last line of a body has no line ending.
 pub last_ending-held : (e : Encoding) (x : List Ended) (last : List ℕ) → last_ending (held_of e x last) ≡ None
 last_ending-held e [] last = refl
 last_ending-held e (l ∷ []) last = refl
 last_ending-held e (l ∷ m ∷ x) last = last_ending-held e (m ∷ x) last
 
--- the last of two parts of lines
+-- The line ending of the last line of two parts.
 pub last_ending-append : (a b : List HeldLine) → b ≢ [] → last_ending (a ++ b) ≡ last_ending b
 last_ending-append [] b h = refl
 last_ending-append (l ∷ []) [] h = absurd (h refl)
@@ -139,7 +140,7 @@ last_ending-append (l ∷ m ∷ a) b h = last_ending-append (m ∷ a) b h
 
 -- ---- groups one after the other
 
--- the lines of groups and then of others
+-- The lines of two lists of groups.
 pub held_in-append : (gs hs : List (List HeldLine)) → held_in (gs ++ hs) ≡ held_in gs ++ held_in hs
 held_in-append [] hs = refl
 held_in-append (g ∷ gs) hs = ap (λ v. g ++ v) (held_in-append gs hs) ∙ sym (append_assoc g (held_in gs) (held_in hs))
@@ -149,31 +150,31 @@ abbrev pub AreAllWhole : List (List HeldLine) → Type 0
 AreAllWhole [] = Unit {0}
 AreAllWhole (g ∷ gs) = IsWhole (as_lines g) × AreAllWhole gs
 
--- whole groups and then others that fit
+-- Whole groups followed by others that fit.
 pub fit-join : (gs : List (List HeldLine)) (h : List HeldLine) (hs : List (List HeldLine)) → AreAllWhole gs → AreFit (h ∷ hs) → AreFit (gs ++ h ∷ hs)
 fit-join [] h hs w k = k
 fit-join (g ∷ []) h hs w k = (w.0, k)
 fit-join (g ∷ i ∷ gs) h hs w k = (w.0, fit-join (i ∷ gs) h hs w.1 k)
 
--- of groups that fit, those before another are whole, and those from it on fit
+-- Of groups that fit, those before another are whole, and those from it on fit.
 pub fit-parts : (gs : List (List HeldLine)) (h : List HeldLine) (hs : List (List HeldLine)) → AreFit (gs ++ h ∷ hs) → AreAllWhole gs × AreFit (h ∷ hs)
 fit-parts [] h hs k = (tt, k)
 fit-parts (g ∷ []) h hs k = ((k.0, tt), k.1)
 fit-parts (g ∷ i ∷ gs) h hs k = let m = fit-parts (i ∷ gs) h hs k.1 in ((k.0, m.0), m.1)
 
--- a group is whole or ends open, wherever it stands
+-- Any group is whole or ends open.
 pub fit-first : (h : List HeldLine) (hs : List (List HeldLine)) → AreFit (h ∷ hs) → IsLastFit h
 fit-first h [] k = k
 fit-first h (i ∷ hs) k = inl k.0
 
--- and where it is changed to a whole one they fit again
+-- If such a group is changed to a whole one, the groups still fit.
 pub fit-changed : (g h : List HeldLine) (hs : List (List HeldLine)) → IsWhole (as_lines g) → AreFit (h ∷ hs) → AreFit (g ∷ hs)
 fit-changed g h [] w k = inl w
 fit-changed g h (i ∷ hs) w k = (w, k.1)
 
--- ---- a group is changed
+-- ---- changing a group
 
--- ended lines are cut off from ended lines
+-- Ended lines are cut off from ended lines.
 pub record IsParted (e : Encoding) (a b : List HeldLine) (ls : List Ended) : Type 0 where
   pub front : List Ended
   pub back : List Ended
@@ -181,7 +182,7 @@ pub record IsParted (e : Encoding) (a b : List HeldLine) (ls : List Ended) : Typ
   pub first : a ≡ held_ended e front
   pub second : b ≡ held_ended e back
 
--- each division of ended lines is one of lines of a text
+-- Each division of ended lines is a division of a text's lines.
 pub part-ended : (e : Encoding) (a b : List HeldLine) (ls : List Ended) → a ++ b ≡ held_ended e ls → IsParted e a b ls
 part-ended e [] b ls h = record { front = []; back = ls; all = refl; first = refl; second = h }
 part-ended e (l ∷ a) b [] h = absurd (cc)
@@ -191,12 +192,12 @@ part-ended e (l ∷ a) b (m ∷ ls) h =
     let r = part-ended e a b ls q in
     record { front = m ∷ r.front; back = r.back; all = ap (λ v. m ∷ v) {y = r.front ++ r.back} r.all; first = ap₂ (λ v w. v ∷ w) p r.first; second = r.second }
 
--- some lines have others after them
+-- Lines with another line after them aren't empty.
 cons-some : (a : List HeldLine) (l : HeldLine) (b : List HeldLine) → a ++ l ∷ b ≢ []
 cons-some [] l b = λ q. cc
 cons-some (m ∷ a) l b = λ q. cc
 
--- A group that keeps its first lines, and has another line in the place of the others, with their last line ending.
+-- A group that keeps its first lines and has another line instead of the rest, with the same last line ending.
 pub changed-lined : (e : Encoding) (before : List (List HeldLine)) (kept : List HeldLine) (line : HeldLine) (more : List HeldLine) (after : List (List HeldLine)) (bytes : List ℕ)
     → AreLined e (before ++ (kept ++ line ∷ more) ∷ after) → HoldsNoLineEnd bytes → bytes ≢ []
     → IsWhole (as_lines (kept ++ record { bytes = bytes; text = decoded_line e bytes; ending = last_ending (kept ++ line ∷ more) } ∷ []))
@@ -271,32 +272,32 @@ changed-lined e before kept line more (i ∷ after) bytes h plain some whole =
 
 -- ---- the bytes of lines
 
--- no line's bytes hold a line end
+-- the bytes of the lines contain no line end
 abbrev pub ArePlain : List HeldLine → Type 0
 ArePlain [] = Unit {0}
 ArePlain (h ∷ hs) = HoldsNoLineEnd h.bytes × ArePlain hs
 
--- so it is of the lines of a text
+-- This holds for the lines of a text.
 held-plain : (e : Encoding) (ls : List Ended) (last : List ℕ) → AreLines ls last → ArePlain (held_of e ls last)
 held-plain e [] last h = (h, tt)
 held-plain e (l ∷ ls) last h = (h.0, held-plain e ls last h.2)
 
--- and of some of them
+-- This holds for some of them.
 pub plain-lines : (a : List HeldLine) (h : HeldLine) (b : List HeldLine) → ArePlain (a ++ h ∷ b) → HoldsNoLineEnd h.bytes
 plain-lines [] h b k = k.0
 plain-lines (i ∷ a) h b k = plain-lines a h b k.1
 
--- the first of such lines are such
+-- It holds for the first lines if it holds for all.
 plain-left : (a b : List HeldLine) → ArePlain (a ++ b) → ArePlain a
 plain-left [] b h = tt
 plain-left (l ∷ a) b h = (h.0, plain-left a b h.1)
 
--- and so are the others
+-- It holds for the other lines if it holds for all.
 plain-right : (a b : List HeldLine) → ArePlain (a ++ b) → ArePlain b
 plain-right [] b h = h
 plain-right (l ∷ a) b h = plain-right a b h.1
 
--- and of the lines of a group
+-- It holds for the lines of a group.
 pub group-plain : (e : Encoding) (before : List (List HeldLine)) (g : List HeldLine) (after : List (List HeldLine)) → AreLined e (before ++ g ∷ after) → ArePlain g
 group-plain e before g after h =
     plain-left g (held_in after)

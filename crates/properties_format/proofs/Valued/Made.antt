@@ -1,4 +1,4 @@
--- What is computed for a value that is set in place is that edit, and the only one.
+-- The computed result of setting a value in place is the result of that edit, and the only one.
 use Rattle.std.proofs.Common.{◌≡◌, ℕ, true, false, List, [], ◌∷◌, ◌++◌, Option, Some, None, refl, ap, ap₂, sym, ◌∙◌, inl, inr, subst}
 use Rattle.std.proofs.lemmas.Bool.{cases_Bool, cond-true, cond-false, false_from_ne_true}
 use Rattle.std.proofs.lemmas.Slice.Eq.{bytes_eq-Decides}
@@ -28,28 +28,28 @@ use Rattle.properties_format.proofs.Valued.Fronts.{AreDecoded, front_of-meets, f
 
 -- ---- the lines of a body are decoded
 
--- the lines that a body holds are decoded
+-- The lines of a body are decoded to their texts.
 held-decoded : (e : Encoding) (ls : List Ended) (last : List ℕ) (held : List HeldLine) → AreHeld e ls last held → AreDecoded e held
 held-decoded e [] last held (x, h, s) = rw s (sym (decoded_line-only e last x h), tt)
 held-decoded e (l ∷ ls) last held (x, rest, h, s, k) = rw s (sym (decoded_line-only e l.text x h), held-decoded e ls last rest k)
 
--- and so are the lines of their groups
+-- The first of such lines are decoded to their texts.
 decoded-left : (e : Encoding) (a b : List HeldLine) → AreDecoded e (a ++ b) → AreDecoded e a
 decoded-left e [] b h = tt
 decoded-left e (l ∷ a) b h = (h.0, decoded-left e a b h.1)
 
--- the later lines too
+-- The later lines are decoded to their texts.
 decoded-right : (e : Encoding) (a b : List HeldLine) → AreDecoded e (a ++ b) → AreDecoded e b
 decoded-right e [] b h = h
 decoded-right e (l ∷ a) b h = decoded-right e a b h.1
 
--- so those of one of the groups
+-- The lines of one of the groups are decoded to their texts.
 decoded-group : (e : Encoding) (before : List (List HeldLine)) (g : List HeldLine) (after : List (List HeldLine))
     → AreDecoded e (held_in (before ++ g ∷ after)) → AreDecoded e g
 decoded-group e [] g after h = decoded-left e g (held_in after) h
 decoded-group e (f ∷ before) g after h = decoded-group e before g after (decoded-right e f (held_in (before ++ g ∷ after)) h)
 
--- The lines of a group of a body are decoded.
+-- The lines of a group of a body are decoded to their texts.
 pub group-decoded : (e : Encoding) (body : List ℕ) (groups before : List (List HeldLine)) (g : List HeldLine) (after : List (List HeldLine))
     → AreGroupsOf e body groups → groups ≡ before ++ g ∷ after → AreDecoded e g
 group-decoded e body groups before g after h s =
@@ -57,12 +57,12 @@ group-decoded e body groups before g after h s =
 
 -- ---- whether a pair has the value
 
--- an outcome that passes the tests is the pair
+-- An outcome that passes the tests is the pair.
 pair-to : (key value : List ℕ) (o : Outcome) → (old : List ℕ) → o ≡ given (pair key old) → is_pair_to value o ≡ true → o ≡ given (pair key value)
 pair-to key value o old s h =
     let t : old ≡ value = (bytes_eq-Decides old value).0 (ap (is_pair_to value) (sym s) ∙ h) in s ∙ ap (λ v. given (pair key v)) t
 
--- a group with the key that passes the test is the pair
+-- A group with the key that passes the test is the pair.
 pub has_value-true : (key value : List ℕ) (g : List HeldLine) → HasKey key g → has_value value g ≡ true → HasPair key value g
 has_value-true key value g (old, k) h =
     let line = joined (as_lines g) in
@@ -70,22 +70,22 @@ has_value-true key value g (old, k) h =
     let t : outcome_of line ≡ given (pair key value) = pair-to key value (outcome_of line) old s h in
     rw t at (outcome_of-meets line)
 
--- and the pair passes it
+-- The pair passes the test.
 pub HasPair-test : (key value : List ℕ) (g : List HeldLine) → HasPair key value g → has_value value g ≡ true
 HasPair-test key value g h =
     ap (is_pair_to value) (sym (outcome_of-only (joined (as_lines g)) (given (pair key value)) h)) ∙ (bytes_eq-Decides value value).1 refl
 
--- a group that doesn't pass it is not that pair
+-- A group that doesn't pass the test isn't that pair.
 pub has_value-false : (key value : List ℕ) (g : List HeldLine) → has_value value g ≡ false → ¬ (HasPair key value g)
 has_value-false key value g h = λ k. let m = HasPair-test key value g k in absurd (cc)
 
--- and one that is not doesn't pass it
+-- A group that isn't that pair doesn't pass the test.
 pub no_value-test : (key value : List ℕ) (g : List HeldLine) → HasKey key g → ¬ (HasPair key value g) → has_value value g ≡ false
 no_value-test key value g k h = false_from_ne_true (has_value value g) (λ m. h (has_value-true key value g k m))
 
 -- ---- the separator of a new pair
 
--- where no group is a pair, there is no last one
+-- If no group is a pair, there is no last one.
 last_between-none : (gs : List (List HeldLine)) → NoPairs gs → last_between gs ≡ None
 last_between-none [] h = refl
 last_between-none (g ∷ gs) h =
@@ -97,12 +97,12 @@ last_between-none (g ∷ gs) h =
     of-split (Logical.comment text) s = rw s refl
     of-split (Logical.pair key value) s = let m : IsPair (joined (as_lines g)) key value = rw s at (split_of-meets (joined (as_lines g))) in absurd (h.0 key value m)
 
--- what stands in a pair
+-- What separates the key from the value of a pair.
 told-pair : (line key value : List ℕ) (h : IsPair line key value) → between_told (split_of line) line ≡ Some h.between
 told-pair line key value h =
     ap (λ v. between_told v line) (sym (split_of-only line (Logical.pair key value) h)) ∙ ap Some (between_in-pair line key value h)
 
--- and after which no group is one
+-- The last pair is one that no other pair follows.
 last_between-some : (before : List (List HeldLine)) (g : List HeldLine) (after : List (List HeldLine)) (key value : List ℕ)
     (h : IsPair (joined (as_lines g)) key value) → NoPairs after → last_between (before ++ g ∷ after) ≡ Some h.between
 last_between-some [] g after key value h k =
@@ -111,17 +111,17 @@ last_between-some [] g after key value h k =
 last_between-some (f ∷ before) g after key value h k =
     ap (λ v. or_else v (between_told (split_of (joined (as_lines f))) (joined (as_lines f)))) (last_between-some before g after key value h k)
 
--- nothing before a text is the text
+-- The first choice followed by nothing is the first choice.
 or_else-none : (a : Option (List ℕ)) → or_else a None ≡ a
 or_else-none None = refl
 or_else-none (Some x) = refl
 
--- the first of three
+-- Choosing the first of three is associative.
 or_else-three : (a b c : Option (List ℕ)) → or_else (or_else a b) c ≡ or_else a (or_else b c)
 or_else-three None b c = refl
 or_else-three (Some x) b c = refl
 
--- One more group: its own separator where it is a pair, and else that of the last pair before it.
+-- One more group: its own separator if it is a pair, otherwise that of the last pair before it.
 pub last_between-push : (gs : List (List HeldLine)) (g : List HeldLine)
     → last_between (gs ++ g ∷ []) ≡ or_else (between_told (split_of (joined (as_lines g))) (joined (as_lines g))) (last_between gs)
 last_between-push [] g = sym (or_else-none (between_told (split_of (joined (as_lines g))) (joined (as_lines g))))
@@ -130,7 +130,7 @@ last_between-push (f ∷ gs) g =
     ap (λ v. or_else v told) (last_between-push gs g)
     ∙ or_else-three (between_told (split_of (joined (as_lines g))) (joined (as_lines g))) (last_between gs) told
 
--- the separator is what is computed
+-- The separator is the computed one.
 new_separator-only : (groups : List (List HeldLine)) (key separator : List ℕ) → IsNewSeparator groups key separator
     → separator ≡ separator_by key (last_between groups)
 new_separator-only groups key separator (inl h) =
@@ -138,7 +138,7 @@ new_separator-only groups key separator (inl h) =
     ∙ ap (separator_by key) (sym (ap last_between h.division ∙ last_between-some h.before h.group h.after h.key h.value h.is_pair h.no_later))
 new_separator-only groups key separator (inr h) = h.1 ∙ ap (separator_by key) (sym (last_between-none groups h.0))
 
--- the last pair, or that there is none
+-- The last pair of the groups, or that there is none.
 data LastPair (gs : List (List HeldLine)) : Type 0 where
   none : NoPairs gs → LastPair gs
   some : (before : List (List HeldLine)) (g : List HeldLine) (after : List (List HeldLine)) (key value : List ℕ) → gs ≡ before ++ g ∷ after
@@ -146,7 +146,7 @@ data LastPair (gs : List (List HeldLine)) : Type 0 where
       → NoPairs after
       → LastPair gs
 
--- groups have a last pair, or none
+-- Groups have a last pair, or none.
 last_pair : (gs : List (List HeldLine)) → LastPair gs
 last_pair [] = none tt
 last_pair (g ∷ gs) = in-front (last_pair gs)
@@ -161,7 +161,7 @@ last_pair (g ∷ gs) = in-front (last_pair gs)
     in-front (none h) = of-split (split_of (joined (as_lines g))) refl h
     in-front (some before f after key value s m h) = some (g ∷ before) f after key value (ap (λ v. g ∷ v) s) m h
 
--- what is computed is the separator
+-- The computed separator is the separator.
 pub new_separator-meets : (groups : List (List HeldLine)) (key : List ℕ) → IsNewSeparator groups key (separator_by key (last_between groups))
 new_separator-meets groups key = of-last (last_pair groups)
   where
@@ -179,13 +179,13 @@ new_separator-meets groups key = of-last (last_pair groups)
       separator_is = ap (separator_by key) (ap last_between s ∙ last_between-some before g after k value m h);
     })
 
--- ---- a value is set
+-- ---- setting a value
 
--- a pair's group is a pair as it is written
+-- The group of a pair is a pair as it is written.
 raw-pair : (key : List ℕ) (g : List HeldLine) → HasKey key g → (k : List ℕ) × (v : List ℕ) × IsPair (joined (as_lines g)) k v
 raw-pair key g (value, h) = (h.raw_key, h.raw_value, h.split)
 
--- the body that is computed is such a body
+-- The computed body is a body with the value set.
 valued-meets : (e : Encoding) (body key value : List ℕ) (gs : List (List HeldLine)) (o : Option KeyPlace) → is_editable e ≡ true → AreGroupsOf e body gs
     → IsPlace key gs o → IsBodyValued e gs key value (valued_at e gs key value o)
 valued-meets e body key value gs None ok g h =
@@ -218,7 +218,7 @@ valued-meets e body key value gs (Some p) ok g h = elim (cases_Bool (has_value v
       }))
 ]
 
--- and such a body is what is computed
+-- A body with the value set is the computed one.
 pub valued-only : (e : Encoding) (body key value : List ℕ) (gs : List (List HeldLine)) (result : List ℕ) → is_editable e ≡ true → AreGroupsOf e body gs
     → IsBodyValued e gs key value result → result ≡ valued_at e gs key value (last_place key gs)
 valued-only e body key value gs result ok g (inl h) =
@@ -254,7 +254,7 @@ value_set-meets e source key value ok =
       whole = refl;
     }
 
--- A source with the value set is what is computed.
+-- A source with the value set is the computed one.
 pub value_set-only : (e : Encoding) (source key value result : List ℕ) → is_editable (byte_order_mark e source).encoding ≡ true
     → IsValueSet e source key value result → result ≡ value_set e source key value
 value_set-only e source key value result ok h =
@@ -263,7 +263,7 @@ value_set-only e source key value result ok h =
     ∙ ap (λ v. bom_of source ++ v) (valued-only f.encoding f.body key value h.groups h.body ok h.held h.edited)
     ∙ ap (λ v. bom_of source ++ valued_at f.encoding v key value (last_place key v)) (held_groups_of-only f.encoding f.body h.groups h.held)
 
--- The result of setting a value is what is computed, and nothing else is.
+-- What is computed is a result of setting a value.
 pub set_value_result-meets : (e : Encoding) (source key value : List ℕ) → IsSetValueResult e source key value (set_value_result e source key value)
 set_value_result-meets e source key value =
     result_of-meets e source (value_set e source key value) (IsValueSet e source key value) (value_set-meets e source key value)

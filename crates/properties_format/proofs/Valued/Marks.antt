@@ -1,4 +1,5 @@
--- A source with a value set is in force as it was: the byte order mark stays, and where there was none, none comes to be.
+-- The encoding in force of a source with a value set is that of the source: the byte order mark stays, and no new one
+-- appears.
 use Rattle.std.proofs.Common.{◌≡◌, ◌⊎◌, ◌<◌, ℕ, ◌==◌, ◌||◌, true, false, List, [], ◌∷◌, ◌++◌, refl, ap, sym, ◌∙◌, inl, inr, append_assoc, append-nil, lit<, subst}
 use Rattle.std.specs.Prelude.{unwrap_or}
 use Rattle.std.proofs.lemmas.Bool.{cases_Bool, and_parts, and_from, or_cases, or_left, or_right, false_from_ne_true}
@@ -20,14 +21,14 @@ use Rattle.properties_format.proofs.Valued.Separators.{new_separator-fit}
 
 -- ---- the front of bytes
 
--- bytes that begin with others do so with more after them
+-- Bytes that begin with others still do with more after them.
 begins-more : (m b z : List ℕ) → begins_with m b ≡ true → begins_with m (b ++ z) ≡ true
 begins-more [] b z h = refl
 begins-more (c ∷ m) [] z h = absurd (cc)
 begins-more (c ∷ m) (d ∷ b) z h =
     let p = and_parts (c == d) (begins_with m b) h in and_from (c == d) (begins_with m (b ++ z)) p.0 (begins-more m b z p.1)
 
--- and so bytes that begin like a byte order mark
+-- Bytes that begin like a byte order mark still do with more after them.
 like-more : (b z : List ℕ) → begins_like_bom b ≡ true → begins_like_bom (b ++ z) ≡ true
 like-more b z h =
     let x = begins_with utf_8_bom (b ++ z) in
@@ -41,14 +42,14 @@ like-more b z h =
       ]
     ]
 
--- the front of bytes that begin like none, and then an ASCII character and any bytes, begin like none
+-- If bytes don't begin like a byte order mark, neither does their front followed by an ASCII character and any bytes.
 prefix-unmarked : (b z : List ℕ) (c : ℕ) (y : List ℕ) → c < 0x80 → begins_like_bom (b ++ z) ≡ false → begins_like_bom (b ++ c ∷ y) ≡ false
 prefix-unmarked b z c y l h =
     byte_order_mark-cut b c y l ∙ false_from_ne_true (begins_like_bom b) (λ k. let m = like-more b z k in cc)
 
 -- ---- the last pair has another value
 
--- the bytes of a group are those of its front, and others
+-- The bytes of a group are those of its front, followed by others.
 pub front-bytes : (e : Encoding) (group : List HeldLine) (between front : List ℕ) (f : IsFrontOf e group between front)
     → group_bytes group ≡ front ++ (f.tail ++ (ending_bytes f.line.ending ++ group_bytes f.more))
 front-bytes e group between front f =
@@ -60,7 +61,7 @@ front-bytes e group between front f =
     ∙ sym (append_assoc (group_bytes f.kept) f.head (f.tail ++ rest))
     ∙ ap (λ v. v ++ (f.tail ++ rest)) (sym f.bytes)
 
--- a front with what is spelt for a value, in the place of a group at the front of a body
+-- A front followed by what is printed for a value, instead of a group at the front of a body.
 front-valued : (e : Encoding) (group : List HeldLine) (between front value : List ℕ) (f : IsFrontOf e group between front) (rest more : List ℕ)
     → is_editable e ≡ true
     → begins_like_bom (front ++ rest) ≡ false → begins_like_bom (front ++ (encoded_text e (value_text e between value) ++ more)) ≡ false
@@ -77,7 +78,7 @@ front-valued e group (b ∷ bs) front value f rest more ok h =
     ap begins_like_bom (s (encoded_text e (value_text e (b ∷ bs) value) ++ more))
     ∙ prefix-unmarked w (m.1 ∷ rest) m.1 (encoded_text e (value_text e (b ∷ bs) value) ++ more) m.3 (ap begins_like_bom (sym (s rest)) ∙ h)
 
--- where the last pair has another value, a body that began like no byte order mark begins like none
+-- If the last pair gets another value, a body that didn't begin like a byte order mark still doesn't.
 revalued-unmarked : (e : Encoding) (gs : List (List HeldLine)) (key value body : List ℕ) → is_editable e ≡ true → AreHeldGroups e gs
     → begins_like_bom (groups_bytes gs) ≡ false → IsRevalued e gs key value body
     → begins_like_bom body ≡ false
@@ -102,7 +103,7 @@ revalued-unmarked e gs key value body ok k h r = of_before r.before r.division r
 
 -- ---- a new pair
 
--- a new pair at the front begins like none
+-- A new pair at the front doesn't begin like a byte order mark.
 first-unmarked : (e : Encoding) (key sep value : List ℕ) (by : LineEnding) (groups : List (List HeldLine)) → IsNewSeparator groups key sep
     → begins_like_bom (encoded_text e (spelt_key e false true key ++ (sep ++ spelt_value e (is_blanks sep) value)) ++ line_ending_text by) ≡ false
 first-unmarked e key sep value by groups s =
@@ -111,7 +112,7 @@ first-unmarked e key sep value by groups s =
     ∙ ending-cut x by []
     ∙ pair-unmarked e false key sep (spelt_value e (is_blanks sep) value) (new_separator-fit groups key sep s).good
 
--- what parts a pair from the last group is nothing after an empty line, or begins with a line ending
+-- What separates a pair from the last group is empty after an empty line, and otherwise begins with a line ending.
 parted-cases : (by : LineEnding) (g : List HeldLine)
     → (is_empty_line g ≡ true) × (parted_by (line_ending_text by) g ≡ []) ⊎ (rest : List ℕ) × (parted_by (line_ending_text by) g ≡ line_ending_text by ++ rest)
 parted-cases by g = elim (cases_Bool (is_empty_line g)) [
@@ -122,7 +123,7 @@ parted-cases by g = elim (cases_Bool (is_empty_line g)) [
   ]
 ]
 
--- where a new pair is added, a body that began like no byte order mark begins like none
+-- If a new pair is added, a body that didn't begin like a byte order mark still doesn't.
 added-unmarked : (e : Encoding) (gs : List (List HeldLine)) (key value body : List ℕ) → AreHeldGroups e gs → begins_like_bom (groups_bytes gs) ≡ false
     → IsAdded e gs key value body → begins_like_bom body ≡ false
 added-unmarked e gs key value body k h r = elim (parted-cases (ending_among lf (held_in gs)) (final_group gs)) [
@@ -154,7 +155,7 @@ added-unmarked e gs key value body k h r = elim (parted-cases (ending_among lf (
 
 -- ---- the source
 
--- What is in force after a value is set: the encoding that was, and the body with the value.
+-- After a value is set, the same encoding is in force, with the edited body.
 pub value_set-in_force : (e : Encoding) (source key value result : List ℕ) → is_editable (byte_order_mark e source).encoding ≡ true
     → (h : IsValueSet e source key value result)
     → byte_order_mark e result ≡ record { encoding = (byte_order_mark e source).encoding; body = h.body }

@@ -1,4 +1,5 @@
--- The group of a pair that has another value: it is that pair, and its front is the old one, with an equals sign where nothing stood between key and value.
+-- The group of a pair that gets another value: it is that pair, and its front is the old front, followed by an equals
+-- sign if nothing separated the key from the value.
 use Rattle.std.proofs.Common.{◌≡◌, ◌≢◌, ℕ, true, false, List, [], ◌∷◌, ◌++◌, Option, None, refl, ap, ap₂, sym, ◌∙◌, append_assoc, append-nil, lit<, subst}
 use Rattle.std.specs.Prelude.{All, unwrap_or}
 use Rattle.std.proofs.lemmas.List.Elements.{recursion_from_All}
@@ -30,38 +31,38 @@ use Rattle.properties_format.proofs.Valued.Texts.{value-loose, loose-means, loos
 use Rattle.properties_format.proofs.Valued.Revalued.{open-closed, added-closed, between_after, value_after, missing, value_text-parts}
 use Rattle.properties_format.proofs.Valued.Revalued.{between_after-parts, pair-anew, longer-joined, longer-whole, text-own, after-front}
 
--- ---- what is missing of what stands between
+-- ---- what is missing between key and value
 
--- it is its own bytes
+-- It is encoded as itself.
 missing-bytes : (e : Encoding) (between : List ℕ) → encoded_text e (missing between) ≡ missing between
 missing-bytes e [] = ap (λ o. unwrap_or o [] ++ []) (encoded-ascii e equals_sign (lit< tt))
 missing-bytes e (c ∷ cs) = refl
 
--- the bytes after the front
+-- The bytes after the front.
 pub after-bytes : (e : Encoding) (between value : List ℕ) → encoded_text e (value_text e between value) ≡ missing between ++ encoded_text e (value_after e between value)
 after-bytes e between value =
     ap (encoded_text e) (value_text-parts e between value)
     ∙ encoded_text-append e (missing between) (value_after e between value)
     ∙ ap (λ v. v ++ encoded_text e (value_after e between value)) (missing-bytes e between)
 
--- it leaves no line open
+-- It leaves no line open.
 missing-closed : (x between : List ℕ) → is_open x ≡ false → is_open (x ++ missing between) ≡ false
 missing-closed x [] h = is_open-other x equals_sign refl
 missing-closed x (c ∷ cs) h = ap is_open (append-nil x) ∙ h
 
--- and ends none
+-- It contains no line end.
 missing-plain : (between : List ℕ) → HoldsNoLineEnd (missing between)
 missing-plain [] = (refl, tt)
 missing-plain (c ∷ cs) = tt
 
--- the text of no value is what is missing
+-- What is printed for an empty value is only what is missing.
 no_value-text : (e : Encoding) (between : List ℕ) → value_text e between [] ≡ missing between
 no_value-text e [] = refl
 no_value-text e (c ∷ cs) = refl
 
 -- ---- the changed group
 
--- the line that takes the place of those after the lines that are kept
+-- the line that replaces those after the lines that are kept
 abbrev pub new_bytes : Encoding → List ℕ → List ℕ → List ℕ → List ℕ
 new_bytes e head between value = head ++ encoded_text e (value_text e between value)
 
@@ -70,7 +71,7 @@ abbrev pub new_line : Encoding → List ℕ → List ℕ → List ℕ → Option
 new_line e head between value ending =
     record { bytes = new_bytes e head between value; text = decoded_line e (new_bytes e head between value); ending = ending }
 
--- What is so of the changed group.
+-- What holds for the changed group.
 pub record IsChangedPair (e : Encoding) (key between front value : List ℕ) (kept : List HeldLine) (head : List ℕ) (ending : Option LineEnding) : Type 0 where
   pub plain : HoldsNoLineEnd (new_bytes e head between value)
   pub some : new_bytes e head between value ≢ []
@@ -78,22 +79,22 @@ pub record IsChangedPair (e : Encoding) (key between front value : List ℕ) (ke
   pub has_pair : HasPair key value (kept ++ new_line e head between value ending ∷ [])
   pub is_front : IsFrontOf e (kept ++ new_line e head between value ending ∷ []) (between_after between) (front ++ missing between)
 
--- a head has a byte
+-- A head isn't empty.
 head-some : (e : Encoding) (group : List HeldLine) (between front : List ℕ) (f : IsFrontOf e group between front) → f.head ≢ []
 head-some e group between front f q =
     f.not_blank (subst AreBlanks (sym (decoded_line-only e f.head f.head_text f.is_head ∙ ap (decoded_line e) q ∙ decoded-nil e)) tt)
 
--- the front part of blanks is blanks
+-- The first part of blanks is blanks.
 blanks-left : (x y : List ℕ) → AreBlanks (x ++ y) → AreBlanks x
 blanks-left [] y h = tt
 blanks-left (c ∷ x) y h = (h.0, blanks-left x y h.1)
 
--- the first of the lines that are kept
+-- The first of the lines that are kept.
 kept-unmarked : (e : Encoding) (group : List HeldLine) (between front : List ℕ) (f : IsFrontOf e group between front) (i : HeldLine) (is : List HeldLine)
     → f.kept ≡ i ∷ is → is_comment_line i.text ≡ false
 kept-unmarked e group between front f i is s = front-unmarked e group between front f i (is ++ f.line ∷ f.more) (ap (λ v. v ++ f.line ∷ f.more) s)
 
--- where nothing stands between key and value, the key ends in no lone backslash
+-- If nothing separates the key from the value, the key doesn't end in a single backslash.
 key-closed : (e : Encoding) (group : List HeldLine) (between front : List ℕ) (f : IsFrontOf e group between front) → between ≡ [] → is_open f.key ≡ false
 key-closed e group between front f s =
     let first = is_first_after true f.kept in
@@ -106,7 +107,7 @@ key-closed e group between front f s =
     ∙ open-indent first f.head_text
     ∙ f.closed
 
--- the key that a group has is what its written key means
+-- The key of a group is what its written key means.
 key-means : (e : Encoding) (group : List HeldLine) (key between front : List ℕ) (f : IsFrontOf e group between front) → HasKey key group → Means f.key key
 key-means e group key between front f (old, h) =
     let s = split-unique (joined (as_lines group)) (Logical.pair h.raw_key h.raw_value) (Logical.pair f.key f.value) h.split f.is_pair in

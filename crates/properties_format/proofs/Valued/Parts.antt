@@ -1,4 +1,5 @@
--- What a pair's line is divided into is what is computed: what stands between its key and its value, and what stands before the value.
+-- The computed parts of a pair's line are its parts: what separates the key from the value, and what comes before the
+-- value.
 use Rattle.std.proofs.Common.{◌≡◌, ℕ, ◌-◌, true, false, List, [], ◌∷◌, ◌++◌, length, take, ap, ap₂, sym, ◌∙◌, arith, append_assoc, length-append}
 use Rattle.std.proofs.Math.Seq.{take-append_seam}
 use Rattle.properties_format.specs.Text.{is_comment_sign, without_leading_blanks}
@@ -10,14 +11,14 @@ use Rattle.properties_format.proofs.Split.Blanks.{without_leading_blanks-only}
 use Rattle.properties_format.proofs.Split.Keys.{cut_key-only}
 use Rattle.properties_format.proofs.Split.Unique.{between-ends, between-value}
 
--- a text and its end, without the end
+-- A text followed by an end, without that end.
 pub without_end-append : (x y : List ℕ) → without_end (x ++ y) y ≡ x
 without_end-append x y =
     let l = length-append x y in
     let n : length (x ++ y) - length y ≡ length x = omega arith in
     ap (λ m. take m (x ++ y)) n ∙ take-append_seam x y
 
--- what follows the key of a pair
+-- What follows the key of a pair.
 after_key-pair : (line key value : List ℕ) (h : IsPair line key value) → after_key line ≡ h.between ++ value
 after_key-pair line key value h =
     ap (λ v. let c : Cut = cut_key v false in c.rest)
@@ -29,24 +30,24 @@ pub written_value-pair : (line key value : List ℕ) (h : IsPair line key value)
 written_value-pair line key value h =
     ap (λ v. past_separator (without_leading_blanks v)) (after_key-pair line key value h) ∙ between-value h.between value h.is_between
 
--- What stands between key and value of a pair.
+-- What separates the key of a pair from its value.
 pub between_in-pair : (line key value : List ℕ) (h : IsPair line key value) → between_in line ≡ h.between
 between_in-pair line key value h =
     ap₂ without_end (after_key-pair line key value h) (written_value-pair line key value h) ∙ without_end-append h.between value
 
--- a pair's line is what stands before the value, and the value
+-- A pair's line is what comes before the value, followed by the value.
 pub pair-line : (line key value : List ℕ) (h : IsPair line key value) → line ≡ (h.indent ++ (key ++ h.between)) ++ value
 pair-line line key value h =
     h.whole
     ∙ ap (λ v. h.indent ++ v) (sym (append_assoc key h.between value))
     ∙ sym (append_assoc h.indent (key ++ h.between) value)
 
--- What stands before the value of a pair.
+-- What comes before the value of a pair.
 pub before_value-pair : (line key value : List ℕ) (h : IsPair line key value) → before_value line ≡ h.indent ++ (key ++ h.between)
 before_value-pair line key value h =
     ap₂ without_end (pair-line line key value h) (written_value-pair line key value h) ∙ without_end-append (h.indent ++ (key ++ h.between)) value
 
--- a comment line is no pair
+-- A comment line isn't a pair.
 pub comment_line-no_pair : (line key value : List ℕ) → is_comment_line line ≡ true → IsPair line key value → ⊥
 comment_line-no_pair line key value c h =
     let s : without_leading_blanks line ≡ key ++ (h.between ++ value) =

@@ -1,11 +1,12 @@
--- What a source with a value set says, what of it stays, and what setting another value gives.
+-- What a source with a value set contains, what stays unchanged, and the result of setting another value.
 use Rattle.std.proofs.Common.{◌≡◌, ℕ, true, List, [], ◌∷◌, ◌++◌, refl, ap, ap₂, sym, ◌∙◌, inl, inr, append_assoc, append-nil, subst, All}
 use Rattle.std.proofs.lemmas.List.{append_cancel_right}
 use Rattle.properties_format.specs.Text.{scalar}
 use Rattle.properties_format.specs.Encoding.{Encoding, InForce, byte_order_mark}
 use Rattle.properties_format.specs.Printing.{encoded_text}
 use Rattle.properties_format.specs.Body.{HeldLine, group_bytes, groups_bytes, ending_bytes, last_ending}
-use Rattle.properties_format.specs.Edited.{bom_of, final_group, put, edited, is_editable}
+use Rattle.properties_format.specs.Edited.{bom_of, final_group, edited, is_editable}
+use Rattle.properties_format.specs.Edits.{put}
 use Rattle.properties_format.specs.Changed.{IsSetIn, map_edited, AreOthersThanLast, StandIn, ReadsAfter, KeepsOthers}
 use Rattle.properties_format.specs.Valued.{value_text, ending_in, parted_by, new_pair_bytes, IsFrontOf, IsValueSet, IsSetValueResult, KeepsFront}
 use Rattle.properties_format.specs.Reading.Body.{held_groups_of}
@@ -25,16 +26,17 @@ use Rattle.properties_format.proofs.Valued.Fronts.{front_of-meets}
 use Rattle.properties_format.proofs.Valued.Groups.{IsNotAt, IsValued, body-valued}
 use Rattle.properties_format.proofs.Valued.Marks.{front-bytes, value_set-in_force}
 
--- ---- what it says
+-- ---- its contents
 
--- what is so of the body
+-- What holds for the body.
 valued-body : (e : Encoding) (source key value result : List ℕ) → is_editable (byte_order_mark e source).encoding ≡ true → All scalar key → All scalar value
     → (h : IsValueSet e source key value result)
     → IsValued (byte_order_mark e source).encoding h.groups key value h.body
 valued-body e source key value result ok k v h =
     let f = byte_order_mark e source in body-valued f.encoding f.body h.groups key value h.body ok k v h.held h.edited
 
--- After a value is set, the last pair with the key has it, or where there is none there is a new last pair; all else is said as before.
+-- After a value is set, the last pair with the key has it, or there is a new last pair if none has the key. All other
+-- contents are unchanged.
 pub value_set-says : (e : Encoding) (source key value result : List ℕ) → IsReadable e source → All scalar key → All scalar value
     → IsValueSet e source key value result
     → IsReadTo e result (IsSetIn key value (says e source))
@@ -57,7 +59,7 @@ set_value-reads e source key value result k v h =
 
 -- ---- another value
 
--- the byte order mark of the result is that of the source
+-- The byte order mark of the result is that of the source.
 bom-same : (e : Encoding) (source key value result : List ℕ) → is_editable (byte_order_mark e source).encoding ≡ true → (h : IsValueSet e source key value result)
     → bom_of result ≡ bom_of source
 bom-same e source key value result ok h =
@@ -65,7 +67,8 @@ bom-same e source key value result ok h =
     append_cancel_right (bom_of result) (bom_of source) h.body
     (ap (λ v. let w : InForce = v in bom_of result ++ w.body) (sym f) ∙ sym (source-whole e result) ∙ h.whole)
 
--- Setting another value in the result gives what it gives in the source, where that doesn't have it already.
+-- Setting another value in the result has the same results as in the source, if the source doesn't have that value
+-- already.
 pub value_set-again : (e : Encoding) (source key first second between : List ℕ) → is_editable (byte_order_mark e source).encoding ≡ true → All scalar key
     → All scalar first
     → IsValueSet e source key first between
@@ -81,9 +84,9 @@ value_set-again e source key first second between ok k v h other =
     ∙ ap (λ x. bom_of source ++ x) (m.again second (subst (λ gs. IsNotAt second (last_place key gs)) (sym own) other))
     ∙ ap (λ gs. bom_of source ++ valued_at f.encoding gs key second (last_place key gs)) own
 
--- ---- what stays
+-- ---- what stays unchanged
 
--- Where a value is set, every group but the last pair with the key stands as it was.
+-- If a value is set, every group but the last pair with the key is unchanged.
 pub value_set-keeps : (e : Encoding) (source key value result : List ℕ) → IsValueSet e source key value result → KeepsOthers (AreOthersThanLast key) e source result
 value_set-keeps e source key value result h = elim h.edited [
   | inl r ↦ (
@@ -115,7 +118,7 @@ value_set-keeps e source key value result h = elim h.edited [
   )
 ]
 
--- lines are their bytes up to the last line ending, and that ending
+-- Lines are their bytes up to the last line ending, followed by that ending.
 ended-whole : (h : HeldLine) (hs : List HeldLine) → group_bytes (h ∷ hs) ≡ unended_bytes (h ∷ hs) ++ ending_bytes (last_ending (h ∷ hs))
 ended-whole h [] = ap (λ v. h.bytes ++ v) (append-nil (ending_bytes h.ending))
 ended-whole h (i ∷ hs) =
@@ -127,19 +130,19 @@ ended-whole h (i ∷ hs) =
 abbrev after_front : HeldLine → List ℕ → List HeldLine → List ℕ
 after_front line tail more = unended_bytes (record { bytes = tail; text = line.text; ending = line.ending } ∷ more)
 
--- the ending of the last of some lines
+-- The line ending of the last of some lines.
 last-ending : (a : List HeldLine) (h : HeldLine) (b : List HeldLine) → last_ending (a ++ h ∷ b) ≡ last_ending (h ∷ b)
 last-ending [] h b = refl
 last-ending (i ∷ []) h b = refl
 last-ending (i ∷ j ∷ a) h b = last-ending (j ∷ a) h b
 
--- the ending doesn't hang on the bytes
+-- The line ending doesn't depend on the bytes.
 same-ending : (line : HeldLine) (tail : List ℕ) (more : List HeldLine)
     → last_ending (record { bytes = tail; text = line.text; ending = line.ending } ∷ more) ≡ last_ending (line ∷ more)
 same-ending line tail [] = refl
 same-ending line tail (i ∷ more) = refl
 
--- the bytes of a pair's group: its front, what follows it, and its line ending
+-- The bytes of a pair's group: its front, what follows it, and its line ending.
 pair-bytes : (e : Encoding) (group : List HeldLine) (between front : List ℕ) (f : IsFrontOf e group between front)
     → group_bytes group ≡ front ++ (after_front f.line f.tail f.more ++ ending_bytes (last_ending group))
 pair-bytes e group between front f =
@@ -147,7 +150,7 @@ pair-bytes e group between front f =
     ∙ ap (λ v. front ++ v) (ended-whole (record { bytes = f.tail; text = f.line.text; ending = f.line.ending }) f.more)
     ∙ ap (λ o. front ++ (after_front f.line f.tail f.more ++ ending_bytes o)) (same-ending f.line f.tail f.more ∙ sym (ap last_ending f.division ∙ last-ending f.kept f.line f.more))
 
--- The front of a pair stands before its last line ending.
+-- The front of a pair comes before its last line ending.
 pub front-unended : (e : Encoding) (group : List HeldLine) (between front : List ℕ) (f : IsFrontOf e group between front)
     → unended_bytes group ≡ front ++ after_front f.line f.tail f.more
 front-unended e [] between front f = absurd (none f.kept f.division)
@@ -161,7 +164,7 @@ front-unended e (i ∷ is) between front f =
     append_cancel_right (unended_bytes (i ∷ is)) (front ++ after) by
     (sym (ended-whole i is) ∙ pair-bytes e (i ∷ is) between front f ∙ sym (append_assoc front after by))
 
--- a source with such a pair in it, divided around its value
+-- A source that contains such a pair, divided around the pair's value.
 around-source : (e : Encoding) (source : List ℕ) (before : List (List HeldLine)) (group : List HeldLine) (after : List (List HeldLine)) (between front : List ℕ)
     (f : IsFrontOf (byte_order_mark e source).encoding group between front) → (byte_order_mark e source).body ≡ groups_bytes (before ++ group ∷ after)
     → source ≡ bom_of source ++ ((groups_bytes before ++ front) ++ (after_front f.line f.tail f.more ++ (ending_bytes (last_ending group) ++ groups_bytes after)))
@@ -176,7 +179,7 @@ around-source e source before group after between front f s =
     ∙ ap (λ v. groups_bytes before ++ v) (append_assoc front (old ++ by) (groups_bytes after) ∙ ap (λ v. front ++ v) (append_assoc old by (groups_bytes after)))
     ∙ sym (append_assoc (groups_bytes before) front (old ++ (by ++ groups_bytes after))))
 
--- Where a value is set, every byte outside the old one stays.
+-- If a value is set, every byte outside the old value is unchanged.
 pub value_set-keeps_front : (e : Encoding) (source key value result : List ℕ) → is_editable (byte_order_mark e source).encoding ≡ true
     → IsValueSet e source key value result
     → KeepsFront e source key result

@@ -1,4 +1,5 @@
--- A pair with another value: its front and what is spelt for the value are a group, which is the pair of its key and the value, and has the same front.
+-- A pair with another value: its front and what is printed for the value are a group, which is the pair with its key
+-- and the value, and has the same front.
 use Rattle.std.proofs.Common.{◌≡◌, ◌≢◌, ◌⊎◌, ◌<◌, ℕ, ◌==◌, not, Bool, true, false, List, [], ◌∷◌, ◌++◌, Option, refl, ap, ap₂, sym, ◌∙◌, inl, inr, append_assoc, append-nil, lit<, subst, eqb-true}
 use Rattle.std.specs.Prelude.{unwrap_or, if◌then◌else◌}
 use Rattle.std.proofs.lemmas.Bool.{cases_Bool}
@@ -30,12 +31,12 @@ use Rattle.properties_format.proofs.Valued.Texts.{BeginsAfter}
 
 -- ---- whether two texts together are open
 
--- a text after one that is open or not
+-- whether a text is open after a text that is open or not
 abbrev open_on : Bool → List ℕ → Bool
 open_on was_open [] = was_open
 open_on was_open (c ∷ x) = open_on (if c == backslash then not was_open else false) x
 
--- it is open where this says so
+-- The text is open exactly if this is true.
 open-on : (x y : List ℕ) → is_open (x ++ y) ≡ open_on (is_open x) y
 open-on x [] = ap is_open (append-nil x)
 open-on x (c ∷ y) = ap is_open (sym (append_assoc x (c ∷ []) y)) ∙ open-on (x ++ c ∷ []) y ∙ ap (λ b. open_on b y) (step (cases_Bool (c == backslash)))
@@ -44,11 +45,11 @@ open-on x (c ∷ y) = ap is_open (sym (append_assoc x (c ∷ []) y)) ∙ open-on
     step (inl k) = rw k (ap (λ d. is_open (x ++ d ∷ [])) (eqb-true c backslash k) ∙ is_open-backslash x)
     step (inr k) = rw k (is_open-other x c k)
 
--- after a text that isn't open, a text is open as by itself
+-- After a text that isn't open, a text is open exactly if it is by itself.
 pub open-closed : (x y : List ℕ) → is_open x ≡ false → is_open (x ++ y) ≡ is_open y
 open-closed x y h = open-on x y ∙ ap (λ b. open_on b y) h ∙ sym (open-on [] y)
 
--- what lines add is not open
+-- What lines add isn't open.
 pub added-closed : (first : Bool) (hs : List HeldLine) → is_open (joined_by first hs) ≡ false
 added-closed first [] = refl
 added-closed first (h ∷ hs) =
@@ -56,7 +57,7 @@ added-closed first (h ∷ hs) =
 
 -- ---- a key before another text
 
--- the units of a key that ends in no lone backslash may stand before any text
+-- The units of a key that doesn't end in a single backslash may come before any text.
 units-anew : (us : List KeyUnit) (rest other : List ℕ) → AreUnits us rest → (rest ≢ []) ⊎ (is_open (units_before us []) ≡ false) → AreUnits us other
 units-anew [] rest other h k = tt
 units-anew (plain c ∷ us) rest other h (inl k) = (h.0, units-anew us rest other h.1 (inl k))
@@ -75,39 +76,39 @@ units-anew (last ∷ us) rest other h (inr k) =
     let m : is_open (backslash ∷ []) ≡ false = ap (λ v. is_open (backslash ∷ v)) (sym n) ∙ k in
     absurd (cc)
 
--- and so may such a key
+-- A key that doesn't end in a single backslash may come before any text.
 key-anew : (key rest other : List ℕ) → IsKey key rest → (rest ≢ []) ⊎ (is_open key ≡ false) → IsKey key other
 key-anew key rest other h (inl k) = record { units = h.units; whole = h.whole; each = units-anew h.units rest other h.each (inl k) }
 key-anew key rest other h (inr k) =
     record { units = h.units; whole = h.whole; each = units-anew h.units rest other h.each (inr (ap is_open (sym h.whole) ∙ k)) }
 
--- ---- what stands between and the value
+-- ---- what separates the key from the value, and the value
 
--- what stands between key and the value after the change, and what is spelt for the value
+-- what separates the key from the value after the change
 abbrev pub between_after : List ℕ → List ℕ
 between_after [] = equals_sign ∷ []
 between_after (c ∷ cs) = c ∷ cs
 
--- what is spelt for the value after it
+-- what is printed for the value after it
 abbrev pub value_after : Encoding → List ℕ → List ℕ → List ℕ
 value_after e between value = spelt_value e (is_blanks (between_after between)) value
 
--- what comes after the front is what is missing of what stands between, and the value
+-- what is missing between key and value
 abbrev pub missing : List ℕ → List ℕ
 missing [] = equals_sign ∷ []
 missing (c ∷ cs) = []
 
--- what comes after the front is both
+-- What comes after the front is what was missing, followed by the value.
 pub value_text-parts : (e : Encoding) (between value : List ℕ) → value_text e between value ≡ missing between ++ value_after e between value
 value_text-parts e [] value = refl
 value_text-parts e (c ∷ cs) value = refl
 
--- and what stands between is what stood there, and what was missing
+-- What separates the key from the value is what separated them before, followed by what was missing.
 pub between_after-parts : (between : List ℕ) → between_after between ≡ between ++ missing between
 between_after-parts [] = refl
 between_after-parts (c ∷ cs) = sym (append-nil (c ∷ cs))
 
--- a separator with blanks around it isn't blank
+-- A separator with blanks around it isn't blank.
 pub sign-no_blanks : (before : List ℕ) (sign : ℕ) (after : List ℕ) → is_separator sign ≡ true → is_blanks (before ++ sign ∷ after) ≡ false
 sign-no_blanks [] sign after h = rw (separator-full sign h) refl
 sign-no_blanks (c ∷ before) sign after h = elim (cases_Bool (is_blank c)) [
@@ -115,7 +116,7 @@ sign-no_blanks (c ∷ before) sign after h = elim (cases_Bool (is_blank c)) [
   | inr k ↦ rw k refl
 ]
 
--- what stands between key and value stands so before another value, which begins as one that is spelt
+-- What separates the key from a value also separates it from another value that begins like a printed one.
 between-anew : (between old new : List ℕ) → IsBetween between old → BeginsAfter (is_blanks (between_after between)) new → IsBetween (between_after between) new
 between-anew [] old new h b = separator [] equals_sign [] refl tt refl tt b.no_blank
 between-anew (c ∷ cs) old new (nothing s t) b = absurd (cc)
@@ -124,25 +125,25 @@ between-anew (c ∷ cs) old new (separator before sign after s are t d f) b = se
 
 -- ---- the pair with another value
 
--- a text begins as one with more after it, where it isn't empty
+-- A text that isn't empty begins in the same way with more after it.
 begins-more : (kind : ℕ → Bool) (x y z : List ℕ) → x ≢ [] → begins kind (x ++ y) ≡ false → begins kind (x ++ z) ≡ false
 begins-more kind [] y z h k = absurd (h refl)
 begins-more kind (c ∷ x) y z h k = k
 
--- of a pair key and what stands between are not empty together
+-- The key of a pair and what separates it from the value aren't both empty.
 key-between : (line key value : List ℕ) (h : IsPair line key value) → key ++ h.between ≢ []
 key-between line key value h q = elim (between-end h.between value h.is_between) [
   | inl m ↦ m.0 (none-right key h.between q)
   | inr m ↦ h.not_empty (ap₂ (λ v w. v ++ w) (none-left key h.between q) (ap₂ (λ v w. v ++ w) m.0 m.1))
 ]
 
--- The line is a pair with this key and value, and the same indent and what stands between.
+-- The line is a pair with this key and value, and with the same indentation and the same text between key and value.
 pub record IsPairAnew (line key value indent between : List ℕ) : Type 0 where
   pub is_pair : IsPair line key value
   pub indent_is : is_pair.indent ≡ indent
   pub between_is : is_pair.between ≡ between
 
--- after the change the line is the pair with the new value
+-- After the change, the line is the pair with the new value.
 pub pair-anew : (line key old new : List ℕ) (h : IsPair line key old) (between other : List ℕ) → between ≡ h.between
     → BeginsAfter (is_blanks (between_after between)) new → (between ≡ [] → is_open key ≡ false)
     → other ≡ h.indent ++ (key ++ (between_after between ++ new))
@@ -178,7 +179,7 @@ pair-anew line key old new h between other s b closed whole =
 
 -- ---- the line after the front
 
--- the lines that are kept, and then such a line, add so much more
+-- What the lines that are kept, followed by such a line, add.
 pub longer-joined : (e : Encoding) (kept : List HeldLine) (text more bytes : List ℕ) (o : Option LineEnding)
     → ((i : HeldLine) (is : List HeldLine) → kept ≡ i ∷ is → is_comment_line i.text ≡ false) → ¬ (AreBlanks text) → is_open (text ++ more) ≡ false
     → joined (as_lines (kept ++ record { bytes = bytes; text = text ++ more; ending = o } ∷ []))
@@ -193,7 +194,7 @@ longer-joined e (i ∷ kept) text more bytes o f n c =
     ∙ ap (λ v. joined_by true (i ∷ kept) ++ v) (append-nil (added_by false (text ++ more)) ∙ add)
     ∙ sym (append_assoc (joined_by true (i ∷ kept)) (without_indent false text) more)
 
--- they are a whole group, where the lines that are kept begin a group
+-- They are a whole group, if the lines that are kept begin a group.
 pub longer-whole : (kept : List HeldLine) (line : HeldLine) (more : List HeldLine) (h : HeldLine) → IsLastFit (kept ++ line ∷ more) → is_open h.text ≡ false
     → ((i : HeldLine) (is : List HeldLine) → kept ≡ i ∷ is → is_comment_line i.text ≡ false)
     → IsWhole (as_lines (kept ++ h ∷ []))
@@ -214,11 +215,11 @@ longer-whole (i ∷ kept) line more h (inr k) c f = inr (k.0, closes i kept k.1)
 
 -- ---- the bytes after the front
 
--- bytes of a text that can be written are decoded to it
+-- The bytes of a text that can be written decode to it.
 pub text-own : (e : Encoding) (x : List ℕ) → is_editable e ≡ true → AreWritable e x → decoded_line e (encoded_text e x) ≡ x
 text-own e x ok w = subst (λ a. decoded_line a (encoded_text e x) ≡ x) (editable-own e ok) (text-decoded e x w.scalars w.encodable)
 
--- what ends a head is an ASCII character, where something stands between key and value
+-- If something separates the key from the value, a head ends in an ASCII character.
 pub front-ends : (e : Encoding) (group : List HeldLine) (between front : List ℕ) (f : IsFrontOf e group between front) → between ≢ []
     → (w : List ℕ) × (c : ℕ) × (f.head_text ≡ w ++ c ∷ []) × (c < 0x80)
 front-ends e group between front f some =
@@ -245,7 +246,7 @@ front-ends e group between front f some =
     of-between (inl m) = ap (ends ends_key) f.is_between ∙ m.1
     of-between (inr m) = absurd (some (f.is_between ∙ m.0))
 
--- the head, and then what is spelt for a value, are decoded to both texts
+-- The head followed by what is printed for a value decodes to both texts.
 pub after-front : (e : Encoding) (group : List HeldLine) (between front value : List ℕ) (f : IsFrontOf e group between front) → is_editable e ≡ true
     → AreWritable e (value_after e between value)
     → decoded_line e (f.head ++ encoded_text e (value_text e between value)) ≡ f.head_text ++ value_text e between value

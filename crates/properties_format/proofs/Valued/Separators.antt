@@ -1,4 +1,4 @@
--- A new pair: its separator is a good one, its line is the pair, and all before the value is its front.
+-- A new pair: its separator is good, its line is the pair, and everything before the value is its front.
 use Rattle.std.proofs.Common.{◌≡◌, ◌≢◌, ℕ, ◌&&◌, Bool, true, false, List, [], ◌∷◌, ◌++◌, Some, map, refl, ap, sym, ◌∙◌, inl, inr, append_assoc, append-nil, subst}
 use Rattle.std.specs.Prelude.{All}
 use Rattle.std.proofs.lemmas.Bool.{cases_Bool, cond-true, cond-false, and_left}
@@ -35,13 +35,13 @@ use Rattle.properties_format.proofs.Valued.Revalued.{text-own}
 
 -- ---- the separator
 
--- of blanks the first of each run are blanks
+-- Blanks shortened to the first of each run are blanks.
 shortened-blank : (was : Bool) (x : List ℕ) → AreBlanks x → AreBlanks (shortened_after was x)
 shortened-blank was [] h = tt
 shortened-blank true (c ∷ x) h = rw h.0 (shortened-blank true x h.1)
 shortened-blank false (c ∷ x) h = (h.0, rw h.0 (shortened-blank true x h.1))
 
--- and those around a sign stay around it
+-- Blanks around a sign, shortened, are still around it.
 shortened-sign : (was : Bool) (before : List ℕ) (sign : ℕ) (after : List ℕ) → AreBlanks before → is_separator sign ≡ true
     → shortened_after was (before ++ sign ∷ after) ≡ shortened_after was before ++ sign ∷ shortened_after false after
 shortened-sign true [] sign after h s = rw (separator-full sign s) refl
@@ -49,11 +49,11 @@ shortened-sign false [] sign after h s = rw (separator-full sign s) refl
 shortened-sign true (c ∷ before) sign after h s = rw h.0 (shortened-sign true before sign after h.1 s)
 shortened-sign false (c ∷ before) sign after h s = rw h.0 (ap (λ v. c ∷ v) (shortened-sign true before sign after h.1 s))
 
--- an equals sign is a good separator
+-- An equals sign is a good separator.
 equals-good : IsGoodSeparator (equals_sign ∷ [])
 equals-good = inl (record { before = []; sign = equals_sign; after = []; division = refl; blank_before = tt; signed = refl; blank_after = tt })
 
--- what stands between the key and the value of a pair, shortened, is a good separator
+-- What separates the key of a pair from its value, shortened, is a good separator.
 shortened-good : (c : ℕ) (cs value : List ℕ) → IsBetween (c ∷ cs) value → IsGoodSeparator (shortened_after false (c ∷ cs))
 shortened-good c cs value (nothing s t) = absurd (cc)
 shortened-good c cs value (blanks some are a d) = inr (record { some = λ q. cc; blank = shortened-blank false (c ∷ cs) are })
@@ -68,7 +68,7 @@ shortened-good c cs value (separator before sign after s are t d f) =
       blank_after = shortened-blank false after d;
     })
 
--- and blank only where it was
+-- It is blank only if it was before.
 shortened-blanks : (was : Bool) (x : List ℕ) → is_blanks (shortened_after was x) ≡ is_blanks x
 shortened-blanks was [] = refl
 shortened-blanks true (c ∷ x) = elim (cases_Bool (is_blank c)) [
@@ -83,12 +83,12 @@ shortened-blanks false (c ∷ x) = elim (cases_Bool (is_blank c)) [
   | inr k ↦ and_left (is_blank c) (is_blanks (shortened_after (is_blank c) x)) k ∙ sym (and_left (is_blank c) (is_blanks x) k)
 ]
 
--- A separator that may stand after this key: a good one, and not blanks alone where the key is empty.
+-- A fit separator for this key: a good one, and not blanks only if the key is empty.
 pub record IsFitSeparator (key separator : List ℕ) : Type 0 where
   pub good : IsGoodSeparator separator
   pub signed : key ≡ [] → is_blanks separator ≡ false
 
--- the separator after a pair with this between
+-- The separator for a new pair, given what separates another pair's key from its value, is fit for the new key.
 after-fit : (key between value : List ℕ) → IsBetween between value → IsFitSeparator key (separator_after key between)
 after-fit key [] value h = record { good = equals-good; signed = λ q. refl }
 after-fit key (c ∷ cs) value h = elim (cases_Bool (is_empty key && is_blanks (c ∷ cs))) [
@@ -103,26 +103,27 @@ after-fit key (c ∷ cs) value h = elim (cases_Bool (is_empty key && is_blanks (
       })
 ]
 
--- The separator of a new pair is such.
+-- The separator of a new pair is fit for its key.
 pub new_separator-fit : (groups : List (List HeldLine)) (key sep : List ℕ) → IsNewSeparator groups key sep → IsFitSeparator key sep
 new_separator-fit groups key sep (inl h) = subst (IsFitSeparator key) (sym h.separator_is) (after-fit key h.is_pair.between h.value h.is_pair.is_between)
 new_separator-fit groups key sep (inr h) = subst (IsFitSeparator key) (sym h.1) (record { good = equals-good; signed = λ q. refl })
 
 -- ---- the line of a new pair
 
--- before a value that begins so, a good separator stands between
+-- A good separator may separate a key from a value that begins in this way.
 good-between : (sep value : List ℕ) → IsGoodSeparator sep → BeginsAfter (is_blanks sep) value → IsBetween sep value
 good-between sep value (inl g) b = separator g.before g.sign g.after g.division g.blank_before g.signed g.blank_after b.no_blank
 good-between sep value (inr g) b = blanks g.some g.blank b.no_blank (b.no_separator (is_blanks-from sep g.blank))
 
--- The line is the pair of this key and value, as they are written; all before the value is the key and the separator.
+-- The line is the pair of this key and value, as they are written. Everything before the value is the key followed by
+-- the separator.
 pub record IsNewPair (key sep value : List ℕ) : Type 0 where
   pub is_pair : IsPair (key ++ (sep ++ value)) key value
   pub front : is_pair.indent ++ (key ++ is_pair.between) ≡ key ++ sep
   pub some : is_pair.between ≢ []
   pub blanks : is_blanks is_pair.between ≡ is_blanks sep
 
--- a key with a spelling in it
+-- A key with at least one spelling.
 new-keyed : (p : Spelling) (ps : List Spelling) (sep value : List ℕ) → AreSafe (p ∷ ps) → IsGoodSeparator sep → BeginsAfter (is_blanks sep) value
     → IsNewPair (spelt_before (p ∷ ps) []) sep value
 new-keyed p ps sep value k g b =
@@ -148,7 +149,7 @@ new-keyed p ps sep value k g b =
       blanks = refl;
     }
 
--- an empty key: what stands before the sign is the indent
+-- An empty key: what comes before the sign is the indentation.
 new-empty : (sep value : List ℕ) → IsGoodSeparator sep → is_blanks sep ≡ false → BeginsAfter (is_blanks sep) value → IsNewPair [] sep value
 new-empty sep value (inr g) s b = let m = is_blanks-from sep g.blank in absurd (cc)
 new-empty sep value (inl g) s b = record {
@@ -168,7 +169,7 @@ new-empty sep value (inl g) s b = record {
   blanks = rw (separator-full g.sign g.signed) (sym s);
 }
 
--- a key that is safely spelt
+-- A safely spelt key.
 new-pair : (written key sep value : List ℕ) → AreSafelySpelt written key → IsFitSeparator key sep → BeginsAfter (is_blanks sep) value → IsNewPair written sep value
 new-pair written key sep value s f b = of-spellings s.spellings s.text s.characters s.safe
   where
@@ -178,7 +179,7 @@ new-pair written key sep value s f b = of-spellings s.spellings s.text s.charact
 
 -- ---- the group of a new pair
 
--- the bytes of a new pair, first of a body or not, without a line ending
+-- the bytes of a new pair, at the front of a body or not, without a line ending
 abbrev pub added_bytes : Encoding → Bool → List ℕ → List ℕ → List ℕ → List ℕ
 added_bytes e first key sep value = encoded_text e (spelt_key e false first key ++ (sep ++ spelt_value e (is_blanks sep) value))
 
@@ -187,7 +188,7 @@ abbrev pub added_line : Encoding → Bool → List ℕ → List ℕ → List ℕ
 added_line e first key sep value by =
     record { bytes = added_bytes e first key sep value; text = decoded_line e (added_bytes e first key sep value); ending = Some by }
 
--- What is so of that group.
+-- What holds for that group.
 pub record IsAddedPair (e : Encoding) (first : Bool) (key sep value : List ℕ) (by : LineEnding) : Type 0 where
   pub plain : HoldsNoLineEnd (added_bytes e first key sep value)
   pub some : added_bytes e first key sep value ≢ []
@@ -198,11 +199,11 @@ pub record IsAddedPair (e : Encoding) (first : Bool) (key sep value : List ℕ) 
   pub between_some : between ≢ []
   pub blanks : is_blanks between ≡ is_blanks sep
 
--- a text that isn't empty has bytes
+-- A text that isn't empty has bytes.
 text-some : (e : Encoding) (x : List ℕ) → is_editable e ≡ true → AreWritable e x → x ≢ [] → encoded_text e x ≢ []
 text-some e x ok w h q = h (sym (text-own e x ok w) ∙ ap (decoded_line e) q ∙ decoded-nil e)
 
--- A new pair is such.
+-- The group of a new pair has these properties.
 pub added-pair : (e : Encoding) (first : Bool) (key sep value : List ℕ) (by : LineEnding) → is_editable e ≡ true → All scalar key → All scalar value
     → IsFitSeparator key sep → IsAddedPair e first key sep value by
 added-pair e first key sep value by ok k v f =

@@ -1,4 +1,5 @@
--- How many bytes the head of a line has: up to an ASCII character it has as many ASCII bytes as its text has ASCII characters, and up to its end all but the backslash that opens it.
+-- The size of a line's head in bytes: up to an ASCII character, it has as many ASCII bytes as its text has ASCII
+-- characters; up to the end of the line, it has all bytes except an open backslash.
 use Rattle.std.proofs.Common.{◌≡◌, ◌≢◌, ◌⊎◌, ◌<◌, ℕ, zero, suc, ◌+◌, ◌-◌, true, false, List, [], ◌∷◌}
 use Rattle.std.proofs.Common.{◌++◌, length, refl, ap, ap₂, sym, ◌∙◌, inl, inr, arith, append_assoc, append-nil, length-append, ltb-true}
 use Rattle.std.specs.Prelude.{nat_lt}
@@ -19,11 +20,11 @@ use Rattle.properties_format.proofs.Valued.Heads.{ascii-end, ascii-among, backsl
 
 -- ---- counts
 
--- an ASCII character counts, and any other doesn't
+-- An ASCII character counts, and any other doesn't.
 count-ascii : (c : ℕ) (d : List ℕ) → c < 0x80 → ascii_count (c ∷ d) ≡ suc (ascii_count d)
 count-ascii c d h = cond-true (nat_lt c 0x80) (suc (ascii_count d)) (ascii_count d) (lt-ltb c 0x80 h)
 
--- in two parts
+-- The count of two parts.
 pub count-append : (x y : List ℕ) → ascii_count (x ++ y) ≡ ascii_count x + ascii_count y
 count-append [] y = omega arith
 count-append (c ∷ x) y =
@@ -39,7 +40,7 @@ count-append (c ∷ x) y =
           omega arith
     ]
 
--- a text has no ASCII character, or a first one
+-- A text has no ASCII character, or it has a first one.
 first-ascii : (x : List ℕ) → (ascii_count x ≡ 0) ⊎ ((u : List ℕ) × (c : ℕ) × (v : List ℕ) × (x ≡ u ++ c ∷ v) × (c < 0x80) × (ascii_count u ≡ 0))
 first-ascii [] = inl refl
 first-ascii (c ∷ x) = elim (cases_Bool (nat_lt c 0x80)) [
@@ -50,14 +51,14 @@ first-ascii (c ∷ x) = elim (cases_Bool (nat_lt c 0x80)) [
   ]
 ]
 
--- in an encoding that is edited the bytes of an ASCII character are that character
+-- In an encoding that can be edited, an ASCII character is its own byte.
 ascii-one : (e : Encoding) (c : ℕ) → is_editable e ≡ true → ascii_bytes e c ≡ c ∷ []
 ascii-one windows_1252 c ok = refl
 ascii-one utf_8 c ok = refl
 ascii-one utf_16le c ok = absurd (cc)
 ascii-one utf_16be c ok = absurd (cc)
 
--- bytes among which none is ASCII are decoded to characters among which none is
+-- If no byte is ASCII, no decoded character is.
 no_ascii-decoded : (e : Encoding) (d : List ℕ) → is_editable e ≡ true → ascii_count d ≡ 0 → ascii_count (decoded_line e d) ≡ 0
 no_ascii-decoded e d ok h = elim (first-ascii (decoded_line e d)) [
   | inl k ↦ k
@@ -89,7 +90,7 @@ count-decoded e (suc n) d ok l = elim (first-ascii d) [
       omega arith
 ]
 
--- A text has as many ASCII characters as its bytes in UTF-8.
+-- A text has as many ASCII characters as its UTF-8 bytes have ASCII bytes.
 pub count-text : (x : List ℕ) → IsUtf8 x → ascii_count (chars x) ≡ ascii_count x
 count-text x u =
     ap ascii_count
@@ -99,9 +100,9 @@ count-text x u =
     ∙ ap (λ v. characters (pieces_of utf_8 v)) (append-nil x))
     ∙ count-decoded utf_8 (suc (length x)) x refl (omega arith)
 
--- ---- places
+-- ---- positions
 
--- the place after the last of some ASCII bytes
+-- The index after the last of some ASCII bytes.
 pub after-last : (u : List ℕ) (c : ℕ) (v : List ℕ) → c < 0x80 → after_ascii (ascii_count (u ++ c ∷ [])) (u ++ c ∷ v) ≡ length (u ++ c ∷ [])
 after-last [] c v h =
     ap (λ n. after_ascii n (c ∷ v)) (count-ascii c [] h) ∙ cond-true (nat_lt c 0x80) (suc (after_ascii 0 v)) (suc (after_ascii 1 v)) (lt-ltb c 0x80 h)
@@ -129,7 +130,7 @@ after-last (b ∷ u) c v h =
     past zero s k = absurd (s refl)
     past (suc n) s k = cond-false (nat_lt b 0x80) (suc (after_ascii n (u ++ c ∷ v))) (suc (after_ascii (suc n) (u ++ c ∷ v))) k
 
--- The size of a head whose text ends in an ASCII character: the place after as many ASCII bytes.
+-- The size of a head whose text ends in an ASCII character: the index after as many ASCII bytes.
 pub head-inside : (e : Encoding) (d x y head w : List ℕ) (c : ℕ) → is_editable e ≡ true → x ≡ w ++ c ∷ [] → c < 0x80 → IsHeadOf e d x y head
     → after_ascii (ascii_count x) d ≡ length head
 head-inside e d x y head w c ok s l h =
@@ -140,13 +141,13 @@ head-inside e d x y head w c ok s l h =
     ∙ after-last m.front c h.tail l
     ∙ ap length (sym m.bytes)
 
--- The size of a head after which nothing is left of the line.
+-- The size of a head that is followed by nothing of the line.
 pub head-end : (e : Encoding) (d x head : List ℕ) → IsHeadOf e d x [] head → length head ≡ length d
 head-end e d x head h =
     let n : h.tail ≡ [] = nothing-decoded e h.tail h.tail_text in
     ap length (sym (append-nil head) ∙ ap (λ v. head ++ v) (sym n) ∙ sym h.joins)
 
--- The size of a head after which a backslash is left.
+-- The size of a head that is followed by a backslash.
 pub head-before_backslash : (e : Encoding) (d x head : List ℕ) → is_editable e ≡ true → IsHeadOf e d x (backslash ∷ []) head → length head ≡ length d - 1
 head-before_backslash e d x head ok h =
     let n : h.tail ≡ backslash ∷ [] = backslash-own e h.tail ok h.tail_text in

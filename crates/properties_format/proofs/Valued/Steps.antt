@@ -1,4 +1,5 @@
--- How the size of a front goes on line by line: past a line that the front takes whole, to its end, or to a place inside it.
+-- The size of a front, line by line: past a line that belongs to the front, to the end of a line, or to a position
+-- inside it.
 use Rattle.std.proofs.Common.{◌≡◌, ◌≢◌, ℕ, ◌+◌, ◌-◌, Bool, true, false, List, [], ◌∷◌, ◌++◌, length, drop, inl, inr, ap, ap₂, sym, ◌∙◌, arith, append_assoc, append-nil, length-append, subst}
 use Rattle.std.specs.Prelude.{nat_le, if◌then◌else◌}
 use Rattle.std.proofs.Math.Seq.{drop-append_seam}
@@ -16,12 +17,12 @@ use Rattle.properties_format.proofs.Valued.Heads.{IsHeadOf, head_of-meets}
 use Rattle.properties_format.proofs.Valued.Fronts.{indented, open-indent, open_backslash, shut-whole, ends-last, ends_key-ascii, head-size, front-here, front-later, some-length}
 use Rattle.properties_format.proofs.Valued.Sizes.{head-inside, head-end, head-before_backslash}
 
--- the text of a line, divided at the end of what it adds to a front
+-- The text of a line, divided at the end of what it adds to a front.
 record IsDivided (first : Bool) (text p r : List ℕ) : Type 0 where
   whole : text ≡ ((indented first text).indent ++ p) ++ (r ++ open_backslash text)
   size : head_size first text p ≡ length ((indented first text).indent ++ p)
 
--- each text is divided so
+-- Each text is divided in this way.
 divided : (first : Bool) (text p r : List ℕ) → added_by first text ≡ p ++ r → IsDivided first text p r
 divided first text p r s =
     let i = indented first text in
@@ -32,7 +33,7 @@ divided first text p r s =
     let w : text ≡ b ++ (p ++ (r ++ open_backslash text)) = i.whole ∙ ap (λ v. b ++ v) t in
     record { whole = w ∙ sym (append_assoc b p (r ++ open_backslash text)); size = head-size first text b p (r ++ open_backslash text) w t }
 
--- the head of a line there
+-- The head of a line up to this position.
 head-there : (e : Encoding) (first : Bool) (h : HeldLine) (p r : List ℕ) → is_editable e ≡ true → decoded_line e h.bytes ≡ h.text → added_by first h.text ≡ p ++ r
     → IsHeadOf e h.bytes ((indented first h.text).indent ++ p) (r ++ open_backslash h.text) (head_of e (head_size first h.text p) h.bytes)
 head-there e first h p r ok d s =
@@ -41,7 +42,7 @@ head-there e first h p r ok d s =
     subst (λ n. IsHeadOf e h.bytes x (r ++ open_backslash h.text) (head_of e n h.bytes)) (sym m.size)
     (head_of-meets e h.bytes x (r ++ open_backslash h.text) ok (d ∙ m.whole))
 
--- the front ends in the line
+-- The front ends in the line.
 front-head : (e : Encoding) (first : Bool) (h : HeldLine) (hs : List HeldLine) (p r : List ℕ) → added_by first h.text ≡ p ++ r
     → front_in e first p (h ∷ hs) ≡ head_of e (head_size first h.text p) h.bytes
 front-head e first h hs p r s =
@@ -50,7 +51,8 @@ front-head e first h hs p r s =
     let n : nat_le (length p) (length (added_by first h.text)) ≡ true = grind (arith) in
     front-here e first p h hs n
 
--- A front that ends inside what a line adds, at what ends a key: up to the place after as many ASCII bytes as its text has characters of ASCII.
+-- A front that ends inside what a line adds, after a character that ends a key: its size is the index after as many
+-- ASCII bytes as its text has ASCII characters.
 pub front_size-inside : (e : Encoding) (first : Bool) (h : HeldLine) (hs : List HeldLine) (p r : List ℕ) → is_editable e ≡ true → decoded_line e h.bytes ≡ h.text
     → added_by first h.text ≡ p ++ r → ends ends_key p ≡ true
     → length (front_in e first p (h ∷ hs)) ≡ after_ascii (ascii_count ((indented first h.text).indent ++ p)) h.bytes
@@ -62,7 +64,7 @@ front_size-inside e first h hs p r ok d s k =
     ap length (front-head e first h hs p r s)
     ∙ sym (head-inside e h.bytes (i.indent ++ p) (r ++ open_backslash h.text) (head_of e (head_size first h.text p) h.bytes) (i.indent ++ m.0) m.1 ok t (ends_key-ascii m.1 m.3) x)
 
--- A front that ends where what a line adds does: all of the line but the backslash that opens it.
+-- A front that ends where what a line adds ends: all of the line except an open backslash.
 pub front_size-end : (e : Encoding) (first : Bool) (h : HeldLine) (hs : List HeldLine) (p : List ℕ) → is_editable e ≡ true → decoded_line e h.bytes ≡ h.text
     → added_by first h.text ≡ p → length (front_in e first p (h ∷ hs)) ≡ length h.bytes - (if is_open h.text then 1 else 0)
 front_size-end e first h hs p ok d s =
@@ -78,7 +80,7 @@ front_size-end e first h hs p ok d s =
     same : (n : ℕ) → n ≡ n - 0
     same n = omega arith
 
--- A front that goes on past a line: the line with its ending, and what it goes on to.
+-- A front that continues past a line: the line with its line ending, followed by what comes after it.
 pub front_size-later : (e : Encoding) (first : Bool) (h : HeldLine) (hs : List HeldLine) (p q : List ℕ) → p ≡ added_by first h.text ++ q → q ≢ []
     → length (front_in e first p (h ∷ hs)) ≡ length h.bytes + (length (ending_bytes h.ending) + length (front_in e false q hs))
 front_size-later e first h hs p q s some =

@@ -1,4 +1,5 @@
--- What is spelt for a value that is set in place: it means the value, and stands in a line after what stands between key and value.
+-- What is printed for a value that is set in place: it means the value, and can follow what separates the key from the
+-- value.
 use Rattle.std.proofs.Common.{◌≡◌, ◌⊎◌, ◌<◌, ℕ, ◌==◌, ◌&&◌, ◌||◌, Bool, true, false, List, [], ◌∷◌, ◌++◌, map, refl, ap, ap₂, sym, ◌∙◌, inl, inr, append_assoc, append-nil, eqb-true, lit<, subst}
 use Rattle.std.specs.List.{AllByRecursion}
 use Rattle.std.proofs.lemmas.Bool.{cases_Bool, cond_both, cond-true, cond-false, and_parts, or_cases, or_parts}
@@ -20,97 +21,97 @@ use Rattle.properties_format.proofs.ReadBack.Spellings.{IsSafe, IsSafelySpelt, s
 use Rattle.properties_format.proofs.ReadBack.Texts.{safe-whole, safe-plain, safe-closed, safe-begins}
 use Rattle.properties_format.proofs.ReadBack.Bytes.{AreWritable, ascii-scalars, writable-append}
 
--- ---- spellings that may stand in such a value
+-- ---- spellings that may be used in such a value
 
--- a safe spelling, or a character as itself, which is no backslash and ends no line
+-- a loose spelling: a safe one, or a character as itself, which isn't a backslash or a line end
 abbrev IsLoose : Spelling → Type 0
 IsLoose p = IsSafe p ⊎ ((c : ℕ) × (p ≡ itself c) × ((c == backslash) ≡ false) × (is_line_end c ≡ false))
 
--- each of these is such
+-- each of these spellings is loose
 abbrev AreLoose : List Spelling → Type 0
 AreLoose [] = Unit {0}
 AreLoose (p ∷ ps) = IsLoose p × AreLoose ps
 
--- x is such a spelling of c
+-- x is a loose spelling of c.
 record IsLooselySpelt (x : List ℕ) (c : ℕ) : Type 0 where
   spelling : Spelling
   text : x ≡ spelling_text spelling
   character : spelt_character spelling ≡ c
   loose : IsLoose spelling
 
--- x is the text of such spellings of y
+-- x is the text of loose spellings of y.
 pub record AreLooselySpelt (x y : List ℕ) : Type 0 where
   spellings : List Spelling
   text : x ≡ spelt_before spellings []
   characters : map spelt_character spellings ≡ y
   loose : AreLoose spellings
 
--- one character in front
+-- One more character at the front.
 loose-cons : (x y : List ℕ) (c : ℕ) (cs : List ℕ) → IsLooselySpelt x c → AreLooselySpelt y cs → AreLooselySpelt (x ++ y) (c ∷ cs)
 loose-cons x y c cs s t =
     record { spellings = s.spelling ∷ t.spellings; text = ap₂ (λ v w. v ++ w) s.text t.text; characters = ap₂ (λ v w. v ∷ w) s.character t.characters; loose = (s.loose, t.loose) }
 
--- one character alone
+-- A single character.
 loose-one : (x : List ℕ) (c : ℕ) → IsLooselySpelt x c → AreLooselySpelt x (c ∷ [])
 loose-one x c s =
     record { spellings = s.spelling ∷ []; text = s.text ∙ sym (append-nil (spelling_text s.spelling)); characters = ap (λ v. v ∷ []) s.character; loose = (s.loose, tt) }
 
--- what is safely spelt
+-- A safe spelling is loose.
 safely-loose : (x : List ℕ) (c : ℕ) → IsSafelySpelt x c → IsLooselySpelt x c
 safely-loose x c s = record { spelling = s.spelling; text = s.text; character = s.character; loose = inl s.safe }
 
--- an equal text
+-- A text equal to a loose spelling is a loose spelling.
 same-loose : (x y : List ℕ) (c : ℕ) → x ≡ y → IsLooselySpelt y c → IsLooselySpelt x c
 same-loose x y c e s = record { spelling = s.spelling; text = e ∙ s.text; character = s.character; loose = s.loose }
 
 -- ---- what they mean
 
--- such a spelling is whole
+-- A loose spelling is whole.
 loose-whole : (p : Spelling) → IsLoose p → IsWhole p
 loose-whole p (inl h) = safe-whole p h
 loose-whole p (inr h) = subst IsWhole (sym h.1) h.2
 
--- and so are all of them
+-- Loose spellings are whole.
 are_loose-whole : (ps : List Spelling) → AreLoose ps → AreWhole ps
 are_loose-whole [] h = tt
 are_loose-whole (p ∷ ps) h = (loose-whole p h.0, are_loose-whole ps h.1)
 
--- a text that is so spelt means what it spells
+-- A loosely spelt text means what it spells.
 pub loose-means : (x y : List ℕ) → AreLooselySpelt x y → meaning_of x ≡ means y
 loose-means x y s = ap meaning_of s.text ∙ meaning_of-all s.spellings (are_loose-whole s.spellings s.loose) ∙ ap means s.characters
 
--- such a spelling holds no line end
+-- A loose spelling contains no line end.
 loose-plain : (p : Spelling) → IsLoose p → HoldsNoLineEnd (spelling_text p)
 loose-plain p (inl h) = safe-plain p h
 loose-plain p (inr h) = subst (λ v. HoldsNoLineEnd (spelling_text v)) (sym h.1) (h.3, tt)
 
--- nor do several
+-- Loose spellings contain no line end.
 are_loose-plain : (ps : List Spelling) → AreLoose ps → HoldsNoLineEnd (spelt_before ps [])
 are_loose-plain [] h = tt
 are_loose-plain (p ∷ ps) h = plain-append (spelling_text p) (spelt_before ps []) (loose-plain p h.0) (are_loose-plain ps h.1)
 
--- nor does a text that is so spelt
+-- A loosely spelt text contains no line end.
 pub loosely-plain : (x y : List ℕ) → AreLooselySpelt x y → HoldsNoLineEnd x
 loosely-plain x y s = rw s.text (are_loose-plain s.spellings s.loose)
 
--- and leaves no line open
+-- A loose spelling leaves no line open.
 loose-closed : (p : Spelling) (x : List ℕ) → IsLoose p → is_open x ≡ false → is_open (x ++ spelling_text p) ≡ false
 loose-closed p x (inl h) o = safe-closed p x h o
 loose-closed p x (inr h) o = ap (λ v. is_open (x ++ spelling_text v)) h.1 ∙ is_open-other x h.0 h.2
 
--- nor do several
+-- Loose spellings leave no line open.
 are_loose-closed : (ps : List Spelling) (x : List ℕ) → AreLoose ps → is_open x ≡ false → is_open (x ++ spelt_before ps []) ≡ false
 are_loose-closed [] x h o = ap is_open (append-nil x) ∙ o
 are_loose-closed (p ∷ ps) x h o =
     ap is_open (sym (append_assoc x (spelling_text p) (spelt_before ps []))) ∙ are_loose-closed ps (x ++ spelling_text p) h.1 (loose-closed p x h.0 o)
 
--- nor does a text that is so spelt
+-- A loosely spelt text leaves no line open.
 pub loosely-closed : (x y z : List ℕ) → AreLooselySpelt y z → is_open x ≡ false → is_open (x ++ y) ≡ false
 loosely-closed x y z s o = ap (λ v. is_open (x ++ v)) s.text ∙ are_loose-closed s.spellings x s.loose o
 
 -- ---- each character
 
--- what a value may hold as it is takes no backslash after it, and ends no line
+-- A character that a value may have unescaped isn't a backslash or a line end.
 free-plain : (c : ℕ) → is_free c ≡ true → ((c == backslash) ≡ false) × (is_line_end c ≡ false) × (c < 0x80)
 free-plain c h = elim (or_cases (c == space) (is_separator c || is_comment_sign c) h) [
   | inl e ↦ rw (eqb-true c space e) (refl, refl, lit< tt)
@@ -120,7 +121,7 @@ free-plain c h = elim (or_cases (c == space) (is_separator c || is_comment_sign 
   ]
 ]
 
--- a space and a separator are special
+-- A space and a separator are special.
 first-special : (after_blanks : Bool) (c : ℕ) → (c == space || (after_blanks && is_separator c)) ≡ true → is_special c ≡ true
 first-special after_blanks c h = elim (or_cases (c == space) (after_blanks && is_separator c) h) [
   | inl e ↦ rw (eqb-true c space e) refl
@@ -130,7 +131,7 @@ first-special after_blanks c h = elim (or_cases (c == space) (after_blanks && is
   ]
 ]
 
--- inside a value
+-- A character inside a value is loosely spelt.
 inside-loose : (e : Encoding) (c : ℕ) → scalar c → IsLooselySpelt (spelt_inside e c) c
 inside-loose e c h = elim (cases_Bool (is_free c)) [
   | inl k ↦
@@ -142,7 +143,7 @@ inside-loose e c h = elim (cases_Bool (is_free c)) [
       (safely-loose (spelt e false in_key_or_value c) c (in_key_or_value-spelt e false c h))
 ]
 
--- at its front
+-- A character at the front of a value is loosely spelt.
 first-loose : (e : Encoding) (after_blanks : Bool) (c : ℕ) → scalar c → IsLooselySpelt (spelt_first e after_blanks c) c
 first-loose e after_blanks c h = elim (cases_Bool (c == space || (after_blanks && is_separator c))) [
   | inl k ↦
@@ -154,29 +155,29 @@ first-loose e after_blanks c h = elim (cases_Bool (c == space || (after_blanks &
       (cond-false (c == space || (after_blanks && is_separator c)) (backslash ∷ c ∷ []) (spelt_inside e c) k) (inside-loose e c h)
 ]
 
--- a space as `\u0020`
+-- A space as `\u0020` is loosely spelt.
 space-loose : (c : ℕ) → (c == space) ≡ true → IsLooselySpelt (unit_escape space) c
 space-loose c k = rw (eqb-true c space k) (safely-loose (unit_escape space) space (unicode-spelt space (inl (lit< tt))))
 
--- at its end
+-- A character at the end of a value is loosely spelt.
 last-loose : (e : Encoding) (c : ℕ) → scalar c → IsLooselySpelt (spelt_last e c) c
 last-loose e c h = elim (cases_Bool (c == space)) [
   | inl k ↦ same-loose (spelt_last e c) (unit_escape space) c (cond-true (c == space) (unit_escape space) (spelt_inside e c) k) (space-loose c k)
   | inr k ↦ same-loose (spelt_last e c) (spelt_inside e c) c (cond-false (c == space) (unit_escape space) (spelt_inside e c) k) (inside-loose e c h)
 ]
 
--- after the first character
+-- The characters after the first are loosely spelt.
 rest-loose : (e : Encoding) (cs : List ℕ) → AllByRecursion scalar cs → AreLooselySpelt (spelt_rest e cs) cs
 rest-loose e [] h = record { spellings = []; text = refl; characters = refl; loose = tt }
 rest-loose e (c ∷ []) h = loose-one (spelt_last e c) c (last-loose e c h.0)
 rest-loose e (c ∷ d ∷ cs) h = loose-cons (spelt_inside e c) (spelt_rest e (d ∷ cs)) c (d ∷ cs) (inside-loose e c h.0) (rest-loose e (d ∷ cs) h.1)
 
--- the test for a space alone
+-- The test for a value that is a single space.
 alone-space : (c : ℕ) (cs : List ℕ) → (is_empty cs && c == space) ≡ true → (cs ≡ []) × ((c == space) ≡ true)
 alone-space c [] h = (refl, h)
 alone-space c (d ∷ cs) h = absurd (cc)
 
--- What is spelt for a value is a spelling of it.
+-- What is printed for a value is loosely spelt.
 pub value-loose : (e : Encoding) (after_blanks : Bool) (value : List ℕ) → AllByRecursion scalar value → AreLooselySpelt (spelt_value e after_blanks value) value
 value-loose e after_blanks [] h = record { spellings = []; text = refl; characters = refl; loose = tt }
 value-loose e after_blanks (c ∷ cs) h =
@@ -193,12 +194,12 @@ value-loose e after_blanks (c ∷ cs) h =
 
 -- ---- how it begins
 
--- it begins with no blank, and after blanks with no separator
+-- The text doesn't begin with a blank, and after blanks it doesn't begin with a separator.
 pub record BeginsAfter (after_blanks : Bool) (x : List ℕ) : Type 0 where
   pub no_blank : begins is_blank x ≡ false
   pub no_separator : after_blanks ≡ true → begins is_separator x ≡ false
 
--- a free character that takes no backslash at the front
+-- A character that isn't escaped at the front.
 free-begins : (after_blanks : Bool) (c : ℕ) (y : List ℕ) → is_free c ≡ true → (c == space || (after_blanks && is_separator c)) ≡ false
     → BeginsAfter after_blanks (c ∷ y)
 free-begins after_blanks c y h k =
@@ -214,7 +215,7 @@ free-begins after_blanks c y h k =
         let m : is_comment_sign c ≡ true = rw (n, s) at h in
         elim (or_cases (c == 0x23) (c == 0x21) m) [ inl e ↦ rw (eqb-true c 0x23 e) refl | inr e ↦ rw (eqb-true c 0x21 e) refl ]
 
--- the first character of a value, before any text
+-- The first character of a value, before any text.
 first-begins : (e : Encoding) (after_blanks : Bool) (c : ℕ) (y : List ℕ) → scalar c → BeginsAfter after_blanks (spelt_first e after_blanks c ++ y)
 first-begins e after_blanks c y h = elim (cases_Bool (c == space || (after_blanks && is_separator c))) [
   | inl k ↦
@@ -234,7 +235,7 @@ first-begins e after_blanks c y h = elim (cases_Bool (c == space || (after_blank
       ])
 ]
 
--- A value begins with no blank, and after blanks with no separator.
+-- What is printed for a value doesn't begin with a blank, and after blanks it doesn't begin with a separator.
 pub value-begins : (e : Encoding) (after_blanks : Bool) (value : List ℕ) → AllByRecursion scalar value → BeginsAfter after_blanks (spelt_value e after_blanks value)
 value-begins e after_blanks [] h = record { no_blank = refl; no_separator = λ q. refl }
 value-begins e after_blanks (c ∷ cs) h =
@@ -249,33 +250,33 @@ value-begins e after_blanks (c ∷ cs) h =
 
 -- ---- it can be written
 
--- an ASCII text can be
+-- An ASCII text can be written.
 pub ascii-writable : (e : Encoding) (x : List ℕ) → AreAscii x → AreWritable e x
 ascii-writable e x h = record { scalars = ascii-scalars x h; encodable = AreEncodable-ascii e x h }
 
--- a character inside a value
+-- A character inside a value can be written.
 inside-writable : (e : Encoding) (c : ℕ) → scalar c → AreWritable e (spelt_inside e c)
 inside-writable e c h =
     cond_both (is_free c) (c ∷ []) (spelt e false in_key_or_value c) (AreWritable e) (λ k. ascii-writable e (c ∷ []) ((free-plain c k).2, tt))
     (λ k. record { scalars = spelt-either e false in_key_or_value c (AllByRecursion scalar) ascii-scalars (λ m. (h, tt)); encodable = spelt-encodable e false in_key_or_value c })
 
--- at its front
+-- A character at the front of a value can be written.
 first-writable : (e : Encoding) (after_blanks : Bool) (c : ℕ) → scalar c → AreWritable e (spelt_first e after_blanks c)
 first-writable e after_blanks c h =
     cond_both (c == space || (after_blanks && is_separator c)) (backslash ∷ c ∷ []) (spelt_inside e c) (AreWritable e)
     (λ k. ascii-writable e (backslash ∷ c ∷ []) (lit< tt, (special-ascii c (first-special after_blanks c k), tt))) (λ k. inside-writable e c h)
 
--- a space as `\u0020`
+-- A space as `\u0020` can be written.
 space-writable : (e : Encoding) → AreWritable e (unit_escape space)
 space-writable e = ascii-writable e (unit_escape space) (unicode_escape-ascii space)
 
--- after the first
+-- The characters after the first can be written.
 rest-writable : (e : Encoding) (cs : List ℕ) → AllByRecursion scalar cs → AreWritable e (spelt_rest e cs)
 rest-writable e [] h = ascii-writable e [] tt
 rest-writable e (c ∷ []) h = cond_both (c == space) (unit_escape space) (spelt_inside e c) (AreWritable e) (λ k. space-writable e) (λ k. inside-writable e c h.0)
 rest-writable e (c ∷ d ∷ cs) h = writable-append e (spelt_inside e c) (spelt_rest e (d ∷ cs)) (inside-writable e c h.0) (rest-writable e (d ∷ cs) h.1)
 
--- What is spelt for a value of scalar values can be written.
+-- What is printed for a value of scalar values can be written.
 pub value-writable : (e : Encoding) (after_blanks : Bool) (value : List ℕ) → AllByRecursion scalar value → AreWritable e (spelt_value e after_blanks value)
 value-writable e after_blanks [] h = ascii-writable e [] tt
 value-writable e after_blanks (c ∷ cs) h =

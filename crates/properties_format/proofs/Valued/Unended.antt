@@ -1,4 +1,4 @@
--- A group without its last line ending: its bytes are one group, which is laid out as it was.
+-- A group without its last line ending: its bytes are one group, with the same parts as before.
 use Rattle.std.proofs.Common.{◌≡◌, ◌≢◌, ◌⊎◌, ℕ, true, List, [], ◌∷◌, ◌++◌, Some, None, inl, inr, refl, ap, sym, ◌∙◌, append-nil, subst}
 use Rattle.properties_format.specs.Encoding.{Encoding}
 use Rattle.properties_format.specs.Lines.{Ended, BeginsWithNoLoneLf, AreLines}
@@ -16,69 +16,69 @@ use Rattle.properties_format.proofs.Body.Groups.{EndsOpen, IsLastFit, held_ended
 use Rattle.properties_format.proofs.Valued.Fronts.{AreDecoded, front_of-meets, front_of-only}
 use Rattle.properties_format.proofs.Valued.Lined.{AreLined, groups-lined, lined-groups, held_in-append, fit-parts, fit-first}
 
--- the lines without the ending of the last
+-- the lines without the last line ending
 abbrev pub without_ending : List HeldLine → List HeldLine
 without_ending [] = []
 without_ending (h ∷ []) = record { bytes = h.bytes; text = h.text; ending = None } ∷ []
 without_ending (h ∷ i ∷ hs) = h ∷ without_ending (i ∷ hs)
 
--- they have the same texts
+-- They have the same texts.
 pub unended-texts : (g : List HeldLine) → as_lines (without_ending g) ≡ as_lines g
 unended-texts [] = refl
 unended-texts (h ∷ []) = refl
 unended-texts (h ∷ i ∷ g) = ap (λ v. record { number = 0; text = h.text } ∷ v) (unended-texts (i ∷ g))
 
--- their bytes are those up to the last line ending
+-- Their bytes are those up to the last line ending.
 pub unended-bytes : (g : List HeldLine) → group_bytes (without_ending g) ≡ unended_bytes g
 unended-bytes [] = refl
 unended-bytes (h ∷ []) = append-nil h.bytes
 unended-bytes (h ∷ i ∷ g) = ap (λ v. h.bytes ++ (ending_bytes h.ending ++ v)) (unended-bytes (i ∷ g))
 
--- all lines of a body have no last ending
+-- The last line of a body has no line ending to lose.
 unended-held : (e : Encoding) (ls : List Ended) (last : List ℕ) → without_ending (held_of e ls last) ≡ held_of e ls last
 unended-held e [] last = refl
 unended-held e (l ∷ []) last = refl
 unended-held e (l ∷ m ∷ ls) last = ap (λ v. record { bytes = l.text; text = decoded_line e l.text; ending = Some l.by } ∷ v) (unended-held e (m ∷ ls) last)
 
--- ended lines but the last
+-- the ended lines except the last
 abbrev all_but_last : List Ended → List Ended
 all_but_last [] = []
 all_but_last (l ∷ []) = []
 all_but_last (l ∷ m ∷ ls) = l ∷ all_but_last (m ∷ ls)
 
--- that text
+-- the text of the last
 abbrev last_text : List Ended → List ℕ
 last_text [] = []
 last_text (l ∷ []) = l.text
 last_text (l ∷ m ∷ ls) = last_text (m ∷ ls)
 
--- without the last ending they are all lines of a body
+-- Without the last line ending, ended lines are all lines of a body.
 unended-ended : (e : Encoding) (l : Ended) (ls : List Ended)
     → without_ending (held_ended e (l ∷ ls)) ≡ held_of e (all_but_last (l ∷ ls)) (last_text (l ∷ ls))
 unended-ended e l [] = refl
 unended-ended e l (m ∷ ls) = ap (λ v. record { bytes = l.text; text = decoded_line e l.text; ending = Some l.by } ∷ v) (unended-ended e m ls)
 
--- where the first of them is no lone LF, none is without the last
+-- If the first of them isn't an empty line that an LF ends, it still isn't without the last.
 first-stays : (m : Ended) (ls : List Ended) → BeginsWithNoLoneLf (m ∷ ls) → BeginsWithNoLoneLf (all_but_last (m ∷ ls))
 first-stays m [] h = tt
 first-stays m (n ∷ ls) h = h
 
--- so they are lines of a text
+-- They are lines of a text.
 unended-lines : (l : Ended) (ls : List Ended) → AreLines (l ∷ ls) [] → AreLines (all_but_last (l ∷ ls)) (last_text (l ∷ ls))
 unended-lines l [] h = h.0
 unended-lines l (m ∷ ls) h = (h.0, (λ k. first-stays m ls (h.1 k)), unended-lines m ls h.2)
 
--- a whole or open group is one without its last ending too
+-- A group that is whole or ends open is still one without its last line ending.
 unended-fit : (g : List HeldLine) → IsLastFit g → IsLastFit (without_ending g)
 unended-fit g h = subst (λ v. IsWhole v ⊎ EndsOpen v) (sym (unended-texts g)) h
 
--- a group has lines
+-- A group isn't empty.
 fit-lines : (g : List HeldLine) → IsLastFit g → g ≢ []
 fit-lines [] (inl k) q = k
 fit-lines [] (inr k) q = k
 fit-lines (h ∷ g) k q = absurd (cc)
 
--- One group of a body without its last ending is the group of its bytes.
+-- One group of a body, without its last line ending, is the group of its bytes.
 unended-lined : (e : Encoding) (before : List (List HeldLine)) (g : List HeldLine) (after : List (List HeldLine)) → AreLined e (before ++ g ∷ after)
     → AreLined e (without_ending g ∷ [])
 unended-lined e before g [] h =
@@ -115,7 +115,7 @@ unended-lined e before g (i ∷ after) h =
       fit = unended-fit g f;
     }
 
--- The bytes of a group of a body up to its last line ending have one group: the group without that ending.
+-- The bytes of a body's group up to its last line ending have one group: the group without that ending.
 pub unended-groups : (e : Encoding) (body : List ℕ) (before : List (List HeldLine)) (g : List HeldLine) (after : List (List HeldLine)) → is_editable e ≡ true
     → AreGroupsOf e body (before ++ g ∷ after)
     → held_groups_of e (unended_bytes g) ≡ without_ending g ∷ []
@@ -125,16 +125,16 @@ unended-groups e body before g after ok h =
     sym (held_groups_of-only e (unended_bytes g) (without_ending g ∷ [])
     (subst (λ v. AreGroupsOf e v (without_ending g ∷ [])) bytes (lined-groups e (without_ending g ∷ []) ok l)))
 
--- ---- its layout
+-- ---- its parts
 
--- the lines that are kept before another line
+-- The lines that are kept before another line.
 unended-kept : (kept : List HeldLine) (line : HeldLine) (more : List HeldLine)
     → without_ending (kept ++ line ∷ more) ≡ kept ++ without_ending (line ∷ more)
 unended-kept [] line more = refl
 unended-kept (i ∷ []) line more = refl
 unended-kept (i ∷ j ∷ kept) line more = ap (λ v. i ∷ v) (unended-kept (j ∷ kept) line more)
 
--- a line with the same bytes and text
+-- A line with the same bytes and text.
 record IsAlikeLine (line : HeldLine) (more : List HeldLine) : Type 0 where
   other : HeldLine
   rest : List HeldLine
@@ -142,12 +142,12 @@ record IsAlikeLine (line : HeldLine) (more : List HeldLine) : Type 0 where
   bytes : other.bytes ≡ line.bytes
   text : other.text ≡ line.text
 
--- each line has such a one
+-- Each line has one.
 alike-line : (line : HeldLine) (more : List HeldLine) → IsAlikeLine line more
 alike-line line [] = record { other = record { bytes = line.bytes; text = line.text; ending = None }; rest = []; lines = refl; bytes = refl; text = refl }
 alike-line line (i ∷ more) = record { other = line; rest = without_ending (i ∷ more); lines = refl; bytes = refl; text = refl }
 
--- the joined line is the same
+-- The logical line is the same.
 pub unended-joined : (g : List HeldLine) → joined (as_lines (without_ending g)) ≡ joined (as_lines g)
 unended-joined g = ap joined (unended-texts g)
 
@@ -198,10 +198,10 @@ unended-front e g key value ok d h =
     unended-decoded (i ∷ []) q = q
     unended-decoded (i ∷ j ∷ g) q = (q.0, unended-decoded (j ∷ g) q.1)
 
--- And so is what stands between key and value.
+-- What separates the key from the value is the same.
 pub unended-between : (g : List HeldLine) → between_of (without_ending g) ≡ between_of g
 unended-between g = ap between_in (unended-joined g)
 
--- and whether it has a value
+-- Whether the group has a value is the same.
 pub unended-value : (value : List ℕ) (g : List HeldLine) → has_value value (without_ending g) ≡ has_value value g
 unended-value value g = ap (λ v. is_pair_to value (outcome_of v)) (unended-joined g)

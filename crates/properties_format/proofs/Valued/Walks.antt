@@ -1,4 +1,5 @@
--- A walk along the lines of a pair's group to the end of its front: what is left of the text before the value, told by sizes in UTF-8.
+-- A walk along the lines of a pair's group to the end of its front. It keeps track of what is left of the text before
+-- the value, by sizes in UTF-8.
 use Rattle.std.proofs.Common.{◌≡◌, ◌≢◌, ◌<◌, ◌≤◌, ℕ, ◌+◌, Bool, true, false, List, [], ◌∷◌, ◌++◌, length}
 use Rattle.std.proofs.Common.{take, drop, refl, inl, inr, ap, ap₂, sym, ◌∙◌, arith, append_assoc, append-nil, length-append, subst}
 use Rattle.std.specs.Prelude.{nat_le, if◌then◌else◌}
@@ -27,19 +28,19 @@ use Rattle.properties_format.proofs.Valued.Read.{front-unended}
 
 -- ---- two fronts of one text, by their sizes
 
--- how many bytes a text has in UTF-8
+-- the number of bytes of a text in UTF-8
 abbrev pub utf8_size : List ℕ → ℕ
 utf8_size x = length (encode_utf8_all x)
 
--- in two parts
+-- The size of two parts.
 size-append : (x y : List ℕ) → utf8_size (x ++ y) ≡ utf8_size x + utf8_size y
 size-append x y = ap length (encodes-append x y) ∙ length-append (encode_utf8_all x) (encode_utf8_all y)
 
--- the text of some bytes has as many
+-- The text of some bytes has as many bytes in UTF-8.
 pub size-text : (x : List ℕ) → IsUtf8 x → utf8_size (chars x) ≡ length x
 size-text x u = ap length (encodes-chars x u)
 
--- two texts are of scalar values where both together are
+-- If a text consists of scalar values, so do both of its parts.
 scalars-parts : (p y : List ℕ) → all_scalars (p ++ y) ≡ true → (all_scalars p ≡ true) × (all_scalars y ≡ true)
 scalars-parts [] y h = (refl, h)
 scalars-parts (c ∷ p) y h =
@@ -47,14 +48,14 @@ scalars-parts (c ∷ p) y h =
     let n = scalars-parts p y m.1 in
     (and_from (std_utf8.scalar c) (all_scalars p) m.0 n.0, n.1)
 
--- Bytes that are cut where a text is: both parts are texts.
+-- Bytes that are cut at a character boundary: both parts are texts.
 pub record IsCutText (bytes : List ℕ) (at : ℕ) (front back : List ℕ) : Type 0 where
   pub front_utf8 : IsUtf8 (take at bytes)
   pub front_chars : chars (take at bytes) ≡ front
   pub back_utf8 : IsUtf8 (drop at bytes)
   pub back_chars : chars (drop at bytes) ≡ back
 
--- They are cut so after as many bytes as the front of the text has.
+-- They are cut in this way after as many bytes as the front of the text has.
 pub text-cut : (x p y : List ℕ) (at : ℕ) → IsUtf8 x → chars x ≡ p ++ y → at ≡ utf8_size p → IsCutText x at p y
 text-cut x p y at u s n =
     let k = scalars-parts p y (ap all_scalars (sym s) ∙ scalars-chars x u) in
@@ -68,12 +69,12 @@ text-cut x p y at u s n =
       back_chars = ap chars b ∙ chars-encodes y k.1;
     }
 
--- what has no bytes has no characters
+-- A text without bytes has no characters.
 no-size : (x : List ℕ) → utf8_size x ≡ 0 → x ≡ []
 no-size [] h = refl
 no-size (c ∷ x) h = let m = length-le-encodes (c ∷ x) in absurd (omega arith)
 
--- the longer of two fronts of a text, where the other isn't longer: it is the other and more
+-- The longer of two fronts of a text is the other one followed by more.
 front-parts : (p v a j : List ℕ) → a ++ j ≡ p ++ v → utf8_size p ≤ utf8_size a → (r : List ℕ) × (a ≡ p ++ r) × (utf8_size a ≡ utf8_size p + utf8_size r)
 front-parts p v a j s l = elim (cases_Bool (nat_le (length p) (length a))) [
   | inl k ↦ let m = split-longer p v a j s (grind (arith)) in (m.0, m.1, ap utf8_size m.1 ∙ size-append p m.0)
@@ -87,18 +88,18 @@ front-parts p v a j s l = elim (cases_Bool (nat_le (length p) (length a))) [
 
 -- ---- what a line adds, in bytes
 
--- A line that is open has a byte.
+-- An open line isn't empty.
 pub open-some : (e : Encoding) (d x : List ℕ) → decoded_line e d ≡ x → is_open x ≡ true → 1 ≤ length d
 open-some e [] x s o = let m : is_open [] ≡ true = ap is_open (sym (decoded-nil e) ∙ s) ∙ o in absurd (cc)
 open-some e (b ∷ d) x s o = omega arith
 
--- the backslash that leaves a line open is one byte, where there is one
+-- The backslash that leaves a line open is one byte, if there is one.
 open-size : (o : Bool) → utf8_size (if o then backslash ∷ [] else []) ≡ (if o then 1 else 0)
 unfolding std_utf8.encode
 open-size true = refl
 open-size false = refl
 
--- A line without its indent has as many bytes in UTF-8 as what it adds, and one more where it is open.
+-- A line without its indentation has as many bytes in UTF-8 as what it adds, and one more if it is open.
 pub added-size : (first : Bool) (x : List ℕ)
     → utf8_size (without_indent first x) ≡ utf8_size (added_by first x) + (if is_open x then 1 else 0)
 added-size first x =
@@ -109,14 +110,15 @@ added-size first x =
 
 -- ---- the walk
 
--- A walk stands before these lines, of which the first is the first of the group or not: they add what is left of the text before the value, and the value.
+-- A walk is before these lines, the first of which is the first of the group or not: they add what is left of the text
+-- before the value, followed by the value.
 pub record StandsBefore (e : Encoding) (first : Bool) (lines : List HeldLine) (left value : List ℕ) : Type 0 where
   pub decoded : AreDecoded e lines
   pub adds : joined_by first lines ≡ left ++ value
   pub may_end : MayEnd left value
   pub some : left ≢ []
 
--- It begins before all lines of the group.
+-- The walk begins before all lines of the group.
 pub walk-begins : (e : Encoding) (group : List HeldLine) (key value : List ℕ) → AreDecoded e group → IsPair (joined (as_lines group)) key value
     → StandsBefore e true group (before_value (joined (as_lines group))) value
 walk-begins e [] key value d h = absurd (no_lines-no_pair key value h)
@@ -130,11 +132,11 @@ walk-begins e (i ∷ is) key value d h =
       some = λ q. pair-some line key value h (subst AreBlanks (sym (sym s ∙ q)) tt);
     }
 
--- It ends before the lines do.
+-- The walk ends before the lines do.
 pub walk-ends : (e : Encoding) (first : Bool) (left value : List ℕ) → StandsBefore e first [] left value → ⊥
 walk-ends e first left value h = h.some (none-left left value (sym h.adds))
 
--- In the last line no more is left than that line adds.
+-- In the last line, no more is left than that line adds.
 pub walk-last : (e : Encoding) (first : Bool) (h : HeldLine) (left value : List ℕ) → StandsBefore e first (h ∷ []) left value
     → utf8_size left ≤ utf8_size (added_by first h.text)
 walk-last e first h left value w =
@@ -142,7 +144,7 @@ walk-last e first h left value w =
     let t : utf8_size (added_by first h.text) ≡ utf8_size left + utf8_size value = ap utf8_size s ∙ size-append left value in
     omega arith
 
--- Where as much is left as a line adds, the front ends with what it adds.
+-- If as much is left as a line adds, the front ends with what it adds.
 pub walk-here : (e : Encoding) (first : Bool) (h : HeldLine) (hs : List HeldLine) (left value : List ℕ) → StandsBefore e first (h ∷ hs) left value
     → utf8_size left ≡ utf8_size (added_by first h.text)
     → added_by first h.text ≡ left
@@ -152,13 +154,14 @@ walk-here e first h hs left value w l =
     let none : m.0 ≡ [] = no-size m.0 (omega arith) in
     m.1 ∙ ap (λ v. left ++ v) none ∙ append-nil left
 
--- where it adds more, the front may end in it
+-- If a line adds more than is left, the front may end in it.
 may-here : (p r j v : List ℕ) → (p ++ r) ++ j ≡ p ++ v → r ≢ [] → MayEnd p v → ends ends_key p ≡ true
 may-here p r j v s some (inl k) = k
 may-here p r j v s some (inr k) =
     absurd (some (none-left r j (append_cancel_left p (r ++ j) [] (sym (append_assoc p r j) ∙ s ∙ ap (λ w. p ++ w) k))))
 
--- Where less is left than a line adds, the front ends inside it: at the place after as many ASCII bytes as stand in the text of the line up to there.
+-- If less is left than a line adds, the front ends inside it: at the index after as many ASCII bytes as the text of the
+-- line has ASCII characters up to there.
 pub walk-inside : (e : Encoding) (first : Bool) (h : HeldLine) (hs : List HeldLine) (left value : List ℕ) → is_editable e ≡ true
     → StandsBefore e first (h ∷ hs) left value → utf8_size left < utf8_size (added_by first h.text)
     → (x y : List ℕ) → h.text ≡ x ++ y → without_indent first h.text ≡ left ++ y
@@ -173,14 +176,14 @@ walk-inside e first h hs left value ok w l x y s t =
     append_cancel_right x (i.indent ++ left) y (sym s ∙ i.whole ∙ ap (λ v. i.indent ++ v) t ∙ sym (append_assoc i.indent left y)) in
     front_size-inside e first h hs left m.0 ok w.decoded.0 m.1 k ∙ ap (λ v. after_ascii (ascii_count v) h.bytes) (sym same)
 
--- What is left after a line, where more was left than it adds.
+-- What is left after a line, if more was left than it adds.
 pub record GoesOn (e : Encoding) (first : Bool) (h : HeldLine) (hs : List HeldLine) (left value : List ℕ) : Type 0 where
   pub next : List ℕ
   pub whole : left ≡ added_by first h.text ++ next
   pub size : utf8_size left ≡ utf8_size (added_by first h.text) + utf8_size next
   pub stands : StandsBefore e false hs next value
 
--- Then the walk goes on past it.
+-- If more is left than a line adds, the walk continues past it.
 pub walk-on : (e : Encoding) (first : Bool) (h : HeldLine) (hs : List HeldLine) (left value : List ℕ) → StandsBefore e first (h ∷ hs) left value
     → utf8_size (added_by first h.text) < utf8_size left → GoesOn e first h hs left value
 walk-on e first h hs left value w l =
@@ -201,7 +204,7 @@ walk-on e first h hs left value w l =
     may-later q more t (inl z) = inl (sym (ends-right ends_key (added_by first h.text) q more) ∙ ap (ends ends_key) (sym t) ∙ z)
     may-later q more t (inr z) = inr z
 
--- the front of some bytes is no longer than they are
+-- The front of some bytes is no longer than they are.
 front-less : (x y z : List ℕ) → x ≡ y ++ z → length y ≤ length x
 front-less x y z s =
     let l : length x ≡ length (y ++ z) = ap length s in

@@ -1,4 +1,4 @@
--- The lines of undecoded bytes, computed from their end, and those lines decoded one by one.
+-- The lines of undecoded bytes, computed from the end of the bytes, and these lines decoded one by one.
 use Rattle.std.specs.Prelude.{ℕ, if◌then◌else◌, List, [], ◌∷◌}
 use Rattle.properties_format.specs.Text.{is_line_end}
 use Rattle.properties_format.specs.Lines.{Ended, Lines}
@@ -8,15 +8,15 @@ use Rattle.properties_format.specs.Encoding.{Encoding, windows_1252, utf_8, utf_
 use Rattle.properties_format.specs.Reading.Encoding.{pieces_of}
 use Rattle.properties_format.specs.Reading.Lines.{character_before, before, lines_of}
 
--- two bytes in front are of the first line
+-- the lines with two more bytes at the front of the first line
 abbrev pub two_before : ℕ → ℕ → Lines → Lines
 two_before a b lines = let later = character_before b lines.ended lines.last in character_before a later.ended later.last
 
--- a unit of two bytes in front, of this number
+-- the lines with one more unit of two bytes, with this value, at the front
 abbrev pub unit_before : ℕ → ℕ → ℕ → Lines → Lines
 unit_before u a b lines = if is_line_end u then before u lines else two_before a b lines
 
--- the lines of bytes whose units are of two bytes; a last odd byte is of the last line
+-- the lines of bytes with units of two bytes; an odd byte at the end belongs to the last line
 abbrev pub cut_of_two : (ℕ → ℕ → ℕ) → List ℕ → Lines
 cut_of_two unit [] = record { ended = []; last = [] }
 cut_of_two unit (a ∷ []) = record { ended = []; last = a ∷ [] }
@@ -29,7 +29,7 @@ cut_of utf_8 d = lines_of d
 cut_of utf_16le d = cut_of_two low_first d
 cut_of utf_16be d = cut_of_two high_first d
 
--- the text of the bytes of a line
+-- the text of a line's bytes
 abbrev pub decoded_line : Encoding → List ℕ → List ℕ
 decoded_line e d = characters (pieces_of e d)
 
@@ -41,6 +41,6 @@ decoded_ended e (l ∷ ls) = record { text = decoded_line e l.text; by = l.by } 
 abbrev pub decoded_lines : Encoding → Lines → Lines
 decoded_lines e lines = record { ended = decoded_ended e lines.ended; last = decoded_line e lines.last }
 
--- the lines of the bytes after a byte order mark, each decoded by itself
+-- the lines of the bytes after any byte order mark, each decoded by itself
 abbrev pub byline_of : Encoding → List ℕ → Lines
 byline_of e b = decoded_lines (byte_order_mark e b).encoding (cut_of (byte_order_mark e b).encoding (byte_order_mark e b).body)

@@ -9,28 +9,28 @@ use Rattle.properties_format.specs.Items.{Outcome, ignored, given, broken}
 use Rattle.properties_format.specs.Reading.Items.{outcome_of, items_of}
 use Rattle.properties_format.specs.Writing.{is_empty}
 use Rattle.properties_format.specs.Body.{HeldLine, as_lines, ending_bytes, group_bytes, groups_bytes, last_ending}
-use Rattle.properties_format.specs.Edited.{pair_bytes, final_group, parting, bom_of, guarding_lf, Edit, put, remove, EditResult, edited, unsupported, unreadable, is_editable}
+use Rattle.properties_format.specs.Edited.{pair_bytes, final_group, parting, bom_of, guarding_lf, EditResult, edited, unsupported, unreadable, is_editable}
 use Rattle.properties_format.specs.Reading.Body.{has_key, held_groups_of}
 
--- ---- a key is set
+-- ---- setting a key
 
--- a group, and those before and after it
+-- a group, with the groups before and after it
 pub record KeyPlace : Type 0 where
   pub before : List (List HeldLine)
   pub group : List HeldLine
   pub after : List (List HeldLine)
 
--- the place with one more group before it; and where there is none, this group if it is a pair with the key
+-- the place with one more group before it; if there is no place, this group's place if it is a pair with the key
 abbrev pub place_after : List ℕ → List HeldLine → List (List HeldLine) → Option KeyPlace → Option KeyPlace
 place_after key g gs (Some p) = Some record { before = g ∷ p.before; group = p.group; after = p.after }
 place_after key g gs None = if has_key key g then Some record { before = []; group = g; after = gs } else None
 
--- the place of the last pair with the key
+-- the place of the last pair with the key, if there is one
 abbrev pub last_place : List ℕ → List (List HeldLine) → Option KeyPlace
 last_place key [] = None
 last_place key (g ∷ gs) = place_after key g gs (last_place key gs)
 
--- the body with the pair in that place, or at the end
+-- the body with the pair at this place, or appended at the end if there is none
 abbrev pub set_at : Encoding → List ℕ → List (List HeldLine) → List ℕ → List ℕ → Option KeyPlace → List ℕ
 set_at e source groups key value (Some p) =
     groups_bytes p.before ++ (pair_bytes e (is_empty (groups_bytes p.before)) key value ++ (ending_bytes (last_ending p.group) ++ groups_bytes p.after))
@@ -38,64 +38,52 @@ set_at e source groups key value None =
     let front : List ℕ = groups_bytes groups ++ parting source (final_group groups) in
     front ++ (pair_bytes e (is_empty front) key value ++ line_feed ∷ [])
 
--- the source with the key set
+-- the source with the key set, given the encoding in force and the body
 abbrev pub key_set_in : InForce → List ℕ → List ℕ → List ℕ → List ℕ
 key_set_in f source key value =
     let groups = held_groups_of f.encoding f.body in
     bom_of source ++ set_at f.encoding source groups key value (last_place key groups)
 
--- the same, by the encoding that was asked for
+-- the source with the key set, given the requested encoding
 abbrev pub key_set : Encoding → List ℕ → List ℕ → List ℕ → List ℕ
 key_set e source key value = key_set_in (byte_order_mark e source) source key value
 
--- ---- a key is removed
+-- ---- removing a key
 
--- the bytes of the groups that are no pair with the key
+-- the bytes of the groups that aren't pairs with the key
 abbrev pub without : List ℕ → List (List HeldLine) → List ℕ
 without key [] = []
 without key (g ∷ gs) = if has_key key g then without key gs else group_bytes g ++ without key gs
 
--- the source without the key
+-- the source without the key, given the encoding in force and the body
 abbrev pub key_removed_in : InForce → List ℕ → List ℕ → List ℕ
 key_removed_in f source key = let rest = without key (held_groups_of f.encoding f.body) in bom_of source ++ (guarding_lf source rest ++ rest)
 
--- the same, by the encoding that was asked for
+-- the source without the key, given the requested encoding
 abbrev pub key_removed : Encoding → List ℕ → List ℕ → List ℕ
 key_removed e source key = key_removed_in (byte_order_mark e source) source key
 
--- ---- edits in turn
-
--- the source after this edit
-abbrev pub edit_made : Encoding → List ℕ → Edit → List ℕ
-edit_made e source (put key value) = key_set e source key value
-edit_made e source (remove key) = key_removed e source key
-
--- the source after these edits, each made to what the one before it gave
-abbrev pub edits_made : Encoding → List ℕ → List Edit → List ℕ
-edits_made e source [] = source
-edits_made e source (edit ∷ edits) = edits_made e (edit_made e source edit) edits
-
 -- ---- results
 
--- the group is not malformed
+-- The outcome isn't malformed.
 abbrev pub IsSound : Outcome → Type 0
 IsSound ignored = Unit {0}
 IsSound (given content) = Unit {0}
 IsSound (broken kind) = ⊥
 
--- none of the groups is malformed
+-- None of the groups is malformed.
 abbrev pub AreSound : List (List HeldLine) → Type 0
 AreSound [] = Unit {0}
 AreSound (g ∷ gs) = IsSound (outcome_of (joined (as_lines g))) × AreSound gs
 
--- the result by the items of the source: its first fault, or else these bytes
+-- the result, given the entries of the source: its first malformed entry, or these bytes if it has none
 abbrev pub result_by : List Entry → List ℕ → EditResult
 result_by [] result = edited result
 result_by (item n content ∷ entries) result = result_by entries result
 result_by (malformed kind n ∷ entries) result = unreadable kind n
 result_by (read_fault n ∷ entries) result = result_by entries result
 
--- the result of an edit that makes these bytes of the source: whether the encoding can be edited comes first
+-- the result of an edit that makes these bytes of the source; the encoding is tested first
 abbrev pub result_of : Encoding → List ℕ → List ℕ → EditResult
 result_of e source result = if is_editable (byte_order_mark e source).encoding then result_by (items_of e source end) result else unsupported
 
@@ -106,7 +94,3 @@ set_key_result e source key value = result_of e source (key_set e source key val
 -- the result of removing a key
 abbrev pub remove_key_result : Encoding → List ℕ → List ℕ → EditResult
 remove_key_result e source key = result_of e source (key_removed e source key)
-
--- the result of a list of edits
-abbrev pub edit_all_result : Encoding → List ℕ → List Edit → EditResult
-edit_all_result e source edits = result_of e source (edits_made e source edits)

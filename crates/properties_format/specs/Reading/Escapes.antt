@@ -1,53 +1,54 @@
--- What a text means, computed from its first character on.
+-- What a text means, computed from its first character.
 use Rattle.std.specs.Prelude.{◌==◌, ◌&&◌, ℕ, zero, suc, pred, length, if◌then◌else◌, List, [], ◌∷◌, Option, Some, None}
 use Rattle.properties_format.specs.Hexadecimal.{Four, are_hexadecimal, code_unit}
 use Rattle.properties_format.specs.Surrogates.{is_high, is_low}
 use Rattle.properties_format.specs.Text.{backslash}
 use Rattle.properties_format.specs.Escapes.{Malformed, not_enough_digits, letter_u, Spelling, itself, escaped, unicode, surrogates, last, spelling_text, spelt_character, malformed_by, Meaning, means, breaks}
 
--- the two escapes of a high surrogate and what stands after it, if that is one of a low surrogate
+-- the spelling of a high surrogate, given the text after its escape: the two escapes, if that text begins with the
+-- escape of a low surrogate
 abbrev pub with_low : Four → List ℕ → Option Spelling
 with_low high (x ∷ y ∷ a ∷ b ∷ c ∷ d ∷ rest) =
     let low : Four = record { first = a; second = b; third = c; fourth = d } in
     if (x == backslash && y == letter_u) && (are_hexadecimal low && is_low (code_unit low)) then Some (surrogates high low) else None
 with_low high _ = None
 
--- the spelling of which these four are the first digits
+-- the spelling whose first `\u` has these four digits, given the text after them
 abbrev pub with_digits : Four → List ℕ → Option Spelling
 with_digits d rest =
     if are_hexadecimal d then (if is_high (code_unit d) then with_low d rest else (if is_low (code_unit d) then None else Some (unicode d)))
     else None
 
--- the spelling that a `\u` begins
+-- the spelling that a `\u` begins, given the text after it
 abbrev pub after_u : List ℕ → Option Spelling
 after_u (a ∷ b ∷ c ∷ d ∷ rest) = with_digits record { first = a; second = b; third = c; fourth = d } rest
 after_u _ = None
 
--- the spelling that a backslash begins
+-- the spelling that a backslash begins, given the text after it
 abbrev pub after_backslash : List ℕ → Option Spelling
 after_backslash [] = Some last
 after_backslash (c ∷ cs) = if c == letter_u then after_u cs else Some (escaped c)
 
--- the spelling that the text begins with
+-- the spelling that a character and the text after it begin with
 abbrev pub first_spelling : ℕ → List ℕ → Option Spelling
 first_spelling c cs = if c == backslash then after_backslash cs else Some (itself c)
 
--- a character in front of a meaning
+-- the meaning with one more character at the front
 abbrev pub in_front : ℕ → Meaning → Meaning
 in_front c (means x) = means (c ∷ x)
 in_front c (breaks kind) = breaks kind
 
--- a text in front of it
+-- the meaning with one more text at the front
 abbrev pub text_in_front : List ℕ → Meaning → Meaning
 text_in_front [] m = m
 text_in_front (c ∷ cs) m = in_front c (text_in_front cs m)
 
--- what is wrong with a text that begins with a `\u` and no spelling
+-- how a text is malformed that begins with a `\u` and no spelling
 abbrev pub fault_of : List ℕ → Malformed
 fault_of [] = not_enough_digits
 fault_of (u ∷ after) = malformed_by after
 
--- the meaning of the text without this many of its first characters, which belong to a spelling that has been read
+-- the meaning of the text without its first n characters, which belong to a spelling that was read
 abbrev pub meaning_past : List ℕ → ℕ → Meaning
 meaning_past [] skipped = means []
 meaning_past (c ∷ cs) (suc skipped) = meaning_past cs skipped

@@ -3,12 +3,12 @@ use Rattle.std.specs.Prelude.{Bool, true, false, not, ◌||◌, List, [], ◌∷
 use Rattle.properties_format.specs.Lines.{Line, InputEnd}
 use Rattle.properties_format.specs.Groups.{is_open, is_comment_line, last_group}
 
--- whether the line is the last of its group, of which the given lines stand before it
+-- whether the line is the last of its group, given the lines of the group before it
 abbrev pub closes : List Line → Line → Bool
 closes [] l = is_comment_line l.text || not (is_open l.text)
 closes (p ∷ ps) l = not (is_open l.text)
 
--- the groups of the lines after those of a group that is still open
+-- the groups of these lines, which follow the lines of a group that is still open
 abbrev pub groups_after : List Line → List Line → InputEnd → List (List Line)
 groups_after open_lines [] ending = last_group open_lines ending
 groups_after open_lines (l ∷ ls) ending =

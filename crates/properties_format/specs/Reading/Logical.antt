@@ -5,7 +5,7 @@ use Rattle.properties_format.specs.Lines.{Line, InputEnd, end, fault, more}
 use Rattle.properties_format.specs.Groups.{is_open, addition, joined, first_number}
 use Rattle.properties_format.specs.Reading.Groups.{groups_of}
 
--- the groups as lines
+-- the groups as logical lines
 abbrev pub logical : List (List Line) → List Line
 logical [] = []
 logical (g ∷ gs) = record { number = first_number g; text = joined g } ∷ logical gs
@@ -14,15 +14,16 @@ logical (g ∷ gs) = record { number = first_number g; text = joined g } ∷ log
 abbrev pub logical_lines : List Line → InputEnd → List Line
 logical_lines ls ending = logical (groups_of ls ending)
 
--- ---- the logical lines to come, where lines are joined one at a time
+-- ---- the logical lines to come, if lines are joined one at a time
 
--- a join that the end finishes
+-- the logical line that has been started, if the input ends; none if a read failed or more may come
 abbrev pub last_join : ℕ → List ℕ → InputEnd → List Line
 last_join number text end = record { number = number; text = text } ∷ []
 last_join number text fault = []
 last_join number text more = []
 
--- after open lines, with the number of the first and what they have given so far
+-- the logical lines of these lines after open lines, given the number of the first of these and the text that they have
+-- added so far
 abbrev pub joins_after : ℕ → List ℕ → List Line → InputEnd → List Line
 joins_after number text [] ending = last_join number text ending
 joins_after number text (l ∷ ls) ending =

@@ -9,11 +9,11 @@ use Rattle.properties_format.specs.Reading.Groups.{groups_of}
 use Rattle.properties_format.specs.Reading.Items.{outcome_of}
 use Rattle.properties_format.specs.MalformedEscapes.{MalformedEscape, escapes_from}
 
--- those of the groups
+-- the malformed escapes of the groups
 abbrev pub escapes_in : List (List Line) → List MalformedEscape
 escapes_in [] = []
 escapes_in (group ∷ groups) = escapes_from (first_number group) (joined group) (outcome_of (joined group)) (escapes_in groups)
 
--- those of the bytes
+-- the malformed escapes of an input
 unfoldable pub malformed_escapes_of : Encoding → List ℕ → List MalformedEscape
 malformed_escapes_of e bytes = escapes_in (groups_of (numbered_lines (lines_of (decoded_of e bytes)) end) end)

@@ -1,8 +1,8 @@
--- How prefixes and separators are tested.
+-- Tests of prefixes and separators.
 use Rattle.std.specs.Prelude.{ℕ, ◌&&◌, ◌||◌, not, Bool, true, false, if◌then◌else◌, List, [], ◌∷◌}
 use Rattle.properties_format.specs.Text.{is_blank, is_blanks, is_line_end, is_comment_sign, is_separator}
 
--- whether the text holds no line end
+-- whether the text contains no line end
 abbrev pub holds_no_line_end : List ℕ → Bool
 holds_no_line_end [] = true
 holds_no_line_end (c ∷ cs) = not (is_line_end c) && holds_no_line_end cs
@@ -12,7 +12,7 @@ abbrev pub is_good_prefix : List ℕ → Bool
 is_good_prefix [] = false
 is_good_prefix (c ∷ cs) = if is_blank c then is_good_prefix cs else is_comment_sign c && holds_no_line_end cs
 
--- whether a separator has its sign, and whether it is good
+-- whether a separator is good with a sign, and whether it is good
 abbrev pub is_signed_separator : List ℕ → Bool
 is_signed_separator [] = false
 is_signed_separator (c ∷ cs) = if is_blank c then is_signed_separator cs else is_separator c && is_blanks cs

@@ -19,34 +19,34 @@ use Rattle.properties_format.specs.Reading.Edited.{KeyPlace, last_place, result_
 
 -- ---- the parts of a logical line
 
--- a text without this end of it
+-- a text without the given end
 abbrev pub without_end : List ℕ → List ℕ → List ℕ
 without_end x y = take (length x - length y) x
 
--- what follows the key
+-- the text after the key
 abbrev pub after_key : List ℕ → List ℕ
 after_key x = (cut_key (without_leading_blanks x) false).rest
 
--- the value, as it is written
+-- the value as it is written, with its escapes
 abbrev pub written_value : List ℕ → List ℕ
 written_value x = past_separator (without_leading_blanks (after_key x))
 
--- what stands between key and value
+-- what separates the key from the value
 abbrev pub between_in : List ℕ → List ℕ
 between_in x = without_end (after_key x) (written_value x)
 
--- what stands before the value
+-- what comes before the value
 abbrev pub before_value : List ℕ → List ℕ
 before_value x = without_end x (written_value x)
 
 -- ---- the front of a pair
 
--- a line as it counts: the first of its group as it stands, and a later one without its indent
+-- a line as it counts in its group: the first line unchanged, a later one without its indentation
 abbrev pub without_indent : Bool → List ℕ → List ℕ
 without_indent true x = x
 without_indent false x = without_leading_blanks x
 
--- what it adds to its group: so, and without the backslash that leaves it open
+-- what a line adds to its group: the line without a later line's indentation and without an open backslash
 abbrev pub added_by : Bool → List ℕ → List ℕ
 added_by first x = without_open_backslash (without_indent first x)
 
@@ -55,15 +55,17 @@ abbrev pub pieces_bytes : List Piece → List ℕ
 pieces_bytes [] = []
 pieces_bytes (p ∷ ps) = p.bytes ++ pieces_bytes ps
 
--- the bytes of so many characters at the front
+-- the bytes of the first n characters
 abbrev pub head_of : Encoding → ℕ → List ℕ → List ℕ
 head_of e n d = pieces_bytes (take n (pieces_of e d))
 
--- how many characters of a line make the end of a text that the line adds to, blanks before them included
+-- the number of characters at the front of a line that add this text to its group; the line's indentation is counted,
+-- unless the line is the first
 abbrev pub head_size : Bool → List ℕ → List ℕ → ℕ
 head_size first x p = length x - (length (without_indent first x) - length p)
 
--- the front of the lines, of which the first is the first of its group or not, up to where they have added this text
+-- the beginning of the lines up to where they have added this text; the flag says whether the first of them is the
+-- first of its group
 abbrev pub front_in : Encoding → Bool → List ℕ → List HeldLine → List ℕ
 front_in e first p [] = []
 front_in e first p (h ∷ hs) =
@@ -76,36 +78,37 @@ front_in e first p (h ∷ hs) =
 abbrev pub front_of : Encoding → List HeldLine → List ℕ
 front_of e group = front_in e true (before_value (joined (as_lines group))) group
 
--- and what stands between its key and its value
+-- what separates its key from its value
 abbrev pub between_of : List HeldLine → List ℕ
 between_of group = between_in (joined (as_lines group))
 
 -- ---- the separator of a new pair
 
--- what stands between key and value, where the line is a pair
+-- what separates the key from the value, if the line is a pair
 abbrev pub between_told : Logical → List ℕ → Option (List ℕ)
 between_told Logical.blank x = None
 between_told (Logical.comment text) x = None
 between_told (Logical.pair key value) x = Some (between_in x)
 
--- the first, or else the second
+-- the first if there is one, otherwise the second
 abbrev pub or_else : Option (List ℕ) → Option (List ℕ) → Option (List ℕ)
 or_else None b = b
 or_else (Some x) b = Some x
 
--- what stands between key and value of the last pair
+-- what separates the key from the value in the last pair, if there is a pair
 abbrev pub last_between : List (List HeldLine) → Option (List ℕ)
 last_between [] = None
 last_between (g ∷ gs) = or_else (last_between gs) (between_told (split_of (joined (as_lines g))) (joined (as_lines g)))
 
--- the separator of a new pair with this key, after such a pair, or without one
+-- the separator of a new pair with this key, given what separates the key from the value in the last pair, if there is
+-- one
 abbrev pub separator_by : List ℕ → Option (List ℕ) → List ℕ
 separator_by key None = equals_sign ∷ []
 separator_by key (Some between) = separator_after key between
 
--- ---- a value is set
+-- ---- setting a value
 
--- whether this is a pair with the value
+-- whether the outcome is a pair with the value
 abbrev pub is_pair_to : List ℕ → Outcome → Bool
 is_pair_to value ignored = false
 is_pair_to value (given (comment text)) = false
@@ -116,7 +119,7 @@ is_pair_to value (broken kind) = false
 abbrev pub has_value : List ℕ → List HeldLine → Bool
 has_value value group = is_pair_to value (outcome_of (joined (as_lines group)))
 
--- the body with the pair in that place given the value
+-- the body in which the pair at this place gets the value
 abbrev pub revalued_at : Encoding → List ℕ → KeyPlace → List ℕ
 revalued_at e value p =
     groups_bytes p.before
@@ -128,18 +131,18 @@ added_at e groups key value =
     let front : List ℕ = groups_bytes groups ++ parted_by (ending_in groups) (final_group groups) in
     front ++ new_pair_bytes e front key (separator_by key (last_between groups)) value (ending_in groups)
 
--- the body with the value set, by the place of the last pair with the key
+-- the body with the value set, given the place of the last pair with the key, if there is one
 abbrev pub valued_at : Encoding → List (List HeldLine) → List ℕ → List ℕ → Option KeyPlace → List ℕ
 valued_at e groups key value (Some p) = if has_value value p.group then groups_bytes groups else revalued_at e value p
 valued_at e groups key value None = added_at e groups key value
 
--- the source with the value set
+-- the source with the value set, given the encoding in force and the body
 abbrev pub value_set_in : InForce → List ℕ → List ℕ → List ℕ → List ℕ
 value_set_in f source key value =
     let groups = held_groups_of f.encoding f.body in
     bom_of source ++ valued_at f.encoding groups key value (last_place key groups)
 
--- the same, by the encoding that was asked for
+-- the source with the value set, given the requested encoding
 abbrev pub value_set : Encoding → List ℕ → List ℕ → List ℕ → List ℕ
 value_set e source key value = value_set_in (byte_order_mark e source) source key value
 
@@ -149,12 +152,12 @@ set_value_result e source key value = result_of e source (value_set e source key
 
 -- ---- sizes in bytes
 
--- how many of these are ASCII
+-- the number of ASCII characters among these
 abbrev pub ascii_count : List ℕ → ℕ
 ascii_count [] = 0
 ascii_count (b ∷ d) = if nat_lt b 0x80 then suc (ascii_count d) else ascii_count d
 
--- the place after so many ASCII bytes
+-- the index after this many ASCII characters at the front
 abbrev pub after_ascii : ℕ → List ℕ → ℕ
 after_ascii zero d = 0
 after_ascii (suc n) [] = 0

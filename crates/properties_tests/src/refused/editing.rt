@@ -3,7 +3,7 @@
 use counted_io::{ScriptedReader, Tail};
 use java_properties::{
     Cause, Document, Edit, Encoding, ErrorKind, PropertiesError, edit_all, read_source, remove_key,
-    set_key,
+    set_key, set_value,
 };
 use std::alloc::{AllocError, Global};
 use std::io;
@@ -98,7 +98,7 @@ fn is_refusal(
     }
 }
 
-// The same of an error at hand.
+// Whether an error is of this kind, in this line, and was caused by no other error.
 fn is_error(error: &PropertiesError, kind: ErrorKind, line: Option<usize>) -> bool {
     error.kind() == kind && error.line_number() == line && matches!(error.cause(), Cause::None)
 }
@@ -122,12 +122,14 @@ fn gives(rt: &impl Abort, answer: Result<Vec<u8>, PropertiesError>, wanted: &[u8
 enum Call<'a> {
     One(Change<'a>),
     All(&'a [Edit]),
+    Value(&'a str, &'a str),
 }
 
 fn answer(alloc: Global, source: &[u8], call: Call<'_>) -> Result<Vec<u8>, PropertiesError> {
     match call {
         Call::One(made) => changed(alloc, source, Encoding::WINDOWS_1252, made),
         Call::All(edits) => edit_all(alloc, source, Encoding::WINDOWS_1252, edits),
+        Call::Value(key, value) => set_value(alloc, source, Encoding::WINDOWS_1252, key, value),
     }
 }
 
@@ -167,6 +169,27 @@ fn edits_are_made_or_refused(rt: HostRuntime) {
 #[test]
 fn a_copy_is_made_or_refused(rt: HostRuntime) {
     check_given(&rt, rt.alloc(), SOURCE, Call::All(&[]), SOURCE);
+}
+
+// Its last pair spans several lines, and its last separator is longer than that of a new pair.
+const SPREAD: &[u8] = b"a=1\r\nk\\u00e9\\\r\n  y  :  2\\\r\n  3\r\n";
+
+#[test]
+fn a_value_is_set_or_refused(rt: HostRuntime) {
+    let wanted = b"a=1\r\nk\\u00e9\\\r\n  y  :  \xe9=\\u0020\r\n".as_slice();
+    let call = Call::Value(KEY, "\u{e9}= ");
+    check_given(&rt, rt.alloc(), SPREAD, call, wanted);
+}
+
+#[test]
+fn a_value_of_a_new_key_is_set_or_refused(rt: HostRuntime) {
+    let wanted = b"a=1\r\nk\\u00e9\\\r\n  y  :  2\\\r\n  3\r\nc : x\r\n".as_slice();
+    check_given(&rt, rt.alloc(), SPREAD, Call::Value("c", "x"), wanted);
+}
+
+#[test]
+fn a_value_that_is_there_stays_or_is_refused(rt: HostRuntime) {
+    check_given(&rt, rt.alloc(), SPREAD, Call::Value(KEY, "23"), SPREAD);
 }
 
 // The guard before what begins like a byte order mark has its room from the start.
@@ -272,6 +295,11 @@ fn a_malformed_escape_is_told_or_memory_is_where_a_key_is_set(rt: HostRuntime) {
 }
 
 #[test]
+fn a_malformed_escape_is_told_or_memory_is_where_a_value_is_set(rt: HostRuntime) {
+    check_malformed(&rt, rt.alloc(), Call::Value(KEY, "x"));
+}
+
+#[test]
 fn a_malformed_escape_is_told_or_memory_is_where_a_key_is_removed(rt: HostRuntime) {
     check_malformed(&rt, rt.alloc(), Call::One(Change::Remove(KEY)));
 }
@@ -296,6 +324,7 @@ fn utf_16_is_refused_without_memory(rt: HostRuntime) {
         Call::One(Change::Put("a", "b")),
         Call::One(Change::Remove("a")),
         Call::All(&[]),
+        Call::Value("a", "b"),
     ];
     for call in calls {
         let told = answer(rt.alloc(), source, call);

@@ -1,4 +1,4 @@
--- Texts that are printed byte by byte.
+-- Texts printed byte by byte.
 use Rattle.std.proofs.Common.{◌≡◌, ℕ, ◌+◌, ◌-◌, ◌<◌, ◌≤◌, ◌==◌, Bool, true, false, cond, nat_lt, List, [], ◌∷◌, ◌++◌, refl, sym, ap, ap₂, ◌∙◌, inl, inr, append_assoc, append-nil, arith, length, take, drop, get_or, lit<, le-ltb, lt-ltb, ne_eqb, eqb-true}
 use Rattle.std.specs.Prelude.{Option, Some, None, is_some, map, not, ◌&&◌, encode_utf8, encode_utf8_all, slice_index, unwrap_or}
 use Rattle.std.specs.Str.{chars, IsUtf8, IsAscii}
@@ -29,7 +29,7 @@ pub spelt_bytes-append : (x y : List ℕ) → spelt_bytes (x ++ y) ≡ spelt_byt
 spelt_bytes-append [] y = refl
 spelt_bytes-append (b ∷ x) y = ap (λ v. spelt_byte b ++ v) (spelt_bytes-append x y) ∙ sym (append_assoc (spelt_byte b) (spelt_bytes x) (spelt_bytes y))
 
--- one byte by the tables
+-- One byte, printed with the tables.
 pub spelt_byte-tables : (b : ℕ) (before : List ℕ) → backslashes_before b < 2
     → spelt_byte b ≡ cond (backslashes_before b == 1) (backslash ∷ last_of b ∷ []) (last_of b ∷ [])
 spelt_byte-tables b before h = elim (cases_Bool (is_special b)) [
@@ -73,14 +73,14 @@ before-at b h = eqb-true _ _ (agree_below_at (λ b. slice_index before-table b =
 pub last-at : (b : ℕ) → b < 256 → slice_index last-table b ≡ last_of b
 last-at b h = eqb-true _ _ (agree_below_at (λ b. slice_index last-table b == last_of b) (λ k. true) 256 b refl h)
 
--- one byte more
+-- One more byte is printed.
 pub spelt_bytes-more : (bs : List ℕ) (i : ℕ) → i < length bs → spelt_bytes (take (i + 1) bs) ≡ spelt_bytes (take i bs) ++ spelt_byte (get_or bs i 0)
 spelt_bytes-more bs i h =
     ap spelt_bytes (take_more bs i 0 h)
     ∙ spelt_bytes-append (take i bs) (get_or bs i 0 ∷ [])
     ∙ ap (λ v. spelt_bytes (take i bs) ++ v) (append-nil (spelt_byte (get_or bs i 0)))
 
--- what is printed in the place of others, after what stands
+-- What is printed for bytes, after what was printed before.
 pub printed-after : (bytes out spelt : List ℕ) (filled room written : ℕ) → filled ≤ length bytes → written ≤ length out → take written out ≡ spelt
     → take (filled + written) (put_mid filled room bytes out) ≡ take filled bytes ++ spelt
 printed-after bytes out spelt filled room written h k e =
@@ -88,7 +88,7 @@ printed-after bytes out spelt filled room written h k e =
     ∙ take-append-add (take filled bytes) (out ++ post_of filled room bytes) written
     ∙ ap (λ v. take filled bytes ++ v) (take-append-le written out (post_of filled room bytes) k ∙ e)
 
--- those at the front, and what is after them
+-- The first bytes are printed, and the rest follows.
 pub printed-front : (line rest new whole : List ℕ) (size n read : ℕ) → size ≡ length rest → read ≤ n
     → new ≡ line ++ spelt_bytes (take read (take n rest)) → line ++ spelt_bytes rest ≡ whole
     → new ++ spelt_bytes (take (size - read) (drop read rest)) ≡ whole
@@ -100,7 +100,7 @@ printed-front line rest new whole size n read is_size within printed held =
     ∙ ap (λ v. line ++ v) (sym (spelt_bytes-append (take read rest) (drop read rest)) ∙ ap spelt_bytes (take-append-drop read rest))
     ∙ held
 
--- all of them
+-- All bytes are printed.
 pub printed-whole : (line bytes new : List ℕ) (n read : ℕ) → read ≤ n → length bytes ≤ read
     → new ≡ line ++ spelt_bytes (take read (take n bytes)) → new ≡ line ++ spelt_bytes bytes
 printed-whole line bytes new n read within all printed =
@@ -108,12 +108,12 @@ printed-whole line bytes new n read within all printed =
 
 -- ---- ASCII
 
--- an ASCII character may stand as itself
+-- An ASCII character may be written unescaped.
 literal-ascii : (e : Encoding) (only : Bool) (c : ℕ) → c < 0x80 → literal e only c ≡ c ∷ []
 literal-ascii e true c h = rw (lt-ltb c 0x80 h, encoded-ascii e c h) refl
 literal-ascii e false c h = rw (encoded-ascii e c h) refl
 
--- an ASCII character is printed as its byte is
+-- An ASCII character is printed as its byte is.
 pub ascii-spelt : (e : Encoding) (only : Bool) (c : ℕ) → c < 0x80 → encoded_text e (spelt e only in_key_or_value c) ≡ spelt_byte c
 ascii-spelt e only c h = elim (cases_Bool (is_special c)) [
   | inl s ↦ rw s (encoded_text-ascii e (backslash ∷ c ∷ []) (lit< tt, (h, tt)))
@@ -126,7 +126,7 @@ ascii-spelt e only c h = elim (cases_Bool (is_special c)) [
   ]
 ]
 
--- and a text of them is printed as its bytes are
+-- A text of ASCII characters is printed as its bytes are.
 ascii-text : (e : Encoding) (only : Bool) (cs : List ℕ) → AreAscii cs → encoded_text e (spelt_text e only in_key_or_value cs) ≡ spelt_bytes cs
 ascii-text e only [] h = refl
 ascii-text e only (c ∷ cs) h =
@@ -142,21 +142,21 @@ stands-ascii r bs h = rw (chars-IsAscii bs h) (ascii-text (output_of r.encoding)
 
 -- ---- UTF-8
 
--- every byte is past ASCII
+-- all bytes are above ASCII
 abbrev ArePast : List ℕ → Type 0
 ArePast [] = Unit {0}
 ArePast (b ∷ bs) = (0x80 ≤ b) × ArePast bs
 
-past-special : (b : ℕ) → 0x80 ≤ b → is_special b ≡ false
+pub past-special : (b : ℕ) → 0x80 ≤ b → is_special b ≡ false
 past-special b h = false_from_ne_true (is_special b) (λ t. absurd (omega (arith, special-ascii b t)))
 
-past-letter : (b : ℕ) → 0x80 ≤ b → has_letter b ≡ false
+pub past-letter : (b : ℕ) → 0x80 ≤ b → has_letter b ≡ false
 past-letter b h = rw (ne_eqb b 0x09 (omega arith), ne_eqb b 0x0a (omega arith), ne_eqb b 0x0c (omega arith), ne_eqb b 0x0d (omega arith)) refl
 
-past-control : (b : ℕ) → 0x80 ≤ b → nat_lt b space ≡ false
+pub past-control : (b : ℕ) → 0x80 ≤ b → nat_lt b space ≡ false
 past-control b h = le-ltb b space (omega arith)
 
--- which stands as it is
+-- A byte above ASCII is copied.
 past-byte : (b : ℕ) → 0x80 ≤ b → spelt_byte b ≡ b ∷ []
 past-byte b h = rw (past-special b h, past-letter b h, past-control b h) refl
 
@@ -164,7 +164,7 @@ past-bytes : (bs : List ℕ) → ArePast bs → spelt_bytes bs ≡ bs
 past-bytes [] h = refl
 past-bytes (b ∷ bs) h = ap₂ (λ x y. x ++ y) (past-byte b h.0) (past-bytes bs h.1)
 
--- so do the bytes of a character past ASCII
+-- The bytes of a character above ASCII are above ASCII.
 encode-past : (c : ℕ) → 0x80 ≤ c → ArePast (encode_utf8 c)
 encode-past c h = elim (cases_lt c 0x800) [
   | inl k ↦ rw (encode-two c h k) (omega arith, (omega arith, tt))
@@ -209,7 +209,7 @@ place-past n (x ∷ xs) c b h = elim (cases_Bool (x == c)) [
     le-before : (n b : ℕ) → n + 1 ≤ b → n ≤ b
     le-before n b h = omega arith
 
--- the byte of a character past ASCII is past ASCII
+-- The windows-1252 byte of a character above ASCII is above ASCII.
 byte-past : (c b : ℕ) → 0x80 ≤ c → windows_1252_byte c ≡ Some b → 0x80 ≤ b
 byte-past c b h e = elim (cases_Bool (nat_lt c 0x100 && not (is_in_table c))) [
   | inl k ↦ own c b h (sym (cond-true (nat_lt c 0x100 && not (is_in_table c)) (Some c) (place_from 0x80 windows_1252_table c) k) ∙ e)
@@ -219,8 +219,8 @@ byte-past c b h e = elim (cases_Bool (nat_lt c 0x100 && not (is_in_table c))) [
     own : (c b : ℕ) → 0x80 ≤ c → Some c ≡ Some b → 0x80 ≤ b
     own c b h e = let same : c ≡ b = cc in omega arith
 
--- a character that has a byte is printed as that byte is
-byte-spelt : (c b : ℕ) → windows_1252_byte c ≡ Some b → encoded_text windows_1252 (spelt windows_1252 false in_key_or_value c) ≡ spelt_byte b
+-- A character that has a byte is printed as that byte is.
+pub byte-spelt : (c b : ℕ) → windows_1252_byte c ≡ Some b → encoded_text windows_1252 (spelt windows_1252 false in_key_or_value c) ≡ spelt_byte b
 byte-spelt c b e = elim (cases_lt c 0x80) [
   | inl h ↦
       let own : Some (b ∷ []) ≡ Some (c ∷ []) = sym (ap one_byte e) ∙ encoded-ascii windows_1252 c h in
@@ -231,8 +231,8 @@ byte-spelt c b e = elim (cases_lt c 0x80) [
       rw (past-special c h, past-letter c h, past-control c h, known) (rw known (sym (past-byte b (byte-past c b h e))))
 ]
 
--- and so are several
-bytes-spelt : (cs bs : List ℕ) → map windows_1252_byte cs ≡ map Some bs → encoded_text windows_1252 (spelt_text windows_1252 false in_key_or_value cs) ≡ spelt_bytes bs
+-- Characters that have bytes are printed as those bytes are.
+pub bytes-spelt : (cs bs : List ℕ) → map windows_1252_byte cs ≡ map Some bs → encoded_text windows_1252 (spelt_text windows_1252 false in_key_or_value cs) ≡ spelt_bytes bs
 bytes-spelt [] [] h = refl
 bytes-spelt [] (b ∷ bs) h = absurd (cc)
 bytes-spelt (c ∷ cs) [] h = absurd (cc)
@@ -250,7 +250,7 @@ spelt-front text bs rest h =
     ∙ encoded_text-append windows_1252 (spelt_text windows_1252 false in_key_or_value h.0) (spelt_text windows_1252 false in_key_or_value rest)
     ∙ ap (λ v. v ++ text_bytes all_of_windows_1252 KeyOrValue rest) (bytes-spelt h.0 bs h.2)
 
--- a run at the front of a text
+-- A run of characters at the front of a text is printed.
 pub run-front : (line new whole text bs rest : List ℕ) → line ++ text_bytes all_of_windows_1252 KeyOrValue text ≡ whole → EncodesFront text bs rest
     → new ≡ line ++ spelt_bytes bs → new ++ text_bytes all_of_windows_1252 KeyOrValue rest ≡ whole
 run-front line new whole text bs rest held h e =
@@ -259,7 +259,7 @@ run-front line new whole text bs rest held h e =
     ∙ ap (λ v. line ++ v) (sym (spelt-front text bs rest h))
     ∙ held
 
--- one character at the front
+-- One character at the front is printed.
 pub one-more : (line new whole rest : List ℕ) (c : ℕ) → line ++ text_bytes all_of_windows_1252 KeyOrValue (c ∷ rest) ≡ whole
     → new ≡ line ++ encoded_text windows_1252 (spelt windows_1252 false in_key_or_value c) → new ++ text_bytes all_of_windows_1252 KeyOrValue rest ≡ whole
 one-more line new whole rest c held e =
@@ -268,8 +268,8 @@ one-more line new whole rest c held e =
     ∙ ap (λ v. line ++ v) (sym (encoded_text-append windows_1252 (spelt windows_1252 false in_key_or_value c) (spelt_text windows_1252 false in_key_or_value rest)))
     ∙ held
 
--- what windows-1252 lacks is escaped
-lacked-spelt : (c : ℕ) → 0x80 ≤ c → is_some (windows_1252_byte c) ≡ false → encoded_text windows_1252 (spelt windows_1252 false in_key_or_value c) ≡ unicode_escape c
+-- A character that windows-1252 lacks is escaped.
+pub lacked-spelt : (c : ℕ) → 0x80 ≤ c → is_some (windows_1252_byte c) ≡ false → encoded_text windows_1252 (spelt windows_1252 false in_key_or_value c) ≡ unicode_escape c
 lacked-spelt c h e =
     ap (encoded_text windows_1252) (
     cond-false (is_special c) _ _ (past-special c h)

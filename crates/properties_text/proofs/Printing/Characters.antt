@@ -9,15 +9,15 @@ use Rattle.properties_format.specs.Encoding.{Encoding, encoded}
 use Rattle.properties_format.specs.Printing.{Place, in_key_or_value, unit_escape, high_surrogate, low_surrogate, unicode_escape, may_stand, literal, is_special, has_letter, letter_escape, spelt, spelt_text, encoded_text}
 use Rattle.properties_format.proofs.Printing.Characters.{encoded_text-append, spelt_text-append, AreAscii, encoded_text-ascii, unicode_escape-ascii}
 
--- a backslash and an ASCII character are their own bytes
+-- A backslash and an ASCII character encode as themselves.
 pub encoded_pair : (e : Encoding) (b : ℕ) → b < 0x80 → encoded_text e (backslash ∷ b ∷ []) ≡ backslash ∷ b ∷ []
 encoded_pair e b h = encoded_text-ascii e (backslash ∷ b ∷ []) (lit< tt, (h, tt))
 
--- and so is an escape
+-- An escape encodes as itself.
 pub encoded_escape : (e : Encoding) (c : ℕ) → encoded_text e (unicode_escape c) ≡ unicode_escape c
 encoded_escape e c = encoded_text-ascii e (unicode_escape c) (unicode_escape-ascii c)
 
--- what may stand as itself does
+-- A character that may be written unescaped is.
 pub literal_known : (e : Encoding) (only : Bool) (c : ℕ) → (not only || nat_lt c 0x80) ≡ true → is_some (encoded e c) ≡ true → encoded_text e (literal e only c) ≡ unwrap_or (encoded e c) []
 literal_known e only c k h =
     ap (encoded_text e) (cond-true (may_stand e only c) (c ∷ []) (unicode_escape c) (and_from (not only || nat_lt c 0x80) (is_some (encoded e c)) k h)) ∙ append-nil (unwrap_or (encoded e c) [])
@@ -26,7 +26,7 @@ nothing : (o : Option (List ℕ)) → is_some o ≡ false → unwrap_or o [] ≡
 nothing None h = refl
 nothing (Some x) h = cc
 
--- what the encoding lacks is escaped, after what was appended for it, which is nothing
+-- A character that the encoding lacks is escaped; nothing was appended for it before.
 pub literal_lacked : (e : Encoding) (only : Bool) (c : ℕ) (before at : List ℕ) → is_some (encoded e c) ≡ false → at ≡ before ++ unwrap_or (encoded e c) []
     → before ++ encoded_text e (literal e only c) ≡ at ++ unicode_escape c
 literal_lacked e only c before at h k =
@@ -34,12 +34,12 @@ literal_lacked e only c before at h k =
     ∙ ap (λ v. before ++ v) (encoded_escape e c)
     ∙ ap (λ v. v ++ unicode_escape c) (sym (k ∙ ap (λ v. before ++ v) (nothing (encoded e c) h) ∙ append-nil before))
 
--- and so is what ASCII alone keeps from standing
+-- A character that ASCII-only output rules out is escaped.
 pub literal_kept : (e : Encoding) (only : Bool) (c : ℕ) → (not only || nat_lt c 0x80) ≡ false → encoded_text e (literal e only c) ≡ unicode_escape c
 literal_kept e only c k =
     ap (encoded_text e) (cond-false (may_stand e only c) (c ∷ []) (unicode_escape c) (and_left (not only || nat_lt c 0x80) (is_some (encoded e c)) k)) ∙ encoded_escape e c
 
--- past U+FFFF an escape is two
+-- Above U+FFFF, an escape is two.
 pub escape_wide : (c : ℕ) (before at : List ℕ) → 0x1_0000 ≤ c → at ≡ before ++ unit_escape (high_surrogate c)
     → before ++ unicode_escape c ≡ at ++ unit_escape (low_surrogate c)
 escape_wide c before at h k =
@@ -47,11 +47,11 @@ escape_wide c before at h k =
     ∙ sym (append_assoc before (unit_escape (high_surrogate c)) (unit_escape (low_surrogate c)))
     ∙ ap (λ v. v ++ unit_escape (low_surrogate c)) (sym k)
 
--- a control character that has no letter
+-- The character is a control character without a letter escape.
 abbrev pub IsOtherControl : ℕ → Type 0
 IsOtherControl c = (c < 0x20) × (c ≢ 0x09) × (c ≢ 0x0a) × (c ≢ 0x0c) × (c ≢ 0x0d)
 
--- it is escaped by its number in a key or a value
+-- In a key or a value, it is escaped as `\u` and its code point.
 pub spelt_control : (e : Encoding) (only : Bool) (c : ℕ) → IsOtherControl c → spelt e only in_key_or_value c ≡ unicode_escape c
 spelt_control e only c (h, tab, lf, ff, cr) =
     cond-false (is_special c) (backslash ∷ c ∷ []) (cond (has_letter c) (letter_escape c) (cond (nat_lt c 0x20) (unicode_escape c) (literal e only c))) (not-special c h)
@@ -64,7 +64,7 @@ spelt_control e only c (h, tab, lf, ff, cr) =
     no-letter : (c : ℕ) → c ≢ 0x09 → c ≢ 0x0a → c ≢ 0x0c → c ≢ 0x0d → has_letter c ≡ false
     no-letter c tab lf ff cr = rw (ne_eqb c 0x09 tab, ne_eqb c 0x0a lf, ne_eqb c 0x0c ff, ne_eqb c 0x0d cr) refl
 
--- one character more
+-- One more character is printed.
 pub printed_more : (e : Encoding) (only : Bool) (place : Place) (before xs : List ℕ) (c : ℕ)
     → (before ++ encoded_text e (spelt_text e only place xs)) ++ encoded_text e (spelt e only place c) ≡ before ++ encoded_text e (spelt_text e only place (xs ++ c ∷ []))
 printed_more e only place before xs c =
@@ -75,7 +75,7 @@ printed_more e only place before xs c =
     ∙ ap (encoded_text e) (sym (spelt_text-append e only place xs (c ∷ [])))
     )
 
--- an escape, and the text after it
+-- The escape of the first character, and the text after it.
 pub first_escaped_more : (e : Encoding) (only : Bool) (place : Place) (before cs : List ℕ) (c : ℕ)
     → (before ++ unicode_escape c) ++ encoded_text e (spelt_text e only place cs) ≡ before ++ encoded_text e (unicode_escape c ++ spelt_text e only place cs)
 first_escaped_more e only place before cs c =
@@ -84,12 +84,12 @@ first_escaped_more e only place before cs c =
     ap (λ v. v ++ encoded_text e (spelt_text e only place cs)) (sym (encoded_escape e c)) ∙ sym (encoded_text-append e (unicode_escape c) (spelt_text e only place cs))
     )
 
--- ---- texts that are appended as they are
+-- ---- texts appended without escapes
 
 encodes-ascii : (cs : List ℕ) → AreAscii cs → encode_utf8_all cs ≡ cs
 encodes-ascii [] h = refl
 encodes-ascii (c ∷ cs) h = ap (λ v. v ++ encode_utf8_all cs) (encode_ascii c h.0) ∙ ap (λ v. c ∷ v) (encodes-ascii cs h.1)
 
--- the bytes of a text of ASCII characters are those of its characters in any output encoding
+-- A text of ASCII characters has the same bytes in every output encoding.
 pub encoded_text-raw : (e : Encoding) (bs : List ℕ) → IsUtf8 bs → AreAscii (chars bs) → encoded_text e (chars bs) ≡ bs
 encoded_text-raw e bs u h = encoded_text-ascii e (chars bs) h ∙ sym (encodes-ascii (chars bs) h) ∙ encodes-chars bs u

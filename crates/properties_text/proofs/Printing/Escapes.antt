@@ -1,4 +1,4 @@
--- Escapes that are put into a buffer, and texts between them.
+-- Escapes written to a buffer, and the text between them.
 use Rattle.std.proofs.Common.{◌≡◌, ℕ, ◌/◌, ◌%◌, ◌<◌, ◌≤◌, ◌&&◌, Bool, true, false, leb, List, [], ◌∷◌, ◌++◌, length, drop, get_or, refl, sym, ap, subst, ◌∙◌, inl, inr, arith}
 use Rattle.std.specs.Prelude.{Option, Some, None, is_some}
 use Rattle.std.specs.Char.{digit_char}
@@ -33,27 +33,27 @@ digits-at b h =
     let p = and_parts (starts (digits b) row) (leb (length row) 2) (rows b h) in
     sym (take_all 2 row (leb-true (length row) 2 p.1)) ∙ starts-take (digits b) row p.0
 
--- ---- what is put of a text
+-- ---- what is written for a text
 
 some-byte : (o : Option ℕ) → is_some (one_byte o) ≡ is_some o
 some-byte None = refl
 some-byte (Some b) = refl
 
--- a character that has no byte is past ASCII
+-- A character without a byte is above ASCII.
 lacked-past : (c : ℕ) → is_some (windows_1252_byte c) ≡ false → 0x80 ≤ c
 lacked-past c e = elim (cases_lt c 0x80) [
   | inl h ↦ absurd (let known : true ≡ false = sym (ap is_some (encoded-ascii windows_1252 c h)) ∙ some-byte (windows_1252_byte c) ∙ e in cc)
   | inr h ↦ h
 ]
 
--- an escape of the first character
+-- The first character is written as an escape.
 pub escape-more : (line new whole text rest : List ℕ) (c : ℕ) → line ++ text_bytes all_of_windows_1252 KeyOrValue (chars text) ≡ whole
     → chars text ≡ c ∷ chars rest → is_some (windows_1252_byte c) ≡ false → new ≡ line ++ unicode_escape c
     → new ++ text_bytes all_of_windows_1252 KeyOrValue (chars rest) ≡ whole
 escape-more line new whole text rest c held first lacks put =
     lacked-more line new whole (chars rest) c (subst (λ v. line ++ text_bytes all_of_windows_1252 KeyOrValue v ≡ whole) first held) (lacked-past c lacks) lacks put
 
--- the first byte, where it is ASCII
+-- The first byte is written, if it is ASCII.
 pub byte-more : (line new whole text : List ℕ) → IsUtf8 text → 0 < length text → get_or text 0 0 < 0x80
     → line ++ text_bytes all_of_windows_1252 KeyOrValue (chars text) ≡ whole → new ≡ line ++ spelt_byte (get_or text 0 0)
     → new ++ text_bytes all_of_windows_1252 KeyOrValue (chars (drop 1 text)) ≡ whole

@@ -63,6 +63,6 @@ scalars-all (c ∷ cs) h =
     let p = and_parts (is_scalar c) (all_scalars cs) h in
     All-cons scalar c cs (scalar-is c p.0) (scalars-all cs p.1)
 
--- in UTF-8 a key begins like a byte order mark where it begins with U+FEFF
+-- In UTF-8, a key begins like a byte order mark exactly if it begins with U+FEFF.
 pub bom_like-utf_8 : (bs : List ℕ) → IsUtf8 bs → is_bom_like utf_8 false (chars bs) ≡ begins_with (0xfeff ∷ []) (chars bs)
 bom_like-utf_8 bs u = is_bom_like-utf_8 (chars bs) (scalars-all (chars bs) (scalars-chars bs u))

@@ -16,32 +16,32 @@ use Rattle.properties_format.proofs.Cut.Byline.{nothing-decoded}
 use Rattle.properties_format.proofs.Printing.Characters.{encoded_text-append, encoded_text-ascii, unicode_escape-ascii}
 use Rattle.properties_text.specs.Printing.{held_text}
 
--- characters inside a value
+-- the printed characters inside a value
 abbrev inside_text : Encoding → List ℕ → List ℕ
 inside_text e [] = []
 inside_text e (c ∷ cs) = spelt_inside e c ++ inside_text e cs
 
--- characters and one more
+-- One more character inside a value.
 inside-push : (e : Encoding) (xs : List ℕ) (c : ℕ) → inside_text e (xs ++ c ∷ []) ≡ inside_text e xs ++ spelt_inside e c
 inside-push e [] c = append-nil (spelt_inside e c)
 inside-push e (x ∷ xs) c = ap (λ v. spelt_inside e x ++ v) (inside-push e xs c) ∙ sym (append_assoc (spelt_inside e x) (inside_text e xs) (spelt_inside e c))
 
--- the characters after the first, of which the last is spelt so
+-- The characters after the first, the last of which is printed as the last one.
 rest-push : (e : Encoding) (xs : List ℕ) (c : ℕ) → spelt_rest e (xs ++ c ∷ []) ≡ inside_text e xs ++ spelt_last e c
 rest-push e [] c = refl
 rest-push e (x ∷ []) c = ap (λ v. v ++ spelt_last e c) (sym (append-nil (spelt_inside e x)))
 rest-push e (x ∷ y ∷ xs) c = ap (λ v. spelt_inside e x ++ v) (rest-push e (y ∷ xs) c) ∙ sym (append_assoc (spelt_inside e x) (inside_text e (y ∷ xs)) (spelt_last e c))
 
--- bytes after a line, in two parts
+-- Bytes appended to a line in two parts.
 parts-after : (e : Encoding) (before x y : List ℕ) → (before ++ encoded_text e x) ++ encoded_text e y ≡ before ++ encoded_text e (x ++ y)
 parts-after e before x y = append_assoc before (encoded_text e x) (encoded_text e y) ∙ ap (λ v. before ++ v) (sym (encoded_text-append e x y))
 
--- All of these characters but the last stand after a line, and the last is held.
+-- All of these characters but the last were printed after a line, and the last is held back.
 abbrev pub HasHeld : Encoding → List ℕ → List ℕ → Option ℕ → List ℕ → Type 0
 HasHeld e before ys None line = (ys ≡ []) × (line ≡ before)
 HasHeld e before ys (Some c) line = (xs : List ℕ) × (ys ≡ xs ++ c ∷ []) × (line ≡ before ++ encoded_text e (inside_text e xs))
 
--- One character more is held, where the one before it was printed.
+-- One more character is held back, after the one before it was printed.
 pub held-more : (e : Encoding) (before ys line new : List ℕ) (held : Option ℕ) (c : ℕ) → HasHeld e before ys held line → new ≡ line ++ encoded_text e (held_text e held)
     → HasHeld e before (ys ++ c ∷ []) (Some c) new
 held-more e before ys line new None c h s = (ys, refl, s ∙ append-nil line ∙ h.1 ∙ sym (ap (λ v. before ++ encoded_text e (inside_text e v)) h.0 ∙ append-nil before))
@@ -52,7 +52,7 @@ held-more e before ys line new (Some d) c h s = (
       ∙ ap (λ v. before ++ encoded_text e v) (sym (inside-push e h.0 d) ∙ ap (inside_text e) (sym h.1)),
 )
 
--- The last one is printed.
+-- The last character is printed.
 pub held-last : (e : Encoding) (before ys line new : List ℕ) (c : ℕ) → HasHeld e before ys (Some c) line → new ≡ line ++ encoded_text e (spelt_last e c)
     → new ≡ before ++ encoded_text e (spelt_rest e ys)
 held-last e before ys line new c h s =
@@ -61,16 +61,16 @@ held-last e before ys line new c h s =
     ∙ parts-after e before (inside_text e h.0) (spelt_last e c)
     ∙ ap (λ v. before ++ encoded_text e v) (sym (rest-push e h.0 c) ∙ ap (spelt_rest e) (sym h.1))
 
--- There is none.
+-- There is no character.
 pub held-none : (e : Encoding) (before ys line : List ℕ) → HasHeld e before ys None line → line ≡ before ++ encoded_text e (spelt_rest e ys)
 held-none e before ys line h = h.1 ∙ sym (ap (λ v. before ++ encoded_text e (spelt_rest e v)) h.0 ∙ append-nil before)
 
--- A space alone is its escape.
+-- A value that is a single space is printed as its escape.
 pub space-alone : (e : Encoding) (after_blanks : Bool) (before new : List ℕ) → new ≡ before ++ unicode_escape space
     → new ≡ before ++ encoded_text e (spelt_value e after_blanks (space ∷ []))
 space-alone e after_blanks before new s = s ∙ ap (λ v. before ++ v) (sym (encoded_text-ascii e (unicode_escape space) (unicode_escape-ascii space)))
 
--- Any other value is its first character and those after it.
+-- Any other value is printed as its first character and those after it.
 pub value-after : (e : Encoding) (after_blanks : Bool) (before line new : List ℕ) (c : ℕ) (cs : List ℕ) → (is_empty cs && c == space) ≡ false
     → line ≡ before ++ encoded_text e (spelt_first e after_blanks c) → new ≡ line ++ encoded_text e (spelt_rest e cs)
     → new ≡ before ++ encoded_text e (spelt_value e after_blanks (c ∷ cs))
@@ -80,7 +80,7 @@ value-after e after_blanks before line new c cs h s t =
     ∙ parts-after e before (spelt_first e after_blanks c) (spelt_rest e cs)
     ∙ ap (λ v. before ++ encoded_text e v) (sym (cond-false (is_empty cs && c == space) (unit_escape space) (spelt_first e after_blanks c ++ spelt_rest e cs) h))
 
--- A last space is its escape.
+-- A space at the end is printed as its escape.
 pub last_space : (e : Encoding) (c : ℕ) → c ≡ space → encoded_text e (spelt_last e c) ≡ unicode_escape c
 last_space e c k =
     ap (λ v. encoded_text e (spelt_last e v)) k
@@ -93,7 +93,7 @@ no-characters x u h =
     nothing-decoded utf_8 x
     (ap (λ v. characters (pieces_of utf_8 v)) (sym (append-nil x)) ∙ characters-text x [] u ∙ ap₂ (λ v w. v ++ w) h (ap characters (pieces_of-nil utf_8)))
 
--- So a text with bytes has characters.
+-- A text with bytes has characters.
 pub some-characters : (x : List ℕ) → IsUtf8 x → (length x == 0) ≡ false → is_empty (chars x) ≡ false
 some-characters x u h = of-chars (chars x) refl
   where
@@ -101,7 +101,7 @@ some-characters x u h = of-chars (chars x) refl
     of-chars [] s = let m : (length x == 0) ≡ true = ap (λ v. length v == 0) (no-characters x u s) in absurd (cc)
     of-chars (c ∷ cs) s = ap is_empty s
 
--- And one without bytes has none.
+-- A text without bytes has no characters.
 pub none-left : (x : List ℕ) → (length x == 0) ≡ true → chars x ≡ []
 none-left [] h = chars-nil
 none-left (b ∷ x) h = absurd (grind (arith, nat_tests))

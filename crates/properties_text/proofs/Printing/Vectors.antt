@@ -1,4 +1,4 @@
--- Bytes that are printed sixteen at once.
+-- Bytes printed sixteen at a time.
 use Rattle.std.proofs.Common.{◌≡◌, ℕ, zero, suc, ◌+◌, ◌-◌, ◌<◌, ◌≤◌, false, cond, Bool, List, [], ◌∷◌, ◌++◌, refl, sym, ap, ap₂, ◌∙◌, arith, length, take, drop, map, replicate}
 use Rattle.std.specs.List.{All}
 use Rattle.std.specs.Simd.Lanes.{chunk}
@@ -14,24 +14,24 @@ use Rattle.properties_text.proofs.Printing.Bytes.{spelt_bytes-append}
 
 -- ---- backslashes
 
--- bytes with backslashes are bytes spread
+-- Bytes with backslashes are spread bytes.
 backslashes-spread : (bs : List ℕ) → with_backslashes bs ≡ spread (map is_special bs) (map (λ b. backslash) bs) bs
 backslashes-spread [] = refl
 backslashes-spread (b ∷ bs) = ap (λ l. cond (is_special b) (backslash ∷ b ∷ []) (b ∷ []) ++ l) (backslashes-spread bs)
 
--- the first k and the last eight of what is mapped
+-- Mapping commutes with taking the first k elements and the last eight.
 joined-map : {Y : Type 0} (f : ℕ → Y) (k : ℕ) (v : List ℕ) → take k (map f v) ++ drop 8 (map f v) ≡ map f (take k v ++ drop 8 v)
 joined-map f k v = ap₂ (λ x y. x ++ y) (take-map f k v) (drop-map f 8 v) ∙ sym (map-append f (take k v) (drop 8 v))
 
 module _ (v : List ℕ) (marks : List Bool) (k : ℕ) (long : length v ≡ 16) (are : marks ≡ map is_special v) where
-  -- before those of the first k that are special
+  -- Backslashes before the special bytes among the first k.
   pub first-spread : spread (take k marks) (take k (replicate 16 backslash)) (take k v) ≡ with_backslashes (take k v)
   first-spread =
       ap₂ (λ ms bs. spread (take k ms) (take k bs) (take k v)) are (splat_is_map v 16 backslash long)
       ∙ ap₂ (λ ms bs. spread ms bs (take k v)) (take-map is_special k v) (take-map (λ b. backslash) k v)
       ∙ sym (backslashes-spread (take k v))
 
-  -- and of the first k and the last eight
+  -- Backslashes before the special bytes among the first k and the last eight.
   pub ends-spread : spread (take k marks ++ drop 8 marks) (take k (replicate 16 backslash) ++ drop 8 (replicate 16 backslash)) (take k v ++ drop 8 v)
       ≡ with_backslashes (take k v ++ drop 8 v)
   ends-spread =
@@ -41,25 +41,25 @@ module _ (v : List ℕ) (marks : List Bool) (k : ℕ) (long : length v ≡ 16) (
 
 -- ---- what is printed
 
--- where no control character is, nothing else is escaped
+-- Without control characters, nothing else is escaped.
 no-letter : (b : ℕ) → space ≤ b → has_letter b ≡ false
 no-letter b h = rw (ne_eqb b 0x09 (omega arith), ne_eqb b 0x0a (omega arith), ne_eqb b 0x0c (omega arith), ne_eqb b 0x0d (omega arith)) refl
 
 spelt-plain : (b : ℕ) → space ≤ b → cond (is_special b) (backslash ∷ b ∷ []) (b ∷ []) ≡ spelt_byte b
 spelt-plain b h = rw (no-letter b h, le-ltb b space h) refl
 
-spelt : (v : List ℕ) → All (λ b. space ≤ b) v → with_backslashes v ≡ spelt_bytes v
+pub spelt : (v : List ℕ) → All (λ b. space ≤ b) v → with_backslashes v ≡ spelt_bytes v
 spelt [] h = refl
 spelt (b ∷ v) h = ap₂ (λ x y. x ++ y) (spelt-plain b (All-head (λ b. space ≤ b) b v h)) (spelt v (All-tail (λ b. space ≤ b) b v h))
 
--- n elements more
-front_more : (i n m : ℕ) (xs : List ℕ) → m ≡ i + n → take m xs ≡ take i xs ++ chunk i n xs
+-- The first i + n elements: the first i, and n more.
+pub front_more : (i n m : ℕ) (xs : List ℕ) → m ≡ i + n → take m xs ≡ take i xs ++ chunk i n xs
 front_more zero n m xs e = ap (λ k. take k xs) (omega arith)
 front_more (suc i) n zero xs e = absurd (omega arith)
 front_more (suc i) n (suc m) [] e = sym (take_all n [] (omega arith))
 front_more (suc i) n (suc m) (x ∷ xs) e = ap (λ l. x ∷ l) (front_more i n m xs (omega arith))
 
--- some of sixteen bytes more, of which those are no control characters
+-- The first k of n more bytes are printed, if they aren't control characters.
 pub more-plain : (out new bytes : List ℕ) (at next read k n : ℕ) → All (λ b. space ≤ b) (take k (chunk read 16 bytes)) → k ≤ 16 → n ≡ read + k
     → take next new ≡ take at out ++ with_backslashes (take k (chunk read 16 bytes)) → take at out ≡ spelt_bytes (take read bytes)
     → take next new ≡ spelt_bytes (take n bytes)
@@ -69,13 +69,13 @@ more-plain out new bytes at next read k n plain le e put held =
     ∙ ap (λ l. spelt_bytes (take read bytes) ++ spelt_bytes l) (take-take k 16 (drop read bytes) le)
     ∙ sym (ap spelt_bytes (front_more read k n bytes e) ∙ spelt_bytes-append (take read bytes) (chunk read k bytes))
 
--- and where none is
+-- All of n more bytes are printed, if none is a control character.
 pub more-is : (out new bytes : List ℕ) (at next read k n : ℕ) → All (λ b. space ≤ b) (chunk read 16 bytes) → k ≤ 16 → n ≡ read + k
     → take next new ≡ take at out ++ with_backslashes (take k (chunk read 16 bytes)) → take at out ≡ spelt_bytes (take read bytes)
     → take next new ≡ spelt_bytes (take n bytes)
 more-is out new bytes at next read k n plain = more-plain out new bytes at next read k n (All-take (λ b. space ≤ b) k (chunk read 16 bytes) plain)
 
--- print all of up to fifteen
+-- All of eight to fifteen bytes are printed.
 pub ends-is : (new bytes v : List ℕ) (written : ℕ) → 8 ≤ length bytes → length bytes < 16 → v ≡ take 8 bytes ++ drop (length bytes - 8) bytes → All (λ b. space ≤ b) v
     → take written new ≡ with_backslashes (take (length bytes - 8) v ++ drop 8 v)
     → take written new ≡ spelt_bytes (take (length bytes) bytes)

@@ -1,4 +1,4 @@
--- How many backslashes a text ends in, by its bytes.
+-- The number of backslashes at the end of a text, counted on its bytes.
 use Rattle.std.proofs.Common.{◌≡◌, ℕ, ◌<◌, ◌≤◌, ◌+◌, ◌-◌, ◌==◌, false, List, [], ◌∷◌, ◌++◌, length, take, get_or, refl, ap, sym, ◌∙◌, append_assoc, arith}
 use lib.Utf8.{encode, encodes}
 use Rattle.std.specs.Str.{IsUtf8, chars}
@@ -30,7 +30,7 @@ ending-front front c cs bytes (wide h b bs e l k) ih =
     ∙ ih []
     ∙ sym (ending_backslashes-after front c cs (wide-no_backslash c h))
 
--- a text ends in as many backslashes in bytes as in characters, whatever stands before it
+-- A text ends in as many backslashes in bytes as in characters, whatever comes before it.
 ending-encodes : (cs front : List ℕ) → ending_backslashes (front ++ encodes cs) ≡ ending_backslashes (front ++ cs)
 ending-encodes [] front = refl
 ending-encodes (c ∷ cs) front = ending-front front c cs (encode c) (encoded c) (ending-encodes cs)
@@ -43,11 +43,11 @@ ending_backslashes-text bs u = sym (ending_backslashes-encodes (chars bs)) ∙ a
 
 -- ---- counted from the end
 
--- The backslashes from there to the end are counted.
+-- The backslashes from this index to the end were counted.
 abbrev pub IsCounted : List ℕ → ℕ → Type 0
 IsCounted xs start = ending_backslashes xs ≡ ending_backslashes (take start xs) + (length xs - start)
 
--- no character stands before them, or no backslash
+-- No character comes before them, or one that isn't a backslash.
 pub counted_all : (xs : List ℕ) (e : ℕ) → IsUtf8 xs → e ≤ 0 → IsCounted xs e → length xs - e ≡ ending_backslashes (chars xs)
 counted_all xs e u h k =
     let zero : e ≡ 0 = omega arith in

@@ -1,4 +1,4 @@
--- How the bytes of a character stand to it: those of ASCII are their characters, and no others are ASCII.
+-- How the bytes of a character relate to it: an ASCII character is its own byte, and no other byte is ASCII.
 use Rattle.std.proofs.Common.{◌≡◌, ℕ, ◌<◌, ◌≤◌, ◌==◌, true, false, List, [], ◌∷◌, ◌++◌, length, drop, get_or, refl, ap, sym, ◌∙◌, inl, inr, arith}
 use lib.Utf8.{encode, encodes, scalars, scalar}
 use Rattle.std.specs.Str.{IsUtf8, chars}
@@ -15,7 +15,7 @@ abbrev pub AreWide : List ℕ → Type 0
 AreWide [] = Unit {0}
 AreWide (b ∷ bs) = (128 ≤ b) × AreWide bs
 
--- A character is a byte itself, or has bytes of which none is ASCII.
+-- A character is its own byte, or all of its bytes are above ASCII.
 pub data IsEncoded (c : ℕ) (bytes : List ℕ) : Type 0 where
   one : bytes ≡ c ∷ [] → IsEncoded c bytes
   wide : 128 ≤ c → (b : ℕ) (bs : List ℕ) → bytes ≡ b ∷ bs → 128 ≤ b → AreWide bs → IsEncoded c bytes
@@ -32,7 +32,7 @@ encoded c = elim (cases_lt c 0x80) [
   ]
 ]
 
--- ---- what is not ASCII is of no kind
+-- ---- characters above ASCII have no special kind
 
 pub wide-no_backslash : (c : ℕ) → 128 ≤ c → (c == backslash) ≡ false
 wide-no_backslash c h = ne_eqb c backslash (λ e. absurd (omega arith))
@@ -58,12 +58,12 @@ scalars-parts (x ∷ xs) ys h =
     let q : (scalars xs ≡ true) × (scalars ys ≡ true) = scalars-parts xs ys p.1 in
     (and_from (scalar x) (scalars xs) p.0 q.0, q.1)
 
--- The part of a text is a text, and its characters are that part of the characters.
+-- A part of a text is a text, and its characters are that part of the characters.
 pub record IsPart (part : List ℕ → List ℕ) (bs : List ℕ) : Type 0 where
   pub utf8 : IsUtf8 (part bs)
   pub same : chars (part bs) ≡ part (chars bs)
 
--- what takes the same part of characters and of their bytes
+-- A function that takes the same part of characters as of their bytes.
 pub part_by : (part : List ℕ → List ℕ) → ((cs : List ℕ) → part (encodes cs) ≡ encodes (part cs))
     → ((cs : List ℕ) → scalars cs ≡ true → scalars (part cs) ≡ true) → (bs : List ℕ) → IsUtf8 bs → IsPart part bs
 part_by part e s bs (cs, (h, w)) = record {
@@ -71,7 +71,7 @@ part_by part e s bs (cs, (h, w)) = record {
   same = ap (λ v. chars (part v)) (sym w) ∙ ap chars (e cs) ∙ chars-encodes (part cs) (s cs h) ∙ ap part (sym (chars-encodes cs h) ∙ ap chars w);
 }
 
--- A text is a character and a rest.
+-- A text is a character followed by a rest.
 pub record IsCharacterAnd (bs : List ℕ) (c : ℕ) (rest : List ℕ) : Type 0 where
   pub characters : chars bs ≡ c ∷ chars rest
   pub utf8 : IsUtf8 rest
@@ -87,7 +87,7 @@ chars-empty bs e = ap chars (nil_from_length bs e) ∙ chars-nil
 pub first_ascii : (b : ℕ) (rest : List ℕ) → b < 128 → IsUtf8 (b ∷ rest) → IsCharacterAnd (b ∷ rest) b rest
 first_ascii b rest h u = character_and (b ∷ rest) rest b u (ap (λ v. v ++ rest) (sym (encode-one b h)))
 
--- four bytes of ASCII are four characters
+-- Four ASCII bytes are four characters.
 pub four_ascii : (bs : List ℕ) → IsUtf8 bs → 4 ≤ length bs → get_or bs 0 0 < 128 → get_or bs 1 0 < 128 → get_or bs 2 0 < 128 → get_or bs 3 0 < 128
     → chars bs ≡ get_or bs 0 0 ∷ get_or bs 1 0 ∷ get_or bs 2 0 ∷ get_or bs 3 0 ∷ chars (drop 4 bs)
 four_ascii [] u h k l m n = absurd (omega arith)

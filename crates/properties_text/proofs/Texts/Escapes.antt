@@ -33,12 +33,12 @@ digit-none c e = elim (cases_Bool (is_hexadecimal c)) [
   | inr h ↦ h
 ]
 
--- the last of four is no digit
+-- The last of the four isn't a digit.
 pub fourth-no_digit : (d : Four) → None ≡ (if is_hexadecimal d.fourth then Some (hexadecimal_value d.fourth) else None)
     → None ≡ (if are_hexadecimal d then Some (code_unit d) else None)
 fourth-no_digit d e = sym (cond-false (are_hexadecimal d) _ _ (and_right (is_hexadecimal d.first && is_hexadecimal d.second) _ (and_right (is_hexadecimal d.third) _ (digit-none d.fourth e))))
 
--- all four are digits
+-- All four are digits.
 pub four-digits : (d : Four) (first second third fourth : ℕ)
     → Some first ≡ (if is_hexadecimal d.first then Some (hexadecimal_value d.first) else None)
     → Some second ≡ (if is_hexadecimal d.second then Some (hexadecimal_value d.second) else None)
@@ -53,7 +53,7 @@ four-digits d first second third fourth h k l m =
     rw (p.1, q.1, r.1, s.1) (sym (cond-true (are_hexadecimal d) _ _
     (and_from (is_hexadecimal d.first && is_hexadecimal d.second) _ (and_from (is_hexadecimal d.first) _ p.0 q.0) (and_from (is_hexadecimal d.third) _ r.0 s.0))))
 
--- a value of four, or none
+-- The value of four digits, if there is one.
 pub value-some : (d : Four) (v : ℕ) → Some v ≡ (if are_hexadecimal d then Some (code_unit d) else None) → (are_hexadecimal d ≡ true) × (v ≡ code_unit d)
 value-some d v e = elim (cases_Bool (are_hexadecimal d)) [
   | inl h ↦ (h, (let k = e ∙ cond-true (are_hexadecimal d) _ _ h in cc))
@@ -78,21 +78,21 @@ meaning-unit text rest value u s =
 pub meaning-lacks : (text : List ℕ) → LacksDigit text → meaning_of (backslash ∷ letter_u ∷ text) ≡ breaks not_hex
 meaning-lacks text l = ap (λ v. meaning_of (backslash ∷ letter_u ∷ v)) l.whole ∙ meaning_of-not_hex l.four l.rest l.not_hexadecimal
 
--- a unit of a low surrogate
+-- The escape of a low surrogate.
 pub meaning-low : (text rest : List ℕ) (value : ℕ) → IsUnit text value rest → is_high value ≡ false → is_low value ≡ true
     → meaning_of (backslash ∷ letter_u ∷ text) ≡ breaks invalid_character
 meaning-low text rest value u h l =
     ap (λ v. meaning_of (backslash ∷ letter_u ∷ v)) u.whole
     ∙ meaning_of-lone_low u.digits rest u.hexadecimal (sym (ap is_high u.writes) ∙ h) (sym (ap is_low u.writes) ∙ l)
 
--- a unit of a high surrogate, with no low one after it
+-- The escape of a high surrogate without a low one after it.
 meaning-high : (text rest : List ℕ) (value : ℕ) → IsUnit text value rest → is_high value ≡ true → ((d : Four) → with_low d rest ≡ None)
     → meaning_of (backslash ∷ letter_u ∷ text) ≡ breaks invalid_character
 meaning-high text rest value u h l =
     ap (λ v. meaning_of (backslash ∷ letter_u ∷ v)) u.whole
     ∙ meaning_of-lone_high u.digits rest u.hexadecimal (sym (ap is_high u.writes) ∙ h) (l u.digits)
 
--- and with one
+-- The escape of a high surrogate with a low one after it.
 pub meaning-pair : (text rest after : List ℕ) (high low : ℕ) → IsUnit text high (backslash ∷ letter_u ∷ rest) → IsUnit rest low after
     → is_high high ≡ true → is_low low ≡ true → meaning_of (backslash ∷ letter_u ∷ text) ≡ in_front (pair_character high low) (meaning_of after)
 meaning-pair text rest after high low u w h l =
@@ -100,9 +100,9 @@ meaning-pair text rest after high low u w h l =
     ∙ meaning_of-surrogates u.digits w.digits after u.hexadecimal (sym (ap is_high u.writes) ∙ h) w.hexadecimal (sym (ap is_low w.writes) ∙ l)
     ∙ rw (u.writes, w.writes) refl
 
--- ---- what is no escape of a low surrogate
+-- ---- what isn't the escape of a low surrogate
 
--- no `\u` stands in front
+-- The text doesn't begin with `\u`.
 pub low-no_escape : (d : Four) (x : List ℕ) → ((y : List ℕ) → x ≡ backslash ∷ letter_u ∷ y → ⊥) → with_low d x ≡ None
 low-no_escape high (x ∷ y ∷ a ∷ b ∷ c ∷ d ∷ rest) h =
     let digits = a ∷ b ∷ c ∷ d ∷ rest in
@@ -112,7 +112,7 @@ low-no_escape high (x ∷ y ∷ a ∷ b ∷ c ∷ d ∷ rest) h =
     h digits (ap₂ (λ v w. v ∷ w ∷ digits) (eqb-true x backslash p.0) (eqb-true y letter_u p.1)))))
 low-no_escape high x h = refl
 
--- fewer than four characters come after it
+-- Fewer than four characters follow the `\u`.
 pub low-short : (d : Four) (x : List ℕ) → length x < 4 → with_low d (backslash ∷ letter_u ∷ x) ≡ None
 low-short high (a ∷ b ∷ c ∷ d ∷ rest) h = absurd (omega arith)
 low-short high x h = refl
@@ -121,12 +121,12 @@ no-low : (high low : Four) (rest : List ℕ) → (are_hexadecimal low && is_low 
     → with_low high (backslash ∷ letter_u ∷ four_text low ++ rest) ≡ None
 no-low high low rest h = cond-false _ _ _ (and_right (backslash == backslash && letter_u == letter_u) (are_hexadecimal low && is_low (code_unit low)) h)
 
--- one of the four is no digit
+-- One of the four characters isn't a digit.
 pub low-lacks : (d : Four) (x : List ℕ) → LacksDigit x → with_low d (backslash ∷ letter_u ∷ x) ≡ None
 low-lacks d x l =
     ap (λ v. with_low d (backslash ∷ letter_u ∷ v)) l.whole ∙ no-low d l.four l.rest (and_left (are_hexadecimal l.four) _ l.not_hexadecimal)
 
--- they write no low surrogate
+-- The digits aren't a low surrogate.
 pub low-other : (d : Four) (x rest : List ℕ) (value : ℕ) → IsUnit x value rest → is_low value ≡ false → with_low d (backslash ∷ letter_u ∷ x) ≡ None
 low-other d x rest value u l =
     ap (λ v. with_low d (backslash ∷ letter_u ∷ v)) u.whole ∙ no-low d u.digits rest (and_right (are_hexadecimal u.digits) _ (sym (ap is_low u.writes) ∙ l))
@@ -136,7 +136,7 @@ low-other d x rest value u l =
 high-or-low : (value : ℕ) → 0xd800 ≤ value → value < 0xe000 → is_high value ≡ false → is_low value ≡ true
 high-or-low value l h k = grind (arith, nat_tests)
 
--- a surrogate that has no partner
+-- A surrogate without its other half.
 pub meaning-unpaired : (text rest : List ℕ) (value : ℕ) → IsUnit text value rest → 0xd800 ≤ value → value < 0xe000
     → (is_high value ≡ true → (d : Four) → with_low d rest ≡ None) → meaning_of (backslash ∷ letter_u ∷ text) ≡ breaks invalid_character
 meaning-unpaired text rest value u l h k = elim (cases_Bool (is_high value)) [
@@ -144,19 +144,19 @@ meaning-unpaired text rest value u l h k = elim (cases_Bool (is_high value)) [
   | inr e ↦ meaning-low text rest value u e (high-or-low value l h e)
 ]
 
--- a unit that is a scalar value is no surrogate
+-- A unit that is a scalar value isn't a surrogate.
 pub scalar-unit : (value : ℕ) → InScalarRange value → is_surrogate value ≡ false
 scalar-unit value (inl h) = grind (arith, nat_tests)
 scalar-unit value (inr h) = grind (arith, nat_tests)
 
--- and any other is one
+-- Any other unit is a surrogate.
 pub surrogate-unit : (text rest : List ℕ) (value : ℕ) → IsUnit text value rest → OutOfScalarRange value → (0xd800 ≤ value) × (value < 0xe000)
 surrogate-unit text rest value u (inl h) = (h.0, omega arith)
 surrogate-unit text rest value u (inr h) = absurd (omega (arith, u.writes, code_unit-below u.digits u.hexadecimal))
 
 -- ---- escapes of one character
 
--- the character that an escape of another than `u` stands for
+-- The character of a backslash and a character other than `u`.
 pub meaning-letter : (c to : ℕ) (text rest : List ℕ) → text ≡ c ∷ rest → (c == letter_u) ≡ false → escaped_character c ≡ to
     → meaning_of (backslash ∷ text) ≡ in_front to (meaning_of rest)
 meaning-letter c to text rest e h k =
@@ -181,7 +181,7 @@ low-unread d text NotEnoughDigits h = low-short d text h
 low-unread d text NotHex h = low-lacks d text h
 low-unread d text InvalidCharacter h = absurd h
 
--- the two tests of a joined pair
+-- The two tests that join surrogates.
 pub joined-parts : (high low c : ℕ) → Some c ≡ (if is_high high && is_low low then Some (pair_character high low) else None)
     → (is_high high ≡ true) × (is_low low ≡ true) × (c ≡ pair_character high low)
 joined-parts high low c e = elim (cases_Bool (is_high high && is_low low)) [
@@ -211,8 +211,8 @@ no_escape-front bs u h y e = h (encodes y) (
     ∙ ap (λ v. v ++ (encode letter_u ++ encodes y)) (encode-one backslash (lit< tt))
     ∙ ap (λ v. backslash ∷ v ++ encodes y) (encode-one letter_u (lit< tt)))
 
--- ---- the character after a backslash, as it was read off a text
+-- ---- the character after a backslash, as it was read from a text
 
--- a text that begins with this character
+-- A text that begins with this character.
 pub begins_so : (bs after rest : List ℕ) (c is : ℕ) → IsUtf8 bs → bs ≡ encode c ++ after → c ≡ is → rest ≡ after → chars bs ≡ is ∷ chars rest
 begins_so bs after rest c is u e k r = (character_and bs after c u e).characters ∙ ap (λ v. v ∷ chars after) k ∙ ap (λ v. is ∷ chars v) (sym r)

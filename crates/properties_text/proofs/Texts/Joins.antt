@@ -1,4 +1,4 @@
--- What decides how lines are joined, alike in bytes and in characters.
+-- What determines how lines are joined is the same in bytes and in characters.
 use Rattle.std.proofs.Common.{◌≡◌, ℕ, ◌<◌, ◌≤◌, ◌+◌, ◌-◌, ◌==◌, true, false, List, [], ◌∷◌, ◌++◌, length, take, drop, get_or, refl, ap, sym, ◌∙◌, subst, inl, inr, length-append, arith}
 use Rattle.std.specs.Prelude.{◌%◌}
 use Rattle.std.proofs.Math.Seq.{take-append_seam, get_or-append_seam}
@@ -16,7 +16,7 @@ use Rattle.properties_text.proofs.Texts.Split.{without_leading_blanks-part}
 
 -- ---- comment lines
 
--- a comment sign stands first in bytes as in characters
+-- A comment sign comes first in bytes exactly if it does in characters.
 comment_line-encodes : (cs : List ℕ) → begins_with_comment_sign (encodes cs) ≡ begins_with_comment_sign cs
 comment_line-encodes [] = refl
 comment_line-encodes (c ∷ cs) = go (encode c) (encoded c)
@@ -25,7 +25,7 @@ comment_line-encodes (c ∷ cs) = go (encode c) (encoded c)
     go bytes (one e) = rw e refl
     go bytes (wide l b bs e k w) = rw (e, wide-no_comment_sign b k, wide-no_comment_sign c l) refl
 
--- a comment line is one in bytes as in characters
+-- A comment line is one in bytes exactly if it is one in characters.
 pub is_comment_line-text : (bs : List ℕ) → IsUtf8 bs → is_comment_line (chars bs) ≡ is_comment_line bs
 is_comment_line-text bs u =
     let p = without_leading_blanks-part bs u in
@@ -33,13 +33,13 @@ is_comment_line-text bs u =
     ∙ ap (λ v. begins_with_comment_sign (encodes v)) (sym p.same)
     ∙ ap begins_with_comment_sign (encodes-chars (without_leading_blanks bs) p.utf8)
 
--- by the first byte that is no blank
+-- The test by the first byte that isn't a blank.
 pub comment_line-first : (bs : List ℕ) (start : ℕ) → IsUtf8 bs → drop start bs ≡ without_leading_blanks bs → start < length bs
     → is_comment_line (chars bs) ≡ is_comment_sign (get_or bs start 0)
 comment_line-first bs start u e l =
     is_comment_line-text bs u ∙ ap begins_with_comment_sign (sym e) ∙ ap begins_with_comment_sign (drop_more bs start 0 l)
 
--- or where there is none
+-- The test if there is no such byte.
 pub comment_line-blank : (bs : List ℕ) (start : ℕ) → IsUtf8 bs → drop start bs ≡ without_leading_blanks bs → length bs ≤ start
     → is_comment_line (chars bs) ≡ false
 comment_line-blank bs start u e l =
@@ -47,16 +47,16 @@ comment_line-blank bs start u e l =
 
 -- ---- open backslashes
 
--- a text is open in bytes as in characters
+-- A text is open in bytes exactly if it is open in characters.
 is_open-encodes : (cs : List ℕ) → is_open (encodes cs) ≡ is_open cs
 is_open-encodes cs = ap (λ n. n % 2 == 1) (ending_backslashes-encodes cs)
 
--- the characters in front of a backslash at the end, in bytes
+-- The characters before a backslash at the end, in bytes.
 encodes-push : (cs : List ℕ) → encodes (cs ++ backslash ∷ []) ≡ encodes cs ++ backslash ∷ []
 unfolding encode
 encodes-push cs = encodes-append cs (backslash ∷ [])
 
--- and is cut alike
+-- An open text is cut in the same place in bytes and in characters.
 without_open_backslash-encodes : (cs : List ℕ) → without_open_backslash (encodes cs) ≡ encodes (without_open_backslash cs)
 without_open_backslash-encodes cs = elim (cases_Bool (is_open cs)) [
   | inl k ↦
@@ -77,7 +77,7 @@ without_open_backslash-part = part_by without_open_backslash without_open_backsl
 without_open_backslash-open : (x : List ℕ) → is_open x ≡ true → without_open_backslash x ≡ without_last x
 without_open_backslash-open x h = rw h refl
 
--- An open text may be cut before its last byte, which leaves it without its open backslash.
+-- An open text may be cut before its last byte, which removes its open backslash.
 pub record IsCutOpen (bs : List ℕ) : Type 0 where
   pub some : 1 ≤ length bs
   pub last : get_or bs (length bs - 1) 0 ≡ backslash

@@ -22,7 +22,7 @@ use Rattle.properties_text.specs.declared.escape.UnescapeError.{UnescapeError}
 use Rattle.properties_text.specs.declared.escape.UnescapeError.TheVariants as error
 use Rattle.properties_text.proofs.Texts.Characters.{AreWide, IsEncoded, one, wide, encoded, wide-no_backslash, character_and}
 
--- ---- where a backslash stands
+-- ---- where a backslash is
 
 holds-wide : (bs rest : List ℕ) → AreWide bs → holds_backslash (bs ++ rest) ≡ holds_backslash rest
 holds-wide [] rest w = refl
@@ -37,7 +37,7 @@ holds-encodes : (cs : List ℕ) → holds_backslash (encodes cs) ≡ holds_backs
 holds-encodes [] = refl
 holds-encodes (c ∷ cs) = holds-front c cs (encode c) (encoded c) (holds-encodes cs)
 
--- a text holds a backslash in bytes where it does in characters
+-- A text contains a backslash in bytes exactly if it does in characters.
 pub holds_backslash-text : (bs : List ℕ) → IsUtf8 bs → holds_backslash (chars bs) ≡ holds_backslash bs
 holds_backslash-text bs u = sym (holds-encodes (chars bs)) ∙ ap holds_backslash (encodes-chars bs u)
 
@@ -59,7 +59,7 @@ holds-append (x ∷ xs) ys = elim (cases_Bool (x == backslash)) [
   | inr e ↦ rw e (holds-append xs ys)
 ]
 
--- The first backslash of these bytes stands there.
+-- The first backslash of these bytes has this index.
 pub record IsFirstBackslash (bs : List ℕ) (at : ℕ) : Type 0 where
   pub inside : at < length bs
   pub plain : holds_backslash (take at bs) ≡ false
@@ -93,7 +93,7 @@ pub record IsSplitAt (bs : List ℕ) (at : ℕ) : Type 0 where
   pub characters : chars (drop at bs) ≡ backslash ∷ chars (drop (at + 1) bs)
   pub meaning : meaning_of (chars bs) ≡ text_in_front (chars (take at bs)) (meaning_of (chars (drop at bs)))
 
--- where a search for it has found one in the bytes of a text
+-- A search found one in the bytes of a text.
 pub split_at : (bytes bs : List ℕ) (at : ℕ) → IsUtf8 bs → bytes ≡ bs → IsFirstByte (is_byte backslash) bytes (Some at) → IsSplitAt bs at
 unfolding encode
 split_at bytes bs at u same h =
@@ -115,24 +115,24 @@ split_at bytes bs at u same h =
       meaning = ap meaning_of (ap chars whole ∙ chars-append (take at bs) (drop at bs) front) ∙ meaning_of-plain_front (chars (take at bs)) (chars (drop at bs)) plain;
     }
 
--- A text that holds none.
+-- A text without a backslash.
 pub record IsBareError (bs : List ℕ) : Type 0 where
   pub holds : holds_backslash (chars bs) ≡ false
   pub meaning : meaning_of (chars bs) ≡ means (chars bs)
 
--- where a search has found none
+-- A search found none.
 pub plain : (bytes bs : List ℕ) → IsUtf8 bs → bytes ≡ bs → IsFirstByte (is_byte backslash) bytes None → IsBareError bs
 plain bytes bs u same h =
     let none = holds_backslash-text bs u ∙ found_none bs (subst (λ v. IsFirstByte (is_byte backslash) v None) same h) in
     record { holds = none; meaning = meaning_of-plain (chars bs) (no_backslash (chars bs) none) }
 
--- what a search tells
+-- What a search says about backslashes.
 pub tells_backslash : (bytes bs : List ℕ) (found : Option ℕ) → IsUtf8 bs → bytes ≡ bs → IsFirstByte (is_byte backslash) bytes found
     → is_some found ≡ holds_backslash (chars bs)
 tells_backslash bytes bs (Some at) u same h = sym (split_at bytes bs at u same h).holds
 tells_backslash bytes bs None u same h = sym (plain bytes bs u same h).holds
 
--- a part of a text without a backslash holds none
+-- A part of a text without a backslash contains none.
 pub holds-part : (xs ys zs : List ℕ) → holds_backslash (xs ++ (ys ++ zs)) ≡ false → holds_backslash ys ≡ false
 holds-part [] [] zs h = refl
 holds-part [] (y ∷ ys) zs h =
@@ -140,7 +140,7 @@ holds-part [] (y ∷ ys) zs h =
     ap (λ v. v || holds_backslash ys) p.0 ∙ holds-part [] ys zs p.1
 holds-part (x ∷ xs) ys zs h = holds-part xs ys zs (or_parts (x == backslash) (holds_backslash (xs ++ (ys ++ zs))) h).1
 
--- and it is not open
+-- A text without a backslash isn't open.
 none-ending : (xs : List ℕ) → holds_backslash xs ≡ false → ending_backslashes xs ≡ 0
 none-ending [] h = refl
 none-ending (x ∷ xs) h =
@@ -160,7 +160,7 @@ pub text_in_front-append : (xs ys : List ℕ) (m : Meaning) → text_in_front (x
 text_in_front-append [] ys m = refl
 text_in_front-append (x ∷ xs) ys m = ap (in_front x) (text_in_front-append xs ys m)
 
--- a text and more were appended
+-- A text and more were appended.
 pub pushed_text : (text front more grown all : List ℕ) → IsUtf8 text → IsUtf8 front → grown ≡ text ++ front → all ≡ grown ++ more
     → chars all ≡ chars text ++ (chars front ++ chars more)
 pushed_text text front more grown all u v e f =
@@ -168,7 +168,7 @@ pushed_text text front more grown all u v e f =
     ∙ chars-append text (front ++ more) u
     ∙ ap (λ w. chars text ++ w) (chars-append front more v)
 
--- a text and a character were appended
+-- A text and a character were appended.
 pub pushed : (text front : List ℕ) (c : ℕ) (grown all : List ℕ) → IsUtf8 text → IsUtf8 front → IsScalar c → grown ≡ text ++ front → all ≡ grown ++ encode c
     → chars all ≡ chars text ++ (chars front ++ c ∷ [])
 pushed text front c grown all u v s e f =
@@ -177,11 +177,11 @@ pushed text front c grown all u v s e f =
     ∙ ap (λ w. chars text ++ w) (chars-append front (encode c) v)
     ∙ ap (λ w. chars text ++ (chars front ++ w)) (ap chars (sym (append-nil (encode c))) ∙ chars-encodes (c ∷ []) (rw s refl))
 
--- the text breaks, where what is left of it does
+-- The text is malformed if the rest of it is.
 pub broken : (text : List ℕ) (kind : Malformed) → meaning_of text ≡ breaks kind → Breaks text kind
 broken text kind e = subst (IsMeaning text) e (meaning_of-meets text)
 
--- Of a text, what has been resolved was appended, and the rest is still to come.
+-- What was resolved of a text was appended, and the rest is still to come.
 pub record IsResolvedTo (text before now rest : List ℕ) : Type 0 where
   pub done : List ℕ
   pub grown : now ≡ before ++ done
@@ -190,7 +190,7 @@ pub record IsResolvedTo (text before now rest : List ℕ) : Type 0 where
 pub resolved_none : (text before : List ℕ) → IsResolvedTo text before before text
 resolved_none text before = record { done = []; grown = sym (append-nil before); meaning = refl }
 
--- text without a backslash, and escapes that were read together
+-- Text without a backslash was appended, and escapes that were read together.
 pub resolved_many : (text before now rest front after to next cs : List ℕ) → IsResolvedTo text before now rest
     → meaning_of rest ≡ text_in_front front (meaning_of after) → meaning_of after ≡ text_in_front cs (meaning_of to) → next ≡ now ++ (front ++ cs)
     → IsResolvedTo text before next to
@@ -202,13 +202,13 @@ resolved_many text before now rest front after to next cs r e f g = record {
       ∙ sym (text_in_front-append r.done (front ++ cs) (meaning_of to));
 }
 
--- and one escape
+-- Text without a backslash was appended, and one escape.
 pub resolved_more : (text before now rest front after to next : List ℕ) (c : ℕ) → IsResolvedTo text before now rest
     → meaning_of rest ≡ text_in_front front (meaning_of after) → meaning_of after ≡ in_front c (meaning_of to) → next ≡ now ++ (front ++ c ∷ [])
     → IsResolvedTo text before next to
 resolved_more text before now rest front after to next c r e f g = resolved_many text before now rest front after to next (c ∷ []) r e f g
 
--- the last of it
+-- The rest of the text was appended.
 pub resolved_end : (text before now rest next : List ℕ) → IsResolvedTo text before now rest → meaning_of rest ≡ means rest → next ≡ now ++ rest
     → (meant : List ℕ) × (meaning_of text ≡ means meant) × (next ≡ before ++ meant)
 resolved_end text before now rest next r e g = (
@@ -217,22 +217,22 @@ resolved_end text before now rest next r e g = (
   g ∙ ap (λ v. v ++ rest) r.grown ∙ append_assoc before r.done rest,
 )
 
--- an escape that breaks
+-- A malformed escape was read.
 pub resolved_broken : (text before now rest front after : List ℕ) (kind : Malformed) → IsResolvedTo text before now rest
     → meaning_of rest ≡ text_in_front front (meaning_of after) → meaning_of after ≡ breaks kind → Breaks text kind
 resolved_broken text before now rest front after kind r e f = broken text kind (
     r.meaning ∙ ap (text_in_front r.done) (e ∙ ap (text_in_front front) f ∙ text_in_front-breaks front kind) ∙ text_in_front-breaks r.done kind)
 
--- ---- what stands before the first escape
+-- ---- the text before the first escape
 
--- what the rest is refused by, the whole is
+-- If the rest is refused with an error, so is the whole.
 pub refused_front : (text front rest : List ℕ) (e : UnescapeError) → meaning_of text ≡ text_in_front front (meaning_of rest) → IsRefused rest e → IsRefused text e
 refused_front text front rest (error.Malformed malformed) m b =
     let kind = malformed_in malformed in
     broken text kind (m ∙ ap (text_in_front front) (sym (breaks-only rest kind b)) ∙ text_in_front-breaks front kind)
 refused_front text front rest error.Memory m b = b
 
--- what the rest means, with what stands before it
+-- What the rest means, preceded by the text before it.
 pub means_front : (text front rest meant : List ℕ) → meaning_of text ≡ text_in_front front (meaning_of rest) → meaning_of rest ≡ means meant
     → Means text (front ++ meant)
 means_front text front rest meant m e =

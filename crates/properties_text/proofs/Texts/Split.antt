@@ -1,4 +1,4 @@
--- A line is split alike in bytes and in characters.
+-- A line is split in the same way in bytes and in characters.
 use Rattle.std.proofs.Common.{◌≡◌, ℕ, ◌≤◌, ◌==◌, Bool, true, false, List, [], ◌∷◌, ◌++◌, refl, ap, sym, ◌∙◌, subst, inl, inr}
 use lib.Utf8.{encode, encodes, scalars, scalar}
 use Rattle.std.specs.Str.{IsUtf8, chars}
@@ -37,7 +37,7 @@ without_leading_blanks-part = part_by without_leading_blanks without_leading_bla
 
 -- ---- blanks at the end
 
--- a text that is not empty keeps a character in front of it
+-- A text that isn't empty keeps a character at its front.
 unless-some : (c b : ℕ) (bs : List ℕ) → unless_last_blank c (b ∷ bs) ≡ c ∷ b ∷ bs
 unless-some c b bs = refl
 
@@ -45,12 +45,12 @@ unless-wide : (c : ℕ) (y : List ℕ) → 128 ≤ c → unless_last_blank c y �
 unless-wide c [] h = rw (wide-no_blank c h) refl
 unless-wide c (d ∷ y) h = refl
 
--- bytes that are no blanks stay in front
+-- Bytes that aren't blanks stay at the front.
 trailing-wide : (bs rest : List ℕ) → AreWide bs → without_trailing_blanks (bs ++ rest) ≡ bs ++ without_trailing_blanks rest
 trailing-wide [] rest w = refl
 trailing-wide (b ∷ bs) rest w = ap (unless_last_blank b) (trailing-wide bs rest w.1) ∙ unless-wide b (bs ++ without_trailing_blanks rest) w.0
 
--- a character in front of a text is a blank that ends it, in characters as in bytes
+-- Whether a character at the front of a text is a blank at its end is the same in characters and in bytes.
 trailing-one : (c : ℕ) (cs : List ℕ) → encode c ≡ c ∷ [] → unless_last_blank c (encodes cs) ≡ encodes (unless_last_blank c cs)
 trailing-one c [] e = elim (cases_Bool (is_blank c)) [ inl b ↦ rw b refl | inr b ↦ rw (b, e) refl ]
 trailing-one c (d ∷ cs) e = elim (encoded d) [
@@ -119,7 +119,7 @@ unfolding in_bytes
 cut_key-encodes [] is_escaped = refl
 cut_key-encodes (c ∷ cs) is_escaped = cut-front c cs (encode c) (encoded c) (cut_key-encodes cs) refl is_escaped
 
--- the key that a text begins with, and what comes after it
+-- the key at the front of a text, and what follows it
 abbrev pub key_of : List ℕ → List ℕ
 key_of x = (cut_key x false).key
 
@@ -166,11 +166,11 @@ past_separator-scalars (c ∷ cs) h = elim (cases_Bool (is_separator c)) [
 pub past_separator-part : (bs : List ℕ) → IsUtf8 bs → IsPart past_separator bs
 past_separator-part = part_by past_separator past_separator-encodes past_separator-scalars
 
--- the value of what comes after a key
+-- the value in what follows a key
 abbrev pub value_of : List ℕ → List ℕ
 value_of rest = past_separator (without_leading_blanks rest)
 
--- one part of another
+-- A part of a part is a part.
 part-of : (f g : List ℕ → List ℕ) (bs : List ℕ) → IsPart g bs → IsPart f (g bs) → IsPart (λ x. f (g x)) bs
 part-of f g bs p q = record { utf8 = q.utf8; same = q.same ∙ ap f p.same }
 
@@ -202,7 +202,7 @@ pairs-alike bs u =
 comments-alike : (cs : List ℕ) → scalars cs ≡ true → comment (trimmed cs) ≡ in_characters (comment (trimmed (encodes cs)))
 comments-alike cs h = ap comment (ap trimmed (sym (chars-encodes cs h)) ∙ sym (trimmed-part (encodes cs) (cs, (h, refl))).same)
 
--- a text that begins with no blank
+-- A text that doesn't begin with a blank.
 full-alike : (cs : List ℕ) → scalars cs ≡ true → split_full cs ≡ in_characters (split_full (encodes cs))
 full-alike [] h = refl
 full-alike (c ∷ cs) h = go (encode c) (encoded c) refl
@@ -231,6 +231,6 @@ pub split_of-text : (bs : List ℕ) → IsUtf8 bs → split_of (chars bs) ≡ in
 unfolding split_of
 split_of-text bs u = let p = without_leading_blanks-part bs u in ap split_full (sym p.same) ∙ full-text (without_leading_blanks bs) p.utf8
 
--- what the bytes are split into, the characters are
+-- What the bytes are split into, the characters are split into too.
 pub split-characters : (bs : List ℕ) (x : Logical) → IsUtf8 bs → split_of bs ≡ x → IsSplit (chars bs) (in_characters x)
 split-characters bs x u e = subst (IsSplit (chars bs)) (split_of-text bs u ∙ ap in_characters e) (split_of-meets (chars bs))

@@ -1,4 +1,4 @@
--- Escapes that write a character by themselves, by their bytes.
+-- Escapes of one character each, read from their bytes.
 use Rattle.std.proofs.Common.{◌≡◌, ℕ, ◌+◌, ◌*◌, ◌<◌, ◌≤◌, ◌==◌, ◌&&◌, if◌then◌else◌, true, false, List, [], ◌∷◌, ◌++◌, length, take, drop, get_or, refl, sym, ap, ap₂, subst, ◌∙◌, inl, inr, arith}
 use Rattle.std.specs.Prelude.{Some, None, nat_le}
 use Rattle.std.specs.Str.{IsUtf8, chars}
@@ -18,14 +18,14 @@ use Rattle.properties_text.proofs.TextFronts.{chars-more}
 use Rattle.properties_text.proofs.Texts.Escapes.{value-some, meaning-letter}
 use Rattle.properties_text.proofs.Texts.Resolving.{text_in_front-append}
 
--- each row of the table
+-- Each row of the table.
 pub digit-at : (b : ℕ) → b < 256 → get_or DIGITS b 0 ≡ digit_value b
 digit-at b h = eqb-true _ _ (agree_below_at (λ b. get_or DIGITS b 0 == digit_value b) (λ k. true) 256 b refl h)
 
 pub digit-small : (b : ℕ) → b < 256 → digit_value b ≤ 0x10000
 digit-small b h = leb-true (digit_value b) 0x10000 (agree_below_at (λ b. nat_le (digit_value b) 0x10000) (λ k. true) 256 b refl h)
 
--- a byte that counts less than what is no digit
+-- A byte whose value is less than that of a non-digit is a digit.
 digit-is : (b : ℕ) → digit_value b < 0x10000 → is_hexadecimal b ≡ true
 digit-is b h = elim (cases_Bool (is_hexadecimal b)) [
   | inl t ↦ t
@@ -38,7 +38,7 @@ digit-of b t = cond-true (is_hexadecimal b) _ _ t
 digit-ascii : (b : ℕ) → is_hexadecimal b ≡ true → b < 128
 digit-ascii b h = grind (arith, nat_tests)
 
--- four digits together
+-- The value of four digits.
 digits-value : (a b c d : ℕ) → are_hexadecimal (four_bytes a b c d) ≡ true
     → digit_value a * 0x1000 + digit_value b * 0x100 + digit_value c * 0x10 + digit_value d ≡ code_unit (four_bytes a b c d)
 digits-value a b c d h =
@@ -65,7 +65,7 @@ four-none a b c d h = elim (cases_Bool (are_hexadecimal (four_bytes a b c d))) [
   | inr f ↦ sym (cond-false (are_hexadecimal (four_bytes a b c d)) _ _ f)
 ]
 
--- four digits at the front of a text
+-- Four digits at the front of a text.
 pub digits-first : (text : List ℕ) (value : ℕ) → IsUtf8 text → 4 ≤ length text
     → Some value ≡ (let four = four_bytes (get_or text 0 0) (get_or text 1 0) (get_or text 2 0) (get_or text 3 0) in if are_hexadecimal four then Some (code_unit four) else None)
     → (get_or text 3 0 < 128) × IsUnit (chars text) value (chars (drop 4 text))
@@ -78,7 +78,7 @@ digits-first text value u h e =
     let digits = four_ascii text u h (digit-ascii _ q.0) (digit-ascii _ q.1) (digit-ascii _ r.0) (digit-ascii _ r.1) in
     (digit-ascii _ r.1, record { digits = four; whole = digits; hexadecimal = is.0; writes = is.1 })
 
--- A text begins with a `\u` and four digits, which write this.
+-- A text begins with `\u` and four digits with this value.
 pub record BeginsWithUnit (text : List ℕ) (value : ℕ) : Type 0 where
   pub ascii : get_or text 5 0 < 128
   pub front : chars text ≡ backslash ∷ letter_u ∷ chars (drop 2 text)
@@ -106,7 +106,7 @@ unit-first text bytes value same = subst (λ v. IsUtf8 v → 6 ≤ length bytes 
           unit = digits.1;
         }
 
--- an escape of one character of ASCII
+-- An escape of a backslash and one ASCII character.
 pub letter-first : (text : List ℕ) → IsUtf8 text → 2 ≤ length text → get_or text 0 0 ≡ backslash → (get_or text 1 0 == letter_u) ≡ false → get_or text 1 0 < 128
     → meaning_of (chars text) ≡ in_front (escaped_character (get_or text 1 0)) (meaning_of (chars (drop 2 text)))
 letter-first [] u l s n h = absurd (omega arith)
@@ -117,15 +117,15 @@ letter-first (x ∷ y ∷ bs) u l s n h =
     let front : chars (x ∷ y ∷ bs) ≡ backslash ∷ y ∷ chars bs = one.characters ∙ ap₂ (λ v w. v ∷ w) s two.characters in
     ap meaning_of front ∙ meaning-letter y (escaped_character y) (y ∷ chars bs) (chars bs) refl n refl
 
--- a character between two escapes
+-- A character between two escapes.
 pub between-first : (text : List ℕ) → IsUtf8 text → 0 < length text → get_or text 0 0 < 128 → (get_or text 0 0 == backslash) ≡ false
     → meaning_of (chars text) ≡ in_front (get_or text 0 0) (meaning_of (chars (drop 1 text)))
 between-first [] u l s h = absurd (omega arith)
 between-first (b ∷ bs) u l s h = ap meaning_of (first_ascii b bs s u).characters ∙ meaning_of-plain_front (b ∷ []) (chars bs) (h, tt)
 
--- ---- several of them
+-- ---- several escapes
 
--- one more character in a run, and the meaning of what is left
+-- One more character in a run, and the meaning of what is left.
 pub units-more : (text run new rest to : List ℕ) (end at c : ℕ) → IsUtf8 (take end run) → IsScalar c → take at new ≡ take end run ++ encode_utf8 c
     → meaning_of (chars text) ≡ text_in_front (chars (take end run)) (meaning_of rest) → meaning_of rest ≡ in_front c (meaning_of to)
     → IsUtf8 (take at new) × (meaning_of (chars text) ≡ text_in_front (chars (take at new)) (meaning_of to))

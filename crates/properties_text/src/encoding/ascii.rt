@@ -1,11 +1,11 @@
-// Whether bytes are ASCII, by blocks.
+// Tests whether bytes are ASCII, block by block.
 
 ghost use Rattle.std.specs.Prelude.{◌≡◌, ◌↔◌, true};
 ghost use Rattle.std.specs.Str.{IsAscii};
 
 use byte_blocks::{PastAscii, find};
 
-/// Whether all of these bytes are ASCII.
+/// Returns whether all bytes are ASCII.
 #[inline(always)]
 pub fn is_ascii(bytes: &[u8]) -> bool
     ensures { (result ≡ true) ↔ IsAscii bytes.now }

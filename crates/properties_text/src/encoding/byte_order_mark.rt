@@ -4,18 +4,18 @@ ghost use Rattle.properties_text.specs.Decoding.{TellsBom};
 
 use super::Encoding;
 
-/// What the bytes at the front of an input tell of a byte order mark.
+/// What the bytes at the front of an input say about a byte order mark.
 #[derive(Clone, Copy, Debug, PartialEq, Eq)]
 pub enum ByteOrderMark {
-    /// It is there: the encoding that it says, and how many bytes it has.
+    /// There is one. It has this encoding and this length in bytes.
     Present(Encoding, usize),
     /// There is none.
     Absent,
-    /// More bytes decide it. Where none come, there is none.
+    /// More bytes are needed to decide. If the input ends here, there is none.
     Undecided,
 }
 
-/// The byte order mark that these bytes begin with.
+/// Looks for a byte order mark at the front of the bytes.
 pub fn byte_order_mark(bytes: &[u8]) -> ByteOrderMark
     ensures { TellsBom bytes.now result }
 {

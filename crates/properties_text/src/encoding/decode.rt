@@ -1,4 +1,4 @@
-//! Bytes to characters.
+//! Decoding bytes to characters.
 
 ghost use Rattle.std.specs.Prelude.{◌↔◌, IsSome, ◌≡◌, ◌≤◌, ◌<◌, ◌+◌, ◌*◌, ◌%◌, ◌++◌, ◌∷◌, [], length, take, IfSome};
 ghost use Rattle.std.specs.Char.{encode_utf8, IsScalar};
@@ -15,7 +15,7 @@ use super::windows_1252::text_of_byte;
 use super::{Encoding, utf_8, windows_1252};
 use std::simd::prelude::*;
 
-/// The bytes, where they are text as they stand.
+/// Returns the bytes as text if they are UTF-8 already in this encoding; otherwise `None`.
 #[inline(always)]
 pub fn as_text(encoding: Encoding, bytes: &[u8]) -> Option<&str>
     ensures exactly { IsSome result ↔ IsText (encoding_of encoding) bytes.now }
@@ -28,16 +28,16 @@ pub fn as_text(encoding: Encoding, bytes: &[u8]) -> Option<&str>
     }
 }
 
-/// What was decoded of some bytes.
+/// The result of decoding some bytes.
 #[derive(Clone, Copy)]
 pub struct Decoded<'a> {
-    /// The place where the text ends.
+    /// The index after the decoded text.
     pub end: usize,
-    /// The bytes that are left.
+    /// The bytes that weren't decoded.
     pub rest: &'a [u8],
 }
 
-/// Decodes bytes at the front, as far as there is room, and puts their text after the one that ends at `start`.
+/// Decodes bytes from the front as long as there is room. Their text is written after the text that ends at `start`.
 #[inline(always)]
 pub fn decode_run<'a>(
     run: &mut [u8],
@@ -50,7 +50,7 @@ pub fn decode_run<'a>(
     ensures front { DecodesFront encoding bytes.now run.old start run.new result }
     ensures shorter { 0 < length bytes.now → length result.rest.now < length bytes.now }
 {
-    // A loop for each encoding, so that none asks for it at each character.
+    // Each encoding has a loop of its own, so the encoding isn't tested at each character.
     match encoding {
         Encoding::WINDOWS_1252 => decode_windows_1252(run, start, bytes),
         Encoding::UTF_8 => decode_run_of(run, start, Encoding::UTF_8, bytes),
@@ -59,7 +59,7 @@ pub fn decode_run<'a>(
     }
 }
 
-// By blocks of sixteen, and what is fewer in the same way as other encodings.
+// Decodes blocks of sixteen, and fewer bytes as for the other encodings.
 #[inline(always)]
 fn decode_windows_1252<'a>(run: &mut [u8], start: usize, bytes: &'a [u8]) -> Decoded<'a>
     requires room { start + 4 ≤ length run.old }
@@ -68,14 +68,14 @@ fn decode_windows_1252<'a>(run: &mut [u8], start: usize, bytes: &'a [u8]) -> Dec
     ensures shorter { 0 < length bytes.now → length result.rest.now < length bytes.now }
 {
     let front = decode_blocks(run, start, bytes);
-    // Where more blocks come, the next run goes on with them.
+    // If more blocks follow, the next run starts with them.
     if front.end > start && front.rest.len() >= 16 {
         return front;
     }
     decode_run_of(run, front.end, Encoding::WINDOWS_1252, front.rest)
 }
 
-// Sixteen bytes of windows-1252 at once, while there are as many, and room.
+// Decodes windows-1252 sixteen bytes at a time, as long as there are as many bytes and room for them.
 #[inline(always)]
 fn decode_blocks<'a>(run: &mut [u8], start: usize, bytes: &'a [u8]) -> Decoded<'a>
     requires within { start ≤ length run.old }
@@ -87,7 +87,7 @@ fn decode_blocks<'a>(run: &mut [u8], start: usize, bytes: &'a [u8]) -> Decoded<'
     let mut rest = bytes;
     while rest.len() >= 16 && run.len() - at >= 64 {
         let v = u8x16::from_slice(rest);
-        // The odd bytes go first, so that whole blocks are left.
+        // The first block may be shorter, so that only whole blocks are left.
         let odd = (rest.len() - 1) % 16 + 1;
         if tabled(v).is_clear_before(odd) {
             at = put_16(run, at, v, odd);
@@ -101,7 +101,7 @@ fn decode_blocks<'a>(run: &mut [u8], start: usize, bytes: &'a [u8]) -> Decoded<'
     Decoded { end: at, rest }
 }
 
-// So many bytes of windows-1252, one by one.
+// Decodes `count` bytes of windows-1252 one by one.
 #[inline(always)]
 fn decode_each<'a>(run: &mut [u8], start: usize, bytes: &'a [u8], count: usize) -> Decoded<'a>
     requires room { start + 4 * count ≤ length run.old }
@@ -124,7 +124,7 @@ fn decode_each<'a>(run: &mut [u8], start: usize, bytes: &'a [u8], count: usize) 
     Decoded { end: at, rest }
 }
 
-// From front to back, in any encoding.
+// Decodes any encoding from front to back.
 #[inline(always)]
 fn decode_run_of<'a>(
     run: &mut [u8],
@@ -160,8 +160,8 @@ fn decode_run_of<'a>(
     Decoded { end: at, rest }
 }
 
-// Writes units at the front from this place on, sixteen at most, as far as they are characters of Latin-1. There are none
-// in other encodings than UTF-16, and where fewer than eight are left, or room for fewer.
+// Decodes up to sixteen UTF-16 units to the run at index `at`, as long as they are characters of Latin-1. Decodes none
+// in the other encodings, and none if fewer than eight units are left or there is room for fewer.
 #[inline(always)]
 fn put_units(run: &mut [u8], at: usize, encoding: Encoding, bytes: &[u8]) -> Written
     requires { at ≤ length run.old }
@@ -174,7 +174,8 @@ fn put_units(run: &mut [u8], at: usize, encoding: Encoding, bytes: &[u8]) -> Wri
     }
 }
 
-// The same of UTF-16. Where the first unit is no character of Latin-1, the others aren't looked at.
+// Decodes up to sixteen UTF-16 units, as [`put_units`] does. If the first isn't a character of Latin-1, the others
+// aren't tested.
 #[inline(always)]
 fn put_block(run: &mut [u8], at: usize, order: ByteOrder, bytes: &[u8]) -> Written
     requires { at ≤ length run.old }
@@ -190,7 +191,7 @@ fn put_block(run: &mut [u8], at: usize, order: ByteOrder, bytes: &[u8]) -> Writt
     }
 }
 
-// Sixteen units at most. The odd ones go first, so that whole blocks are left.
+// Decodes up to sixteen units. The first block may be shorter, so that only whole blocks are left.
 #[inline(always)]
 fn put_long_block(run: &mut [u8], at: usize, order: ByteOrder, bytes: &[u8]) -> Written
     requires room { at + 32 ≤ length run.old }
@@ -206,7 +207,7 @@ fn put_long_block(run: &mut [u8], at: usize, order: ByteOrder, bytes: &[u8]) -> 
     put_sixteen(run, at, order, first, second, odd)
 }
 
-// Eight at most.
+// Decodes up to eight units.
 #[inline(always)]
 fn put_short_block(run: &mut [u8], at: usize, order: ByteOrder, bytes: &[u8]) -> Written
     requires room { at + 16 ≤ length run.old }
@@ -220,15 +221,15 @@ fn put_short_block(run: &mut [u8], at: usize, order: ByteOrder, bytes: &[u8]) ->
     put_latin_1(run, at, order, u8x16::from_slice(bytes), odd)
 }
 
-// Four characters of ASCII, and the bytes after them.
+// Four ASCII characters, and the bytes after them.
 #[derive(Clone, Copy)]
 struct AsciiFront<'a> {
     text: [u8; 4],
     rest: &'a [u8],
 }
 
-// Four characters of ASCII at the front, if there are four. In UTF-8 it looks for none, since a run begins where text that
-// stands as it is ends.
+// Four ASCII characters at the front, if there are four. Never finds them in UTF-8, where a run begins only after the
+// longest text that needs no decoding.
 #[inline(always)]
 fn ascii_front(encoding: Encoding, bytes: &[u8]) -> Option<AsciiFront<'_>>
     ensures { IfSome result (IsAsciiFront encoding bytes.now) }
@@ -273,7 +274,7 @@ fn ascii_units(order: ByteOrder, bytes: &[u8]) -> Option<AsciiFront<'_>>
     )
 }
 
-// These four units, where all of them are ASCII.
+// The four units, if all of them are ASCII.
 #[inline(always)]
 fn four_of_ascii(a: u16, b: u16, c: u16, d: u16, rest: &[u8]) -> Option<AsciiFront<'_>>
     ensures { IfSome result (AreFour a b c d rest.now) }
@@ -288,7 +289,7 @@ fn four_of_ascii(a: u16, b: u16, c: u16, d: u16, rest: &[u8]) -> Option<AsciiFro
     }
 }
 
-// Writes four bytes from this place on, and returns the place after them.
+// Writes four bytes at index `at`, and returns the index after them.
 #[inline(always)]
 fn put_four(run: &mut [u8], at: usize, text: [u8; 4]) -> usize
     requires { at + 4 ≤ length run.old }
@@ -300,7 +301,7 @@ fn put_four(run: &mut [u8], at: usize, text: [u8; 4]) -> usize
     at + 4
 }
 
-/// Writes a character from this place on, and returns the place after it.
+/// Writes a character at index `at`, and returns the index after it.
 #[inline(always)]
 pub fn put_character(run: &mut [u8], at: usize, character: char) -> usize
     requires { at + 4 ≤ length run.old }
@@ -328,7 +329,7 @@ pub fn put_character(run: &mut [u8], at: usize, character: char) -> usize
     }
 }
 
-// A byte that is not the first of its character: the six low bits.
+// Writes a continuation byte with the six low bits of `bits` at index `at`, and returns the index after it.
 #[inline(always)]
 fn put_continuation(run: &mut [u8], at: usize, bits: u32) -> usize
     requires { at < length run.old }

@@ -1,4 +1,4 @@
-// Characters to bytes.
+// Encoding characters as bytes.
 
 ghost use Rattle.std.specs.Prelude.{◌≡◌, ◌+◌, ◌-◌, ◌<◌, ◌≤◌, if◌then◌else◌, length, take, drop, slice_index, IsCharBoundary};
 ghost use Rattle.std.specs.Str.{chars, IsUtf8};
@@ -11,12 +11,12 @@ use super::narrow::put_narrow;
 use super::windows_1252::byte_of;
 use std::simd::prelude::*;
 
-/// The encodings that are written.
+/// The encodings that can be written.
 #[derive(Clone, Copy, PartialEq, Eq)]
 pub enum OutputEncoding {
-    /// One byte a character, where it has one.
+    /// One byte per character. Some characters have none.
     Windows1252,
-    /// One to four bytes a character.
+    /// One to four bytes per character.
     Utf8,
 }
 
@@ -31,16 +31,17 @@ impl From<Encoding> for OutputEncoding {
     }
 }
 
-/// What was encoded of a text.
+/// The result of encoding a text.
 #[derive(Clone, Copy)]
 pub struct Encoded<'a> {
-    /// How many bytes it is.
+    /// How many bytes were written.
     pub length: usize,
-    /// The text that is left.
+    /// The rest of the text, which wasn't encoded.
     pub rest: &'a str,
 }
 
-/// Encodes characters at the front in windows-1252, up to one that it lacks, while there is room for sixteen.
+/// Encodes characters from the front in windows-1252. Stops at a character that can't be encoded, or when fewer than
+/// sixteen bytes of room are left.
 pub fn encode_run<'a>(run: &mut [u8], text: &'a str) -> Encoded<'a>
     ensures within { result.length ≤ length run.new }
     ensures same_room { length run.new ≡ length run.old }
@@ -71,18 +72,18 @@ pub fn encode_run<'a>(run: &mut [u8], text: &'a str) -> Encoded<'a>
     Encoded { length: at, rest }
 }
 
-// How many bytes of a block are read at least where no character stops it: all sixteen, but for one that begins a
-// character.
+// The fewest bytes that are read of a block of sixteen if no character stops it: all sixteen, or fifteen if the last
+// one begins a character.
 const WHOLE: usize = 15;
 
-// How many bytes of a text were encoded, and to how many.
+// How many bytes of a text were read, and how many were written for them.
 #[derive(Clone, Copy)]
 struct Block {
     read: usize,
     written: usize,
 }
 
-// Encodes the characters of the first sixteen bytes, up to one that isn't of Latin-1.
+// Encodes the characters of the first sixteen bytes, up to one that isn't in Latin-1.
 #[inline(always)]
 fn encode_block(run: &mut [u8], at: usize, text: &str) -> Block
     requires room { at + 16 ≤ length run.old }
@@ -103,7 +104,7 @@ fn encode_block(run: &mut [u8], at: usize, text: &str) -> Block
     }
 }
 
-// So many bytes, or one fewer where the last begins a character.
+// Returns `count`, or one less if the last of these bytes begins a character.
 #[inline(always)]
 fn whole_characters(bytes: &[u8], count: usize) -> usize
     requires { count ≤ length bytes.now }
@@ -116,7 +117,7 @@ fn whole_characters(bytes: &[u8], count: usize) -> usize
     }
 }
 
-// The first sixteen bytes, or fewer and zeros after them.
+// The first sixteen bytes, padded with zeros if there are fewer.
 #[inline(always)]
 fn first_16(bytes: &[u8]) -> u8x16
     ensures { take (length bytes.now) (take 16 result) ≡ take 16 bytes.now }

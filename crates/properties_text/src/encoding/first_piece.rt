@@ -1,4 +1,4 @@
-//! The first piece of some bytes: those that stand for one character.
+//! The first piece of some bytes: those that are decoded to one character.
 
 ghost use Rattle.std.specs.Prelude.{◌≡◌, ◌<◌, ◌≤◌, ◌+◌, length, false};
 ghost use Rattle.properties_format.specs.Text.{replacement, scalar};
@@ -12,16 +12,16 @@ use super::{Encoding, utf_8};
 /// The first piece of some bytes.
 #[derive(Clone, Copy, Debug, PartialEq, Eq)]
 pub struct FirstPiece {
-    /// The character that it stands for.
+    /// The character that the piece is decoded to.
     pub character: char,
-    /// How many bytes it has.
+    /// The number of bytes in the piece.
     pub length: usize,
-    /// Whether bytes that come may still change it.
+    /// Whether further bytes may still change the piece.
     pub may_change: bool,
 }
 
 impl FirstPiece {
-    // So many bytes that stand for this character.
+    // The piece of `length` bytes that encode this character.
     pub(super) fn whole(code: u32, length: usize) -> FirstPiece
         requires { scalar code }
         ensures { result ≡ record { character = code; length = length; may_change = false } }
@@ -33,7 +33,7 @@ impl FirstPiece {
         }
     }
 
-    // So many bytes that stand for no character of their own.
+    // A piece of `length` bytes that encode no character; it is decoded to U+FFFD.
     pub(super) fn broken(length: usize, may_change: bool) -> FirstPiece
         ensures { result ≡
             record { character = replacement; length = length; may_change = may_change } }
@@ -46,7 +46,7 @@ impl FirstPiece {
     }
 }
 
-/// The first piece of a first byte and those after it.
+/// Returns the first piece of the bytes `first` and then `rest`.
 #[inline(always)]
 pub fn first_piece(encoding: Encoding, first: u8, rest: &[u8]) -> FirstPiece
     ensures shown { IsFirstPiece (encoding_of encoding) first rest.now result }

@@ -1,4 +1,4 @@
-// Characters of Latin-1, whose numbers are bytes, sixteen at once.
+// Characters of Latin-1, whose code points are single bytes, encoded in UTF-8 sixteen at a time.
 
 ghost use Rattle.std.specs.Prelude.{◌≡◌, ◌+◌, ◌*◌, ◌≤◌, ◌++◌, ◌↔◌, true, length, take, map, encode_utf8_all};
 ghost use Rattle.std.specs.Str.{IsAscii, all_scalars};
@@ -8,7 +8,7 @@ ghost use Rattle.properties_text.specs.Latin1.{lead_byte, last_byte};
 use byte_blocks::{ByteClass, Marks, PastAscii, Within, put_spread, put_spread_half};
 use std::simd::prelude::*;
 
-/// The bytes from 80 to 9F, which in windows-1252 stand for characters of other numbers.
+/// Marks the bytes 80 to 9F, whose characters in windows-1252 have other code points.
 #[inline(always)]
 pub fn tabled(v: u8x16) -> Marks
     ensures { result ≡ map is_in_table v }
@@ -16,8 +16,8 @@ pub fn tabled(v: u8x16) -> Marks
     Within::<0x80, 0x9f>::marks(v)
 }
 
-/// Writes the first `kept` characters in UTF-8 from this place on, and returns the place after them. Up to 32 bytes may be
-/// written over.
+/// Writes the first `kept` characters in UTF-8 at index `at`. Returns the index after them. May overwrite up to 32
+/// bytes.
 #[inline(always)]
 pub fn put_16(run: &mut [u8], at: usize, v: u8x16, kept: usize) -> usize
     requires room { at + 32 ≤ length run.old }
@@ -52,7 +52,7 @@ pub fn put_16(run: &mut [u8], at: usize, v: u8x16, kept: usize) -> usize
     }
 }
 
-/// The same of no more than the first eight characters, and up to 16 bytes.
+/// Like [`put_16`] for at most the first eight characters. May overwrite up to 16 bytes.
 #[inline(always)]
 pub fn put_half(run: &mut [u8], at: usize, v: u8x16, kept: usize) -> usize
     requires room { at + 16 ≤ length run.old }
@@ -78,7 +78,7 @@ pub fn put_half(run: &mut [u8], at: usize, v: u8x16, kept: usize) -> usize
     }
 }
 
-/// Whether all sixteen are ASCII.
+/// Returns whether all sixteen bytes are ASCII.
 #[inline(always)]
 pub fn is_ascii(v: u8x16) -> bool
     ensures { (result ≡ true) ↔ IsAscii v }
@@ -86,7 +86,7 @@ pub fn is_ascii(v: u8x16) -> bool
     PastAscii::marks(v).is_clear()
 }
 
-// The first bytes of the characters that have two.
+// For each character of two bytes, the first byte.
 #[inline(always)]
 fn lead_bytes(v: u8x16) -> u8x16
     ensures { result ≡ map lead_byte v }
@@ -95,7 +95,7 @@ fn lead_bytes(v: u8x16) -> u8x16
     is_lower.select(u8x16::splat(0xc2), u8x16::splat(0xc3))
 }
 
-// The last bytes of the characters, or their only ones.
+// For each character, the last byte or the only one.
 #[inline(always)]
 fn last_bytes(v: u8x16) -> u8x16
     ensures { result ≡ map last_byte v }

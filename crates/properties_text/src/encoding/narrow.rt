@@ -1,4 +1,4 @@
-// Sixteen bytes of UTF-8 at once, whose characters are of Latin-1.
+// Converts sixteen bytes of UTF-8 to Latin-1 at a time.
 
 ghost use Rattle.std.specs.Prelude.{◌≡◌, ◌+◌, ◌≤◌, ◌++◌, ◌∷◌, length, take};
 ghost use Rattle.properties_text.specs.Latin1.{all_raised, narrowed, AreOfLatin1};
@@ -7,23 +7,23 @@ use super::latin_1::{is_ascii, tabled};
 use byte_blocks::{AtLeast, ByteClass, put_squeezed};
 use std::simd::prelude::*;
 
-// The first bytes of characters past ASCII.
+// The first bytes of characters that aren't ASCII.
 type Leads = AtLeast<0xc0>;
 
-// The first bytes of characters past Latin-1.
+// The first bytes of characters above U+00FF.
 type Beyond = AtLeast<0xc4>;
 
-/// Bytes of UTF-8 whose characters were written as bytes.
+/// The result of converting bytes of UTF-8.
 #[derive(Clone, Copy)]
 pub struct Narrowed {
-    /// How many bytes of UTF-8 they are. The last may be the first of a character that was not written.
+    /// How many bytes were read. The last may be the first byte of a character that wasn't written.
     pub read: usize,
     /// How many bytes were written.
     pub written: usize,
 }
 
-/// Writes the characters of the first `count` bytes from this place on, one byte each, as far as they are of Latin-1 and
-/// none from U+0080 to U+009F. Up to sixteen bytes may be written over.
+/// Writes the characters of the first `count` bytes at index `at`, one byte each. Stops at a character that isn't in
+/// Latin-1, or is one of U+0080 to U+009F. May overwrite up to sixteen bytes.
 #[inline(always)]
 pub fn put_narrow(run: &mut [u8], at: usize, v: u8x16, count: usize) -> Narrowed
     requires room { at + 16 ≤ length run.old }
@@ -51,7 +51,7 @@ pub fn put_narrow(run: &mut [u8], at: usize, v: u8x16, count: usize) -> Narrowed
     }
 }
 
-// Each byte, with 0x40 added where it comes after C3, so that a character's last byte is its number.
+// Adds 0x40 to each byte that follows C3, so that a character's last byte is its code point.
 #[inline(always)]
 fn raised(v: u8x16) -> u8x16
     ensures { result ≡ all_raised 0 v }
@@ -60,7 +60,7 @@ fn raised(v: u8x16) -> u8x16
     v | is_after_c3.select(u8x16::splat(0x40), u8x16::splat(0))
 }
 
-// The byte before each.
+// For each byte, the byte before it.
 #[inline(always)]
 fn before(v: u8x16) -> u8x16
     ensures { result ≡ 0 ∷ take 15 v }

@@ -1,4 +1,4 @@
-// Characters of bytes.
+// Tests of decoding and encoding.
 
 use super::byte_order_mark::{ByteOrderMark, byte_order_mark};
 use super::decode::as_text;
@@ -14,7 +14,7 @@ fn decoded(alloc: Global, encoding: Encoding, bytes: &[u8]) -> Result<TextBuffer
     Ok(text)
 }
 
-// A text of several blocks of sixteen bytes, with characters of one to three bytes in UTF-8 in all of them.
+// A text of several blocks of sixteen bytes, each with characters of one to three bytes in UTF-8.
 const LONG: &str =
     "gr\u{fc}\u{df}e aus dem Norden, \u{201e}30\u{a0}\u{20ac}\u{201c} und 3\u{d7}4 \u{b5}m \u{2013} caf\u{e9} ol\u{e9}, abc";
 
@@ -54,11 +54,11 @@ fn encodes_up_to_what_lacks_a_byte(rt: HostRuntime) {
     let encoded = encode_run(&mut run, "sixteen bytes \u{e9}\u{3042}\u{e9}");
     assert_eq!(rt; &run[..encoded.length], b"sixteen bytes \xe9".as_slice());
     assert_eq!(rt; encoded.rest, "\u{3042}\u{e9}");
-    // And while there is room for sixteen bytes.
+    // Encoding stops when fewer than sixteen bytes of room are left.
     let encoded = encode_run(&mut run, "\u{e9} and more than there is room for");
     assert_eq!(rt; &run[..encoded.length], b"\xe9 and more than".as_slice());
     assert_eq!(rt; encoded.rest, " there is room for");
-    // Characters that go on after a sixteenth byte, and one of the table.
+    // A character that crosses the end of a block, and one from the table.
     let mut run = [0; 64];
     let encoded = encode_run(
         &mut run,
@@ -109,7 +109,7 @@ fn keeps_texts(rt: HostRuntime) -> Result<(), Fail> {
     Ok(())
 }
 
-// A text of several runs.
+// A text that takes several runs.
 #[test]
 fn keeps_long_texts(rt: HostRuntime) -> Result<(), Fail> {
     let mut wanted = String::new(rt.alloc());

@@ -1,4 +1,4 @@
-// The buffer that lines are decoded to.
+// The buffer into which lines are decoded.
 
 ghost use Rattle.std.specs.Prelude.{◌≡◌, ◌≤◌, ◌<◌, ◌++◌, List, ℕ, [], length, take, IfOk, OnOk, OnErr};
 ghost use Rattle.std.specs.Str.{chars, IsUtf8, IsCharBoundary};
@@ -10,10 +10,10 @@ use crate::line_buffer::{LineBuffer, make_room};
 use std::alloc::{AllocError, Global};
 use std::marker::Model;
 
-// How much room a run of decoded text has, at least.
+// The least room that a run of decoded text has, in bytes.
 const RUN: usize = 256;
 
-/// A text that was decoded. Its memory is kept for the next one.
+/// A buffer of decoded text. Clearing it keeps its memory for the next text.
 ///
 /// ```text
 /// let mut text = TextBuffer::new(alloc);
@@ -23,7 +23,7 @@ const RUN: usize = 256;
 /// ```
 #[derive(Drop)]
 pub struct TextBuffer {
-    // The bytes of the text, which is decoded in its place.
+    // The bytes of the text. Bytes are decoded straight into this buffer.
     line: LineBuffer,
 }
 
@@ -36,7 +36,7 @@ impl Model for TextBuffer {
 }
 
 impl TextBuffer {
-    /// No text. It takes no memory yet.
+    /// Returns an empty buffer. Allocates nothing.
     pub fn new(alloc: Global) -> TextBuffer
         ensures { result ≡ [] }
     {
@@ -45,22 +45,22 @@ impl TextBuffer {
         }
     }
 
-    /// Forgets the text.
+    /// Makes the text empty, and keeps the memory.
     pub fn clear(&mut self)
         ensures { self.new ≡ [] }
     {
         self.line.clear();
     }
 
-    /// The text.
+    /// Returns the text.
     pub fn as_str(&self) -> &str
         ensures { result.now ≡ self.now }
     {
-        // SAFETY: the bytes that are filled are text.
+        // SAFETY: the filled bytes are valid UTF-8.
         unsafe { str::from_utf8_unchecked(self.line.as_slice()) }
     }
 
-    /// Keeps so many bytes of the text, which end at a character's end.
+    /// Keeps the first `length` bytes of the text. They must end at the end of a character.
     pub fn truncate(&mut self, length: usize)
         requires { IsCharBoundary self.old length }
         ensures { self.new ≡ take length self.old }
@@ -68,7 +68,7 @@ impl TextBuffer {
         self.line.truncate(length);
     }
 
-    /// Appends a text, or nothing where memory runs out.
+    /// Appends a text. Fails if memory runs out, and then appends nothing.
     #[inline]
     pub fn push_text(&mut self, more: &str) -> Result<(), AllocError>
         ensures appended { OnOk result (chars self.new ≡ chars self.old ++ chars more.now) }
@@ -79,7 +79,8 @@ impl TextBuffer {
         Ok(())
     }
 
-    /// Appends the text of some bytes. Where memory runs out, a beginning of it may have been appended.
+    /// Decodes bytes and appends their text. Fails if memory runs out, and then may have appended the beginning of the
+    /// text.
     #[inline(never)]
     pub fn push_decoded(&mut self, encoding: Encoding, bytes: &[u8]) -> Result<(), AllocError>
         ensures appended { OnOk result (chars self.new ≡ chars self.old ++ text_of encoding bytes.now) }
@@ -93,7 +94,8 @@ impl TextBuffer {
         Ok(())
     }
 
-    // Appends what stands as text at the front of UTF-8, and returns what is after it. In other encodings nothing does.
+    // Appends the longest front of UTF-8 bytes that is valid text, and returns the bytes after it. In other encodings,
+    // appends nothing.
     #[inline(always)]
     fn push_front<'a>(
         &mut self,
@@ -116,7 +118,7 @@ impl TextBuffer {
         }
     }
 
-    // Appends the text of a run of bytes, and returns those after it.
+    // Decodes one run of bytes and appends its text. Returns the bytes after it.
     #[inline(always)]
     fn push_run<'a>(&mut self, encoding: Encoding, bytes: &'a [u8]) -> Result<&'a [u8], AllocError>
         ensures text { IfOk result (λ rest.

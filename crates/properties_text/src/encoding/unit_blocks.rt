@@ -1,4 +1,4 @@
-// Units of two bytes, eight and sixteen at once.
+// UTF-16 units, decoded eight or sixteen at a time.
 
 ghost use Rattle.std.specs.Prelude.{◌≡◌, ◌+◌, ◌≤◌, ◌++◌, length};
 ghost use Rattle.properties_text.specs.Decoding.{units_of, lows_of, highs_of, PutsLatin1};
@@ -8,33 +8,34 @@ use super::utf_16::ByteOrder;
 use byte_blocks::{AtLeast, ByteClass};
 use std::simd::prelude::*;
 
-// The high bytes of units that are no characters of Latin-1.
+// The high bytes of units that aren't characters of Latin-1.
 type PastLatin1 = AtLeast<1>;
 
-/// Units that were written as text.
+/// The result of decoding units.
 #[derive(Clone, Copy)]
 pub struct Written {
-    /// How many units they are.
+    /// How many units were decoded.
     pub units: usize,
-    /// The place after their text.
+    /// The index after their text.
     pub end: usize,
 }
 
-/// Writes the text of the first `most` units from this place on, as far as they are characters of Latin-1.
+/// Decodes at most `most` of the eight units and writes their text at index `at`. Stops at a unit that isn't a
+/// character of Latin-1. May overwrite up to 16 bytes.
 #[inline(always)]
 pub fn put_latin_1(run: &mut [u8], at: usize, order: ByteOrder, v: u8x16, most: usize) -> Written
     requires room { at + 16 ≤ length run.old }
     requires most { most ≤ 8 }
     ensures { PutsLatin1 (units_of order v) most run.old at run.new result }
 {
-    // Both halves are these units.
+    // Both halves get the same units.
     let halves = split_units(order, v, v);
     let count = PastLatin1::marks(halves.highs).front_of(most);
     let end = put_half(run, at, halves.lows, count);
     Written { units: count, end }
 }
 
-/// Writes sixteen units as [`put_latin_1`] does eight, and up to 32 bytes.
+/// Like [`put_latin_1`] for sixteen units. May overwrite up to 32 bytes.
 #[inline(always)]
 pub fn put_sixteen(
     run: &mut [u8],
@@ -54,7 +55,7 @@ pub fn put_sixteen(
     Written { units: count, end }
 }
 
-// The bytes of units, the low ones and the high ones by themselves.
+// The low bytes of units, and their high bytes.
 #[derive(Clone, Copy)]
 struct Halves {
     lows: u8x16,

@@ -1,4 +1,4 @@
-// Units of two bytes, of which surrogates stand for a character in pairs.
+// UTF-16: units of two bytes. A high and a low surrogate together encode one character.
 
 ghost use Rattle.std.specs.Prelude.{◌≡◌, ℕ, ◌∷◌, true};
 ghost use Rattle.properties_format.specs.Surrogates.{is_high, is_low, pair_character};
@@ -8,7 +8,7 @@ ghost use Rattle.properties_text.specs.Decoding.{ShowsPiece, unit_of};
 
 use super::first_piece::FirstPiece;
 
-/// In which order the two bytes of a unit stand.
+/// Which byte of a unit comes first.
 #[derive(Clone, Copy, Debug, PartialEq, Eq)]
 pub enum ByteOrder {
     LowFirst,
@@ -16,7 +16,7 @@ pub enum ByteOrder {
 }
 
 impl ByteOrder {
-    /// The unit of two bytes.
+    /// Returns the unit that two bytes make.
     pub fn unit(self, first: u8, second: u8) -> u16
         ensures { result ≡ unit_of self first second }
     {
@@ -28,7 +28,7 @@ impl ByteOrder {
     }
 }
 
-/// The first piece of a first byte and those after it.
+/// Returns the first piece of the bytes `first` and then the rest.
 #[inline]
 pub fn first_piece(order: ByteOrder, first: u8, rest: &[u8]) -> FirstPiece
     ensures { let unit = unit_of order in
@@ -45,7 +45,7 @@ pub fn first_piece(order: ByteOrder, first: u8, rest: &[u8]) -> FirstPiece
     }
 }
 
-// The piece of a high unit and what is after it.
+// The piece that begins with a high surrogate, given the bytes after it.
 fn high_piece(order: ByteOrder, high: u16, after: &[u8]) -> FirstPiece
     requires { is_high high ≡ true }
     ensures { (a b : ℕ) → let unit = unit_of order in unit a b ≡ high
@@ -61,7 +61,7 @@ fn high_piece(order: ByteOrder, high: u16, after: &[u8]) -> FirstPiece
     }
 }
 
-// The character of a high unit and a low one.
+// The character of a high and a low surrogate.
 fn pair_character(high: u16, low: u16) -> u32
     requires high { is_high high ≡ true }
     requires low { is_low low ≡ true }

@@ -1,4 +1,4 @@
-// Sequences of one to four bytes, which the first byte says.
+// UTF-8: sequences of one to four bytes. The first byte determines the length.
 
 ghost use Rattle.std.specs.Prelude.{◌≡◌, ◌++◌, ◌+◌, ◌*◌, ◌%◌, ◌^◌, ◌<◌, ◌≤◌, ◌∷◌, map, length, Some, None, IsSome, IfSome, ◌↔◌, MatchOption};
 ghost use Rattle.std.specs.Str.{IsUtf8};
@@ -9,7 +9,7 @@ ghost use Rattle.properties_text.specs.Decoding.{IsFirstPiece, range_of};
 
 use super::first_piece::FirstPiece;
 
-// The bytes from the first to the second.
+// A range of bytes, both ends included.
 #[derive(Clone, Copy)]
 struct ByteRange(u8, u8);
 
@@ -22,10 +22,10 @@ impl ByteRange {
     }
 }
 
-// What most bytes after the first are.
+// Most bytes after the first are in this range.
 const TAIL: ByteRange = ByteRange(0x80, 0xbf);
 
-// What the byte after one of these first bytes is.
+// The ranges for the byte after these first bytes.
 const AFTER_E0: ByteRange = ByteRange(0xa0, 0xbf);
 
 const AFTER_ED: ByteRange = ByteRange(0x80, 0x9f);
@@ -34,7 +34,7 @@ const AFTER_F0: ByteRange = ByteRange(0x90, 0xbf);
 
 const AFTER_F4: ByteRange = ByteRange(0x80, 0x8f);
 
-// The ranges of the bytes after a first byte, where it begins a sequence.
+// The ranges of the bytes after a first byte, or `None` if it begins no sequence.
 fn ranges_after(first: u8) -> Option<&'static [ByteRange]>
     ensures { MatchOption result
         (ranges_after well_formed_rows first ≡ None)
@@ -93,7 +93,7 @@ fn with_tail(bits: u32, tail: u8) -> u32
     bits * 0x40 + u32::from(tail % 0x40)
 }
 
-/// The first piece of a first byte and those after it.
+/// Returns the first piece of the bytes `first` and then `rest`.
 pub fn first_piece(first: u8, rest: &[u8]) -> FirstPiece
     ensures { IsFirstPiece utf_8 first rest.now result }
 {
@@ -108,7 +108,7 @@ pub fn first_piece(first: u8, rest: &[u8]) -> FirstPiece
     }
 }
 
-/// The bytes, where they are well-formed from the first to the last.
+/// Returns the bytes as text if all of them are well-formed; otherwise `None`.
 #[inline]
 pub fn as_text(bytes: &[u8]) -> Option<&str>
     ensures exactly { IsSome result ↔ IsWellFormedText bytes.now }
@@ -117,7 +117,7 @@ pub fn as_text(bytes: &[u8]) -> Option<&str>
     str::from_utf8(bytes).ok()
 }
 
-/// The longest front that is well-formed, and what is after it.
+/// Returns the longest well-formed front, and the bytes after it.
 pub fn text_front(bytes: &[u8]) -> (&str, &[u8])
     ensures whole { bytes.now ≡ result.0.now ++ result.1.now }
     ensures text { IsUtf8 result.0.now }

@@ -1,4 +1,4 @@
-// One byte a character.
+// windows-1252: one byte per character.
 
 ghost use Rattle.std.specs.Prelude.{◌≡◌, ◌↔◌, IfSome, IsSome, is_some};
 ghost use Rattle.std.specs.Str.{IsAscii};
@@ -18,7 +18,7 @@ const HIGH: [char; 32] = [
     '\u{2dc}', '\u{2122}', '\u{161}', '\u{203a}', '\u{153}', '\u{9d}', '\u{17e}', '\u{178}',
 ];
 
-/// The character of a byte.
+/// Returns the character of a byte.
 #[inline]
 pub fn character_of(byte: u8) -> char
     ensures { result ≡ windows_1252_character byte }
@@ -29,7 +29,7 @@ pub fn character_of(byte: u8) -> char
     }
 }
 
-/// The character of a byte in UTF-8: bytes that begin with it, and how many it has.
+/// Returns the UTF-8 bytes of a byte's character, and how many there are.
 #[inline(always)]
 pub fn text_of_byte(byte: u8) -> ByteText
     ensures { IsTextOfByte byte result }
@@ -44,13 +44,13 @@ pub fn text_of_byte(byte: u8) -> ByteText
 /// The character of a byte in UTF-8.
 #[derive(Clone, Copy)]
 pub struct ByteText {
-    /// Its bytes, and others after them.
+    /// The character's bytes, padded with others.
     pub bytes: [u8; 4],
-    /// How many it has.
+    /// The number of bytes in the character.
     pub length: usize,
 }
 
-/// The bytes, where they are ASCII, which is UTF-8 as it stands.
+/// Returns the bytes as text if all of them are ASCII, which is also UTF-8; otherwise `None`.
 #[inline(always)]
 pub fn as_text(bytes: &[u8]) -> Option<&str>
     ensures exactly { IsSome result ↔ IsAscii bytes.now }
@@ -63,7 +63,8 @@ pub fn as_text(bytes: &[u8]) -> Option<&str>
     }
 }
 
-/// Whether a character has a byte. Of letters of other scripts that is known without a look at each.
+/// Returns whether a character has a byte. For the characters of most other scripts, comparing code points decides it,
+/// without a search in the table.
 #[inline(always)]
 pub fn has_byte(character: char) -> bool
     ensures { result ≡ is_some (windows_1252_byte character) }
@@ -74,7 +75,7 @@ pub fn has_byte(character: char) -> bool
     }
 }
 
-/// The byte of a character, where there is one.
+/// Returns the byte of a character, or `None` if it has none.
 #[inline]
 pub fn byte_of(character: char) -> Option<u8>
     ensures { result ≡ windows_1252_byte character }

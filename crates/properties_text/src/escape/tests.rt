@@ -1,4 +1,4 @@
-// What escapes stand for.
+// Tests of resolving escapes.
 
 use super::*;
 use std::test::Fail;
@@ -63,7 +63,7 @@ fn resolves_escapes(rt: HostRuntime) -> Result<(), Fail> {
     Ok(())
 }
 
-// More than are put together at once.
+// More characters than are collected at once.
 #[test]
 fn resolves_many_escapes(rt: HostRuntime) -> Result<(), Fail> {
     let alloc = rt.alloc();

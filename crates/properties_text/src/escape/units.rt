@@ -1,4 +1,4 @@
-// Escapes that write a character by themselves, by their bytes.
+// Resolves escapes of one character each, byte by byte.
 
 ghost use Rattle.std.specs.Prelude.{◌≡◌, ◌∷◌, ◌+◌, ◌<◌, ◌≤◌, ◌==◌, List, ℕ, ◌&&◌, ◌||◌, nat_lt, true, false, slice_index, length, take, IfSome, Some, None, Ok, if◌then◌else◌};
 ghost use Rattle.std.specs.Char.{IsScalar};
@@ -11,10 +11,10 @@ ghost use Rattle.properties_text.specs.Escaping.{Resolves, IsUnit, digit_value, 
 use super::{CodeUnit, Escape, read_low_surrogate};
 use crate::encoding::put_character;
 
-// More than four digits write.
+// A value that no four digits have.
 const NONE: u32 = 0x1_0000;
 
-// What each byte counts as a hexadecimal digit.
+// The value of each byte as a hexadecimal digit, or `NONE` if it isn't one.
 static DIGITS: [u32; 256] = [
     NONE, NONE, NONE, NONE, NONE, NONE, NONE, NONE, NONE, NONE, NONE, NONE, NONE, NONE, NONE, NONE,
     NONE, NONE, NONE, NONE, NONE, NONE, NONE, NONE, NONE, NONE, NONE, NONE, NONE, NONE, NONE, NONE,
@@ -34,17 +34,18 @@ static DIGITS: [u32; 256] = [
     NONE, NONE, NONE, NONE, NONE, NONE, NONE,
 ];
 
-/// What escapes at the front of a text stand for.
+/// The result of resolving escapes at the front of a text.
 #[derive(Clone, Copy)]
 pub struct Units<'a> {
-    /// The place where their characters end.
+    /// The index after the characters that were written.
     pub end: usize,
-    /// The text after them.
+    /// The text after the escapes.
     pub rest: &'a str,
 }
 
-/// Puts what the escapes at the front stand for into the run, with one or two characters of ASCII between them, as far as
-/// there is room. It stops before an escape of a character past ASCII, and before one that is malformed.
+/// Resolves escapes at the front and writes their characters to the run, together with the one or two ASCII characters
+/// that may separate them, as long as there is room. Stops before other text, before a backslash with a non-ASCII
+/// character or nothing after it, and before a malformed escape.
 #[inline(always)]
 pub fn put_units<'a>(run: &mut [u8], text: &'a str) -> Units<'a>
     ensures same_room { length run.new ≡ length run.old }
@@ -67,7 +68,8 @@ pub fn put_units<'a>(run: &mut [u8], text: &'a str) -> Units<'a>
     Units { end, rest }
 }
 
-/// Whether escapes may stand side by side, where one stands first: it is of digits, or a backslash comes right after it.
+/// Returns whether a text that begins with an escape may have another right after it: the first is a `\u`, or a
+/// backslash follows it.
 #[inline(always)]
 pub fn is_run(escapes: &[u8]) -> bool
     ensures { let bytes = escapes.now in
@@ -76,7 +78,7 @@ pub fn is_run(escapes: &[u8]) -> bool
     escapes.len() > 2 && (escapes[1] == b'u' || escapes[2] == b'\\')
 }
 
-// What the text begins with: an escape that writes a character, or a character between two escapes.
+// The first character: that of an escape, or a character between two escapes.
 #[inline(always)]
 fn first_character(text: &str) -> Option<Escape<'_>>
     ensures meaning { IfSome result (λ escape. Resolves (chars text.now) (Ok escape)) }
@@ -90,7 +92,7 @@ fn first_character(text: &str) -> Option<Escape<'_>>
     }
 }
 
-// A character of ASCII between two escapes, or one of two.
+// An ASCII character between two escapes, if at most two are there.
 #[inline(always)]
 fn first_between(text: &str) -> Option<Escape<'_>>
     ensures meaning { IfSome result (λ escape. Resolves (chars text.now) (Ok escape)) }
@@ -107,7 +109,7 @@ fn first_between(text: &str) -> Option<Escape<'_>>
     })
 }
 
-// Whether one or two characters of ASCII stand before a backslash, as the blank between two words of escapes.
+// Whether one or two ASCII characters precede a backslash, such as the blank between two words of escapes.
 #[inline(always)]
 fn is_between(bytes: &[u8]) -> bool
     ensures some { result ≡ true → 0 < length bytes.now }
@@ -120,7 +122,7 @@ fn is_between(bytes: &[u8]) -> bool
         && (bytes[1] == b'\\' || bytes[2] == b'\\')
 }
 
-// The escape of digits that the text begins with, or two where they are surrogates.
+// The character of the `\u` escape at the front, or of two such escapes if they are surrogates.
 #[inline(always)]
 fn first_unit(text: &str) -> Option<Escape<'_>>
     ensures meaning { IfSome result (λ escape. Resolves (chars text.now) (Ok escape)) }
@@ -139,8 +141,8 @@ fn first_unit(text: &str) -> Option<Escape<'_>>
     }
 }
 
-// The escapes of two surrogates, of which the first was read. It stands apart, so that room for the answer of the call is
-// cleared for surrogates alone.
+// The character of two surrogates, of which the first was read. A function of its own, so that only surrogates pay for
+// clearing the call's result.
 #[inline(always)]
 fn first_pair(high: u32, rest: &str) -> Option<Escape<'_>>
     requires low { 0xd800 ≤ high }
@@ -156,7 +158,7 @@ fn first_pair(high: u32, rest: &str) -> Option<Escape<'_>>
     }
 }
 
-// The escape that the text begins with, where it is one character of ASCII.
+// The character of the escape at the front, if it is a backslash and one ASCII character.
 #[inline(always)]
 fn first_letter(text: &str) -> Option<Escape<'_>>
     ensures meaning { IfSome result (λ escape. Resolves (chars text.now) (Ok escape)) }
@@ -168,31 +170,30 @@ fn first_letter(text: &str) -> Option<Escape<'_>>
         return None;
     }
     Some(Escape {
-        character: escaped_character(bytes[1]),
+        character: char::from(escaped_byte(bytes[1])),
         rest: &text[2..],
     })
 }
 
-// What a character of ASCII stands for after a backslash, if it is no `u`.
+// The character that a backslash and this ASCII character mean, if the latter isn't `u`.
 #[inline(always)]
-fn escaped_character(byte: u8) -> char
-    requires { byte < 0x80 }
+pub fn escaped_byte(byte: u8) -> u8
     ensures { result ≡ escaped_character byte }
 {
-    // Most are signs, which come before the letters.
+    // Most are punctuation, which sorts before these letters.
     if byte < b'f' {
-        return char::from(byte);
+        return byte;
     }
     match byte {
-        b't' => '\t',
-        b'n' => '\n',
-        b'f' => '\x0c',
-        b'r' => '\r',
-        other => char::from(other),
+        b't' => b'\t',
+        b'n' => b'\n',
+        b'f' => b'\x0c',
+        b'r' => b'\r',
+        other => other,
     }
 }
 
-/// What the text begins with, where it is four hexadecimal digits.
+/// Returns the value of the four hexadecimal digits at the front, if there are four.
 #[inline(always)]
 pub fn first_digits(text: &str) -> Option<CodeUnit<'_>>
     ensures digits { IfSome result (λ unit. IsUnit (chars text.now) unit.value (chars unit.rest.now)) }
@@ -209,9 +210,9 @@ pub fn first_digits(text: &str) -> Option<CodeUnit<'_>>
     })
 }
 
-// What four bytes write, where all are hexadecimal digits.
+// The value of four bytes, if all are hexadecimal digits.
 #[inline(always)]
-fn value_of(first: u8, second: u8, third: u8, fourth: u8) -> Option<u32>
+pub fn value_of(first: u8, second: u8, third: u8, fourth: u8) -> Option<u32>
     ensures { let four = four_bytes first second third fourth in
         result ≡ (if are_hexadecimal four then Some (code_unit four) else None) }
 {

@@ -1,4 +1,4 @@
-// Where the parts of a line stand.
+// Tests of the positions of a line's parts.
 
 use super::*;
 

@@ -1,4 +1,4 @@
-// Bytes as they are printed in a key or a value, by vectors and by tables.
+// Prints the bytes of a key or a value, with vectors and tables.
 
 ghost use Rattle.std.specs.Prelude.{◌≡◌, ◌+◌, ◌*◌, ◌<◌, ◌≤◌, ◌++◌, length, take, IfOk, OnOk};
 ghost use Rattle.properties_text.specs.Printing.{AppendsOnOk, ArePrinted, spelt_byte, spelt_bytes, backslashes_before, last_of};
@@ -8,18 +8,20 @@ use crate::line_buffer::{LineBuffer, make_room};
 use byte_blocks::{ByteClass, Controls, ends};
 use std::alloc::AllocError;
 use std::simd::prelude::*;
-use vectors::{put_16, put_ends};
+use vectors::put_ends;
 
 mod vectors;
+
+pub use vectors::put_16;
 
 // How many bytes are printed at once.
 const STEP: usize = 64;
 
-// Fewer bytes are printed one by one, since no vector holds them.
+// Fewer bytes than this are printed one by one, because they don't fill a vector.
 const FEW: usize = 8;
 
-// How many backslashes are printed before the last byte of what is printed for a byte, or 2 where that is a longer
-// escape.
+// For each byte, the number of backslashes before the last byte that is printed for it, or 2 if a longer escape is
+// printed.
 const BEFORE: [u8; 256] = [
     2, 2, 2, 2, 2, 2, 2, 2, 2, 1, 1, 2, 1, 1, 2, 2, 2, 2, 2, 2, 2, 2, 2, 2, 2, 2, 2, 2, 2, 2, 2, 2,
     1, 1, 0, 1, 0, 0, 0, 0, 0, 0, 0, 0, 0, 0, 0, 0, 0, 0, 0, 0, 0, 0, 0, 0, 0, 0, 1, 0, 0, 1, 0, 0,
@@ -31,7 +33,7 @@ const BEFORE: [u8; 256] = [
     0, 0, 0, 0, 0, 0, 0, 0, 0, 0, 0, 0, 0, 0, 0, 0, 0, 0, 0, 0, 0, 0, 0, 0, 0, 0, 0, 0, 0, 0, 0, 0,
 ];
 
-// The last byte of what is printed for a byte, where that is no longer escape.
+// For each byte, the last byte that is printed for it, unless a longer escape is printed.
 const LAST: [u8; 256] = [
     0, 1, 2, 3, 4, 5, 6, 7, 8, 116, 110, 11, 102, 114, 14, 15, 16, 17, 18, 19, 20, 21, 22, 23, 24,
     25, 26, 27, 28, 29, 30, 31, 32, 33, 34, 35, 36, 37, 38, 39, 40, 41, 42, 43, 44, 45, 46, 47, 48,
@@ -48,7 +50,7 @@ const LAST: [u8; 256] = [
     249, 250, 251, 252, 253, 254, 255,
 ];
 
-/// Prints bytes as they stand, but for those that are escaped. Bytes past ASCII stand as they are.
+/// Prints bytes, and escapes those that have to be. Bytes above ASCII are copied.
 #[inline(never)]
 pub fn print_bytes(line: &mut LineBuffer, bytes: &[u8]) -> Result<(), AllocError>
     ensures { AppendsOnOk line.old (spelt_bytes bytes.now) result line.new }
@@ -63,7 +65,7 @@ pub fn print_bytes(line: &mut LineBuffer, bytes: &[u8]) -> Result<(), AllocError
     print_rest(line, &bytes[read..])
 }
 
-// The same of more bytes. It stands apart, so that the way of few stays short.
+// Prints more than a few bytes. Kept out of line so that the path for few bytes stays short.
 #[inline(never)]
 fn print_many(line: &mut LineBuffer, bytes: &[u8]) -> Result<(), AllocError>
     ensures { AppendsOnOk line.old (spelt_bytes bytes.now) result line.new }
@@ -75,8 +77,8 @@ fn print_many(line: &mut LineBuffer, bytes: &[u8]) -> Result<(), AllocError>
     print_rest(line, &bytes[read..])
 }
 
-// Prints bytes up to one that takes a longer escape, or none where there is too little room, and returns how many. It
-// calls nothing, so that most texts cost little.
+// Prints bytes up to one that takes a longer escape, or none if there is too little room. Returns how many. Calls
+// nothing, so that most texts are cheap.
 #[inline(always)]
 fn print_in_room(line: &mut LineBuffer, bytes: &[u8]) -> usize
     requires { length bytes.now ≤ 64 }
@@ -91,7 +93,7 @@ fn print_in_room(line: &mut LineBuffer, bytes: &[u8]) -> usize
     printed.read
 }
 
-// Prints what is left of a text, which is long, or has bytes that take a longer escape, or found too little room.
+// Prints the rest of a text that is long, has bytes that take a longer escape, or found too little room.
 #[inline(never)]
 fn print_rest(line: &mut LineBuffer, bytes: &[u8]) -> Result<(), AllocError>
     ensures { AppendsOnOk line.old (spelt_bytes bytes.now) result line.new }
@@ -109,7 +111,7 @@ fn print_rest(line: &mut LineBuffer, bytes: &[u8]) -> Result<(), AllocError>
     Ok(())
 }
 
-// Prints bytes up to one that takes a longer escape, and returns how many.
+// Prints bytes up to one that takes a longer escape. Returns how many.
 #[inline(always)]
 fn print_short(line: &mut LineBuffer, bytes: &[u8]) -> Result<usize, AllocError>
     ensures within { IfOk result (λ read. read ≤ length bytes.now) }
@@ -121,14 +123,17 @@ fn print_short(line: &mut LineBuffer, bytes: &[u8]) -> Result<usize, AllocError>
     Ok(printed.read)
 }
 
-// How many bytes were printed, and to how many.
+// How many bytes were read, and how many were written for them.
 #[derive(Clone, Copy)]
-struct Printed {
-    read: usize,
-    written: usize,
+pub struct Printed {
+    /// How many bytes were read.
+    pub read: usize,
+    /// How many were written.
+    pub written: usize,
 }
 
-const NOTHING: Printed = Printed {
+/// None were printed.
+pub const NOTHING: Printed = Printed {
     read: 0,
     written: 0,
 };
@@ -163,8 +168,8 @@ fn put(out: &mut [u8], bytes: &[u8]) -> Printed
     put_singly(out, bytes, more)
 }
 
-// Prints the odd bytes at the front, so that blocks of sixteen are left, and eight to fifteen bytes all at once. Where
-// a control character is near, it prints none.
+// Prints a first block that may be shorter, so that whole blocks of sixteen are left, or eight to fifteen bytes all at
+// once. Prints nothing if a control character is near.
 #[inline(always)]
 fn put_first(out: &mut [u8], bytes: &[u8]) -> Printed
     requires room { 2 * length bytes.now ≤ length out.old }
@@ -192,7 +197,7 @@ fn put_first(out: &mut [u8], bytes: &[u8]) -> Printed
     NOTHING
 }
 
-// Goes on by blocks of sixteen, as far as no byte takes a longer escape.
+// Continues in blocks of sixteen, as long as no byte takes a longer escape.
 #[inline(always)]
 fn put_blocks(out: &mut [u8], bytes: &[u8], so_far: Printed) -> Printed
     requires room { 2 * length bytes.now ≤ length out.old }
@@ -219,7 +224,7 @@ fn put_blocks(out: &mut [u8], bytes: &[u8], so_far: Printed) -> Printed
     Printed { read, written: at }
 }
 
-// Goes on in a block that has a control character: up to it, and past it unless it takes a longer escape.
+// Continues in a block with a control character: up to that character, and past it unless it takes a longer escape.
 #[inline(always)]
 fn put_control(out: &mut [u8], bytes: &[u8], so_far: Printed) -> Printed
     requires room { 2 * length bytes.now ≤ length out.old }
@@ -242,7 +247,7 @@ fn put_control(out: &mut [u8], bytes: &[u8], so_far: Printed) -> Printed
     }
 }
 
-// Goes on byte by byte, up to one that takes a longer escape.
+// Continues byte by byte, up to one that takes a longer escape.
 #[inline(always)]
 fn put_singly(out: &mut [u8], bytes: &[u8], so_far: Printed) -> Printed
     requires room { 2 * length bytes.now ≤ length out.old }
@@ -263,7 +268,7 @@ fn put_singly(out: &mut [u8], bytes: &[u8], so_far: Printed) -> Printed
     Printed { read, written: at }
 }
 
-/// Prints a byte from this place on, and returns the place after it. There is no branch.
+/// Prints a byte at index `at`, and returns the index after it. Has no branch.
 #[inline(always)]
 pub fn put_byte(out: &mut [u8], at: usize, byte: u8) -> usize
     requires room { at + 2 ≤ length out.old }
@@ -278,8 +283,8 @@ pub fn put_byte(out: &mut [u8], at: usize, byte: u8) -> usize
     last + 1
 }
 
-/// How many backslashes are printed before the last byte of what is printed for a byte, or 2 where that is a longer
-/// escape.
+/// Returns the number of backslashes before the last byte that is printed for a byte, or 2 if a longer escape is
+/// printed.
 #[inline(always)]
 pub fn backslashes_before(byte: u8) -> u8
     ensures { result ≡ backslashes_before byte }

@@ -1,10 +1,10 @@
-// Escapes by their digits, put into a buffer.
+// Writes `\u` escapes to a buffer.
 
 ghost use Rattle.std.specs.Prelude.{◌≡◌, ◌+◌, ◌/◌, ◌%◌, ◌<◌, ◌≤◌, ◌++◌, ◌∷◌, [], length, take};
 ghost use Rattle.std.specs.Char.{digit_char};
 ghost use Rattle.properties_format.specs.Printing.{unit_escape, unicode_escape};
 
-/// How many bytes an escape has at most: those of two surrogates.
+/// The longest escape in bytes: two surrogates.
 pub const LONGEST: usize = 12;
 
 // The two hexadecimal digits of each byte.
@@ -33,8 +33,8 @@ static DIGITS: [[u8; 2]; 256] = [
     *b"fc", *b"fd", *b"fe", *b"ff",
 ];
 
-/// Puts a character from this place on, as `\u` and four digits, or as two such escapes of a high and a low surrogate,
-/// and returns the place after it.
+/// Writes a character at index `at` as `\u` and four digits, or as two such escapes: a high and a low surrogate.
+/// Returns the index after it.
 #[inline(always)]
 pub fn put_escape(out: &mut [u8], at: usize, character: char) -> usize
     requires { at + 12 ≤ length out.old }
@@ -49,7 +49,7 @@ pub fn put_escape(out: &mut [u8], at: usize, character: char) -> usize
     put_surrogates(out, at, code)
 }
 
-// The two escapes of a character past U+FFFF. They stand apart, since they are rare.
+// Writes the two escapes of a character above U+FFFF. Kept out of line because such characters are rare.
 #[inline(never)]
 fn put_surrogates(out: &mut [u8], at: usize, code: u32) -> usize
     requires room { at + 12 ≤ length out.old }
@@ -64,8 +64,9 @@ fn put_surrogates(out: &mut [u8], at: usize, code: u32) -> usize
     put_unit(out, middle, 0xdc00 + above % 0x400)
 }
 
+/// Puts a UTF-16 unit from this place on, as `\u` and four digits, and returns the place after it.
 #[inline(always)]
-fn put_unit(out: &mut [u8], at: usize, unit: u32) -> usize
+pub fn put_unit(out: &mut [u8], at: usize, unit: u32) -> usize
     requires room { at + 6 ≤ length out.old }
     requires unit { unit < 0x10000 }
     ensures same_room { length out.new ≡ length out.old }
@@ -77,7 +78,7 @@ fn put_unit(out: &mut [u8], at: usize, unit: u32) -> usize
     put_two(out, last, digits_of((unit % 0x100) as u8))
 }
 
-// Puts two bytes from this place on, and returns the place after them.
+// Writes two bytes at index `at`, and returns the index after them.
 #[inline(always)]
 fn put_two(out: &mut [u8], at: usize, two: [u8; 2]) -> usize
     requires { at + 2 ≤ length out.old }

@@ -1,4 +1,4 @@
-// Characters that windows-1252 lacks, put into a buffer as escapes.
+// Writes characters that windows-1252 lacks to a buffer, as escapes.
 
 ghost use Rattle.std.specs.Prelude.{◌≡◌, ◌<◌, ◌≤◌, ◌++◌, ◌∷◌, true, false, slice_index, length, take, is_some, IfSome};
 ghost use Rattle.std.specs.Str.{IsUtf8, chars};
@@ -10,17 +10,17 @@ use super::bytes::{backslashes_before, put_byte};
 use super::escapes::{LONGEST, put_escape};
 use crate::encoding::has_byte;
 
-/// What was put of a text.
+/// The result of writing characters of a text.
 #[derive(Clone, Copy)]
 pub struct Put<'a> {
-    /// The place where it ends.
+    /// The index after what was written.
     pub end: usize,
-    /// The text that is left.
+    /// The rest of the text, which wasn't written.
     pub rest: &'a str,
 }
 
-/// Puts the characters at the front that windows-1252 lacks after the first `filled` bytes, with one or two of ASCII
-/// between them, as far as there is room.
+/// Writes the characters at the front that windows-1252 lacks after the first `filled` bytes, together with the one or
+/// two ASCII characters that may separate them, as long as there is room.
 #[inline(always)]
 pub fn put_lacking<'a>(out: &mut [u8], filled: usize, text: &'a str) -> Put<'a>
     requires { filled ≤ length out.old }
@@ -61,7 +61,7 @@ fn first_lacking(text: &str) -> Option<Lacking<'_>>
     ensures is_text { IfSome result (λ first. IsUtf8 first.rest.now) }
     ensures shorter { IfSome result (λ first. length first.rest.now < length text.now) }
 {
-    // A character of Latin-1 shows in its first byte.
+    // A first byte below 0xc4 means a character of Latin-1.
     if text.is_empty() || text.as_bytes()[0] < 0xc4 {
         return None;
     }
@@ -76,8 +76,8 @@ fn first_lacking(text: &str) -> Option<Lacking<'_>>
     })
 }
 
-// Whether one or two characters of ASCII stand before one past Latin-1, as the blank between two words, and the first
-// takes no long escape.
+// Whether one or two ASCII characters precede a character above Latin-1, such as the blank between two words, and the
+// first of them takes no longer escape.
 #[inline(always)]
 fn is_between(bytes: &[u8]) -> bool
     ensures some { result ≡ true → 0 < length bytes.now }

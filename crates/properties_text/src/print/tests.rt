@@ -1,4 +1,4 @@
-// Texts and the bytes that they are printed as.
+// Tests of texts and the bytes that are printed for them.
 
 use super::*;
 use std::alloc::Global;
@@ -9,7 +9,7 @@ const UTF_8: Repertoire = Repertoire {
     ascii_only: false,
 };
 
-// The bytes after others that stood there.
+// The bytes that are printed after bytes that were there before.
 fn printed(
     alloc: Global,
     repertoire: Repertoire,

@@ -1,16 +1,15 @@
 -- What a command gives for a source: a text to print and the exit status, or why it fails.
 use Rattle.std.specs.Prelude.{◌≡◌, ℕ, List, [], ◌∷◌, Result, Ok, Err, codes, string_bytes}
 use Rattle.std.specs.Option.{option_map}
-use Rattle.properties_format.specs.Edited.{Edit}
+use Rattle.properties_format.specs.Edits.{Edit}
 use Rattle.properties_format.specs.Encoding.{Encoding}
 use Rattle.properties_text.specs.Encoding.{encoding_of}
 use Rattle.java_properties.specs.Editing.{edits_in}
 use Rattle.java_properties.specs.Maps.{characters}
-use Rattle.java_properties.specs.declared.error.PropertiesError.{PropertiesError}
 use Rattle.properties_tools.specs.Propedit.Change.{Changes}
 use Rattle.properties_tools.specs.Propedit.Check.{IsReport}
+use Rattle.properties_tools.specs.Propedit.Failures.{LacksMemory}
 use Rattle.properties_tools.specs.Propedit.Get.{Gets}
-use Rattle.properties_tools.specs.Propedit.Lines.{LacksRoom}
 use Rattle.properties_tools.specs.Propedit.Listing.{Lists}
 use Rattle.properties_tools.specs.declared.propedit.answers.Answer.{Answer}
 use Rattle.properties_tools.specs.declared.propedit.asked.Command.{Command}
@@ -20,7 +19,6 @@ use Rattle.properties_tools.specs.declared.propedit.asked.Source.{Source}
 use Rattle.properties_tools.specs.declared.propedit.asked.Source.TheVariants.{StandardInput, File, InPlace}
 use Rattle.properties_tools.specs.declared.propedit.asked.Work.{Work}
 use Rattle.properties_tools.specs.declared.propedit.error.Failure.{Failure}
-use Rattle.properties_tools.specs.declared.propedit.error.Failure.TheVariants.{Input}
 
 -- the name of a source in messages
 abbrev pub name_of : Source → List ℕ
@@ -33,10 +31,10 @@ abbrev pub report_status : List ℕ → ℕ
 report_status [] = 0
 report_status (byte ∷ bytes) = 1
 
--- What checking gives: the report and its status; or there was no memory, or no number for a line.
+-- What checking gives: the report and its status; or memory ran out.
 abbrev pub Checks : List ℕ → Encoding → List ℕ → Result Answer Failure → Type 0
 Checks name e source (Ok answer) = IsReport name e source answer.text.items × (answer.status ≡ report_status answer.text.items)
-Checks name e source (Err failure) = (error : PropertiesError) × (failure ≡ Input error) × LacksRoom error
+Checks name e source (Err failure) = LacksMemory failure
 
 -- What edits give as an answer: the bytes after them, and the status 0.
 abbrev pub ChangesTo : Encoding → List ℕ → List Edit → Result Answer Failure → Type 0

@@ -3,7 +3,7 @@ use Rattle.std.specs.Prelude.{◌≡◌, ◌≢◌, ◌⊎◌, ℕ, List, [], �
 use Rattle.std.specs.Global.{Vec}
 use Rattle.std.specs.Option.{option_map}
 use Rattle.std.specs.Str.{chars}
-use Rattle.properties_format.specs.Edited.{Edit, put, remove}
+use Rattle.properties_format.specs.Edits as format
 use Rattle.properties_format.specs.Encoding.{Encoding, utf_8}
 use Rattle.properties_format.specs.Names.{name_of}
 use Rattle.java_properties.specs.declared.edit.Edit as editor
@@ -93,6 +93,11 @@ all_choices (choice ∷ choices) = with_choice choice (all_choices choices)
 
 -- ---- commands
 
+-- an edit that words ask for: a key to set and its value, or a key to remove
+pub data Edit : Type 0 where
+  put : List ℕ → List ℕ → Edit
+  remove : List ℕ → Edit
+
 -- the words of an edit
 abbrev pub edit_words : Edit → List (List ℕ)
 edit_words (put key value) = codes "set" ∷ (key ∷ (value ∷ []))
@@ -104,9 +109,9 @@ words_of [] = []
 words_of (edit ∷ edits) = edit_words edit ++ words_of edits
 
 -- the same edit, with characters for its texts
-abbrev pub in_characters : Edit → Edit
-in_characters (put key value) = put (chars key) (chars value)
-in_characters (remove key) = remove (chars key)
+abbrev pub in_characters : Edit → format.Edit
+in_characters (put key value) = format.put (chars key) (chars value)
+in_characters (remove key) = format.remove (chars key)
 
 -- What is done: the value of a key is printed, or a default; or the keys that begin with a prefix; or what is wrong; or
 -- edits are made.

@@ -3,7 +3,6 @@ use Rattle.std.specs.Prelude.{◌≡◌, ◌≢◌, ℕ, List, [], ◌∷◌, �
 use Rattle.std.specs.Borrow.{Bor}
 use Rattle.std.specs.Option.{option_map}
 use Rattle.std.specs.declared.string.String.{String}
-use Rattle.properties_format.specs.Edited.{Edit, put, remove}
 use Rattle.properties_format.specs.Encoding.{Encoding}
 use Rattle.properties_format.specs.Names.{name_of}
 use Rattle.properties_text.specs.Encoding.{encoding_of}
@@ -17,7 +16,9 @@ use Rattle.properties_tools.specs.declared.propedit.asked.commands.Question as q
 use Rattle.properties_tools.specs.declared.propedit.asked.commands.Question.TheVariants as Asked
 use Rattle.properties_tools.specs.declared.propedit.asked.edits.BorrowedEdit.{BorrowedEdit}
 use Rattle.properties_tools.specs.declared.propedit.asked.edits.BorrowedEdit.TheVariants as Borrowed
-use Rattle.properties_tools.specs.Propedit.Asked.{Source, standard_input, file, in_place, Choice, in_encoding, from_file, edits_file, with_default, with_zero, choice_words, words_of_choices, Kind, of_encoding, of_source, of_default, of_end, kind_of, AreApart, Choices, with_choice, all_choices, edit_words, words_of, Command, get, list, check, change, AreWordsOf, Suits, Work, Request, work_request, AsksWork, AsksAfter}
+use Rattle.properties_tools.specs.Propedit.Asked.{Source, standard_input, file, in_place, Choice, in_encoding, from_file, edits_file, with_default, with_zero, choice_words, words_of_choices}
+use Rattle.properties_tools.specs.Propedit.Asked.{Kind, of_encoding, of_source, of_default, of_end, kind_of, AreApart, Choices, with_choice, all_choices, Edit, put, remove}
+use Rattle.properties_tools.specs.Propedit.Asked.{edit_words, words_of, Command, get, list, check, change, AreWordsOf, Suits, Work, Request, work_request, AsksWork, AsksAfter}
 
 -- the bytes of a text that is borrowed
 abbrev pub borrowed_bytes : {Z : Type 0} → Bor (String Z) → List ℕ

@@ -1,7 +1,7 @@
 -- What edits give: the bytes of a source after them.
 use Rattle.std.specs.Prelude.{◌≡◌, ◌⊎◌, ℕ, List, Result, Ok, Err}
 use Rattle.std.specs.Global.{Vec}
-use Rattle.properties_format.specs.Edited.{Edit, IsEditAllResult}
+use Rattle.properties_format.specs.Edits.{Edit, IsEditAllResult}
 use Rattle.properties_format.specs.Encoding.{Encoding}
 use Rattle.java_properties.specs.Editing.{AreMade, IsRefusal}
 use Rattle.java_properties.specs.declared.error.PropertiesError.{PropertiesError}

@@ -6,12 +6,14 @@ use Rattle.properties_format.specs.Encoding.{Encoding}
 use Rattle.properties_format.specs.MalformedEscapes as format
 use Rattle.properties_format.specs.MalformedEscapes.{AreMalformedEscapes}
 use Rattle.properties_format.specs.Text.{line_feed}
+use Rattle.java_properties.specs.Errors.{IsBareError}
 use Rattle.java_properties.specs.KeyLines.{AreKeyLines, KeyEntry}
 use Rattle.java_properties.specs.MalformedEscapes.{told_escapes}
+use Rattle.java_properties.specs.declared.error.ErrorKind.TheVariants as kind
 use Rattle.java_properties.specs.declared.error.PropertiesError.{PropertiesError}
 use Rattle.java_properties.specs.declared.iter.malformed.MalformedEscape.{MalformedEscape}
 use Rattle.properties_tools.specs.Propedit.Failures.{escape_reason}
-use Rattle.properties_tools.specs.Propedit.Lines.{AreIllFormedLines, LacksRoom}
+use Rattle.properties_tools.specs.Propedit.Lines.{AreIllFormedLines}
 
 -- ---- lines
 
@@ -50,7 +52,7 @@ pub record IsReport (name : List ℕ) (e : Encoding) (source text : List ℕ) : 
   pub are_keys : AreKeyLines e source keys
   pub is : text ≡ ill_formed_lines name numbers ++ (escape_lines name (told_escapes escapes) ++ repeat_lines name keys)
 
--- What reporting returns.
+-- What reporting returns. It fails only if memory runs out.
 abbrev pub Reports : {Z : Type 0} → Encoding → List ℕ → List ℕ → Result (String Z) PropertiesError → Type 0
 Reports e name source (Ok text) = IsReport name e source (string_bytes text)
-Reports e name source (Err error) = LacksRoom error
+Reports e name source (Err error) = IsBareError kind.Memory error

@@ -4,9 +4,10 @@ use Rattle.std.specs.Option.{option_map}
 use Rattle.std.specs.declared.string.String.{String}
 use Rattle.properties_format.specs.Encoding.{Encoding}
 use Rattle.properties_format.specs.Maps.{HasValue}
+use Rattle.java_properties.specs.Errors.{IsBareError}
 use Rattle.java_properties.specs.Maps.{characters}
+use Rattle.java_properties.specs.declared.error.ErrorKind.TheVariants as kind
 use Rattle.java_properties.specs.declared.error.PropertiesError.{PropertiesError}
-use Rattle.properties_tools.specs.Propedit.Lines.{LacksRoom}
 use Rattle.properties_tools.specs.Propedit.Sources.{IsSound, IsUnsound}
 use Rattle.properties_tools.specs.Propedit.Texts.{ended}
 use Rattle.properties_tools.specs.declared.propedit.answers.Answer.{Answer}
@@ -35,7 +36,7 @@ abbrev pub Gets : Encoding → List ℕ → List ℕ → Option (List ℕ) → T
 Gets e source key default end (Ok answer) = GetsValue e source key default end answer
 Gets e source key default end (Err failure) = IsUnsound e source failure
 
--- What looking up a key returns. In a sound source it fails only for want of memory, or of a number for a line.
+-- What looking up a key returns. In a sound source it fails only if memory runs out.
 abbrev pub LooksUp : {Z : Type 0} → Encoding → List ℕ → List ℕ → Result (Option (String Z)) PropertiesError → Type 0
 LooksUp e source key (Ok found) = HasValue e source key (option_map characters found)
-LooksUp e source key (Err error) = IsSound e source → LacksRoom error
+LooksUp e source key (Err error) = IsSound e source → IsBareError kind.Memory error

@@ -25,7 +25,7 @@ pub record AreIllFormedIn (body : List ℕ) (numbers : List ℕ) : Type 0 where
   pub divided : IsLines body lines
   pub are : AreIllFormed (numbered_lines lines end) numbers
 
--- The same where this encoding is in force: there is none unless it is UTF-8.
+-- These are the numbers of the lines of a body in this encoding that are not well-formed UTF-8. Only a body in UTF-8 has such lines.
 abbrev pub AreIllFormedUnder : Encoding → List ℕ → List ℕ → Type 0
 AreIllFormedUnder windows_1252 body numbers = numbers ≡ []
 AreIllFormedUnder utf_8 body numbers = AreIllFormedIn body numbers
@@ -36,29 +36,27 @@ AreIllFormedUnder utf_16be body numbers = numbers ≡ []
 abbrev pub AreIllFormedLines : Encoding → List ℕ → List ℕ → Type 0
 AreIllFormedLines e source numbers = AreIllFormedUnder (byte_order_mark e source).encoding (byte_order_mark e source).body numbers
 
--- There was no memory, or no number for a line.
-abbrev pub LacksRoom : PropertiesError → Type 0
-LacksRoom error = IsBareError kind.Memory error ⊎ IsBareError kind.TooManyLines error
-
 -- ---- what finding them returns
 
--- They were found, and there are no others.
+-- These numbers were found, and there are no others.
 pub record HasIllFormed (e : Encoding) (source : List ℕ) (numbers : List ℕ) : Type 0 where
   pub are : AreIllFormedLines e source numbers
   pub only : (others : List ℕ) → AreIllFormedLines e source others → others ≡ numbers
 
+-- What finding them returns. It fails only if memory runs out.
 abbrev pub FindsIllFormed : Encoding → List ℕ → Result (Vec ℕ) PropertiesError → Type 0
 FindsIllFormed e source (Ok numbers) = HasIllFormed e source numbers.items
-FindsIllFormed e source (Err error) = LacksRoom error
+FindsIllFormed e source (Err error) = IsBareError kind.Memory error
 
--- the same of bytes that are in UTF-8
+-- These numbers were found in a body in UTF-8, and there are no others.
 pub record HasIllFormedIn (body : List ℕ) (numbers : List ℕ) : Type 0 where
   pub are : AreIllFormedIn body numbers
   pub only : (others : List ℕ) → AreIllFormedIn body others → others ≡ numbers
 
+-- What finding them in a body in UTF-8 returns. It fails only if memory runs out.
 abbrev pub FindsIllFormedIn : List ℕ → Result (Vec ℕ) PropertiesError → Type 0
 FindsIllFormedIn body (Ok numbers) = HasIllFormedIn body numbers.items
-FindsIllFormedIn body (Err error) = LacksRoom error
+FindsIllFormedIn body (Err error) = IsBareError kind.Memory error
 
 -- ---- what code finds on the way
 

@@ -4,12 +4,14 @@ use Rattle.std.specs.Global.{Vec}
 use Rattle.properties_format.specs.Encoding.{Encoding}
 use Rattle.properties_format.specs.MalformedEscapes as format
 use Rattle.properties_format.specs.MalformedEscapes.{AreMalformedEscapes}
+use Rattle.java_properties.specs.Errors.{IsBareError}
 use Rattle.java_properties.specs.KeyLines.{AreKeyLines, KeyEntry, said_keys}
 use Rattle.java_properties.specs.MalformedEscapes.{told_escape, told_escapes}
+use Rattle.java_properties.specs.declared.error.ErrorKind.TheVariants as kind
 use Rattle.java_properties.specs.declared.error.PropertiesError.{PropertiesError}
 use Rattle.java_properties.specs.declared.iter.keys.KeyLine.{KeyLine}
 use Rattle.java_properties.specs.declared.iter.malformed.MalformedEscape.{MalformedEscape}
-use Rattle.properties_tools.specs.Propedit.Lines.{AreIllFormedLines, LacksRoom}
+use Rattle.properties_tools.specs.Propedit.Lines.{AreIllFormedLines}
 use Rattle.properties_tools.specs.declared.propedit.error.Failure.{Failure}
 use Rattle.properties_tools.specs.declared.propedit.error.Failure.TheVariants.{NotUtf8, Malformed, Input, Output}
 
@@ -20,18 +22,20 @@ pub record HasMalformed (e : Encoding) (source : List ℕ) (found : List Malform
   pub only : (others : List format.MalformedEscape) → AreMalformedEscapes e source others → others ≡ escapes
   pub is : found ≡ told_escapes escapes
 
+-- What finding them returns. It fails only if memory runs out.
 abbrev pub FindsMalformedIn : Encoding → List ℕ → Result (Vec MalformedEscape) PropertiesError → Type 0
 FindsMalformedIn e source (Ok found) = HasMalformed e source found.items
-FindsMalformedIn e source (Err error) = LacksRoom error
+FindsMalformedIn e source (Err error) = IsBareError kind.Memory error
 
 -- These are the keys of a source, each with its line and the line in which it comes first, and the only ones.
 pub record HasKeys (e : Encoding) (source : List ℕ) (found : List KeyLine) : Type 0 where
   pub are : AreKeyLines e source (said_keys found)
   pub only : (others : List KeyEntry) → AreKeyLines e source others → others ≡ said_keys found
 
+-- What finding them returns. It fails only if memory runs out.
 abbrev pub FindsKeysIn : Encoding → List ℕ → Result (Vec KeyLine) PropertiesError → Type 0
 FindsKeysIn e source (Ok found) = HasKeys e source found.items
-FindsKeysIn e source (Err error) = LacksRoom error
+FindsKeysIn e source (Err error) = IsBareError kind.Memory error
 
 -- ---- refusals
 
@@ -49,11 +53,11 @@ pub record IsFirstMalformed (e : Encoding) (source : List ℕ) (found : Malforme
   pub is : found ≡ told_escape escape
 
 -- Why a source is refused, or not even looked through: its first ill-formed line; where there is none, its first malformed
--- escape; or there was no memory, or no number for a line.
+-- escape; or memory ran out.
 abbrev pub IsUnsound : Encoding → List ℕ → Failure → Type 0
 IsUnsound e source (NotUtf8 number) = (others : List ℕ) × AreIllFormedLines e source (number ∷ others)
 IsUnsound e source (Malformed escape) = IsFirstMalformed e source escape
-IsUnsound e source (Input error) = LacksRoom error
+IsUnsound e source (Input error) = IsBareError kind.Memory error
 IsUnsound e source (Output error) = ⊥
 
 abbrev pub RefusesUnsound : Encoding → List ℕ → Result Unit Failure → Type 0

@@ -13,7 +13,7 @@ use java_properties::{Encoding, KeyLine, MalformedEscape, PropertiesError};
 use std::alloc::{AllocError, Global};
 
 /// What is wrong in a source, one finding a line: the lines that are not UTF-8 where that is in force, then the malformed
-/// escapes, then the pairs that repeat a key. It is empty where nothing is wrong.
+/// escapes, then the pairs that repeat a key. It is empty where nothing is wrong. It fails only if memory runs out.
 ///
 /// ```text
 /// let text = report(alloc, "my.properties", b"# C:\\users\na=1\na=\xe9", Encoding::UTF_8)?;

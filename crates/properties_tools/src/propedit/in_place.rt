@@ -1,14 +1,15 @@
 //! Files that are edited in place, whole or not at all.
 
-ghost use Rattle.std.specs.Prelude.{◌≡◌, ◌⊎◌};
+ghost use Rattle.std.specs.Prelude.{◌≡◌, ◌⊎◌, string_bytes, IfOk};
 ghost use Rattle.counted_io.specs.Streams.{IsSameSink};
+ghost use Rattle.properties_tools.specs.Propedit.InPlace.{problem_display, replace_display, IsProblemLine, SaysProblem, SaysUnedited};
 
 use crate::messages::say;
 use crate::propedit::error::Failure;
 use crate::propedit::{exit_status, replacement};
 use counted_io::CountedWrite;
 use java_properties::{Edit, Encoding, PropertiesError};
-use std::alloc::Global;
+use std::alloc::{AllocError, Global};
 use std::error::Error;
 use std::fmt;
 use std::fs::{self, File, Metadata, OpenOptions};
@@ -35,6 +36,7 @@ pub fn edit_file<E: CountedWrite>(
 ) -> u8
     ensures status { (result ≡ 0) ⊎ (result ≡ 2) }
     ensures quiet { result ≡ 0 → errors.new ≡ errors.old }
+    ensures says { result ≡ 2 → SaysUnedited E.CountedWrite errors.old path.now errors.new }
     ensures same_sink { IsSameSink E.CountedWrite errors.old errors.new }
 {
     match replace_edited(rt, alloc, path, encoding, edits) {
@@ -83,12 +85,21 @@ fn fail_to_replace<E: CountedWrite>(
     error: &ReplaceError,
 ) -> u8
     ensures status { result ≡ 2 }
+    ensures says { SaysProblem E.CountedWrite errors.old path.now error.now errors.new }
     ensures same_sink { IsSameSink E.CountedWrite errors.old errors.new }
 {
-    if let Ok(line) = format!(in alloc; "propedit: {path}: {error}\n") {
+    if let Ok(line) = problem_line(alloc, path, error) {
         say(errors, line.as_str());
     }
     2
+}
+
+// The line that is printed then.
+fn problem_line(alloc: Global, path: &str, error: &ReplaceError) -> Result<String, AllocError>
+    ensures { IfOk result (λ line. IsProblemLine path.now error.now (string_bytes line)) }
+{
+    let problem = format!(in alloc; "{error}")?;
+    format!(in alloc; "propedit: {path}: {problem}\n")
 }
 
 /// A file that was read, and whose bytes can be replaced.
@@ -141,9 +152,17 @@ impl Original {
         alloc: Global,
         bytes: &[u8],
     ) -> Result<(), ReplaceError> {
-        let (file, made) = match create(rt, self.temporary.as_str()) {
-            Ok(created) => created,
-            Err(error) => return Err(self.unmade(error)),
+        let file = match create(rt, self.temporary.as_str()) {
+            Ok(file) => file,
+            Err(error) => return Err(self.unmade(error, false)),
+        };
+        let made = match file.metadata() {
+            Ok(made) => made,
+            Err(error) => {
+                // Without its metadata, only its name tells which file it is.
+                let is_left = fs::remove_file(rt, self.temporary.as_str()).is_err();
+                return Err(self.unmade(error, is_left));
+            }
         };
         match self.put_in_place(rt, alloc, file, &made, bytes) {
             Ok(()) => Ok(()),
@@ -220,11 +239,11 @@ impl Original {
         }
     }
 
-    fn unmade(self, error: io::Error) -> ReplaceError {
+    fn unmade(self, error: io::Error, is_left: bool) -> ReplaceError {
         ReplaceError {
             problem: Problem::Unmade(error),
             temporary: self.temporary,
-            is_left: false,
+            is_left,
         }
     }
 
@@ -281,14 +300,12 @@ fn is_same_file(one: &Metadata, other: &Metadata) -> bool {
 }
 
 // A new file that nobody else may read until it has the permissions of the old one.
-fn create(rt: &HostRuntime, path: &str) -> io::Result<(File, Metadata)> {
-    let file = OpenOptions::new()
+fn create(rt: &HostRuntime, path: &str) -> io::Result<File> {
+    OpenOptions::new()
         .write(true)
         .create_new(true)
         .mode(0o600)
-        .open(rt, path)?;
-    let made = file.metadata()?;
-    Ok((file, made))
+        .open(rt, path)
 }
 
 /// Why a file was not replaced.
@@ -317,22 +334,43 @@ enum Problem {
 impl Error for ReplaceError {}
 
 impl fmt::Display for ReplaceError {
+    ghost output = { replace_display };
+
     fn fmt<W: fmt::Write>(&self, f: &mut fmt::Formatter<W>) -> fmt::Result {
         let new = self.temporary.as_str();
-        match &self.problem {
-            Problem::Unmade(error) => write!(f, "cannot create {new}: {error}")?,
-            Problem::Unwritten(error) => write!(f, "cannot write {new}: {error}")?,
-            Problem::Owner(error) => write!(f, "cannot keep the owner: {error}")?,
-            Problem::Permissions(error) => write!(f, "cannot keep the permissions: {error}")?,
-            Problem::Unreadable(error) => write!(f, "cannot be read again: {error}")?,
-            Problem::Changed => write!(f, "changed while it was edited")?,
-            Problem::Taken => write!(f, "{new} was removed or replaced")?,
-            Problem::Unrenamed(error) => write!(f, "cannot rename {new}: {error}")?,
-        }
+        let failed = Failed {
+            problem: &self.problem,
+            new,
+        };
         if self.is_left {
-            write!(f, "; {new} is left")?;
+            return write!(f, "{failed}; {new} is left");
         }
-        Ok(())
+        write!(f, "{failed}")
+    }
+}
+
+// What failed, and the name of the new file.
+#[derive(Clone, Copy)]
+struct Failed<'a> {
+    problem: &'a Problem,
+    new: &'a str,
+}
+
+impl fmt::Display for Failed<'_> {
+    ghost output = { λ failed. problem_display failed.new.now failed.problem.now };
+
+    fn fmt<W: fmt::Write>(&self, f: &mut fmt::Formatter<W>) -> fmt::Result {
+        let new = self.new;
+        match self.problem {
+            Problem::Unmade(error) => write!(f, "cannot create {new}: {error}"),
+            Problem::Unwritten(error) => write!(f, "cannot write {new}: {error}"),
+            Problem::Owner(error) => write!(f, "cannot keep the owner: {error}"),
+            Problem::Permissions(error) => write!(f, "cannot keep the permissions: {error}"),
+            Problem::Unreadable(error) => write!(f, "cannot be read again: {error}"),
+            Problem::Changed => write!(f, "changed while it was edited"),
+            Problem::Taken => write!(f, "{new} was removed or replaced"),
+            Problem::Unrenamed(error) => write!(f, "cannot rename {new}: {error}"),
+        }
     }
 }
 

@@ -7,13 +7,12 @@ ghost use Rattle.properties_lines.specs.Scanner.{bytes_of};
 ghost use Rattle.properties_tools.specs.Propedit.Lines.{FindsIllFormed, FindsIllFormedIn, IsUtf8Body, IsFound};
 
 use java_properties::{Encoding, PropertiesError};
-use properties_lines::error::LineError;
 use properties_lines::scanner::{RawLine, Scan, Scanner};
 use properties_text::encoding::byte_order_mark::{ByteOrderMark, byte_order_mark};
 use std::alloc::{AllocError, Global};
 
 /// The numbers of the natural lines that are not well-formed UTF-8, in order. There is none where another encoding is in
-/// force.
+/// force. It fails only if memory runs out.
 ///
 /// ```text
 /// let numbers = ill_formed_lines(alloc, b"a=1\nb=caf\xe9\n", Encoding::UTF_8)?; // line 2
@@ -45,6 +44,7 @@ fn utf_8_body(source: &[u8], encoding: Encoding) -> Option<&[u8]>
     }
 }
 
+// The numbers of the lines of a body in UTF-8 that are not well-formed.
 fn ill_formed_in(alloc: Global, body: &[u8]) -> Result<Vec<usize>, PropertiesError>
     ensures { FindsIllFormedIn body.now result }
 {
@@ -56,7 +56,8 @@ fn ill_formed_in(alloc: Global, body: &[u8]) -> Result<Vec<usize>, PropertiesErr
                 push_if_ill_formed(&mut numbers, body, scanner.number(), scanner.line())?;
             }
             Scan::End => return Ok(numbers),
-            Scan::TooMany => return Err(PropertiesError::from(LineError::TooManyLines)),
+            // No slice has so many lines.
+            Scan::TooMany => unreachable!(),
             Scan::More => unreachable!(),
         }
     }

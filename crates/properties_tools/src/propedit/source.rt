@@ -26,7 +26,7 @@ pub fn refuse_unsound(alloc: Global, source: &[u8], encoding: Encoding) -> Resul
     }
 }
 
-/// The first malformed escape of each logical line that has one, in order.
+/// The first malformed escape of each logical line that has one, in order. It fails only if memory runs out.
 pub fn malformed_in(
     alloc: Global,
     source: &[u8],
@@ -39,7 +39,7 @@ pub fn malformed_in(
 }
 
 /// The key of each pair, in order, with its line and the line of the first pair with it. A pair with a malformed escape
-/// is left out.
+/// is left out. It fails only if memory runs out.
 pub fn keys_in(
     alloc: Global,
     source: &[u8],

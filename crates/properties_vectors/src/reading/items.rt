@@ -82,7 +82,7 @@ impl Item {
         })
     }
 
-    /// The same item with texts of its own.
+    /// Returns the item with its text copied.
     pub fn copy(&self, alloc: Global) -> Result<Item, AllocError> {
         Ok(Item {
             number: self.number,

@@ -34,7 +34,7 @@ pub fn check_faults(
     Ok(())
 }
 
-// The same came of it as is wanted, and no write came after the one that failed.
+// Checks that the calls had the wanted answers and effects, and that no write came after the one that failed.
 fn check_sink(
     alloc: Global,
     written: &Written,

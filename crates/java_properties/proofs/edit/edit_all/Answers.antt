@@ -1,10 +1,10 @@
 use Rattle.std.proofs.Common.{◌≡◌, ◌++◌, ◌∷◌, [], ◌∙◌, ap, sym, subst, take, drop, arith}
 use Rattle.std.proofs.lemmas.List.{take_rest, take_all}
 use Rattle.std.proofs.lemmas.Result.{err_from_is_err_and}
-use Rattle.properties_format.specs.Edited.{IsEditAllResult}
-use Rattle.properties_format.specs.Reading.Edited.{edits_made}
-use Rattle.properties_format.specs.Reading.Slots.{slots_after}
-use Rattle.properties_format.proofs.Edited.Results.{edit_all_result-meets}
+use Rattle.properties_format.specs.Edits.{IsEditAllResult}
+use Rattle.properties_format.specs.Reading.Edits.{edits_made}
+use Rattle.properties_format.specs.Reading.EditedSlots.{slots_after}
+use Rattle.properties_format.proofs.Edits.Results.{edit_all_result-meets}
 use Rattle.properties_text.specs.Encoding.{encoding_of}
 use Rattle.java_properties.specs.BodySlots.{Holds}
 use Rattle.java_properties.specs.Editing.{AreMade, edit_in, edits_in}

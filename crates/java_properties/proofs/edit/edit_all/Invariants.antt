@@ -1,5 +1,5 @@
 use Rattle.std.proofs.Common.{take}
-use Rattle.properties_format.specs.Reading.Slots.{slots_after}
+use Rattle.properties_format.specs.Reading.EditedSlots.{slots_after}
 use Rattle.properties_text.specs.Encoding.{encoding_of}
 use Rattle.java_properties.specs.BodySlots.{Holds}
 use Rattle.java_properties.specs.Editing.{edits_in}

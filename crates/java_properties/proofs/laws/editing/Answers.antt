@@ -1,3 +1,4 @@
+use Rattle.properties_format.proofs.Valued.Laws.{setting-own_value, setting-value_twice, setting-value_again, setting-value_gives}
 use Rattle.properties_format.proofs.EditLaws.{removing-no_pair, setting-twice, setting-gives, removing-takes, no_edits-nothing, one_edit-call, lists-follow}
 use Rattle.java_properties.proofs.laws.editing.Goals as goal
 
@@ -12,6 +13,18 @@ returns-clause-set c = setting-gives
 
 pub returns-clause-removed : goal.returns-clause-removed
 returns-clause-removed c = removing-takes
+
+pub returns-clause-own_value : goal.returns-clause-own_value
+returns-clause-own_value c = setting-own_value
+
+pub returns-clause-value_twice : goal.returns-clause-value_twice
+returns-clause-value_twice c = setting-value_twice
+
+pub returns-clause-value_again : goal.returns-clause-value_again
+returns-clause-value_again c = setting-value_again
+
+pub returns-clause-value : goal.returns-clause-value
+returns-clause-value c = setting-value_gives
 
 pub returns-clause-none : goal.returns-clause-none
 returns-clause-none c = no_edits-nothing

@@ -6,7 +6,7 @@ use Rattle.properties_text.specs.Printing.{text_bytes, all_of_windows_1252}
 use Rattle.properties_text.specs.declared.print.Place.TheVariants.{KeyOrValue}
 use Rattle.properties_text.proofs.print.print_runs.Given as goal
 
--- What was printed so far and what the rest is printed to are what the text is printed to.
+-- What was printed so far, followed by what is printed for the rest, is what is printed for the text.
 abbrev pub invariant-loop-rest : goal.invariant-loop-rest
 invariant-loop-rest l =
     shadow (Utf8 l.rest) × (l.line ++ text_bytes all_of_windows_1252 KeyOrValue (chars l.rest) ≡ l.fn.line ++ text_bytes all_of_windows_1252 KeyOrValue (chars l.text))

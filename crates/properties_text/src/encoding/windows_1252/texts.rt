@@ -1,6 +1,6 @@
-// The bytes of windows-1252 in UTF-8.
+// The characters of windows-1252 in UTF-8.
 
-// Row n has the bytes of the character of byte n, up to three, and at last how many they are.
+// Row n has the UTF-8 bytes of byte n's character, up to three, and in its last column the number of these bytes.
 pub(super) static TEXTS: [[u8; 4]; 256] = [
     [0, 0, 0, 1],
     [1, 0, 0, 1],

@@ -1,4 +1,4 @@
-// Sixteen bytes at once, as they are printed in a key or a value.
+// Prints sixteen bytes of a key or a value at a time.
 
 ghost use Rattle.std.specs.Prelude.{◌≡◌, ◌+◌, ◌*◌, ◌≤◌, ◌++◌, length, take, drop};
 ghost use Rattle.properties_text.specs.Printing.{with_backslashes};
@@ -6,7 +6,7 @@ ghost use Rattle.properties_text.specs.Printing.{with_backslashes};
 use byte_blocks::{ByteClass, Specials, put_spread, put_spread_ends};
 use std::simd::prelude::*;
 
-/// Prints sixteen bytes from this place on, and returns the place after the first `kept` of them.
+/// Prints sixteen bytes at index `at`, and returns the index after the first `kept` of them.
 #[inline(always)]
 pub fn put_16(out: &mut [u8], at: usize, v: u8x16, kept: usize) -> usize
     requires room { at + 32 ≤ length out.old }
@@ -18,7 +18,7 @@ pub fn put_16(out: &mut [u8], at: usize, v: u8x16, kept: usize) -> usize
     put_spread(out, at, v, u8x16::splat(b'\\'), Specials::marks(v), kept)
 }
 
-/// Prints the first `kept` bytes, and after them the last eight.
+/// Prints the first `kept` bytes, and then the last eight.
 #[inline(always)]
 pub fn put_ends(out: &mut [u8], v: u8x16, kept: usize) -> usize
     requires room { 2 * (kept + 8) ≤ length out.old }

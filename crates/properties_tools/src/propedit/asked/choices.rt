@@ -10,7 +10,7 @@ use crate::propedit::asked::{Source, TextEnd};
 use java_properties::Encoding;
 use std::alloc::AllocError;
 
-// An option before the command, whose texts are borrowed.
+/// An option before the command, whose texts are borrowed.
 #[derive(Clone, Copy)]
 pub enum Choice<'a> {
     Encoding(Encoding),
@@ -20,7 +20,7 @@ pub enum Choice<'a> {
     Zero,
 }
 
-// What the options choose.
+/// What the options choose.
 #[derive(Clone, Copy)]
 pub struct Choices<'a> {
     pub encoding: Option<Encoding>,
@@ -29,7 +29,7 @@ pub struct Choices<'a> {
     pub end: TextEnd,
 }
 
-// Where the bytes come from, by a borrowed path.
+/// Where the bytes come from, by a borrowed path.
 #[derive(Clone, Copy)]
 pub enum SourceChoice<'a> {
     StandardInput,
@@ -38,6 +38,7 @@ pub enum SourceChoice<'a> {
 }
 
 impl SourceChoice<'_> {
+    /// Returns the source with a copy of its path. It fails only if memory runs out.
     pub fn into_source(self) -> Result<Source, AllocError>
         ensures { IfOk result (λ source. source_of source ≡ source_choice self.entry) }
     {
@@ -48,6 +49,7 @@ impl SourceChoice<'_> {
         }
     }
 
+    /// Returns whether the source is a file that is edited in place.
     pub fn is_in_place(self) -> bool
         ensures { IsTrue result ↔ IsInPlace (source_choice self.entry) }
     {
@@ -129,7 +131,7 @@ impl<'a> Choices<'a> {
         }
     }
 
-    // Whether neither `-d` nor `-z` is given.
+    /// Returns whether neither `-d` nor `-z` is given.
     pub fn is_plain(&self) -> bool
         ensures { IsTrue result ↔ IsPlain (choices_of self.now) }
     {
@@ -139,6 +141,7 @@ impl<'a> Choices<'a> {
         }
     }
 
+    /// Returns the encoding that `-e` names, or UTF-8 where no `-e` is given.
     pub fn encoding_or_default(&self) -> Encoding
         ensures { let choices = choices_of self.now in
             encoding_of result ≡ chosen_encoding choices.encoding }
@@ -150,15 +153,17 @@ impl<'a> Choices<'a> {
     }
 }
 
-// The choices of the options that the words begin with, and the words after these, or `None` where two options are of one
-// kind.
+/// Returns the choices of the options that the words begin with, and the words after these options. It returns `None`
+/// where two of the options are of one kind.
 pub fn choices_in(words: &[String]) -> Option<(Choices<'_>, &[String])>
     ensures { AreChosen (map string_bytes words.now) (option_map choices_next result) }
 {
     choices_after(Choices::none(), words)
 }
 
-// The same where options before these words made choices. It goes as deep as there are kinds of options.
+// Adds the choices of the options that the words begin with to those of the options before them, and returns all of them
+// and the words after these options. It returns `None` where two of the options are of one kind. It calls itself no deeper
+// than there are kinds of options.
 fn choices_after<'a>(
     choices: Choices<'a>,
     words: &'a [String],

@@ -10,7 +10,8 @@ use crate::propedit::asked::edits::edits_in;
 use crate::propedit::asked::{Command, TextEnd};
 use std::alloc::{AllocError, Global};
 
-// The command that the words are.
+/// Returns the command that the words are. It returns `None` where they are no command, or one that the choices don't
+/// suit. It fails only if they are a command and memory runs out.
 pub fn command_in(
     alloc: Global,
     choices: &Choices<'_>,

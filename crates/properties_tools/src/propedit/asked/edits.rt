@@ -8,7 +8,8 @@ ghost use Rattle.properties_tools.specs.Propedit.AskedParts.{borrowed_edit, edit
 use java_properties::Edit;
 use std::alloc::{AllocError, Global};
 
-// The edits that the words are, or `None` where they are others. Memory is asked for only where they are edits.
+/// Returns the edits that the words are, in order. It returns `None` where they are no edits. It fails only if they are
+/// edits and memory runs out.
 pub fn edits_in(alloc: Global, words: &[String]) -> Result<Option<Vec<Edit>>, AllocError>
     ensures finds { let names = map string_bytes words.now in
         IfOk result (λ edits. AreEditsOf names (option_map vec_edits edits)) }

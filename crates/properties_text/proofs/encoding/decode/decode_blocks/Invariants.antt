@@ -4,7 +4,7 @@ use Rattle.properties_text.specs.Decoding.{text_of}
 use Rattle.properties_text.specs.declared.encoding.Encoding.TheVariants.{WINDOWS_1252}
 use Rattle.properties_text.proofs.encoding.decode.decode_blocks.Given as goal
 
--- The text so far and the text of the rest are those of all bytes.
+-- The text so far, followed by the text of the rest, is the text of all bytes.
 abbrev pub invariant-loop-rest : goal.invariant-loop-rest
 invariant-loop-rest l = record {
   same_room : length l.run ≡ length l.fn.run;

@@ -19,7 +19,7 @@ loop-first-init c = record {
   text = refl;
 }
 
--- The units that are written, none, change nothing before them.
+-- No unit is written, and nothing before changes.
 pub loop-first-preserved : goal.loop-first-preserved
 loop-first-preserved c =
     let held = c.loop-first.invariant in

@@ -3,7 +3,7 @@ use Rattle.std.specs.Str.{chars, IsUtf8}
 use Rattle.properties_text.specs.Decoding.{text_of}
 use Rattle.properties_text.proofs.encoding.decode.decode_run_of.Given as goal
 
--- The text so far and the text of the rest are those of all bytes.
+-- The text so far, followed by the text of the rest, is the text of all bytes.
 abbrev pub invariant-loop-first : goal.invariant-loop-first
 invariant-loop-first l = record {
   same_room : length l.run ≡ length l.fn.run;

@@ -13,7 +13,7 @@ range_from-requires c =
 pub returns-clause-meaning : goal.returns-clause-meaning
 returns-clause-meaning c =
     let same = c.as_bytes-bytes.ensures.value in
-    rw (c.escaped_character.ensures ∙ ap (λ v. escaped_character (get_or v 1 0)) same, c.range_from.ensures.value)
+    rw (c.from.ensures ∙ c.escaped_byte.ensures ∙ ap (λ v. escaped_character (get_or v 1 0)) same, c.range_from.ensures.value)
     (letter-first c.args.text.now c.utf8.text (omega (arith, ap length same, c.if-bytes-lt2.false))
     (subst (λ v. get_or v 0 0 ≡ 92) same (omega (arith, c.if-bytes-ne92.false)))
     (subst (λ v. (get_or v 1 0 == letter_u) ≡ false) same (ne_eqb _ letter_u (λ e. absurd (omega (arith, e, c.if-bytes-eq117.false)))))

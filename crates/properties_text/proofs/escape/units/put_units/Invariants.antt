@@ -5,7 +5,7 @@ use Rattle.std.specs.Str.{IsUtf8, chars}
 use Rattle.properties_format.specs.Reading.Escapes.{meaning_of, text_in_front}
 use Rattle.properties_text.proofs.escape.units.put_units.Given as goal
 
--- What was put into the run, and what the rest means, are what the text means.
+-- The characters in the run, followed by what the rest means, are what the text means.
 abbrev pub invariant-loop-run : goal.invariant-loop-run
 invariant-loop-run l = record {
   utf8 : shadow (Utf8 l.rest);

@@ -6,7 +6,7 @@ use Rattle.properties_text.specs.declared.print.Place.TheVariants.{KeyOrValue}
 use Rattle.properties_text.specs.Printing.{all_of_windows_1252, text_bytes}
 use Rattle.properties_text.proofs.print.lacking.put_lacking.Given as goal
 
--- What was put so far and what the rest is printed to are what the text is printed to.
+-- What was written so far, followed by what is printed for the rest, is what is printed for the text.
 abbrev pub invariant-loop-out : goal.invariant-loop-out
 invariant-loop-out l = record {
   utf8 : shadow (Utf8 l.rest);

@@ -1,3 +1,4 @@
+use Rattle.std.proofs.Common.{arith}
 use Rattle.std.proofs.lemmas.Result.{err_from_is_err_and}
 use Rattle.properties_text.specs.Encoding.{encoding_of}
 use Rattle.properties_tools.proofs.Looked.{slice-stops, slice-value}
@@ -6,7 +7,7 @@ use Rattle.properties_tools.proofs.propedit.get.look_up.Goals as goal
 pub returns-in_err-map : goal.returns-in_err-map
 returns-in_err-map c =
     let error = err_from_is_err_and c.from_residual.result c.from_residual.ensures.1 in
-    rw (error.1, error.2) (slice-stops (encoding_of c.args.encoding) c.args.source c.read_sorted.new.input c.in_err-map.field-0.0 c.in_err-map.ensures.reads)
+    rw (error.1, error.2) (slice-stops (encoding_of c.args.encoding) c.args.source c.read_sorted.new.input c.in_err-map.field-0.0 (omega arith) c.in_err-map.ensures.reads)
 
 pub returns : goal.returns
 returns c =

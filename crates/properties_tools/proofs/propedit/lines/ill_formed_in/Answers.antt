@@ -1,7 +1,14 @@
-use Rattle.std.proofs.Common.{sym, subst}
+use Rattle.std.proofs.Common.{ap, sym, subst, arith}
+use Rattle.properties_text.specs.Encoding.{encoding_of}
 use Rattle.properties_tools.specs.Propedit.Lines.{IsFound}
-use Rattle.properties_tools.proofs.IllFormed.{found-line, found-next, found-fewer, found-all}
+use Rattle.properties_tools.proofs.IllFormed.{found-none, found-line, found-next, found-fewer, found-numbered, found-all}
 use Rattle.properties_tools.proofs.propedit.lines.ill_formed_in.Goals as goal
+
+pub loop-numbers-init : goal.loop-numbers-init
+loop-numbers-init c =
+    let at = c.in_body-scanner.ensures in
+    let body = c.args.body.now in
+    found-none body c.in_body-scanner.result c.new-numbers.result.items (ap encoding_of at.encoding) (at.fits body) at.place (at.stands body) c.new-numbers.ensures.items
 
 pub push_if_ill_formed-requires : goal.push_if_ill_formed-requires
 push_if_ill_formed-requires c =
@@ -18,3 +25,6 @@ loop-numbers-smaller c = found-fewer c.args.body.now c.loop-numbers.scanner c.ne
 
 pub returns-in-End : goal.returns-in-End
 returns-in-End c = found-all c.args.body.now c.loop-numbers.scanner c.loop-numbers.numbers.items c.loop-numbers.invariant c.in-End.ensures.0
+
+pub unreachable-requires : goal.unreachable-requires
+unreachable-requires c = found-numbered c.args.body.now c.loop-numbers.scanner c.loop-numbers.numbers.items c.loop-numbers.invariant (omega arith) c.in-TooMany.ensures.1

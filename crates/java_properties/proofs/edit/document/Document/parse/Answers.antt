@@ -1,9 +1,9 @@
 use Rattle.std.specs.Prelude.{[]}
 use Rattle.std.proofs.lemmas.List.{take_rest}
 use Rattle.std.proofs.lemmas.Result.{err_from_is_err_and}
-use Rattle.properties_format.specs.Edited.{IsEditAllResult}
-use Rattle.properties_format.specs.Reading.Edited.{edits_made}
-use Rattle.properties_format.proofs.Edited.Results.{edit_all_result-meets}
+use Rattle.properties_format.specs.Edits.{IsEditAllResult}
+use Rattle.properties_format.specs.Reading.Edits.{edits_made}
+use Rattle.properties_format.proofs.Edits.Results.{edit_all_result-meets}
 use Rattle.properties_text.specs.Encoding.{encoding_of}
 use Rattle.java_properties.specs.declared.edit.document.Document.TheInside.{Inside}
 use Rattle.java_properties.proofs.BodyDocuments.Edits.{IsOpened, opens-document}

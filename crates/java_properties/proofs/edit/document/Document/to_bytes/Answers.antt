@@ -2,7 +2,7 @@ use Rattle.std.proofs.Common.{sym, ap, ◌∙◌}
 use Rattle.properties_text.specs.Encoding.{encoding_of}
 use Rattle.properties_format.specs.Encoding.{InForce}
 use Rattle.properties_format.specs.Edited.{is_editable}
-use Rattle.properties_format.specs.Reading.Slots.{slots_after}
+use Rattle.properties_format.specs.Reading.EditedSlots.{slots_after}
 use Rattle.properties_format.proofs.Slots.WellEnded.{slots_after-well_ended}
 use Rattle.java_properties.proofs.BodyDocuments.Calls.{bytes-made}
 use Rattle.java_properties.proofs.edit.document.Document.to_bytes.Goals as goal

@@ -11,7 +11,7 @@ loop-rest-preserved c = record {
   longer = omega (arith, c.loop-rest.invariant.longer, c.push_front.ensures.longer, c.push_run.ensures.longer);
 }
 
--- nothing was pushed of the front
+-- Nothing of the front was appended.
 pub returns-in_err-after-clause-kept : goal.returns-in_err-after-clause-kept
 returns-in_err-after-clause-kept c =
     let held = c.loop-rest.invariant in
@@ -19,7 +19,7 @@ returns-in_err-after-clause-kept c =
     let all = text_of c.args.encoding c.args.bytes.now in
     at-error c.from_residual.result (text-kept c.args.self.now all c.loop-rest.self left c.push_front.new.self (c.in_err-after.ensures.unchanged) held.text held.longer)
 
--- or of the run behind it
+-- Nothing of the run after the front was appended.
 pub returns-in_err-rest-clause-kept : goal.returns-in_err-rest-clause-kept
 returns-in_err-rest-clause-kept c =
     let held = c.loop-rest.invariant in

@@ -3,7 +3,7 @@ use Rattle.std.specs.Str.{chars}
 use Rattle.properties_text.specs.Decoding.{text_of}
 use Rattle.properties_text.proofs.encoding.text_buffer.TextBuffer.push_decoded.Given as goal
 
--- The text so far and that of the rest are the text before and that of all bytes.
+-- The text so far, followed by the text of the rest, is the old text followed by the text of all bytes.
 abbrev pub invariant-loop-rest : goal.invariant-loop-rest
 invariant-loop-rest l = record {
   text : chars l.self ++ text_of l.encoding l.rest ≡ chars l.fn.self ++ text_of l.encoding l.bytes;

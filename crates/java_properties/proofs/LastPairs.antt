@@ -1,0 +1,267 @@
+-- The last pair of a body, whatever its key, and its last line ending.
+use Rattle.std.proofs.Common.{◌≡◌, ◌≢◌, ◌<◌, ◌≤◌, ℕ, ◌+◌, ◌-◌, Bool, true, false, List, [], ◌∷◌, ◌++◌, length, take, drop, get_or, refl, inl, inr, ap, ap₂, sym, ◌∙◌, subst, arith, append-nil, append_assoc, length-append}
+use Rattle.std.specs.Prelude.{Option, Some, None, if◌then◌else◌}
+use Rattle.std.specs.Option.{is_some}
+use Rattle.std.specs.Prelude.{◌==◌, ◌||◌}
+use Rattle.std.proofs.lemmas.Bool.{cases_Bool, cond-true, cond-false}
+use Rattle.std.proofs.lemmas.List.{drop_more, take-append-drop}
+use borrow.Author.Tests.{eqb-true}
+use Rattle.properties_format.specs.Text as text
+use Rattle.properties_format.specs.Text.{line_feed, carriage_return, line_ending_text}
+use Rattle.properties_format.specs.Lines.{HoldsNoLineEnd}
+use Rattle.properties_format.specs.Reading.Lines.{ends_in_cr}
+use Rattle.properties_format.proofs.Valued.Endings.{last-ending, no-ending}
+use Rattle.java_properties.specs.Settings.{ending_of}
+use Rattle.java_properties.specs.BodyValues.{IsLastEnding}
+use Rattle.java_properties.specs.declared.writer.settings.LineEnding.{LineEnding}
+use Rattle.java_properties.specs.declared.writer.settings.LineEnding.TheVariants.{CR, LF}
+use Rattle.properties_text.specs.Parsing.{bytes_in}
+use Rattle.std.proofs.Math.Seq.{take-append_seam, drop-append_seam}
+use Rattle.properties_format.specs.Split.{Logical, blank, comment, pair}
+use Rattle.properties_format.specs.Settings.{IsGoodSeparator}
+use Rattle.properties_format.specs.Body.{ending_bytes, last_ending, AreGroupsOf}
+use Rattle.properties_format.specs.Edited.{is_editable}
+use Rattle.properties_format.specs.Valued.{separator_after}
+use Rattle.properties_format.specs.Reading.Settings.{is_good_separator}
+use Rattle.properties_format.specs.Reading.Valued.{between_in, between_of, separator_by}
+use Rattle.properties_format.proofs.Body.Groups.{held-body, held_groups_of-meets}
+use Rattle.properties_format.proofs.Settings.Tests.{is_good_separator-from}
+use Rattle.properties_format.proofs.Slots.Lines.{bytes-unended}
+use Rattle.properties_format.proofs.Valued.Made.{new_separator-meets}
+use Rattle.properties_format.proofs.Valued.Separators.{new_separator-fit}
+use Rattle.properties_format.proofs.Valued.Unended.{without_ending, unended-groups, unended-joined, unended-between}
+use Rattle.java_properties.specs.BodyValues.{IsLastPairOf, IsSeparated, IsSeparatorLike}
+use Rattle.java_properties.proofs.BodyValues.{middle-of}
+use Rattle.std.specs.Str.{chars}
+use Rattle.properties_format.specs.Encoding.{Encoding}
+use Rattle.properties_format.specs.Groups.{joined}
+use Rattle.properties_format.specs.Reading.Split.{split_of}
+use Rattle.properties_format.specs.Body.{HeldLine, as_lines, group_bytes, groups_bytes}
+use Rattle.properties_format.specs.Reading.Body.{held_groups_of}
+use Rattle.properties_format.specs.Reading.Slots.{unended_bytes}
+use Rattle.properties_format.specs.Reading.Valued.{between_told, last_between, or_else}
+use Rattle.properties_format.proofs.Body.Groups.{groups_bytes-append}
+use Rattle.properties_format.proofs.Valued.Made.{last_between-push}
+use Rattle.properties_text.specs.Encoding.{encoding_of}
+use Rattle.properties_text.specs.declared.parse.Span.{Span}
+use Rattle.java_properties.specs.BodyGroups.{IsWithin, groups_left, text_of, TakesGroup}
+use Rattle.java_properties.specs.BodyValues.{IsBetweenIn, IsLastPair, FindsLastPair}
+use Rattle.java_properties.specs.declared.edit.groups.Group.{Group}
+use Rattle.java_properties.specs.declared.edit.groups.GroupReader.{GroupReader}
+use Rattle.java_properties.specs.declared.edit.place.BodySpan.{BodySpan}
+
+-- ---- the last pair
+
+-- These groups of a body were passed, and this is the last pair of them.
+pub record HasPassed (e : Encoding) (body : List ℕ) (s : GroupReader) (last : Option BodySpan) : Type 0 where
+  pub groups : List (List HeldLine)
+  pub all : held_groups_of e body ≡ groups ++ groups_left body s
+  pub placed : s.scanner.at ≡ length (groups_bytes groups)
+  pub within : IsWithin body s
+  pub encoding : encoding_of s.scanner.encoding ≡ e
+  pub is_last : IsLastPair groups last
+
+pub passed-none : {e : Encoding} (body : List ℕ) (s : GroupReader) → s.scanner.at ≡ 0 → s.scanner.is_done ≡ false → IsWithin body s → encoding_of s.scanner.encoding ≡ e
+    → HasPassed e body s None
+passed-none {e} body s at going w same = record {
+  groups = [];
+  all = rw (going, at, same) refl;
+  placed = at;
+  within = w;
+  encoding = same;
+  is_last = refl;
+}
+
+-- the last pair with one more group after it
+last-after : (groups : List (List HeldLine)) (g : List HeldLine) (group : Group) (line : List ℕ) (found : Option Span) (last next : Option BodySpan) → IsLastPair groups last
+    → chars line ≡ joined (as_lines g) → IsBetweenIn line found → next ≡ (if is_some found then Some (record { start = group.start; end = group.end }) else last)
+    → group.start ≡ length (groups_bytes groups) → group.end ≡ group.start + length (unended_bytes g) → IsLastPair (groups ++ g ∷ []) next
+last-after groups g group line None None next h t none is starts ends =
+    subst (IsLastPair (groups ++ g ∷ [])) (sym is)
+    (last_between-push groups g ∙ ap₂ or_else (subst (λ x. between_told (split_of x) x ≡ None) t none) h)
+last-after groups g group line None (Some span) next h t none is starts ends =
+    subst (IsLastPair (groups ++ g ∷ [])) (sym is) record {
+      before = h.before;
+      group = h.group;
+      after = h.after ++ g ∷ [];
+      division = ap (λ v. v ++ g ∷ []) h.division ∙ append_assoc h.before (h.group ∷ h.after) (g ∷ []);
+      between = h.between;
+      told = h.told;
+      last = last_between-push groups g ∙ ap₂ or_else (subst (λ x. between_told (split_of x) x ≡ None) t none) h.last;
+      starts = h.starts;
+      ends = h.ends;
+    }
+last-after groups g group line (Some found) last next h t at is starts ends =
+    let told = subst (λ x. between_told (split_of x) x ≡ Some (chars (bytes_in line found))) t at.told in
+    subst (IsLastPair (groups ++ g ∷ [])) (sym is) record {
+      before = groups;
+      group = g;
+      after = [];
+      division = refl;
+      between = chars (bytes_in line found);
+      told = told;
+      last = last_between-push groups g ∙ ap (λ v. or_else v (last_between groups)) told;
+      starts = starts;
+      ends = ends;
+    }
+
+-- one more group was passed
+pub passed-more : {e : Encoding} {body : List ℕ} {s t : GroupReader} {last next : Option BodySpan} {group : Group} (found : Option Span) → HasPassed e body s last
+    → TakesGroup body s group t → IsBetweenIn (text_of body t group) found
+    → next ≡ (if is_some found then Some (record { start = group.start; end = group.end }) else last) → HasPassed e body t next
+passed-more {e} {body} {s} {t} {last} {next} {group} found h k between is =
+    let one : groups_bytes (k.held ∷ []) ≡ group_bytes k.held = append-nil (group_bytes k.held) in
+    let next_at = k.span.next in
+    let starts = k.starts in
+    let placed = h.placed in
+    let all : length (groups_bytes (h.groups ++ k.held ∷ [])) ≡ length (groups_bytes h.groups) + length (group_bytes k.held) =
+    ap length (groups_bytes-append h.groups (k.held ∷ []) ∙ ap (λ v. groups_bytes h.groups ++ v) one) ∙ length-append (groups_bytes h.groups) (group_bytes k.held) in
+    record {
+      groups = h.groups ++ k.held ∷ [];
+      all = h.all ∙ ap (λ v. h.groups ++ v) k.groups ∙ sym (append_assoc h.groups (k.held ∷ []) (groups_left body t));
+      placed = omega arith;
+      within = k.within;
+      encoding = k.encoding ∙ h.encoding;
+      is_last = last-after h.groups k.held group (text_of body t group) found last next h.is_last k.text between is (k.starts ∙ h.placed) k.span.unended;
+    }
+
+-- all groups were passed
+pub passed-all : {e : Encoding} {body : List ℕ} {s : GroupReader} {last : Option BodySpan} → HasPassed e body s last → s.scanner.is_done ≡ true → FindsLastPair e body last
+passed-all {e} {body} {s} {last} h done =
+    let all : held_groups_of e body ≡ h.groups = h.all ∙ (rw done (append-nil h.groups)) in
+    subst (λ v. IsLastPair v last) (sym all) h.is_last
+
+-- ---- the last line ending
+
+-- bytes that end in a CR
+cr-last : (front : List ℕ) → ends_in_cr front ≡ true → (before : List ℕ) × (front ≡ before ++ carriage_return ∷ [])
+cr-last [] h = absurd (cc)
+cr-last (c ∷ []) h = ([], ap (λ v. v ∷ []) (eqb-true c carriage_return h))
+cr-last (c ∷ d ∷ front) h = let m = cr-last (d ∷ front) h in (c ∷ m.0, ap (λ v. c ∷ v) m.1)
+
+-- a body up to a byte, that byte, and the rest
+at-byte : (body : List ℕ) (at b : ℕ) → 0 < at → at ≤ length body → get_or body (at - 1) 0 ≡ b → body ≡ take (at - 1) body ++ b ∷ drop at body
+at-byte body at b some within is =
+    let n : at - 1 + 1 ≡ at = omega arith in
+    sym (take-append-drop (at - 1) body)
+    ∙ ap (λ v. take (at - 1) body ++ v) (drop_more body (at - 1) 0 (omega arith) ∙ ap₂ (λ c k. c ∷ drop k body) is n)
+
+-- An LF after which no line ending comes.
+pub last-feed : (body : List ℕ) (at : ℕ) (by : LineEnding) → 0 < at → at ≤ length body → get_or body (at - 1) 0 ≡ line_feed → HoldsNoLineEnd (drop at body)
+    → ending_of by ≡ (if ends_in_cr (take (at - 1) body) then text.crlf else text.lf) → IsLastEnding body by
+last-feed body at by some within is plain h e gs ok are =
+    let front = take (at - 1) body in
+    let whole = at-byte body at line_feed some within is in
+    h ∙ elim (cases_Bool (ends_in_cr front)) [
+      | inl k ↦
+          let m = cr-last front k in
+          let both : body ≡ m.0 ++ (line_ending_text text.crlf ++ drop at body) =
+          whole ∙ ap (λ v. v ++ line_feed ∷ drop at body) m.1 ∙ append_assoc m.0 (carriage_return ∷ []) (line_feed ∷ drop at body) in
+          cond-true (ends_in_cr front) text.crlf text.lf k ∙ sym (last-ending e body gs m.0 text.crlf (drop at body) ok are both plain (λ q. absurd (cc)))
+      | inr k ↦
+          cond-false (ends_in_cr front) text.crlf text.lf k ∙ sym (last-ending e body gs front text.lf (drop at body) ok are whole plain (λ q. k))
+    ]
+
+-- A CR after which none comes.
+pub last-return : (body : List ℕ) (at : ℕ) → 0 < at → at ≤ length body → get_or body (at - 1) 0 ≡ carriage_return → HoldsNoLineEnd (drop at body)
+    → IsLastEnding body CR
+last-return body at some within is plain e gs ok are =
+    sym (last-ending e body gs (take (at - 1) body) text.cr (drop at body) ok are (at-byte body at carriage_return some within is) plain (λ q. absurd (cc)))
+
+-- No line ending at all.
+pub last-none : (body : List ℕ) (at : ℕ) → at ≡ 0 → HoldsNoLineEnd (drop at body) → IsLastEnding body LF
+last-none body at none plain e gs ok are = sym (no-ending e body gs ok are (subst (λ n. HoldsNoLineEnd (drop n body)) none plain))
+
+-- a byte that ends no line
+pub plain-more : (body : List ℕ) (at : ℕ) → 0 < at → at ≤ length body → get_or body (at - 1) 0 ≢ line_feed → get_or body (at - 1) 0 ≢ carriage_return
+    → HoldsNoLineEnd (drop at body) → HoldsNoLineEnd (drop (at - 1) body)
+plain-more body at some within feed return plain =
+    let n : at - 1 + 1 ≡ at = omega arith in
+    let b = get_or body (at - 1) 0 in
+    subst HoldsNoLineEnd (sym (drop_more body (at - 1) 0 (omega arith) ∙ ap (λ k. b ∷ drop k body) n))
+    (or-false (b == line_feed) (b == carriage_return) (other b line_feed feed) (other b carriage_return return), plain)
+  where
+    other : (x y : ℕ) → x ≢ y → (x == y) ≡ false
+    other x y h = elim (cases_Bool (x == y)) [ inl k ↦ absurd (h (eqb-true x y k)) | inr k ↦ k ]
+
+    or-false : (x y : Bool) → x ≡ false → y ≡ false → (x || y) ≡ false
+    or-false x y h k = rw (h, k) refl
+
+-- ---- the bytes of a pair
+
+-- a group of a body is in this span of it
+pub record IsPartAt (body : List ℕ) (before : List (List HeldLine)) (g : List HeldLine) (after : List (List HeldLine)) (start end : ℕ) : Type 0 where
+  pub ordered : start ≤ end
+  pub within : end ≤ length body
+  pub front : take start body ≡ groups_bytes before
+  pub part : take (end - start) (drop start body) ≡ unended_bytes g
+  pub back : drop end body ≡ ending_bytes (last_ending g) ++ groups_bytes after
+
+pub part-at : (e : Encoding) (body : List ℕ) (before : List (List HeldLine)) (g : List HeldLine) (after : List (List HeldLine)) (start end : ℕ) → is_editable e ≡ true
+    → held_groups_of e body ≡ before ++ g ∷ after → start ≡ length (groups_bytes before) → end ≡ start + length (unended_bytes g)
+    → IsPartAt body before g after start end
+part-at e body before g after start end ok division starts ends =
+    let a = groups_bytes before in
+    let b = unended_bytes g in
+    let c = ending_bytes (last_ending g) ++ groups_bytes after in
+    let whole : body ≡ a ++ (b ++ c) =
+    sym (held-body e body (held_groups_of e body) ok (held_groups_of-meets e body))
+    ∙ ap groups_bytes division
+    ∙ groups_bytes-append before (g ∷ after)
+    ∙ ap (λ v. a ++ (v ++ groups_bytes after)) (bytes-unended g)
+    ∙ ap (λ v. a ++ v) (append_assoc b (ending_bytes (last_ending g)) (groups_bytes after)) in
+    let size : length body ≡ length a + (length b + length c) = ap length whole ∙ length-append a (b ++ c) ∙ ap (λ n. length a + n) (length-append b c) in
+    let both : end ≡ length (a ++ b) = let l = length-append a b in omega arith in
+    record {
+      ordered = omega arith;
+      within = omega arith;
+      front = ap₂ take starts whole ∙ take-append_seam a (b ++ c);
+      part = ap (λ v. take (end - start) (drop start v)) whole ∙ middle-of a b c start end starts ends;
+      back = ap₂ drop both (whole ∙ sym (append_assoc a b c)) ∙ drop-append_seam (a ++ b) c;
+    }
+
+-- it is one group by itself
+pub part-group : (e : Encoding) (body : List ℕ) (before : List (List HeldLine)) (g : List HeldLine) (after : List (List HeldLine)) (bytes : List ℕ) → is_editable e ≡ true
+    → held_groups_of e body ≡ before ++ g ∷ after → bytes ≡ unended_bytes g → held_groups_of e bytes ≡ without_ending g ∷ []
+part-group e body before g after bytes ok division is =
+    ap (held_groups_of e) is ∙ unended-groups e body before g after ok (subst (AreGroupsOf e body) division (held_groups_of-meets e body))
+
+-- ---- the separator of the last pair
+
+pub last-part : (e : Encoding) (body : List ℕ) (span : BodySpan) → is_editable e ≡ true → (k : IsLastPairOf (held_groups_of e body) span)
+    → IsPartAt body k.before k.group k.after span.start span.end
+last-part e body span ok k = part-at e body k.before k.group k.after span.start span.end ok k.division k.starts k.ends
+
+-- The last pair by itself separates a key and a value.
+pub last-separated : (e : Encoding) (body : List ℕ) (span : BodySpan) → is_editable e ≡ true → (k : IsLastPairOf (held_groups_of e body) span)
+    → IsSeparated e (take (span.end - span.start) (drop span.start body))
+last-separated e body span ok k =
+    let part = last-part e body span ok k in record {
+      group = without_ending k.group;
+      is_group = part-group e body k.before k.group k.after _ ok k.division part.part;
+      between = k.between;
+      told = subst (λ x. between_told (split_of x) x ≡ Some k.between) (sym (unended-joined k.group)) k.told;
+    }
+
+told-between : (x b : List ℕ) (s : Logical) → between_told s x ≡ Some b → between_in x ≡ b
+told-between x b blank h = absurd (cc)
+told-between x b (comment text) h = absurd (cc)
+told-between x b (pair key value) h = cc
+
+-- The separator like that of the last pair is that of a new pair.
+pub last-separator : (e : Encoding) (body key separator : List ℕ) (span : BodySpan) → is_editable e ≡ true → (k : IsLastPairOf (held_groups_of e body) span)
+    → IsSeparatorLike e (take (span.end - span.start) (drop span.start body)) key separator → separator ≡ separator_by key (last_between (held_groups_of e body))
+last-separator e body key separator span ok k like =
+    let part = last-part e body span ok k in
+    let alone = part-group e body k.before k.group k.after _ ok k.division part.part in
+    let same : like.group ≡ without_ending k.group = let q = sym like.is_group ∙ alone in cc in
+    let between : between_of like.group ≡ k.between =
+    ap between_of same ∙ unended-between k.group ∙ told-between (joined (as_lines k.group)) k.between (split_of (joined (as_lines k.group))) k.told in
+    like.is_like ∙ ap (separator_after key) between ∙ sym (ap (separator_by key) k.last)
+
+-- The separator of a new pair is a good one.
+pub separator-good : (e : Encoding) (body key separator : List ℕ) → separator ≡ separator_by key (last_between (held_groups_of e body)) → is_good_separator separator ≡ true
+separator-good e body key separator h =
+    let groups = held_groups_of e body in
+    is_good_separator-from separator
+    (subst IsGoodSeparator (sym h) (new_separator-fit groups key (separator_by key (last_between groups)) (new_separator-meets groups key)).good)

@@ -1,0 +1,27 @@
+use Rattle.std.proofs.Common.{◌∙◌, ap₂, ◌++◌, drop, refl}
+use Rattle.std.specs.Str.{chars}
+use Rattle.std.proofs.lemmas.Result.{IfOk-weaker}
+use Rattle.std.proofs.lemmas.List.{take_rest}
+use Rattle.properties_format.specs.Text.{line_ending_text}
+use Rattle.properties_format.specs.Encoding.{output_encoding}
+use Rattle.properties_format.specs.Writing.{is_empty}
+use Rattle.properties_text.specs.Encoding.{encoding_of}
+use Rattle.java_properties.specs.Maps.{characters}
+use Rattle.java_properties.specs.Settings.{ending_of}
+use Rattle.java_properties.specs.BodyKeys.{parted}
+use Rattle.java_properties.proofs.NewPairs.{new_pair-appended}
+use Rattle.java_properties.proofs.edit.new_pair.with_new_pair.Goals as goal
+
+pub returns : goal.returns
+returns c =
+    let e = output_encoding (encoding_of c.args.opened.encoding) in
+    let source = c.args.source.now in
+    let layout = c.args.layout.now in
+    let ending = line_ending_text (ending_of layout.ending) in
+    let first = c.are_empty-first.ensures
+    ∙ ap₂ (λ v w. is_empty (v ++ w)) (take_rest source c.args.opened.start) (c.as_bytes.ensures.value ∙ c.parting_of-parting.ensures) in
+    IfOk-weaker c.concatenated.result _ _
+    (λ bytes h. new_pair-appended e source (drop c.args.opened.start source) (parted ending layout.closing) c.parting_of-parting.result.now c.new-line.result c.print_raw.new.line
+    c.print_new_pair.new.line bytes.items (chars c.args.key.now) (characters layout.separator) (chars c.args.value.now) ending c.are_empty-first.result
+    (h ∙ ap₂ (λ v w. source ++ (v ++ w)) c.as_slice.ensures refl) c.in_ok-print_new_pair.ensures c.in_ok-print_raw.ensures.appended c.new-line.ensures c.parting_of-parting.ensures first)
+    c.concatenated.ensures

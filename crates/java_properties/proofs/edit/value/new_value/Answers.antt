@@ -1,0 +1,18 @@
+use Rattle.std.specs.Str.{chars}
+use Rattle.properties_text.specs.Encoding.{encoding_of}
+use Rattle.java_properties.proofs.BodyKeys.{editable-bytes}
+use Rattle.java_properties.proofs.Editing.{output-same}
+use Rattle.java_properties.proofs.BodyValues.{before-value, value-new}
+use Rattle.java_properties.proofs.edit.value.new_value.Goals as goal
+
+pub front_size-requires-clause-before : goal.front_size-requires-clause-before
+front_size-requires-clause-before c =
+    before-value c.line-line.result.now c.in-Some.separator c.line-line.utf8 c.line-line.ensures c.in_ok-groups.ensures c.requires.alone c.in-Some.ensures
+
+pub returns : goal.returns
+returns c =
+    let ok = editable-bytes (encoding_of c.args.encoding) c.requires.bytes in
+    let other = (rw c.if-branch.false at c.in_ok-has_value.ensures).1 in
+    let printed = rw (output-same (encoding_of c.args.encoding) ok, c.new-bytes.ensures) at c.in_ok-print_value_after.ensures in
+    value-new (chars c.args.value.now) c.line-line.result.now c.cut.result.now c.print_value_after.new.line c.in_ok-front.front c.in-Some.separator ok
+    c.line-line.ensures c.in_ok-groups.ensures c.requires.alone c.in-Some.ensures other c.in_ok-front.ensures c.cut.ensures printed

@@ -1,0 +1,231 @@
+-- What looks at no character past ASCII sees the same in bytes of windows-1252 and in their characters.
+use Rattle.std.proofs.Common.{◌≡◌, ℕ, zero, suc, ◌<◌, ◌≤◌, ◌==◌, ◌%◌, ◌-◌, Bool, true, false, List, [], ◌∷◌, ◌++◌, length, take, drop, map, reverse, refl, sym, ap, ap₂, ◌∙◌, subst, inl, inr, arith, ne_eqb}
+use Rattle.std.proofs.lemmas.Bool.{cases_Bool, cases_lt}
+use Rattle.std.proofs.lemmas.List.{map-append, take-map, drop-map}
+use mathlib.Core.List.{reverse_aux}
+use Rattle.properties_format.specs.Text.{backslash, is_blank, is_separator, is_comment_sign, without_leading_blanks}
+use Rattle.properties_format.specs.Windows1252.{windows_1252_character}
+use Rattle.properties_format.specs.Groups.{leading_backslashes, ending_backslashes, is_open, begins_with_comment_sign, is_comment_line, without_last, without_open_backslash, addition, joined_after, joined, last_group}
+use Rattle.properties_format.specs.Lines.{Line, InputEnd, end, fault, more}
+use Rattle.properties_format.specs.Split.{comment, pair, IsSplit}
+use Rattle.properties_format.specs.Encoding.{windows_1252}
+use Rattle.properties_format.specs.Pieces.{characters}
+use Rattle.properties_format.specs.Reading.Encoding.{pieces_within, pieces_of}
+use Rattle.properties_format.specs.Reading.Cut.{decoded_line}
+use Rattle.properties_format.specs.Reading.Split.{without_trailing_blanks, unless_last_blank, trimmed, Cut, with_front, ends_key, cut_key, past_separator, pair_of, split_full, split_of}
+use Rattle.properties_format.specs.Reading.Groups.{closes, groups_after}
+use Rattle.properties_format.proofs.Encodings.Windows1252.{windows_1252-ascii, windows_1252_character-ascii}
+use Rattle.properties_format.proofs.Split.Unique.{split_of-meets, split_of-only}
+use Rattle.properties_format.proofs.Groups.Steps.{groups_after-close, groups_after-leave}
+use Rattle.properties_format.specs.Reading.Undecoded.{characters_of, decoded, in_text, LineCommutes, JoiningCommutes, SplittingCommutes}
+
+-- ---- one character
+
+-- a byte past ASCII is a character past ASCII
+pub past-character : (b : ℕ) → 0x80 ≤ b → 0x80 ≤ windows_1252_character b
+past-character b h = elim (cases_lt (windows_1252_character b) 0x80) [
+  | inl k ↦ absurd (let e = windows_1252-ascii b k in omega arith)
+  | inr k ↦ k
+]
+
+-- a byte is this character of ASCII, or not, as its character is
+pub same : (k : ℕ) → k < 0x80 → (b : ℕ) → (windows_1252_character b == k) ≡ (b == k)
+same k s b = elim (cases_lt b 0x80) [
+  | inl h ↦ ap (λ v. v == k) (windows_1252_character-ascii b h)
+  | inr h ↦ let p = past-character b h in ne_eqb (windows_1252_character b) k (λ e. absurd (omega arith)) ∙ sym (ne_eqb b k (λ e. absurd (omega arith)))
+]
+
+pub same-backslash : (b : ℕ) → (windows_1252_character b == backslash) ≡ (b == backslash)
+same-backslash = same backslash (omega arith)
+
+pub same-blank : (b : ℕ) → is_blank (windows_1252_character b) ≡ is_blank b
+same-blank b = rw (same 0x20 (omega arith) b, same 0x09 (omega arith) b, same 0x0c (omega arith) b) refl
+
+pub same-separator : (b : ℕ) → is_separator (windows_1252_character b) ≡ is_separator b
+same-separator b = rw (same 0x3d (omega arith) b, same 0x3a (omega arith) b) refl
+
+pub same-comment_sign : (b : ℕ) → is_comment_sign (windows_1252_character b) ≡ is_comment_sign b
+same-comment_sign b = rw (same 0x23 (omega arith) b, same 0x21 (omega arith) b) refl
+
+same-end : (b : ℕ) → ends_key (windows_1252_character b) ≡ ends_key b
+same-end b = rw (same-blank b, same-separator b) refl
+
+-- ---- decoding
+
+within : (n : ℕ) (d : List ℕ) → length d ≤ n → characters (pieces_within windows_1252 n d) ≡ characters_of d
+within n [] h = refl
+within zero (b ∷ d) h = absurd (omega arith)
+within (suc n) (b ∷ d) h = ap (λ v. windows_1252_character b ∷ v) (within n d (omega arith))
+
+pub decodes : (d : List ℕ) → decoded_line windows_1252 d ≡ characters_of d
+unfolding pieces_of
+decodes d = within (length d) d (omega arith)
+
+-- ---- blanks
+
+pub leading-blanks : (d : List ℕ) → without_leading_blanks (characters_of d) ≡ characters_of (without_leading_blanks d)
+leading-blanks [] = refl
+leading-blanks (b ∷ d) = elim (cases_Bool (is_blank b)) [
+  | inl t ↦ rw (same-blank b, t) (leading-blanks d)
+  | inr f ↦ rw (same-blank b, f) refl
+]
+
+unless : (b : ℕ) (d : List ℕ) → unless_last_blank (windows_1252_character b) (characters_of d) ≡ characters_of (unless_last_blank b d)
+unless b [] = elim (cases_Bool (is_blank b)) [ inl t ↦ rw (same-blank b, t) refl | inr f ↦ rw (same-blank b, f) refl ]
+unless b (c ∷ d) = refl
+
+trailing-blanks : (d : List ℕ) → without_trailing_blanks (characters_of d) ≡ characters_of (without_trailing_blanks d)
+trailing-blanks [] = refl
+trailing-blanks (b ∷ d) = ap (unless_last_blank (windows_1252_character b)) (trailing-blanks d) ∙ unless b (without_trailing_blanks d)
+
+trims : (d : List ℕ) → trimmed (characters_of d) ≡ characters_of (trimmed d)
+trims d = ap without_trailing_blanks (leading-blanks d) ∙ trailing-blanks (without_leading_blanks d)
+
+-- ---- open lines
+
+leading : (d : List ℕ) → leading_backslashes (characters_of d) ≡ leading_backslashes d
+leading [] = refl
+leading (b ∷ d) = elim (cases_Bool (b == backslash)) [
+  | inl t ↦ rw (same-backslash b, t) (ap suc (leading d))
+  | inr f ↦ rw (same-backslash b, f) refl
+]
+
+reversed-onto : (d y : List ℕ) → reverse_aux (characters_of d) (characters_of y) ≡ characters_of (reverse_aux d y)
+reversed-onto [] y = refl
+reversed-onto (b ∷ d) y = reversed-onto d (b ∷ y)
+
+reversed : (d : List ℕ) → reverse (characters_of d) ≡ characters_of (reverse d)
+reversed d = reversed-onto d []
+
+pub ending : (d : List ℕ) → ending_backslashes (characters_of d) ≡ ending_backslashes d
+ending d = ap leading_backslashes (reversed d) ∙ leading (reverse d)
+
+pub opens : (d : List ℕ) → is_open (characters_of d) ≡ is_open d
+opens d = ap (λ n. n % 2 == 1) (ending d)
+
+sign : (d : List ℕ) → begins_with_comment_sign (characters_of d) ≡ begins_with_comment_sign d
+sign [] = refl
+sign (b ∷ d) = same-comment_sign b
+
+pub comments : (d : List ℕ) → is_comment_line (characters_of d) ≡ is_comment_line d
+comments d = ap begins_with_comment_sign (leading-blanks d) ∙ sign (without_leading_blanks d)
+
+last-off : (d : List ℕ) → without_last (characters_of d) ≡ characters_of (without_last d)
+last-off [] = refl
+last-off (b ∷ []) = refl
+last-off (b ∷ c ∷ d) = ap (λ v. windows_1252_character b ∷ v) (last-off (c ∷ d))
+
+pub closed : (d : List ℕ) → without_open_backslash (characters_of d) ≡ characters_of (without_open_backslash d)
+closed d = elim (cases_Bool (is_open d)) [
+  | inl t ↦ rw (opens d, t) (last-off d)
+  | inr f ↦ rw (opens d, f) refl
+]
+
+pub adds : (d : List ℕ) → addition (characters_of d) ≡ characters_of (addition d)
+adds d = ap without_open_backslash (leading-blanks d) ∙ closed (without_leading_blanks d)
+
+joins : (d next : List ℕ) → decoded_line windows_1252 (without_open_backslash d ++ addition next)
+    ≡ without_open_backslash (decoded_line windows_1252 d) ++ addition (decoded_line windows_1252 next)
+joins d next =
+    decodes (without_open_backslash d ++ addition next)
+    ∙ map-append windows_1252_character (without_open_backslash d) (addition next)
+    ∙ ap₂ (λ x y. x ++ y) (sym (ap without_open_backslash (decodes d) ∙ closed d)) (sym (ap addition (decodes next) ∙ adds next))
+
+pub line-commutes : (d : List ℕ) → LineCommutes d
+line-commutes d = record {
+  decodes = decodes d;
+  blanks = leading-blanks d;
+  backslashes = ending d;
+  open_line = opens d;
+  comment_line = comments d;
+  closed = closed d;
+  adds = adds d;
+  joins = joins d;
+}
+
+-- ---- groups
+
+after : (ls : List Line) → joined_after (map decoded ls) ≡ characters_of (joined_after ls)
+after [] = refl
+after (l ∷ ls) = ap₂ (λ x y. x ++ y) (adds l.text) (after ls) ∙ sym (map-append windows_1252_character (addition l.text) (joined_after ls))
+
+joined-group : (ls : List Line) → joined (map decoded ls) ≡ characters_of (joined ls)
+joined-group [] = refl
+joined-group (l ∷ ls) = elim (cases_Bool (is_comment_line l.text)) [
+  | inl t ↦ rw (comments l.text, t) refl
+  | inr f ↦ rw (comments l.text, f) (
+      ap₂ (λ x y. x ++ y) (closed l.text) (after ls) ∙ sym (map-append windows_1252_character (without_open_backslash l.text) (joined_after ls)))
+]
+
+closing : (p : List Line) (l : Line) → closes (map decoded p) (decoded l) ≡ closes p l
+closing [] l = rw (comments l.text, opens l.text) refl
+closing (m ∷ p) l = rw (opens l.text) refl
+
+last-one : (p : List Line) (e : InputEnd) → last_group (map decoded p) e ≡ map (map decoded) (last_group p e)
+last-one [] e = refl
+last-one (l ∷ p) end = refl
+last-one (l ∷ p) fault = refl
+last-one (l ∷ p) more = refl
+
+after-group : (p ls : List Line) (e : InputEnd) → groups_after (map decoded p) (map decoded ls) e ≡ map (map decoded) (groups_after p ls e)
+after-group p [] e = last-one p e
+after-group p (l ∷ ls) e = elim (cases_Bool (closes p l)) [
+  | inl t ↦
+      groups_after-close (map decoded p) (decoded l) (map decoded ls) e (closing p l ∙ t)
+      ∙ ap₂ (λ g gs. g ∷ gs) (sym (map-append decoded p (l ∷ []))) (after-group [] ls e)
+      ∙ ap (map (map decoded)) (sym (groups_after-close p l ls e t))
+  | inr f ↦
+      groups_after-leave (map decoded p) (decoded l) (map decoded ls) e (closing p l ∙ f)
+      ∙ ap (λ g. groups_after g (map decoded ls) e) (sym (map-append decoded p (l ∷ [])))
+      ∙ after-group (p ++ l ∷ []) ls e
+      ∙ ap (map (map decoded)) (sym (groups_after-leave p l ls e f))
+]
+
+pub joining-commutes : (ls : List Line) → JoiningCommutes ls
+joining-commutes ls = record { joined_is = joined-group ls; groups_are = λ e. after-group [] ls e }
+
+-- ---- splitting
+
+cut_text : Cut → Cut
+cut_text cut = record { key = characters_of cut.key; rest = characters_of cut.rest }
+
+cuts : (d : List ℕ) (is_escaped : Bool) → cut_key (characters_of d) is_escaped ≡ cut_text (cut_key d is_escaped)
+unfolding cut_text
+cuts [] is_escaped = refl
+cuts (b ∷ d) true = ap (with_front (windows_1252_character b)) (cuts d false)
+cuts (b ∷ d) false = elim (cases_Bool (b == backslash)) [
+  | inl t ↦ rw (same-backslash b, t) (ap (with_front (windows_1252_character b)) (cuts d true))
+  | inr f ↦ elim (cases_Bool (ends_key b)) [
+    | inl k ↦ rw (same-backslash b, f, same-end b, k) refl
+    | inr k ↦ rw (same-backslash b, f, same-end b, k) (ap (with_front (windows_1252_character b)) (cuts d false))
+  ]
+]
+
+past : (d : List ℕ) → past_separator (characters_of d) ≡ characters_of (past_separator d)
+past [] = refl
+past (b ∷ d) = elim (cases_Bool (is_separator b)) [
+  | inl t ↦ rw (same-separator b, t) (leading-blanks d)
+  | inr f ↦ rw (same-separator b, f) refl
+]
+
+pairs : (c : Cut) → pair_of (cut_text c) ≡ in_text (pair_of c)
+unfolding cut_text
+pairs c = ap (pair (characters_of c.key)) (ap past_separator (leading-blanks c.rest) ∙ past (without_leading_blanks c.rest))
+
+full : (d : List ℕ) → split_full (characters_of d) ≡ in_text (split_full d)
+full [] = refl
+full (b ∷ d) = elim (cases_Bool (is_comment_sign b)) [
+  | inl t ↦ rw (same-comment_sign b, t) (ap comment (trims d))
+  | inr f ↦ rw (same-comment_sign b, f) (ap pair_of (cuts (b ∷ d) false) ∙ pairs (cut_key (b ∷ d) false))
+]
+
+pub splits : (d : List ℕ) → split_of (characters_of d) ≡ in_text (split_of d)
+unfolding split_of
+splits d = ap split_full (leading-blanks d) ∙ full (without_leading_blanks d)
+
+pub splitting-commutes : (d : List ℕ) → SplittingCommutes d
+splitting-commutes d = record {
+  split = λ what h. subst (IsSplit (characters_of d)) (splits d ∙ ap in_text (sym (split_of-only d what h))) (split_of-meets (characters_of d));
+  only = λ what h. (split_of d, split_of-meets d, split_of-only (characters_of d) what h ∙ splits d);
+  spans = λ start end. ap (take (end - start)) (drop-map windows_1252_character start d) ∙ take-map windows_1252_character (end - start) (drop start d);
+}
