@@ -23,7 +23,7 @@ use java_properties::{
 };
 use properties_text::encoding::{OutputEncoding, TextBuffer};
 use properties_text::escape::unescape;
-use properties_text::print::{LineBuffer, Place, Repertoire, SpeltPair, print_spelt_pair, print_text, print_value};
+use properties_text::print::{LineBuffer, Place, Repertoire, UndecodedPair, print_undecoded_pair, print_text, print_value};
 use properties_tools::arguments::words;
 use properties_tools::filter::{filter, filter_ascii};
 use properties_tools::messages::{say, say_error};
@@ -102,10 +102,6 @@ def is_free(name, text):
     return re.search(rf"(?<![.\w]){name}\b(?!\()", text) and (is_made or not is_bound)
 
 
-def as_spelt(found):
-    return found[0].replace("line", "spelt")
-
-
 def main():
     print(HEAD)
     for crate in CRATES:
@@ -120,10 +116,6 @@ def main():
                         if given == "map" and "write_sorted" in text:
                             how = how.replace("HashMap", "BTreeMap")
                         print("    " + how)
-                if "print_spelt_pair" in text:
-                    # Its input has the name of the buffer that it prints to.
-                    print("    let mut line = LineBuffer::new(alloc);")
-                    lines = [re.sub(r"let line = |(?<=parse\()line, line(?=\.len)", as_spelt, line) for line in lines]
                 for line in lines:
                     # A test returns no status.
                     print("    " + re.sub(r"return Ok\((.{3,})\);", r"let _ = \1; return Ok(());", line))

@@ -85,11 +85,11 @@ done
 run -h
 gives 0 "$(cat ../usage)\n" ''
 run --version
-gives 0 'propedit 1.2.0\n' ''
+gives 0 'propedit 1.3.0\n' ''
 run -f nowhere --help get
 gives 0 "$(cat ../usage)\n" ''
 run --version --help --no-such-option
-gives 0 'propedit 1.2.0\n' ''
+gives 0 'propedit 1.3.0\n' ''
 
 # get
 
@@ -186,35 +186,77 @@ app.properties:7: repeats the key of line 1
 
 given '# ports\r\nport : 80\r\n\r\n  host = a\r\n! end'
 run set port 8080
-gives 0 '# ports\r\nport=8080\r\n\r\n  host = a\r\n! end' ''
+gives 0 '# ports\r\nport : 8080\r\n\r\n  host = a\r\n! end' ''
 run remove host
 gives 0 '# ports\r\nport : 80\r\n\r\n! end' ''
 run set name 'a b'
-gives 0 '# ports\r\nport : 80\r\n\r\n  host = a\r\n! end\nname=a\\ b\n' ''
+gives 0 '# ports\r\nport : 80\r\n\r\n  host = a\r\n! end\r\nname = a b\r\n' ''
 run set port 1 remove host set port 2 set host b
-gives 0 '# ports\r\nport=2\r\n\r\n! end\nhost=b\n' ''
+gives 0 '# ports\r\nport : 2\r\n\r\n! end\r\nhost : b\r\n' ''
 run remove absent
 gives 0 '# ports\r\nport : 80\r\n\r\n  host = a\r\n! end' ''
 run -f app.properties set port 8080
-gives 0 '# ports\r\nport=8080\r\n\r\n  host = a\r\n! end' ''
+gives 0 '# ports\r\nport : 8080\r\n\r\n  host = a\r\n! end' ''
 holds app.properties '# ports\r\nport : 80\r\n\r\n  host = a\r\n! end'
 given 'a = 1\n'
 run set -f -i
-gives 0 'a = 1\n-f=-i\n' ''
+gives 0 'a = 1\n-f = -i\n' ''
 run -- remove a
 gives 0 '' ''
 run set set remove remove get
-gives 0 'a = 1\nset=remove\n' ''
+gives 0 'a = 1\nset = remove\n' ''
+
+# The layout of a line that is set
+
+given '# a\r\n  key    = old\r\nkey : older\r\nother=1'
+run set key new
+gives 0 '# a\r\n  key    = old\r\nkey : new\r\nother=1' ''
+run remove key set key new
+gives 0 '# a\r\nother=1\r\nkey=new\r\n' ''
+given '# a\r\n  \\u006bey    = old\r\nother=1'
+run set key 'http://a:1/?b=c d'
+gives 0 '# a\r\n  \\u006bey    = http://a:1/?b=c d\r\nother=1' ''
+run set key ' # a '
+gives 0 '# a\r\n  \\u006bey    = \\ # a\\u0020\r\nother=1' ''
+run set key ''
+gives 0 '# a\r\n  \\u006bey    = \r\nother=1' ''
+run set key 'C:\a'
+gives 0 '# a\r\n  \\u006bey    = C:\\\\a\r\nother=1' ''
+given 'a = 1 \\\n    2 \\\n    3\nb\\\n  c: d\n'
+run set a '1 2'
+gives 0 'a = 1 2\nb\\\n  c: d\n' ''
+run set a '1 2 3'
+gives 0 'a = 1 \\\n    2 \\\n    3\nb\\\n  c: d\n' ''
+run set bc e
+gives 0 'a = 1 \\\n    2 \\\n    3\nb\\\n  c: e\n' ''
+given 'a 1\nb\n'
+run set a =2 set b 2
+gives 0 'a \\=2\nb=2\n' ''
+
+# A new key has the separator of the last pair, and the last line ending.
+
+given 'a = 1\r\nb:  2\r\n# c'
+run set c 3 set d 4
+gives 0 'a = 1\r\nb:  2\r\n# c\r\nc: 3\r\nd: 4\r\n' ''
+given 'a\t1\r'
+run set b 2
+gives 0 'a\t1\rb\t2\r' ''
+given '# a\n'
+run set b 2
+gives 0 '# a\nb=2\n' ''
+given 'a: 1\\'
+run set b 2
+gives 0 'a: 1\\\n\nb: 2\n' ''
 
 # Encodings
 
 given 'host = a\n'
 run set host żółw
-gives 0 'host=żółw\n' ''
+gives 0 'host = żółw\n' ''
 run -e utf-8 set host żółw
-gives 0 'host=żółw\n' ''
+gives 0 'host = żółw\n' ''
 run -e windows-1252 set host żółw
-gives 0 'host=\\u017c\xf3\\u0142w\n' ''
+gives 0 'host = \\u017c\xf3\\u0142w\n' ''
 given 'host = \xc5\xbc\xc3\xb3\xc5\x82w\n'
 run get host
 gives 0 'żółw\n' ''
@@ -306,6 +348,7 @@ is_refused set a 1 get a
 is_refused get a set a 1
 is_refused set a 1 remove
 is_refused find a
+is_refused put a 2
 is_refused GET a
 is_refused utf-8 get a
 is_refused -e latin-1 get a
@@ -374,11 +417,11 @@ is "$? $(cat ../output)" '2 '
 given '# ports\nport = 80\nhost = a\n'
 run -i app.properties set port 8080 remove host
 gives 0 '' ''
-holds app.properties '# ports\nport=8080\n'
+holds app.properties '# ports\nport = 8080\n'
 leaves_nothing
 run -e windows-1252 -i app.properties -- set -i ó
 gives 0 '' ''
-holds app.properties '# ports\nport=8080\n-i=\xf3\n'
+holds app.properties '# ports\nport = 8080\n-i = \xf3\n'
 for mode in 600 640 664 4755; do
     given 'a = 1\n'
     chmod "$mode" app.properties
@@ -397,9 +440,9 @@ gives 0 '' ''
 holds app.properties 'a=1\n'
 
 # Nothing is written where nothing changes.
-given 'a=1\nb = 2\n'
+given 'a : \\u0031\nb = 2\n'
 before=$(stat -c '%i %y' app.properties)
-for line in 'set a 1' 'remove absent' 'set a 2 set a 1'; do
+for line in 'set a 1' 'remove absent' 'set b 3 set b 2'; do
     run -i app.properties $line
     gives 0 '' ''
     is "$(stat -c '%i %y' app.properties)" "$before"
@@ -429,7 +472,7 @@ ln -s ../sub/real.properties links/one
 ln -s one links/two
 run -i links/two set a 2
 gives 0 '' ''
-holds sub/real.properties 'a=2\n'
+holds sub/real.properties 'a = 2\n'
 is "$(readlink links/one) $(readlink links/two)" '../sub/real.properties one'
 leaves_nothing
 ln -s nowhere links/broken
@@ -443,7 +486,7 @@ ln app.properties other.properties
 run -i app.properties set a 2
 gives 0 '' ''
 holds other.properties 'a = 1\n'
-holds app.properties 'a=2\n'
+holds app.properties 'a = 2\n'
 rm other.properties
 
 # What is no regular file, or isn't there.

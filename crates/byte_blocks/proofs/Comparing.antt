@@ -6,7 +6,7 @@ use Rattle.std.proofs.lemmas.List.{length-map, map-id, ext_get_or, get_or-map}
 use Rattle.std.proofs.lemmas.Nat.{and_mask, and_le_r}
 use Rattle.std.proofs.lemmas.Simd.{bitmask_splat, tops_compared, mask_l-mod, zip2_splat, zip2_splat_left, zip2_of_maps, splat_is_map, length-zip2, map-map, swz_l, SwzOk, SwzOk-from_below, Each1-get_or, Each1-all, Each1-zip2, Each2-splat, length-swz_l, get_or-swz_l_below}
 use Rattle.byte_blocks.specs.Marks.{lowest_bits}
-use Rattle.byte_blocks.specs.Classes.{stands_in, is_line_end, is_plain_end, is_blank, is_special}
+use Rattle.byte_blocks.specs.Classes.{matches_table, is_line_end, is_plain_end, is_blank, is_special}
 use Rattle.byte_blocks.specs.declared.classes.TheConstants.{LINE_ENDS, PLAIN_ENDS, BLANKS, SPECIALS}
 
 -- Two tests that agree on every byte give the same marks.
@@ -98,7 +98,7 @@ swizzled xs lanes le below =
     ∙ sym (get_or-map (λ k. get_or xs k 0) lanes m 0 0 within))
 
 pub table-bits : (table block : List ℕ) → length block ≡ 16
-    → mask_l (map (top 7) (zip2 (λ a b. cond (eqb a b) 255 0) block (swz_l w8 16 table 0 (low block)))) % 2 ^ 64 ≡ mask_l (map (stands_in table) block)
+    → mask_l (map (top 7) (zip2 (λ a b. cond (eqb a b) 255 0) block (swz_l w8 16 table 0 (low block)))) % 2 ^ 64 ≡ mask_l (map (matches_table table) block)
 table-bits table block long =
     let near = λ (b : ℕ). get_or table (b % 16) 0 in
     let nibbles : low block ≡ map (λ b. b % 16) block = zip2_splat bit_and block 16 15 long ∙ masked block in
@@ -108,7 +108,7 @@ table-bits table block long =
     ap (λ l. mask_l l % 2 ^ 64)
     (tops_compared w8 eqb block (swz_l w8 16 table 0 (low block))
     ∙ zip2_of_maps eqb (λ b. b) near block (sym (map-id block)) found)
-    ∙ mask_l-mod (map (stands_in table) block) 64 (omega (arith, length-map block (stands_in table), long))
+    ∙ mask_l-mod (map (matches_table table) block) 64 (omega (arith, length-map block (matches_table table), long))
   where
     masked : (block : List ℕ) → map (λ b. bit_and b 15) block ≡ map (λ b. b % 16) block
     masked [] = refl
@@ -116,14 +116,14 @@ table-bits table block long =
 
 -- ---- which bytes the tables contain
 
-pub line_ends-table : (block : List ℕ) → Each1 (Fits w8) block → map (stands_in LINE_ENDS) block ≡ map is_line_end block
-line_ends-table block = each-same (stands_in LINE_ENDS) is_line_end block (λ b small. agree_below_at (stands_in LINE_ENDS) is_line_end 256 b refl small)
+pub line_ends-table : (block : List ℕ) → Each1 (Fits w8) block → map (matches_table LINE_ENDS) block ≡ map is_line_end block
+line_ends-table block = each-same (matches_table LINE_ENDS) is_line_end block (λ b small. agree_below_at (matches_table LINE_ENDS) is_line_end 256 b refl small)
 
-pub plain_ends-table : (block : List ℕ) → Each1 (Fits w8) block → map (stands_in PLAIN_ENDS) block ≡ map is_plain_end block
-plain_ends-table block = each-same (stands_in PLAIN_ENDS) is_plain_end block (λ b small. agree_below_at (stands_in PLAIN_ENDS) is_plain_end 256 b refl small)
+pub plain_ends-table : (block : List ℕ) → Each1 (Fits w8) block → map (matches_table PLAIN_ENDS) block ≡ map is_plain_end block
+plain_ends-table block = each-same (matches_table PLAIN_ENDS) is_plain_end block (λ b small. agree_below_at (matches_table PLAIN_ENDS) is_plain_end 256 b refl small)
 
-pub blanks-table : (block : List ℕ) → Each1 (Fits w8) block → map (stands_in BLANKS) block ≡ map is_blank block
-blanks-table block = each-same (stands_in BLANKS) is_blank block (λ b small. agree_below_at (stands_in BLANKS) is_blank 256 b refl small)
+pub blanks-table : (block : List ℕ) → Each1 (Fits w8) block → map (matches_table BLANKS) block ≡ map is_blank block
+blanks-table block = each-same (matches_table BLANKS) is_blank block (λ b small. agree_below_at (matches_table BLANKS) is_blank 256 b refl small)
 
-pub specials-table : (block : List ℕ) → Each1 (Fits w8) block → map (stands_in SPECIALS) block ≡ map is_special block
-specials-table block = each-same (stands_in SPECIALS) is_special block (λ b small. agree_below_at (stands_in SPECIALS) is_special 256 b refl small)
+pub specials-table : (block : List ℕ) → Each1 (Fits w8) block → map (matches_table SPECIALS) block ≡ map is_special block
+specials-table block = each-same (matches_table SPECIALS) is_special block (λ b small. agree_below_at (matches_table SPECIALS) is_special 256 b refl small)

@@ -26,5 +26,5 @@ abbrev pub is_past_ascii : ℕ → Bool
 is_past_ascii b = nat_le 0x80 b
 
 -- whether the byte equals the byte that a table of sixteen has at the index given by the byte's own low four bits
-abbrev pub stands_in : List ℕ → ℕ → Bool
-stands_in table b = b == get_or table (b % 16) 0
+abbrev pub matches_table : List ℕ → ℕ → Bool
+matches_table table b = b == get_or table (b % 16) 0

@@ -1,7 +1,7 @@
 // Classes of bytes.
 
 ghost use Rattle.std.specs.Prelude.{◌≡◌, ◌==◌, ◌||◌, ◌&&◌, ℕ, nat_le, Bool, not, map};
-ghost use Rattle.byte_blocks.specs.Classes.{is_line_end, is_plain_end, is_blank, is_special, is_control, is_past_ascii, stands_in};
+ghost use Rattle.byte_blocks.specs.Classes.{is_line_end, is_plain_end, is_blank, is_special, is_control, is_past_ascii, matches_table};
 
 use super::marks::Marks;
 use std::marker::PhantomData;
@@ -26,7 +26,7 @@ pub trait ByteClass {
 /// index, put any byte there that has a different index.
 #[inline(always)]
 pub fn table_marks(block: u8x16, table: [u8; 16]) -> Marks
-    ensures { result ≡ map (stands_in table) block }
+    ensures { result ≡ map (matches_table table) block }
 {
     let low = block & u8x16::splat(15);
     Marks::from_bits(

@@ -13,6 +13,6 @@ pub record AreBytesOf (e : Encoding) (s : Settings) (pairs : List Pair) (bytes :
   pub written : bytes ≡ wrote_pairs e s pairs
 
 -- Of any two lists of which these are the bytes in this writer's encoding and by its settings, it is told whether they are equal.
-abbrev pub TellsPairs : {W : Type 0} → Writing W → List ℕ → List ℕ → Bool → Type 0
-TellsPairs w first second same =
+abbrev pub ComparesPairs : {W : Type 0} → Writing W → List ℕ → List ℕ → Bool → Type 0
+ComparesPairs w first second same =
     (ps qs : List Pair) → AreBytesOf w.encoding w.settings ps first → AreBytesOf w.encoding w.settings qs second → Decides same (ps ≡ qs)

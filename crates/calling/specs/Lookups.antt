@@ -5,5 +5,5 @@ use Rattle.std.specs.declared.string.String.{String}
 use Rattle.java_properties.specs.Maps.{characters}
 
 -- the characters of a text that is lent
-abbrev pub lent_characters : {Z : Type 0} → Bor (String Z) → List ℕ
-lent_characters text = characters text.now
+abbrev pub borrowed_characters : {Z : Type 0} → Bor (String Z) → List ℕ
+borrowed_characters text = characters text.now

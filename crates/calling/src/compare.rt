@@ -1,6 +1,6 @@
 // Lists of pairs told apart by the bytes that they are written as. Reading inverts writing, so no two of them are alike.
 
-ghost use Rattle.calling.specs.Comparing.{TellsPairs};
+ghost use Rattle.calling.specs.Comparing.{ComparesPairs};
 
 use counted_io::CountedWrite;
 use java_properties::{PropertiesWriter, laws};
@@ -12,7 +12,7 @@ pub fn are_same_pairs<W: CountedWrite>(
     first: &[u8],
     second: &[u8],
 ) -> bool
-    ensures { TellsPairs writer.now first.now second.now result }
+    ensures { ComparesPairs writer.now first.now second.now result }
 {
     writer.tell_settings_are_good();
     laws::reading_inverts_writing();

@@ -9,7 +9,7 @@ ghost use Rattle.java_properties.specs.Errors.{IsBareError};
 ghost use Rattle.java_properties.specs.Maps.{ReadsValue, characters, value_at};
 ghost use Rattle.java_properties.specs.ReadLines.{StopsReading};
 ghost use Rattle.java_properties.specs.declared.error.ErrorKind.TheVariants.{Memory};
-ghost use Rattle.calling.specs.Lookups.{lent_characters};
+ghost use Rattle.calling.specs.Lookups.{borrowed_characters};
 
 use counted_io::CountedRead;
 use java_properties::{PropertiesError, read};
@@ -38,7 +38,7 @@ pub fn lookup<R: CountedRead>(
 // What a map has at a key: the lemma says that `get`, which looks for bytes, finds what the map has at their characters.
 #[tactic(auto, using(java_properties::proofs::TextMaps::Values::value_at_text))]
 fn value_of<'a>(map: &'a HashMap<String, String>, key: &str) -> Option<&'a String>
-    ensures { option_map lent_characters result ≡ value_at map.now.entries (chars key.now) }
+    ensures { option_map borrowed_characters result ≡ value_at map.now.entries (chars key.now) }
 {
     map.get(key)
 }

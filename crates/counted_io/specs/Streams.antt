@@ -29,7 +29,7 @@ Sink W = record {
   flush_gives : W → Result Unit Error → W → Type 0;
 }
 
--- the same in a proof
+-- what is known of a reader or a sink, made of the ghost functions of the two traits that it implements
 abbrev pub reader : {R : Type 0} → read.Ghosts R → counted_read.Ghosts R → Reader R
 reader r c = record { remaining = r.remaining; faults = c.faults; at_end = c.at_end; identity = c.identity; read_gives = c.read_gives }
 
@@ -56,7 +56,7 @@ pub record HasFailed {R : Type 0} (reader : Reader R) (old : R) (bytes : List �
   pub risen : HasRisen (reader.faults old) (reader.faults new)
   pub given : (before : R) × reader.read_gives before (Err error) new
 
--- It is the reference that it was, where it is one, and so is each that it lends on.
+-- If it is a reference, it is still the same one, and so is each reference behind it.
 abbrev pub IsSameReader : {R : Type 0} → Reader R → R → R → Type 0
 IsSameReader reader old new = reader.identity new ≡ reader.identity old
 
@@ -85,7 +85,7 @@ pub record HasFailedFlush {W : Type 0} (sink : Sink W) (old : W) (error : Error)
   pub same : sink.is_flushed new ≡ sink.is_flushed old
   pub given : (before : W) × sink.flush_gives before (Err error) new
 
--- It is the reference that it was, where it is one, and so is each that it lends on.
+-- If it is a reference, it is still the same one, and so is each reference behind it.
 abbrev pub IsSameSink : {W : Type 0} → Sink W → W → W → Type 0
 IsSameSink sink old new = sink.identity new ≡ sink.identity old
 

@@ -24,7 +24,7 @@ use Rattle.properties_format.proofs.Groups.Joined.{joined-push, joined-one, join
 use Rattle.properties_text.specs.Encoding.{encoding_of}
 use Rattle.properties_lines.specs.LineSearch.{unit_size}
 use Rattle.properties_lines.specs.HeldLines.{held_line, lines_left}
-use Rattle.properties_lines.specs.LogicalLine.{KeepsText, text_with, StandsAlone, OpensJoin, Begins}
+use Rattle.properties_lines.specs.LogicalLine.{KeepsText, text_with, IsNotContinued, OpensJoin, Begins}
 use Rattle.properties_lines.specs.Scanner as scanner
 use Rattle.properties_lines.specs.Scanner.{bytes_of, GivesLine}
 use Rattle.properties_lines.specs.declared.logical.LogicalLine.{LogicalLine}
@@ -89,7 +89,7 @@ line_size body start stop h k =
 pub takes-line : (body : List ℕ) (old : GroupReader) (new : Scanner) → IsWithin body old → GivesLine old.scanner body true new
     → TakesLine body old (record old { scanner = new })
 takes-line body old new w g =
-    let next = body-next old.scanner new body w.stands g in
+    let next = body-next old.scanner new body w.within_body g in
     let e = encoding_of new.encoding in
     let one : unit_size e ≡ 1 = ap unit_size next.0 ∙ w.bytes in
     let ordered = g.cut.ordered.0 in
@@ -98,16 +98,16 @@ takes-line body old new w g =
     record {
       live = g.live;
       ending = g.cut.ending;
-      lines = body-lines_left old.scanner new body w.stands g;
+      lines = body-lines_left old.scanner new body w.within_body g;
       starts = next.1;
       ordered = ordered;
       placed = placed;
       ends = between body (bytes_of body new.line) (scanner.ending_bytes e g.cut.ending) (drop new.at body) new.line.start new.line.end new.at
-          g.cut.stands refl ordered placed within (line_size body new.line.start new.line.end ordered (omega arith))
+          g.cut.division refl ordered placed within (line_size body new.line.start new.line.end ordered (omega arith))
           ∙ one-byte-ending e g.cut.ending one;
       passed = g.number;
-      told = g.told;
-      within = record { bytes = one; stands = body-after old.scanner new body g };
+      flags = g.flags;
+      within = record { bytes = one; within_body = body-after old.scanner new body g };
       encoding = next.0;
       same = refl;
     }
@@ -131,7 +131,7 @@ has-sizes : (body : List ℕ) (old new : GroupReader) (k : TakesLine body old ne
 has-sizes body old new k =
     let ordered = k.ordered in
     let placed = k.placed in
-    let within = k.within.stands.fits.within in
+    let within = k.within.within_body.fits.within in
     record {
       line = line_size body new.scanner.line.start new.scanner.line.end ordered (omega arith);
       ending_size = ap length (sym k.ends) ∙ line_size body new.scanner.line.end new.scanner.at placed within;
@@ -173,7 +173,7 @@ joined-alone l h = elim (cases_Bool (is_comment_line l.text)) [
   | inr k ↦ joined-closed l (rw k at h)
 ]
 
-not-left : (text : List ℕ) → StandsAlone text → (not (is_comment_line text) && is_open text) ≡ false
+not-left : (text : List ℕ) → IsNotContinued text → (not (is_comment_line text) && is_open text) ≡ false
 not-left text (inl h) = rw h refl
 not-left text (inr h) = elim (cases_Bool (is_comment_line text)) [ inl k ↦ rw k refl | inr k ↦ rw (k, h) refl ]
 
@@ -198,12 +198,12 @@ group-first E body old found l group false k begins number starts ends ending op
     let h : HeldLine = held_line e body found.scanner.line k.ending in
     let line : Line = record { number = 0; text = h.text } in
     let rest = lines_left body found.scanner in
-    let b = subst (λ v. StandsAlone (decoded_line v bytes) × KeepsText v bytes l.is_kept l.text) k.encoding begins in
+    let b = subst (λ v. IsNotContinued (decoded_line v bytes) × KeepsText v bytes l.is_kept l.text) k.encoding begins in
     let alone = not-left h.text b.0 in
     let same : take (group.end - group.start) (drop group.start body) ≡ bytes = ap₂ (λ m n. take (m - n) (drop n body)) ends starts in
     let ordered = k.ordered in
     let placed = k.placed in
-    let within = k.within.stands.fits.within in
+    let within = k.within.within_body.fits.within in
     record {
       first = h;
       more = [];
@@ -232,7 +232,7 @@ group-first E body old found l group true k begins number starts ends ending ope
     let left : (not (is_comment_line h.text) && is_open h.text) ≡ true = rw (other, open_text) refl in
     let ordered = k.ordered in
     let placed = k.placed in
-    let within = k.within.stands.fits.within in
+    let within = k.within.within_body.fits.within in
     record {
       first = h;
       more = [];

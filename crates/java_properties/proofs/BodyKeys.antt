@@ -20,7 +20,7 @@ use Rattle.properties_format.specs.Groups.{joined}
 use Rattle.properties_format.specs.Reading.Groups.{closes}
 use Rattle.properties_format.specs.Reading.Cut.{cut_of}
 use Rattle.properties_format.specs.Body.{HeldLine, as_lines, held_in, group_bytes, groups_bytes}
-use Rattle.properties_format.specs.Edited.{unreadable, final_group, added_ending, parting, is_empty_line, is_left_open}
+use Rattle.properties_format.specs.Edited.{unreadable, final_group, added_ending, separation, is_empty_line, is_left_open}
 use Rattle.properties_format.specs.Items.{broken}
 use Rattle.properties_format.specs.Reading.Items.{outcome_of, followed}
 use Rattle.properties_format.specs.Reading.Body.{is_pair_with, has_key, entries_in, held_of, held_lines_of, held_groups_after, held_groups_of}
@@ -32,7 +32,7 @@ use Rattle.properties_format.proofs.Edited.Steps.{last_place-new, last_place-oth
 use Rattle.properties_text.specs.Encoding.{encoding_of}
 use Rattle.java_properties.proofs.BodyGroups.{front-of}
 use Rattle.java_properties.specs.BodyGroups.{IsWithin, groups_left, text_of, TakesGroup}
-use Rattle.java_properties.specs.BodyKeys.{IsFaultOf, IsPlace, closing_of, parted, IsKeyFound, found_after}
+use Rattle.java_properties.specs.BodyKeys.{IsErrorOfGroups, IsPlace, closing_of, closing_bytes, IsKeyFound, found_after}
 use Rattle.java_properties.specs.GivenItems.{IsNoItem}
 use Rattle.java_properties.specs.declared.edit.groups.Group.{Group}
 use Rattle.java_properties.specs.declared.edit.groups.GroupReader.{GroupReader}
@@ -102,7 +102,7 @@ read-all {e} {body} {groups} {s} h done = h.all ∙ (rw done (append-nil groups)
 -- The first fault of a body is that of the group that came.
 pub read-fault : {e : Encoding} {body : List ℕ} {groups : List (List HeldLine)} {s t : GroupReader} {group : Group} (error : PropertiesError)
     → HasRead e body groups s → TakesGroup body s group t → IsNoItem group.number (chars (text_of body t group)) error
-    → IsFaultOf (held_groups_of e body) error
+    → IsErrorOfGroups (held_groups_of e body) error
 read-fault {e} {body} {groups} {s} {t} {group} error h k (inl (how, breaks, is)) =
     let broke : outcome_of (joined (as_lines k.held)) ≡ broken how = ap outcome_of (sym k.text) ∙ breaks in
     let number = k.number in
@@ -127,7 +127,7 @@ pub record HasLooked (e : Encoding) (body key : List ℕ) (s : GroupReader) (fou
   pub groups : List (List HeldLine)
   pub read : HasRead e body groups s
   pub pair : IsPlace key groups found.pair
-  pub closing : (groups ≡ []) ⊎ ((source : List ℕ) → parting source (final_group groups) ≡ parted (added_ending source) found.closing)
+  pub closing : (groups ≡ []) ⊎ ((source : List ℕ) → separation source (final_group groups) ≡ closing_bytes (added_ending source) found.closing)
 
 pub looked-none : (body key : List ℕ) (s : GroupReader) (found : place.KeyPlace) → s.scanner.at ≡ 0 → s.scanner.passed ≡ 0 → s.scanner.is_done ≡ false → IsWithin body s → found.pair ≡ None
     → HasLooked (encoding_of s.scanner.encoding) body key s found
@@ -135,15 +135,15 @@ looked-none body key s found at passed going w none =
     record { groups = []; read = read-none body s at passed going w; pair = subst (IsPlace key []) (sym none) refl; closing = inl refl }
 
 -- a group after which a new pair is parted so
-parted-group : (source : List ℕ) (g : List HeldLine) (group : Group) → group.is_empty ≡ is_empty_line g → group.is_open ≡ is_left_open g
-    → parting source g ≡ parted (added_ending source) (closing_of group.is_empty group.is_open)
-parted-group source g group a b = rw (a, b) (parted-tests source (is_empty_line g) (is_left_open g))
+closing_bytes-group : (source : List ℕ) (g : List HeldLine) (group : Group) → group.is_empty ≡ is_empty_line g → group.is_open ≡ is_left_open g
+    → separation source g ≡ closing_bytes (added_ending source) (closing_of group.is_empty group.is_open)
+closing_bytes-group source g group a b = rw (a, b) (closing_bytes-tests source (is_empty_line g) (is_left_open g))
   where
-    parted-tests : (source : List ℕ) (empty opens : Bool)
-        → (if empty then [] else (if opens then added_ending source ++ added_ending source else added_ending source)) ≡ parted (added_ending source) (closing_of empty opens)
-    parted-tests source true opens = refl
-    parted-tests source false true = refl
-    parted-tests source false false = refl
+    closing_bytes-tests : (source : List ℕ) (empty opens : Bool)
+        → (if empty then [] else (if opens then added_ending source ++ added_ending source else added_ending source)) ≡ closing_bytes (added_ending source) (closing_of empty opens)
+    closing_bytes-tests source true opens = refl
+    closing_bytes-tests source false true = refl
+    closing_bytes-tests source false false = refl
 
 -- the place with one more group after it
 place-kept : (key : List ℕ) (groups : List (List HeldLine)) (g : List HeldLine) (pair : Option BodySpan) → IsPlace key groups pair → has_key key g ≡ false
@@ -177,7 +177,7 @@ looked-more {e} {body} {key} {s} {t} {found} {group} told h k sound is = record 
   groups = h.groups ++ k.held ∷ [];
   read = read-more h.read k sound;
   pair = place-after key h.groups k.held group found.pair told h.pair (is ∙ ap (λ v. is_pair_with key (outcome_of v)) k.text) (k.starts ∙ h.read.placed) k.span.unended;
-  closing = inr (λ source. ap (parting source) (final_group-push h.groups k.held) ∙ parted-group source k.held group k.span.empty k.span.opens);
+  closing = inr (λ source. ap (separation source) (final_group-push h.groups k.held) ∙ closing_bytes-group source k.held group k.span.empty k.span.opens);
 }
 
 -- each body has lines
@@ -212,7 +212,7 @@ looked-all {e} {body} {key} {s} {found} h done =
       pair = subst (λ v. IsPlace key v found.pair) (sym all) h.pair;
       closing = elim h.closing [
         | inl none ↦ absurd (some-groups e body (all ∙ none))
-        | inr closing ↦ λ source. ap (λ v. parting source (final_group v)) all ∙ closing source
+        | inr closing ↦ λ source. ap (λ v. separation source (final_group v)) all ∙ closing source
       ];
     }
 
@@ -284,7 +284,7 @@ kept-removed {e} {body} {key} {s} {t} {others} {start} {group} more h k sound is
     let has : has_key key k.held ≡ true = ap (λ v. is_pair_with key (outcome_of v)) (sym k.text) ∙ sym is in
     let starts = k.starts in
     let ordered = h.ordered in
-    let place = h.read.within.stands.fits.within in
+    let place = h.read.within.within_body.fits.within in
     let within = within-append body others (record { start = start; end = group.start } ∷ []) h.within ((omega arith), (omega arith), tt) in
     record {
       groups = h.groups ++ k.held ∷ [];
@@ -356,7 +356,7 @@ pub kept-all : {e : Encoding} {body key : List ℕ} {s : GroupReader} {others : 
     → s.scanner.is_done ≡ true → more ≡ others ++ record { start = start; end = s.scanner.at } ∷ [] → AreOthersFound e body key more
 kept-all {e} {body} {key} {s} {others} {start} more h done pushed =
     let all = read-all h.read done in
-    let place = h.read.within.stands.fits.within in
+    let place = h.read.within.within_body.fits.within in
     let within = within-append body others (record { start = start; end = s.scanner.at } ∷ []) h.within (h.ordered, place, tt) in
     record {
       sound = subst AreSound (sym all) h.read.sound;

@@ -1,3 +1,5 @@
+pub mod Trails
+pub mod SoundSlots
 pub mod Put
 -- Slots in one array, and the cells that they are.
 pub mod Stacks
@@ -9,6 +11,7 @@ pub mod Removal
 pub mod RemovalPairs
 pub mod RemovalEnd
 pub mod RemovalLast
+pub mod Value
 use Rattle.std.proofs.Common.{◌≡◌, ◌<◌, ℕ, ◌+◌, suc, zero, List, [], ◌∷◌, ◌++◌, length, get_or, set, refl, ap, arith}
 use Rattle.properties_format.specs.Reading.Cells.{Cell}
 use Rattle.java_properties.specs.BodySlots.{IsCell, AreCells}

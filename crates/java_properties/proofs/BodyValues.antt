@@ -31,7 +31,7 @@ use Rattle.properties_format.proofs.Valued.Fronts.{AreDecoded, indented, joined_
 use Rattle.properties_format.proofs.Valued.Made.{group-decoded}
 use Rattle.properties_format.proofs.Valued.Sizes.{count-text}
 use Rattle.properties_format.proofs.Valued.Steps.{front_size-end, front_size-later}
-use Rattle.properties_format.proofs.Valued.Walks.{utf8_size, size-text, text-cut, added-size, open-some, StandsBefore, walk-begins, walk-ends, walk-here, walk-inside, walk-on}
+use Rattle.properties_format.proofs.Valued.Walks.{utf8_size, size-text, text-cut, added-size, open-some, IsWalkBefore, walk-begins, walk-ends, walk-here, walk-inside, walk-on}
 use Rattle.properties_text.specs.Encoding.{encoding_of}
 use Rattle.properties_lines.specs.HeldLines.{held_line, lines_left}
 use Rattle.properties_lines.specs.Scanner.{bytes_of}
@@ -63,7 +63,7 @@ use Rattle.properties_format.specs.Text.{without_leading_blanks}
 use Rattle.properties_format.specs.Split as split
 use Rattle.properties_format.specs.Split.{IsSplit, IsPair}
 use Rattle.properties_format.specs.Reading.Split.{Cut, cut_key, split_of}
-use Rattle.properties_format.specs.Reading.Valued.{ascii_count, after_ascii, after_key, written_value, between_in, before_value, between_told, without_end}
+use Rattle.properties_format.specs.Reading.Valued.{ascii_count, after_ascii, after_key, written_value, between_in, before_value, between_if_pair, without_end}
 use Rattle.properties_format.proofs.Split.Blanks.{without_leading_blanks-only}
 use Rattle.properties_format.proofs.Split.Keys.{cut_key-only}
 use Rattle.properties_format.proofs.Split.Unique.{between-ends, split_of-only}
@@ -197,15 +197,15 @@ between-pair line key value u at k v meets =
     ∙ chars-append (take value.start line) rest (IsUtf8-take line value.start u v.starts_whole) in
     record {
       is_span = record { ordered = ordered; within = let o = v.ordered in let w = v.within in omega arith; starts_whole = k.ends_whole; ends_whole = v.starts_whole };
-      told = ap (λ s. between_told s x) (sym (split_of-only x (split.pair (chars key_bytes) (chars rest)) meets))
+      of_pair = ap (λ s. between_if_pair s x) (sym (split_of-only x (split.pair (chars key_bytes) (chars rest)) meets))
           ∙ ap Some (ap₂ without_end after written ∙ without_end-append (chars (bytes_in line span)) (chars rest));
       before = sym (ap₂ without_end whole written ∙ without_end-append (chars (take value.start line)) (chars rest));
     }
 
 -- no pair separates a key and a value
-pub between-none : (line : List ℕ) (what : split.Logical) → IsSplit (chars line) what → between_told what (chars line) ≡ None
-    → between_told (split_of (chars line)) (chars line) ≡ None
-between-none line what h none = ap (λ s. between_told s (chars line)) (sym (split_of-only (chars line) what h)) ∙ none
+pub between-none : (line : List ℕ) (what : split.Logical) → IsSplit (chars line) what → between_if_pair what (chars line) ≡ None
+    → between_if_pair (split_of (chars line)) (chars line) ≡ None
+between-none line what h none = ap (λ s. between_if_pair s (chars line)) (sym (split_of-only (chars line) what h)) ∙ none
 
 -- ---- texts of blanks
 
@@ -270,7 +270,7 @@ pub record IsWalking (e : Encoding) (body : List ℕ) (s : GroupReader) (first :
   pub is_group : held_groups_of e body ≡ group ∷ []
   pub rest : List ℕ
   pub value : List ℕ
-  pub stands : StandsBefore e first (lines_left body s.scanner) rest value
+  pub is_before : IsWalkBefore e first (lines_left body s.scanner) rest value
   pub size : utf8_size rest ≡ left
   pub front : length (front_of e group) ≡ s.scanner.at + length (front_in e first rest (lines_left body s.scanner))
   pub within : IsWithin body s
@@ -287,7 +287,7 @@ walking-begins {e} {body} {before} s at going w same h =
       is_group = h.is_group;
       rest = rest;
       value = h.value;
-      stands = subst (λ v. StandsBefore e true v rest h.value) (sym lines) (walk-begins e h.group h.key h.value decoded h.is_pair);
+      is_before = subst (λ v. IsWalkBefore e true v rest h.value) (sym lines) (walk-begins e h.group h.key h.value decoded h.is_pair);
       size = h.size;
       front = let all : s.scanner.at + length (front_in e true rest (lines_left body s.scanner)) ≡ 0 + length (front_in e true rest h.group) =
           ap₂ (λ n v. n + length (front_in e true rest v)) at lines in
@@ -299,7 +299,7 @@ walking-begins {e} {body} {before} s at going w same h =
 
 pub walking-ends : {e : Encoding} {body : List ℕ} {s : GroupReader} {first : Bool} {left : ℕ} → IsWalking e body s first left → s.scanner.is_done ≡ true → ⊥
 walking-ends {e} {body} {s} {first} {left} w done =
-    walk-ends e first w.rest w.value (subst (λ v. StandsBefore e first v w.rest w.value) {x = lines_left body s.scanner} {y = []} (rw done refl) w.stands)
+    walk-ends e first w.rest w.value (subst (λ v. IsWalkBefore e first v w.rest w.value) {x = lines_left body s.scanner} {y = []} (rw done refl) w.is_before)
 
 -- the line that was taken, decoded to this text, adds this one
 pub record IsTaken (e : Encoding) (body : List ℕ) (new : GroupReader) (first : Bool) (text added : List ℕ) : Type 0 where
@@ -380,7 +380,7 @@ walking-found {e} {body} {old} {new} {first} {left} text added head ok w k t l w
     let h : HeldLine = held_line e body new.scanner.line k.ending in
     let hs = lines_left body new.scanner in
     let lines : lines_left body old.scanner ≡ h ∷ hs = k.lines ∙ ap (λ v. held_line v body new.scanner.line k.ending ∷ hs) w.encoding in
-    let stands : StandsBefore e first (h ∷ hs) w.rest w.value = subst (λ v. StandsBefore e first v w.rest w.value) lines w.stands in
+    let is_before : IsWalkBefore e first (h ∷ hs) w.rest w.value = subst (λ v. IsWalkBefore e first v w.rest w.value) lines w.is_before in
     let same : h.text ≡ chars text = sym t.decodes in
     let s = sizes-of first text added t.text_utf8 t.added_utf8 t.adds in
     let added_size : utf8_size (added_by first h.text) ≡ length added = ap (λ v. utf8_size (added_by first v)) same ∙ s.added_size in
@@ -392,7 +392,7 @@ walking-found {e} {body} {old} {new} {first} {left} text added head ok w k t l w
     elim (cases_Bool (nat_lt left (length added))) [
       | inl less ↦
           let shorter : left < length added = grind (arith) in
-          let a = more-than w.rest w.value (added_by first h.text) (joined_by false hs) stands.adds (omega arith) in
+          let a = more-than w.rest w.value (added_by first h.text) (joined_by false hs) is_before.adds (omega arith) in
           let ob = open_backslash (without_indent first h.text) in
           let y = a.0 ++ ob in
           let back : without_indent first h.text ≡ w.rest ++ y =
@@ -409,13 +409,13 @@ walking-found {e} {body} {old} {new} {first} {left} text added head ok w k t l w
           let m = text-cut text x y (length text - open_count (chars text) - length added + left) t.text_utf8 (sym same ∙ cut) at in
           let count : ascii_count x ≡ ascii_count (take (length text - open_count (chars text) - length added + left) text) =
           ap ascii_count (sym m.front_chars) ∙ count-text (take (length text - open_count (chars text) - length added + left) text) m.front_utf8 in
-          walk-inside e first h hs w.rest w.value ok stands (omega arith) x y cut back
+          walk-inside e first h hs w.rest w.value ok is_before (omega arith) x y cut back
           ∙ ap (λ n. after_ascii n bytes) count
           ∙ sym (inside shorter)
       | inr more ↦
           let all : left ≡ length added = grind (arith) in
-          let is_rest = walk-here e first h hs w.rest w.value stands (omega arith) in
-          front_size-end e first h hs w.rest ok stands.decoded.0 is_rest
+          let is_rest = walk-here e first h hs w.rest w.value is_before (omega arith) in
+          front_size-end e first h hs w.rest ok is_before.decoded.0 is_rest
           ∙ ap (λ v. length bytes - open_count v) same
           ∙ sym (whole all)
     ] in
@@ -430,16 +430,16 @@ walking-on {e} {body} {old} {new} {first} {left} text added w k t l =
     let h : HeldLine = held_line e body new.scanner.line k.ending in
     let hs = lines_left body new.scanner in
     let lines : lines_left body old.scanner ≡ h ∷ hs = k.lines ∙ ap (λ v. held_line v body new.scanner.line k.ending ∷ hs) w.encoding in
-    let stands : StandsBefore e first (h ∷ hs) w.rest w.value = subst (λ v. StandsBefore e first v w.rest w.value) lines w.stands in
+    let is_before : IsWalkBefore e first (h ∷ hs) w.rest w.value = subst (λ v. IsWalkBefore e first v w.rest w.value) lines w.is_before in
     let s = sizes-of first text added t.text_utf8 t.added_utf8 t.adds in
     let added_size : utf8_size (added_by first h.text) ≡ length added = ap (λ v. utf8_size (added_by first v)) (sym t.decodes) ∙ s.added_size in
     let size = w.size in
-    let on = walk-on e first h hs w.rest w.value stands (omega arith) in
-    let later = front_size-later e first h hs w.rest on.next on.whole on.stands.some in
+    let on = walk-on e first h hs w.rest w.value is_before (omega arith) in
+    let later = front_size-later e first h hs w.rest on.next on.whole on.is_before.some in
     let starts = k.starts in
     let ordered = k.ordered in
     let placed = k.placed in
-    let inside = k.within.stands.fits.within in
+    let inside = k.within.within_body.fits.within in
     let line_size : length bytes ≡ new.scanner.line.end - new.scanner.line.start = length-slice body new.scanner.line.start new.scanner.line.end (omega arith) in
     let ending_size : length (ending_bytes k.ending) ≡ new.scanner.at - new.scanner.line.end =
     ap length (sym k.ends) ∙ length-slice body new.scanner.line.end new.scanner.at inside in
@@ -451,7 +451,7 @@ walking-on {e} {body} {old} {new} {first} {left} text added w k t l =
       is_group = w.is_group;
       rest = on.next;
       value = w.value;
-      stands = on.stands;
+      is_before = on.is_before;
       size = omega arith;
       front = omega arith;
       within = k.within;
@@ -465,17 +465,17 @@ walking-on {e} {body} {old} {new} {first} {left} text added w k t l =
 
 -- ---- a pair with another value
 
-pub told-pair : (x b : List ℕ) (s : split.Logical) → IsSplit x s → between_told s x ≡ Some b → ((key value : List ℕ) × IsPair x key value) × (between_in x ≡ b)
-told-pair x b split.blank h k = absurd (cc)
-told-pair x b (split.comment text) h k = absurd (cc)
-told-pair x b (split.pair key value) h k = ((key, value, h), cc)
+pub is_pair-from_between : (x b : List ℕ) (s : split.Logical) → IsSplit x s → between_if_pair s x ≡ Some b → ((key value : List ℕ) × IsPair x key value) × (between_in x ≡ b)
+is_pair-from_between x b split.blank h k = absurd (cc)
+is_pair-from_between x b (split.comment text) h k = absurd (cc)
+is_pair-from_between x b (split.pair key value) h k = ((key, value, h), cc)
 
 -- what separates key and value of a line, and that it is a pair
 pub line-pair : (line x : List ℕ) (span : Span) → chars line ≡ x → IsBetweenAt line span
     → ((key value : List ℕ) × IsPair x key value) × (between_in x ≡ chars (bytes_in line span))
 line-pair line x span h at =
-    let told = subst (λ v. between_told (split_of v) v ≡ Some (chars (bytes_in line span))) h at.told in
-    told-pair x (chars (bytes_in line span)) (split_of x) (split_of-meets x) told
+    let told = subst (λ v. between_if_pair (split_of v) v ≡ Some (chars (bytes_in line span))) h at.of_pair in
+    is_pair-from_between x (chars (bytes_in line span)) (split_of x) (split_of-meets x) told
 
 -- The first group of a body that is one group is that one.
 pub same-group : {e : Encoding} {body : List ℕ} {group : Group} {s : GroupReader} (f : IsFirstGroup e body group s) (a : IsPairAlone e body) → f.held ≡ a.group
@@ -549,12 +549,12 @@ separator-like {e} {body} {group} {s} key line cut separator span is f a at same
 
 -- A pair by itself is separated.
 pub separated-some : {e : Encoding} {body : List ℕ} {group : Group} {s : GroupReader} (line : List ℕ) → line ≡ text_of body s group → IsFirstGroup e body group s → IsSeparated e body
-    → between_told (split_of (chars line)) (chars line) ≡ None → ⊥
+    → between_if_pair (split_of (chars line)) (chars line) ≡ None → ⊥
 separated-some line is f a none =
     let one : f.held ≡ a.group = let q = sym f.groups ∙ a.is_group in cc in
     let text : chars line ≡ joined (as_lines a.group) = ap chars is ∙ f.text ∙ ap (λ g. joined (as_lines g)) one in
-    let told = a.told in
-    let lacks = subst (λ x. between_told (split_of x) x ≡ None) text none in
+    let told = a.of_pair in
+    let lacks = subst (λ x. between_if_pair (split_of x) x ≡ None) text none in
     absurd (cc)
 
 -- A source with a value for a pair, from what stays of the pair and what follows it.

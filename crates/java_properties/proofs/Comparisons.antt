@@ -181,6 +181,9 @@ edit-eq (edit.Put k v) (edit.Put l w) =
 edit-eq (edit.Put k v) other = ((λ e. absurd (cc)), (λ h. absurd h))
 edit-eq (edit.Remove k) (edit.Remove l) = bytes_decides (string_bytes k) (string_bytes l)
 edit-eq (edit.Remove k) other = ((λ e. absurd (cc)), (λ h. absurd h))
+edit-eq (edit.SetValue k v) (edit.SetValue l w) =
+    both-tests _ _ (bytes_decides (string_bytes k) (string_bytes l)) (bytes_decides (string_bytes v) (string_bytes w))
+edit-eq (edit.SetValue k v) other = ((λ e. absurd (cc)), (λ h. absurd h))
 
 -- a clone of an edit
 pub edit-clone : (x y : Edit) → (edit_clone.ghosts).is_clone x y → IsSameEdit x y
@@ -188,3 +191,5 @@ edit-clone (edit.Put k v) (edit.Put l w) e = (cc, cc)
 edit-clone (edit.Put k v) other e = absurd e
 edit-clone (edit.Remove k) (edit.Remove l) e = cc
 edit-clone (edit.Remove k) other e = absurd e
+edit-clone (edit.SetValue k v) (edit.SetValue l w) e = (cc, cc)
+edit-clone (edit.SetValue k v) other e = absurd e

@@ -13,7 +13,7 @@ use Rattle.std.specs.Prelude.{not}
 use Rattle.std.proofs.Common.{lit<, take-add}
 use Rattle.std.specs.Prelude.{◌&&◌, unwrap_or}
 use Rattle.properties_format.specs.Text.{scalar, line_feed, equals_sign}
-use Rattle.properties_format.specs.Printing.{in_key_or_value, spelt_key, spelt_text, encoded_text}
+use Rattle.properties_format.specs.Printing.{in_key_or_value, printed_key, printed_characters, encoded_text}
 use Rattle.properties_format.proofs.Printing.Characters.{encoded-ascii, encoded_text-append}
 use Rattle.properties_text.specs.Encoding.{output_of}
 use Rattle.properties_text.specs.Printing.{key_bytes, text_bytes}
@@ -26,7 +26,7 @@ use Rattle.properties_format.proofs.Laws.{splitting-commutes}
 use Rattle.properties_format.specs.Lines.{end}
 use Rattle.properties_format.specs.Writing.{is_empty}
 use Rattle.properties_format.specs.Body.{ending_bytes, groups_bytes, last_ending}
-use Rattle.properties_format.specs.Edited.{bom_of, pair_bytes, parting, added_ending, is_editable, EditResult, edited, unsupported, IsSetKeyResult, IsRemoveKeyResult}
+use Rattle.properties_format.specs.Edited.{bom_of, pair_bytes, separation, added_ending, is_editable, EditResult, edited, unsupported, IsSetKeyResult, IsRemoveKeyResult}
 use Rattle.properties_format.specs.Reading.Items.{items_of}
 use Rattle.properties_format.specs.Reading.Body.{held_groups_of, entries_in}
 use Rattle.properties_format.specs.Reading.Slots.{unended_bytes}
@@ -51,12 +51,20 @@ use Rattle.properties_format.specs.Reading.Slots.{slots_bytes, slots_of}
 use Rattle.properties_format.specs.Reading.EditedSlots.{slots_edited, source_slots, slots_after, slots_made}
 use Rattle.properties_format.proofs.Slots.Edits.{edit_all_result-slots, slots_after-push}
 use Rattle.properties_format.proofs.Slots.WellEnded.{slots_after-well_ended}
+use Rattle.properties_format.specs.Reading.ValuedSlots.{AreReadAgain}
+use Rattle.properties_format.proofs.Slots.ValuedBody.{slots_after-read_again}
 use Rattle.java_properties.specs.Editing.{edit_in, edits_in, AreMade}
-use Rattle.java_properties.specs.BodySlots.{Holds, HoldsIn, Changes}
+use Rattle.properties_format.proofs.Edits.Contents.{edits-contents}
+use Rattle.properties_format.proofs.Changed.Read.{readable}
+use Rattle.properties_format.proofs.Edits.Results.{edits_made-meets}
+use Rattle.properties_format.specs.Reading.Edits.{edits_made}
+use Rattle.java_properties.proofs.BodySlots.SoundSlots.{slots_after-contents}
+use Rattle.java_properties.specs.BodySlots.{HaveContents}
+use Rattle.java_properties.specs.BodySlots.{Holds, HoldsIn, ReadsIn, Changes}
 use Rattle.java_properties.specs.declared.edit.slots.Slots.{Slots}
-use Rattle.properties_format.proofs.Changed.Stand.{key_set-keeps, key_removed-keeps}
+use Rattle.properties_format.proofs.Changed.Occur.{key_set-keeps, key_removed-keeps}
 use Rattle.properties_text.specs.Encoding.{encoding_of}
-use Rattle.java_properties.specs.BodyKeys.{IsFaultOf, IsPlaceOf, IsPlace, IsKeyFound, AreOthersFound, left_bytes, parted}
+use Rattle.java_properties.specs.BodyKeys.{IsErrorOfGroups, IsPlaceOf, IsPlace, IsKeyFound, AreOthersFound, left_bytes, closing_bytes}
 use Rattle.java_properties.specs.Editing.{IsRefusal, IsSet, IsRemoved}
 use Rattle.java_properties.specs.Sources.{IsInForce}
 use Rattle.java_properties.proofs.BodyGroups.{front-of, no-bytes}
@@ -103,7 +111,7 @@ not-unsupported h ok none = let yes = ap (λ v. let w : InForce = v in is_editab
 pub refusal : {source : List ℕ} {e : Encoding} {opened : BodyStart} {error : PropertiesError} (IsMeant : EditResult → Type 0) (made : List ℕ)
     → IsInForce source e opened → is_editable (encoding_of opened.encoding) ≡ true
     → IsMeant (result_of e source made) → (IsMeant unsupported → is_editable (byte_order_mark e source).encoding ≡ false)
-    → IsFaultOf (held_groups_of (encoding_of opened.encoding) (drop opened.start source)) error → IsRefusal IsMeant error
+    → IsErrorOfGroups (held_groups_of (encoding_of opened.encoding) (drop opened.start source)) error → IsRefusal IsMeant error
 refusal IsMeant made h ok meets only (inl (how, n, first, is)) = inr (inl (how, n, subst IsMeant (groups-of made h ok ∙ first made) meets, is))
 refusal IsMeant made h ok meets only (inr is) = inr (inr ((λ none. not-unsupported h ok (only none)), is))
 
@@ -137,8 +145,8 @@ pub pair-parts : (output : OutputEncoding) (first : Bool) (key value : List ℕ)
     pair_bytes (output_of output) first key value ≡ key_bytes r first key ++ (equals_sign ∷ text_bytes r KeyOrValue value)
 pair-parts output first key value =
     let e = output_of output in
-    let front = spelt_key e false first key in
-    let back = spelt_text e false in_key_or_value value in
+    let front = printed_key e false first key in
+    let back = printed_characters e false in_key_or_value value in
     encoded_text-append e front (equals_sign ∷ back)
     ∙ ap (λ o. encoded_text e front ++ (unwrap_or o [] ++ encoded_text e back)) (encoded-ascii e equals_sign (lit< tt))
 
@@ -166,11 +174,11 @@ pub are_empty : (x y : List ℕ) (a b : Bool) → a ≡ (length x == 0) → b �
 are_empty x y a b h k = ap₂ (λ v w. v && w) (h ∙ no-bytes x) (k ∙ no-bytes y) ∙ sym (is_empty-append x y)
 
 -- a pair at the end is printed and ended
-pub appended : (e f : Encoding) (source parting all : List ℕ) (first other : Bool) (key value start paired ended : List ℕ) → start ≡ []
-    → paired ≡ start ++ pair_bytes e first key value → ended ≡ paired ++ line_feed ∷ [] → all ≡ source ++ (parting ++ ended) → first ≡ other
-    → all ≡ source ++ (parting ++ (pair_bytes e other key value ++ line_feed ∷ []))
-appended e f source parting all first other key value start paired ended none h k m is =
-    m ∙ ap (λ v. source ++ (parting ++ v)) (k ∙ ap (λ v. v ++ line_feed ∷ []) (h ∙ ap₂ (λ v b. v ++ pair_bytes e b key value) none is))
+pub appended : (e f : Encoding) (source separation all : List ℕ) (first other : Bool) (key value start paired ended : List ℕ) → start ≡ []
+    → paired ≡ start ++ pair_bytes e first key value → ended ≡ paired ++ line_feed ∷ [] → all ≡ source ++ (separation ++ ended) → first ≡ other
+    → all ≡ source ++ (separation ++ (pair_bytes e other key value ++ line_feed ∷ []))
+appended e f source separation all first other key value start paired ended none h k m is =
+    m ∙ ap (λ v. source ++ (separation ++ v)) (k ∙ ap (λ v. v ++ line_feed ∷ []) (h ∙ ap₂ (λ v b. v ++ pair_bytes e b key value) none is))
 
 -- ---- a pair is replaced
 
@@ -254,8 +262,8 @@ replaced-result {source} {e} {opened} {found} key value bytes pair h ok k is mad
 -- The source with the pair at its end is its result.
 pub appended-result : {source : List ℕ} {e : Encoding} {opened : BodyStart} {found : place.KeyPlace} (key value bytes : List ℕ) → IsInForce source e opened
     → is_editable (encoding_of opened.encoding) ≡ true → IsKeyFound (encoding_of opened.encoding) (drop opened.start source) key found → found.pair ≡ None
-    → let parting = parted (added_ending source) found.closing in
-    bytes ≡ source ++ (parting ++ (pair_bytes (output_encoding (encoding_of opened.encoding)) (is_empty (drop opened.start source ++ parting)) key value ++ line_feed ∷ []))
+    → let separation = closing_bytes (added_ending source) found.closing in
+    bytes ≡ source ++ (separation ++ (pair_bytes (output_encoding (encoding_of opened.encoding)) (is_empty (drop opened.start source ++ separation)) key value ++ line_feed ∷ []))
     → set_key_result e source key value ≡ edited bytes
 appended-result {source} {e} {opened} {found} key value bytes h ok k none made =
     let f = encoding_of opened.encoding in
@@ -264,7 +272,7 @@ appended-result {source} {e} {opened} {found} key value bytes h ok k none made =
     let last : last_place key gs ≡ None = subst (IsPlace key gs) none k.pair in
     let all : groups_bytes gs ≡ body = held-body f body gs ok (held_groups_of-meets f body) in
     let parts = k.closing source in
-    let by = parted (added_ending source) found.closing in
+    let by = closing_bytes (added_ending source) found.closing in
     let pair = pair_bytes f (is_empty (body ++ by)) key value ++ line_feed ∷ [] in
     let whole : source ≡ bom_of source ++ body = source-whole e source ∙ ap (λ v. let w : InForce = v in bom_of source ++ w.body) h.in_force in
     let set : key_set e source key value ≡ bytes =
@@ -395,6 +403,7 @@ pub edits-scalars : (edits : List edit.Edit) → AreScalarEdits (edits_in edits)
 edits-scalars [] = tt
 edits-scalars (variant.Put key value ∷ edits) = ((string-scalars key, string-scalars value), edits-scalars edits)
 edits-scalars (variant.Remove key ∷ edits) = (tt, edits-scalars edits)
+edits-scalars (variant.SetValue key value ∷ edits) = ((string-scalars key, string-scalars value), edits-scalars edits)
 
 pub edits_in-more : (edits : List edit.Edit) (i : ℕ) (d : edit.Edit) → i < length edits
     → edits_in (take (i + 1) edits) ≡ edits_in (take i edits) ++ edit_in (get_or edits i d) ∷ []
@@ -419,6 +428,23 @@ pub slots-held : {source : List ℕ} {e : Encoding} {opened : BodyStart} (body :
     → is_editable (encoding_of opened.encoding) ≡ true → AreScalarEdits edits → Holds body slots (slots_after e source edits) → HoldsIn body slots
 slots-held {source} {e} {opened} body slots edits h ok scalar holds =
     record { slots = slots_after e source edits; holds = holds; well_ended = slots_after-well_ended e source edits (editable h ok) scalar }
+
+-- each of which is read again as it is,
+pub slots-read : {source : List ℕ} {e : Encoding} {opened : BodyStart} (body : List ℕ) (slots : Slots) (edits : List Edit) → IsInForce source e opened
+    → is_editable (encoding_of opened.encoding) ≡ true → AreSound (held_groups_of (encoding_of opened.encoding) (drop opened.start source))
+    → AreScalarEdits edits → Holds body slots (slots_after e source edits)
+    → ReadsIn (encoding_of opened.encoding) body slots
+slots-read {source} {e} {opened} body slots edits h ok sound scalar holds =
+    let made = edits_made e source edits in
+    let is = subst (IsEditAllResult e source edits) (result-made made h ok sound) (edit_all_result-meets e source edits) in
+    let said = edits-contents e source edits made (readable e source is.0 is.1) scalar (edits_made-meets e source edits is.0) in
+    record {
+      held = record { slots = slots_after e source edits; holds = holds; well_ended = slots_after-well_ended e source edits (editable h ok) scalar };
+      again = subst (λ v. AreReadAgain v (slots_after e source edits).list) (ap (λ v. let w : InForce = v in w.encoding) h.in_force)
+          (slots_after-read_again e source edits (editable h ok) scalar);
+      told = subst (λ v. HaveContents v (slots_after e source edits).list) (ap (λ v. let w : InForce = v in w.encoding) h.in_force)
+          (slots_after-contents e source edits (editable h ok) scalar said.readable.no_fault);
+    }
 
 -- and one more edit is made to them.
 pub slots-more : {source : List ℕ} {e : Encoding} {opened : BodyStart} (slots next : Slots) (edits : List Edit) (edit : Edit) → IsInForce source e opened

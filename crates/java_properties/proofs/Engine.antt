@@ -5,7 +5,7 @@ use Rattle.properties_format.specs.Text.{LineEnding, line_ending_text}
 use Rattle.properties_format.specs.Encoding.{Encoding}
 use Rattle.properties_format.specs.Entries.{Content, comment, pair}
 use Rattle.properties_format.specs.Reading.Settings.{is_good_separator}
-use Rattle.properties_format.specs.Printing.{encoded_text, spelt_text, spelt_key, in_prefix, in_comment, in_key_or_value}
+use Rattle.properties_format.specs.Printing.{encoded_text, printed_characters, printed_key, in_prefix, in_comment, in_key_or_value}
 use Rattle.properties_format.proofs.Printing.Characters.{printed-comment, printed-pair, line_end-ascii, good_separator-ascii}
 use Rattle.properties_format.proofs.Settings.Tests.{IsGoodSeparator-from_test}
 use Rattle.properties_text.proofs.Printing.Characters.{encoded_text-raw}
@@ -23,13 +23,13 @@ ending_bytes w = encoded_text (output_of w.encoding) (line_ending_text w.setting
 line-parts : (w : Engine) (line : Content) → content_bytes w line ++ ending_bytes w ≡ line_bytes w line
 line-parts w (comment text) =
     let e = output_of w.encoding in
-    append_assoc (encoded_text e (spelt_text e w.settings.ascii_only in_prefix w.settings.comment_prefix)) (encoded_text e (spelt_text e w.settings.ascii_only in_comment text)) (ending_bytes w)
+    append_assoc (encoded_text e (printed_characters e w.settings.ascii_only in_prefix w.settings.comment_prefix)) (encoded_text e (printed_characters e w.settings.ascii_only in_comment text)) (ending_bytes w)
     ∙ sym (printed-comment e w.settings (w.lines == 0) text)
 line-parts w (pair key value) =
     let e = output_of w.encoding in
-    let front = encoded_text e (spelt_key e w.settings.ascii_only (w.lines == 0) key) in
+    let front = encoded_text e (printed_key e w.settings.ascii_only (w.lines == 0) key) in
     let middle = encoded_text e w.settings.kv_separator in
-    let back = encoded_text e (spelt_text e w.settings.ascii_only in_key_or_value value) in
+    let back = encoded_text e (printed_characters e w.settings.ascii_only in_key_or_value value) in
     append_assoc front (middle ++ back) (ending_bytes w)
     ∙ ap (λ v. front ++ v) (append_assoc middle back (ending_bytes w))
     ∙ sym (printed-pair e w.settings (w.lines == 0) key value)

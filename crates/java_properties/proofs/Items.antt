@@ -22,8 +22,8 @@ use Rattle.properties_format.proofs.ItemsToCome.Unique.{items_to_come-done}
 use Rattle.properties_text.specs.Escaping.{malformed_in, IsRefused}
 use Rattle.properties_text.specs.declared.escape.UnescapeError.{UnescapeError}
 use Rattle.properties_text.specs.declared.escape.UnescapeError.TheVariants as unescape
-use Rattle.java_properties.specs.Errors.{IsBareError, IsUnresolved, SaysUnresolved, SaysLineError}
-use Rattle.java_properties.specs.LentItems.{found_content, spans_of, AreTextsIn, IsFoundIn, FindsItem, FindsPlain}
+use Rattle.java_properties.specs.Errors.{IsBareError, IsUnresolved, IsUnresolvedError, IsLineError}
+use Rattle.java_properties.specs.BorrowedItems.{found_content, spans_of, AreTextsIn, IsFoundIn, FindsItem, FindsPlain}
 use Rattle.properties_lines.specs.LineReader.{PassesSome}
 use Rattle.properties_lines.proofs.LineJoiner.{some-start, some-on, all-on}
 use Rattle.properties_lines.specs.LineJoiner.{IsLazyItems, JoinsError, JoinsNext, Comes, Joiner, numbered_line}
@@ -54,7 +54,7 @@ pair-item x raw_key raw_value key value h m n =
     sym (outcome_of-only x (given (pair key value)) (record { raw_key = raw_key; raw_value = raw_value; split = h; key_means = m; value_means = n }))
 
 -- Why a text was refused is said of a line.
-pub unresolved : (text : List ℕ) (e : UnescapeError) (number : ℕ) (error : PropertiesError) → IsRefused text e → SaysUnresolved e number error → IsUnresolved text number error
+pub unresolved : (text : List ℕ) (e : UnescapeError) (number : ℕ) (error : PropertiesError) → IsRefused text e → IsUnresolvedError e number error → IsUnresolved text number error
 unresolved text (unescape.Malformed why) number error h says = inl (malformed_in why, h, says)
 unresolved text unescape.Memory number error h says = inr says
 
@@ -185,19 +185,19 @@ module _ {R : Type 0} {reader : Reader R} where
           inr (k, passed-on h n.live n.bytes end ∙ items ∙ followed-ignored number (chars new.line) [] o, inr (n.ended k))
 
   -- why no line could be read
-  pub tells-error : {s u : ReaderState} {from to : R} {why : LineError} {e : PropertiesError} → JoinsError reader s from why u to → SaysLineError why e → GivesError reader s from e to
+  pub tells-error : {s u : ReaderState} {from to : R} {why : LineError} {e : PropertiesError} → JoinsError reader s from why u to → IsLineError why e → GivesError reader s from e to
   tells-error {e = e} (inl f) says = inl (record {
     bytes = f.bytes;
     error = f.error;
     number = f.number;
     failed = f.failed;
-    is = subst (λ v. SaysLineError v e) f.is says;
+    is = subst (λ v. IsLineError v e) f.is says;
     items = f.items;
     lazy = f.lazy;
   })
   tells-error {e = e} (inr (inl f)) says =
-      inr (inl (record { bytes = f.bytes; read = f.read; passes = f.passes; is = subst (λ v. SaysLineError v e) f.is says; lazy = f.lazy }))
-  tells-error {e = e} (inr (inr f)) says = inr (inr (record { bytes = f.bytes; read = f.read; is = subst (λ v. SaysLineError v e) f.is says; lazy = f.lazy }))
+      inr (inl (record { bytes = f.bytes; read = f.read; passes = f.passes; is = subst (λ v. IsLineError v e) f.is says; lazy = f.lazy }))
+  tells-error {e = e} (inr (inr f)) says = inr (inr (record { bytes = f.bytes; read = f.read; is = subst (λ v. IsLineError v e) f.is says; lazy = f.lazy }))
 
   -- a line could not be read
   pub passed-error : {s t : ReaderState} {from to next : R} {r : List ℕ} {e : PropertiesError} → Passed reader s from r t to → t.is_done ≡ false

@@ -22,7 +22,7 @@ use Rattle.properties_format.specs.Reading.Groups.{groups_of}
 use Rattle.properties_format.specs.Entries.{comment, pair}
 use Rattle.properties_format.specs.Items.{Outcome, ignored, given, broken}
 use Rattle.properties_format.specs.Reading.Items.{outcome_of}
-use Rattle.properties_format.specs.Reading.Slots.{key_told}
+use Rattle.properties_format.specs.Reading.Slots.{outcome_key}
 use Rattle.properties_format.specs.ItemsToCome.{ReaderState, start}
 use Rattle.properties_format.proofs.Encodings.Pieces.{decoded_of-meets, decoded_of-only}
 use Rattle.properties_format.proofs.Lines.Meets.{lines_of-meets}
@@ -32,17 +32,17 @@ use Rattle.properties_format.proofs.Groups.Only.{groups_of-only}
 use Rattle.properties_format.proofs.Items.Unique.{outcome_of-meets, outcome_of-only}
 use Rattle.properties_lines.specs.LineJoiner.{Joiner, JoinsNext, JoinsError}
 use Rattle.properties_lines.specs.declared.error.LineError.{LineError}
-use Rattle.java_properties.specs.Errors.{IsBareError, SaysLineError}
+use Rattle.java_properties.specs.Errors.{IsBareError, IsLineError}
 use Rattle.java_properties.specs.MalformedEscapes.{FailsToFind, StopsFinding}
 use Rattle.java_properties.specs.declared.error.ErrorKind.TheVariants as kind
 use Rattle.java_properties.specs.declared.error.PropertiesError.{PropertiesError}
 use Rattle.properties_text.specs.declared.escape.Malformed.{Malformed}
 use Rattle.properties_text.specs.declared.escape.UnescapeError.TheVariants as unescape
-use Rattle.java_properties.specs.LentItems.{FindsIn, found_content}
+use Rattle.java_properties.specs.BorrowedItems.{FindsIn, found_content}
 use Rattle.java_properties.specs.declared.iter.found.Found as found
 use Rattle.java_properties.proofs.Items.{found-item}
 use Rattle.java_properties.proofs.TextMaps.Values.{at_chars-sorted, at_chars-updated}
-use Rattle.java_properties.specs.KeyLines.{KeyPlace, keys_from, AreKeysIn, AreKeys, HasNoKey, StandsFirst, KeyEntry, AreFirstsOf, AreKeyLines, said_key, said_keys, FindsAllKeys, number_at, KeepsFirst, AddsKeyLine, AddsIfKey, PushesKey}
+use Rattle.java_properties.specs.KeyLines.{KeyPlace, keys_from, AreKeysIn, AreKeys, HasNoKey, HasFirstNumber, KeyEntry, AreFirstsOf, AreKeyLines, key_line_entry, key_line_entries, FindsAllKeys, number_at, KeepsFirst, AddsKeyLine, AddsIfKey, PushesKey}
 use Rattle.java_properties.specs.declared.iter.keys.KeyLine as code
 use Rattle.java_properties.proofs.MalformedEscapes.{Collected, collected-start, collected-next, collected-groups, found-error, found-lost, broken-in}
 
@@ -56,9 +56,9 @@ key_before number (Some key) rest = record { number = number; key = key } ∷ re
 -- those of the groups
 abbrev pub keys_in : List (List Line) → List KeyPlace
 keys_in [] = []
-keys_in (g ∷ gs) = key_before (first_number g) (key_told (outcome_of (joined g))) (keys_in gs)
+keys_in (g ∷ gs) = key_before (first_number g) (outcome_key (outcome_of (joined g))) (keys_in gs)
 
-same-from : (number : ℕ) (outcome : Outcome) (rest : List KeyPlace) → keys_from number outcome rest ≡ key_before number (key_told outcome) rest
+same-from : (number : ℕ) (outcome : Outcome) (rest : List KeyPlace) → keys_from number outcome rest ≡ key_before number (outcome_key outcome) rest
 same-from number ignored rest = refl
 same-from number (given (comment text)) rest = refl
 same-from number (given (pair key value)) rest = refl
@@ -74,7 +74,7 @@ keys_in-only [] keys h = h
 keys_in-only (g ∷ gs) keys (outcome, rest, is, same, others) =
     same
     ∙ same-from (first_number g) outcome rest
-    ∙ ap₂ (λ v w. key_before (first_number g) (key_told v) w) (outcome_of-only (joined g) outcome is) (keys_in-only gs rest others)
+    ∙ ap₂ (λ v w. key_before (first_number g) (outcome_key v) w) (outcome_of-only (joined g) outcome is) (keys_in-only gs rest others)
 
 -- the groups of an input
 abbrev groups_in : Encoding → List ℕ → List (List Line)
@@ -111,7 +111,7 @@ first_place (k ∷ ks) key = if bytes_eq k.key key then Some k.number else first
 -- what is said of it
 abbrev Finds : List KeyPlace → List ℕ → Option ℕ → Type 0
 Finds keys key None = HasNoKey key keys
-Finds keys key (Some number) = StandsFirst keys key number
+Finds keys key (Some number) = HasFirstNumber keys key number
 
 finds-later : (k : KeyPlace) (ks : List KeyPlace) (key : List ℕ) (o : Option ℕ) → k.key ≢ key → Finds ks key o → Finds (k ∷ ks) key o
 finds-later k ks key None other h = (other, h)
@@ -137,7 +137,7 @@ first-in : (before : List KeyPlace) (number : ℕ) (key : List ℕ) (after : Lis
 first-in [] number key after h = let same = (bytes_eq-Decides key key).1 refl in rw same refl
 first-in (k ∷ before) number key after h = let other = not_equal k.key key h.0 in rw other (first-in before number key after h.1)
 
-first-only : (keys : List KeyPlace) (key : List ℕ) (number : ℕ) → StandsFirst keys key number → first_place keys key ≡ Some number
+first-only : (keys : List KeyPlace) (key : List ℕ) (number : ℕ) → HasFirstNumber keys key number → first_place keys key ≡ Some number
 first-only keys key number h = ap (λ v. first_place v key) h.division ∙ first-in h.before number key h.after h.none
 
 -- ---- each key with the number of its first place
@@ -177,7 +177,7 @@ entries-meets keys [] h = refl
 entries-meets keys (k ∷ ks) h =
     (unwrap_or (first_place keys k.key) k.number, entries_among keys ks, here (first_place keys k.key) h.0.1 (finds-meets keys k.key), refl, entries-meets keys ks h.1)
   where
-    here : (o : Option ℕ) → o ≡ Some h.0.0 → Finds keys k.key o → StandsFirst keys k.key (unwrap_or o k.number)
+    here : (o : Option ℕ) → o ≡ Some h.0.0 → Finds keys k.key o → HasFirstNumber keys k.key (unwrap_or o k.number)
     here None is f = absurd (cc)
     here (Some number) is f = f
 
@@ -295,22 +295,22 @@ new-first m n key number is none updates = record {
 -- ---- a logical line
 
 -- what was found of it
-pub told-found : (line : List ℕ) (number : ℕ) (f : found.Found) → FindsIn line number (Ok (Some f))
-    → key_told (given (found_content line f.content)) ≡ key_told (outcome_of (chars line))
-told-found line number f h = ap key_told (sym (found-item line f h.1))
+pub outcome_key-found : (line : List ℕ) (number : ℕ) (f : found.Found) → FindsIn line number (Ok (Some f))
+    → outcome_key (given (found_content line f.content)) ≡ outcome_key (outcome_of (chars line))
+outcome_key-found line number f h = ap outcome_key (sym (found-item line f h.1))
 
 -- a malformed escape
-pub told-broken : (line : List ℕ) (number : ℕ) (how : Malformed) → FindsIn line number (Err (unescape.Malformed how)) → None ≡ key_told (outcome_of (chars line))
-told-broken line number how h = let b = broken-in line number how h in sym (ap key_told b.1)
+pub outcome_key-broken : (line : List ℕ) (number : ℕ) (how : Malformed) → FindsIn line number (Err (unescape.Malformed how)) → None ≡ outcome_key (outcome_of (chars line))
+outcome_key-broken line number how h = let b = broken-in line number how h in sym (ap outcome_key b.1)
 
 -- ---- the reading
 
 keys_in-push : (gs : List (List Line)) (g : List Line)
-    → keys_in (gs ++ g ∷ []) ≡ keys_in gs ++ key_before (first_number g) (key_told (outcome_of (joined g))) []
+    → keys_in (gs ++ g ∷ []) ≡ keys_in gs ++ key_before (first_number g) (outcome_key (outcome_of (joined g))) []
 keys_in-push [] g = refl
 keys_in-push (h ∷ gs) g =
-    ap (key_before (first_number h) (key_told (outcome_of (joined h)))) (keys_in-push gs g)
-    ∙ before-append (key_told (outcome_of (joined h))) (keys_in gs) (key_before (first_number g) (key_told (outcome_of (joined g))) [])
+    ap (key_before (first_number h) (outcome_key (outcome_of (joined h)))) (keys_in-push gs g)
+    ∙ before-append (outcome_key (outcome_of (joined h))) (keys_in gs) (key_before (first_number g) (outcome_key (outcome_of (joined g))) [])
   where
     before-append : (o : Option (List ℕ)) (xs ys : List KeyPlace) → key_before (first_number h) o (xs ++ ys) ≡ key_before (first_number h) o xs ++ ys
     before-append None xs ys = refl
@@ -320,7 +320,7 @@ keys_in-push (h ∷ gs) g =
 pub record FoundKeys {R Z : Type 0} (reader : Reader R) (e : Encoding) (from : R) (found : List code.KeyLine) (firsts : List (String Z × ℕ)) (state : ReaderState) (to : R) : Type 0 where
   pub groups : List (List Line)
   pub collected : Collected reader e from groups state to
-  pub entries : said_keys found ≡ key_entries (keys_in groups)
+  pub entries : key_line_entries found ≡ key_entries (keys_in groups)
   pub kept : (key : List ℕ) → number_at firsts key ≡ first_place (keys_in groups) key
 
 module _ {R Z : Type 0} {reader : Reader R} where
@@ -332,18 +332,18 @@ module _ {R Z : Type 0} {reader : Reader R} where
   pub keys-next : {e : Encoding} {from to next : R} {old found : List code.KeyLine} {firsts firsts' : List (String Z × ℕ)} {s : ReaderState} (number : ℕ) (new : Joiner)
       → FoundKeys reader e from old firsts s to → (n : JoinsNext reader s to number new next)
       → PushesKey number (chars new.line) old firsts (Ok tt) found firsts' → FoundKeys reader e from found firsts' new.state next
-  keys-next {e} {from} {next = next} {old} {found} {firsts} {firsts'} number new h n a = by (key_told (outcome_of (chars new.line))) refl
+  keys-next {e} {from} {next = next} {old} {found} {firsts} {firsts'} number new h n a = by (outcome_key (outcome_of (chars new.line))) refl
     where
       g : List Line
       g = n.group.first ∷ n.group.others
 
-      came : keys_in (h.groups ++ g ∷ []) ≡ keys_in h.groups ++ key_before number (key_told (outcome_of (chars new.line))) []
+      came : keys_in (h.groups ++ g ∷ []) ≡ keys_in h.groups ++ key_before number (outcome_key (outcome_of (chars new.line))) []
       came =
           keys_in-push h.groups g
-          ∙ ap₂ (λ m v. keys_in h.groups ++ key_before m (key_told (outcome_of v)) []) (sym n.group.number) (sym n.group.text)
+          ∙ ap₂ (λ m v. keys_in h.groups ++ key_before m (outcome_key (outcome_of v)) []) (sym n.group.number) (sym n.group.text)
 
       -- without a key
-      skipped : key_told (outcome_of (chars new.line)) ≡ None → (found ≡ old) × (firsts' ≡ firsts) → FoundKeys reader e from found firsts' new.state next
+      skipped : outcome_key (outcome_of (chars new.line)) ≡ None → (found ≡ old) × (firsts' ≡ firsts) → FoundKeys reader e from found firsts' new.state next
       skipped none kept =
           let same : keys_in (h.groups ++ g ∷ []) ≡ keys_in h.groups =
           came ∙ ap (λ o. keys_in h.groups ++ key_before number o []) none ∙ append-nil (keys_in h.groups) in
@@ -355,19 +355,19 @@ module _ {R Z : Type 0} {reader : Reader R} where
           })
 
       -- with this key
-      added : (key : List ℕ) → key_told (outcome_of (chars new.line)) ≡ Some key → AddsKeyLine number key old found firsts firsts'
+      added : (key : List ℕ) → outcome_key (outcome_of (chars new.line)) ≡ Some key → AddsKeyLine number key old found firsts firsts'
           → FoundKeys reader e from found firsts' new.state next
       added key told adds =
           let k : KeyPlace = record { number = number; key = key } in
           let same : keys_in (h.groups ++ g ∷ []) ≡ keys_in h.groups ++ k ∷ [] = came ∙ ap (λ o. keys_in h.groups ++ key_before number o []) told in
           let first : adds.line.first ≡ unwrap_or (first_place (keys_in h.groups) key) number = adds.keeps.is ∙ ap (λ o. unwrap_or o number) (h.kept key) in
-          let says : said_key adds.line ≡ record { number = number; key = key; first = unwrap_or (first_place (keys_in h.groups) key) number } = cc (adds.says.0, adds.says.1, first) in
+          let says : key_line_entry adds.line ≡ record { number = number; key = key; first = unwrap_or (first_place (keys_in h.groups) key) number } = cc (adds.says.0, adds.says.1, first) in
           record {
             groups = h.groups ++ g ∷ [];
             collected = collected-next number new h.collected n;
             entries =
-                ap said_keys adds.added
-                ∙ map-append said_key old (adds.line ∷ [])
+                ap key_line_entries adds.added
+                ∙ map-append key_line_entry old (adds.line ∷ [])
                 ∙ ap₂ (λ v w. v ++ w ∷ []) h.entries says
                 ∙ sym (entries-added (keys_in h.groups) k)
                 ∙ sym (ap key_entries same);
@@ -378,7 +378,7 @@ module _ {R Z : Type 0} {reader : Reader R} where
                 ∙ sym (ap (λ v. first_place v q) same);
           }
 
-      by : (o : Option (List ℕ)) → key_told (outcome_of (chars new.line)) ≡ o → FoundKeys reader e from found firsts' new.state next
+      by : (o : Option (List ℕ)) → outcome_key (outcome_of (chars new.line)) ≡ o → FoundKeys reader e from found firsts' new.state next
       by None told = skipped told (subst (λ o. AddsIfKey number o old found firsts firsts') told a)
       by (Some key) told = added key told (subst (λ o. AddsIfKey number o old found firsts firsts') told a)
 
@@ -389,7 +389,7 @@ module _ {R Z : Type 0} {reader : Reader R} where
   keys-all {e} {found = found} h d same =
       let bytes = h.collected.bytes in
       let groups : h.groups ≡ groups_in e bytes = collected-groups h.collected d in
-      let is : said_keys found ≡ key_lines_of e bytes = h.entries ∙ ap (λ v. key_entries (keys_in v)) groups in
+      let is : key_line_entries found ≡ key_lines_of e bytes = h.entries ∙ ap (λ v. key_entries (keys_in v)) groups in
       rw same (record {
         bytes = bytes;
         read = h.collected.read;
@@ -400,7 +400,7 @@ module _ {R Z : Type 0} {reader : Reader R} where
 
   -- no line came
   pub keys-error : {e : Encoding} {from to next : R} {found : List code.KeyLine} {firsts : List (String Z × ℕ)} {s t : ReaderState} {why : LineError} {error : PropertiesError}
-      → FoundKeys reader e from found firsts s to → s.is_done ≡ false → JoinsError reader s to why t next → SaysLineError why error
+      → FoundKeys reader e from found firsts s to → s.is_done ≡ false → JoinsError reader s to why t next → IsLineError why error
       → FailsToFind reader e from error next ⊎ StopsFinding reader e from error next
   keys-error h live f says = found-error (record { groups = h.groups; collected = h.collected; escapes = refl }) live f says
 

@@ -1,18 +1,31 @@
 -- The last pair of a body, whatever its key, and its last line ending.
 use Rattle.std.proofs.Common.{◌≡◌, ◌≢◌, ◌<◌, ◌≤◌, ℕ, ◌+◌, ◌-◌, Bool, true, false, List, [], ◌∷◌, ◌++◌, length, take, drop, get_or, refl, inl, inr, ap, ap₂, sym, ◌∙◌, subst, arith, append-nil, append_assoc, length-append}
-use Rattle.std.specs.Prelude.{Option, Some, None, if◌then◌else◌}
+use Rattle.std.specs.Prelude.{Option, Some, None, if◌then◌else◌, unwrap_or}
+use Rattle.std.specs.Option.{option_map}
 use Rattle.std.specs.Option.{is_some}
 use Rattle.std.specs.Prelude.{◌==◌, ◌||◌}
 use Rattle.std.proofs.lemmas.Bool.{cases_Bool, cond-true, cond-false}
 use Rattle.std.proofs.lemmas.List.{drop_more, take-append-drop}
 use borrow.Author.Tests.{eqb-true}
 use Rattle.properties_format.specs.Text as text
-use Rattle.properties_format.specs.Text.{line_feed, carriage_return, line_ending_text}
+use Rattle.properties_format.specs.Text.{line_feed, carriage_return, line_ending_text, equals_sign}
 use Rattle.properties_format.specs.Lines.{HoldsNoLineEnd}
 use Rattle.properties_format.specs.Reading.Lines.{ends_in_cr}
-use Rattle.properties_format.proofs.Valued.Endings.{last-ending, no-ending}
+use Rattle.properties_format.specs.Lines.{Ended, Lines}
+use Rattle.properties_format.specs.Reading.Lines.{lines_of}
+use Rattle.properties_format.specs.Body.{held_in}
+use Rattle.properties_format.specs.Valued.{ending_among}
+use Rattle.properties_format.proofs.Lines.Plain.{last-plain, plain-no_lf}
+use Rattle.properties_format.proofs.Lines.Steps.{lines_of-line}
+use Rattle.properties_format.proofs.Lines.Only.{lines_of-only, lines_of-plain}
+use Rattle.properties_format.proofs.Lines.Cut.{PartsNoEnd, lines_of-append}
+use Rattle.properties_format.proofs.Body.Decoded.{IsCut-lines}
+use Rattle.properties_format.proofs.Body.Groups.{held_of-only}
+use Rattle.properties_format.proofs.Valued.Lined.{last_by, last_by-append}
+use Rattle.properties_format.proofs.Valued.Added.{ending-held}
+use Rattle.java_properties.specs.BodyLines.{ending_in}
 use Rattle.java_properties.specs.Settings.{ending_of}
-use Rattle.java_properties.specs.BodyValues.{IsLastEnding}
+use Rattle.java_properties.specs.BodyValues.{IsEndingWithin, IsLastEnding}
 use Rattle.java_properties.specs.declared.writer.settings.LineEnding.{LineEnding}
 use Rattle.java_properties.specs.declared.writer.settings.LineEnding.TheVariants.{CR, LF}
 use Rattle.properties_text.specs.Parsing.{bytes_in}
@@ -39,7 +52,7 @@ use Rattle.properties_format.specs.Reading.Split.{split_of}
 use Rattle.properties_format.specs.Body.{HeldLine, as_lines, group_bytes, groups_bytes}
 use Rattle.properties_format.specs.Reading.Body.{held_groups_of}
 use Rattle.properties_format.specs.Reading.Slots.{unended_bytes}
-use Rattle.properties_format.specs.Reading.Valued.{between_told, last_between, or_else}
+use Rattle.properties_format.specs.Reading.Valued.{between_if_pair, last_between, or_else}
 use Rattle.properties_format.proofs.Body.Groups.{groups_bytes-append}
 use Rattle.properties_format.proofs.Valued.Made.{last_between-push}
 use Rattle.properties_text.specs.Encoding.{encoding_of}
@@ -78,7 +91,7 @@ last-after : (groups : List (List HeldLine)) (g : List HeldLine) (group : Group)
     → group.start ≡ length (groups_bytes groups) → group.end ≡ group.start + length (unended_bytes g) → IsLastPair (groups ++ g ∷ []) next
 last-after groups g group line None None next h t none is starts ends =
     subst (IsLastPair (groups ++ g ∷ [])) (sym is)
-    (last_between-push groups g ∙ ap₂ or_else (subst (λ x. between_told (split_of x) x ≡ None) t none) h)
+    (last_between-push groups g ∙ ap₂ or_else (subst (λ x. between_if_pair (split_of x) x ≡ None) t none) h)
 last-after groups g group line None (Some span) next h t none is starts ends =
     subst (IsLastPair (groups ++ g ∷ [])) (sym is) record {
       before = h.before;
@@ -86,20 +99,20 @@ last-after groups g group line None (Some span) next h t none is starts ends =
       after = h.after ++ g ∷ [];
       division = ap (λ v. v ++ g ∷ []) h.division ∙ append_assoc h.before (h.group ∷ h.after) (g ∷ []);
       between = h.between;
-      told = h.told;
-      last = last_between-push groups g ∙ ap₂ or_else (subst (λ x. between_told (split_of x) x ≡ None) t none) h.last;
+      of_pair = h.of_pair;
+      last = last_between-push groups g ∙ ap₂ or_else (subst (λ x. between_if_pair (split_of x) x ≡ None) t none) h.last;
       starts = h.starts;
       ends = h.ends;
     }
 last-after groups g group line (Some found) last next h t at is starts ends =
-    let told = subst (λ x. between_told (split_of x) x ≡ Some (chars (bytes_in line found))) t at.told in
+    let told = subst (λ x. between_if_pair (split_of x) x ≡ Some (chars (bytes_in line found))) t at.of_pair in
     subst (IsLastPair (groups ++ g ∷ [])) (sym is) record {
       before = groups;
       group = g;
       after = [];
       division = refl;
       between = chars (bytes_in line found);
-      told = told;
+      of_pair = told;
       last = last_between-push groups g ∙ ap (λ v. or_else v (last_between groups)) told;
       starts = starts;
       ends = ends;
@@ -146,31 +159,70 @@ at-byte body at b some within is =
     sym (take-append-drop (at - 1) body)
     ∙ ap (λ v. take (at - 1) body ++ v) (drop_more body (at - 1) 0 (omega arith) ∙ ap₂ (λ c k. c ∷ drop k body) is n)
 
+-- ---- in the lines of the bytes
+
+-- The last line ending of groups is that of the lines of their body.
+ending-lines : (e : Encoding) (body : List ℕ) (gs : List (List HeldLine)) (by : text.LineEnding) → is_editable e ≡ true → AreGroupsOf e body gs
+    → ending_among by (held_in gs) ≡ unwrap_or (last_by (lines_of body).ended) by
+ending-lines e body gs by ok h =
+    ap (ending_among by) (held_of-only e h.cut.ended h.cut.last (held_in gs) h.are_held)
+    ∙ ending-held e by h.cut.ended h.cut.last
+    ∙ ap (λ v. let w : Lines = v in unwrap_or (last_by w.ended) by) (lines_of-only body h.cut (IsCut-lines e body h.cut ok h.is_cut))
+
+-- so a body has the last line ending that its lines have
+within-lines : (body : List ℕ) (o : Option LineEnding) → last_by (lines_of body).ended ≡ ending_in o → IsEndingWithin body o
+within-lines body o s e gs ok are by = ending-lines e body gs by ok are ∙ ap (λ v. unwrap_or v by) s
+
+-- a cut before a line ending separates no CR from an LF
+parts-none : (front : List ℕ) (by : text.LineEnding) (rest : List ℕ) → (by ≡ text.lf → ends_in_cr front ≡ false) → PartsNoEnd front (line_ending_text by ++ rest)
+parts-none front text.lf rest h q = let m = h refl in absurd (cc)
+parts-none front text.cr rest h q = refl
+parts-none front text.crlf rest h q = refl
+
+-- a line ending that no other follows
+last-by : (body front : List ℕ) (by : text.LineEnding) (rest : List ℕ) → body ≡ front ++ (line_ending_text by ++ rest) → HoldsNoLineEnd rest
+    → (by ≡ text.lf → ends_in_cr front ≡ false) → last_by (lines_of body).ended ≡ Some by
+last-by body front by rest s plain alone =
+    let l : Ended = record { text = (lines_of front).last; by = by } in
+    let lines : (lines_of body).ended ≡ (lines_of front).ended ++ l ∷ [] =
+    ap (λ v. (lines_of v).ended) s
+    ∙ ap (λ v. let w : Lines = v in w.ended) (lines_of-append front (line_ending_text by ++ rest) (parts-none front by rest alone))
+    ∙ ap (λ v. let w : Lines = v in (lines_of front).ended ++ w.ended) (lines_of-line (lines_of front).last by rest (last-plain front) (λ q. plain-no_lf rest plain))
+    ∙ ap (λ v. let w : Lines = v in (lines_of front).ended ++ l ∷ w.ended) (lines_of-plain rest plain) in
+    ap last_by lines ∙ last_by-append (lines_of front).ended (l ∷ []) (λ q. absurd (cc))
+
 -- An LF after which no line ending comes.
-pub last-feed : (body : List ℕ) (at : ℕ) (by : LineEnding) → 0 < at → at ≤ length body → get_or body (at - 1) 0 ≡ line_feed → HoldsNoLineEnd (drop at body)
-    → ending_of by ≡ (if ends_in_cr (take (at - 1) body) then text.crlf else text.lf) → IsLastEnding body by
-last-feed body at by some within is plain h e gs ok are =
+pub within-feed : (body : List ℕ) (at : ℕ) (by : LineEnding) → 0 < at → at ≤ length body → get_or body (at - 1) 0 ≡ line_feed → HoldsNoLineEnd (drop at body)
+    → ending_of by ≡ (if ends_in_cr (take (at - 1) body) then text.crlf else text.lf) → IsEndingWithin body (Some by)
+within-feed body at by some within is plain h =
     let front = take (at - 1) body in
     let whole = at-byte body at line_feed some within is in
-    h ∙ elim (cases_Bool (ends_in_cr front)) [
+    within-lines body (Some by)
+    (elim (cases_Bool (ends_in_cr front)) [
       | inl k ↦
           let m = cr-last front k in
           let both : body ≡ m.0 ++ (line_ending_text text.crlf ++ drop at body) =
           whole ∙ ap (λ v. v ++ line_feed ∷ drop at body) m.1 ∙ append_assoc m.0 (carriage_return ∷ []) (line_feed ∷ drop at body) in
-          cond-true (ends_in_cr front) text.crlf text.lf k ∙ sym (last-ending e body gs m.0 text.crlf (drop at body) ok are both plain (λ q. absurd (cc)))
+          last-by body m.0 text.crlf (drop at body) both plain (λ q. absurd (cc)) ∙ ap Some (sym (h ∙ cond-true (ends_in_cr front) text.crlf text.lf k))
       | inr k ↦
-          cond-false (ends_in_cr front) text.crlf text.lf k ∙ sym (last-ending e body gs front text.lf (drop at body) ok are whole plain (λ q. k))
-    ]
+          last-by body front text.lf (drop at body) whole plain (λ q. k) ∙ ap Some (sym (h ∙ cond-false (ends_in_cr front) text.crlf text.lf k))
+    ])
 
 -- A CR after which none comes.
-pub last-return : (body : List ℕ) (at : ℕ) → 0 < at → at ≤ length body → get_or body (at - 1) 0 ≡ carriage_return → HoldsNoLineEnd (drop at body)
-    → IsLastEnding body CR
-last-return body at some within is plain e gs ok are =
-    sym (last-ending e body gs (take (at - 1) body) text.cr (drop at body) ok are (at-byte body at carriage_return some within is) plain (λ q. absurd (cc)))
+pub within-return : (body : List ℕ) (at : ℕ) → 0 < at → at ≤ length body → get_or body (at - 1) 0 ≡ carriage_return → HoldsNoLineEnd (drop at body)
+    → IsEndingWithin body (Some CR)
+within-return body at some within is plain =
+    within-lines body (Some CR) (last-by body (take (at - 1) body) text.cr (drop at body) (at-byte body at carriage_return some within is) plain (λ q. absurd (cc)))
 
 -- No line ending at all.
-pub last-none : (body : List ℕ) (at : ℕ) → at ≡ 0 → HoldsNoLineEnd (drop at body) → IsLastEnding body LF
-last-none body at none plain e gs ok are = sym (no-ending e body gs ok are (subst (λ n. HoldsNoLineEnd (drop n body)) none plain))
+pub within-none : (body : List ℕ) (at : ℕ) → at ≡ 0 → HoldsNoLineEnd (drop at body) → IsEndingWithin body None
+within-none body at none plain =
+    within-lines body None (ap (λ v. let w : Lines = v in last_by w.ended) (lines_of-plain body (subst (λ n. HoldsNoLineEnd (drop n body)) none plain)))
+
+-- The last line ending, or an LF.
+pub within-last : (body : List ℕ) (o : Option LineEnding) → IsEndingWithin body o → IsLastEnding body (unwrap_or o LF)
+within-last body None w e gs ok are = sym (w e gs ok are text.lf)
+within-last body (Some by) w e gs ok are = sym (w e gs ok are text.lf)
 
 -- a byte that ends no line
 pub plain-more : (body : List ℕ) (at : ℕ) → 0 < at → at ≤ length body → get_or body (at - 1) 0 ≢ line_feed → get_or body (at - 1) 0 ≢ carriage_return
@@ -240,13 +292,13 @@ last-separated e body span ok k =
       group = without_ending k.group;
       is_group = part-group e body k.before k.group k.after _ ok k.division part.part;
       between = k.between;
-      told = subst (λ x. between_told (split_of x) x ≡ Some k.between) (sym (unended-joined k.group)) k.told;
+      of_pair = subst (λ x. between_if_pair (split_of x) x ≡ Some k.between) (sym (unended-joined k.group)) k.of_pair;
     }
 
-told-between : (x b : List ℕ) (s : Logical) → between_told s x ≡ Some b → between_in x ≡ b
-told-between x b blank h = absurd (cc)
-told-between x b (comment text) h = absurd (cc)
-told-between x b (pair key value) h = cc
+between_if_pair-is : (x b : List ℕ) (s : Logical) → between_if_pair s x ≡ Some b → between_in x ≡ b
+between_if_pair-is x b blank h = absurd (cc)
+between_if_pair-is x b (comment text) h = absurd (cc)
+between_if_pair-is x b (pair key value) h = cc
 
 -- The separator like that of the last pair is that of a new pair.
 pub last-separator : (e : Encoding) (body key separator : List ℕ) (span : BodySpan) → is_editable e ≡ true → (k : IsLastPairOf (held_groups_of e body) span)
@@ -256,12 +308,31 @@ last-separator e body key separator span ok k like =
     let alone = part-group e body k.before k.group k.after _ ok k.division part.part in
     let same : like.group ≡ without_ending k.group = let q = sym like.is_group ∙ alone in cc in
     let between : between_of like.group ≡ k.between =
-    ap between_of same ∙ unended-between k.group ∙ told-between (joined (as_lines k.group)) k.between (split_of (joined (as_lines k.group))) k.told in
+    ap between_of same ∙ unended-between k.group ∙ between_if_pair-is (joined (as_lines k.group)) k.between (split_of (joined (as_lines k.group))) k.of_pair in
     like.is_like ∙ ap (separator_after key) between ∙ sym (ap (separator_by key) k.last)
 
+-- So it is where a body may have no pair.
+pub last-separator_in : (e : Encoding) (body key separator : List ℕ) (span : BodySpan) → is_editable e ≡ true → (k : IsLastPairOf (held_groups_of e body) span)
+    → IsSeparatorLike e (take (span.end - span.start) (drop span.start body)) key separator
+    → Some separator ≡ option_map (separator_after key) (last_between (held_groups_of e body))
+last-separator_in e body key separator span ok k like =
+    ap Some (last-separator e body key separator span ok k like ∙ ap (separator_by key) k.last) ∙ sym (ap (option_map (separator_after key)) k.last)
+
+-- The separator of a new pair, where there is one to take,
+pub separator-found : (key separator : List ℕ) (last : Option (List ℕ)) → Some separator ≡ option_map (separator_after key) last → separator ≡ separator_by key last
+separator-found key separator None h = absurd (cc)
+separator-found key separator (Some between) h = cc
+
+-- and where there is none.
+pub separator-none : (key : List ℕ) (last : Option (List ℕ)) → None ≡ option_map (separator_after key) last → equals_sign ∷ [] ≡ separator_by key last
+separator-none key None h = refl
+separator-none key (Some between) h = absurd (cc)
+
 -- The separator of a new pair is a good one.
-pub separator-good : (e : Encoding) (body key separator : List ℕ) → separator ≡ separator_by key (last_between (held_groups_of e body)) → is_good_separator separator ≡ true
-separator-good e body key separator h =
-    let groups = held_groups_of e body in
+pub groups-good : (groups : List (List HeldLine)) (key separator : List ℕ) → separator ≡ separator_by key (last_between groups) → is_good_separator separator ≡ true
+groups-good groups key separator h =
     is_good_separator-from separator
     (subst IsGoodSeparator (sym h) (new_separator-fit groups key (separator_by key (last_between groups)) (new_separator-meets groups key)).good)
+
+pub separator-good : (e : Encoding) (body key separator : List ℕ) → separator ≡ separator_by key (last_between (held_groups_of e body)) → is_good_separator separator ≡ true
+separator-good e body key separator h = groups-good (held_groups_of e body) key separator h

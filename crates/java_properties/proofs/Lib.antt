@@ -5,8 +5,8 @@ pub mod ReadBack
 pub mod AsciiOnly
 pub mod Comparisons
 pub mod Items
-pub mod LentItems
-pub mod Told
+pub mod BorrowedItems
+pub mod StatedItems
 pub mod Readings
 pub mod MalformedEscapes
 pub mod KeyLines

@@ -31,16 +31,16 @@ use Rattle.properties_lines.proofs.LineJoiner.{passes-start, passes-on, some-com
 use Rattle.properties_text.specs.Escaping.{malformed_in}
 use Rattle.properties_text.specs.declared.escape.Malformed as escape
 use Rattle.properties_text.specs.declared.escape.UnescapeError.TheVariants as unescape
-use Rattle.java_properties.specs.Errors.{IsBareError, SaysLineError, malformed_kind, malformed_cause}
+use Rattle.java_properties.specs.Errors.{IsBareError, IsLineError, malformed_kind, malformed_cause}
 use Rattle.java_properties.specs.GivenItems.{IsNoItem}
-use Rattle.java_properties.specs.LentItems.{FindsIn}
+use Rattle.java_properties.specs.BorrowedItems.{FindsIn}
 use Rattle.java_properties.specs.declared.iter.found.Found as code
-use Rattle.java_properties.specs.MalformedEscapes.{told_escape, told_escapes, FindsAll, FailsToFind, StopsFinding, PushesMalformed}
+use Rattle.java_properties.specs.MalformedEscapes.{escape_record, escape_records, FindsAll, FailsToFind, StopsFinding, PushesMalformed}
 use Rattle.java_properties.specs.declared.error.ErrorKind.TheVariants as kind
 use Rattle.java_properties.specs.declared.error.PropertiesError.{PropertiesError}
 use Rattle.java_properties.specs.declared.iter.malformed.MalformedEscape.{MalformedEscape}
 use Rattle.java_properties.proofs.Items.{found-item}
-use Rattle.java_properties.proofs.Told.{tell-all}
+use Rattle.java_properties.proofs.StatedItems.{state-all}
 
 -- ---- groups
 
@@ -83,13 +83,13 @@ groups-next gs l ls new h (inl w) = whole-groups (gs ++ (l ∷ ls) ∷ []) (are_
 groups-next gs l ls new h (inr u) = last-groups gs l ls h u.1
 
 -- what one group more adds
-pub found-push : (gs : List (List Line)) (g : List Line) (number : ℕ) (x : List ℕ) (old new : List MalformedEscape) → old ≡ told_escapes (escapes_in gs)
-    → number ≡ first_number g → x ≡ joined g → new ≡ old ++ told_escapes (escapes_from number x (outcome_of x) [])
-    → new ≡ told_escapes (escapes_in (gs ++ g ∷ []))
+pub found-push : (gs : List (List Line)) (g : List Line) (number : ℕ) (x : List ℕ) (old new : List MalformedEscape) → old ≡ escape_records (escapes_in gs)
+    → number ≡ first_number g → x ≡ joined g → new ≡ old ++ escape_records (escapes_from number x (outcome_of x) [])
+    → new ≡ escape_records (escapes_in (gs ++ g ∷ []))
 found-push gs g number x old new h i j k =
     k
-    ∙ ap₂ (λ v w. v ++ told_escapes w) h (ap₂ (λ v w. escapes_from v w (outcome_of w) []) i j)
-    ∙ sym (ap told_escapes (escapes_in-push gs g) ∙ map-append told_escape (escapes_in gs) (escapes_from (first_number g) (joined g) (outcome_of (joined g)) []))
+    ∙ ap₂ (λ v w. v ++ escape_records w) h (ap₂ (λ v w. escapes_from v w (outcome_of w) []) i j)
+    ∙ sym (ap escape_records (escapes_in-push gs g) ∙ map-append escape_record (escapes_in gs) (escapes_from (first_number g) (joined g) (outcome_of (joined g)) []))
 
 -- ---- a logical line
 
@@ -106,7 +106,7 @@ none-in line number (Some f) h = ap (λ v. escapes_from number (chars line) v []
 -- It has none.
 pub pushes-none : {Z : Type 0} (line : List ℕ) (number : ℕ) (found : Option code.Found) (old : Vec MalformedEscape Z) → FindsIn line number (Ok found)
     → PushesMalformed number (chars line) old (Ok tt) old
-pushes-none line number found old h = sym (ap (λ v. old.items ++ told_escapes v) (none-in line number found h) ∙ append-nil old.items)
+pushes-none line number found old h = sym (ap (λ v. old.items ++ escape_records v) (none-in line number found h) ∙ append-nil old.items)
 
 pub broken-in : (line : List ℕ) (number : ℕ) (how : escape.Malformed) → FindsIn line number (Err (unescape.Malformed how))
     → (k : Malformed) × (outcome_of (chars line) ≡ broken k) × (malformed_kind (malformed_in how) ≡ malformed_kind k)
@@ -129,7 +129,7 @@ pushes-one line number how old new h k =
     let b = broken-in line number how h in
     k
     ∙ ap (λ v. old.items ++ record { line_number = number; kind = v; in_comment = is_comment_line (chars line) } ∷ []) b.2
-    ∙ sym (ap (λ v. old.items ++ told_escapes (escapes_from number (chars line) v [])) b.1)
+    ∙ sym (ap (λ v. old.items ++ escape_records (escapes_from number (chars line) v [])) b.1)
 
 -- ---- the reading
 
@@ -146,7 +146,7 @@ pub record Collected {R : Type 0} (reader : Reader R) (e : Encoding) (from : R) 
 pub record Found {R : Type 0} (reader : Reader R) (e : Encoding) (from : R) (found : List MalformedEscape) (state : ReaderState) (to : R) : Type 0 where
   pub groups : List (List Line)
   pub collected : Collected reader e from groups state to
-  pub escapes : found ≡ told_escapes (escapes_in groups)
+  pub escapes : found ≡ escape_records (escapes_in groups)
 
 module _ {R : Type 0} {reader : Reader R} where
   pub collected-start : (e : Encoding) (from : R) → Collected reader e from [] (start e) from
@@ -179,7 +179,7 @@ module _ {R : Type 0} {reader : Reader R} where
 
   pub found-next : {e : Encoding} {from to next : R} {old : List MalformedEscape} {s : ReaderState} (number : ℕ) (new : Joiner) (found : List MalformedEscape)
       → Found reader e from old s to → (n : JoinsNext reader s to number new next)
-      → found ≡ old ++ told_escapes (escapes_from number (chars new.line) (outcome_of (chars new.line)) []) → Found reader e from found new.state next
+      → found ≡ old ++ escape_records (escapes_from number (chars new.line) (outcome_of (chars new.line)) []) → Found reader e from found new.state next
   found-next {old = old} number new found h n k = record {
     groups = h.groups ++ (n.group.first ∷ n.group.others) ∷ [];
     collected = collected-next number new h.collected n;
@@ -210,14 +210,14 @@ module _ {R : Type 0} {reader : Reader R} where
         ended = h.collected.ended d;
         are = malformed_escapes_of-meets e bytes;
         only = malformed_escapes_of-only e bytes;
-        is = h.escapes ∙ ap (λ v. told_escapes (escapes_in v)) (collected-groups h.collected d) ∙ ap told_escapes (escapes_in-groups e bytes _ (groups_of-meets (numbered_lines (lines_of (decoded_of e bytes)) end) end));
+        is = h.escapes ∙ ap (λ v. escape_records (escapes_in v)) (collected-groups h.collected d) ∙ ap escape_records (escapes_in-groups e bytes _ (groups_of-meets (numbered_lines (lines_of (decoded_of e bytes)) end) end));
       })
 
   -- a read failed
   found-fault : {e : Encoding} {from to next : R} {found : List MalformedEscape} {s : ReaderState} {why : LineError} {error : PropertiesError}
-      → Found reader e from found s to → s.is_done ≡ false → JoinsFault reader s to why next → SaysLineError why error → FailsToFind reader e from error next
+      → Found reader e from found s to → s.is_done ≡ false → JoinsFault reader s to why next → IsLineError why error → FailsToFind reader e from error next
   found-fault {e} {s = s} {error = error} h live f says =
-      let S : LineError → Type 0 = λ v. SaysLineError v error in
+      let S : LineError → Type 0 = λ v. IsLineError v error in
       record {
         bytes = h.collected.bytes ++ f.bytes;
         cause = f.error;
@@ -233,18 +233,18 @@ module _ {R : Type 0} {reader : Reader R} where
 
   -- no line came
   pub found-error : {e : Encoding} {from to next : R} {found : List MalformedEscape} {s t : ReaderState} {why : LineError} {error : PropertiesError}
-      → Found reader e from found s to → s.is_done ≡ false → JoinsError reader s to why t next → SaysLineError why error
+      → Found reader e from found s to → s.is_done ≡ false → JoinsError reader s to why t next → IsLineError why error
       → FailsToFind reader e from error next ⊎ StopsFinding reader e from error next
   found-error h live (inl f) says = inl (found-fault h live f says)
   found-error {error = error} h live (inr (inl f)) says =
-      let S : LineError → Type 0 = λ v. SaysLineError v error in
+      let S : LineError → Type 0 = λ v. IsLineError v error in
       inr (record {
         bytes = h.collected.bytes ++ f.bytes;
         read = read-more h.collected.read f.read;
-        is = inl (subst S f.is says, tell-all (all-on (some-come h.collected.passes live) f.passes));
+        is = inl (subst S f.is says, state-all (all-on (some-come h.collected.passes live) f.passes));
       })
   found-error {error = error} h live (inr (inr f)) says =
-      let S : LineError → Type 0 = λ v. SaysLineError v error in
+      let S : LineError → Type 0 = λ v. IsLineError v error in
       inr (record { bytes = h.collected.bytes ++ f.bytes; read = read-more h.collected.read f.read; is = inr (subst S f.is says) })
 
   -- there was no memory for an escape

@@ -7,9 +7,9 @@ use Rattle.std.proofs.lemmas.Bool.{cases_Bool, cond-true, cond-false}
 use Rattle.std.proofs.lemmas.Str.{encodes-chars, chars-nil}
 use Rattle.properties_format.specs.Text.{LineEnding, line_ending_text, is_blank, is_blanks, equals_sign}
 use Rattle.properties_format.specs.Encoding.{Encoding, windows_1252}
-use Rattle.properties_format.specs.Printing.{encoded_text, spelt_key}
+use Rattle.properties_format.specs.Printing.{encoded_text, printed_key}
 use Rattle.properties_format.specs.Writing.{is_empty}
-use Rattle.properties_format.specs.Valued.{value_text, spelt_value, new_pair_bytes, separator_after, shortened_after}
+use Rattle.properties_format.specs.Valued.{value_text, printed_value, new_pair_bytes, separator_after, shortened_after}
 use Rattle.properties_format.proofs.Printing.Characters.{encoded-ascii, encoded_text-append, encoded_text-ascii, line_end-ascii}
 use Rattle.std.specs.Char.{IsScalar, encode_utf8}
 use Rattle.properties_text.proofs.TextFronts.{chars-more}
@@ -20,15 +20,15 @@ use Rattle.java_properties.proofs.BodyGroups.{no-bytes}
 
 -- an equals sign comes first where nothing separates key and value
 pub value-unseparated : (e : Encoding) (line raw all separator value : List ℕ) → separator ≡ [] → raw ≡ line ++ equals_sign ∷ []
-    → all ≡ raw ++ encoded_text e (spelt_value e false value) → all ≡ line ++ encoded_text e (value_text e separator value)
+    → all ≡ raw ++ encoded_text e (printed_value e false value) → all ≡ line ++ encoded_text e (value_text e separator value)
 value-unseparated e line raw all separator value none h k =
-    let back = encoded_text e (spelt_value e false value) in
+    let back = encoded_text e (printed_value e false value) in
     k ∙ ap (λ v. v ++ back) h
     ∙ append_assoc line (equals_sign ∷ []) back
     ∙ ap (λ v. line ++ v) (sym (ap (λ v. encoded_text e (value_text e v value)) none ∙ ap (λ o. unwrap_or o [] ++ back) (encoded-ascii e equals_sign (lit< tt))))
 
 -- and none where something does
-pub value-separated : (e : Encoding) (separator value : List ℕ) → separator ≢ [] → spelt_value e (is_blanks separator) value ≡ value_text e separator value
+pub value-separated : (e : Encoding) (separator value : List ℕ) → separator ≢ [] → printed_value e (is_blanks separator) value ≡ value_text e separator value
 value-separated e [] value some = absurd (some refl)
 value-separated e (c ∷ cs) value some = refl
 
@@ -73,30 +73,36 @@ shortened-more was text short next c h is rest =
 pub ending-bytes : (bs : List ℕ) (by : LineEnding) → IsUtf8 bs → chars bs ≡ line_ending_text by → bs ≡ line_ending_text by
 ending-bytes bs by u h = line_ending-bytes windows_1252 bs by u h ∙ encoded_text-ascii windows_1252 (line_ending_text by) (line_end-ascii by)
 
--- A key, a separator, a value and a line ending, one after the other.
-pub new_pair-printed : (e : Encoding) (start keyed separated valued all separator separator_bytes ending_bytes key value : List ℕ) (by : LineEnding) (after_blanks : Bool)
+-- A key, a separator and a value, one after the other.
+pub new_pair-unended : (e : Encoding) (start keyed separated valued separator separator_bytes key value : List ℕ) (after_blanks : Bool)
     → keyed ≡ start ++ encoded_text e key → separated ≡ keyed ++ separator_bytes → separator_bytes ≡ encoded_text e separator
-    → valued ≡ separated ++ encoded_text e (spelt_value e after_blanks value) → after_blanks ≡ is_blanks separator
-    → all ≡ valued ++ ending_bytes → ending_bytes ≡ line_ending_text by
-    → all ≡ start ++ (encoded_text e (key ++ (separator ++ spelt_value e (is_blanks separator) value)) ++ line_ending_text by)
-new_pair-printed e start keyed separated valued all separator separator_bytes ending_bytes key value by after_blanks h i j k l m n =
-    let back = spelt_value e (is_blanks separator) value in
-    let ending = line_ending_text by in
+    → valued ≡ separated ++ encoded_text e (printed_value e after_blanks value) → after_blanks ≡ is_blanks separator
+    → valued ≡ start ++ encoded_text e (key ++ (separator ++ printed_value e (is_blanks separator) value))
+new_pair-unended e start keyed separated valued separator separator_bytes key value after_blanks h i j k l =
+    let back = printed_value e (is_blanks separator) value in
     let parts : encoded_text e (key ++ (separator ++ back)) ≡ encoded_text e key ++ (encoded_text e separator ++ encoded_text e back) =
     encoded_text-append e key (separator ++ back) ∙ ap (λ v. encoded_text e key ++ v) (encoded_text-append e separator back) in
-    m ∙ ap₂ (λ v w. v ++ w) (k ∙ ap₂ (λ v b. v ++ encoded_text e (spelt_value e b value)) (i ∙ ap₂ (λ v w. v ++ w) h j) l) n
-    ∙ ap (λ v. v ++ ending) (append_assoc (start ++ encoded_text e key) (encoded_text e separator) (encoded_text e back)
+    k ∙ ap₂ (λ v b. v ++ encoded_text e (printed_value e b value)) (i ∙ ap₂ (λ v w. v ++ w) h j) l
+    ∙ append_assoc (start ++ encoded_text e key) (encoded_text e separator) (encoded_text e back)
     ∙ append_assoc start (encoded_text e key) (encoded_text e separator ++ encoded_text e back)
-    ∙ ap (λ v. start ++ v) (sym parts))
-    ∙ append_assoc start (encoded_text e (key ++ (separator ++ back))) ending
+    ∙ ap (λ v. start ++ v) (sym parts)
+
+-- They are followed by a line ending.
+pub new_pair-ended : (e : Encoding) (start printed all separator key value ending_bytes : List ℕ) (first : Bool) (by : LineEnding)
+    → printed ≡ start ++ encoded_text e (printed_key e false first key ++ (separator ++ printed_value e (is_blanks separator) value))
+    → all ≡ printed ++ ending_bytes → ending_bytes ≡ line_ending_text by
+    → all ≡ start ++ (encoded_text e (printed_key e false first key ++ (separator ++ printed_value e (is_blanks separator) value)) ++ line_ending_text by)
+new_pair-ended e start printed all separator key value ending_bytes first by h m n =
+    m ∙ ap₂ (λ v w. v ++ w) h n
+    ∙ append_assoc start (encoded_text e (printed_key e false first key ++ (separator ++ printed_value e (is_blanks separator) value))) (line_ending_text by)
 
 -- A new pair after a source, and what separates it from the source.
-pub new_pair-appended : (e : Encoding) (source rest parting raw_parting empty parted printed all key separator value ending : List ℕ) (first : Bool)
-    → all ≡ source ++ (printed ++ []) → printed ≡ parted ++ (encoded_text e (spelt_key e false first key ++ (separator ++ spelt_value e (is_blanks separator) value)) ++ ending)
-    → parted ≡ empty ++ raw_parting → empty ≡ [] → raw_parting ≡ parting → first ≡ is_empty (rest ++ parting)
-    → all ≡ source ++ (parting ++ new_pair_bytes e (rest ++ parting) key separator value ending)
-new_pair-appended e source rest parting raw_parting empty parted printed all key separator value ending first h i j k l m =
-    let pair : Bool → List ℕ = λ b. encoded_text e (spelt_key e false b key ++ (separator ++ spelt_value e (is_blanks separator) value)) ++ ending in
+pub new_pair-appended : (e : Encoding) (source rest separation raw_separation empty closing_bytes printed all key separator value ending : List ℕ) (first : Bool)
+    → all ≡ source ++ (printed ++ []) → printed ≡ closing_bytes ++ (encoded_text e (printed_key e false first key ++ (separator ++ printed_value e (is_blanks separator) value)) ++ ending)
+    → closing_bytes ≡ empty ++ raw_separation → empty ≡ [] → raw_separation ≡ separation → first ≡ is_empty (rest ++ separation)
+    → all ≡ source ++ (separation ++ new_pair_bytes e (rest ++ separation) key separator value ending)
+new_pair-appended e source rest separation raw_separation empty closing_bytes printed all key separator value ending first h i j k l m =
+    let pair : Bool → List ℕ = λ b. encoded_text e (printed_key e false b key ++ (separator ++ printed_value e (is_blanks separator) value)) ++ ending in
     h ∙ ap (λ v. source ++ v) (append-nil printed ∙ i ∙ ap₂ (λ v b. v ++ pair b) (j ∙ ap₂ (λ v w. v ++ w) k l) m)
 
 -- ---- the separator of a new pair

@@ -18,7 +18,7 @@ use Rattle.properties_format.proofs.ItemsToCome.Unique.{items_to_come-start}
 use Rattle.java_properties.specs.Errors.{IsBareError}
 use Rattle.properties_lines.specs.LineReader.{PassesSome}
 use Rattle.properties_lines.proofs.LineJoiner.{some-start, some-on, all-on}
-use Rattle.java_properties.proofs.Told.{tell-all}
+use Rattle.java_properties.proofs.StatedItems.{state-all}
 use Rattle.java_properties.specs.GivenItems.{Gives, BreaksOff, GivesEntry, GivesNone, GivesMalformed, GivesError}
 use Rattle.java_properties.specs.PropertiesIter.{entry_of}
 use Rattle.java_properties.specs.ReadLines.{entries_in, IsReading, BeginsReading, ReadsWhole, StopsMalformed, StopsFailed, StopsEarly, StopsReading}
@@ -150,7 +150,7 @@ module _ {R : Type 0} {reader : Reader R} where
     reading = reading-of e (r ++ f.bytes) fault _ (live-on h.comes g f.bytes fault ∙ ap (λ v. entries ++ v) f.items);
   })
   collected-error {r = r} h g (inr (inl f)) =
-      inr (record { bytes = r ++ f.bytes; read = read-more h.read f.read; is = inl (f.is, tell-all (all-on (h.passes g) f.passes)); begins = early h g f.bytes })
+      inr (record { bytes = r ++ f.bytes; read = read-more h.read f.read; is = inl (f.is, state-all (all-on (h.passes g) f.passes)); begins = early h g f.bytes })
   collected-error {r = r} h g (inr (inr f)) = inr (record { bytes = r ++ f.bytes; read = read-more h.read f.read; is = inr f.is; begins = early h g f.bytes })
 
   -- an error came

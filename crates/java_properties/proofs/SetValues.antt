@@ -9,8 +9,8 @@ use Rattle.properties_format.specs.Groups.{joined}
 use Rattle.properties_format.specs.Split.{IsPair}
 use Rattle.properties_format.specs.Printing.{encoded_text}
 use Rattle.properties_format.specs.Body.{HeldLine, as_lines, HasKey, ending_bytes, groups_bytes, last_ending}
-use Rattle.properties_format.specs.Edited.{bom_of, parting, added_ending, is_editable, is_empty_line, is_left_open, final_group, edited}
-use Rattle.properties_format.specs.Valued.{value_text, parted_by, ending_in, new_pair_bytes, IsSetValueResult}
+use Rattle.properties_format.specs.Edited.{bom_of, separation, added_ending, is_editable, is_empty_line, is_left_open, final_group, edited}
+use Rattle.properties_format.specs.Valued.{value_text, separation_by, ending_in, new_pair_bytes, IsSetValueResult}
 use Rattle.properties_format.specs.Reading.Items.{outcome_of}
 use Rattle.properties_format.specs.Reading.Body.{held_groups_of}
 use Rattle.properties_format.specs.Reading.Slots.{unended_bytes}
@@ -25,7 +25,7 @@ use Rattle.properties_format.proofs.Valued.Made.{group-decoded, set_value_result
 use Rattle.properties_format.proofs.Valued.Read.{set_value-reads, value_set-keeps, value_set-keeps_front}
 use Rattle.properties_format.proofs.Valued.Unended.{without_ending, unended-joined, unended-front, unended-between, unended-value}
 use Rattle.properties_text.specs.Encoding.{encoding_of}
-use Rattle.java_properties.specs.BodyKeys.{IsPlaceOf, IsPlace, IsKeyFound, parted}
+use Rattle.java_properties.specs.BodyKeys.{IsPlaceOf, IsPlace, IsKeyFound, closing_bytes}
 use Rattle.java_properties.specs.BodyValues.{IsPairAlone, IsLayoutAfter, revalued_in}
 use Rattle.java_properties.specs.Editing.{HasValueSet}
 use Rattle.java_properties.specs.Maps.{characters}
@@ -47,12 +47,12 @@ raw-pair key g (value, h) = (h.raw_key, h.raw_value, h.split)
 -- ---- a value is set
 
 -- a new pair is parted from the source by so many line endings as a printed pair
-parted-any : (g : List HeldLine) (how : Closing) → parting [] g ≡ parted (added_ending []) how → (ending : List ℕ) → parted_by ending g ≡ parted ending how
-parted-any g how h ending = tests (is_empty_line g) (is_left_open g) how h
+closing_bytes-any : (g : List HeldLine) (how : Closing) → separation [] g ≡ closing_bytes (added_ending []) how → (ending : List ℕ) → separation_by ending g ≡ closing_bytes ending how
+closing_bytes-any g how h ending = tests (is_empty_line g) (is_left_open g) how h
   where
     tests : (empty opens : Bool) (how : Closing)
-        → (if empty then [] else (if opens then added_ending [] ++ added_ending [] else added_ending [])) ≡ parted (added_ending []) how
-        → (if empty then [] else (if opens then ending ++ ending else ending)) ≡ parted ending how
+        → (if empty then [] else (if opens then added_ending [] ++ added_ending [] else added_ending [])) ≡ closing_bytes (added_ending []) how
+        → (if empty then [] else (if opens then ending ++ ending else ending)) ≡ closing_bytes ending how
     tests true opens closing.Nothing k = refl
     tests true opens closing.OneEnding k = absurd (cc)
     tests true opens closing.TwoEndings k = absurd (cc)
@@ -146,20 +146,20 @@ pub new_pair-result : {source : List ℕ} {e : Encoding} {opened : BodyStart} {f
     → is_editable (encoding_of opened.encoding) ≡ true → IsKeyFound (encoding_of opened.encoding) (drop opened.start source) key found → found.pair ≡ None
     → IsLayoutAfter (encoding_of opened.encoding) (drop opened.start source) found.closing key layout
     → let ending = line_ending_text (ending_of layout.ending) in
-    let parting = parted ending layout.closing in
-    bytes ≡ source ++ (parting ++ new_pair_bytes (output_encoding (encoding_of opened.encoding)) (drop opened.start source ++ parting) key (characters layout.separator) value ending)
+    let separation = closing_bytes ending layout.closing in
+    bytes ≡ source ++ (separation ++ new_pair_bytes (output_encoding (encoding_of opened.encoding)) (drop opened.start source ++ separation) key (characters layout.separator) value ending)
     → set_value_result e source key value ≡ edited bytes
 new_pair-result {source} {e} {opened} {found} key value bytes layout h ok k none l made =
     let f = encoding_of opened.encoding in
     let body = drop opened.start source in
     let gs = held_groups_of f body in
     let ending = line_ending_text (ending_of layout.ending) in
-    let by = parted ending layout.closing in
+    let by = closing_bytes ending layout.closing in
     let last : last_place key gs ≡ None = subst (IsPlace key gs) none k.pair in
     let all : groups_bytes gs ≡ body = held-body f body gs ok (held_groups_of-meets f body) in
     let ends : ending_in gs ≡ ending = ap line_ending_text (sym (l.ends f gs ok (held_groups_of-meets f body))) in
-    let parts : parted_by (ending_in gs) (final_group gs) ≡ by =
-    ap (λ v. parted_by v (final_group gs)) ends ∙ parted-any (final_group gs) found.closing (k.closing []) ending ∙ ap (parted ending) (sym l.closes) in
+    let parts : separation_by (ending_in gs) (final_group gs) ≡ by =
+    ap (λ v. separation_by v (final_group gs)) ends ∙ closing_bytes-any (final_group gs) found.closing (k.closing []) ending ∙ ap (closing_bytes ending) (sym l.closes) in
     let separator = separator_by key (last_between gs) in
     let pair = new_pair_bytes f (body ++ by) key (characters layout.separator) value ending in
     let whole : source ≡ bom_of source ++ body = source-whole e source ∙ ap (λ v. let w : InForce = v in bom_of source ++ w.body) h.in_force in

@@ -18,7 +18,7 @@ use Rattle.properties_format.specs.Reading.Edited.{IsSound, AreSound}
 use Rattle.properties_format.specs.Reading.Items.{outcome_of}
 use Rattle.properties_format.specs.Reading.EditedSlots.{slots_after}
 use Rattle.properties_text.specs.Encoding.{encoding_of}
-use Rattle.java_properties.specs.BodyKeys.{IsFaultOf}
+use Rattle.java_properties.specs.BodyKeys.{IsErrorOfGroups}
 use Rattle.java_properties.specs.BodySlots.{Holds, ParsesSlots, written}
 use Rattle.java_properties.specs.Documents.{OpenDocument}
 use Rattle.java_properties.specs.GivenItems.{IsNoItem}
@@ -68,20 +68,20 @@ pub record IsDocument (d : Inside) : Type 0 where
 -- ---- a body with its values
 
 -- the pair that a logical line is, if it is one
-abbrev pub pair_told : Outcome → Option (List ℕ × List ℕ)
-pair_told ignored = None
-pair_told (given (comment text)) = None
-pair_told (given (pair key value)) = Some (key, value)
-pair_told (broken kind) = None
+abbrev pub outcome_pair : Outcome → Option (List ℕ × List ℕ)
+outcome_pair ignored = None
+outcome_pair (given (comment text)) = None
+outcome_pair (given (pair key value)) = Some (key, value)
+outcome_pair (broken kind) = None
 
 -- the characters of a key and of its value
 abbrev pub pair_characters : {Y Z : Type 0} → String Y × String Z → List ℕ × List ℕ
 pair_characters p = (characters p.0, characters p.1)
 
 -- The pair that a logical line is, if it is one, was returned; or an error in the line with this number.
-abbrev pub TellsPairOf : {Y Z : Type 0} → List ℕ → ℕ → Result (Option (String Y × String Z)) PropertiesError → Type 0
-TellsPairOf line number (Ok told) = IsSound (outcome_of line) × (option_map pair_characters told ≡ pair_told (outcome_of line))
-TellsPairOf line number (Err e) = IsNoItem number line e
+abbrev pub FindsPairOfLine : {Y Z : Type 0} → List ℕ → ℕ → Result (Option (String Y × String Z)) PropertiesError → Type 0
+FindsPairOfLine line number (Ok answer) = IsSound (outcome_of line) × (option_map pair_characters answer ≡ outcome_pair (outcome_of line))
+FindsPairOfLine line number (Err e) = IsNoItem number line e
 
 -- the map with the value of the returned pair, if there is one
 abbrev pub updated_by : Option (List ℕ × List ℕ) → (List ℕ → Option (List ℕ)) → List ℕ → Option (List ℕ)
@@ -89,16 +89,16 @@ updated_by None value_of k = value_of k
 updated_by (Some (key, value)) value_of k = update bytes_eq value_of key (Some value) k
 
 -- The value of the returned pair is stored, and a copy of its key is returned.
-pub record KeepsValue {X Y Z : Type 0} (told : Option (List ℕ × List ℕ)) (old new : Entries Y Z) (copy : Option (String X)) : Type 0 where
-  pub copied : option_map characters copy ≡ option_map (λ p. p.0) told
-  pub values : (k : List ℕ) → value_at new k ≡ updated_by told (value_at old) k
+pub record KeepsValue {X Y Z : Type 0} (answer : Option (List ℕ × List ℕ)) (old new : Entries Y Z) (copy : Option (String X)) : Type 0 where
+  pub copied : option_map characters copy ≡ option_map (λ p. p.0) answer
+  pub values : (k : List ℕ) → value_at new k ≡ updated_by answer (value_at old) k
 
 -- A body without malformed escapes was read into its slots and the values of its keys; or its first malformed escape
 -- was found, or memory ran out.
 abbrev pub ParsesBody : {Y Z : Type 0} → Encoding → List ℕ → Result (Slots × BTreeMap (String Y) (String Z)) PropertiesError → Type 0
 ParsesBody e body (Ok (slots, values)) =
     ParsesSlots e body (Ok slots) × IsMap (entries_in 1 (held_groups_of e body)) (value_at values.entries) × IsOrdered string_cmp values
-ParsesBody e body (Err error) = IsFaultOf (held_groups_of e body) error
+ParsesBody e body (Err error) = IsErrorOfGroups (held_groups_of e body) error
 
 -- ---- a value that is changed
 

@@ -11,8 +11,8 @@ use Rattle.properties_format.specs.Reading.Body.{held_groups_after, held_groups_
 use Rattle.properties_format.specs.Reading.Slots.{unended_bytes}
 use Rattle.properties_text.specs.Encoding.{encoding_of}
 use Rattle.properties_lines.specs.LineSearch.{unit_size}
-use Rattle.properties_lines.specs.Scanner.{IsTold, bytes_of}
-use Rattle.properties_lines.specs.HeldLines.{StandsInBody, held_line, lines_left}
+use Rattle.properties_lines.specs.Scanner.{HasRightFlags, bytes_of}
+use Rattle.properties_lines.specs.HeldLines.{IsInBody, held_line, lines_left}
 use Rattle.properties_lines.specs.LogicalLine.{text_with}
 use Rattle.java_properties.specs.BodyLines.{ending_in}
 use Rattle.java_properties.specs.declared.edit.groups.Group.{Group}
@@ -23,7 +23,7 @@ use Rattle.java_properties.specs.declared.edit.groups.GroupReader.{GroupReader}
 -- The reader is positioned in the body, whose units are one byte long.
 pub record IsWithin (body : List ℕ) (s : GroupReader) : Type 0 where
   pub bytes : unit_size (encoding_of s.scanner.encoding) ≡ 1
-  pub stands : StandsInBody s.scanner body
+  pub within_body : IsInBody s.scanner body
 
 -- the groups to come
 abbrev pub groups_left : List ℕ → GroupReader → List (List HeldLine)
@@ -41,7 +41,7 @@ pub record TakesLine (body : List ℕ) (old new : GroupReader) : Type 0 where
   pub placed : new.scanner.line.end ≤ new.scanner.at
   pub ends : take (new.scanner.at - new.scanner.line.end) (drop new.scanner.line.end body) ≡ ending_bytes ending
   pub passed : new.scanner.passed ≡ old.scanner.passed + 1
-  pub told : IsTold (encoding_of new.scanner.encoding) (bytes_of body new.scanner.line) new.scanner.line
+  pub flags : HasRightFlags (encoding_of new.scanner.encoding) (bytes_of body new.scanner.line) new.scanner.line
   pub within : IsWithin body new
   pub encoding : encoding_of new.scanner.encoding ≡ encoding_of old.scanner.encoding
   pub same : new ≡ record old { scanner = new.scanner }

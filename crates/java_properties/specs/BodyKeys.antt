@@ -6,13 +6,13 @@ use Rattle.properties_format.specs.Text.{line_feed}
 use Rattle.properties_format.specs.Encoding.{Encoding, begins_like_bom}
 use Rattle.properties_format.specs.Escapes.{Malformed}
 use Rattle.properties_format.specs.Body.{HeldLine, groups_bytes}
-use Rattle.properties_format.specs.Edited.{unreadable, final_group, added_ending, parting}
+use Rattle.properties_format.specs.Edited.{unreadable, final_group, added_ending, separation}
 use Rattle.properties_format.specs.Items.{ignored}
 use Rattle.properties_format.specs.Reading.Items.{outcome_of}
 use Rattle.properties_format.specs.Reading.Body.{is_pair_with, entries_in, held_groups_of}
 use Rattle.properties_format.specs.Reading.Slots.{unended_bytes}
 use Rattle.properties_format.specs.Reading.Edited.{KeyPlace, last_place, without, IsSound, AreSound, result_by}
-use Rattle.java_properties.specs.LentItems.{IsFoundIn}
+use Rattle.java_properties.specs.BorrowedItems.{IsFoundIn}
 use Rattle.java_properties.specs.GivenItems.{IsNoItem}
 use Rattle.java_properties.specs.Errors.{IsBareError, IsMalformed}
 use Rattle.java_properties.specs.declared.edit.groups.Group.{Group}
@@ -31,16 +31,16 @@ FindsItem line number (Ok (Some found)) = IsFoundIn line found
 FindsItem line number (Err e) = IsNoItem number (chars line) e
 
 -- The result says whether a logical line is a pair with this key; or there is an error in the line with this number.
-abbrev pub TellsKey : List ℕ → List ℕ → ℕ → Result Bool PropertiesError → Type 0
-TellsKey line key number (Ok told) = IsSound (outcome_of line) × (told ≡ is_pair_with key (outcome_of line))
-TellsKey line key number (Err e) = IsNoItem number line e
+abbrev pub ChecksKeyOfLine : List ℕ → List ℕ → ℕ → Result Bool PropertiesError → Type 0
+ChecksKeyOfLine line key number (Ok answer) = IsSound (outcome_of line) × (answer ≡ is_pair_with key (outcome_of line))
+ChecksKeyOfLine line key number (Err e) = IsNoItem number line e
 
 -- ---- the first malformed escape of a body
 
 -- The first malformed escape of these groups is malformed in some way, and the error reports how and in which line; or
 -- memory ran out.
-abbrev pub IsFaultOf : List (List HeldLine) → PropertiesError → Type 0
-IsFaultOf groups e =
+abbrev pub IsErrorOfGroups : List (List HeldLine) → PropertiesError → Type 0
+IsErrorOfGroups groups e =
     ((how : Malformed) × (n : ℕ) × ((made : List ℕ) → result_by (entries_in 1 groups) made ≡ unreadable how n) × IsMalformed how n e)
     ⊎ IsBareError kind.Memory e
 
@@ -63,10 +63,10 @@ abbrev pub closing_of : Bool → Bool → Closing
 closing_of is_empty is_open = if is_empty then closing.Nothing else (if is_open then closing.TwoEndings else closing.OneEnding)
 
 -- the bytes of that separation, made of this line ending
-abbrev pub parted : List ℕ → Closing → List ℕ
-parted ending closing.Nothing = []
-parted ending closing.OneEnding = ending
-parted ending closing.TwoEndings = ending ++ ending
+abbrev pub closing_bytes : List ℕ → Closing → List ℕ
+closing_bytes ending closing.Nothing = []
+closing_bytes ending closing.OneEnding = ending
+closing_bytes ending closing.TwoEndings = ending ++ ending
 
 -- what is known of the key after one more group, which may be a pair with it
 abbrev pub found_after : place.KeyPlace → Group → Bool → place.KeyPlace
@@ -80,12 +80,12 @@ found_after found group is_pair =
 pub record IsKeyFound (e : Encoding) (body key : List ℕ) (found : place.KeyPlace) : Type 0 where
   pub sound : AreSound (held_groups_of e body)
   pub pair : IsPlace key (held_groups_of e body) found.pair
-  pub closing : (source : List ℕ) → parting source (final_group (held_groups_of e body)) ≡ parted (added_ending source) found.closing
+  pub closing : (source : List ℕ) → separation source (final_group (held_groups_of e body)) ≡ closing_bytes (added_ending source) found.closing
 
 -- the result of searching for a key
 abbrev pub FindsKey : Encoding → List ℕ → List ℕ → Result place.KeyPlace PropertiesError → Type 0
 FindsKey e body key (Ok found) = IsKeyFound e body key found
-FindsKey e body key (Err error) = IsFaultOf (held_groups_of e body) error
+FindsKey e body key (Err error) = IsErrorOfGroups (held_groups_of e body) error
 
 -- ---- what is left without a key
 
@@ -115,4 +115,4 @@ pub record AreOthersFound (e : Encoding) (body key : List ℕ) (others : List Bo
 -- the result of searching for the parts that are left
 abbrev pub FindsOthers : {Z : Type 0} → Encoding → List ℕ → List ℕ → Result (Vec BodySpan Z) PropertiesError → Type 0
 FindsOthers e body key (Ok others) = AreOthersFound e body key others.items
-FindsOthers e body key (Err error) = IsFaultOf (held_groups_of e body) error
+FindsOthers e body key (Err error) = IsErrorOfGroups (held_groups_of e body) error

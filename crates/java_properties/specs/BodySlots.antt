@@ -3,8 +3,9 @@ pub mod Keys
 pub mod Parsed
 pub mod Put
 pub mod Removal
-use Rattle.std.specs.Prelude.{◌≡◌, ℕ, ◌+◌, ◌-◌, ◌≤◌, ◌<◌, Bool, true, false, if◌then◌else◌, List, [], ◌∷◌, ◌++◌, length, take, drop, get_or, Option, Some, None, Result, Ok, Err, bytes_eq}
-use Rattle.std.specs.Option.{option_map, option_map_or}
+pub mod Value
+use Rattle.std.specs.Prelude.{◌≡◌, ℕ, ◌+◌, ◌-◌, ◌≤◌, ◌<◌, ◌&&◌, Bool, true, false, if◌then◌else◌, List, [], ◌∷◌, ◌++◌, length, take, drop, get_or, Option, Some, None, Result, Ok, Err, bytes_eq}
+use Rattle.std.specs.Option.{is_some, option_map, option_map_or}
 use Rattle.std.specs.Map.{lookup}
 use Rattle.std.specs.Global.{Vec}
 use Rattle.std.specs.BTreeMap.{IsOrdered}
@@ -12,18 +13,19 @@ use Rattle.std.specs.String.{string_cmp}
 use Rattle.std.specs.declared.string.String.{String}
 use Rattle.properties_format.specs.Text as text
 use Rattle.properties_format.specs.Encoding.{Encoding}
-use Rattle.properties_format.specs.Body.{ending_bytes}
+use Rattle.properties_format.specs.Body.{HeldLine, ending_bytes}
 use Rattle.properties_format.specs.Reading.Body.{held_groups_of}
 use Rattle.properties_format.specs.Reading.Edited.{IsSound, AreSound}
 use Rattle.properties_format.specs.Reading.Items.{outcome_of}
 use Rattle.properties_format.specs.Reading.Slots as format
-use Rattle.properties_format.specs.Reading.Slots.{empty_slot, left_out, ended_by, closed_by, slots_of, last_slot, slots_put_at, slots_without, slots_guarded, last_has, key_told, IsWellEnded}
+use Rattle.properties_format.specs.Reading.Slots.{empty_slot, left_out, ended_by, closed_by, slots_of, last_slot, slots_put_at, slots_without, slots_guarded, last_has, outcome_key, IsWellEnded}
+use Rattle.properties_format.specs.Reading.ValuedSlots.{between_in_slot, AreReadAgain}
 use Rattle.properties_format.specs.Reading.Cells.{Cell, live, places, EndsAlive, AreLinks}
 use Rattle.java_properties.specs.Settings.{ending_of}
 use Rattle.java_properties.specs.Maps.{characters}
 use Rattle.java_properties.specs.GivenItems.{IsNoItem}
 use Rattle.java_properties.specs.BodyLines.{ending_in}
-use Rattle.java_properties.specs.BodyKeys.{IsFaultOf}
+use Rattle.java_properties.specs.BodyKeys.{IsErrorOfGroups}
 use Rattle.java_properties.specs.declared.edit.place.Closing.{Closing}
 use Rattle.java_properties.specs.declared.edit.place.Closing.TheVariants as closing
 use Rattle.java_properties.specs.declared.edit.slots.Slot.{Slot}
@@ -51,6 +53,27 @@ AreCells body [] (c ∷ cs) = ⊥
 AreCells body (s ∷ ss) [] = ⊥
 AreCells body (s ∷ ss) (c ∷ cs) = IsCell body s c × AreCells body ss cs
 
+-- Each of the slots keeps a part of the body.
+abbrev pub AreInside : List ℕ → List Slot → Type 0
+AreInside body [] = Unit {0}
+AreInside body (s ∷ ss) = (s.kept.start ≤ s.kept.end) × (s.kept.end ≤ length body) × AreInside body ss
+
+-- So does it, and it is one group if it is left.
+pub record IsReadIn (e : Encoding) (body : List ℕ) (s : Slot) : Type 0 where
+  pub ordered : s.kept.start ≤ s.kept.end
+  pub within : s.kept.end ≤ length body
+  pub alone : s.is_left ≡ true → (group : List HeldLine) × (held_groups_of e (slot_bytes body s) ≡ group ∷ [])
+
+abbrev pub AreReadIn : Encoding → List ℕ → List Slot → Type 0
+AreReadIn e body [] = Unit {0}
+AreReadIn e body (s ∷ ss) = IsReadIn e body s × AreReadIn e body ss
+
+-- the slots that are left, without their keys
+abbrev pub seen : List ℕ → List Slot → List format.Slot
+seen body [] = []
+seen body (s ∷ ss) =
+    if s.is_left then record { bytes = slot_bytes body s; ending = ending_in s.ending; key = None } ∷ seen body ss else seen body ss
+
 -- ---- the array
 
 -- a cell that belongs to no slot
@@ -67,12 +90,32 @@ closing_in closing.Nothing by = left_out
 closing_in closing.OneEnding by = ended_by (ending_of by)
 closing_in closing.TwoEndings by = closed_by (ending_of by)
 
+-- None of the cells from one index to before another passes the test.
+abbrev pub NonePasses : (Cell → Bool) → List Cell → ℕ → ℕ → Type 0
+NonePasses test cells low high = (k : ℕ) → low ≤ k → k < high → test (get_or cells k no_cell) ≡ false
+
+-- The indices rise, and each cell from one index to before another that passes the test has one of them.
+abbrev pub AreKept : (Cell → Bool) → List Cell → ℕ → List ℕ → ℕ → Type 0
+AreKept test cells low [] high = (low ≤ high) × NonePasses test cells low high
+AreKept test cells low (i ∷ is) high = (low ≤ i) × NonePasses test cells low i × AreKept test cells (i + 1) is high
+
+-- whether a cell is left and is a pair
+abbrev pub is_pair_left : Cell → Bool
+is_pair_left c = c.alive && is_some c.slot.key
+
+-- The cells that are left, other than the first, have these indices, and those of pairs have these; some of the indices
+-- may be of cells that aren't left.
+pub record AreTrails (cells : List Cell) (lefts pairs : List ℕ) : Type 0 where
+  pub lefts_are : AreKept (λ c. c.alive) cells 1 lefts (length cells)
+  pub pairs_are : AreKept is_pair_left cells 1 pairs (length cells)
+
 -- The slots are these cells. The first is reserved for an LF in front, and the last is left.
 pub record HoldsCells (body : List ℕ) (s : Slots) (cells : List Cell) : Type 0 where
   pub cells_are : AreCells body s.slots.items cells
   pub linked : length s.links.items ≡ length cells
   pub links_are : AreLinks cells s.links.items no_cell
   pub places_are : (key : List ℕ) → stack_at s.places.entries key ≡ places key cells
+  pub trails_are : AreTrails cells s.lefts.items s.pairs.items
   pub ends : EndsAlive cells
   pub first_in : s.first ≤ length cells
   pub first_is : (k : ℕ) → k < s.first → (get_or cells k no_cell).alive ≡ false
@@ -85,6 +128,7 @@ pub record LooseCells (body : List ℕ) (s : Slots) (cells : List Cell) : Type 0
   pub cells_are : AreCells body s.slots.items cells
   pub linked : length s.links.items ≡ length cells
   pub links_are : AreLinks cells s.links.items no_cell
+  pub trails_are : AreTrails cells s.lefts.items s.pairs.items
   pub first_in : s.first ≤ length cells
   pub first_is : (k : ℕ) → k < s.first → (get_or cells k no_cell).alive ≡ false
   pub guard : (get_or cells 0 no_cell).slot ≡ empty_slot (Some text.lf)
@@ -94,13 +138,24 @@ pub record Holds (body : List ℕ) (s : Slots) (m : format.Slots) : Type 0 where
   pub cells : List Cell
   pub holds : HoldsCells body s cells
   pub list : m.list ≡ live cells
-  pub closing : m.closing ≡ closing_in s.closing s.parting
+  pub closing : m.closing ≡ closing_in s.closing s.separation
 
 -- What is left of the slots are some slots of this body, which are well ended.
 pub record HoldsIn (body : List ℕ) (s : Slots) : Type 0 where
   pub slots : format.Slots
   pub holds : Holds body s slots
   pub well_ended : IsWellEnded slots
+
+-- A slot without a key isn't a pair.
+abbrev pub HaveContents : Encoding → List format.Slot → Type 0
+HaveContents e [] = Unit {0}
+HaveContents e (s ∷ ss) = (s.key ≡ None → between_in_slot e s ≡ None) × HaveContents e ss
+
+-- So they are, and each of them is read again as it is.
+pub record ReadsIn (e : Encoding) (body : List ℕ) (s : Slots) : Type 0 where
+  pub held : HoldsIn body s
+  pub again : AreReadAgain e held.slots.list
+  pub told : HaveContents e held.slots.list
 
 -- What is left of the slots are some slots of some body, which are well ended.
 pub record HoldsSome (s : Slots) : Type 0 where
@@ -113,11 +168,17 @@ Changes body change old new = (m : format.Slots) → IsWellEnded m → Holds bod
 
 -- ---- one more slot
 
--- A slot was appended.
-pub record Pushes (old : Slots) (slot : Slot) (new : Slots) : Type 0 where
+-- the indices with one more, if it counts
+abbrev pub with_index : Bool → List ℕ → ℕ → List ℕ
+with_index counts indices i = if counts then indices ++ i ∷ [] else indices
+
+-- A slot was appended, which is a pair or not.
+pub record Pushes (old : Slots) (slot : Slot) (is_pair : Bool) (new : Slots) : Type 0 where
   pub slots : new.slots.items ≡ old.slots.items ++ slot ∷ []
   pub links : new.links.items ≡ old.links.items ++ (length old.slots.items + 1) ∷ []
-  pub same : new ≡ record old { slots = new.slots; links = new.links }
+  pub lefts : new.lefts.items ≡ old.lefts.items ++ length old.slots.items ∷ []
+  pub pairs : new.pairs.items ≡ with_index is_pair old.pairs.items (length old.slots.items)
+  pub same : new ≡ record old { slots = new.slots; links = new.links; lefts = new.lefts; pairs = new.pairs }
 
 -- A slot without bytes and without a line ending was appended.
 pub record PushesEmpty (old new : Slots) : Type 0 where
@@ -126,7 +187,9 @@ pub record PushesEmpty (old new : Slots) : Type 0 where
   pub slots : new.slots.items ≡ old.slots.items ++ slot ∷ []
   pub links : new.links.items ≡ old.links.items ++ (length old.slots.items + 1) ∷ []
   pub closing : new.closing ≡ closing.Nothing
-  pub same : new ≡ record old { slots = new.slots; links = new.links; closing = new.closing }
+  pub lefts : new.lefts.items ≡ old.lefts.items ++ length old.slots.items ∷ []
+  pub pairs : new.pairs.items ≡ old.pairs.items
+  pub same : new ≡ record old { slots = new.slots; links = new.links; lefts = new.lefts; pairs = new.pairs; closing = new.closing }
 
 -- ---- the first slot
 
@@ -164,14 +227,14 @@ left_without marked key m =
 -- ---- the slots of a body
 
 -- The key of a logical line was returned if the line is a pair; or there is an error in the line with this number.
-abbrev pub TellsKeyOf : {Y : Type 0} → List ℕ → ℕ → Result (Option (String Y)) PropertiesError → Type 0
-TellsKeyOf line number (Ok key) = IsSound (outcome_of line) × (option_map characters key ≡ key_told (outcome_of line))
-TellsKeyOf line number (Err e) = IsNoItem number line e
+abbrev pub FindsKeyOfLine : {Y : Type 0} → List ℕ → ℕ → Result (Option (String Y)) PropertiesError → Type 0
+FindsKeyOfLine line number (Ok key) = IsSound (outcome_of line) × (option_map characters key ≡ outcome_key (outcome_of line))
+FindsKeyOfLine line number (Err e) = IsNoItem number line e
 
 -- A body without malformed escapes was read into its slots; or its first malformed escape was found, or memory ran out.
 abbrev pub ParsesSlots : Encoding → List ℕ → Result Slots PropertiesError → Type 0
 ParsesSlots e body (Ok s) = AreSound (held_groups_of e body) × Holds body s (slots_of (held_groups_of e body))
-ParsesSlots e body (Err error) = IsFaultOf (held_groups_of e body) error
+ParsesSlots e body (Err error) = IsErrorOfGroups (held_groups_of e body) error
 
 -- ---- the slots of a key
 

@@ -1,6 +1,6 @@
 -- How the value of a key is set in a body that is held in memory: where the value of a pair begins, and how a new pair is
 -- laid out.
-use Rattle.std.specs.Prelude.{◌≡◌, ℕ, ◌+◌, ◌-◌, ◌≤◌, Bool, true, false, if◌then◌else◌, List, [], ◌∷◌, ◌++◌, length, take, drop, Option, Some, None, Result, Ok, Err}
+use Rattle.std.specs.Prelude.{◌≡◌, ℕ, ◌+◌, ◌-◌, ◌≤◌, Bool, true, false, if◌then◌else◌, List, [], ◌∷◌, ◌++◌, length, take, drop, Option, Some, None, Result, Ok, Err, unwrap_or}
 use Rattle.std.specs.Str.{chars, encode_utf8_all}
 use Rattle.std.specs.Global.{Vec}
 use Rattle.properties_format.specs.Text as text
@@ -11,19 +11,21 @@ use Rattle.properties_format.specs.Reading.Split.{split_of}
 use Rattle.properties_format.specs.Entries.{pair}
 use Rattle.properties_format.specs.Items.{given}
 use Rattle.properties_format.specs.Reading.Items.{outcome_of}
-use Rattle.properties_format.specs.Printing.{encoded_text}
+use Rattle.properties_format.specs.Text.{is_blanks}
+use Rattle.properties_format.specs.Printing.{encoded_text, printed_key}
 use Rattle.properties_format.specs.Body.{HeldLine, as_lines, groups_bytes, held_in, AreGroupsOf}
 use Rattle.properties_format.specs.Edited.{is_editable}
-use Rattle.properties_format.specs.Valued.{value_text, ending_among, separator_after}
+use Rattle.properties_format.specs.Valued.{value_text, printed_value, ending_among, separator_after}
 use Rattle.properties_format.specs.Reading.Body.{held_groups_of}
 use Rattle.properties_format.specs.Reading.Edited.{IsSound}
 use Rattle.properties_format.specs.Reading.Settings.{is_good_separator}
 use Rattle.properties_format.specs.Reading.Slots.{unended_bytes}
-use Rattle.properties_format.specs.Reading.Valued.{before_value, between_told, between_of, front_of, has_value, is_pair_to, last_between, separator_by}
+use Rattle.properties_format.specs.Reading.Valued.{before_value, between_if_pair, between_of, front_of, has_value, is_pair_to, last_between, separator_by}
 use Rattle.properties_text.specs.Parsing.{bytes_in, IsSpan}
 use Rattle.properties_text.specs.declared.parse.Span.{Span}
 use Rattle.java_properties.specs.Maps.{characters}
 use Rattle.java_properties.specs.Settings.{ending_of}
+use Rattle.java_properties.specs.BodyLines.{ending_in}
 use Rattle.java_properties.specs.GivenItems.{IsNoItem}
 use Rattle.java_properties.specs.Errors.{IsBareError}
 use Rattle.java_properties.specs.declared.writer.settings.LineEnding.{LineEnding}
@@ -35,20 +37,20 @@ use Rattle.java_properties.specs.declared.error.ErrorKind.TheVariants as kind
 use Rattle.java_properties.specs.declared.error.PropertiesError.{PropertiesError}
 
 -- The result says whether a logical line is a pair with this value; or there is an error in the line with this number.
-abbrev pub TellsValue : List ℕ → List ℕ → ℕ → Result Bool PropertiesError → Type 0
-TellsValue line value number (Ok told) = IsSound (outcome_of line) × (told ≡ is_pair_to value (outcome_of line))
-TellsValue line value number (Err e) = IsNoItem number line e
+abbrev pub ChecksValueOfLine : List ℕ → List ℕ → ℕ → Result Bool PropertiesError → Type 0
+ChecksValueOfLine line value number (Ok answer) = IsSound (outcome_of line) × (answer ≡ is_pair_to value (outcome_of line))
+ChecksValueOfLine line value number (Err e) = IsNoItem number line e
 
 -- ---- where the value of a pair begins
 
 -- The span separates key and value in a logical line, and the value begins after it.
 pub record IsBetweenAt (line : List ℕ) (span : Span) : Type 0 where
   pub is_span : IsSpan line span
-  pub told : between_told (split_of (chars line)) (chars line) ≡ Some (chars (bytes_in line span))
+  pub of_pair : between_if_pair (split_of (chars line)) (chars line) ≡ Some (chars (bytes_in line span))
   pub before : chars (take span.end line) ≡ before_value (chars line)
 
 abbrev pub IsBetweenIn : List ℕ → Option Span → Type 0
-IsBetweenIn line None = between_told (split_of (chars line)) (chars line) ≡ None
+IsBetweenIn line None = between_if_pair (split_of (chars line)) (chars line) ≡ None
 IsBetweenIn line (Some span) = IsBetweenAt line span
 
 -- The bytes are one group, and this many bytes come before the value in its logical line.
@@ -113,7 +115,7 @@ pub record IsLastPairOf (groups : List (List HeldLine)) (span : BodySpan) : Type
   pub after : List (List HeldLine)
   pub division : groups ≡ before ++ group ∷ after
   pub between : List ℕ
-  pub told : between_told (split_of (joined (as_lines group))) (joined (as_lines group)) ≡ Some between
+  pub of_pair : between_if_pair (split_of (joined (as_lines group))) (joined (as_lines group)) ≡ Some between
   pub last : last_between groups ≡ Some between
   pub starts : span.start ≡ length (groups_bytes before)
   pub ends : span.end ≡ span.start + length (unended_bytes group)
@@ -130,7 +132,7 @@ pub record IsSeparated (e : Encoding) (bytes : List ℕ) : Type 0 where
   pub group : List HeldLine
   pub is_group : held_groups_of e bytes ≡ group ∷ []
   pub between : List ℕ
-  pub told : between_told (split_of (joined (as_lines group))) (joined (as_lines group)) ≡ Some between
+  pub of_pair : between_if_pair (split_of (joined (as_lines group))) (joined (as_lines group)) ≡ Some between
 
 -- The separator of a new pair with this key, like that of the one pair of these bytes.
 pub record IsSeparatorLike (e : Encoding) (bytes key separator : List ℕ) : Type 0 where
@@ -143,6 +145,17 @@ abbrev pub IsLastEnding : List ℕ → LineEnding → Type 0
 IsLastEnding body by =
     (e : Encoding) (groups : List (List HeldLine)) → is_editable e ≡ true → AreGroupsOf e body groups
     → ending_of by ≡ ending_among text.lf (held_in groups)
+
+-- This is the last line ending of a body, if it has one.
+abbrev pub IsEndingWithin : List ℕ → Option LineEnding → Type 0
+IsEndingWithin body o =
+    (e : Encoding) (groups : List (List HeldLine)) → is_editable e ≡ true → AreGroupsOf e body groups
+    → (by : text.LineEnding) → ending_among by (held_in groups) ≡ unwrap_or (ending_in o) by
+
+-- the bytes of a new pair without its line ending, which is the first of the body or not
+abbrev pub unended_pair : Encoding → Bool → List ℕ → List ℕ → List ℕ → List ℕ
+unended_pair e first key separator value =
+    encoded_text e (printed_key e false first key ++ (separator ++ printed_value e (is_blanks separator) value))
 
 -- A new pair after the body is laid out like this.
 pub record IsLayoutAfter (e : Encoding) (body : List ℕ) (closing : Closing) (key : List ℕ) (layout : Layout) : Type 0 where

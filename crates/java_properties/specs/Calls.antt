@@ -87,9 +87,9 @@ is_not_accepted kind.EmptyKey = true
 is_not_accepted other = false
 
 -- From the result of a call: whether it was accepted, or the error that ends the run.
-abbrev pub SaysAccepted : Result Unit PropertiesError → Result Bool PropertiesError → Type 0
-SaysAccepted (Ok done) result = result ≡ Ok true
-SaysAccepted (Err error) result = result ≡ (if is_not_accepted (kind_of error) then Ok false else Err error)
+abbrev pub IsAcceptedResult : Result Unit PropertiesError → Result Bool PropertiesError → Type 0
+IsAcceptedResult (Ok done) result = result ≡ Ok true
+IsAcceptedResult (Err error) result = result ≡ (if is_not_accepted (kind_of error) then Ok false else Err error)
 
 -- The call was made, and the answer says whether it was accepted. A call that writes no line and is no flush leaves the
 -- sink unchanged.

@@ -5,7 +5,7 @@ use Rattle.std.specs.Str.{chars}
 use Rattle.properties_format.specs.Encoding.{Encoding}
 use Rattle.properties_format.specs.Maps.{HasKeys, HasValue}
 use Rattle.properties_format.specs.Edits.{IsEditAllResult}
-use Rattle.java_properties.specs.Editing.{AreMade, IsRefusal, IsSet, IsRemoved}
+use Rattle.java_properties.specs.Editing.{AreMade, HasValueSet, IsRefusal, IsSet, IsRemoved}
 use Rattle.java_properties.specs.declared.error.PropertiesError.{PropertiesError}
 
 -- A document as its callers see it: the requested encoding, and the document's bytes.
@@ -23,21 +23,26 @@ abbrev pub PutsInto : {E : Type 0} → List ℕ → List ℕ → OpenDocument �
 PutsInto key value old (Ok done) new = (new.encoding ≡ old.encoding) × IsSet old.encoding old.bytes key value new.bytes
 PutsInto key value old (Err error) new = new ≡ old
 
+-- The value of a key was set; or memory ran out, and the document is unchanged.
+abbrev pub SetsValueIn : {E : Type 0} → List ℕ → List ℕ → OpenDocument → Result Unit E → OpenDocument → Type 0
+SetsValueIn key value old (Ok done) new = (new.encoding ≡ old.encoding) × HasValueSet old.encoding old.bytes key value new.bytes
+SetsValueIn key value old (Err error) new = new ≡ old
+
 -- Read in its encoding, a document has this value for a key: that of the last pair with the key, or none if no pair has
 -- it.
 abbrev pub HasValueAt : OpenDocument → List ℕ → Option (List ℕ) → Type 0
 HasValueAt d key value = HasValue d.encoding d.bytes key value
 
 -- Whether a pair has the key.
-abbrev pub TellsKey : OpenDocument → List ℕ → Bool → Type 0
-TellsKey d key true = (value : List ℕ) × HasValueAt d key (Some value)
-TellsKey d key false = HasValueAt d key None
+abbrev pub ChecksHasKey : OpenDocument → List ℕ → Bool → Type 0
+ChecksHasKey d key true = (value : List ℕ) × HasValueAt d key (Some value)
+ChecksHasKey d key false = HasValueAt d key None
 
 -- A key was removed, and the result says whether a pair had it.
 pub record RemovesFrom (key : List ℕ) (old : OpenDocument) (was_there : Bool) (new : OpenDocument) : Type 0 where
   pub encoding : new.encoding ≡ old.encoding
   pub removed : IsRemoved old.encoding old.bytes key new.bytes
-  pub told : TellsKey old key was_there
+  pub checked : ChecksHasKey old key was_there
 
 -- the characters of borrowed texts
 abbrev pub characters_of : List (Bor (List ℕ)) → List (List ℕ)

@@ -5,13 +5,13 @@ use Rattle.std.specs.Global.{Vec}
 use Rattle.properties_format.specs.Encoding.{Encoding}
 use Rattle.properties_format.specs.Escapes.{Malformed}
 use Rattle.properties_format.specs.Edited.{EditResult, edited, unsupported, unreadable, IsSetKeyResult, IsRemoveKeyResult}
-use Rattle.properties_format.specs.Edits.{put, remove, IsEditAllResult}
+use Rattle.properties_format.specs.Edits.{put, remove, set_value, IsEditAllResult}
 use Rattle.properties_format.specs.Edits as format
 use Rattle.properties_format.specs.Valued.{IsSetValueResult, KeepsFront}
 use Rattle.properties_format.specs.Changed.{IsSetIn, IsRemovedIn, AreEditedIn, map_edited, map_after, AreOthersThanLast, AreOthers, ReadsAfter, KeepsOthers}
 use Rattle.java_properties.specs.Errors.{IsBareError, IsMalformed}
 use Rattle.java_properties.specs.declared.edit.Edit.{Edit}
-use Rattle.java_properties.specs.declared.edit.Edit.TheVariants.{Put, Remove}
+use Rattle.java_properties.specs.declared.edit.Edit.TheVariants.{Put, Remove, SetValue}
 use Rattle.java_properties.specs.declared.error.ErrorKind.TheVariants as kind
 use Rattle.java_properties.specs.declared.error.PropertiesError.{PropertiesError}
 
@@ -64,6 +64,7 @@ RemovesKey e source key (Err error) = IsRefusal (IsRemoveKeyResult e source key)
 abbrev pub edit_in : Edit → format.Edit
 edit_in (Put key value) = put (chars (string_bytes key)) (chars (string_bytes value))
 edit_in (Remove key) = remove (chars (string_bytes key))
+edit_in (SetValue key value) = set_value (chars (string_bytes key)) (chars (string_bytes value))
 
 abbrev pub edits_in : List Edit → List format.Edit
 edits_in edits = map edit_in edits
@@ -80,4 +81,5 @@ EditsAll e source edits (Err error) = IsRefusal (IsEditAllResult e source edits)
 abbrev pub IsSameEdit : Edit → Edit → Type 0
 IsSameEdit (Put k v) (Put l w) = (string_bytes k ≡ string_bytes l) × (string_bytes v ≡ string_bytes w)
 IsSameEdit (Remove k) (Remove l) = string_bytes k ≡ string_bytes l
+IsSameEdit (SetValue k v) (SetValue l w) = (string_bytes k ≡ string_bytes l) × (string_bytes v ≡ string_bytes w)
 IsSameEdit edit other = ⊥

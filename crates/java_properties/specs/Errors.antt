@@ -85,19 +85,19 @@ abbrev pub IsMalformed : Malformed → ℕ → PropertiesError → Type 0
 IsMalformed malformed line error = IsError (malformed_kind malformed) (Some line) (malformed_cause malformed) error
 
 -- The escapes in this line can't be resolved for this reason.
-abbrev pub SaysUnresolved : UnescapeError → ℕ → PropertiesError → Type 0
-SaysUnresolved (unescape.Malformed malformed) line error = IsMalformed (malformed_in malformed) line error
-SaysUnresolved unescape.Memory line error = IsBareError kind.Memory error
+abbrev pub IsUnresolvedError : UnescapeError → ℕ → PropertiesError → Type 0
+IsUnresolvedError (unescape.Malformed malformed) line error = IsMalformed (malformed_in malformed) line error
+IsUnresolvedError unescape.Memory line error = IsBareError kind.Memory error
 
 -- The text is malformed, and the error reports how, in this line; or memory ran out.
 abbrev pub IsUnresolved : List ℕ → ℕ → PropertiesError → Type 0
 IsUnresolved text line error = ((malformed : Malformed) × Breaks text malformed × IsMalformed malformed line error) ⊎ IsBareError kind.Memory error
 
 -- No line was returned for this reason.
-abbrev pub SaysLineError : LineError → PropertiesError → Type 0
-SaysLineError (why.Io number source) error = IsStreamError (Some number) source error
-SaysLineError why.TooManyLines error = IsBareError kind.TooManyLines error
-SaysLineError why.Memory error = IsBareError kind.Memory error
+abbrev pub IsLineError : LineError → PropertiesError → Type 0
+IsLineError (why.Io number source) error = IsStreamError (Some number) source error
+IsLineError why.TooManyLines error = IsBareError kind.TooManyLines error
+IsLineError why.Memory error = IsBareError kind.Memory error
 
 -- A text was refused, and the error of this kind holds it. The error has no line and no cause.
 pub record RefusesText (kind : ErrorKind) (text : List ℕ) (error : PropertiesError) : Type 0 where

@@ -12,7 +12,7 @@ use Rattle.properties_format.specs.Groups.{IsGroups, joined, first_number}
 use Rattle.properties_format.specs.Entries.{comment, pair}
 use Rattle.properties_format.specs.Items.{Outcome, ignored, given, broken, IsOutcome}
 use Rattle.properties_format.specs.Reading.Items.{outcome_of}
-use Rattle.properties_format.specs.Reading.Slots.{key_told}
+use Rattle.properties_format.specs.Reading.Slots.{outcome_key}
 use Rattle.java_properties.specs.Errors.{IsBareError}
 use Rattle.java_properties.specs.Maps.{characters}
 use Rattle.java_properties.specs.MalformedEscapes.{FailsToFind, StopsFinding}
@@ -61,7 +61,7 @@ HasNoKey key [] = Unit {0}
 HasNoKey key (k ∷ ks) = (k.key ≢ key) × HasNoKey key ks
 
 -- The first of these places with this key has this number.
-pub record StandsFirst (keys : List KeyPlace) (key : List ℕ) (number : ℕ) : Type 0 where
+pub record HasFirstNumber (keys : List KeyPlace) (key : List ℕ) (number : ℕ) : Type 0 where
   pub before : List KeyPlace
   pub after : List KeyPlace
   pub division : keys ≡ before ++ (record { number = number; key = key } ∷ after)
@@ -77,7 +77,7 @@ pub record KeyEntry : Type 0 where
 abbrev pub AreFirstsOf : List KeyPlace → List KeyPlace → List KeyEntry → Type 0
 AreFirstsOf keys [] lines = lines ≡ []
 AreFirstsOf keys (k ∷ ks) lines =
-    (first : ℕ) × (rest : List KeyEntry) × StandsFirst keys k.key first
+    (first : ℕ) × (rest : List KeyEntry) × HasFirstNumber keys k.key first
     × (lines ≡ record { number = k.number; key = k.key; first = first } ∷ rest) × AreFirstsOf keys ks rest
 
 -- The keys of an input, each with its line number and the number of the line where it comes first.
@@ -89,19 +89,19 @@ pub record AreKeyLines (e : Encoding) (bytes : List ℕ) (lines : List KeyEntry)
 -- ---- the result of finding them
 
 -- the entry of the code's record, whose key is a text
-abbrev pub said_key : code.KeyLine → KeyEntry
-said_key line = record { number = line.line_number; key = characters line.key; first = line.first }
+abbrev pub key_line_entry : code.KeyLine → KeyEntry
+key_line_entry line = record { number = line.line_number; key = characters line.key; first = line.first }
 
-abbrev pub said_keys : List code.KeyLine → List KeyEntry
-said_keys lines = map said_key lines
+abbrev pub key_line_entries : List code.KeyLine → List KeyEntry
+key_line_entries lines = map key_line_entry lines
 
 -- The reader was read to its end. These are the keys of its bytes, and the only ones.
 pub record FindsAllKeys {R : Type 0} (reader : Reader R) (e : Encoding) (from : R) (found : List code.KeyLine) (to : R) : Type 0 where
   pub bytes : List ℕ
   pub read : HasRead reader from bytes to
   pub ended : reader.at_end to ≡ true
-  pub are : AreKeyLines e bytes (said_keys found)
-  pub only : (others : List KeyEntry) → AreKeyLines e bytes others → others ≡ said_keys found
+  pub are : AreKeyLines e bytes (key_line_entries found)
+  pub only : (others : List KeyEntry) → AreKeyLines e bytes others → others ≡ key_line_entries found
 
 -- The result of finding the keys. Ok is returned only at the reader's own end.
 abbrev pub FindsKeys : {R Z : Type 0} → Reader R → Encoding → R → Result (Vec code.KeyLine Z) PropertiesError → R → Type 0
@@ -111,9 +111,9 @@ FindsKeys reader e from (Err error) to = FailsToFind reader e from error to ⊎ 
 -- ---- line by line
 
 -- the key of a logical line, if it is a pair without a malformed escape; or memory ran out
-abbrev pub TellsLineKey : {Z : Type 0} → List ℕ → Result (Option (String Z)) PropertiesError → Type 0
-TellsLineKey x (Ok told) = option_map characters told ≡ key_told (outcome_of x)
-TellsLineKey x (Err error) = IsBareError kind.Memory error
+abbrev pub FindsLineKey : {Z : Type 0} → List ℕ → Result (Option (String Z)) PropertiesError → Type 0
+FindsLineKey x (Ok answer) = option_map characters answer ≡ outcome_key (outcome_of x)
+FindsLineKey x (Err error) = IsBareError kind.Memory error
 
 -- the number recorded for a key, given by its characters
 abbrev pub number_at : {Z : Type 0} → List (String Z × ℕ) → List ℕ → Option ℕ
@@ -137,5 +137,5 @@ AddsIfKey number (Some key) old new firsts firsts' = AddsKeyLine number key old 
 
 -- What a logical line with this number and text adds; or memory ran out.
 abbrev pub PushesKey : {Z : Type 0} → ℕ → List ℕ → List code.KeyLine → List (String Z × ℕ) → Result Unit PropertiesError → List code.KeyLine → List (String Z × ℕ) → Type 0
-PushesKey number x old firsts (Ok done) new firsts' = AddsIfKey number (key_told (outcome_of x)) old new firsts firsts'
+PushesKey number x old firsts (Ok done) new firsts' = AddsIfKey number (outcome_key (outcome_of x)) old new firsts firsts'
 PushesKey number x old firsts (Err error) new firsts' = IsBareError kind.Memory error

@@ -9,7 +9,7 @@ pub mod Line
 pub mod DisplayTexts
 pub mod PropertiesIter
 pub mod GivenItems
-pub mod LentItems
+pub mod BorrowedItems
 pub mod ReadLines
 pub mod MalformedEscapes
 pub mod KeyLines

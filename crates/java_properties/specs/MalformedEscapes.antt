@@ -15,11 +15,11 @@ use Rattle.java_properties.specs.declared.error.PropertiesError.{PropertiesError
 use Rattle.java_properties.specs.declared.iter.malformed.MalformedEscape.{MalformedEscape}
 
 -- an escape of the format, as the code represents it
-abbrev pub told_escape : format.MalformedEscape → MalformedEscape
-told_escape escape = record { line_number = escape.number; kind = malformed_kind escape.kind; in_comment = escape.in_comment }
+abbrev pub escape_record : format.MalformedEscape → MalformedEscape
+escape_record escape = record { line_number = escape.number; kind = malformed_kind escape.kind; in_comment = escape.in_comment }
 
-abbrev pub told_escapes : List format.MalformedEscape → List MalformedEscape
-told_escapes escapes = map told_escape escapes
+abbrev pub escape_records : List format.MalformedEscape → List MalformedEscape
+escape_records escapes = map escape_record escapes
 
 -- The reader was read to its end. These are the malformed escapes of its bytes, and the only ones.
 pub record FindsAll {R : Type 0} (reader : Reader R) (e : Encoding) (from : R) (found : List MalformedEscape) (to : R) : Type 0 where
@@ -29,7 +29,7 @@ pub record FindsAll {R : Type 0} (reader : Reader R) (e : Encoding) (from : R) (
   pub ended : reader.at_end to ≡ true
   pub are : AreMalformedEscapes e bytes escapes
   pub only : (others : List format.MalformedEscape) → AreMalformedEscapes e bytes others → others ≡ escapes
-  pub is : found ≡ told_escapes escapes
+  pub is : found ≡ escape_records escapes
 
 -- A read failed in the line with this number, with the reader's own error.
 pub record FailsToFind {R : Type 0} (reader : Reader R) (e : Encoding) (from : R) (error : PropertiesError) (to : R) : Type 0 where
@@ -53,5 +53,5 @@ FindsMalformed reader e from (Err error) to = FailsToFind reader e from error to
 
 -- What a logical line with this number and text adds; or memory ran out.
 abbrev pub PushesMalformed : {Z : Type 0} → ℕ → List ℕ → Vec MalformedEscape Z → Result Unit PropertiesError → Vec MalformedEscape Z → Type 0
-PushesMalformed number x old (Ok done) new = new.items ≡ old.items ++ told_escapes (escapes_from number x (outcome_of x) [])
+PushesMalformed number x old (Ok done) new = new.items ≡ old.items ++ escape_records (escapes_from number x (outcome_of x) [])
 PushesMalformed number x old (Err error) new = IsBareError kind.Memory error

@@ -81,11 +81,11 @@ Texts = List ℕ × List ℕ
 abbrev pub entry_texts : {Y Z : Type 0} → String Y × String Z → Texts
 entry_texts entry = (string_bytes entry.0, string_bytes entry.1)
 
-abbrev pub lent_texts : {Y Z : Type 0} → Bor (String Y) × Bor (String Z) → Texts
-lent_texts entry = (string_bytes entry.0.now, string_bytes entry.1.now)
+abbrev pub borrowed_texts : {Y Z : Type 0} → Bor (String Y) × Bor (String Z) → Texts
+borrowed_texts entry = (string_bytes entry.0.now, string_bytes entry.1.now)
 
 abbrev pub texts_of : {Y Z : Type 0} → List (Bor (String Y) × Bor (String Z)) → List Texts
-texts_of entries = map lent_texts entries
+texts_of entries = map borrowed_texts entries
 
 -- The pairs are the entries of the map, and their keys ascend strictly, byte by byte.
 pub record AreInOrder {Y Z : Type 0} (kept : Entries Y Z) (pairs : List Texts) : Type 0 where

@@ -25,12 +25,12 @@ pub record Reading (R : Type 0) : Type 0 where
   pub line : List ℕ
 
 -- the entry of a line
-abbrev pub said : LineContent → Content
-said (Comment text) = entry.comment (chars (string_bytes text))
-said (KVPair key value) = entry.pair (chars (string_bytes key)) (chars (string_bytes value))
+abbrev pub format_content : LineContent → Content
+format_content (Comment text) = entry.comment (chars (string_bytes text))
+format_content (KVPair key value) = entry.pair (chars (string_bytes key)) (chars (string_bytes value))
 
 abbrev pub entry_of : Line → Entry
-entry_of line = item (number_of line) (said (content_of line))
+entry_of line = item (number_of line) (format_content (content_of line))
 
 -- These bytes have some lines at their front. Whatever comes after them, the old state continues after those lines as
 -- the new one does.

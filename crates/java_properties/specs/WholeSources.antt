@@ -39,9 +39,9 @@ ReadsSource reader e from (Ok source) to = GivesWhole reader from source.items t
 ReadsSource reader e from (Err error) to = FailsInRead reader e from error to ⊎ LacksRoom reader from error to
 
 -- the result of reading all items and dropping them
-abbrev pub PassesItems : {R : Type 0} → Reader R → Encoding → R → Result Unit PropertiesError → R → Type 0
-PassesItems reader e from (Ok done) to = (lines : List Line) × ReadsWhole reader e from (entries_in lines) to
-PassesItems reader e from (Err error) to = StopsReading reader e from error to
+abbrev pub ReadsAllItems : {R : Type 0} → Reader R → Encoding → R → Result Unit PropertiesError → R → Type 0
+ReadsAllItems reader e from (Ok done) to = (lines : List Line) × ReadsWhole reader e from (entries_in lines) to
+ReadsAllItems reader e from (Err error) to = StopsReading reader e from error to
 
 -- ---- writing
 

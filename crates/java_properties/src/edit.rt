@@ -157,13 +157,16 @@ pub enum Edit {
     Put(String, String),
     /// Removes a key, as [`remove_key`] does.
     Remove(String),
+    /// Sets the value of a key and keeps the layout of its line, as [`set_value`] does.
+    SetValue(String, String),
 }
 
 /// Returns the source after these edits, in order: each edit applies to the result of the one before it.
 ///
 /// Without edits, the result is a copy of the source. The source is read once and the result is built once, so the time
 /// is proportional to the size of the source and the edits together. In addition, the key of each pair and of each edit
-/// is looked up among the others, which takes a few comparisons for each doubling of their number.
+/// is looked up among the others, which takes a few comparisons for each doubling of their number. [`Edit::SetValue`]
+/// reads the pair that it changes or, if no pair has the key, the last pair.
 ///
 /// UTF-16 is refused. A source with a malformed escape anywhere is refused with the error that reading the source would
 /// return.

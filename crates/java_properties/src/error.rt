@@ -4,7 +4,7 @@ ghost use Rattle.std.specs.Prelude.{◌≡◌, Some, None};
 ghost use Rattle.std.specs.Str.{chars};
 ghost use Rattle.std.specs.String.{string_bytes};
 ghost use Rattle.properties_text.specs.Escaping.{malformed_in};
-ghost use Rattle.java_properties.specs.Errors.{kind_of, line_of, cause_of, cause_by, cause_of_write, IsError, IsBareError, IsMalformed, SaysUnresolved, SaysLineError, IsStreamError, RefusesText, malformed_kind, IsReason};
+ghost use Rattle.java_properties.specs.Errors.{kind_of, line_of, cause_of, cause_by, cause_of_write, IsError, IsBareError, IsMalformed, IsUnresolvedError, IsLineError, IsStreamError, RefusesText, malformed_kind, IsReason};
 ghost use Rattle.java_properties.specs.DisplayTexts.{description, cause_display, error_display, reason_display};
 ghost use Rattle.java_properties.specs.declared.error.ErrorKind.TheVariants.{Io, BadCommentPrefix, BadKvSeparator, EmptyKey, TooManyLines, Failed, Memory, Unsupported};
 
@@ -187,7 +187,7 @@ impl PropertiesError {
 
     /// Resolving the escapes in the line with this number failed: an escape is malformed, or memory ran out.
     pub(crate) fn unresolved(line_number: usize, error: UnescapeError) -> PropertiesError
-        ensures { SaysUnresolved error line_number result }
+        ensures { IsUnresolvedError error line_number result }
     {
         match error {
             UnescapeError::Malformed(malformed) => {
@@ -294,7 +294,7 @@ impl From<io::Error> for PropertiesError {
 }
 
 impl From<LineError> for PropertiesError {
-    ghost from_gives = { SaysLineError };
+    ghost from_gives = { IsLineError };
 
     fn from(error: LineError) -> PropertiesError {
         match error {

@@ -7,15 +7,15 @@ ghost use Rattle.properties_format.specs.Encoding.{windows_1252};
 ghost use Rattle.properties_format.specs.ItemsToCome.{start};
 ghost use Rattle.properties_text.specs.Encoding.{encoding_of};
 ghost use Rattle.properties_lines.specs.LineReader.{lines_left};
-ghost use Rattle.java_properties.specs.LentItems.{lent_entry, found_entry, BorrowsPlain, IsFoundIn, AdvanceGives, NextRefGives};
+ghost use Rattle.java_properties.specs.BorrowedItems.{borrowed_entry, found_entry, BorrowsPlain, IsFoundIn, AdvanceGives, NextRefGives};
 ghost use Rattle.java_properties.specs.PropertiesIter.{Reading, NextGives};
 
 pub(crate) mod found;
 mod into;
 pub(crate) mod items;
 mod keys;
-mod lent;
 mod malformed;
+mod refs;
 mod whole;
 
 use crate::error::PropertiesError;
@@ -24,9 +24,9 @@ use crate::line::Line;
 use counted_io::CountedRead;
 pub use found::Found;
 pub use keys::{KeyLine, key_lines};
-pub use lent::{ContentRef, LineRef};
 pub use malformed::{MalformedEscape, malformed_escapes};
 use properties_text::encoding::Encoding;
+pub use refs::{ContentRef, LineRef};
 use std::alloc::Global;
 use std::marker::Model;
 pub use whole::{Stopped, read_lines};
@@ -115,7 +115,7 @@ impl<R: CountedRead> PropertiesIter<R> {
     /// Returns the item that [`advance`](Self::advance) found, borrowed until the next call.
     pub fn get(&self, found: Found) -> LineRef<'_>
         requires { IsFoundIn self.now.line found }
-        ensures item { lent_entry result ≡ found_entry self.now.line found }
+        ensures item { borrowed_entry result ≡ found_entry self.now.line found }
         ensures borrowed { BorrowsPlain (chars self.now.line) result.content }
     {
         self.items.get(found)

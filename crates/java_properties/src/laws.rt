@@ -18,7 +18,7 @@ ghost use Rattle.properties_format.specs.EditLaws.{SettingGivesTheValue, Removin
 ghost use Rattle.properties_format.specs.EditLaws.{SettingItsOwnValueChangesNothing, SettingAValueTwiceIsSettingItOnce};
 ghost use Rattle.properties_format.specs.EditLaws.{SettingAValueAgainChangesNothing, SettingAValueGivesIt};
 ghost use Rattle.properties_format.specs.EditLaws.{NoEditsChangeNothing, OneEditIsItsCall, ListsOfEditsFollow};
-ghost use Rattle.properties_format.specs.Laws.{HasOne, HasOneReading, ReadingInvertsWriting, EqualBytesOfEqualPairs, WritingAnewChangesNothing, MapIsReadBack, SplittingCommutes, LineEndsPartPieces};
+ghost use Rattle.properties_format.specs.Laws.{HasOne, HasOneReading, ReadingInvertsWriting, EqualBytesOfEqualPairs, WritingAnewChangesNothing, MapIsReadBack, SplittingCommutes, LineEndsSeparatePieces};
 
 /// Reading is unique: what an input means exists and is unique, at each step and for each way in which the input ends.
 ///
@@ -69,7 +69,7 @@ pub fn reading_inverts_writing()
 /// ```
 pub fn splitting_commutes_with_decoding()
     ensures lines { (e : Encoding) (bytes : List ℕ) → SplittingCommutes e bytes }
-    ensures parts { (e : Encoding) (before : List ℕ) (c : ℕ) (after : List ℕ) → LineEndsPartPieces e before c after }
+    ensures parts { (e : Encoding) (before : List ℕ) (c : ℕ) (after : List ℕ) → LineEndsSeparatePieces e before c after }
 {}
 
 /// The effects of edits, for every source. Removing a key that no pair has changes no byte. Setting a key twice is the

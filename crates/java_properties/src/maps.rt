@@ -2,7 +2,7 @@
 
 ghost use Rattle.std.specs.Prelude.{IfOk};
 ghost use Rattle.counted_io.specs.Streams.{IsSameReader, IsSameSink};
-ghost use Rattle.java_properties.specs.PropertiesIter.{said};
+ghost use Rattle.java_properties.specs.PropertiesIter.{format_content};
 ghost use Rattle.properties_format.specs.Encoding.{windows_1252};
 ghost use Rattle.properties_text.specs.Encoding.{output_of};
 ghost use Rattle.java_properties.specs.Maps.{texts_of, InsertsIfPair, ReadsMap, AreInOrder, WritesPairs, WritesMap, MapReadsBack};
@@ -54,7 +54,7 @@ fn insert_if_pair(
     map: &mut HashMap<String, String>,
     content: LineContent,
 ) -> Result<(), PropertiesError>
-    ensures { InsertsIfPair map.old.entries (said content) result map.new.entries }
+    ensures { InsertsIfPair map.old.entries (format_content content) result map.new.entries }
 {
     match content {
         LineContent::Comment(_text) => Ok(()),

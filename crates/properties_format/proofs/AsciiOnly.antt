@@ -12,10 +12,10 @@ use Rattle.properties_format.specs.Entries.{Content, comment, pair}
 use Rattle.properties_format.specs.Items.{IsItems}
 use Rattle.properties_format.specs.Settings.{Settings, IsGoodSeparator}
 use Rattle.properties_format.specs.Reading.Settings.{is_good_prefix, is_good_separator}
-use Rattle.properties_format.specs.Printing.{Place, in_key_or_value, in_comment, in_prefix, unicode_escape, may_stand, literal, is_special, letter_escape, has_letter, spelt, spelt_text, encoded_text, is_bom_like, with_first_escaped, spelt_key, printed_text, printed}
+use Rattle.properties_format.specs.Printing.{Place, in_key_or_value, in_comment, in_prefix, unicode_escape, may_be_unescaped, literal, is_special, letter_escape, has_letter, printed_character, printed_characters, encoded_text, is_bom_like, with_first_escaped, printed_key, printed_text, printed}
 use Rattle.properties_format.specs.Writing.{Call, comment_call, pair_call, prefix_call, separator_call, ending_call, flush_call, ascii_only_call, settings_after_call, settings_after, written_line, lines_with, line_bytes, wrote, items_read_back, ArePrefixesClean, AreOfScalars, AreGoodSettings}
 use Rattle.properties_format.specs.AsciiOnly.{KeepsAsciiOnly, AllKeepAsciiOnly, AreAsciiOnly, AreAsciiBytes, AreItemsInBoth}
-use Rattle.properties_format.proofs.Printing.Characters.{AreAscii, AreAscii-append, encoded_text-ascii, line_end-ascii, good_separator-ascii, may_stand-ascii, spelt-either}
+use Rattle.properties_format.proofs.Printing.Characters.{AreAscii, AreAscii-append, encoded_text-ascii, line_end-ascii, good_separator-ascii, may_be_unescaped-ascii, printed-either}
 use Rattle.properties_format.proofs.Settings.Tests.{IsGoodSeparator-from_test}
 use Rattle.properties_format.proofs.ReadBack.Unmarked.{front-unmarked}
 use Rattle.properties_format.proofs.ReadBack.Law.{IsItems-wrote}
@@ -23,42 +23,42 @@ use Rattle.properties_format.proofs.ReadBack.Law.{IsItems-wrote}
 -- ---- characters
 
 -- If it is on, exactly the ASCII characters may be written unescaped, in every encoding.
-pub may_stand-on : (e : Encoding) (c : ℕ) → may_stand e true c ≡ nat_lt c 0x80
-may_stand-on e c = elim (cases_Bool (nat_lt c 0x80)) [
-  | inl k ↦ may_stand-ascii e true c (ltb-true c 0x80 k) ∙ sym k
+pub may_be_unescaped-on : (e : Encoding) (c : ℕ) → may_be_unescaped e true c ≡ nat_lt c 0x80
+may_be_unescaped-on e c = elim (cases_Bool (nat_lt c 0x80)) [
+  | inl k ↦ may_be_unescaped-ascii e true c (ltb-true c 0x80 k) ∙ sym k
   | inr k ↦ and_left (nat_lt c 0x80) (is_some (encoded e c)) k ∙ sym k
 ]
 
 -- A character that may be written unescaped is below 80 hexadecimal.
-may_stand-below : (e : Encoding) (c : ℕ) → may_stand e true c ≡ true → c < 0x80
-may_stand-below e c h = ltb-true c 0x80 (sym (may_stand-on e c) ∙ h)
+may_be_unescaped-below : (e : Encoding) (c : ℕ) → may_be_unescaped e true c ≡ true → c < 0x80
+may_be_unescaped-below e c h = ltb-true c 0x80 (sym (may_be_unescaped-on e c) ∙ h)
 
 -- Unescaped or escaped, a character is written the same in every encoding.
 literal-same : (e f : Encoding) (c : ℕ) → literal e true c ≡ literal f true c
-literal-same e f c = ap (λ b. cond b (c ∷ []) (unicode_escape c)) (may_stand-on e c ∙ sym (may_stand-on f c))
+literal-same e f c = ap (λ b. cond b (c ∷ []) (unicode_escape c)) (may_be_unescaped-on e c ∙ sym (may_be_unescaped-on f c))
 
 -- A character is printed the same in every encoding.
-spelt-same : (e f : Encoding) (place : Place) (c : ℕ) → spelt e true place c ≡ spelt f true place c
-spelt-same e f in_key_or_value c =
+printed-same : (e f : Encoding) (place : Place) (c : ℕ) → printed_character e true place c ≡ printed_character f true place c
+printed-same e f in_key_or_value c =
     ap (λ x. cond (is_special c) (backslash ∷ c ∷ []) (cond (has_letter c) (letter_escape c) (cond (nat_lt c space) (unicode_escape c) x))) (literal-same e f c)
-spelt-same e f in_comment c = ap (λ x. cond (c == backslash) (backslash ∷ backslash ∷ []) (cond (c == 0x0a || c == 0x0d) (letter_escape c) x)) (literal-same e f c)
-spelt-same e f in_prefix c = literal-same e f c
+printed-same e f in_comment c = ap (λ x. cond (c == backslash) (backslash ∷ backslash ∷ []) (cond (c == 0x0a || c == 0x0d) (letter_escape c) x)) (literal-same e f c)
+printed-same e f in_prefix c = literal-same e f c
 
 -- A character is printed in ASCII.
-spelt-ascii : (e : Encoding) (place : Place) (c : ℕ) → AreAscii (spelt e true place c)
-spelt-ascii e place c = spelt-either e true place c AreAscii (λ x h. h) (λ k. (may_stand-below e c k, tt))
+printed-ascii : (e : Encoding) (place : Place) (c : ℕ) → AreAscii (printed_character e true place c)
+printed-ascii e place c = printed-either e true place c AreAscii (λ x h. h) (λ k. (may_be_unescaped-below e c k, tt))
 
 -- ---- texts
 
 -- A text is printed the same in every encoding.
-spelt_text-same : (e f : Encoding) (place : Place) (x : List ℕ) → spelt_text e true place x ≡ spelt_text f true place x
-spelt_text-same e f place [] = refl
-spelt_text-same e f place (c ∷ x) = ap₂ (λ v w. v ++ w) (spelt-same e f place c) (spelt_text-same e f place x)
+printed_characters-same : (e f : Encoding) (place : Place) (x : List ℕ) → printed_characters e true place x ≡ printed_characters f true place x
+printed_characters-same e f place [] = refl
+printed_characters-same e f place (c ∷ x) = ap₂ (λ v w. v ++ w) (printed-same e f place c) (printed_characters-same e f place x)
 
 -- A text is printed in ASCII.
-pub spelt_text-ascii : (e : Encoding) (place : Place) (x : List ℕ) → AreAscii (spelt_text e true place x)
-spelt_text-ascii e place [] = tt
-spelt_text-ascii e place (c ∷ x) = AreAscii-append (spelt e true place c) (spelt_text e true place x) (spelt-ascii e place c) (spelt_text-ascii e place x)
+pub printed_characters-ascii : (e : Encoding) (place : Place) (x : List ℕ) → AreAscii (printed_characters e true place x)
+printed_characters-ascii e place [] = tt
+printed_characters-ascii e place (c ∷ x) = AreAscii-append (printed_character e true place c) (printed_characters e true place x) (printed-ascii e place c) (printed_characters-ascii e place x)
 
 -- The bytes of an ASCII text don't begin like a byte order mark.
 ascii-unmarked : (e : Encoding) (x : List ℕ) → AreAscii x → begins_like_bom (encoded_text e x) ≡ false
@@ -67,27 +67,27 @@ ascii-unmarked e (c ∷ x) h = front-unmarked e (c ∷ x) c x refl h.0
 
 -- If ASCII-only output is on, no key begins like a byte order mark.
 pub is_bom_like-on : (e : Encoding) (key : List ℕ) → is_bom_like e true key ≡ false
-is_bom_like-on e key = ascii-unmarked e (spelt_text e true in_key_or_value key) (spelt_text-ascii e in_key_or_value key)
+is_bom_like-on e key = ascii-unmarked e (printed_characters e true in_key_or_value key) (printed_characters-ascii e in_key_or_value key)
 
 -- A key is printed on the first line as on any other.
-spelt_key-on : (e : Encoding) (first : Bool) (key : List ℕ) → spelt_key e true first key ≡ spelt_text e true in_key_or_value key
-spelt_key-on e true key = ap (λ b. cond b (with_first_escaped e true key) (spelt_text e true in_key_or_value key)) (is_bom_like-on e key)
-spelt_key-on e false key = refl
+printed_key-on : (e : Encoding) (first : Bool) (key : List ℕ) → printed_key e true first key ≡ printed_characters e true in_key_or_value key
+printed_key-on e true key = ap (λ b. cond b (with_first_escaped e true key) (printed_characters e true in_key_or_value key)) (is_bom_like-on e key)
+printed_key-on e false key = refl
 
 -- A key is printed the same in every encoding.
-spelt_key-same : (e f : Encoding) (first : Bool) (key : List ℕ) → spelt_key e true first key ≡ spelt_key f true first key
-spelt_key-same e f first key = spelt_key-on e first key ∙ spelt_text-same e f in_key_or_value key ∙ sym (spelt_key-on f first key)
+printed_key-same : (e f : Encoding) (first : Bool) (key : List ℕ) → printed_key e true first key ≡ printed_key f true first key
+printed_key-same e f first key = printed_key-on e first key ∙ printed_characters-same e f in_key_or_value key ∙ sym (printed_key-on f first key)
 
 -- A key is printed in ASCII.
-spelt_key-ascii : (e : Encoding) (first : Bool) (key : List ℕ) → AreAscii (spelt_key e true first key)
-spelt_key-ascii e first key = subst AreAscii (sym (spelt_key-on e first key)) (spelt_text-ascii e in_key_or_value key)
+printed_key-ascii : (e : Encoding) (first : Bool) (key : List ℕ) → AreAscii (printed_key e true first key)
+printed_key-ascii e first key = subst AreAscii (sym (printed_key-on e first key)) (printed_characters-ascii e in_key_or_value key)
 
 -- ---- lines
 
 -- the parts of a line, with ASCII-only output on or off
 abbrev parts : Encoding → Bool → Settings → Bool → Content → List ℕ
-parts e only s first (comment text) = spelt_text e only in_prefix s.comment_prefix ++ (spelt_text e only in_comment text ++ line_ending_text s.line_ending)
-parts e only s first (pair key value) = spelt_key e only first key ++ (s.kv_separator ++ (spelt_text e only in_key_or_value value ++ line_ending_text s.line_ending))
+parts e only s first (comment text) = printed_characters e only in_prefix s.comment_prefix ++ (printed_characters e only in_comment text ++ line_ending_text s.line_ending)
+parts e only s first (pair key value) = printed_key e only first key ++ (s.kv_separator ++ (printed_characters e only in_key_or_value value ++ line_ending_text s.line_ending))
 
 -- If it is on, a line is printed from these parts.
 printed-parts : (e : Encoding) (s : Settings) (first : Bool) (line : Content) → s.ascii_only ≡ true → printed_text e s first line ≡ parts e true s first line
@@ -97,19 +97,19 @@ printed-parts e s first (pair key value) on = ap (λ b. parts e b s first (pair 
 -- The parts are the same in every encoding.
 parts-same : (e f : Encoding) (s : Settings) (first : Bool) (line : Content) → parts e true s first line ≡ parts f true s first line
 parts-same e f s first (comment text) =
-    ap₂ (λ v w. v ++ (w ++ line_ending_text s.line_ending)) (spelt_text-same e f in_prefix s.comment_prefix) (spelt_text-same e f in_comment text)
+    ap₂ (λ v w. v ++ (w ++ line_ending_text s.line_ending)) (printed_characters-same e f in_prefix s.comment_prefix) (printed_characters-same e f in_comment text)
 parts-same e f s first (pair key value) =
-    ap₂ (λ v w. v ++ (s.kv_separator ++ (w ++ line_ending_text s.line_ending))) (spelt_key-same e f first key) (spelt_text-same e f in_key_or_value value)
+    ap₂ (λ v w. v ++ (s.kv_separator ++ (w ++ line_ending_text s.line_ending))) (printed_key-same e f first key) (printed_characters-same e f in_key_or_value value)
 
 -- The parts are ASCII if the separator is good.
 parts-ascii : (e : Encoding) (s : Settings) (first : Bool) (line : Content) → IsGoodSeparator s.kv_separator → AreAscii (parts e true s first line)
 parts-ascii e s first (comment text) g =
-    AreAscii-append (spelt_text e true in_prefix s.comment_prefix) (spelt_text e true in_comment text ++ line_ending_text s.line_ending) (spelt_text-ascii e in_prefix s.comment_prefix)
-    (AreAscii-append (spelt_text e true in_comment text) (line_ending_text s.line_ending) (spelt_text-ascii e in_comment text) (line_end-ascii s.line_ending))
+    AreAscii-append (printed_characters e true in_prefix s.comment_prefix) (printed_characters e true in_comment text ++ line_ending_text s.line_ending) (printed_characters-ascii e in_prefix s.comment_prefix)
+    (AreAscii-append (printed_characters e true in_comment text) (line_ending_text s.line_ending) (printed_characters-ascii e in_comment text) (line_end-ascii s.line_ending))
 parts-ascii e s first (pair key value) g =
-    AreAscii-append (spelt_key e true first key) (s.kv_separator ++ (spelt_text e true in_key_or_value value ++ line_ending_text s.line_ending)) (spelt_key-ascii e first key)
-    (AreAscii-append s.kv_separator (spelt_text e true in_key_or_value value ++ line_ending_text s.line_ending) (good_separator-ascii s.kv_separator g)
-    (AreAscii-append (spelt_text e true in_key_or_value value) (line_ending_text s.line_ending) (spelt_text-ascii e in_key_or_value value) (line_end-ascii s.line_ending)))
+    AreAscii-append (printed_key e true first key) (s.kv_separator ++ (printed_characters e true in_key_or_value value ++ line_ending_text s.line_ending)) (printed_key-ascii e first key)
+    (AreAscii-append s.kv_separator (printed_characters e true in_key_or_value value ++ line_ending_text s.line_ending) (good_separator-ascii s.kv_separator g)
+    (AreAscii-append (printed_characters e true in_key_or_value value) (line_ending_text s.line_ending) (printed_characters-ascii e in_key_or_value value) (line_end-ascii s.line_ending)))
 
 -- The bytes are shared: they are ASCII, and the same in the other encoding.
 record AreShared (f : Encoding) (x y : List ℕ) : Type 0 where

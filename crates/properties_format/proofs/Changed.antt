@@ -1,5 +1,5 @@
 pub mod Items
 pub mod Laws
 pub mod Maps
-pub mod Stand
+pub mod Occur
 pub mod Read

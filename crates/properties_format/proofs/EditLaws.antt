@@ -32,8 +32,8 @@ use Rattle.properties_format.proofs.Changed.Maps.{other-test}
 use Rattle.properties_format.specs.Reading.Slots.{slots_bytes, slots_of}
 use Rattle.properties_format.proofs.Slots.Places.{put-twice}
 use Rattle.properties_format.proofs.Slots.Edits.{edits_made-slots}
-use Rattle.properties_format.proofs.Changed.Laws.{IsReadable, key_set-says}
-use Rattle.properties_format.proofs.Edits.Says.{edits-say}
+use Rattle.properties_format.proofs.Changed.Laws.{IsReadable, key_set-contents}
+use Rattle.properties_format.proofs.Edits.Contents.{edits-contents}
 use Rattle.properties_format.proofs.Changed.Read.{readable, set_key-reads, remove_key-reads}
 
 -- ---- a key that no pair has
@@ -102,7 +102,7 @@ setting-twice e source key first second k v w between h result =
     let f = byte_order_mark e source in
     let slots = slots_of (held_groups_of f.encoding f.body) in
     let r = readable e source h.0 h.1 in
-    let next = (key_set-says e source key first between r k v h.2).readable in
+    let next = (key_set-contents e source key first between r k v h.2).readable in
     let bytes : key_set e between key second ≡ key_set e source key second =
     ap (λ x. key_set e x key second) (key_set-only e source key first between h.2)
     ∙ edits_made-slots e source (put key first ∷ put key second ∷ []) h.0 ((k, v), ((k, w), tt))
@@ -191,7 +191,7 @@ edits_made-append e source (edit ∷ first) second = edits_made-append e (edit_m
 pub lists-follow : (e : Encoding) (source : List ℕ) (first second : List Edit) → ListsOfEditsFollow e source first second
 lists-follow e source first second scalars between h result =
     let r = readable e source h.0 h.1 in
-    let next = (edits-say e source first between r scalars h.2).readable in
+    let next = (edits-contents e source first between r scalars h.2).readable in
     let same : edit_all_result e source (first ++ second) ≡ edit_all_result e between second =
     result-made e source (edits_made e source (first ++ second)) r
     ∙ ap edited (edits_made-append e source first second ∙ ap (λ v. edits_made e v second) (sym (edits_made-only e source first between h.0 h.2)))

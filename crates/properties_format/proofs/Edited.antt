@@ -1,4 +1,4 @@
-pub mod Told
+pub mod Outcomes
 pub mod Made
 pub mod Results
 pub mod ByteOrderMarks

@@ -1,3 +1,3 @@
 pub mod Results
-pub mod Says
+pub mod Contents
 pub mod Read

@@ -20,7 +20,7 @@ use Rattle.properties_format.specs.Reading.Maps.{value_in}
 use Rattle.properties_format.specs.Settings.{Settings}
 use Rattle.properties_format.specs.Writing.{Call, wrote}
 use Rattle.properties_format.specs.Pairs.{Pair, pairs_in, calls_of, items_after}
-use Rattle.properties_format.specs.Laws.{HasOne, HasOneReading, ReadingInvertsWriting, EqualBytesOfEqualPairs, WritingAnewChangesNothing, HasPair, HasNoKey, AreDistinct, MapIsReadBack, SplittingCommutes, LineEndsPartPieces}
+use Rattle.properties_format.specs.Laws.{HasOne, HasOneReading, ReadingInvertsWriting, EqualBytesOfEqualPairs, WritingAnewChangesNothing, HasPair, HasNoKey, AreDistinct, MapIsReadBack, SplittingCommutes, LineEndsSeparatePieces}
 use Rattle.properties_format.proofs.Encodings.Pieces.{pieces_of-meets, pieces_of-only, decoded_of-meets, decoded_of-only}
 use Rattle.properties_format.proofs.Encodings.Cuts.{pieces_of-cut_ascii}
 use Rattle.properties_format.proofs.Lines.Meets.{lines_of-meets}
@@ -174,7 +174,7 @@ pub splitting-commutes : (e : Encoding) (bytes : List ℕ) → SplittingCommutes
 splitting-commutes e bytes text lines d = ((λ k. byline-is_lines e bytes text lines k d), (λ k. lines-is_byline e bytes text lines k d))
 
 -- A CR or an LF at a unit's boundary separates the pieces before it from those after it.
-pub line_ends-part : (e : Encoding) (before : List ℕ) (c : ℕ) (after : List ℕ) → LineEndsPartPieces e before c after
+pub line_ends-part : (e : Encoding) (before : List ℕ) (c : ℕ) (after : List ℕ) → LineEndsSeparatePieces e before c after
 line_ends-part e before c after ends aligned ps qs h k =
     subst (IsPieces e (before ++ (ascii_bytes e c ++ after))) parted (pieces_of-meets e (before ++ (ascii_bytes e c ++ after)))
   where

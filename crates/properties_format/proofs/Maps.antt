@@ -11,29 +11,29 @@ abbrev IsPairOf : List ℕ → List ℕ → Entry → Type 0
 IsPairOf key value entry = (n : ℕ) × (entry ≡ item n (pair key value))
 
 -- the value that one entry gives a key
-abbrev ValueSays : List ℕ → Entry → Option (List ℕ) → Type 0
-ValueSays key entry None = (entries : List Entry) → HasNoPair key entries → HasNoPair key (entry ∷ entries)
-ValueSays key entry (Some value) = IsPairOf key value entry
+abbrev IsValueBy : List ℕ → Entry → Option (List ℕ) → Type 0
+IsValueBy key entry None = (entries : List Entry) → HasNoPair key entries → HasNoPair key (entry ∷ entries)
+IsValueBy key entry (Some value) = IsPairOf key value entry
 
 -- Texts that fail the comparison are different.
 not_same : (x y : List ℕ) → bytes_eq x y ≡ false → x ≡ y → ⊥
 not_same x y e q = let t = (bytes_eq-Decides x y).1 q in cc
 
 -- A pair gives its key its value, and no other key.
-pair-says : (n : ℕ) (k v key : List ℕ) (b : Bool) → bytes_eq k key ≡ b → ValueSays key (item n (pair k v)) (value_of (item n (pair k v)) key)
+pair-says : (n : ℕ) (k v key : List ℕ) (b : Bool) → bytes_eq k key ≡ b → IsValueBy key (item n (pair k v)) (value_of (item n (pair k v)) key)
 pair-says n k v key true e =
     rw e (n, ap (λ x. item n (pair x v)) ((bytes_eq-Decides k key).0 e))
 pair-says n k v key false e = rw e (λ entries h. ((λ q. not_same k key e q), h))
 
 -- The computed value of an entry is the one that it gives.
-says : (entry : Entry) (key : List ℕ) → ValueSays key entry (value_of entry key)
+says : (entry : Entry) (key : List ℕ) → IsValueBy key entry (value_of entry key)
 says (item n (pair k v)) key = pair-says n k v key (bytes_eq k key) refl
 says (item n (comment text)) key = λ entries h. h
 says (malformed kind n) key = λ entries h. h
 says (read_fault n) key = λ entries h. h
 
 -- The value of a key in entries with one more at the front.
-with_front : (entry : Entry) (entries : List Entry) (key : List ℕ) (r o : Option (List ℕ)) → IsValue entries key r → ValueSays key entry o → IsValue (entry ∷ entries) key (first_value r o)
+with_front : (entry : Entry) (entries : List Entry) (key : List ℕ) (r o : Option (List ℕ)) → IsValue entries key r → IsValueBy key entry o → IsValue (entry ∷ entries) key (first_value r o)
 with_front entry entries key (Some v) o g s =
     record { before = entry ∷ g.before; number = g.number; after = g.after; division = ap (λ x. entry ∷ x) g.division; no_later = g.no_later }
 with_front entry entries key None None h s = s entries h

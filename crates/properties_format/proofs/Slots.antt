@@ -15,7 +15,7 @@ pub mod PushCells
 pub mod Links
 pub mod Removing
 pub mod Keys
-pub mod Apart
+pub mod Unmerged
 pub mod ReadAgain
 pub mod LastEndings
 pub mod ClosedBy

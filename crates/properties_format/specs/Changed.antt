@@ -71,7 +71,7 @@ map_after (edit ∷ edits) value_at k = map_after edits (map_edited edit value_a
 -- map with this change.
 pub record IsReadAfter (IsEdit : List Content → List Content → Type 0) (change : (List ℕ → Option (List ℕ)) → List ℕ → Option (List ℕ)) (old new : List Entry) : Type 0 where
   pub readable : AreItems new
-  pub said : IsEdit (contents old) (contents new)
+  pub is_edit : IsEdit (contents old) (contents new)
   pub mapped : (value_at : List ℕ → Option (List ℕ)) → IsMap old value_at → IsMap new (change value_at)
 
 -- Read in the same encoding, the result relates to the source as `IsReadAfter` says.
@@ -80,9 +80,9 @@ abbrev pub ReadsAfter :
 ReadsAfter IsEdit change e source result = (old new : List Entry) → IsItems e source end old → IsItems e result end new → IsReadAfter IsEdit change old new
 
 -- The bytes of these groups are found in `bytes` in order, possibly with other bytes before, between and after them.
-abbrev pub StandIn : List (List HeldLine) → List ℕ → Type 0
-StandIn [] bytes = Unit {0}
-StandIn (g ∷ gs) bytes = (front : List ℕ) × (back : List ℕ) × (bytes ≡ front ++ (group_bytes g ++ back)) × StandIn gs back
+abbrev pub OccurIn : List (List HeldLine) → List ℕ → Type 0
+OccurIn [] bytes = Unit {0}
+OccurIn (g ∷ gs) bytes = (front : List ℕ) × (back : List ℕ) × (bytes ≡ front ++ (group_bytes g ++ back)) × OccurIn gs back
 
 -- these are the groups except the last pair with the key
 abbrev pub AreOthersThanLast : List ℕ → List (List HeldLine) → List (List HeldLine) → Type 0
@@ -103,4 +103,4 @@ abbrev pub KeepsOthers : (List (List HeldLine) → List (List HeldLine) → Type
 KeepsOthers Others e source result =
     (groups : List (List HeldLine)) × (others : List (List HeldLine)) × AreGroupsOf (byte_order_mark e source).encoding (byte_order_mark e source).body groups
     × Others groups others
-    × StandIn others result
+    × OccurIn others result

@@ -8,7 +8,7 @@ use Rattle.properties_format.specs.Groups.{is_open, is_comment_line}
 use Rattle.properties_format.specs.Escapes.{Malformed}
 use Rattle.properties_format.specs.Entries.{Entry, item, malformed, read_fault, AreItems}
 use Rattle.properties_format.specs.Items.{IsItems}
-use Rattle.properties_format.specs.Printing.{in_key_or_value, spelt_text, encoded_text, spelt_key}
+use Rattle.properties_format.specs.Printing.{in_key_or_value, printed_characters, encoded_text, printed_key}
 use Rattle.properties_format.specs.Writing.{is_empty}
 use Rattle.properties_format.specs.Body.{AreGroupsOf, HasKey, HeldLine, NoneHasKey, ending_bytes, group_bytes, groups_bytes, last_ending}
 
@@ -17,7 +17,7 @@ use Rattle.properties_format.specs.Body.{AreGroupsOf, HasKey, HeldLine, NoneHasK
 -- the bytes of a pair without a line ending, with ASCII-only output off; at the front of a body, a key that begins like
 -- a byte order mark has its first character escaped
 abbrev pub pair_bytes : Encoding → Bool → List ℕ → List ℕ → List ℕ
-pair_bytes e first key value = encoded_text e (spelt_key e false first key ++ (equals_sign ∷ spelt_text e false in_key_or_value value))
+pair_bytes e first key value = encoded_text e (printed_key e false first key ++ (equals_sign ∷ printed_characters e false in_key_or_value value))
 
 -- The last pair with the key is replaced by the printed pair, which keeps the line ending.
 pub record IsReplaced (e : Encoding) (groups : List (List HeldLine)) (key value result : List ℕ) : Type 0 where
@@ -59,13 +59,13 @@ added_ending source = line_ending_text (if ends_in_cr source then cr else lf)
 
 -- what separates the appended pair from the last group: nothing, one line ending, or two, which also end a group that
 -- is left open
-abbrev pub parting : List ℕ → List HeldLine → List ℕ
-parting source group = if is_empty_line group then [] else (if is_left_open group then added_ending source ++ added_ending source else added_ending source)
+abbrev pub separation : List ℕ → List HeldLine → List ℕ
+separation source group = if is_empty_line group then [] else (if is_left_open group then added_ending source ++ added_ending source else added_ending source)
 
 -- No pair has the key, and the printed pair is appended at the end, with an LF.
 pub record IsAppended (e : Encoding) (source : List ℕ) (groups : List (List HeldLine)) (key value result : List ℕ) : Type 0 where
   pub no_pair : NoneHasKey key groups
-  pub bytes : let front : List ℕ = groups_bytes groups ++ parting source (final_group groups) in result ≡ front ++ (pair_bytes e (is_empty front) key value ++ line_feed ∷ [])
+  pub bytes : let front : List ℕ = groups_bytes groups ++ separation source (final_group groups) in result ≡ front ++ (pair_bytes e (is_empty front) key value ++ line_feed ∷ [])
 
 -- the byte order mark at the front of the bytes, or nothing if there is none
 abbrev pub bom_of : List ℕ → List ℕ

@@ -54,12 +54,12 @@ spelling_text (surrogates high low) = (backslash ∷ letter_u ∷ four_text high
 spelling_text last = backslash ∷ []
 
 -- the character of a spelling; a backslash at the end of the text is U+0000
-abbrev pub spelt_character : Spelling → ℕ
-spelt_character (itself c) = c
-spelt_character (escaped c) = escaped_character c
-spelt_character (unicode d) = code_unit d
-spelt_character (surrogates high low) = pair_character (code_unit high) (code_unit low)
-spelt_character last = 0
+abbrev pub spelling_character : Spelling → ℕ
+spelling_character (itself c) = c
+spelling_character (escaped c) = escaped_character c
+spelling_character (unicode d) = code_unit d
+spelling_character (surrogates high low) = pair_character (code_unit high) (code_unit low)
+spelling_character last = 0
 
 -- The spelling may come before this rest of the text.
 abbrev pub IsSpelling : Spelling → List ℕ → Type 0
@@ -71,21 +71,21 @@ IsSpelling (surrogates high low) rest =
 IsSpelling last rest = rest ≡ []
 
 -- the texts of the spellings, one after another, and then the rest of the text
-abbrev pub spelt_before : List Spelling → List ℕ → List ℕ
-spelt_before [] rest = rest
-spelt_before (p ∷ ps) rest = spelling_text p ++ spelt_before ps rest
+abbrev pub spellings_before : List Spelling → List ℕ → List ℕ
+spellings_before [] rest = rest
+spellings_before (p ∷ ps) rest = spelling_text p ++ spellings_before ps rest
 
 -- Each spelling may come before what follows it.
 abbrev pub AreSpellings : List Spelling → List ℕ → Type 0
 AreSpellings [] rest = Unit {0}
-AreSpellings (p ∷ ps) rest = IsSpelling p (spelt_before ps rest) × AreSpellings ps rest
+AreSpellings (p ∷ ps) rest = IsSpelling p (spellings_before ps rest) × AreSpellings ps rest
 
 -- The text is a concatenation of spellings, and it means their characters.
 pub record Means (text meant : List ℕ) : Type 0 where
   pub spellings : List Spelling
-  pub whole : text ≡ spelt_before spellings []
+  pub whole : text ≡ spellings_before spellings []
   pub each : AreSpellings spellings []
-  pub characters : meant ≡ map spelt_character spellings
+  pub characters : meant ≡ map spelling_character spellings
 
 -- The text begins with no spelling.
 abbrev pub NoSpelling : List ℕ → Type 0
@@ -100,7 +100,7 @@ malformed_by _ = not_enough_digits
 pub record Breaks (text : List ℕ) (kind : Malformed) : Type 0 where
   pub spellings : List Spelling
   pub after : List ℕ
-  pub whole : text ≡ spelt_before spellings (backslash ∷ letter_u ∷ after)
+  pub whole : text ≡ spellings_before spellings (backslash ∷ letter_u ∷ after)
   pub each : AreSpellings spellings (backslash ∷ letter_u ∷ after)
   pub no_spelling : NoSpelling (backslash ∷ letter_u ∷ after)
   pub fault : kind ≡ malformed_by after

@@ -98,7 +98,7 @@ abbrev pub SplittingCommutes : Encoding → List ℕ → Type 0
 SplittingCommutes e bytes = (text : List ℕ) (lines : Lines) → IsDecoded e bytes text → IsByline e bytes lines ↔ IsLines text lines
 
 -- A CR or an LF at a unit's boundary in a body separates the pieces before it from those after it.
-abbrev pub LineEndsPartPieces : Encoding → List ℕ → ℕ → List ℕ → Type 0
-LineEndsPartPieces e before c after =
+abbrev pub LineEndsSeparatePieces : Encoding → List ℕ → ℕ → List ℕ → Type 0
+LineEndsSeparatePieces e before c after =
     is_line_end c ≡ true → IsAligned e before → (ps qs : List Piece) → IsPieces e before ps → IsPieces e after qs
     → IsPieces e (before ++ (ascii_bytes e c ++ after)) (ps ++ (piece (ascii_bytes e c) c ∷ qs))

@@ -43,19 +43,19 @@ pub record HasValue (e : Encoding) (source key : List ℕ) (value : Option (List
 
 -- The first pair with one key comes before every pair with another: the entries begin with entries without the other
 -- key, followed by that pair.
-pub record StandsBefore (entries : List Entry) (key other : List ℕ) : Type 0 where
+pub record PairComesBefore (entries : List Entry) (key other : List ℕ) : Type 0 where
   pub before : List Entry
   pub number : ℕ
   pub value : List ℕ
   pub after : List Entry
   pub division : entries ≡ before ++ (item number (pair key value) ∷ after)
   pub none_before : HasNoPair other before
-  pub apart : key ≢ other
+  pub differ : key ≢ other
 
 -- These are the keys of all pairs, each once, in the order of their first pairs.
 pub record AreKeys (entries : List Entry) (keys : List (List ℕ)) : Type 0 where
   pub each : (key : List ℕ) → Contains keys key ↔ ((value : List ℕ) × IsLastValue entries key value)
-  pub in_order : AllPairs (StandsBefore entries) keys
+  pub in_order : AllPairs (PairComesBefore entries) keys
 
 -- The keys of a source without malformed entries.
 pub record HasKeys (e : Encoding) (source : List ℕ) (keys : List (List ℕ)) : Type 0 where

@@ -30,12 +30,12 @@ abbrev pub unicode_escape : ℕ → List ℕ
 unicode_escape c = if nat_lt c 0x1_0000 then unit_escape c else unit_escape (high_surrogate c) ++ unit_escape (low_surrogate c)
 
 -- whether a character may be written unescaped: the encoding has it, and it is ASCII if ASCII-only output is on
-abbrev pub may_stand : Encoding → Bool → ℕ → Bool
-may_stand e only c = (not only || nat_lt c 0x80) && is_some (encoded e c)
+abbrev pub may_be_unescaped : Encoding → Bool → ℕ → Bool
+may_be_unescaped e only c = (not only || nat_lt c 0x80) && is_some (encoded e c)
 
 -- the character unescaped if that is allowed, otherwise escaped
 abbrev pub literal : Encoding → Bool → ℕ → List ℕ
-literal e only c = if may_stand e only c then c ∷ [] else unicode_escape c
+literal e only c = if may_be_unescaped e only c then c ∷ [] else unicode_escape c
 
 -- whether a character has a special meaning in a key or a value, and so is escaped by a backslash
 abbrev pub is_special : ℕ → Bool
@@ -52,17 +52,17 @@ has_letter c = (c == tab || c == line_feed) || (c == form_feed || c == carriage_
 -- How a character is printed. In a key or a value, the characters with a special meaning and everything below the space
 -- are escaped; in a comment, the backslash and the line ends are. Everywhere, a character that the encoding lacks is
 -- escaped, and if ASCII-only output is on, so is every character above U+007F.
-abbrev pub spelt : Encoding → Bool → Place → ℕ → List ℕ
-spelt e only in_key_or_value c =
+abbrev pub printed_character : Encoding → Bool → Place → ℕ → List ℕ
+printed_character e only in_key_or_value c =
     if is_special c then backslash ∷ c ∷ [] else (if has_letter c then letter_escape c else (if nat_lt c space then unicode_escape c else literal e only c))
-spelt e only in_comment c =
+printed_character e only in_comment c =
     if c == backslash then backslash ∷ backslash ∷ [] else (if c == line_feed || c == carriage_return then letter_escape c else literal e only c)
-spelt e only in_prefix c = literal e only c
+printed_character e only in_prefix c = literal e only c
 
 -- a text, character by character
-abbrev pub spelt_text : Encoding → Bool → Place → List ℕ → List ℕ
-spelt_text e only place [] = []
-spelt_text e only place (c ∷ cs) = spelt e only place c ++ spelt_text e only place cs
+abbrev pub printed_characters : Encoding → Bool → Place → List ℕ → List ℕ
+printed_characters e only place [] = []
+printed_characters e only place (c ∷ cs) = printed_character e only place c ++ printed_characters e only place cs
 
 -- the bytes of a text whose characters the encoding has
 abbrev pub encoded_text : Encoding → List ℕ → List ℕ
@@ -71,22 +71,22 @@ encoded_text e (c ∷ cs) = unwrap_or (encoded e c) [] ++ encoded_text e cs
 
 -- whether the key's bytes would be taken for a byte order mark at the front of an input
 abbrev pub is_bom_like : Encoding → Bool → List ℕ → Bool
-is_bom_like e only key = begins_like_bom (encoded_text e (spelt_text e only in_key_or_value key))
+is_bom_like e only key = begins_like_bom (encoded_text e (printed_characters e only in_key_or_value key))
 
 -- a key with its first character escaped
 abbrev pub with_first_escaped : Encoding → Bool → List ℕ → List ℕ
 with_first_escaped e only [] = []
-with_first_escaped e only (c ∷ cs) = unicode_escape c ++ spelt_text e only in_key_or_value cs
+with_first_escaped e only (c ∷ cs) = unicode_escape c ++ printed_characters e only in_key_or_value cs
 
 -- the key on the first line that is written, or on another line: on the first, a key that begins like a byte order mark
 -- has its first character escaped
-abbrev pub spelt_key : Encoding → Bool → Bool → List ℕ → List ℕ
-spelt_key e only first key = if first && is_bom_like e only key then with_first_escaped e only key else spelt_text e only in_key_or_value key
+abbrev pub printed_key : Encoding → Bool → Bool → List ℕ → List ℕ
+printed_key e only first key = if first && is_bom_like e only key then with_first_escaped e only key else printed_characters e only in_key_or_value key
 
 -- the characters of a printed line: prefix, text and line end; or key, separator, value and line end
 abbrev pub printed_text : Encoding → Settings → Bool → Content → List ℕ
-printed_text e s first (comment text) = spelt_text e s.ascii_only in_prefix s.comment_prefix ++ (spelt_text e s.ascii_only in_comment text ++ line_ending_text s.line_ending)
-printed_text e s first (pair key value) = spelt_key e s.ascii_only first key ++ (s.kv_separator ++ (spelt_text e s.ascii_only in_key_or_value value ++ line_ending_text s.line_ending))
+printed_text e s first (comment text) = printed_characters e s.ascii_only in_prefix s.comment_prefix ++ (printed_characters e s.ascii_only in_comment text ++ line_ending_text s.line_ending)
+printed_text e s first (pair key value) = printed_key e s.ascii_only first key ++ (s.kv_separator ++ (printed_characters e s.ascii_only in_key_or_value value ++ line_ending_text s.line_ending))
 
 -- the bytes of a printed line
 abbrev pub printed : Encoding → Settings → Bool → Content → List ℕ

@@ -10,7 +10,7 @@ use Rattle.properties_format.specs.Groups.{is_open, joined}
 use Rattle.properties_format.specs.Split.{AreBlanks, IsPair}
 use Rattle.properties_format.specs.Entries.{pair}
 use Rattle.properties_format.specs.Items.{given, IsOutcome}
-use Rattle.properties_format.specs.Printing.{in_key_or_value, unit_escape, spelt, spelt_key, encoded_text}
+use Rattle.properties_format.specs.Printing.{in_key_or_value, unit_escape, printed_character, printed_key, encoded_text}
 use Rattle.properties_format.specs.Writing.{is_empty}
 use Rattle.properties_format.specs.Body.{HeldLine, AreGroupsOf, HasKey, NoneHasKey, as_lines, held_in, group_bytes, groups_bytes, ending_bytes, last_ending}
 use Rattle.properties_format.specs.Edited.{bom_of, final_group, is_empty_line, is_left_open, EditResult, IsEditResult}
@@ -22,32 +22,32 @@ abbrev pub is_free : ℕ → Bool
 is_free c = c == space || (is_separator c || is_comment_sign c)
 
 -- a character inside a value: unescaped if it is one of these, otherwise as a writer prints it
-abbrev pub spelt_inside : Encoding → ℕ → List ℕ
-spelt_inside e c = if is_free c then c ∷ [] else spelt e false in_key_or_value c
+abbrev pub printed_inside : Encoding → ℕ → List ℕ
+printed_inside e c = if is_free c then c ∷ [] else printed_character e false in_key_or_value c
 
 -- the first character: a space is escaped by a backslash, and after blanks only, so is a separator
-abbrev pub spelt_first : Encoding → Bool → ℕ → List ℕ
-spelt_first e after_blanks c = if c == space || (after_blanks && is_separator c) then backslash ∷ c ∷ [] else spelt_inside e c
+abbrev pub printed_first : Encoding → Bool → ℕ → List ℕ
+printed_first e after_blanks c = if c == space || (after_blanks && is_separator c) then backslash ∷ c ∷ [] else printed_inside e c
 
 -- the last character: a space is `\u0020`, which survives editors that trim lines
-abbrev pub spelt_last : Encoding → ℕ → List ℕ
-spelt_last e c = if c == space then unit_escape space else spelt_inside e c
+abbrev pub printed_last : Encoding → ℕ → List ℕ
+printed_last e c = if c == space then unit_escape space else printed_inside e c
 
 -- the characters after the first; the last of them is printed as the last character
-abbrev pub spelt_rest : Encoding → List ℕ → List ℕ
-spelt_rest e [] = []
-spelt_rest e (c ∷ []) = spelt_last e c
-spelt_rest e (c ∷ d ∷ cs) = spelt_inside e c ++ spelt_rest e (d ∷ cs)
+abbrev pub printed_rest : Encoding → List ℕ → List ℕ
+printed_rest e [] = []
+printed_rest e (c ∷ []) = printed_last e c
+printed_rest e (c ∷ d ∷ cs) = printed_inside e c ++ printed_rest e (d ∷ cs)
 
 -- a value, after blanks only or after a separator
-abbrev pub spelt_value : Encoding → Bool → List ℕ → List ℕ
-spelt_value e after_blanks [] = []
-spelt_value e after_blanks (c ∷ cs) = if is_empty cs && c == space then unit_escape space else spelt_first e after_blanks c ++ spelt_rest e cs
+abbrev pub printed_value : Encoding → Bool → List ℕ → List ℕ
+printed_value e after_blanks [] = []
+printed_value e after_blanks (c ∷ cs) = if is_empty cs && c == space then unit_escape space else printed_first e after_blanks c ++ printed_rest e cs
 
 -- what follows the front of a pair: the value, preceded by an equals sign if nothing separated the key from its value
 abbrev pub value_text : Encoding → List ℕ → List ℕ → List ℕ
-value_text e [] value = equals_sign ∷ spelt_value e false value
-value_text e (c ∷ cs) value = spelt_value e (is_blanks (c ∷ cs)) value
+value_text e [] value = equals_sign ∷ printed_value e false value
+value_text e (c ∷ cs) value = printed_value e (is_blanks (c ∷ cs)) value
 
 -- ---- A pair gets another value.
 
@@ -151,20 +151,20 @@ ending_in groups = line_ending_text (ending_among lf (held_in groups))
 
 -- what separates a new pair from the last group, made of this line ending: nothing, one, or two, which also end a group
 -- that is left open
-abbrev pub parted_by : List ℕ → List HeldLine → List ℕ
-parted_by ending group = if is_empty_line group then [] else (if is_left_open group then ending ++ ending else ending)
+abbrev pub separation_by : List ℕ → List HeldLine → List ℕ
+separation_by ending group = if is_empty_line group then [] else (if is_left_open group then ending ++ ending else ending)
 
 -- the bytes of a new pair after these bytes, with its line ending
 abbrev pub new_pair_bytes : Encoding → List ℕ → List ℕ → List ℕ → List ℕ → List ℕ → List ℕ
 new_pair_bytes e front key separator value ending =
-    encoded_text e (spelt_key e false (is_empty front) key ++ (separator ++ spelt_value e (is_blanks separator) value)) ++ ending
+    encoded_text e (printed_key e false (is_empty front) key ++ (separator ++ printed_value e (is_blanks separator) value)) ++ ending
 
 -- No pair has the key, and a new pair is added at the end.
 pub record IsAdded (e : Encoding) (groups : List (List HeldLine)) (key value result : List ℕ) : Type 0 where
   pub no_pair : NoneHasKey key groups
   pub separator : List ℕ
   pub is_separator : IsNewSeparator groups key separator
-  pub bytes : let front : List ℕ = groups_bytes groups ++ parted_by (ending_in groups) (final_group groups) in
+  pub bytes : let front : List ℕ = groups_bytes groups ++ separation_by (ending_in groups) (final_group groups) in
       result ≡ front ++ new_pair_bytes e front key separator value (ending_in groups)
 
 -- ---- The value of a key is set.

@@ -10,8 +10,8 @@ use Rattle.properties_format.specs.Reading.Body.{held_lines_of}
 use Rattle.properties_format.proofs.Edited.Steps.{held_lines-line, held_lines-last}
 use Rattle.properties_text.specs.Encoding.{encoding_of}
 use Rattle.properties_lines.specs.LineSearch.{unit_size}
-use Rattle.properties_lines.specs.HeldLines.{held_line, StandsInBody, lines_left}
-use Rattle.properties_lines.specs.Scanner.{is_decided, standing, front_of, bytes_of, EndsWhole, IsCutOff, GivesLine}
+use Rattle.properties_lines.specs.HeldLines.{held_line, IsInBody, lines_left}
+use Rattle.properties_lines.specs.Scanner.{is_decided, scanner_state, front_of, bytes_of, EndsWhole, IsCutOff, GivesLine}
 use Rattle.properties_lines.specs.declared.scanner.Front.{Front}
 use Rattle.properties_lines.specs.declared.scanner.Front.TheVariants.{Mark, Feed, Nothing}
 use Rattle.properties_lines.specs.declared.scanner.RawLine.{RawLine}
@@ -38,28 +38,28 @@ cut-lines e body line next h = by h.ending refl
         → held_lines_of e (drop line.start body) ≡ held_line e body line h.ending ∷ lines_after e h.ending (drop next body)
     by None k =
         let rest : drop next body ≡ [] = subst (λ v. EndsWhole e v (drop next body)) k h.whole in
-        let same : drop line.start body ≡ bytes_of body line = h.stands ∙ rw k (ap (λ v. bytes_of body line ++ v) rest ∙ append-nil (bytes_of body line)) in
+        let same : drop line.start body ≡ bytes_of body line = h.division ∙ rw k (ap (λ v. bytes_of body line ++ v) rest ∙ append-nil (bytes_of body line)) in
         ap (held_lines_of e) same ∙ held_lines-last e (bytes_of body line) h.none ∙ rw k refl
     by (Some end) k =
         let whole : EndsWhole e (Some end) (drop next body) = subst (λ v. EndsWhole e v (drop next body)) k h.whole in
         let aligned : IsAligned e (bytes_of body line) = elim h.aligned [ inl n ↦ absurd (cc (n, k)) | inr a ↦ a ] in
-        ap (held_lines_of e) (h.stands ∙ rw k refl)
+        ap (held_lines_of e) (h.division ∙ rw k refl)
         ∙ held_lines-line e (bytes_of body line) end (drop next body) h.none aligned (alone-cr e end (drop next body) whole)
         ∙ rw k refl
 
 -- ---- a scanner in a body
 
 -- it goes on where it stands
-body-front : (s : Scanner) (body : List ℕ) → StandsInBody s body → front_of (standing s body) ≡ record { encoding = encoding_of s.encoding; body = drop s.at body }
+body-front : (s : Scanner) (body : List ℕ) → IsInBody s body → front_of (scanner_state s body) ≡ record { encoding = encoding_of s.encoding; body = drop s.at body }
 body-front s body h = by s.front refl
   where
-    by : (front : Front) → s.front ≡ front → front_of (standing s body) ≡ record { encoding = encoding_of s.encoding; body = drop s.at body }
+    by : (front : Front) → s.front ≡ front → front_of (scanner_state s body) ≡ record { encoding = encoding_of s.encoding; body = drop s.at body }
     by Mark k = absurd (h.decided k)
     by Feed k = let none = h.alone k in rw (k, none) refl
     by Nothing k = rw k refl
 
 -- the next line is of the same encoding, and starts there
-pub body-next : (s new : Scanner) (body : List ℕ) → StandsInBody s body → GivesLine s body true new → (encoding_of new.encoding ≡ encoding_of s.encoding) × (new.line.start ≡ s.at)
+pub body-next : (s new : Scanner) (body : List ℕ) → IsInBody s body → GivesLine s body true new → (encoding_of new.encoding ≡ encoding_of s.encoding) × (new.line.start ≡ s.at)
 body-next s new body h g =
     let front = sym (body-front s body h) ∙ g.front in
     let here : drop s.at body ≡ drop new.line.start body = ap (λ v. let w : InForce = v in w.body) front in
@@ -79,7 +79,7 @@ short-alone utf_16be (b ∷ []) h = refl
 short-alone utf_16be (b ∷ c ∷ d) h = absurd (omega arith)
 
 -- it stands in the body after the line, too
-pub body-after : (s new : Scanner) (body : List ℕ) → GivesLine s body true new → StandsInBody new body
+pub body-after : (s new : Scanner) (body : List ℕ) → GivesLine s body true new → IsInBody new body
 body-after s new body g = record {
   fits = g.fits;
   decided = λ w. let x : is_decided Mark ≡ true = subst (λ v. is_decided v ≡ true) w g.decided in absurd (cc);
@@ -87,7 +87,7 @@ body-after s new body g = record {
 }
 
 -- the line is the first of them
-pub body-line : (s new : Scanner) (body : List ℕ) → StandsInBody s body → (g : GivesLine s body true new)
+pub body-line : (s new : Scanner) (body : List ℕ) → IsInBody s body → (g : GivesLine s body true new)
     → held_lines_of (encoding_of s.encoding) (drop s.at body) ≡ held_line (encoding_of s.encoding) body new.line g.cut.ending ∷ lines_left body new
 body-line s new body h g =
     let next = body-next s new body h g in
@@ -110,6 +110,6 @@ body-line s new body h g =
     ]
 
 -- as the lines left
-pub body-lines_left : (s new : Scanner) (body : List ℕ) → StandsInBody s body → (g : GivesLine s body true new)
+pub body-lines_left : (s new : Scanner) (body : List ℕ) → IsInBody s body → (g : GivesLine s body true new)
     → lines_left body s ≡ held_line (encoding_of s.encoding) body new.line g.cut.ending ∷ lines_left body new
 body-lines_left s new body h g = let live = g.live in rw live (body-line s new body h g)

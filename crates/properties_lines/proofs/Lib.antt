@@ -5,5 +5,6 @@ pub mod ScannerSearch
 pub mod Scans
 pub mod HeldLines
 pub mod LineReaders
+pub mod OpenLines
 pub mod LogicalLines
 pub mod LineJoiner

@@ -1,12 +1,12 @@
 -- How natural lines are joined, step by step.
 use Rattle.std.proofs.Common.{◌≡◌, ◌+◌, ℕ, Bool, true, false, List, [], ◌∷◌, ◌++◌, refl, sym, ap, ap₂, ◌∙◌, inl, inr, subst, append_assoc, append-nil}
-use Rattle.std.specs.Prelude.{◌⊎◌, if◌then◌else◌, not, Option, Some, None, is_some}
+use Rattle.std.specs.Prelude.{◌⊎◌, ◌↔◌, if◌then◌else◌, not, Option, Some, None, is_some}
 use Rattle.std.specs.Str.{chars, IsUtf8}
 use Rattle.std.proofs.lemmas.Bool.{cases_Bool}
 use Rattle.std.proofs.lemmas.Str.{IsUtf8-nil}
 use Rattle.counted_io.specs.Streams.{Reader}
 use Rattle.counted_io.proofs.Streams.{read-none, read-more, failed-more}
-use Rattle.properties_format.specs.Encoding.{Encoding}
+use Rattle.properties_format.specs.Encoding.{Encoding, windows_1252}
 use Rattle.properties_format.specs.Reading.Cut.{decoded_line}
 use Rattle.properties_format.specs.Lines as format
 use Rattle.properties_format.specs.Lines.{InputEnd, end, fault, more}
@@ -22,12 +22,13 @@ use Rattle.properties_format.specs.Reading.ReaderSteps.{Gives}
 use Rattle.properties_text.specs.Escaping.{holds_backslash}
 use Rattle.properties_text.proofs.Texts.Resolving.{plain-closed}
 use Rattle.properties_lines.specs.LineReader as finder
-use Rattle.properties_lines.specs.LineReader.{Finder, Finds, Passes, PassesSome, PassesAll, IsLazy, IsToldOf, LetsGo, FindsError, found_line}
-use Rattle.properties_lines.specs.LogicalLine.{IsAsciiLine, KeepsText, StandsAlone, OpensJoin, text_with}
-use Rattle.properties_lines.specs.LineJoiner.{line_text, join_of, joiner_of, Pends, Closes, AddsOpen, AddsLast, EndJoin, IsLazyJoin, IsLazyItems, GoesOn, JoinsAll, JoinError, JoinsNone, JoinsOn, Joiner, Joining, Comes, Joins, JoinsGroup, JoinsNext, JoinsError, ReadsWhole, ReadsNone, ReadsRest}
+use Rattle.properties_lines.specs.LineReader.{Finder, Finds, Passes, PassesSome, PassesAll, IsLazy, HasRightLineFlags, ReleasesOrKeeps, FindsError, found_line}
+use Rattle.properties_lines.specs.LogicalLine.{IsAsciiLine, KeepsText, IsNotContinued, OpensJoin, text_with, is_continued}
+use Rattle.properties_lines.specs.LineJoiner.{line_text, join_of, joiner_of, Pends, Closes, AddsOpen, AddsLast, EndJoin, IsLazyJoin, IsLazyItems, GoesOn, JoinsAll, JoinError, JoinsNone, JoinsOn, Joiner, Joining, Comes, Joins, JoinsGroup, JoinsLine, JoinsNext, JoinsError, IsUndecoded, JoinsAlone, JoinsText, ReadsWhole, ReadsNone, ReadsRest}
 use Rattle.properties_lines.specs.declared.error.LineError.TheVariants as why
 use Rattle.properties_lines.specs.declared.error.LineError.{LineError}
 use Rattle.properties_lines.specs.declared.logical.LogicalLine.{LogicalLine}
+use Rattle.properties_lines.proofs.OpenLines.{continued-other, continued-decoded, stands-alone, alone-ends}
 use Rattle.properties_lines.proofs.LogicalLines.{ascii-keeps, unescaped-decoded}
 
 -- ---- where no line comes
@@ -318,11 +319,11 @@ module _ {R : Type 0} {reader : Reader R} where
 
 -- ---- what is known of a line
 
-pub known-ascii : (f : Finder) (e : Encoding) (bytes : List ℕ) (is_ascii : Bool) → IsToldOf f → e ≡ f.state.encoding → bytes ≡ f.line → is_ascii ≡ f.is_ascii
+pub known-ascii : (f : Finder) (e : Encoding) (bytes : List ℕ) (is_ascii : Bool) → HasRightLineFlags f → e ≡ f.state.encoding → bytes ≡ f.line → is_ascii ≡ f.is_ascii
     → is_ascii ≡ true → IsAsciiLine e bytes
 known-ascii f e bytes is_ascii h same line told k = rw (same, line) ((h 0 0).ascii.0 (sym told ∙ k))
 
-pub known-plain : (f : Finder) (bytes : List ℕ) (has_backslash : Bool) → IsToldOf f → bytes ≡ f.line → has_backslash ≡ f.has_backslash
+pub known-plain : (f : Finder) (bytes : List ℕ) (has_backslash : Bool) → HasRightLineFlags f → bytes ≡ f.line → has_backslash ≡ f.has_backslash
     → has_backslash ≡ false → holds_backslash bytes ≡ false
 known-plain f bytes has_backslash h line told k = rw line (sym (h 0 0).backslash ∙ sym told ∙ k)
 
@@ -336,7 +337,7 @@ items-pending : (s : ReaderState) (d : List ℕ) (ending : InputEnd) → items_t
 items-pending = items_to_come-pending
 
 -- a line that is a logical line by itself
-alone-comes : {s t : ReaderState} {r : List ℕ} (l : format.Line) → Passes s r (l ∷ []) t → StandsAlone l.text → Comes s r l t
+alone-comes : {s t : ReaderState} {r : List ℕ} (l : format.Line) → Passes s r (l ∷ []) t → IsNotContinued l.text → Comes s r l t
 alone-comes {s} l (Passes.going_on f reads) (inl c) = Comes.going_on f (logical-comment_line (on-start s) reads c)
 alone-comes {s} l (Passes.going_on f reads) (inr c) = Comes.going_on f (logical-closed (on-start s) reads c)
 alone-comes {s} {t} {r} l (Passes.at_last f gives) (inl c) =
@@ -384,15 +385,19 @@ alone-group l p (inr o) = record {
 
 -- and the group of an open line and those that it is joined to
 join-group : {s t u : ReaderState} {r q text : List ℕ} (l : format.Line) → Passes s r (l ∷ []) t → is_comment_line l.text ≡ false → is_open l.text ≡ true
-    → AddsLast t (without_open_backslash l.text) q text u → (t.is_done ≡ true → (u.is_done ≡ true) × (q ≡ [])) → JoinsGroup s (r ++ q) (record { number = l.number; text = text }) u
-join-group {s} {t} {u} {r} {q} {text} l p c o h i = record {
-  first = l;
-  others = h.lines;
-  passes = all-lines p;
-  number = refl;
-  text = h.is ∙ sym (joined-unmarked l h.lines c);
-  ends = by-end h.end_join;
-}
+    → AddsLast t (without_open_backslash l.text) q text u → (t.is_done ≡ true → (u.is_done ≡ true) × (q ≡ []))
+    → (group : JoinsGroup s (r ++ q) (record { number = l.number; text = text }) u) × (group.first ≡ l)
+join-group {s} {t} {u} {r} {q} {text} l p c o h i = (
+  record {
+    first = l;
+    others = h.lines;
+    passes = all-lines p;
+    number = refl;
+    text = h.is ∙ sym (joined-unmarked l h.lines c);
+    ends = by-end h.end_join;
+  },
+  refl,
+)
   where
     by-end : EndJoin h.lines u → IsWhole (l ∷ h.lines) ⊎ (u.is_done ≡ true) × IsUnfinished (l ∷ h.lines)
     by-end (inl k) = inl (inr (c, k l o))
@@ -415,21 +420,25 @@ lazy-items s (inr h) = inr (items-pending s [] more ∙ pending-lazy None s h)
 
 module _ {R : Type 0} {reader : Reader R} where
   -- the line is a logical line
-  pub joins-alone : {s : ReaderState} {from to : R} (number : ℕ) (found : Finder) (line : List ℕ) → finder.FindsNext reader s from number found to
-      → StandsAlone (line_text found) → chars line ≡ line_text found → JoinsNext reader s from number (record { state = found.state; line = line }) to
-  joins-alone {s} number found line n c same =
-      let P : List ℕ → Type 0 = λ v. Comes s n.bytes (record { number = number; text = v }) found.state in
-      let G : List ℕ → Type 0 = λ v. JoinsGroup s n.bytes (record { number = number; text = v }) found.state in
-      record {
-        bytes = n.bytes;
-        read = n.read;
-        live = n.live;
-        comes = subst P (sym same) (alone-comes (found_line number found) n.passes c);
-        group = subst G (sym same) (alone-group (found_line number found) n.passes c);
-        passes = λ g. some-come n.passes g;
-        ended = n.ended;
-        lazy = lazy-items s n.lazy;
-      }
+  line-alone : {s : ReaderState} {from to : R} (number : ℕ) (found : Finder) → finder.FindsNext reader s from number found to → IsNotContinued (line_text found)
+      → JoinsLine reader s from (found_line number found) found.state to
+  line-alone {s} number found n c = record {
+    bytes = n.bytes;
+    read = n.read;
+    live = n.live;
+    comes = alone-comes (found_line number found) n.passes c;
+    group = alone-group (found_line number found) n.passes c;
+    passes = λ g. some-come n.passes g;
+    ended = n.ended;
+    lazy = lazy-items s n.lazy;
+  }
+
+  -- and its text is returned
+  joins-alone : {s : ReaderState} {from to : R} (number : ℕ) (found : Finder) (line : List ℕ) → finder.FindsNext reader s from number found to
+      → IsNotContinued (line_text found) → chars line ≡ line_text found → JoinsNext reader s from number (record { state = found.state; line = line }) to
+  joins-alone {s} {from} {to} number found line n c same =
+      let P : List ℕ → Type 0 = λ v. JoinsLine reader s from (record { number = number; text = v }) found.state to in
+      subst P (sym same) (line-alone number found n c)
 
   -- what was held when a join began, and gave no item
   lazy-join : {s : ReaderState} {from to next : R} {q : List ℕ} (number : ℕ) (mid : Finder) (n : finder.FindsNext reader s from number mid to)
@@ -451,19 +460,24 @@ module _ {R : Type 0} {reader : Reader R} where
       ]
 
   -- the line and those after it are one
-  pub joins-joined : {s : ReaderState} {from to next : R} (number : ℕ) (mid : Finder) (new : Joiner) → finder.FindsNext reader s from number mid to
+  joins-joined : {s : ReaderState} {from to next : R} (number : ℕ) (mid : Finder) (new : Joiner) → finder.FindsNext reader s from number mid to
       → is_comment_line (line_text mid) ≡ false → is_open (line_text mid) ≡ true
-      → JoinsAll reader mid.state to (without_open_backslash (line_text mid)) (chars new.line) new.state next → JoinsNext reader s from number new next
-  joins-joined {next = next} number mid new n c o j = record {
-    bytes = n.bytes ++ j.bytes;
-    read = read-more n.read j.read;
-    live = n.live;
-    comes = join-comes (found_line number mid) n.passes c o j.closes (λ e. (j.done e, (j.idle e).0));
-    group = join-group (found_line number mid) n.passes c o j.adds (λ e. (j.done e, (j.idle e).0));
-    passes = λ g. some-on (some-come n.passes (elim (cases_Bool mid.state.is_done) [ inl e ↦ let d = j.done e in absurd (cc) | inr e ↦ e ])) (j.passes g);
-    ended = λ e. elim (j.ended e) [ inl k ↦ let P : R → Type 0 = λ v. reader.at_end v ≡ true in subst P (sym (j.idle k).1) (n.ended k) | inr k ↦ k ];
-    lazy = lazy-join number mid n c o j.idle j.lazy;
-  }
+      → JoinsAll reader mid.state to (without_open_backslash (line_text mid)) (chars new.line) new.state next
+      → (line : JoinsNext reader s from number new next) × (line.group.first ≡ found_line number mid)
+  joins-joined {next = next} number mid new n c o j =
+      let group = join-group (found_line number mid) n.passes c o j.adds (λ e. (j.done e, (j.idle e).0)) in (
+        record {
+          bytes = n.bytes ++ j.bytes;
+          read = read-more n.read j.read;
+          live = n.live;
+          comes = join-comes (found_line number mid) n.passes c o j.closes (λ e. (j.done e, (j.idle e).0));
+          group = group.0;
+          passes = λ g. some-on (some-come n.passes (elim (cases_Bool mid.state.is_done) [ inl e ↦ let d = j.done e in absurd (cc) | inr e ↦ e ])) (j.passes g);
+          ended = λ e. elim (j.ended e) [ inl k ↦ let P : R → Type 0 = λ v. reader.at_end v ≡ true in subst P (sym (j.idle k).1) (n.ended k) | inr k ↦ k ];
+          lazy = lazy-join number mid n c o j.idle j.lazy;
+        },
+        group.1,
+      )
 
   -- no line was found
   pub joins-refused : {s u : ReaderState} {from to : R} {e : LineError} → FindsError reader s from e u to → JoinsError reader s from e u to
@@ -546,7 +560,7 @@ opens-escaped found o plain =
 
 module _ {R : Type 0} {reader : Reader R} where
   -- the line is a logical line
-  pub reads-alone : {from : R} (found : Finder) (line : LogicalLine) → StandsAlone (line_text found) → KeepsText found.state.encoding found.line line.is_kept line.text
+  pub reads-alone : {from : R} (found : Finder) (line : LogicalLine) → IsNotContinued (line_text found) → KeepsText found.state.encoding found.line line.is_kept line.text
       → found.error ≡ None → ReadsWhole reader found from found.state.passed found line from
   reads-alone found line c keeps error =
       let text = kept-text found.state.encoding found.line line.text line.is_kept keeps in
@@ -554,15 +568,16 @@ module _ {R : Type 0} {reader : Reader R} where
         number_is = refl;
         error = error;
         text = kept-utf8 found.state.encoding found.line line.text line.is_kept keeps;
-        comes = λ n. joins-alone found.state.passed found (text_with line found.line) n c text;
+        comes = λ n. (joins-alone found.state.passed found (text_with line found.line) n c text, inr (c, refl));
         plain = λ h. ap holds_backslash text ∙ unescaped-decoded found.state.encoding found.line h;
       }
 
   -- the text that is kept came
-  kept-comes : {S : ReaderState} {start to : R} (number : ℕ) (lines : Finder) (line : LogicalLine) → line.is_kept ≡ true
-      → JoinsNext reader S start number (record { state = lines.state; line = line.text }) to → JoinsNext reader S start number (joiner_of lines line) to
-  kept-comes {S} {start} {to} number lines line kept h =
-      let P : Bool → Type 0 = λ v. JoinsNext reader S start number (record { state = lines.state; line = if v then line.text else lines.line }) to in
+  kept-comes : {S : ReaderState} {start to : R} (number : ℕ) (first : format.Line) (lines : Finder) (line : LogicalLine) → line.is_kept ≡ true
+      → (n : JoinsNext reader S start number (record { state = lines.state; line = line.text }) to) × (n.group.first ≡ first)
+      → (n : JoinsNext reader S start number (joiner_of lines line) to) × (n.group.first ≡ first)
+  kept-comes {S} {start} {to} number first lines line kept h =
+      let P : Bool → Type 0 = λ v. (n : JoinsNext reader S start number (record { state = lines.state; line = if v then line.text else lines.line }) to) × (n.group.first ≡ first) in
       subst P (sym kept) h
 
   -- and so is it with the lines that are joined to it
@@ -571,12 +586,15 @@ module _ {R : Type 0} {reader : Reader R} where
       → ReadsWhole reader found from found.state.passed lines line to
   reads-joined {from} {to} found lines begun line o j error kept =
       let P : List ℕ → Type 0 = λ v. JoinsAll reader found.state from v (chars line.text) lines.state to in
+      let first = found_line found.state.passed found in
       record {
         number_is = refl;
         error = error;
         text = λ e. absurd (cc);
-        comes = λ n. kept-comes found.state.passed lines line kept
-            (joins-joined found.state.passed found (record { state = lines.state; line = line.text }) n o.other o.opens (subst P o.closed j));
+        comes = λ n.
+            let joined = joins-joined found.state.passed found (record { state = lines.state; line = line.text }) n o.other o.opens (subst P o.closed j) in
+            let read = kept-comes found.state.passed first lines line kept joined in
+            (read.0, inl (ap (λ v. let w : format.Line = v in is_continued w.text) read.1 ∙ continued-other first.text o.other ∙ o.opens));
         plain = λ h. absurd (opens-escaped found o.opens h);
       }
 
@@ -600,15 +618,35 @@ module _ {R : Type 0} {reader : Reader R} where
     done = refl;
     error = why.Memory;
     kept = refl;
-    text = λ lent. absurd (cc);
+    text = λ borrowed. absurd (cc);
     why = λ n. joins-no_room found.state.passed found n refl;
   })
+
+-- ---- lines that aren't decoded
+
+-- a line without a backslash is a logical line
+pub plain-undecoded : (found : Finder) → found.state.encoding ≡ windows_1252 → holds_backslash found.line ≡ false → IsUndecoded found
+plain-undecoded found e plain = (e, inr (plain-closed (line_text found) (unescaped-decoded found.state.encoding found.line plain)))
+
+-- another is if it isn't continued
+pub whole-undecoded : (found : Finder) (is_continued_line : Bool) → found.state.encoding ≡ windows_1252 → is_continued_line ≡ is_continued found.line
+    → (not is_continued_line ≡ true) ↔ IsUndecoded found
+whole-undecoded found is_continued_line e told =
+    let P : Encoding → Type 0 = λ v. is_continued (decoded_line v found.line) ≡ is_continued found.line in
+    let same : is_continued (line_text found) ≡ is_continued_line = subst P (sym e) (continued-decoded found.line) ∙ sym told in (
+      λ h. (e, stands-alone (line_text found) (same ∙ not-true is_continued_line h)),
+      λ u. ap not (sym same ∙ alone-ends (line_text found) u.1),
+    )
+  where
+    not-true : (b : Bool) → not b ≡ true → b ≡ false
+    not-true true h = absurd (cc)
+    not-true false h = refl
 
 -- ---- the next logical line
 
 -- what a contract sees of the joiner of this reader and this line
 abbrev pub joining : Finder → LogicalLine → Bool → Joining
-joining lines line has_backslash = record { at = joiner_of lines line; has_backslash = has_backslash; error = lines.error }
+joining lines line has_backslash = record { at = joiner_of lines line; natural = lines.line; has_backslash = has_backslash; error = lines.error }
 
 module _ {R : Type 0} {reader : Reader R} where
   -- no line was found
@@ -628,29 +666,62 @@ module _ {R : Type 0} {reader : Reader R} where
   none-utf8 before after (inl h) u = rw h.1 u
   none-utf8 before after (inr h) u = by-line h.failed.line
     where
-      by-line : LetsGo before after → IsUtf8 after.line
+      by-line : ReleasesOrKeeps before after → IsUtf8 after.line
       by-line (inl e) = subst (λ v. IsUtf8 v) (sym e) u
       by-line (inr e) = subst (λ v. IsUtf8 v) (sym e) IsUtf8-nil
 
-  -- the line is lent
-  pub joins-lent : {from to : R} (old : Joining) (found : Finder) (line : LogicalLine)
-      → finder.FindsNext reader old.at.state from found.state.passed found to × IsToldOf found × (found.error ≡ None) → found.is_ascii ≡ true → found.has_backslash ≡ false
+  -- the line is borrowed
+  pub joins-borrowed : {from to : R} (old : Joining) (found : Finder) (line : LogicalLine)
+      → finder.FindsNext reader old.at.state from found.state.passed found to × HasRightLineFlags found × (found.error ≡ None) → found.is_ascii ≡ true → found.has_backslash ≡ false
       → line.is_kept ≡ false → Joins reader old from (Some found.state.passed) (joining found line false) to
-  joins-lent {from} {to} old found line n is_ascii none kept =
+  joins-borrowed {from} {to} old found line n is_ascii none kept =
       let e = found.state.encoding in
       let text = (ascii-keeps e found.line (known-ascii found e found.line found.is_ascii n.1 refl refl refl is_ascii)).1 in
       let plain = unescaped-decoded e found.line (known-plain found found.line found.has_backslash n.1 refl refl none) in
       let P : Bool → Type 0 = λ v. Joins reader old from (Some found.state.passed)
-      (record { at = record { state = found.state; line = if v then line.text else found.line }; has_backslash = false; error = found.error }) to in
-      let lent = joins-alone found.state.passed found found.line n.0 (inr (plain-closed (line_text found) plain)) text in
-      subst P (sym kept) (lent, λ h. ap holds_backslash text ∙ plain, n.2)
+      (record { at = record { state = found.state; line = if v then line.text else found.line }; natural = found.line; has_backslash = false; error = found.error }) to in
+      let borrowed = joins-alone found.state.passed found found.line n.0 (inr (plain-closed (line_text found) plain)) text in
+      subst P (sym kept) (borrowed, λ h. ap holds_backslash text ∙ plain, n.2)
 
   -- the rest of it was read
   pub joins-rest : {from mid : R} (to : R) (old : Joining) (found lines : Finder) (line : LogicalLine) (result : Option ℕ) (has_backslash : Bool)
-      → finder.FindsNext reader old.at.state from found.state.passed found mid × IsToldOf found × (found.error ≡ None) → has_backslash ≡ found.has_backslash
+      → finder.FindsNext reader old.at.state from found.state.passed found mid × HasRightLineFlags found × (found.error ≡ None) → has_backslash ≡ found.has_backslash
       → ReadsRest reader found mid result lines line to → Joins reader old from result (joining lines line has_backslash) to
   joins-rest {from} {mid} to old found lines line (Some number) has_backslash n same h =
       let P : ℕ → Type 0 = λ v. finder.FindsNext reader old.at.state from v found mid in
-      (h.comes (subst P (sym h.number_is) n.0), λ e. h.plain (known-plain found found.line has_backslash n.1 refl same e), h.error)
+      ((h.comes (subst P (sym h.number_is) n.0)).0, λ e. h.plain (known-plain found found.line has_backslash n.1 refl same e), h.error)
   joins-rest to old found lines line None has_backslash n same h =
       inr (record { live = n.0.live; done = h.done; error = h.error; kept = h.kept; why = h.why n.0 })
+
+  -- the line isn't decoded
+  pub joins-undecoded : {from to : R} (old : Joining) (found : Finder) (line : LogicalLine) (has_backslash : Bool)
+      → finder.FindsNext reader old.at.state from found.state.passed found to × HasRightLineFlags found × (found.error ≡ None) → has_backslash ≡ found.has_backslash
+      → IsUndecoded found → JoinsAlone reader old from found.state.passed (joining found line has_backslash) to
+  joins-undecoded {from} {to} old found line has_backslash n same u =
+      let P : Encoding → Type 0 = λ v. JoinsLine reader old.at.state from (record { number = found.state.passed; text = decoded_line v found.line }) found.state to in
+      let A : Encoding → Type 0 = λ v. IsNotContinued (decoded_line v found.line) in
+      record {
+        joins = subst P u.0 (line-alone found.state.passed found n.0 u.1);
+        encoding = u.0;
+        alone = subst A u.0 u.1;
+        backslash = same ∙ (n.1 0 0).backslash;
+        plain = λ h. unescaped-decoded windows_1252 found.line (known-plain found found.line has_backslash n.1 refl same h);
+        error = n.2;
+      }
+
+  -- it is, and the rest of it was read
+  pub joins-text : {from mid : R} (to : R) (old : Joining) (found lines : Finder) (line : LogicalLine) (number : ℕ) (has_backslash : Bool)
+      → finder.FindsNext reader old.at.state from found.state.passed found mid × HasRightLineFlags found × (found.error ≡ None) → has_backslash ≡ found.has_backslash
+      → (IsUndecoded found → ⊥) → ReadsWhole reader found mid number lines line to → JoinsText reader old from number (joining lines line has_backslash) to
+  joins-text {from} {mid} to old found lines line number has_backslash n same decoded h =
+      let P : ℕ → Type 0 = λ v. finder.FindsNext reader old.at.state from v found mid in
+      let read = h.comes (subst P (sym h.number_is) n.0) in
+      record {
+        joins = read.0;
+        exactly = λ e. elim read.1 [
+          | inl c ↦ c
+          | inr k ↦ absurd (decoded (sym (ap (λ v. let w : ReaderState = v in w.encoding) k.1) ∙ e, k.0))
+        ];
+        plain = λ e. h.plain (known-plain found found.line has_backslash n.1 refl same e);
+        error = h.error;
+      }

@@ -14,9 +14,9 @@ use Rattle.properties_format.specs.Reading.ItemsToCome.{text_to_come, natural_to
 use Rattle.properties_format.specs.Reading.ReaderSteps.{Gives, ReadsLines, after_read}
 use Rattle.properties_format.proofs.ItemsToCome.Entries.{gives-on}
 use Rattle.properties_format.proofs.ItemsToCome.Steps.{lines-start, lines-on, lines-then, lines-read}
-use Rattle.properties_lines.specs.Scanner.{is_decided, after_cr, standing, bytes_of, Fits, Scans}
+use Rattle.properties_lines.specs.Scanner.{is_decided, after_cr, scanner_state, bytes_of, Fits, Scans}
 use Rattle.properties_lines.specs.LineReader as reading
-use Rattle.properties_lines.specs.LineReader.{Finder, found_line, reads_left, lines_left, awaits_front, IsToldOf, HoldsLine, HoldsNone, ScansHeld, LetsGo, IsLazy}
+use Rattle.properties_lines.specs.LineReader.{Finder, found_line, reads_left, lines_left, awaits_front, HasRightLineFlags, HoldsLine, HoldsNone, ScansHeld, ReleasesOrKeeps, IsLazy}
 use Rattle.properties_lines.specs.LineReader.{Along, IsAtEnd, ReadsBytes, HasFailedFor, IsReadError, Finds, FindsNext, FindsFault, FindsTooMany, FindsNoRoom, FindsNone, FindsError}
 use Rattle.properties_lines.specs.declared.error.LineError.{LineError}
 use Rattle.properties_lines.specs.declared.error.LineError.TheVariants as why
@@ -26,7 +26,7 @@ use Rattle.properties_lines.specs.declared.scanner.Scan.TheVariants.{Line, More,
 use Rattle.properties_lines.specs.declared.scanner.Front.{Front}
 use Rattle.properties_lines.specs.declared.scanner.Front.TheVariants.{Mark, Feed, Nothing}
 use Rattle.properties_lines.specs.declared.scanner.Scanner.{Scanner}
-use Rattle.properties_lines.proofs.ScannerFront.{fits-grown, fits-let_go, let_go}
+use Rattle.properties_lines.proofs.ScannerFront.{fits-grown, fits-release, release}
 
 -- ---- where no line end is held
 
@@ -75,7 +75,7 @@ done-end s h = elim (cases_Bool s.is_done) [
 -- what it is as a reader of lines
 abbrev pub finder_of : Scanner → List ℕ → Option LineError → Finder
 finder_of s held error = record {
-  state = standing s held;
+  state = scanner_state s held;
   line = bytes_of held s.line;
   is_ascii = s.line.is_ascii;
   has_backslash = s.line.has_backslash;
@@ -110,7 +110,7 @@ scans-held s new held error ended Line h g = record {
     | inr x ↦ inr (x.0, x.2)
   ];
   fits = omega (arith, g.number, g.numbered);
-  told = λ start end. record { ascii = g.told.ascii; backslash = g.told.backslash };
+  flags = λ start end. record { ascii = g.flags.ascii; backslash = g.flags.backslash };
   error = no-error error s.is_done h g.live;
 }
 scans-held s new held error ended More h (on, g) = (
@@ -131,35 +131,35 @@ scans-held s new held error ended scan.End h (done, same) = (done, ap (λ v. fin
 scans-held s new held error ended TooMany h (live, last, same) = (live, last, ap (λ v. finder_of v held error) same)
 
 -- bytes at the front were let go
-pub fits-left : (s new : Scanner) (held rest : List ℕ) (gone : ℕ) → Fits s held → gone ≤ s.at → new ≡ let_go s gone → rest ≡ drop gone held → Fits new rest
+pub fits-left : (s new : Scanner) (held rest : List ℕ) (gone : ℕ) → Fits s held → gone ≤ s.at → new ≡ release s gone → rest ≡ drop gone held → Fits new rest
 fits-left s new held rest gone h le is same =
-    subst (λ v. Fits new v) (sym same) (subst (λ w. Fits w (drop gone held)) (sym is) (fits-let_go s held gone le h))
+    subst (λ v. Fits new v) (sym same) (subst (λ w. Fits w (drop gone held)) (sym is) (fits-release s held gone le h))
 
 -- bytes were added
 pub fits-filled : (s : Scanner) (held all d : List ℕ) → Fits s held → all ≡ held ++ d → Fits s all
 fits-filled s held all d h same = subst (Fits s) (sym same) (fits-grown s held d h)
 
-left-done : (s new : Scanner) (gone : ℕ) → new ≡ let_go s gone → new.is_done ≡ s.is_done
+left-done : (s new : Scanner) (gone : ℕ) → new ≡ release s gone → new.is_done ≡ s.is_done
 left-done s new gone is = rw is refl
 
 -- one that has failed is at its end for good
-pub done-left : (s new : Scanner) (gone : ℕ) (error : Option LineError) → (error ≢ None → s.is_done ≡ true) → new ≡ let_go s gone → error ≢ None → new.is_done ≡ true
+pub done-left : (s new : Scanner) (gone : ℕ) (error : Option LineError) → (error ≢ None → s.is_done ≡ true) → new ≡ release s gone → error ≢ None → new.is_done ≡ true
 done-left s new gone error h is failed = left-done s new gone is ∙ h failed
 
-pub passed-left : (s new : Scanner) (gone : ℕ) → new ≡ let_go s gone → new.passed ≡ s.passed
+pub passed-left : (s new : Scanner) (gone : ℕ) → new ≡ release s gone → new.passed ≡ s.passed
 passed-left s new gone is = rw is refl
 
 -- no line is held then
-pub line-left : (s new : Scanner) (held : List ℕ) (gone : ℕ) → new ≡ let_go s gone → bytes_of held new.line ≡ []
+pub line-left : (s new : Scanner) (held : List ℕ) (gone : ℕ) → new ≡ release s gone → bytes_of held new.line ≡ []
 line-left s new held gone is = rw is refl
 
 -- ---- reading on
 
-pub fails : (old f new : Finder) (e : LineError) → new ≡ record f { state = record f.state { is_done = true }; error = Some e } → LetsGo old f → HasFailedFor old e new
+pub fails : (old f new : Finder) (e : LineError) → new ≡ record f { state = record f.state { is_done = true }; error = Some e } → ReleasesOrKeeps old f → HasFailedFor old e new
 fails old f new e is line = rw is (record { done = refl; error = refl; line = line })
 
-pub lets_go-on : (a b c d : Finder) → LetsGo a b → c.line ≡ b.line → LetsGo c d → LetsGo a d
-lets_go-on a b c d h e k = elim k [
+pub releases-on : (a b c d : Finder) → ReleasesOrKeeps a b → c.line ≡ b.line → ReleasesOrKeeps c d → ReleasesOrKeeps a d
+releases-on a b c d h e k = elim k [
   | inl same ↦ elim h [
     | inl was ↦ inl (same ∙ e ∙ was)
     | inr none ↦ inr (same ∙ e ∙ none)

@@ -88,7 +88,7 @@ pub searched-more : (e : Encoding) (bytes more : List ℕ) → HoldsNoLineEndUni
     → IsSearched e (bytes ++ more) (whole_units e (length bytes))
 searched-more e bytes more h = searched-grown e bytes more (whole_units e (length bytes)) (searched-whole e bytes h)
 
--- the same of the first of some bytes
+-- First bytes that hold no line end are searched up to the end of their last whole unit.
 pub searched-taken : (e : Encoding) (bytes : List ℕ) (count : ℕ) → count ≤ length bytes → HoldsNoLineEndUnit e (take count bytes)
     → IsSearched e bytes (whole_units e count)
 searched-taken e bytes count le h =
@@ -180,7 +180,7 @@ found-at e bytes end rest s h =
     let within = s.within in
     record {
       rest = rest;
-      stands = sym (take-append-drop end.at bytes) ∙ ap (λ v. take end.at bytes ++ v) h;
+      division = sym (take-append-drop end.at bytes) ∙ ap (λ v. take end.at bytes ++ v) h;
       aligned = s.aligned;
       none_before = s.none_before;
       within = omega arith;

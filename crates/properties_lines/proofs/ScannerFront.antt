@@ -17,11 +17,11 @@ use Rattle.properties_format.proofs.ItemsToCome.Lines.{gives-decided, gives-deci
 use Rattle.properties_format.proofs.ItemsToCome.Entries.{gives-on}
 use Rattle.properties_format.proofs.ItemsToCome.Waiting.{waiting-no_end}
 use Rattle.properties_text.specs.Encoding.{encoding_of}
-use Rattle.properties_text.specs.Decoding.{TellsBom}
+use Rattle.properties_text.specs.Decoding.{FindsByteOrderMark}
 use Rattle.properties_text.specs.declared.encoding.byte_order_mark.ByteOrderMark.{ByteOrderMark}
 use Rattle.properties_text.specs.declared.encoding.byte_order_mark.ByteOrderMark.TheVariants.{Present, Absent, Undecided}
 use Rattle.properties_lines.specs.LineSearch.{unit_size, IsSearched}
-use Rattle.properties_lines.specs.Scanner.{is_decided, after_cr, standing, front_of, without_feed, Fits, Comes, IsAlike, Settles, PassesFeed, feed_size, is_undecided}
+use Rattle.properties_lines.specs.Scanner.{is_decided, after_cr, scanner_state, front_of, without_feed, Fits, Comes, IsAlike, Settles, SkipsFeed, feed_size, is_undecided}
 use Rattle.properties_lines.specs.declared.scanner.Front.TheVariants.{Mark, Feed, Nothing}
 use Rattle.properties_lines.specs.declared.scanner.Scanner.{Scanner}
 use Rattle.properties_lines.proofs.LineSearch.{nothing_searched, searched-grown, length-ascii_bytes, half-unit}
@@ -45,17 +45,17 @@ searched-none e bytes count h = subst (IsSearched e bytes) (sym h) (nothing_sear
 
 -- ---- bytes are let go
 
-abbrev pub let_go : Scanner → ℕ → Scanner
-let_go s count = record s { at = s.at - count; line = record s.line { start = 0; end = 0 } }
+abbrev pub release : Scanner → ℕ → Scanner
+release s count = record s { at = s.at - count; line = record s.line { start = 0; end = 0 } }
 
-rest-let_go : (s : Scanner) (held : List ℕ) (count : ℕ) → count ≤ s.at → drop (s.at - count) (drop count held) ≡ drop s.at held
-rest-let_go s held count h = let at : count + (s.at - count) ≡ s.at = omega (arith, h) in drop-drop (s.at - count) count held ∙ ap (λ n. drop n held) at
+rest-release : (s : Scanner) (held : List ℕ) (count : ℕ) → count ≤ s.at → drop (s.at - count) (drop count held) ≡ drop s.at held
+rest-release s held count h = let at : count + (s.at - count) ≡ s.at = omega (arith, h) in drop-drop (s.at - count) count held ∙ ap (λ n. drop n held) at
 
 -- with those that are left the scanner may be called
-pub fits-let_go : (s : Scanner) (held : List ℕ) (count : ℕ) → count ≤ s.at → Fits s held → Fits (let_go s count) (drop count held)
-fits-let_go s held count h k = record {
+pub fits-release : (s : Scanner) (held : List ℕ) (count : ℕ) → count ≤ s.at → Fits s held → Fits (release s count) (drop count held)
+fits-release s held count h k = record {
   within = omega (arith, h, k.within, length-drop count held);
-  searched = subst (λ v. IsSearched (encoding_of s.encoding) v s.searched) (sym (rest-let_go s held count h)) k.searched;
+  searched = subst (λ v. IsSearched (encoding_of s.encoding) v s.searched) (sym (rest-release s held count h)) k.searched;
   fresh = k.fresh;
   line = (omega arith, omega arith);
 }
@@ -148,17 +148,17 @@ comes-last s t h k = record {
 -- ---- a byte order mark
 
 pub awaits-mark : (s : Scanner) (held : List ℕ) → s.is_done ≡ false → s.front ≡ Mark → awaits_bom (drop s.at held) ≡ true
-    → natural_to_come (standing s held) [] more ≡ []
+    → natural_to_come (scanner_state s held) [] more ≡ []
 awaits-mark s held g d k =
-    let t = standing s held in
+    let t = scanner_state s held in
     (gives-decided_last t more (ap is_decided d)).natural ∙ (natural-more (after_decided t) (waiting-no_end t g k)).0
 
-pub mark-undecided : (held : List ℕ) (mark : ByteOrderMark) → TellsBom held mark → is_undecided mark ≡ true → awaits_bom held ≡ true
+pub mark-undecided : (held : List ℕ) (mark : ByteOrderMark) → FindsByteOrderMark held mark → is_undecided mark ≡ true → awaits_bom held ≡ true
 mark-undecided held (Present e n) h k = absurd (cc)
 mark-undecided held Absent h k = absurd (cc)
 mark-undecided held Undecided h k = h.1
 
-pub mark-decided : (held : List ℕ) (mark : ByteOrderMark) → TellsBom held mark → is_undecided mark ≡ false → awaits_bom held ≡ false
+pub mark-decided : (held : List ℕ) (mark : ByteOrderMark) → FindsByteOrderMark held mark → is_undecided mark ≡ false → awaits_bom held ≡ false
 mark-decided held (Present e n) h k = h.1
 mark-decided held Absent h k = h.1
 mark-decided held Undecided h k = absurd (cc)
@@ -171,10 +171,10 @@ front-undecided s h = rw h refl
 
 -- it is passed
 pub decides : (old new : Scanner) (held : List ℕ) (ended : Bool) → Fits old held → old.front ≡ Mark → (ended ≡ false → awaits_bom (drop old.at held) ≡ false)
-    → standing new held ≡ after_decided (standing old held) → new.at ≤ length held → new ≡ record old { encoding = new.encoding; front = Nothing; at = new.at }
+    → scanner_state new held ≡ after_decided (scanner_state old held) → new.at ≤ length held → new ≡ record old { encoding = new.encoding; front = Nothing; at = new.at }
     → IsAlike old held ended new
 decides old new held ended h d waits is le same =
-    let s = standing old held in
+    let s = scanner_state old held in
     let P : ReaderState → Type 0 = λ v. Comes ended s [] v in
     let undecided : s.is_decided ≡ false = ap is_decided d in
     let fresh : old.searched ≡ 0 = h.fresh (λ w. absurd (cc (d, w))) in
@@ -204,9 +204,9 @@ short-none utf_16le d h = half-unit utf_16le d refl h
 short-none utf_16be d h = half-unit utf_16be d refl h
 
 awaits-unit : (s : Scanner) (held : List ℕ) → s.is_done ≡ false → s.front ≡ Feed → length (drop s.at held) < unit_size (encoding_of s.encoding)
-    → natural_to_come (standing s held) [] more ≡ []
+    → natural_to_come (scanner_state s held) [] more ≡ []
 awaits-unit s held g a short =
-    let t = standing s held in
+    let t = scanner_state s held in
     (natural-more t (record { going = g; decided = ap is_decided a; none = short-none t.encoding t.held short })).0
 
 without-feed : (e : Encoding) (d : List ℕ) → without_feed e d ≡ drop (feed_size e d) d
@@ -223,7 +223,7 @@ passes-feed : (old : Scanner) (held : List ℕ) (ended : Bool) → Fits old held
     → (ended ≡ false → unit_size (encoding_of old.encoding) ≤ length (drop old.at held))
     → IsAlike old held ended (record old { front = Nothing; at = old.at + feed_size (encoding_of old.encoding) (drop old.at held) })
 passes-feed old held ended h a k =
-    let s = standing old held in
+    let s = scanner_state old held in
     let count = feed_size s.encoding s.held in
     let decided : s.is_decided ≡ true = ap is_decided a in
     let after : s.after_cr ≡ true = ap after_cr a in
@@ -245,7 +245,7 @@ passes-feed old held ended h a k =
 
 -- unless more bytes decide whether it comes
 pub settles-feed : (old new : Scanner) (held : List ℕ) (ended passed : Bool) → Fits old held → old.is_done ≡ false → old.front ≡ Feed
-    → PassesFeed (record old { front = Nothing }) held ended passed new → Settles old held ended passed new
+    → SkipsFeed (record old { front = Nothing }) held ended passed new → Settles old held ended passed new
 settles-feed old new held ended true h g a k =
     let P : Scanner → Type 0 = λ v. IsAlike old held ended v in
     subst P (sym k.1) (passes-feed old held ended h a k.0)

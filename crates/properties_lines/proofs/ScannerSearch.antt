@@ -29,7 +29,8 @@ use Rattle.properties_text.specs.Encoding.{encoding_of}
 use Rattle.properties_text.specs.Escaping.{holds_backslash}
 use Rattle.properties_text.proofs.Blocks.{ascii-before}
 use Rattle.properties_lines.specs.LineSearch.{unit_size, IsFirstLineEnd, end_character}
-use Rattle.properties_lines.specs.Scanner.{standing, IsTold, EndsWhole, bytes_of, line_of, IsReady, IsFresh, IsBefore, FindsByte, TakesLine, PassesFeed, feed_size, Searches, is_decided, after_cr}
+use Rattle.properties_lines.specs.Scanner.{scanner_state, HasRightFlags, EndsWhole, bytes_of, line_of, IsReady, IsFresh, IsBefore, FindsByte, TakesLine, SkipsFeed, feed_size, Searches, is_decided}
+use Rattle.properties_lines.specs.Scanner.{after_cr}
 use Rattle.properties_lines.specs.declared.search.LineEnd.{LineEnd}
 use Rattle.properties_lines.specs.declared.scanner.Front.{Front}
 use Rattle.properties_lines.specs.declared.scanner.Front.TheVariants.{Feed, Nothing}
@@ -113,7 +114,7 @@ take-reads t l after (of_last_cr few) h = decided-left t (next_line t l ∷ []) 
 -- it stands before what comes after the LF that belongs to a CR
 record EndsAs (e : Encoding) (after : List ℕ) (r : Tail e after) : Type 0 where
   pub by : text.LineEnding
-  pub stands : ascii_bytes e (end_character (is_cr_of r)) ++ after ≡ line_ending_bytes e by ++ drop (feed_at r) after
+  pub division : ascii_bytes e (end_character (is_cr_of r)) ++ after ≡ line_ending_bytes e by ++ drop (feed_at r) after
   pub whole : EndsWhole e (Some by) (drop (feed_at r) after)
   pub within : feed_at r ≤ length after
 
@@ -130,18 +131,18 @@ short-feed utf_16be (a ∷ []) h = refl
 short-feed utf_16be (a ∷ b ∷ d) h = absurd (omega arith)
 
 ends-as : (e : Encoding) (after : List ℕ) (r : Tail e after) → EndsAs e after r
-ends-as e after of_lf = record { by = text.lf; stands = refl; whole = tt; within = omega arith }
-ends-as e after (of_cr k le) = record { by = text.cr; stands = refl; whole = k; within = omega arith }
+ends-as e after of_lf = record { by = text.lf; division = refl; whole = tt; within = omega arith }
+ends-as e after (of_cr k le) = record { by = text.cr; division = refl; whole = k; within = omega arith }
 ends-as e after (of_crlf k) =
     let rest = drop (unit_size e) after in
     let first = feed-first e after k in
     record {
       by = text.crlf;
-      stands = ap (λ v. ascii_bytes e carriage_return ++ v) first ∙ sym (append_assoc (ascii_bytes e carriage_return) (ascii_bytes e line_feed) rest);
+      division = ap (λ v. ascii_bytes e carriage_return ++ v) first ∙ sym (append_assoc (ascii_bytes e carriage_return) (ascii_bytes e line_feed) rest);
       whole = tt;
       within = omega (arith, ap length first, length-append (ascii_bytes e line_feed) rest, length-ascii_bytes e line_feed);
     }
-ends-as e after (of_last_cr few) = record { by = text.cr; stands = refl; whole = short-feed e after few; within = omega arith }
+ends-as e after (of_last_cr few) = record { by = text.cr; division = refl; whole = short-feed e after few; within = omega arith }
 
 front-decided : {e : Encoding} {after : List ℕ} (r : Tail e after) → is_decided (front_at r) ≡ true
 front-decided of_lf = refl
@@ -180,7 +181,7 @@ takes-line : (s : Scanner) (held : List ℕ) (n unit : ℕ) (is_ascii has_backsl
     → let after = drop (s.at + n + unit) held in
     (r : Tail (encoding_of s.encoding) after) → IsReady s held
     → IsFirstLineEnd (encoding_of s.encoding) (drop s.at held) (record { at = n; is_cr = is_cr_of r }) → unit ≡ unit_size (encoding_of s.encoding)
-    → IsTold (encoding_of s.encoding) (take n (drop s.at held)) (line_at s n is_ascii has_backslash)
+    → HasRightFlags (encoding_of s.encoding) (take n (drop s.at held)) (line_at s n is_ascii has_backslash)
     → TakesLine s held (taken s (front_at r) (s.at + n + unit + feed_at r) (line_at s n is_ascii has_backslash))
 takes-line s held n unit is_ascii has_backslash r ready found size told =
     let e = encoding_of s.encoding in
@@ -191,19 +192,19 @@ takes-line s held n unit is_ascii has_backslash r ready found size told =
     let line = line_at s n is_ascii has_backslash in
     let feed = feed_at r in
     let new = taken s (front_at r) (from + feed) line in
-    let t = standing s held in
+    let t = scanner_state s held in
     let ending = ends-as e after r in
     let c = end_character (is_cr_of r) in
     let long : length bytes ≡ length held - s.at = length-drop s.at held in
     let place : s.at + (n + unit_size e) ≡ from = omega (arith, size) in
     let rest : after ≡ found.rest =
     ap (λ m. drop m held) (sym place) ∙ sym (drop-drop (n + unit_size e) s.at held)
-    ∙ after-end e bytes found.rest n c (omega (arith, found.within)) found.stands in
+    ∙ after-end e bytes found.rest n c (omega (arith, found.within)) found.division in
     let holds : HoldsLine t l c after = record {
       going = ready.live;
       decided = ap is_decided ready.settled;
       passed = ap after_cr ready.settled;
-      held = found.stands ∙ ap (λ v. l ++ (ascii_bytes e c ++ v)) (sym rest);
+      held = found.division ∙ ap (λ v. l ++ (ascii_bytes e c ++ v)) (sym rest);
       ends = is-end (is_cr_of r);
       aligned = found.aligned;
       none = found.none_before;
@@ -215,7 +216,7 @@ takes-line s held n unit is_ascii has_backslash r ready found size told =
     let R : List ℕ → Type 0 = λ v. ReadsLines t [] (record { number = s.passed + 1; text = decoded_line e v } ∷ []) (left t (front_at r) (drop feed after)) in
     let S : List ℕ → Type 0 = λ v. ReadsLines t [] (line_of held new ∷ []) (left t (front_at r) v) in
     let Ends : List ℕ → Type 0 = λ v. EndsWhole e (Some ending.by) v in
-    let Tells : List ℕ → Type 0 = λ v. IsTold e v line in
+    let Tells : List ℕ → Type 0 = λ v. HasRightFlags e v line in
     let room : length after ≡ length held - from = length-drop from held in
     let within : from + feed ≤ length held = omega (arith, room, ending.within, found.within, size, long, ready.fits.within) in
     record {
@@ -223,7 +224,7 @@ takes-line s held n unit is_ascii has_backslash r ready found size told =
       cut = record {
         ending = Some ending.by;
         ordered = (omega arith, omega arith, within);
-        stands = found.stands ∙ ap (λ v. l ++ (ascii_bytes e c ++ v)) (sym rest) ∙ ap (λ v. l ++ v) ending.stands
+        division = found.division ∙ ap (λ v. l ++ (ascii_bytes e c ++ v)) (sym rest) ∙ ap (λ v. l ++ v) ending.division
             ∙ ap₂ (λ v w. v ++ (line_ending_bytes e ending.by ++ w)) (sym whole) left-is;
         aligned = inr (subst (IsAligned e) (sym whole) found.aligned);
         none = subst (HoldsNoLineEndUnit e) (sym whole) found.none_before;
@@ -240,7 +241,7 @@ takes-line s held n unit is_ascii has_backslash r ready found size told =
         fresh = λ w. refl;
         line = (omega arith, omega (arith, within));
       };
-      told = subst Tells (sym whole) told;
+      flags = subst Tells (sym whole) told;
     }
 
 -- the scanner after a line and its line end
@@ -266,7 +267,7 @@ takes s held end unit feed front is_ascii has_backslash h r cr at-front at-feed 
     let line = line_at s end.at is_ascii has_backslash in
     let First : Bool → Type 0 = λ v. IsFirstLineEnd e (drop s.at held) (record { at = end.at; is_cr = v }) in
     let Ascii : ℕ → Type 0 = λ m. (is_ascii ≡ true) ↔ (m ≡ 1) × IsAscii (take end.at (drop s.at held)) in
-    let told : IsTold e (take end.at (drop s.at held)) line = record { ascii = subst Ascii h.size h.ascii; backslash = h.backslash } in
+    let told : HasRightFlags e (take end.at (drop s.at held)) line = record { ascii = subst Ascii h.size h.ascii; backslash = h.backslash } in
     let done = takes-line s held end.at unit is_ascii has_backslash r h.ready (subst First cr h.found) h.size told in
     let P : Front → ℕ → ℕ → Type 0 = λ f m n. TakesLine s held (record s { front = f; passed = s.passed + 1; at = s.at + end.at + unit + m; searched = n; line = line }) in
     let fed : P (front_at r) feed 0 = subst (λ m. P (front_at r) m 0) (sym at-feed) done in
@@ -283,7 +284,7 @@ takes-lf s held end unit is_ascii has_backslash h lf =
 
 -- or a CR, with the LF after it
 pub takes-cr : (s new : Scanner) (held : List ℕ) (end : LineEnd) (unit : ℕ) (is_ascii has_backslash passed : Bool) → IsTaken s held end unit is_ascii has_backslash
-    → end.is_cr ≡ true → PassesFeed (after_line_end s end.at unit is_ascii has_backslash) held false passed new → TakesLine s held new
+    → end.is_cr ≡ true → SkipsFeed (after_line_end s end.at unit is_ascii has_backslash) held false passed new → TakesLine s held new
 takes-cr s new held end unit is_ascii has_backslash true h cr k =
     let e = encoding_of s.encoding in
     let after = drop (s.at + end.at + unit) held in
@@ -316,9 +317,9 @@ found-end e bytes n size within clear ends =
     found-byte e bytes 0 n size (nothing_searched e bytes) (record { low = omega arith; high = within; before = clear-nowhere bytes n within clear }) ends
 
 -- and the bytes before it are told
-pub told-ascii : (bytes : List ℕ) (n unit : ℕ) (is_ascii : Bool) → unit ≡ 1 → (is_ascii ≡ true) ↔ All (λ b. b < 0x80) (take n bytes)
+pub flags-ascii : (bytes : List ℕ) (n unit : ℕ) (is_ascii : Bool) → unit ≡ 1 → (is_ascii ≡ true) ↔ All (λ b. b < 0x80) (take n bytes)
     → (is_ascii ≡ true) ↔ (unit ≡ 1) × IsAscii (take n bytes)
-told-ascii bytes n unit is_ascii size h = (λ t. (size, IsAscii-from_all (take n bytes) (h.0 t)), λ k. h.1 (All-from_ascii (take n bytes) k.1))
+flags-ascii bytes n unit is_ascii size h = (λ t. (size, IsAscii-from_all (take n bytes) (h.0 t)), λ k. h.1 (All-from_ascii (take n bytes) k.1))
 
 -- ---- sixteen bytes at once
 
@@ -405,7 +406,7 @@ searches-on s new held at true h = record {
   decided = h.decided;
   short = h.short;
   fits = h.fits;
-  told = h.told;
+  flags = h.flags;
 }
 searches-on s new held at false h = record { none = h.none; same = h.same }
 
@@ -428,11 +429,11 @@ holds-escape bytes from at low within escaped =
     sym (one-holds (take at bytes) from (omega (arith, low, length-take-le at bytes within)) (eq-eqb (get_or (take at bytes) from 0) backslash here))
 
 -- up to the line end after it
-pub told-escaped : (bytes : List ℕ) (from : ℕ) (found : Result (ℕ × Bool) ℕ) → FindsByte is_line_end bytes found → IfOk found (λ end. from ≤ end.0)
+pub flags-escaped : (bytes : List ℕ) (from : ℕ) (found : Result (ℕ × Bool) ℕ) → FindsByte is_line_end bytes found → IfOk found (λ end. from ≤ end.0)
     → get_or bytes from 0 ≡ backslash → IfOk found (λ end. true ≡ holds_backslash (take end.0 bytes))
-told-escaped bytes from (Ok end) h le escaped =
+flags-escaped bytes from (Ok end) h le escaped =
     holds-escape bytes from end.0 (past-escape bytes from end.0 le escaped h.2) (omega (arith, h.1)) escaped
-told-escaped bytes from (Err searched) h le escaped = tt
+flags-escaped bytes from (Err searched) h le escaped = tt
 
 -- ---- before the first byte that ends a plain text
 

@@ -11,7 +11,7 @@ use Rattle.properties_format.specs.Reading.ReaderSteps.{HoldsNoEnd}
 use Rattle.properties_format.proofs.ItemsToCome.Lines.{natural-more}
 use Rattle.properties_text.specs.Encoding.{encoding_of}
 use Rattle.properties_lines.specs.LineSearch.{unit_size, whole_units}
-use Rattle.properties_lines.specs.Scanner.{is_decided, standing, bytes_of, Fits, Comes, IsCutOff, IsTold, GivesLine, AsksForMore, IsAlike, IsReady, TakesLine, LacksEnd, TakesLast}
+use Rattle.properties_lines.specs.Scanner.{is_decided, scanner_state, bytes_of, Fits, Comes, IsCutOff, HasRightFlags, GivesLine, AsksForMore, IsAlike, IsReady, TakesLine, LacksEnd, TakesLast}
 use Rattle.properties_lines.specs.declared.scanner.Front.{Front}
 use Rattle.properties_lines.specs.declared.scanner.Front.TheVariants.{Mark, Feed, Nothing}
 use Rattle.properties_lines.specs.declared.scanner.RawLine.{RawLine}
@@ -56,7 +56,7 @@ gives-ended_line old mid new held ended g n h m =
       decided = m.decided;
       going = inl (done, cut.1);
       fits = m.fits;
-      told = subst (λ v. IsTold v (bytes_of held new.line) new.line) same m.told;
+      flags = subst (λ v. HasRightFlags v (bytes_of held new.line) new.line) same m.flags;
     }
 
 -- ---- the last line
@@ -83,21 +83,21 @@ ready-searched old mid new held ended g n h k =
     let P : Scanner → Type 0 = λ v. IsReady v held in
     subst P (sym k.same) (searched-ready mid held before k.none)
 
-no-end : {old mid new : Scanner} {held : List ℕ} {ended : Bool} → old.is_done ≡ false → IsAlike old held ended mid → LacksEnd mid held new → HoldsNoEnd (standing mid held)
+no-end : {old mid new : Scanner} {held : List ℕ} {ended : Bool} → old.is_done ≡ false → IsAlike old held ended mid → LacksEnd mid held new → HoldsNoEnd (scanner_state mid held)
 no-end g h k = record { going = goes-on h g; decided = ap is_decided (settled h); none = k.none }
 
 abbrev after_last : Scanner → List ℕ → RawLine → Scanner
 after_last s held line = record s { is_done = true; passed = s.passed + 1; at = length held; searched = 0; line = line }
 
-last-of : (old mid : Scanner) (held : List ℕ) (line : RawLine) → old.is_done ≡ false → old.passed + 1 < 2 ^ 64 → IsAlike old held true mid → HoldsNoEnd (standing mid held)
-    → line.start ≡ mid.at → line.end ≡ length held → IsTold (encoding_of mid.encoding) (drop mid.at held) line → GivesLine old held true (after_last mid held line)
+last-of : (old mid : Scanner) (held : List ℕ) (line : RawLine) → old.is_done ≡ false → old.passed + 1 < 2 ^ 64 → IsAlike old held true mid → HoldsNoEnd (scanner_state mid held)
+    → line.start ≡ mid.at → line.end ≡ length held → HasRightFlags (encoding_of mid.encoding) (drop mid.at held) line → GivesLine old held true (after_last mid held line)
 last-of old mid held line g n h holds starts ends told =
     let e = encoding_of mid.encoding in
     let new = after_last mid held line in
     let text : bytes_of held line ≡ drop mid.at held = ap₂ (λ m n. take (m - n) (drop n held)) ends starts ∙ take_rest held mid.at in
     let nothing : drop (length held) held ≡ [] = drop_all (length held) held (omega arith) in
-    let all = comes-then h.comes (comes-last (standing mid held) (standing new held) holds refl) in
-    let P : List ℕ → Type 0 = λ v. Comes true (standing old held) (record { number = mid.passed + 1; text = decoded_line e v } ∷ []) (standing new held) in
+    let all = comes-then h.comes (comes-last (scanner_state mid held) (scanner_state new held) holds refl) in
+    let P : List ℕ → Type 0 = λ v. Comes true (scanner_state old held) (record { number = mid.passed + 1; text = decoded_line e v } ∷ []) (scanner_state new held) in
     record {
       live = g;
       number = ap (λ m. m + 1) (as-many h);
@@ -106,7 +106,7 @@ last-of old mid held line g n h holds starts ends told =
       cut = record {
         ending = None;
         ordered = (omega (arith, starts, ends, h.fits.within), omega (arith, ends), omega arith);
-        stands = ap (λ n. drop n held) starts ∙ sym text ∙ sym (append-nil (bytes_of held line)) ∙ ap (λ v. bytes_of held line ++ v) (sym nothing);
+        division = ap (λ n. drop n held) starts ∙ sym text ∙ sym (append-nil (bytes_of held line)) ∙ ap (λ v. bytes_of held line ++ v) (sym nothing);
         aligned = inl refl;
         none = subst (HoldsNoLineEndUnit e) (sym text) holds.none;
         whole = nothing;
@@ -121,7 +121,7 @@ last-of old mid held line g n h holds starts ends told =
         fresh = λ w. refl;
         line = (omega (arith, starts, ends, h.fits.within), omega (arith, ends));
       };
-      told = subst (λ v. IsTold e v line) (sym text) told;
+      flags = subst (λ v. HasRightFlags e v line) (sym text) told;
     }
 
 pub gives-last_line : (old mid s new : Scanner) (held : List ℕ) → old.is_done ≡ false → old.passed + 1 < 2 ^ 64 → IsAlike old held true mid → LacksEnd mid held s → TakesLast s held new
@@ -129,7 +129,7 @@ pub gives-last_line : (old mid s new : Scanner) (held : List ℕ) → old.is_don
 gives-last_line old mid s new held g n h k m =
     let line = new.line in
     let at : s.at ≡ mid.at = ap (λ v. let w : Scanner = v in w.at) k.same in
-    let told = subst (λ v. let w : Scanner = v in IsTold (encoding_of w.encoding) (drop w.at held) line) k.same m.told in
+    let told = subst (λ v. let w : Scanner = v in HasRightFlags (encoding_of w.encoding) (drop w.at held) line) k.same m.flags in
     let core = last-of old mid held line g n h (no-end g h k) (m.starts ∙ at) m.ends told in
     let same : new ≡ after_last mid held line = m.same ∙ ap (λ v. after_last v held line) k.same in
     let P : Scanner → Type 0 = λ v. GivesLine old held true v in
@@ -137,12 +137,12 @@ gives-last_line old mid s new held g n h k m =
 
 -- ---- more bytes are asked for
 
-more-of : (old mid : Scanner) (held : List ℕ) → Fits old held → old.is_done ≡ false → old.passed + 1 < 2 ^ 64 → IsAlike old held false mid → HoldsNoEnd (standing mid held)
+more-of : (old mid : Scanner) (held : List ℕ) → Fits old held → old.is_done ≡ false → old.passed + 1 < 2 ^ 64 → IsAlike old held false mid → HoldsNoEnd (scanner_state mid held)
     → AsksForMore old held (all_searched mid held)
 more-of old mid held f g n h holds = record {
   live = g;
   numbered = n;
-  none = (h.comes.gives [] more tt).natural ∙ (natural-more (standing mid held) holds).0;
+  none = (h.comes.gives [] more tt).natural ∙ (natural-more (scanner_state mid held) holds).0;
   alike = reads-comes h.comes;
   passed = as-many h;
   done = ap (λ v. let w : Scanner = v in w.is_done) h.same;

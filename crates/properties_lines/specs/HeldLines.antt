@@ -18,7 +18,7 @@ abbrev pub held_line : Encoding → List ℕ → RawLine → Option text.LineEnd
 held_line e body line ending = record { bytes = bytes_of body line; text = decoded_line e (bytes_of body line); ending = ending }
 
 -- The scanner is past the byte order mark, and no LF comes next that belongs to the line ending before it.
-pub record StandsInBody (s : Scanner) (body : List ℕ) : Type 0 where
+pub record IsInBody (s : Scanner) (body : List ℕ) : Type 0 where
   pub fits : Fits s body
   pub decided : s.front ≢ Mark
   pub alone : s.front ≡ Feed → begins_with_lf (units (encoding_of s.encoding) (drop s.at body)) ≡ false

@@ -3,6 +3,7 @@ use Rattle.std.specs.Prelude.{◌≡◌, ◌⊎◌, ◌++◌, ℕ, Bool, true, f
 use Rattle.std.specs.Str.{chars, IsUtf8}
 use Rattle.std.specs.declared.io.Error.{Error}
 use Rattle.counted_io.specs.Streams.{Reader, HasRead, HasFailed}
+use Rattle.properties_format.specs.Encoding.{windows_1252}
 use Rattle.properties_format.specs.Lines as format
 use Rattle.properties_format.specs.Lines.{InputEnd, end, fault, more}
 use Rattle.properties_format.specs.Groups.{is_open, joined, joined_after, AreOpen, EndsClosed, IsWhole, IsUnfinished}
@@ -15,19 +16,23 @@ use Rattle.properties_format.specs.Reading.ReaderSteps.{ReadsLogical}
 use Rattle.properties_text.specs.Escaping.{holds_backslash}
 use Rattle.properties_lines.specs.LineReader as finder
 use Rattle.properties_lines.specs.LineReader.{Finder, Passes, PassesSome, PassesAll}
-use Rattle.properties_lines.specs.LogicalLine.{text_with}
+use Rattle.properties_lines.specs.LogicalLine.{text_with, is_continued, IsNotContinued}
 use Rattle.properties_lines.specs.declared.logical.LogicalLine.{LogicalLine}
 use Rattle.properties_lines.specs.declared.error.LineError.TheVariants as why
 use Rattle.properties_lines.specs.declared.error.LineError.{LineError}
+use Rattle.properties_lines.specs.declared.joiner.NextLine.{NextLine}
+use Rattle.properties_lines.specs.declared.joiner.NextLine.TheVariants as next
 
 -- its state, and the text of the line that was joined last, in UTF-8
 pub record Joiner : Type 0 where
   pub state : ReaderState
   pub line : List ℕ
 
--- the joiner, whether the line may contain a backslash, and the error that is kept
+-- the joiner, the bytes of the natural line that was found last, whether the line that was joined last may contain a
+-- backslash, and the error that is kept
 pub record Joining : Type 0 where
   pub at : Joiner
+  pub natural : List ℕ
   pub has_backslash : Bool
   pub error : Option LineError
 
@@ -198,16 +203,20 @@ pub record JoinsGroup (old : ReaderState) (bytes : List ℕ) (line : format.Line
   pub text : line.text ≡ joined (first ∷ others)
   pub ends : IsWhole (first ∷ others) ⊎ (new.is_done ≡ true) × IsUnfinished (first ∷ others)
 
--- A logical line was returned.
-pub record JoinsNext {R : Type 0} (reader : Reader R) (old : ReaderState) (from : R) (number : ℕ) (new : Joiner) (to : R) : Type 0 where
+-- This logical line was read.
+pub record JoinsLine {R : Type 0} (reader : Reader R) (old : ReaderState) (from : R) (line : format.Line) (new : ReaderState) (to : R) : Type 0 where
   pub bytes : List ℕ
   pub read : HasRead reader from bytes to
   pub live : old.is_done ≡ false
-  pub comes : Comes old bytes (numbered_line number new) new.state
-  pub group : JoinsGroup old bytes (numbered_line number new) new.state
-  pub passes : new.state.is_done ≡ false → PassesSome old bytes new.state
-  pub ended : new.state.is_done ≡ true → reader.at_end to ≡ true
+  pub comes : Comes old bytes line new
+  pub group : JoinsGroup old bytes line new
+  pub passes : new.is_done ≡ false → PassesSome old bytes new
+  pub ended : new.is_done ≡ true → reader.at_end to ≡ true
   pub lazy : IsLazyItems old from bytes to
+
+-- A logical line was returned.
+abbrev pub JoinsNext : {R : Type 0} → Reader R → ReaderState → R → ℕ → Joiner → R → Type 0
+JoinsNext reader old from number new to = JoinsLine reader old from (numbered_line number new) new.state to
 
 -- No line was returned, and the reading ended permanently. The error is kept until it is returned.
 pub record StopsJoining {R : Type 0} (reader : Reader R) (old : Joining) (from : R) (new : Joining) (to : R) : Type 0 where
@@ -225,11 +234,51 @@ Joins reader old from (Some number) new to =
     JoinsNext reader old.at.state from number new.at to × (new.has_backslash ≡ false → holds_backslash (chars new.at.line) ≡ false)
     × (new.error ≡ None)
 
+-- ---- lines that aren't decoded
+
+-- The natural line that was found is one of windows-1252, and a logical line by itself.
+abbrev pub IsUndecoded : Finder → Type 0
+IsUndecoded found = (found.state.encoding ≡ windows_1252) × IsNotContinued (line_text found)
+
+-- A natural line of windows-1252 was found that is a logical line by itself, and it wasn't decoded.
+pub record JoinsAlone {R : Type 0} (reader : Reader R) (old : Joining) (from : R) (number : ℕ) (new : Joining) (to : R) : Type 0 where
+  pub joins : JoinsLine reader old.at.state from (record { number = number; text = decoded_line windows_1252 new.natural }) new.at.state to
+  pub encoding : new.at.state.encoding ≡ windows_1252
+  pub alone : IsNotContinued (decoded_line windows_1252 new.natural)
+  pub backslash : new.has_backslash ≡ holds_backslash new.natural
+  pub plain : new.has_backslash ≡ false → holds_backslash (decoded_line windows_1252 new.natural) ≡ false
+  pub error : new.error ≡ None
+
+-- A text was returned. A natural line of windows-1252 that is a logical line by itself is no such text: if the encoding
+-- is windows-1252, the first natural line is continued.
+pub record JoinsText {R : Type 0} (reader : Reader R) (old : Joining) (from : R) (number : ℕ) (new : Joining) (to : R) : Type 0 where
+  pub joins : JoinsNext reader old.at.state from number new.at to
+  pub exactly : new.at.state.encoding ≡ windows_1252 → is_continued joins.group.first.text ≡ true
+  pub plain : new.has_backslash ≡ false → holds_backslash (chars new.at.line) ≡ false
+  pub error : new.error ≡ None
+
+-- The effect of advancing to the next logical line, which isn't decoded if it is a natural line of windows-1252. After
+-- the permanent end, nothing is read.
+abbrev pub JoinsUndecoded : {R : Type 0} → Reader R → Joining → R → NextLine → Joining → R → Type 0
+JoinsUndecoded reader old from (next.Undecoded number) new to = JoinsAlone reader old from number new to
+JoinsUndecoded reader old from (next.Text number) new to = JoinsText reader old from number new to
+JoinsUndecoded reader old from next.None new to = Joins reader old from None new to
+
+-- This holds if there is a line.
+abbrev pub OnLine : NextLine → Type 0 → Type 0
+OnLine (next.Undecoded number) p = p
+OnLine (next.Text number) p = p
+OnLine next.None p = Unit {0}
+
 -- ---- the rest of a logical line
 
 -- the joiner of this reader and this line
 abbrev pub joiner_of : Finder → LogicalLine → Joiner
 joiner_of lines line = record { state = lines.state; line = text_with line lines.line }
+
+-- A natural line is continued in the next; or it is a logical line by itself, and nothing more was read.
+abbrev pub GoesOnOrEnds : format.Line → Finder → Finder → Type 0
+GoesOnOrEnds first old new = (is_continued first.text ≡ true) ⊎ IsNotContinued (line_text old) × (new.state ≡ old.state)
 
 -- The natural line that was found, with this number, is a logical line on its own or with the lines that were joined to
 -- it.
@@ -237,7 +286,8 @@ pub record ReadsWhole {R : Type 0} (reader : Reader R) (old : Finder) (from : R)
   pub number_is : number ≡ old.state.passed
   pub error : lines.error ≡ None
   pub text : line.is_kept ≡ false → IsUtf8 lines.line
-  pub comes : {S : ReaderState} {start : R} → finder.FindsNext reader S start number old from → JoinsNext reader S start number (joiner_of lines line) to
+  pub comes : {S : ReaderState} {start : R} → finder.FindsNext reader S start number old from
+      → (n : JoinsNext reader S start number (joiner_of lines line) to) × GoesOnOrEnds n.group.first old lines
   pub plain : holds_backslash old.line ≡ false → holds_backslash (chars (text_with line lines.line)) ≡ false
 
 -- It isn't, and the reading ended permanently.

@@ -10,7 +10,7 @@ use Rattle.properties_format.specs.Entries.{read_fault}
 use Rattle.properties_format.specs.ItemsToCome.{ReaderState}
 use Rattle.properties_format.specs.Reading.ItemsToCome.{natural_to_come, last_to_come}
 use Rattle.properties_format.specs.Reading.ReaderSteps.{Gives, ReadsLines}
-use Rattle.properties_lines.specs.Scanner.{IsTold, Comes}
+use Rattle.properties_lines.specs.Scanner.{HasRightFlags, Comes}
 use Rattle.properties_lines.specs.declared.error.LineError.TheVariants as why
 use Rattle.properties_lines.specs.declared.error.LineError.{LineError}
 use Rattle.properties_lines.specs.declared.reader.Read.{Read}
@@ -30,8 +30,8 @@ pub record Finder : Type 0 where
   pub error : Option LineError
 
 -- What is known of that line is true.
-abbrev pub IsToldOf : Finder → Type 0
-IsToldOf f = (start end : ℕ) → IsTold f.state.encoding f.line (record { start = start; end = end; is_ascii = f.is_ascii; has_backslash = f.has_backslash })
+abbrev pub HasRightLineFlags : Finder → Type 0
+HasRightLineFlags f = (start end : ℕ) → HasRightFlags f.state.encoding f.line (record { start = start; end = end; is_ascii = f.is_ascii; has_backslash = f.has_backslash })
 
 -- an upper bound for the number of lines to come: the line numbers that are left
 abbrev pub lines_left : ReaderState → ℕ
@@ -76,8 +76,8 @@ pub record HasNoRoom {R : Type 0} (reader : Reader R) (old : ReaderState) (from 
 -- ---- one read
 
 -- The line that was found last is released or kept.
-abbrev pub LetsGo : Finder → Finder → Type 0
-LetsGo old new = (new.line ≡ old.line) ⊎ (new.line ≡ [])
+abbrev pub ReleasesOrKeeps : Finder → Finder → Type 0
+ReleasesOrKeeps old new = (new.line ≡ old.line) ⊎ (new.line ≡ [])
 
 -- These bytes were read, and are held after the others.
 pub record ReadsBytes {R : Type 0} (reader : Reader R) (old : Finder) (from : R) (bytes : List ℕ) (new : Finder) (to : R) : Type 0 where
@@ -85,13 +85,13 @@ pub record ReadsBytes {R : Type 0} (reader : Reader R) (old : Finder) (from : R)
   pub state : new.state ≡ record old.state { held = old.state.held ++ bytes }
   pub waiting : new.waiting ≡ old.waiting + length bytes
   pub error : new.error ≡ old.error
-  pub line : LetsGo old new
+  pub line : ReleasesOrKeeps old new
 
 -- The reading ended permanently, with this error.
 pub record HasFailedFor (old : Finder) (e : LineError) (new : Finder) : Type 0 where
   pub done : new.state.is_done ≡ true
   pub error : new.error ≡ Some e
-  pub line : LetsGo old new
+  pub line : ReleasesOrKeeps old new
 
 -- why a read returned nothing: it failed in the line that is held so far, or memory for it ran out
 abbrev pub IsReadError : {R : Type 0} → Reader R → Finder → R → LineError → R → Type 0
@@ -173,7 +173,7 @@ pub record FindsNone {R : Type 0} (reader : Reader R) (old : Finder) (from : R) 
 
 -- The effect of finding the next line. After the permanent end, nothing is read.
 abbrev pub Finds : {R : Type 0} → Reader R → Finder → R → Bool → Finder → R → Type 0
-Finds reader old from true new to = FindsNext reader old.state from new.state.passed new to × IsToldOf new × (new.error ≡ None)
+Finds reader old from true new to = FindsNext reader old.state from new.state.passed new to × HasRightLineFlags new × (new.error ≡ None)
 Finds reader old from false new to = (old.state.is_done ≡ true) × (new ≡ old) × (to ≡ from) ⊎ FindsNone reader old from new to
 
 -- ---- searching the bytes that are held
@@ -185,7 +185,7 @@ pub record HoldsLine (old : Finder) (ended : Bool) (new : Finder) : Type 0 where
   pub comes : Comes ended old.state (found_line new.state.passed new ∷ []) new.state
   pub going : (new.state.is_done ≡ false) ⊎ (new.state.is_done ≡ true) × (ended ≡ true)
   pub fits : new.state.passed < 2 ^ 64
-  pub told : IsToldOf new
+  pub flags : HasRightLineFlags new
   pub error : new.error ≡ None
 
 -- No line is held with its end.

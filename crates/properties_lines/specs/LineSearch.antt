@@ -31,7 +31,7 @@ end_character false = line_feed
 -- The line ending is at its place in the bytes. Before it are whole units, none of which is a CR or an LF.
 pub record IsFirstLineEnd (e : Encoding) (bytes : List ℕ) (end : LineEnd) : Type 0 where
   pub rest : List ℕ
-  pub stands : bytes ≡ take end.at bytes ++ (ascii_bytes e (end_character end.is_cr) ++ rest)
+  pub division : bytes ≡ take end.at bytes ++ (ascii_bytes e (end_character end.is_cr) ++ rest)
   pub aligned : IsAligned e (take end.at bytes)
   pub none_before : HoldsNoLineEndUnit e (take end.at bytes)
   pub within : end.at + unit_size e ≤ length bytes

@@ -22,16 +22,20 @@ KeepsText e bytes false text = IsUtf8 bytes × (chars bytes ≡ decoded_line e b
 
 -- A text was joined to an unfinished line, and the result says whether it is open.
 abbrev pub AddsText : {E : Type 0} → List ℕ → List ℕ → Result Bool E → List ℕ → Type 0
-AddsText line old (Ok told) new = (told ≡ is_open line) × (new ≡ old ++ addition line)
+AddsText line old (Ok left_open) new = (left_open ≡ is_open line) × (new ≡ old ++ addition line)
 AddsText line old (Err error) new = Unit {0}
 
 -- A line was joined to an unfinished line, and the result says whether it is open.
 abbrev pub AddsLine : {E : Type 0} → Encoding → List ℕ → List ℕ → Result Bool E → List ℕ → Type 0
 AddsLine e bytes old answer new = AddsText (decoded_line e bytes) old answer new
 
+-- whether the next line is joined to this one
+abbrev pub is_continued : List ℕ → Bool
+is_continued text = if is_comment_line text then false else is_open text
+
 -- No line is joined to this one: it is a comment, or it isn't open.
-abbrev pub StandsAlone : List ℕ → Type 0
-StandsAlone text = (is_comment_line text ≡ true) ⊎ (is_open text ≡ false)
+abbrev pub IsNotContinued : List ℕ → Type 0
+IsNotContinued text = (is_comment_line text ≡ true) ⊎ (is_open text ≡ false)
 
 -- The text of a line is kept without the backslash that leaves it open.
 pub record OpensJoin (text : List ℕ) (new : LogicalLine) : Type 0 where
@@ -43,11 +47,11 @@ pub record OpensJoin (text : List ℕ) (new : LogicalLine) : Type 0 where
 -- The result says whether the line is left open. If so, the backslash that leaves it open was removed.
 abbrev pub Opens : {E : Type 0} → List ℕ → LogicalLine → Result Bool E → LogicalLine → Type 0
 Opens bytes old (Ok true) new = OpensJoin (chars (text_with old bytes)) new
-Opens bytes old (Ok false) new = StandsAlone (chars (text_with old bytes)) × (new ≡ old)
+Opens bytes old (Ok false) new = IsNotContinued (chars (text_with old bytes)) × (new ≡ old)
 Opens bytes old (Err error) new = Unit {0}
 
 -- The result says whether the line with these bytes is left open. If it isn't, its text is available.
 abbrev pub Begins : {E : Type 0} → Encoding → List ℕ → Result Bool E → LogicalLine → Type 0
 Begins e bytes (Ok true) new = OpensJoin (decoded_line e bytes) new
-Begins e bytes (Ok false) new = StandsAlone (decoded_line e bytes) × KeepsText e bytes new.is_kept new.text
+Begins e bytes (Ok false) new = IsNotContinued (decoded_line e bytes) × KeepsText e bytes new.is_kept new.text
 Begins e bytes (Err error) new = Unit {0}

@@ -42,8 +42,8 @@ after_cr Feed = true
 after_cr Nothing = false
 
 -- the reader state of a scanner with these bytes: a reader that holds those from the scanner's place on
-abbrev pub standing : Scanner → List ℕ → ReaderState
-standing s held = record {
+abbrev pub scanner_state : Scanner → List ℕ → ReaderState
+scanner_state s held = record {
   encoding = encoding_of s.encoding;
   is_decided = is_decided s.front;
   held = drop s.at held;
@@ -91,7 +91,7 @@ front_of s =
 
 -- What is known of a line: whether it consists of ASCII characters of one byte each, and whether one of its bytes is
 -- the byte of a backslash.
-pub record IsTold (e : Encoding) (bytes : List ℕ) (line : RawLine) : Type 0 where
+pub record HasRightFlags (e : Encoding) (bytes : List ℕ) (line : RawLine) : Type 0 where
   pub ascii : (line.is_ascii ≡ true) ↔ (unit_size e ≡ 1) × IsAscii bytes
   pub backslash : line.has_backslash ≡ holds_backslash bytes
 
@@ -112,7 +112,7 @@ EndsWhole e (Some text.cr) rest = begins_with_lf (units e rest) ≡ false
 pub record IsCutOff (e : Encoding) (held : List ℕ) (line : RawLine) (next : ℕ) : Type 0 where
   pub ending : Option text.LineEnding
   pub ordered : (line.start ≤ line.end) × (line.end ≤ next) × (next ≤ length held)
-  pub stands : drop line.start held ≡ bytes_of held line ++ (ending_bytes e ending ++ drop next held)
+  pub division : drop line.start held ≡ bytes_of held line ++ (ending_bytes e ending ++ drop next held)
   pub aligned : ending ≡ None ⊎ IsAligned e (bytes_of held line)
   pub none : HoldsNoLineEndUnit e (bytes_of held line)
   pub whole : EndsWhole e ending (drop next held)
@@ -128,14 +128,14 @@ pub record GivesLine (old : Scanner) (held : List ℕ) (ended : Bool) (new : Sca
   pub live : old.is_done ≡ false
   pub number : new.passed ≡ old.passed + 1
   pub numbered : old.passed + 1 < 2 ^ 64
-  pub comes : Comes ended (standing old held) (line_of held new ∷ []) (standing new held)
+  pub comes : Comes ended (scanner_state old held) (line_of held new ∷ []) (scanner_state new held)
   pub cut : IsCutOff (encoding_of new.encoding) held new.line new.at
-  pub front : front_of (standing old held) ≡ record { encoding = encoding_of new.encoding; body = drop new.line.start held }
+  pub front : front_of (scanner_state old held) ≡ record { encoding = encoding_of new.encoding; body = drop new.line.start held }
   pub short : new.front ≡ Feed → length (drop new.at held) < unit_size (encoding_of new.encoding)
   pub decided : is_decided new.front ≡ true
   pub going : (new.is_done ≡ false) × (cut.ending ≢ None) ⊎ (new.is_done ≡ true) × (cut.ending ≡ None) × (ended ≡ true)
   pub fits : Fits new held
-  pub told : IsTold (encoding_of new.encoding) (bytes_of held new.line) new.line
+  pub flags : HasRightFlags (encoding_of new.encoding) (bytes_of held new.line) new.line
 
 -- No line ending is held, so no line comes until more bytes do. What comes with them stays the same. The scanner keeps
 -- its place, unless it skipped what comes before the line. All bytes that are held were searched, unless something may
@@ -143,8 +143,8 @@ pub record GivesLine (old : Scanner) (held : List ℕ) (ended : Bool) (new : Sca
 pub record AsksForMore (old : Scanner) (held : List ℕ) (new : Scanner) : Type 0 where
   pub live : old.is_done ≡ false
   pub numbered : old.passed + 1 < 2 ^ 64
-  pub none : natural_to_come (standing old held) [] more ≡ []
-  pub alike : ReadsLines (standing old held) [] [] (standing new held)
+  pub none : natural_to_come (scanner_state old held) [] more ≡ []
+  pub alike : ReadsLines (scanner_state old held) [] [] (scanner_state new held)
   pub passed : new.passed ≡ old.passed
   pub done : new.is_done ≡ old.is_done
   pub line : new.line ≡ old.line
@@ -164,14 +164,14 @@ Scans old held ended TooMany new = (old.is_done ≡ false) × (old.passed + 1 �
 -- What may come before the line was skipped; or more bytes are needed to decide whether it is there, and no line ending
 -- is held.
 pub record IsAlike (old : Scanner) (held : List ℕ) (ended : Bool) (new : Scanner) : Type 0 where
-  pub comes : Comes ended (standing old held) [] (standing new held)
+  pub comes : Comes ended (scanner_state old held) [] (scanner_state new held)
   pub same : new ≡ record old { encoding = new.encoding; front = Nothing; at = new.at }
   pub fits : Fits new held
-  pub front : front_of (standing old held) ≡ record { encoding = encoding_of new.encoding; body = drop new.at held }
+  pub front : front_of (scanner_state old held) ≡ record { encoding = encoding_of new.encoding; body = drop new.at held }
 
 abbrev pub Settles : Scanner → List ℕ → Bool → Bool → Scanner → Type 0
 Settles old held ended true new = IsAlike old held ended new
-Settles old held ended false new = (ended ≡ false) × (new ≡ old) × (natural_to_come (standing old held) [] more ≡ []) × (old.front ≢ Nothing)
+Settles old held ended false new = (ended ≡ false) × (new ≡ old) × (natural_to_come (scanner_state old held) [] more ≡ []) × (old.front ≢ Nothing)
 
 -- the size of an LF at the front, or 0 if there is none
 abbrev pub feed_size : Encoding → List ℕ → ℕ
@@ -179,11 +179,11 @@ feed_size e d = if begins_with_lf (units e d) then unit_size e else 0
 
 -- An LF that belongs to the CR before it was skipped if it is there; or more bytes are needed to decide, and the
 -- scanner waits for them.
-abbrev pub PassesFeed : Scanner → List ℕ → Bool → Bool → Scanner → Type 0
-PassesFeed old held ended true new =
+abbrev pub SkipsFeed : Scanner → List ℕ → Bool → Bool → Scanner → Type 0
+SkipsFeed old held ended true new =
     (ended ≡ false → unit_size (encoding_of old.encoding) ≤ length (drop old.at held))
     × (new ≡ record old { at = old.at + feed_size (encoding_of old.encoding) (drop old.at held) })
-PassesFeed old held ended false new =
+SkipsFeed old held ended false new =
     (ended ≡ false) × (length (drop old.at held) < unit_size (encoding_of old.encoding)) × (new ≡ record old { front = Feed })
 
 -- ---- the search
@@ -202,7 +202,7 @@ pub record IsFresh (s : Scanner) : Type 0 where
 
 -- A line was taken up to its line ending.
 pub record TakesLine (old : Scanner) (held : List ℕ) (new : Scanner) : Type 0 where
-  pub comes : ReadsLines (standing old held) [] (line_of held new ∷ []) (standing new held)
+  pub comes : ReadsLines (scanner_state old held) [] (line_of held new ∷ []) (scanner_state new held)
   pub cut : IsCutOff (encoding_of old.encoding) held new.line new.at
   pub ended : cut.ending ≢ None
   pub starts : new.line.start ≡ old.at
@@ -210,7 +210,7 @@ pub record TakesLine (old : Scanner) (held : List ℕ) (new : Scanner) : Type 0 
   pub decided : is_decided new.front ≡ true
   pub short : new.front ≡ Feed → length (drop new.at held) < unit_size (encoding_of old.encoding)
   pub fits : Fits new held
-  pub told : IsTold (encoding_of old.encoding) (bytes_of held new.line) new.line
+  pub flags : HasRightFlags (encoding_of old.encoding) (bytes_of held new.line) new.line
 
 -- No line ending is held, and all whole units were searched.
 pub record LacksEnd (old : Scanner) (held : List ℕ) (new : Scanner) : Type 0 where
@@ -226,7 +226,7 @@ pub record TakesLast (old : Scanner) (held : List ℕ) (new : Scanner) : Type 0 
   pub same : new ≡ record old { is_done = true; passed = old.passed + 1; at = length held; searched = 0; line = new.line }
   pub starts : new.line.start ≡ old.at
   pub ends : new.line.end ≡ length held
-  pub told : IsTold (encoding_of old.encoding) (drop old.at held) new.line
+  pub flags : HasRightFlags (encoding_of old.encoding) (drop old.at held) new.line
 
 -- No byte before this place passes the test, and `is_ascii` says whether these bytes are ASCII.
 pub record IsBefore (test : ℕ → Bool) (bytes : List ℕ) (at : ℕ) (is_ascii : Bool) : Type 0 where

@@ -1,16 +1,17 @@
 // Joins natural lines into logical lines.
 
-ghost use Rattle.std.specs.Prelude.{◌≡◌, ◌<◌, ◌≤◌, ◌^◌, false, true, None, [], OnSome};
+ghost use Rattle.std.specs.Prelude.{◌≡◌, ◌↔◌, ◌<◌, ◌≤◌, ◌^◌, false, true, None, [], OnSome, length, take};
 ghost use Rattle.std.specs.Option.{is_some};
 ghost use Rattle.std.specs.Str.{IsUtf8, chars};
 ghost use Rattle.counted_io.specs.Streams.{IsSameReader};
 ghost use Rattle.properties_format.specs.ItemsToCome.{start};
 ghost use Rattle.properties_text.specs.Encoding.{encoding_of};
-ghost use Rattle.properties_lines.specs.LineReader.{lines_left, IsToldOf};
-ghost use Rattle.properties_lines.specs.LogicalLine.{text_with};
-ghost use Rattle.properties_lines.specs.LineJoiner.{Joining, Joins, JoinsOn, ReadsRest};
+ghost use Rattle.properties_lines.specs.LineReader.{lines_left, HasRightLineFlags};
+ghost use Rattle.properties_lines.specs.LogicalLine.{text_with, is_continued};
+ghost use Rattle.properties_lines.specs.LineJoiner.{Joining, Joins, JoinsOn, ReadsRest, JoinsUndecoded, IsUndecoded, OnLine};
 
 use crate::error::LineError;
+use crate::join::ends_open;
 use crate::logical::LogicalLine;
 use crate::reader::LineReader;
 use counted_io::CountedRead;
@@ -35,6 +36,7 @@ impl Model for LineJoiner {
 
     ghost view = { λ s. record {
       at = record { state = s.lines.state; line = text_with s.line s.lines.line };
+      natural = s.lines.line;
       has_backslash = s.has_backslash;
       error = s.lines.error;
     } };
@@ -74,6 +76,7 @@ impl LineJoiner {
     /// Ends the reading permanently.
     pub fn end(&mut self)
         ensures state { self.new.at ≡ record self.old.at { state = record self.old.at.state { is_done = true } } }
+        ensures natural { self.new.natural ≡ self.old.natural }
         ensures backslash { self.new.has_backslash ≡ self.old.has_backslash }
         ensures error { self.new.error ≡ self.old.error }
     {
@@ -101,12 +104,89 @@ impl LineJoiner {
             return None;
         }
         if self.lines.is_ascii() && !self.lines.has_backslash() {
-            self.line.lend();
+            self.line.borrow_text();
             self.has_backslash = false;
             return Some(self.lines.number());
         }
         self.has_backslash = self.lines.has_backslash();
         read_rest(&mut self.lines, &mut self.line, reader)
+    }
+
+    /// Advances to the next logical line, and decodes it unless it is a natural line of windows-1252 by itself. If it
+    /// returns `NextLine::None`, the reading has ended permanently.
+    ///
+    /// After an undecoded line, [`line`](LineJoiner::line) has no meaning.
+    #[inline(always)]
+    pub fn next_undecoded<R: CountedRead>(&mut self, reader: &mut R) -> NextLine
+        ensures joins { JoinsUndecoded R.CountedRead self.old reader.old result self.new reader.new }
+        ensures same_reader { IsSameReader R.CountedRead reader.old reader.new }
+        ensures nearer { OnLine result (lines_left self.new.at.state < lines_left self.old.at.state) }
+        ensures fits { self.old.at.state.passed < 2 ^ 64 }
+    {
+        if !self.lines.find_line(reader) {
+            return NextLine::None;
+        }
+        let has_backslash = self.lines.has_backslash();
+        self.has_backslash = has_backslash;
+        if is_whole(&self.lines) {
+            self.line.keep_none();
+            return NextLine::Undecoded(self.lines.number());
+        }
+        match read_rest(&mut self.lines, &mut self.line, reader) {
+            Some(number) => NextLine::Text(number),
+            None => NextLine::None,
+        }
+    }
+
+    /// Returns the bytes from the start of the natural line that was found last. They begin with that line, and further
+    /// bytes may come after it.
+    #[inline(always)]
+    pub fn undecoded(&self) -> &[u8]
+        ensures line { take (length self.now.natural) result.now ≡ self.now.natural }
+        ensures within { length self.now.natural ≤ length result.now }
+    {
+        self.lines.bytes_onward()
+    }
+
+    /// Returns the number of bytes in that line.
+    #[inline(always)]
+    pub fn undecoded_length(&self) -> usize
+        ensures { result ≡ length self.now.natural }
+    {
+        self.lines.length()
+    }
+}
+
+/// The next logical line.
+#[derive(Clone, Copy, Debug, PartialEq, Eq)]
+pub enum NextLine {
+    /// A natural line of windows-1252 with this number, which is a logical line by itself and isn't decoded. Its bytes
+    /// are the first [`undecoded_length`](LineJoiner::undecoded_length) of [`undecoded`](LineJoiner::undecoded).
+    Undecoded(usize),
+    /// A text that begins in the line with this number. [`line`](LineJoiner::line) returns it.
+    Text(usize),
+    /// There is none: the reading has ended permanently.
+    None,
+}
+
+// Returns whether the natural line that was found is one of windows-1252, and a logical line by itself.
+#[inline(always)]
+fn is_whole(lines: &LineReader) -> bool
+    requires { HasRightLineFlags lines.now }
+    ensures { (result ≡ true) ↔ IsUndecoded lines.now }
+{
+    matches!(lines.encoding(), Encoding::WINDOWS_1252)
+        && (!lines.has_backslash() || !is_open_line(lines.line()))
+}
+
+// Returns whether the next line is joined to the line with these bytes of windows-1252.
+#[inline(always)]
+fn is_open_line(bytes: &[u8]) -> bool
+    ensures { result ≡ is_continued bytes.now }
+{
+    match bytes.last() {
+        Some(b'\\') => ends_open(bytes),
+        _ => false,
     }
 }
 
@@ -117,7 +197,7 @@ fn read_rest<R: CountedRead>(
     line: &mut LogicalLine,
     reader: &mut R,
 ) -> Option<usize>
-    requires told { IsToldOf lines.old }
+    requires flags { HasRightLineFlags lines.old }
     requires error { lines.old.error ≡ None }
     ensures reads { ReadsRest R.CountedRead lines.old reader.old result lines.new line.new reader.new }
     ensures same_reader { IsSameReader R.CountedRead reader.old reader.new }

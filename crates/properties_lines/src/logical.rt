@@ -54,10 +54,18 @@ impl LogicalLine {
 
     /// Makes this a line whose bytes are its text.
     #[inline(always)]
-    pub fn lend(&mut self)
+    pub fn borrow_text(&mut self)
         ensures { self.new ≡ record self.old { is_kept = false } }
     {
         self.is_kept = false;
+    }
+
+    /// Makes this a line whose bytes aren't its text. The kept text is that of an earlier line.
+    #[inline(always)]
+    pub fn keep_none(&mut self)
+        ensures { self.new ≡ record self.old { is_kept = true } }
+    {
+        self.is_kept = true;
     }
 
     /// Makes this the line with these bytes, and returns whether the next line is joined to it.

@@ -1,6 +1,6 @@
 //! The natural lines of a reader, one after another, as undecoded bytes.
 
-ghost use Rattle.std.specs.Prelude.{◌≡◌, ◌+◌, ◌<◌, ◌^◌, None, Some, true, []};
+ghost use Rattle.std.specs.Prelude.{◌≡◌, ◌+◌, ◌<◌, ◌≤◌, ◌^◌, None, Some, true, [], length, take};
 ghost use Rattle.std.specs.Option.{is_some};
 ghost use Rattle.counted_io.specs.Streams.{IsSameReader};
 ghost use Rattle.properties_format.specs.ItemsToCome.{start};
@@ -39,13 +39,13 @@ pub struct LineReader {
 
 impl Model for LineReader {
     ghost use Rattle.std.specs.Prelude.{◌≡◌, ◌≢◌, ◌-◌, true, None, length};
-    ghost use Rattle.properties_lines.specs.Scanner.{standing, bytes_of, Fits};
+    ghost use Rattle.properties_lines.specs.Scanner.{scanner_state, bytes_of, Fits};
     ghost use Rattle.properties_lines.specs.LineReader.{Finder};
 
     ghost Value = { Finder };
 
     ghost view = { λ s. record {
-      state = standing s.scanner s.input.held;
+      state = scanner_state s.scanner s.input.held;
       line = bytes_of s.input.held s.scanner.line;
       is_ascii = s.scanner.line.is_ascii;
       has_backslash = s.scanner.line.has_backslash;
@@ -77,6 +77,24 @@ impl LineReader {
     {
         let line = self.scanner.line();
         &self.input.held()[line.start..line.end]
+    }
+
+    /// Returns the bytes that are held, from the start of that line on.
+    #[inline(always)]
+    pub fn bytes_onward(&self) -> &[u8]
+        ensures line { take (length self.now.line) result.now ≡ self.now.line }
+        ensures within { length self.now.line ≤ length result.now }
+    {
+        &self.input.held()[self.scanner.line().start..]
+    }
+
+    /// Returns the number of bytes in that line.
+    #[inline(always)]
+    pub fn length(&self) -> usize
+        ensures { result ≡ length self.now.line }
+    {
+        let line = self.scanner.line();
+        line.end - line.start
     }
 
     /// Returns whether that line consists of ASCII characters of one byte each.
@@ -213,7 +231,7 @@ impl LineReader {
             self.fail(LineError::Memory);
             return Read::Failed;
         };
-        self.scanner.let_go(gone);
+        self.scanner.release(gone);
         match self.input.fill(reader) {
             Ok(0) => Read::End,
             Ok(_) => Read::Bytes,

@@ -8,10 +8,10 @@ ghost use Rattle.properties_format.specs.Reading.Lines.{begins_with_lf};
 ghost use Rattle.properties_format.specs.ItemsToCome.{start};
 ghost use Rattle.properties_format.specs.Reading.ReaderSteps.{after_decided};
 ghost use Rattle.properties_text.specs.Encoding.{encoding_of};
-ghost use Rattle.properties_text.specs.Decoding.{TellsBom};
+ghost use Rattle.properties_text.specs.Decoding.{FindsByteOrderMark};
 ghost use Rattle.properties_text.specs.Escaping.{holds_backslash};
 ghost use Rattle.properties_lines.specs.LineSearch.{unit_size, IsFirstLineEnd};
-ghost use Rattle.properties_lines.specs.Scanner.{Fits, Scans, Settles, PassesFeed, IsReady, IsFresh, IsBefore, FindsByte, Searches, TakesLine, TakesLast, standing, is_undecided};
+ghost use Rattle.properties_lines.specs.Scanner.{Fits, Scans, Settles, SkipsFeed, IsReady, IsFresh, IsBefore, FindsByte, Searches, TakesLine, TakesLast, scanner_state, is_undecided};
 ghost use Rattle.properties_lines.specs.declared.scanner.Front.TheVariants.{Mark, Nothing};
 
 use crate::search::{LineEnd, find_line_end, unit_size, whole_units};
@@ -78,7 +78,7 @@ pub struct Scanner {
 impl Scanner {
     /// Starts at the beginning of an input, where a byte order mark may be.
     pub fn new(encoding: Encoding) -> Scanner
-        ensures stands { standing result [] ≡ start (encoding_of encoding) }
+        ensures state { scanner_state result [] ≡ start (encoding_of encoding) }
         ensures fits { Fits result [] }
         ensures place { result.at ≡ 0 }
         ensures line { (result.line.start ≡ 0) × (result.line.end ≡ 0) }
@@ -101,7 +101,7 @@ impl Scanner {
 
     /// Starts after the byte order mark of an input in this encoding.
     pub fn in_body(encoding: Encoding) -> Scanner
-        ensures stands { (held : List ℕ) → standing result held ≡ record (start (encoding_of encoding)) { is_decided = true; held = held } }
+        ensures state { (held : List ℕ) → scanner_state result held ≡ record (start (encoding_of encoding)) { is_decided = true; held = held } }
         ensures fits { (held : List ℕ) → Fits result held }
         ensures place { result.at ≡ 0 }
         ensures encoding { result.encoding ≡ encoding }
@@ -160,7 +160,7 @@ impl Scanner {
     }
 
     /// Records that the first `count` bytes of those that are held are released, and the last line with them.
-    pub fn let_go(&mut self, count: usize)
+    pub fn release(&mut self, count: usize)
         requires { count ≤ self.old.at }
         ensures { self.new ≡ record self.old { at = self.old.at - count; line = record self.old.line { start = 0; end = 0 } } }
     {
@@ -204,11 +204,11 @@ impl Scanner {
         if let Front::Nothing = self.front {
             return true;
         }
-        self.pass_front(held, ended)
+        self.skip_front(held, ended)
     }
 
     #[inline(never)]
-    fn pass_front(&mut self, held: &[u8], ended: bool) -> bool
+    fn skip_front(&mut self, held: &[u8], ended: bool) -> bool
         requires fits { Fits self.old held.now }
         requires live { self.old.is_done ≡ false }
         ensures { Settles self.old held.now ended result self.new }
@@ -218,7 +218,7 @@ impl Scanner {
             Front::Mark => self.decide(held, ended),
             Front::Feed => {
                 self.front = Front::Nothing;
-                self.pass_feed(held, unit_size(self.encoding), ended)
+                self.skip_feed(held, unit_size(self.encoding), ended)
             }
         }
     }
@@ -241,8 +241,8 @@ impl Scanner {
     fn take_mark(&mut self, held: &[u8], mark: ByteOrderMark)
         requires fits { Fits self.old held.now }
         requires front { self.old.front ≡ Mark }
-        requires tells { TellsBom (drop self.old.at held.now) mark }
-        ensures stands { standing self.new held.now ≡ after_decided (standing self.old held.now) }
+        requires tells { FindsByteOrderMark (drop self.old.at held.now) mark }
+        ensures state { scanner_state self.new held.now ≡ after_decided (scanner_state self.old held.now) }
         ensures within { self.new.at ≤ length held.now }
         ensures same { self.new ≡ record self.old { encoding = self.new.encoding; front = Nothing; at = self.new.at } }
     {
@@ -257,10 +257,10 @@ impl Scanner {
     // Skips the LF that belongs to the CR before it, if there is one. Returns `false` if more bytes are needed to
     // decide.
     #[inline(always)]
-    fn pass_feed(&mut self, held: &[u8], unit: usize, ended: bool) -> bool
+    fn skip_feed(&mut self, held: &[u8], unit: usize, ended: bool) -> bool
         requires within { self.old.at ≤ length held.now }
         requires unit { unit ≡ unit_size (encoding_of self.old.encoding) }
-        ensures { PassesFeed self.old held.now ended result self.new }
+        ensures { SkipsFeed self.old held.now ended result self.new }
     {
         let after = &held[self.at..];
         if after.len() < unit && !ended {
@@ -334,7 +334,7 @@ impl Scanner {
         requires ready { IsReady self.old held.now }
         requires fresh { IsFresh self.old }
         requires found { FindsByte is_line_end (drop self.old.at held.now) found }
-        requires told { IfOk found (λ end. has_backslash ≡ holds_backslash (take end.0 (drop self.old.at held.now))) }
+        requires flags { IfOk found (λ end. has_backslash ≡ holds_backslash (take end.0 (drop self.old.at held.now))) }
         ensures { Searches self.old held.now result self.new }
     {
         match found {
@@ -382,9 +382,9 @@ impl Scanner {
         ensures { TakesLine self.old held.now self.new }
     {
         let place = self.at + end.at;
-        self.pass_line(place, place + unit, is_ascii, has_backslash);
+        self.take_line(place, place + unit, is_ascii, has_backslash);
         if end.is_cr {
-            self.pass_feed(held, unit, false);
+            self.skip_feed(held, unit, false);
         }
     }
 
@@ -397,14 +397,14 @@ impl Scanner {
         let line = &held[self.at..];
         let end = held.len();
         let is_ascii = is_ascii(self.encoding, line);
-        self.pass_line(end, end, is_ascii, has_backslash(line));
+        self.take_line(end, end, is_ascii, has_backslash(line));
         self.searched = 0;
         self.is_done = true;
     }
 
     // Takes the line up to `end`. The scan continues at `next`.
     #[inline(always)]
-    fn pass_line(&mut self, end: usize, next: usize, is_ascii: bool, has_backslash: bool)
+    fn take_line(&mut self, end: usize, next: usize, is_ascii: bool, has_backslash: bool)
         requires { self.old.passed + 1 < 2 ^ 64 }
         ensures { self.new ≡ record self.old { passed = self.old.passed + 1; at = next; line = record { start = self.old.at; end = end; is_ascii = is_ascii; has_backslash = has_backslash } } }
     {

@@ -1,5 +1,5 @@
 // What is read, where no row of a table can say it.
 
+mod borrowed;
 mod lazy;
-mod lent;
 mod malformed;

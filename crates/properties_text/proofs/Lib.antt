@@ -13,4 +13,4 @@ pub mod UnitBlocks
 pub mod EncodedFronts
 pub mod Narrow
 pub mod NarrowFronts
-pub mod SpeltTexts
+pub mod UndecodedTexts

@@ -34,10 +34,10 @@ abbrev pub IsUnmarked : List ℕ → Type 0
 IsUnmarked b = (asked : format.Encoding) → format.byte_order_mark asked b ≡ record { encoding = asked; body = b }
 
 -- The result says whether the bytes begin with a byte order mark, or that more bytes are needed to decide.
-abbrev pub TellsBom : List ℕ → ByteOrderMark → Type 0
-TellsBom b (Present e n) = IsInForce b (encoding_of e) n × (awaits_bom b ≡ false) × (n ≤ length b)
-TellsBom b Absent = IsUnmarked b × (awaits_bom b ≡ false)
-TellsBom b Undecided = IsUnmarked b × (awaits_bom b ≡ true)
+abbrev pub FindsByteOrderMark : List ℕ → ByteOrderMark → Type 0
+FindsByteOrderMark b (Present e n) = IsInForce b (encoding_of e) n × (awaits_bom b ≡ false) × (n ≤ length b)
+FindsByteOrderMark b Absent = IsUnmarked b × (awaits_bom b ≡ false)
+FindsByteOrderMark b Undecided = IsUnmarked b × (awaits_bom b ≡ true)
 
 -- ---- The first piece.
 

@@ -21,10 +21,10 @@ holds_backslash [] = false
 holds_backslash (c ∷ cs) = c == backslash || holds_backslash cs
 
 -- whether the result is a borrowed text
-abbrev pub is_lent : {Z E : Type 0} → Result (CowStr Z) E → Bool
-is_lent (Ok (cow.Borrowed text)) = true
-is_lent (Ok (cow.Owned text)) = false
-is_lent (Err e) = false
+abbrev pub is_borrowed_result : {Z E : Type 0} → Result (CowStr Z) E → Bool
+is_borrowed_result (Ok (cow.Borrowed text)) = true
+is_borrowed_result (Ok (cow.Owned text)) = false
+is_borrowed_result (Err e) = false
 
 abbrev pub malformed_in : Malformed → format.Malformed
 malformed_in NotEnoughDigits = format.not_enough_digits

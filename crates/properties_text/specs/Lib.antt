@@ -4,4 +4,4 @@ pub mod Latin1
 pub mod Parsing
 pub mod Escaping
 pub mod Printing
-pub mod SpeltTexts
+pub mod UndecodedTexts

@@ -4,7 +4,7 @@ use Rattle.std.specs.Str.{chars}
 use Rattle.properties_format.specs.Printing as format
 use Rattle.properties_format.specs.Text.{tab, line_feed, form_feed, space, backslash}
 use Rattle.properties_format.specs.Encoding.{Encoding}
-use Rattle.properties_format.specs.Valued.{spelt_inside}
+use Rattle.properties_format.specs.Valued.{printed_inside}
 use Rattle.properties_text.specs.Encoding.{output_of}
 use Rattle.properties_text.specs.declared.encoding.encode.OutputEncoding.TheVariants.{Windows1252}
 use Rattle.properties_text.specs.declared.print.Repertoire.{Repertoire}
@@ -27,31 +27,31 @@ all_of_windows_1252 = record { encoding = Windows1252; ascii_only = false }
 
 -- the bytes of a character, of a text and of a key, in a repertoire
 abbrev pub character_bytes : Repertoire → Place → ℕ → List ℕ
-character_bytes r place c = format.encoded_text (output_of r.encoding) (format.spelt (output_of r.encoding) r.ascii_only (place_of place) c)
+character_bytes r place c = format.encoded_text (output_of r.encoding) (format.printed_character (output_of r.encoding) r.ascii_only (place_of place) c)
 
 abbrev pub text_bytes : Repertoire → Place → List ℕ → List ℕ
-text_bytes r place text = format.encoded_text (output_of r.encoding) (format.spelt_text (output_of r.encoding) r.ascii_only (place_of place) text)
+text_bytes r place text = format.encoded_text (output_of r.encoding) (format.printed_characters (output_of r.encoding) r.ascii_only (place_of place) text)
 
 abbrev pub key_bytes : Repertoire → Bool → List ℕ → List ℕ
-key_bytes r first key = format.encoded_text (output_of r.encoding) (format.spelt_key (output_of r.encoding) r.ascii_only first key)
+key_bytes r first key = format.encoded_text (output_of r.encoding) (format.printed_key (output_of r.encoding) r.ascii_only first key)
 
 -- the character held back inside a value that is set in place, or nothing if none is
 abbrev pub held_text : Encoding → Option ℕ → List ℕ
 held_text e None = []
-held_text e (Some c) = spelt_inside e c
+held_text e (Some c) = printed_inside e c
 
 -- ---- bytes of an output encoding
 
 -- a byte of a key or a value as it is printed: bytes above ASCII are copied
-abbrev pub spelt_byte : ℕ → List ℕ
-spelt_byte b =
+abbrev pub printed_byte : ℕ → List ℕ
+printed_byte b =
     if format.is_special b then backslash ∷ b ∷ []
     else (if format.has_letter b then format.letter_escape b else (if nat_lt b space then format.unicode_escape b else b ∷ []))
 
 -- several bytes, printed one by one
-abbrev pub spelt_bytes : List ℕ → List ℕ
-spelt_bytes [] = []
-spelt_bytes (b ∷ bs) = spelt_byte b ++ spelt_bytes bs
+abbrev pub printed_bytes : List ℕ → List ℕ
+printed_bytes [] = []
+printed_bytes (b ∷ bs) = printed_byte b ++ printed_bytes bs
 
 -- the number of backslashes before the last byte that is printed, or 2 if a longer escape is printed
 abbrev pub backslashes_before : ℕ → ℕ
@@ -72,8 +72,8 @@ with_backslashes (b ∷ bs) = (if format.is_special b then backslash ∷ b ∷ [
 pub record ArePrinted (bytes : List ℕ) (printed : Printed) (out : List ℕ) : Type 0 where
   pub read : printed.read ≤ length bytes
   pub written : printed.written ≤ 2 * printed.read
-  pub same : take printed.written out ≡ spelt_bytes (take printed.read bytes)
+  pub same : take printed.written out ≡ printed_bytes (take printed.read bytes)
 
 -- The text of these bytes, in a key or a value, can be printed byte by byte.
-abbrev pub Stands : Repertoire → List ℕ → Type 0
-Stands r bytes = text_bytes r KeyOrValue (chars bytes) ≡ spelt_bytes bytes
+abbrev pub PrintsByteByByte : Repertoire → List ℕ → Type 0
+PrintsByteByByte r bytes = text_bytes r KeyOrValue (chars bytes) ≡ printed_bytes bytes

@@ -9,7 +9,7 @@ ghost use Rattle.properties_format.specs.Text.{backslash};
 ghost use Rattle.properties_format.specs.Escapes.{letter_u, is_hexadecimal, hexadecimal_value, are_hexadecimal, code_unit, is_high, is_low, pair_character};
 ghost use Rattle.properties_format.specs.Groups.{ending_backslashes};
 ghost use Rattle.properties_text.specs.declared.escape.UnescapeError.TheVariants.{Memory};
-ghost use Rattle.properties_text.specs.Escaping.{holds_backslash, is_lent, Unescapes, Appends, Resolves, IsUnit, ReadsUnit, four_of, StartsWithFour};
+ghost use Rattle.properties_text.specs.Escaping.{holds_backslash, is_borrowed_result, Unescapes, Appends, Resolves, IsUnit, ReadsUnit, four_of, StartsWithFour};
 
 use byte_blocks::{Byte, find};
 use memchr::memchr;
@@ -62,7 +62,7 @@ impl From<AllocError> for UnescapeError {
 /// ```
 pub fn unescape(alloc: Global, s: &str) -> Result<CowStr<'_>, UnescapeError>
     ensures meaning { Unescapes (chars s.now) result }
-    ensures lent { is_lent result ≡ not (holds_backslash (chars s.now)) }
+    ensures borrowed { is_borrowed_result result ≡ not (holds_backslash (chars s.now)) }
 {
     let Some(first) = find_backslash(s.as_bytes()) else {
         return Ok(CowStr::Borrowed(s));

@@ -46,8 +46,9 @@ pub fn parse_spans(line: &str) -> Option<ParsedSpans>
     parse_bytes(line.as_bytes())
 }
 
-/// The same of a line that need not be text, in an encoding that has each character of ASCII as one byte, and no such
-/// byte elsewhere.
+/// Returns the positions of the parts of a line of bytes, or `None` if it is all blanks.
+///
+/// Any encoding will do that has each ASCII character as one byte and no such byte elsewhere.
 #[inline(always)]
 pub fn parse_bytes(line: &[u8]) -> Option<ParsedSpans>
     ensures slices { IsSplit line.now (spanned line.now result) }

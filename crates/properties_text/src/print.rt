@@ -4,12 +4,12 @@ ghost use Rattle.std.specs.Prelude.{◌≡◌, true, false, ◌++◌, ◌∷◌,
 ghost use Rattle.std.specs.Str.{chars};
 ghost use Rattle.properties_format.specs.Text.{backslash};
 ghost use Rattle.properties_format.specs.Encoding.{encoded};
-ghost use Rattle.properties_format.specs.Printing.{unicode_escape, literal, spelt, spelt_text, encoded_text, is_bom_like, with_first_escaped, spelt_key, in_key_or_value, in_comment};
-ghost use Rattle.properties_format.specs.Valued.{spelt_inside, spelt_first, spelt_last, spelt_rest, spelt_value};
+ghost use Rattle.properties_format.specs.Printing.{unicode_escape, literal, printed_character, printed_characters, encoded_text, is_bom_like, with_first_escaped, printed_key, in_key_or_value, in_comment};
+ghost use Rattle.properties_format.specs.Valued.{printed_inside, printed_first, printed_last, printed_rest, printed_value};
 ghost use Rattle.properties_text.specs.Encoding.{output_of};
 ghost use Rattle.properties_text.specs.declared.encoding.encode.OutputEncoding.TheVariants.{Windows1252};
 ghost use Rattle.properties_text.specs.declared.print.Place.TheVariants.{KeyOrValue};
-ghost use Rattle.properties_text.specs.Printing.{all_of_windows_1252, AppendsOnOk, character_bytes, text_bytes, key_bytes, spelt_byte, held_text};
+ghost use Rattle.properties_text.specs.Printing.{all_of_windows_1252, AppendsOnOk, character_bytes, text_bytes, key_bytes, printed_byte, held_text};
 
 use crate::characters::{is_comment_sign, is_separator};
 use crate::encoding::{OutputEncoding, byte_of, encode_run, is_ascii};
@@ -22,10 +22,10 @@ use std::alloc::AllocError;
 mod bytes;
 mod escapes;
 mod lacking;
-mod spelt;
+mod undecoded;
 
 pub use crate::line_buffer::LineBuffer;
-pub use spelt::{SpeltPair, print_spelt_pair};
+pub use undecoded::{UndecodedPair, print_undecoded_pair};
 
 // How many bytes are encoded at once.
 const RUN: usize = 128;
@@ -52,7 +52,7 @@ pub struct Repertoire {
 
 impl Repertoire {
     // Whether the character isn't ruled out by ASCII-only output.
-    fn lets_stand(self, character: char) -> bool
+    fn allows(self, character: char) -> bool
         ensures { result ≡ (not self.ascii_only || nat_lt character 0x80) }
     {
         !self.ascii_only || character.is_ascii()
@@ -244,7 +244,7 @@ pub fn print_value(
 ) -> Result<(), AllocError>
     requires { repertoire.ascii_only ≡ false }
     ensures { let e = output_of repertoire.encoding in
-        let value = spelt_value e after_blanks (chars text.now) in
+        let value = printed_value e after_blanks (chars text.now) in
         AppendsOnOk line.old (encoded_text e value) result line.new }
 {
     let mut characters = text.chars();
@@ -268,7 +268,7 @@ fn print_first_of_value(
 ) -> Result<(), AllocError>
     requires { repertoire.ascii_only ≡ false }
     ensures { let e = output_of repertoire.encoding in
-        let text = spelt_first e after_blanks first in
+        let text = printed_first e after_blanks first in
         AppendsOnOk line.old (encoded_text e text) result line.new }
 {
     if first == ' ' || (after_blanks && is_separator(first)) {
@@ -285,7 +285,7 @@ fn print_rest_of_value(
 ) -> Result<(), AllocError>
     requires { repertoire.ascii_only ≡ false }
     ensures { let e = output_of repertoire.encoding in
-        let text = spelt_rest e (chars rest.now) in
+        let text = printed_rest e (chars rest.now) in
         AppendsOnOk line.old (encoded_text e text) result line.new }
 {
     let mut held = None;
@@ -324,7 +324,7 @@ fn print_last_of_value(
 ) -> Result<(), AllocError>
     requires { repertoire.ascii_only ≡ false }
     ensures { let e = output_of repertoire.encoding in
-        AppendsOnOk line.old (encoded_text e (spelt_last e last)) result line.new }
+        AppendsOnOk line.old (encoded_text e (printed_last e last)) result line.new }
 {
     if last == ' ' {
         return print_escape(line, last);
@@ -340,7 +340,7 @@ fn print_in_value(
 ) -> Result<(), AllocError>
     requires { repertoire.ascii_only ≡ false }
     ensures { let e = output_of repertoire.encoding in
-        AppendsOnOk line.old (encoded_text e (spelt_inside e character)) result line.new }
+        AppendsOnOk line.old (encoded_text e (printed_inside e character)) result line.new }
 {
     if character == ' ' || is_separator(character) || is_comment_sign(character) {
         return print_literal(line, repertoire, character);
@@ -463,7 +463,7 @@ fn print_literal(
         let text = literal e repertoire.ascii_only character in
         AppendsOnOk line.old (encoded_text e text) result line.new }
 {
-    if repertoire.lets_stand(character) && print_encoded(line, repertoire.encoding, character)? {
+    if repertoire.allows(character) && print_encoded(line, repertoire.encoding, character)? {
         return Ok(());
     }
     print_escape(line, character)
@@ -475,7 +475,7 @@ fn print_encoded(
     encoding: OutputEncoding,
     character: char,
 ) -> Result<bool, AllocError>
-    ensures said { IfOk result (λ done. done ≡ is_some (encoded (output_of encoding) character)) }
+    ensures answer { IfOk result (λ done. done ≡ is_some (encoded (output_of encoding) character)) }
     ensures appended { let bytes = unwrap_or (encoded (output_of encoding) character) [] in
         AppendsOnOk line.old bytes result line.new }
 {
@@ -495,7 +495,7 @@ fn print_encoded(
 
 // Prints a byte of an encoded text. Bytes above ASCII are copied.
 fn print_byte(line: &mut LineBuffer, byte: u8) -> Result<(), AllocError>
-    ensures { AppendsOnOk line.old (spelt_byte byte) result line.new }
+    ensures { AppendsOnOk line.old (printed_byte byte) result line.new }
 {
     if byte < 0x80 {
         print_in_key_or_value(line, ASCII, char::from(byte))

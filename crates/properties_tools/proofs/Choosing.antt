@@ -8,7 +8,7 @@ use Rattle.std.specs.declared.string.String.{String}
 use Rattle.properties_format.specs.Encoding.{Encoding, windows_1252, utf_8, utf_16le, utf_16be}
 use Rattle.properties_format.specs.Names.{name_of}
 use Rattle.properties_tools.specs.Propedit.Asked.{Choice, in_encoding, from_file, edits_file, with_default, with_zero, choice_words, words_of_choices}
-use Rattle.properties_tools.specs.Propedit.Asked.{Kind, of_encoding, of_source, of_default, of_end, kind_of, AreApart, Choices, no_choices, with_choice, all_choices}
+use Rattle.properties_tools.specs.Propedit.Asked.{Kind, of_encoding, of_source, of_default, of_end, kind_of, AreDistinctOptions, Choices, no_choices, with_choice, all_choices}
 use Rattle.properties_tools.specs.Propedit.AskedParts.{IsFree, IsNextChoice, IsWithChoice, HasChosen, AreChosen, AreChosenAfter}
 
 -- ---- words
@@ -114,11 +114,11 @@ same-start (a ∷ done) (b ∷ all) rest others h none =
 -- ---- kinds
 
 -- The first of options that are apart are apart.
-apart-start : (done more : List Choice) → AreApart (done ++ more) → AreApart done
-apart-start done more apart i j d before within same =
+distinct-start : (done more : List Choice) → AreDistinctOptions (done ++ more) → AreDistinctOptions done
+distinct-start done more distinct i j d before within same =
     let far : j < length (done ++ more) = omega (arith, length-append done more) in
     let near : i < length done = omega arith in
-    apart i j d before far
+    distinct i j d before far
     (ap kind_of (get_or_append_left done more d i near) ∙ same ∙ sym (ap kind_of (get_or_append_left done more d j within)))
 
 -- where one option more leaves it free to choose
@@ -226,19 +226,19 @@ all-more (a ∷ done) choice free =
     ap (λ v. with_choice a v) (all-more done choice before.0) ∙ swapped a choice (all_choices done) before.1
 
 -- One option more of another kind is apart from the others, and one of the same kind isn't.
-apart-more : (done : List Choice) (choice : Choice) → AreApart done → IsFree (kind_of choice) (all_choices done) → AreApart (done ++ (choice ∷ []))
-apart-more done choice apart free = all_pairs_push (λ a b. kind_of a ≢ kind_of b) done choice apart (none-of (kind_of choice) done free)
+distinct-more : (done : List Choice) (choice : Choice) → AreDistinctOptions done → IsFree (kind_of choice) (all_choices done) → AreDistinctOptions (done ++ (choice ∷ []))
+distinct-more done choice distinct free = all_pairs_push (λ a b. kind_of a ≢ kind_of b) done choice distinct (none-of (kind_of choice) done free)
 
-free-apart : (done : List Choice) (choice : Choice) → AreApart (done ++ (choice ∷ [])) → IsFree (kind_of choice) (all_choices done)
-free-apart done choice apart = free-where (kind_of choice) done (λ k d within same.
-    apart k (length done) d within (omega (arith, length-append done (choice ∷ [])))
+free-distinct : (done : List Choice) (choice : Choice) → AreDistinctOptions (done ++ (choice ∷ [])) → IsFree (kind_of choice) (all_choices done)
+free-distinct done choice distinct = free-where (kind_of choice) done (λ k d within same.
+    distinct k (length done) d within (omega (arith, length-append done (choice ∷ [])))
     (ap kind_of (get_or_append_left done (choice ∷ []) d k within) ∙ same ∙ sym (ap kind_of (get_or-append_seam done choice [] d))))
 
 -- ---- the code's loop
 
 -- no options yet
 pub chosen-none : (words : List (List ℕ)) → HasChosen words no_choices words
-chosen-none words = record { done = []; apart = λ i j d before within same. absurd (omega arith); is = refl; chosen = refl }
+chosen-none words = record { done = []; distinct = λ i j d before within same. absurd (omega arith); is = refl; chosen = refl }
 
 -- one more
 pub chosen-more : (words rest others : List (List ℕ)) (choices more : Choices) (choice : Choice) → HasChosen words choices rest → rest ≡ choice_words choice ++ others
@@ -247,7 +247,7 @@ chosen-more words rest others choices more choice h next adds =
     let free = rw h.chosen at adds.0 in
     record {
       done = h.done ++ (choice ∷ []);
-      apart = apart-more h.done choice h.apart free;
+      distinct = distinct-more h.done choice h.distinct free;
       is = choice-more words rest others h.done choice h.is next;
       chosen = adds.1 ∙ ap (with_choice choice) h.chosen ∙ sym (all-more h.done choice free);
     }
@@ -255,11 +255,11 @@ chosen-more words rest others choices more choice h next adds =
 -- one of a kind that was chosen
 pub chosen-twice : (words rest others : List (List ℕ)) (choices : Choices) (choice : Choice) → HasChosen words choices rest → rest ≡ choice_words choice ++ others
     → IsWithChoice choices choice None → AreChosen words None
-chosen-twice words rest others choices choice h next taken all left is none apart =
+chosen-twice words rest others choices choice h next taken all left is none distinct =
     let found = choice-more words rest others h.done choice h.is next in
     let more = same-start (h.done ++ (choice ∷ [])) all others left (sym found ∙ is) none in
-    let both = apart-start (h.done ++ (choice ∷ [])) more.0 (rw more.1 at apart) in
-    taken (rw (← h.chosen) at (free-apart h.done choice both))
+    let both = distinct-start (h.done ++ (choice ∷ [])) more.0 (rw more.1 at distinct) in
+    taken (rw (← h.chosen) at (free-distinct h.done choice both))
 
 -- no other options
 pub chosen-alone : (words rest : List (List ℕ)) (choices : Choices) (all : List Choice) (others : List (List ℕ)) → HasChosen words choices rest → IsNextChoice rest None

@@ -2,7 +2,8 @@
 use Rattle.std.proofs.Common.{◌≡◌, ◌≢◌, ◌<◌, ℕ, List, [], ◌∷◌, length, map, get_or, refl, ap, sym, ◌∙◌, arith, inl, inr}
 use Rattle.std.specs.Prelude.{Option, Some, None, codes, string_bytes}
 use Rattle.std.specs.declared.string.String.{String}
-use Rattle.properties_tools.specs.Propedit.Asked.{Edit, put, remove, in_encoding, from_file, edits_file, with_default, with_zero, Choices, all_choices}
+use Rattle.properties_format.specs.Edits as format
+use Rattle.properties_tools.specs.Propedit.Asked.{Edit, set, remove, in_characters, in_encoding, from_file, edits_file, with_default, with_zero, Choices, all_choices}
 use Rattle.properties_tools.specs.Propedit.Asked.{Command, get, list, check, change, words_of, AreWordsOf, Suits, Request, help, version, work_request, AsksAfter, AsksSome, IsAsked, chosen_encoding}
 use Rattle.properties_tools.specs.Propedit.AskedParts.{IsNextChoice, AreChosen, IsQuestion, IsCommand, AreCommand, IsWorkAsked, AsksSomeWork, IsAskedAfter, AsksSomeAfter, AreEdits, IsPlain}
 use Rattle.properties_tools.proofs.Choosing.{chosen-alone, letter}
@@ -13,7 +14,13 @@ use Rattle.properties_tools.proofs.Choosing.{chosen-alone, letter}
 abbrev mark : List (List ℕ) → ℕ
 mark words = get_or (get_or words 0 []) 0 0
 
--- A command's first word doesn't begin with a dash.
+-- The first word of edits doesn't begin with a dash,
+edits-past_dash : (words : List (List ℕ)) (edits : List Edit) → words ≡ words_of edits → edits ≢ [] → 45 < mark words
+edits-past_dash words [] h some = absurd (some refl)
+edits-past_dash words (set k v ∷ edits) h some = let is : mark words ≡ 115 = ap mark h in omega arith
+edits-past_dash words (remove k ∷ edits) h some = let is : mark words ≡ 114 = ap mark h in omega arith
+
+-- and neither does that of another command.
 past-dash : (words : List (List ℕ)) (command : Command) → AreWordsOf words command → 45 < mark words
 past-dash words (get key default end) h = let is : mark words ≡ 103 = ap mark h in omega arith
 past-dash words (list prefix end) h = elim h [
@@ -21,9 +28,7 @@ past-dash words (list prefix end) h = elim h [
   | inr k ↦ let is : mark words ≡ 108 = ap mark k.0 in omega arith
 ]
 past-dash words check h = let is : mark words ≡ 99 = ap mark h in omega arith
-past-dash words (change []) h = absurd (h.1 refl)
-past-dash words (change (put k v ∷ edits)) h = let is : mark words ≡ 115 = ap mark h.0 in omega arith
-past-dash words (change (remove k ∷ edits)) h = let is : mark words ≡ 114 = ap mark h.0 in omega arith
+past-dash words (change edits) h = edits-past_dash words h.0.asked h.0.is (λ none. h.1 (h.0.made ∙ ap (map in_characters) none))
 
 -- Such words begin with no option,
 past-options : (words : List (List ℕ)) → 45 < mark words → IsNextChoice words None
@@ -66,7 +71,7 @@ after-options choices words (work_request w) h = elim h [
 -- what the words after the options ask for
 pub asked-whole : (words rest : List (List ℕ)) (choices : Choices) (o : Option Request) → AreChosen words (Some (choices, rest)) → IsAskedAfter choices rest o → IsAsked words o
 asked-whole words rest choices (Some request) chosen h =
-    record { choices = chosen.0.done; apart = chosen.0.apart; words = rest; is = chosen.0.is; asks = rw chosen.0.chosen at h }
+    record { choices = chosen.0.done; distinct = chosen.0.distinct; words = rest; is = chosen.0.is; asks = rw chosen.0.chosen at h }
 asked-whole words rest choices None chosen h = λ request asks.
     let same = chosen-alone words rest choices asks.choices asks.words chosen.0 chosen.1 asks.is (after-options (all_choices asks.choices) asks.words request asks.asks) in
     let there : AsksAfter choices asks.words request = rw same.0 at asks.asks in
@@ -75,12 +80,12 @@ asked-whole words rest choices None chosen h = λ request asks.
 pub asks-whole : (words rest : List (List ℕ)) (choices : Choices) → AreChosen words (Some (choices, rest)) → AsksSomeAfter choices rest → AsksSome words
 asks-whole words rest choices chosen h = record {
   work = h.0;
-  asked = record { choices = chosen.0.done; apart = chosen.0.apart; words = rest; is = chosen.0.is; asks = rw chosen.0.chosen at h.1 };
+  asked = record { choices = chosen.0.done; distinct = chosen.0.distinct; words = rest; is = chosen.0.is; asks = rw chosen.0.chosen at h.1 };
 }
 
 -- two options of one kind
 pub asked-twice : (words : List (List ℕ)) → AreChosen words None → IsAsked words None
-asked-twice words none request asks = none asks.choices asks.words asks.is (after-options (all_choices asks.choices) asks.words request asks.asks) asks.apart
+asked-twice words none request asks = none asks.choices asks.words asks.is (after-options (all_choices asks.choices) asks.words request asks.asks) asks.distinct
 
 -- ---- the word after the options
 
@@ -150,7 +155,7 @@ asks-others choices words h = (h.0, inl h.1)
 -- ---- commands
 
 -- neither a question nor edits
-pub no-command : (choices : Choices) (words : List (List ℕ)) → IsQuestion choices words None → ((edits : List Edit) → AreWordsOf words (change edits) → Suits choices (change edits) → ⊥)
+pub no-command : (choices : Choices) (words : List (List ℕ)) → IsQuestion choices words None → ((edits : List format.Edit) → AreWordsOf words (change edits) → Suits choices (change edits) → ⊥)
     → IsCommand choices words None
 no-command choices words none other command h suits =
     let edits = none command h suits in
@@ -168,6 +173,15 @@ work-of choices words h = (
   },
 )
 
+-- where none are made, none are asked for
+none-made : (asked : List Edit) → map in_characters asked ≡ [] → asked ≡ []
+none-made [] h = refl
+none-made (edit ∷ asked) h = absurd (cc)
+
 -- edits that are asked for
 pub command-of-edits : (choices : Choices) (words : List (List ℕ)) → words ≢ [] → IsPlain choices → AreEdits words → AreCommand choices words
-command-of-edits choices words some plain h = (change h.0, (h.1, λ none. some (h.1 ∙ ap words_of none)), plain)
+command-of-edits choices words some plain h = (
+  change (map in_characters h.0),
+  (record { asked = h.0; is = h.1; made = refl }, λ none. some (h.1 ∙ ap words_of (none-made h.0 none))),
+  plain,
+)

@@ -3,20 +3,20 @@ use Rattle.std.proofs.Common.{◌≡◌, ℕ, List, [], ◌∷◌, ◌++◌, ref
 use Rattle.std.specs.Prelude.{Option, Some, None, codes}
 use Rattle.std.specs.Fmt.{decimal}
 use Rattle.properties_format.specs.Text.{line_feed}
-use Rattle.properties_tools.specs.Messages.{said_line}
+use Rattle.properties_tools.specs.Messages.{printed_line}
 use Rattle.properties_tools.specs.Propedit.Failures.{number_of, place_of, message, IsReasonOf, IsMessageLine}
 use Rattle.properties_tools.specs.declared.propedit.error.Failure.{Failure}
 
 -- a line without a number, as it is printed
-pub plain-line : (place reason line : List ℕ) → line ≡ codes "propedit: " ++ (place ++ (codes ": " ++ (reason ++ (line_feed ∷ [])))) → line ≡ said_line (message place None reason)
+pub plain-line : (place reason line : List ℕ) → line ≡ codes "propedit: " ++ (place ++ (codes ": " ++ (reason ++ (line_feed ∷ [])))) → line ≡ printed_line (message place None reason)
 plain-line place reason line is = is ∙ simp append_assoc refl
 
 module _ (name : List ℕ) (failure : Failure) {place : List ℕ} (reason line : List ℕ) (is_place : place ≡ place_of name failure) (is_reason : IsReasonOf failure reason) where
-  message-line : (number : Option ℕ) → number ≡ number_of failure → line ≡ said_line (message place number reason) → IsMessageLine name failure line
+  message-line : (number : Option ℕ) → number ≡ number_of failure → line ≡ printed_line (message place number reason) → IsMessageLine name failure line
   message-line number is_number is = (
     message (place_of name failure) (number_of failure) reason,
     record { reason = reason; is_reason = is_reason; is = refl },
-    is ∙ ap (λ p. said_line (message p number reason)) is_place ∙ ap (λ n. said_line (message (place_of name failure) n reason)) is_number,
+    is ∙ ap (λ p. printed_line (message p number reason)) is_place ∙ ap (λ n. printed_line (message (place_of name failure) n reason)) is_number,
   )
 
   -- a line with a number, as it is printed

@@ -17,8 +17,8 @@ use Rattle.properties_format.proofs.Encodings.WellFormed.{IsUtf8-from_well_forme
 use Rattle.properties_format.proofs.Lines.Meets.{lines_of-meets}
 use Rattle.properties_format.proofs.Lines.Only.{lines_of-only}
 use Rattle.properties_text.specs.Encoding.{encoding_of}
-use Rattle.properties_lines.specs.HeldLines.{StandsInBody, held_line, lines_left}
-use Rattle.properties_lines.specs.Scanner.{standing, is_decided, after_cr, bytes_of, Fits, GivesLine, IsTold}
+use Rattle.properties_lines.specs.HeldLines.{IsInBody, held_line, lines_left}
+use Rattle.properties_lines.specs.Scanner.{scanner_state, is_decided, after_cr, bytes_of, Fits, GivesLine, HasRightFlags}
 use Rattle.properties_lines.specs.declared.scanner.Front.TheVariants.{Mark, Feed}
 use Rattle.properties_lines.specs.declared.scanner.RawLine.{RawLine}
 use Rattle.properties_lines.specs.declared.scanner.Scanner.{Scanner}
@@ -92,13 +92,13 @@ has-ill_formed body numbers same =
 -- before it and those that are left are at most one more than the bytes of the body.
 pub record HasFound (body : List ℕ) (s : Scanner) (numbers : List ℕ) : Type 0 where
   pub encoding : encoding_of s.encoding ≡ utf_8
-  pub stands : StandsInBody s body
+  pub within_body : IsInBody s body
   pub all : numbers ++ numbers_from s.passed (lines_left body s) ≡ numbers_from 0 (held_lines_of utf_8 body)
   pub few : s.passed + length (lines_left body s) ≤ length body + 1
 
 -- at the start
 pub found-none : (body : List ℕ) (s : Scanner) (numbers : List ℕ) → encoding_of s.encoding ≡ utf_8 → Fits s body → s.at ≡ 0
-    → standing s body ≡ record (start utf_8) { is_decided = true; held = body } → numbers ≡ [] → HasFound body s numbers
+    → scanner_state s body ≡ record (start utf_8) { is_decided = true; held = body } → numbers ≡ [] → HasFound body s numbers
 found-none body s numbers e fits at stands none =
     let decided : is_decided s.front ≡ true = ap (λ v. let w : ReaderState = v in w.is_decided) stands in
     let alone : after_cr s.front ≡ false = ap (λ v. let w : ReaderState = v in w.after_cr) stands in
@@ -106,7 +106,7 @@ found-none body s numbers e fits at stands none =
     let going : s.is_done ≡ false = ap (λ v. let w : ReaderState = v in w.is_done) stands in
     record {
       encoding = e;
-      stands = record {
+      within_body = record {
         fits = fits;
         decided = λ w. let x : is_decided Mark ≡ true = subst (λ v. is_decided v ≡ true) w decided in absurd (cc);
         alone = λ w. let x : after_cr Feed ≡ false = subst (λ v. after_cr v ≡ false) w alone in absurd (cc);
@@ -118,27 +118,27 @@ found-none body s numbers e fits at stands none =
 -- the line that came may be looked at
 pub found-line : (body : List ℕ) (s new : Scanner) (numbers : List ℕ) → HasFound body s numbers → GivesLine s body true new → IsFound body new.line
 found-line body s new numbers h g =
-    let e : encoding_of new.encoding ≡ utf_8 = (body-next s new body h.stands g).0 ∙ h.encoding in
-    record { ordered = g.fits.line.0; within = g.fits.line.1; told = subst (λ v. IsTold v (bytes_of body new.line) new.line) e g.told }
+    let e : encoding_of new.encoding ≡ utf_8 = (body-next s new body h.within_body g).0 ∙ h.encoding in
+    record { ordered = g.fits.line.0; within = g.fits.line.1; flags = subst (λ v. HasRightFlags v (bytes_of body new.line) new.line) e g.flags }
 
 -- a line that came is no longer left
 found-few : (body : List ℕ) (s new : Scanner) (numbers : List ℕ) → HasFound body s numbers → GivesLine s body true new
     → new.passed + length (lines_left body new) ≤ length body + 1
-found-few body s new numbers h g = omega (arith, h.few, g.number, ap length (body-lines_left s new body h.stands g))
+found-few body s new numbers h g = omega (arith, h.few, g.number, ap length (body-lines_left s new body h.within_body g))
 
 -- a line that is UTF-8 came
 found-well : (body : List ℕ) (s new : Scanner) (numbers : List ℕ) → HasFound body s numbers → GivesLine s body true new
     → is_utf8 (bytes_of body new.line) ≡ true → HasFound body new numbers
 found-well body s new numbers h g k =
-    let left = body-lines_left s new body h.stands g in
+    let left = body-lines_left s new body h.within_body g in
     let number : s.passed + 1 ≡ new.passed = sym g.number in
     let first : numbers_from s.passed (lines_left body s) ≡ numbers_from new.passed (lines_left body new) =
     ap (numbers_from s.passed) left
     ∙ numbers-pass s.passed (held_line (encoding_of s.encoding) body new.line g.cut.ending) (lines_left body new) k
     ∙ ap (λ n. numbers_from n (lines_left body new)) number in
     record {
-      encoding = (body-next s new body h.stands g).0 ∙ h.encoding;
-      stands = body-after s new body g;
+      encoding = (body-next s new body h.within_body g).0 ∙ h.encoding;
+      within_body = body-after s new body g;
       all = ap (λ v. numbers ++ v) (sym first) ∙ h.all;
       few = found-few body s new numbers h g;
     }
@@ -147,15 +147,15 @@ found-well body s new numbers h g k =
 found-ill : (body : List ℕ) (s new : Scanner) (numbers numbers' : List ℕ) → HasFound body s numbers → GivesLine s body true new
     → is_utf8 (bytes_of body new.line) ≡ false → numbers' ≡ numbers ++ (new.passed ∷ []) → HasFound body new numbers'
 found-ill body s new numbers numbers' h g k pushed =
-    let left = body-lines_left s new body h.stands g in
+    let left = body-lines_left s new body h.within_body g in
     let number : s.passed + 1 ≡ new.passed = sym g.number in
     let first : numbers_from s.passed (lines_left body s) ≡ new.passed ∷ numbers_from new.passed (lines_left body new) =
     ap (numbers_from s.passed) left
     ∙ numbers-take s.passed (held_line (encoding_of s.encoding) body new.line g.cut.ending) (lines_left body new) k
     ∙ ap (λ n. n ∷ numbers_from n (lines_left body new)) number in
     record {
-      encoding = (body-next s new body h.stands g).0 ∙ h.encoding;
-      stands = body-after s new body g;
+      encoding = (body-next s new body h.within_body g).0 ∙ h.encoding;
+      within_body = body-after s new body g;
       all =
           ap (λ v. v ++ numbers_from new.passed (lines_left body new)) pushed
           ∙ append_assoc numbers (new.passed ∷ []) (numbers_from new.passed (lines_left body new))
@@ -175,7 +175,7 @@ found-next body s new numbers numbers' h g kept = elim (cases_Bool (is_utf8 (byt
 -- one line fewer is left
 pub found-fewer : (body : List ℕ) (s new : Scanner) (numbers : List ℕ) → HasFound body s numbers → GivesLine s body true new
     → length (lines_left body new) < length (lines_left body s)
-found-fewer body s new numbers h g = omega (arith, ap length (body-lines_left s new body h.stands g))
+found-fewer body s new numbers h g = omega (arith, ap length (body-lines_left s new body h.within_body g))
 
 -- a slice has a number for each of its lines
 pub found-numbered : (body : List ℕ) (s : Scanner) (numbers : List ℕ) → HasFound body s numbers → length body + 2 < 2 ^ 64 → s.passed + 1 ≡ 2 ^ 64 → ⊥
@@ -190,14 +190,14 @@ found-all body s numbers h done =
 -- ---- a line
 
 -- ASCII is UTF-8
-pub told-ascii : {body : List ℕ} (line : RawLine) → IsFound body line → line.is_ascii ≡ true → is_utf8 (bytes_of body line) ≡ true
-told-ascii {body} line h k = is_utf8-from_IsUtf8 (bytes_of body line) (IsUtf8-from_ascii (bytes_of body line) (h.told.ascii.0 k).1)
+pub flags-ascii : {body : List ℕ} (line : RawLine) → IsFound body line → line.is_ascii ≡ true → is_utf8 (bytes_of body line) ≡ true
+flags-ascii {body} line h k = is_utf8-from_IsUtf8 (bytes_of body line) (IsUtf8-from_ascii (bytes_of body line) (h.flags.ascii.0 k).1)
 
 -- whether a conversion succeeds
-pub ok-told : {T E : Type 0} (P : T → Type 0) (Q : E → Type 0) (bytes : List ℕ) (r : Result T E) → MatchResult r (λ s. P s × IsUtf8 bytes) (λ e. ¬ (IsUtf8 bytes) × Q e)
+pub ok-is_utf8 : {T E : Type 0} (P : T → Type 0) (Q : E → Type 0) (bytes : List ℕ) (r : Result T E) → MatchResult r (λ s. P s × IsUtf8 bytes) (λ e. ¬ (IsUtf8 bytes) × Q e)
     → is_ok r ≡ is_utf8 bytes
-ok-told P Q bytes (Ok s) h = sym (is_utf8-from_IsUtf8 bytes h.1)
-ok-told P Q bytes (Err e) h = elim (cases_Bool (is_utf8 bytes)) [
+ok-is_utf8 P Q bytes (Ok s) h = sym (is_utf8-from_IsUtf8 bytes h.1)
+ok-is_utf8 P Q bytes (Err e) h = elim (cases_Bool (is_utf8 bytes)) [
   | inl k ↦ absurd (h.0 (IsUtf8-from_is_utf8 bytes k))
   | inr k ↦ sym k
 ]

@@ -7,7 +7,7 @@ pub mod FewLines
 pub mod FilterErrors
 pub mod Filtering
 pub mod IllFormed
-pub mod Lent
+pub mod Borrowed
 pub mod Looked
 pub mod Pairs
 pub mod Prefixes

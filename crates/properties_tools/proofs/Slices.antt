@@ -8,7 +8,7 @@ use Rattle.properties_format.specs.ItemsToCome.{start}
 use Rattle.properties_format.specs.MalformedEscapes.{AreMalformedEscapes}
 use Rattle.counted_io.specs.Streams.{HasRead}
 use Rattle.java_properties.specs.Errors.{IsBareError}
-use Rattle.java_properties.specs.KeyLines.{AreKeyLines, FindsKeys, said_keys}
+use Rattle.java_properties.specs.KeyLines.{AreKeyLines, FindsKeys, key_line_entries}
 use Rattle.java_properties.specs.MalformedEscapes.{FailsToFind, FindsMalformed, StopsFinding}
 use Rattle.java_properties.specs.PropertiesIter.{PassesAll}
 use Rattle.java_properties.specs.declared.error.ErrorKind.TheVariants as kind
@@ -55,7 +55,7 @@ pub slice-keys : (e : Encoding) (from to : Bor (List ℕ)) (result : Result (Vec
 slice-keys e from to (Ok found) small h =
     let same = slice-whole h.read h.ended in
     record {
-      are = subst (λ v. AreKeyLines e v (said_keys found.items)) same h.are;
+      are = subst (λ v. AreKeyLines e v (key_line_entries found.items)) same h.are;
       only = λ others k. h.only others (subst (λ v. AreKeyLines e v others) (sym same) k);
     }
 slice-keys e from to (Err error) small h = slice-error e from to error small h

@@ -4,7 +4,7 @@ use Rattle.std.specs.List.{slice_get}
 use Rattle.properties_format.specs.Encoding.{Encoding}
 use Rattle.properties_format.specs.MalformedEscapes as format
 use Rattle.properties_format.specs.MalformedEscapes.{AreMalformedEscapes}
-use Rattle.java_properties.specs.MalformedEscapes.{told_escape, told_escapes}
+use Rattle.java_properties.specs.MalformedEscapes.{escape_record, escape_records}
 use Rattle.java_properties.specs.declared.iter.malformed.MalformedEscape.{MalformedEscape}
 use Rattle.properties_tools.specs.Propedit.Lines.{AreIllFormedLines, HasIllFormed}
 use Rattle.properties_tools.specs.Propedit.Sources.{HasMalformed, IsFirstMalformed}
@@ -21,12 +21,12 @@ first-malformed {e} {source} numbers found escape lines none h first = by h.esca
   where
     by : (escapes : List format.MalformedEscape) → h.escapes ≡ escapes → IsFirstMalformed e source escape
     by [] k =
-        let empty : found ≡ [] = h.is ∙ ap told_escapes k in
+        let empty : found ≡ [] = h.is ∙ ap escape_records k in
         let q : Some escape ≡ None = first ∙ ap (λ v. slice_get v 0) empty in
         absurd (cc)
     by (x ∷ xs) k =
-        let some : found ≡ told_escape x ∷ told_escapes xs = h.is ∙ ap told_escapes k in
-        let q : Some escape ≡ Some (told_escape x) = first ∙ ap (λ v. slice_get v 0) some in
+        let some : found ≡ escape_record x ∷ escape_records xs = h.is ∙ ap escape_records k in
+        let q : Some escape ≡ Some (escape_record x) = first ∙ ap (λ v. slice_get v 0) some in
         record {
           well_formed = subst (AreIllFormedLines e source) (none-first numbers none) lines.are;
           escape = x;

@@ -4,13 +4,11 @@ use Rattle.std.proofs.Common.{refl, ap, sym, ◌∙◌, arith, append_assoc, app
 use borrow.Author.Tests.{tests}
 use Rattle.std.specs.Prelude.{Some, None, Result, Ok, Err, OnErr, string_bytes}
 use Rattle.std.specs.declared.string.String.{String}
-use Rattle.std.proofs.lemmas.List.{length-append, length-map, take_rest}
+use Rattle.std.proofs.lemmas.List.{length-append, length-map, map-append, take_rest}
 use Rattle.properties_format.specs.Edits as format
-use Rattle.java_properties.specs.Editing.{edits_in}
+use Rattle.java_properties.specs.Editing.{edit_in, edits_in}
 use Rattle.java_properties.specs.declared.edit.Edit as editor
-use Rattle.java_properties.specs.declared.edit.Edit.TheVariants.{Put, Remove}
-use Rattle.std.specs.Str.{chars}
-use Rattle.properties_tools.specs.Propedit.Asked.{Edit, put, remove, in_characters, text_edits, edit_words, words_of}
+use Rattle.properties_tools.specs.Propedit.Asked.{Edit, set, remove, in_characters, edit_words, words_of, AreWordsOfEdits}
 use Rattle.properties_tools.specs.Propedit.AskedParts.{AreEdits, AreEditsOf, IsEditCount, IsNextEdit}
 
 -- ---- the first of some texts
@@ -36,11 +34,11 @@ words-more (e ∷ es) edit = ap (λ v. edit_words e ++ v) (words-more es edit) �
 -- what comes after some edits, where all words are those of edits, are words of edits
 rest-of : (done all : List Edit) (rest : List (List ℕ)) → words_of all ≡ words_of done ++ rest → (others : List Edit) × (rest ≡ words_of others)
 rest-of [] all rest e = (all, sym e)
-rest-of (put k v ∷ done) [] rest e = absurd (cc)
-rest-of (put k v ∷ done) (put l w ∷ all) rest e = rest-of done all rest (cc)
-rest-of (put k v ∷ done) (remove l ∷ all) rest e = absurd (cc)
+rest-of (set k v ∷ done) [] rest e = absurd (cc)
+rest-of (set k v ∷ done) (set l w ∷ all) rest e = rest-of done all rest (cc)
+rest-of (set k v ∷ done) (remove l ∷ all) rest e = absurd (cc)
 rest-of (remove k ∷ done) [] rest e = absurd (cc)
-rest-of (remove k ∷ done) (put l w ∷ all) rest e = absurd (cc)
+rest-of (remove k ∷ done) (set l w ∷ all) rest e = absurd (cc)
 rest-of (remove k ∷ done) (remove l ∷ all) rest e = rest-of done all rest (cc)
 
 -- Where no edit comes next, and the words are those of edits, all of them were found.
@@ -73,8 +71,8 @@ edit-more words rest others done edit is next =
 
 -- Fewer words are left after an edit.
 pub fewer-words : {Z : Type 0} (texts others : List (String Z)) (edit : Edit) → map string_bytes texts ≡ edit_words edit ++ map string_bytes others → length others < length texts
-fewer-words texts others (put k v) h =
-    let count : length (map string_bytes texts) ≡ length (edit_words (put k v) ++ map string_bytes others) = ap length h in
+fewer-words texts others (set k v) h =
+    let count : length (map string_bytes texts) ≡ length (edit_words (set k v) ++ map string_bytes others) = ap length h in
     omega (arith, count, length-map texts string_bytes, length-map others string_bytes)
 fewer-words texts others (remove k) h =
     let count : length (map string_bytes texts) ≡ length (edit_words (remove k) ++ map string_bytes others) = ap length h in
@@ -116,13 +114,34 @@ pub counted-all : {Z : Type 0} (words : List (List ℕ)) (count : ℕ) (texts : 
 counted-all words count [] h none = (h.done, h.is ∙ append-nil (words_of h.done), h.length_is)
 counted-all words count (a ∷ texts) h none = absurd (some-length texts a none)
 
--- ---- the code's edits
+-- ---- the edits that are made
 
--- the editor's edits are those that are asked for
-pub same-edits : (edits : List editor.Edit) → map in_characters (text_edits edits) ≡ edits_in edits
-same-edits [] = refl
-same-edits (Put key value ∷ edits) = ap (λ v. format.put (chars (string_bytes key)) (chars (string_bytes value)) ∷ v) (same-edits edits)
-same-edits (Remove key ∷ edits) = ap (λ v. format.remove (chars (string_bytes key)) ∷ v) (same-edits edits)
+-- Edits were found and are made, and these words are left.
+pub record HasMade (words : List (List ℕ)) (edits : List format.Edit) (rest : List (List ℕ)) : Type 0 where
+  pub done : List Edit
+  pub is : words ≡ words_of done ++ rest
+  pub made : edits ≡ map in_characters done
+
+-- none of them yet
+pub made-none : (words : List (List ℕ)) (edits : List editor.Edit) → edits ≡ [] → HasMade words (edits_in edits) words
+made-none words edits none = record { done = []; is = refl; made = ap edits_in none }
+
+-- one more
+pub made-more : {more : List editor.Edit} (words : List (List ℕ)) (edits : List editor.Edit) (rest others : List (List ℕ)) (edit : Edit) (made : editor.Edit)
+    → HasMade words (edits_in edits) rest → rest ≡ edit_words edit ++ others → edit_in made ≡ in_characters edit → more ≡ edits ++ (made ∷ [])
+    → HasMade words (edits_in more) others
+made-more words edits rest others edit made h next same is = record {
+  done = h.done ++ (edit ∷ []);
+  is = edit-more words rest others h.done edit h.is next;
+  made =
+      ap edits_in is ∙ map-append edit_in edits (made ∷ []) ∙ ap (λ v. edits_in edits ++ (v ∷ [])) same
+      ∙ ap (λ v. v ++ (in_characters edit ∷ [])) h.made ∙ sym (map-append in_characters h.done (edit ∷ []));
+}
+
+-- all of them, where no edit comes next
+pub made-all : (words : List (List ℕ)) (edits : List format.Edit) (rest : List (List ℕ)) → AreEdits words → HasMade words edits rest → IsNextEdit rest None
+    → AreWordsOfEdits words edits
+made-all words edits rest are h none = record { asked = h.done; is = all-edits words h.done rest are h.is none; made = h.made }
 
 -- ---- lists and errors
 
@@ -147,10 +166,13 @@ follows-at-error (Ok x) f h = tt
 follows-at-error (Err e) f h = f h
 
 -- No words are those of edits.
-pub no-edit-words : (words : List (List ℕ)) (edits : List Edit) → words ≡ [] → words ≡ words_of edits → edits ≢ [] → ⊥
-no-edit-words words [] none is some = some refl
-no-edit-words words (put k v ∷ edits) none is some = let count : 0 ≡ length (words_of (put k v ∷ edits)) = ap length (sym none ∙ is) in absurd (omega arith)
-no-edit-words words (remove k ∷ edits) none is some = let count : 0 ≡ length (words_of (remove k ∷ edits)) = ap length (sym none ∙ is) in absurd (omega arith)
+no-asked : (words : List (List ℕ)) (asked : List Edit) → words ≡ [] → words ≡ words_of asked → asked ≡ []
+no-asked words [] none is = refl
+no-asked words (set k v ∷ asked) none is = let count : 0 ≡ length (words_of (set k v ∷ asked)) = ap length (sym none ∙ is) in absurd (omega arith)
+no-asked words (remove k ∷ asked) none is = let count : 0 ≡ length (words_of (remove k ∷ asked)) = ap length (sym none ∙ is) in absurd (omega arith)
+
+pub no-edit-words : (words : List (List ℕ)) (edits : List format.Edit) → words ≡ [] → AreWordsOfEdits words edits → edits ≢ [] → ⊥
+no-edit-words words edits none h some = some (h.made ∙ ap (map in_characters) (no-asked words h.asked none h.is))
 
 -- What holds anyway holds at an error.
 pub at-error : {T E P : Type 0} (r : Result T E) → P → OnErr r P

@@ -7,27 +7,27 @@ use Rattle.java_properties.specs.DisplayTexts.{error_display}
 use Rattle.java_properties.specs.declared.error.PropertiesError.{PropertiesError}
 
 -- the line that says a text
-abbrev pub said_line : List ℕ → List ℕ
-said_line text = text ++ (line_feed ∷ [])
+abbrev pub printed_line : List ℕ → List ℕ
+printed_line text = text ++ (line_feed ∷ [])
 
 -- The line was sent, or a proper prefix of it where the sink failed, and then the sink was flushed, or its flush failed.
-pub record HasSaid {W : Type 0} (sink : Sink W) (old : W) (line : List ℕ) (new : W) : Type 0 where
+pub record HasPrintedLine {W : Type 0} (sink : Sink W) (old : W) (line : List ℕ) (new : W) : Type 0 where
   pub middle : W
   pub result : Result Unit (Option Error)
   pub sent : Sends sink old line result middle
   pub flushed : HasFlushed sink middle new ⊎ ((source : Error) × HasFailedFlush sink middle source new)
 
 -- A text is said as a line, if there is memory for the line.
-abbrev pub SaysIfRoom : {W : Type 0} → Sink W → W → List ℕ → W → Type 0
-SaysIfRoom sink old text new = HasSaid sink old (said_line text) new ⊎ (new ≡ old)
+abbrev pub PrintsLineIfMemory : {W : Type 0} → Sink W → W → List ℕ → W → Type 0
+PrintsLineIfMemory sink old text new = HasPrintedLine sink old (printed_line text) new ⊎ (new ≡ old)
 
 -- The text of an error is said.
-pub record SaysError {W : Type 0} (sink : Sink W) (old : W) (error : PropertiesError) (new : W) : Type 0 where
+pub record PrintsError {W : Type 0} (sink : Sink W) (old : W) (error : PropertiesError) (new : W) : Type 0 where
   pub text : List ℕ
   pub is_text : error_display error ≡ Some text
-  pub says : SaysIfRoom sink old text new
+  pub says : PrintsLineIfMemory sink old text new
 
 -- What is said of a result: nothing, or the text of its error.
-abbrev pub SaysOf : {A W : Type 0} → Sink W → W → Result A PropertiesError → W → Type 0
-SaysOf sink old (Ok done) new = new ≡ old
-SaysOf sink old (Err error) new = SaysError sink old error new
+abbrev pub PrintsErrorOf : {A W : Type 0} → Sink W → W → Result A PropertiesError → W → Type 0
+PrintsErrorOf sink old (Ok done) new = new ≡ old
+PrintsErrorOf sink old (Err error) new = PrintsError sink old error new

@@ -21,7 +21,7 @@ use Rattle.java_properties.specs.WholeSources.{GivesWhole, ReadsSource, WritesSo
 use Rattle.java_properties.specs.declared.error.PropertiesError.{PropertiesError}
 use Rattle.properties_tools.specs.Propedit.Answers.{name_of, Answers as Gives}
 use Rattle.properties_tools.specs.Propedit.Change.{Changes}
-use Rattle.properties_tools.specs.Propedit.Failures.{standard_output, SaysFailure}
+use Rattle.properties_tools.specs.Propedit.Failures.{standard_output, PrintsFailure}
 use Rattle.properties_tools.specs.declared.propedit.answers.Answer.{Answer}
 use Rattle.properties_tools.specs.declared.propedit.asked.Work.{Work}
 use Rattle.properties_tools.specs.declared.propedit.error.Failure.{Failure}
@@ -42,7 +42,7 @@ memory_words = codes "propedit: Out of memory."
 -- The status is that of the result, and nothing is printed; or it is 2, and the message of the failure is printed.
 abbrev pub Ends : {E : Type 0} → Sink E → List ℕ → E → Result ℕ Failure → ℕ → E → Type 0
 Ends error_sink name errors (Ok answer) status errors' = (status ≡ answer) × (errors' ≡ errors)
-Ends error_sink name errors (Err failure) status errors' = (status ≡ 2) × SaysFailure error_sink errors name failure errors'
+Ends error_sink name errors (Err failure) status errors' = (status ≡ 2) × PrintsFailure error_sink errors name failure errors'
 
 -- ---- a command
 

@@ -6,7 +6,7 @@ use Rattle.properties_format.specs.Names.{name_of}
 use Rattle.java_properties.specs.declared.error.PropertiesError.{PropertiesError}
 use Rattle.properties_text.specs.Encoding.{encoding_of}
 use Rattle.properties_tools.specs.Filter.{Filters}
-use Rattle.properties_tools.specs.Messages.{said_line, HasSaid, SaysOf}
+use Rattle.properties_tools.specs.Messages.{printed_line, HasPrintedLine, PrintsErrorOf}
 use Rattle.properties_tools.specs.declared.propfilter.Asked.{Asked}
 
 -- what it prints where its arguments are none of its own
@@ -60,7 +60,7 @@ pub record HasRun {R W E : Type 0} (reader : Reader R) (sink : Sink W) (error_si
   pub result : Result Unit PropertiesError
   pub filters : Filters reader sink encoding only input output result input' output'
   pub answer : status ≡ status_of result
-  pub says : SaysOf error_sink errors result errors'
+  pub says : PrintsErrorOf error_sink errors result errors'
 
 -- The arguments ask for nothing that there is: nothing was read or written, and the usage was said on `errors`.
 pub record RefusesArguments {R W E : Type 0} (error_sink : Sink E) (arguments : List (List ℕ)) (input : R) (output : W) (errors : E)
@@ -69,7 +69,7 @@ pub record RefusesArguments {R W E : Type 0} (error_sink : Sink E) (arguments : 
   pub answer : status ≡ 2
   pub unread : input' ≡ input
   pub unwritten : output' ≡ output
-  pub says : HasSaid error_sink errors (said_line usage) errors'
+  pub says : HasPrintedLine error_sink errors (printed_line usage) errors'
 
 -- What the program does with these arguments.
 abbrev pub Runs : {R W E : Type 0} → Reader R → Sink W → Sink E → List (List ℕ) → R → W → E → ℕ → R → W → E → Type 0

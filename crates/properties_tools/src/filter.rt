@@ -4,7 +4,7 @@ ghost use Rattle.std.specs.Prelude.{◌≡◌, true, false};
 ghost use Rattle.counted_io.specs.Streams.{IsSameReader, IsSameSink};
 ghost use Rattle.properties_format.specs.ItemsToCome.{start};
 ghost use Rattle.properties_text.specs.Encoding.{encoding_of};
-ghost use Rattle.java_properties.specs.LentItems.{said_by, found_content, IsFoundIn};
+ghost use Rattle.java_properties.specs.BorrowedItems.{borrowed_content, found_content, IsFoundIn};
 ghost use Rattle.properties_tools.specs.Filter.{pair_writer, Filters, FiltersToAscii, Settles, HasScalars, WritesIfPair};
 
 use counted_io::{CountedRead, CountedWrite};
@@ -141,8 +141,8 @@ fn write_if_pair<W: CountedWrite>(
     lines: &mut PropertiesWriter<W>,
     content: &ContentRef<'_>,
 ) -> Result<(), PropertiesError>
-    ensures writes { WritesIfPair W.CountedWrite lines.old (said_by content.now) result lines.new }
-    ensures scalars { HasScalars (said_by content.now) }
+    ensures writes { WritesIfPair W.CountedWrite lines.old (borrowed_content content.now) result lines.new }
+    ensures scalars { HasScalars (borrowed_content content.now) }
     ensures same_sink { IsSameSink W.CountedWrite lines.old.sink lines.new.sink }
 {
     has_scalars(content);
@@ -158,7 +158,7 @@ fn write_if_pair<W: CountedWrite>(
 // Gives a proof the fact that the texts of a pair consist of scalar values, as all texts do. It does nothing at run
 // time.
 fn has_scalars(content: &ContentRef<'_>)
-    ensures { HasScalars (said_by content.now) }
+    ensures { HasScalars (borrowed_content content.now) }
 {
     if let ContentRef::KVPair(key, value) = content {
         let _ = key.as_str();

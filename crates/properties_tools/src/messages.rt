@@ -3,7 +3,7 @@
 ghost use Rattle.std.specs.Prelude.{IfSome};
 ghost use Rattle.counted_io.specs.Streams.{IsSameSink};
 ghost use Rattle.java_properties.specs.DisplayTexts.{error_display};
-ghost use Rattle.properties_tools.specs.Messages.{HasSaid, SaysIfRoom};
+ghost use Rattle.properties_tools.specs.Messages.{HasPrintedLine, PrintsLineIfMemory};
 
 use counted_io::{CountedWrite, send};
 use java_properties::PropertiesError;
@@ -17,7 +17,7 @@ use std::alloc::Global;
 /// say(&mut errors, "no such key\n");
 /// ```
 pub fn say<E: CountedWrite>(errors: &mut E, line: &str)
-    ensures says { HasSaid E.CountedWrite errors.old line.now errors.new }
+    ensures says { HasPrintedLine E.CountedWrite errors.old line.now errors.new }
     ensures same_sink { IsSameSink E.CountedWrite errors.old errors.new }
 {
     let _ = send(errors, line.as_bytes());
@@ -33,7 +33,7 @@ pub fn say<E: CountedWrite>(errors: &mut E, line: &str)
 /// say_error(alloc, &mut errors, error);
 /// ```
 pub fn say_error<E: CountedWrite>(alloc: Global, errors: &mut E, error: PropertiesError)
-    ensures says { IfSome (error_display error) (λ text. SaysIfRoom E.CountedWrite errors.old text errors.new) }
+    ensures says { IfSome (error_display error) (λ text. PrintsLineIfMemory E.CountedWrite errors.old text errors.new) }
     ensures same_sink { IsSameSink E.CountedWrite errors.old errors.new }
 {
     if let Ok(line) = format!(in alloc; "{error}\n") {

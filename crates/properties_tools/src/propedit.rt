@@ -15,7 +15,7 @@ ghost use Rattle.std.specs.Prelude.{◌≡◌};
 ghost use Rattle.counted_io.specs.Streams.{IsSameReader, IsSameSink};
 ghost use Rattle.properties_text.specs.Encoding.{encoding_of};
 ghost use Rattle.java_properties.specs.Editing.{edits_in};
-ghost use Rattle.properties_tools.specs.Messages.{said_line, HasSaid};
+ghost use Rattle.properties_tools.specs.Messages.{printed_line, HasPrintedLine};
 ghost use Rattle.properties_tools.specs.Propedit.{memory_words, not_utf_8, Ends, Prints, Replaces, Runs, Shows};
 
 use crate::messages::say;
@@ -163,7 +163,7 @@ pub fn show<W: CountedWrite, E: CountedWrite>(
 /// ```
 pub fn refuse<E: CountedWrite>(errors: &mut E) -> u8
     ensures status { result ≡ 2 }
-    ensures says { HasSaid E.CountedWrite errors.old USAGE.now errors.new }
+    ensures says { HasPrintedLine E.CountedWrite errors.old USAGE.now errors.new }
     ensures same_sink { IsSameSink E.CountedWrite errors.old errors.new }
 {
     say(errors, USAGE);
@@ -180,7 +180,7 @@ pub fn refuse<E: CountedWrite>(errors: &mut E) -> u8
 /// ```
 pub fn refuse_bytes<E: CountedWrite>(errors: &mut E) -> u8
     ensures status { result ≡ 2 }
-    ensures says { HasSaid E.CountedWrite errors.old (said_line not_utf_8) errors.new }
+    ensures says { HasPrintedLine E.CountedWrite errors.old (printed_line not_utf_8) errors.new }
     ensures same_sink { IsSameSink E.CountedWrite errors.old errors.new }
 {
     say(errors, NOT_UTF_8);
@@ -197,7 +197,7 @@ pub fn refuse_bytes<E: CountedWrite>(errors: &mut E) -> u8
 /// ```
 pub fn lack_memory<E: CountedWrite>(errors: &mut E) -> u8
     ensures status { result ≡ 2 }
-    ensures says { HasSaid E.CountedWrite errors.old (said_line memory_words) errors.new }
+    ensures says { HasPrintedLine E.CountedWrite errors.old (printed_line memory_words) errors.new }
     ensures same_sink { IsSameSink E.CountedWrite errors.old errors.new }
 {
     say(errors, NO_MEMORY);

@@ -5,7 +5,7 @@ ghost use Rattle.std.specs.Option.{option_map};
 ghost use Rattle.counted_io.specs.Streams.{IsSameReader, IsSameSink};
 ghost use Rattle.properties_text.specs.Encoding.{encoding_of};
 ghost use Rattle.properties_tools.specs.Filter.{Filters};
-ghost use Rattle.properties_tools.specs.Messages.{said_line, HasSaid};
+ghost use Rattle.properties_tools.specs.Messages.{printed_line, HasPrintedLine};
 ghost use Rattle.properties_tools.specs.Propfilter.{asked_of, not_utf_8, usage, IsAsked, IsNamedWith, Runs};
 
 use crate::filter::{filter, filter_ascii};
@@ -74,7 +74,7 @@ pub fn run<R: CountedRead, W: CountedWrite, E: CountedWrite>(
 /// ```
 pub fn refuse_bytes<E: CountedWrite>(errors: &mut E) -> u8
     ensures answer { result ≡ 1 }
-    ensures says { HasSaid E.CountedWrite errors.old (said_line not_utf_8) errors.new }
+    ensures says { HasPrintedLine E.CountedWrite errors.old (printed_line not_utf_8) errors.new }
     ensures same_sink { IsSameSink E.CountedWrite errors.old errors.new }
 {
     say(errors, NOT_UTF_8);
@@ -84,7 +84,7 @@ pub fn refuse_bytes<E: CountedWrite>(errors: &mut E) -> u8
 // Prints the usage, and returns the exit status for invalid arguments.
 fn refuse<E: CountedWrite>(errors: &mut E) -> u8
     ensures answer { result ≡ 2 }
-    ensures says { HasSaid E.CountedWrite errors.old (said_line usage) errors.new }
+    ensures says { HasPrintedLine E.CountedWrite errors.old (printed_line usage) errors.new }
     ensures same_sink { IsSameSink E.CountedWrite errors.old errors.new }
 {
     say(errors, USAGE);

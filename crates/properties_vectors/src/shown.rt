@@ -18,7 +18,7 @@ pub fn compare(
 }
 
 /// All that an error says, as `Io in line 2 by StorageFull`.
-pub fn told(alloc: Global, error: &PropertiesError) -> Result<String, AllocError> {
+pub fn error_text(alloc: Global, error: &PropertiesError) -> Result<String, AllocError> {
     let mut text = format!(in alloc; "{:?}", error.kind())?;
     if let Some(number) = error.line_number() {
         text.push_str(format!(in alloc; " in line {number}")?.as_str())?;

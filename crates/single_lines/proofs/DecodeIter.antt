@@ -11,7 +11,7 @@ use Rattle.properties_format.specs.Reading.Waiting.{awaits_bom, awaits_more}
 use Rattle.properties_format.proofs.Encodings.Pieces.{pieces_of-nil}
 use Rattle.properties_format.proofs.Encodings.ByteOrderMarks.{decoded_of-append, awaits_bom-long}
 use Rattle.properties_format.proofs.Encodings.Waiting.{pieces_of-decided, characters-step, awaits_more-short}
-use Rattle.properties_text.specs.Decoding.{TellsBom, IsUnmarked}
+use Rattle.properties_text.specs.Decoding.{FindsByteOrderMark, IsUnmarked}
 use Rattle.properties_text.specs.declared.encoding.Encoding as named
 use Rattle.properties_text.specs.declared.encoding.byte_order_mark.ByteOrderMark.{ByteOrderMark}
 use Rattle.properties_text.specs.declared.encoding.byte_order_mark.ByteOrderMark.TheVariants.{Present, Absent, Undecided}
@@ -75,7 +75,7 @@ piece-characters e b d x (inl none) =
 piece-characters e b d x (inr decided) = ap characters (pieces_of-decided e b d x decided)
 
 -- where no byte order mark is told, there is none
-pub unmarked : (b : List ℕ) (m : ByteOrderMark) → TellsBom b m → ((e : named.Encoding) (n : ℕ) → m ≡ Present e n → ⊥) → IsUnmarked b
+pub unmarked : (b : List ℕ) (m : ByteOrderMark) → FindsByteOrderMark b m → ((e : named.Encoding) (n : ℕ) → m ≡ Present e n → ⊥) → IsUnmarked b
 unmarked b (Present e n) h none = absurd (none e n refl)
 unmarked b Absent h none = h.0
 unmarked b Undecided h none = h.0

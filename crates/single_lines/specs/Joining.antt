@@ -64,7 +64,7 @@ abbrev pub TakesNext : {I : Type 0} → Steps I → I → Result LogicalLine Lin
 TakesNext steps from (Ok line) to = TakesGroup steps from line to
 TakesNext steps from (Err error) to = (to.is_done ≡ true) × (TakesError steps from error to.lines ⊎ LacksMemory steps from error to.lines)
 
--- the same after a call that gave the first line
+-- what a line, or an error in its place, takes of the natural lines, the first of which a call gave before
 abbrev pub TakesAfter : {I : Type 0} → Steps I → NaturalLine → I → Result LogicalLine LineError → LogicalLines I → Type 0
 TakesAfter {I} steps first after answer to = (from : I) → steps from (Some (Ok first)) after → TakesNext steps from answer to
 

@@ -26,7 +26,7 @@ pub fn decode_line(
     bytes: &[u8],
 ) -> Result<CowStr<'_>, AllocError>
     ensures text { IfOk result (λ text. chars (cow_str_bytes text) ≡ text_of encoding bytes.now) }
-    ensures lent { IfOk result (λ text. IsBorrowed text ↔ IsText (encoding_of encoding) bytes.now) }
+    ensures borrowed { IfOk result (λ text. IsBorrowed text ↔ IsText (encoding_of encoding) bytes.now) }
     ensures same { IfOk result (λ text. IsBorrowed text → cow_str_bytes text ≡ bytes.now) }
 {
     match as_text(encoding, bytes) {

@@ -87,7 +87,7 @@ fn decodes_whole_bodies(rt: HostRuntime) -> Result<(), Fail> {
 }
 
 #[test]
-fn lends_text_as_it_stands(rt: HostRuntime) -> Result<(), Fail> {
+fn borrows_bytes_that_are_the_text(rt: HostRuntime) -> Result<(), Fail> {
     let lines: [(Encoding, &[u8], bool); 8] = [
         (Encoding::WINDOWS_1252, b"", true),
         (Encoding::WINDOWS_1252, b"a=b", true),
@@ -98,9 +98,9 @@ fn lends_text_as_it_stands(rt: HostRuntime) -> Result<(), Fail> {
         (Encoding::UTF_16LE, b"a\x00", false),
         (Encoding::UTF_16BE, b"\x00a", false),
     ];
-    for (encoding, bytes, lent) in lines {
+    for (encoding, bytes, borrowed) in lines {
         let text = decode_line(rt.alloc(), encoding, bytes)?;
-        assert_eq!(rt; matches!(&text, CowStr::Borrowed(_)), lent);
+        assert_eq!(rt; matches!(&text, CowStr::Borrowed(_)), borrowed);
     }
     Ok(())
 }

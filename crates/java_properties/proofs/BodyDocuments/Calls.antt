@@ -17,7 +17,7 @@ use Rattle.properties_format.specs.Reading.Cells.{Cell, live, cell_bytes}
 use Rattle.java_properties.specs.BodySlots.{AreCells, Holds}
 use Rattle.properties_format.specs.Maps.{IsValue}
 use Rattle.java_properties.specs.BodyDocuments.{all_written, document_bytes, open_document, IsDocument}
-use Rattle.java_properties.specs.Documents.{OpenDocument, HasValueAt, TellsKey}
+use Rattle.java_properties.specs.Documents.{OpenDocument, HasValueAt, ChecksHasKey}
 use Rattle.java_properties.specs.declared.edit.document.Document.TheInside.{Inside}
 use Rattle.java_properties.specs.declared.edit.slots.Slot.{Slot}
 use Rattle.java_properties.specs.declared.edit.slots.Slots.{Slots}
@@ -61,9 +61,9 @@ has-value d i key value is =
     record { entries = reads.entries; items = reads.items; whole = reads.whole; is = subst (IsValue reads.entries key) is (reads.is_map key) }
 
 -- Whether its map has something at a key tells whether a pair has the key.
-pub tells-key : {X : Type 0} (f : X → List ℕ) (d : OpenDocument) (key : List ℕ) (o : Option X) → HasValueAt d key (option_map f o) → TellsKey d key (is_some o)
-tells-key f d key None h = h
-tells-key f d key (Some x) h = (f x, h)
+pub checks_has_key : {X : Type 0} (f : X → List ℕ) (d : OpenDocument) (key : List ℕ) (o : Option X) → HasValueAt d key (option_map f o) → ChecksHasKey d key (is_some o)
+checks_has_key f d key None h = h
+checks_has_key f d key (Some x) h = (f x, h)
 
 -- ---- a value that is changed
 

@@ -19,7 +19,7 @@ use Rattle.properties_format.specs.Items.{IsItems}
 use Rattle.properties_format.specs.Maps.{IsMap, IsValue}
 use Rattle.properties_format.specs.Changed.{map_edited}
 use Rattle.properties_format.specs.Edited.{edited, is_editable}
-use Rattle.properties_format.specs.Edits.{Edit, put, remove, IsScalarEdit, AreScalarEdits, IsEditAllResult}
+use Rattle.properties_format.specs.Edits.{Edit, put, remove, set_value, IsScalarEdit, AreScalarEdits, IsEditAllResult}
 use Rattle.properties_format.specs.Reading.Body.{entries_in, held_groups_of}
 use Rattle.properties_format.specs.Reading.Edited.{AreSound, key_set, key_removed, result_of}
 use Rattle.properties_format.specs.Reading.Edits.{edit_made, edits_made}
@@ -29,7 +29,7 @@ use Rattle.properties_format.specs.Reading.Slots.{slots_of}
 use Rattle.properties_format.specs.Reading.EditedSlots.{slots_edited, slots_after}
 use Rattle.properties_format.proofs.Body.Numbers.{items_of-groups}
 use Rattle.properties_format.proofs.Changed.Laws.{IsReadable}
-use Rattle.properties_format.proofs.Edits.Says.{edits-say}
+use Rattle.properties_format.proofs.Edits.Contents.{edits-contents}
 use Rattle.properties_format.proofs.Changed.Read.{readable}
 use Rattle.properties_format.proofs.Edited.Results.{result-editable, result_by-edited}
 use Rattle.properties_format.proofs.Edits.Results.{edit_all_result-meets, edits_made-meets}
@@ -38,16 +38,19 @@ use Rattle.properties_format.proofs.Slots.Edits.{edits_made-slots}
 use Rattle.properties_format.proofs.Slots.Keys.{pair_keys, are-keys, slots-keys}
 use Rattle.properties_format.proofs.Slots.WellEnded.{slots_after-well_ended}
 use Rattle.java_properties.specs.BodyDocuments.{document_bytes, open_document, IsDocument}
-use Rattle.java_properties.specs.BodySlots.{Holds, HoldsIn, HoldsSome, Changes, KeepsAll, PutsKey, left_without}
+use Rattle.java_properties.specs.BodySlots.{Holds, HoldsIn, HoldsSome, ReadsIn, Changes, KeepsAll, PutsKey, left_without}
 use Rattle.java_properties.specs.BodySlots.Keys.{FindsKeys}
 use Rattle.java_properties.specs.Documents.{OpenDocument, HasKeysInOrder, characters_of}
-use Rattle.java_properties.specs.Editing.{AreMade, IsSet, IsRemoved}
+use Rattle.java_properties.specs.Editing.{AreMade, HasValueSet, IsSet, IsRemoved}
 use Rattle.java_properties.specs.Maps.{Entries, characters, value_at}
 use Rattle.java_properties.specs.Sources.{IsInForce}
 use Rattle.java_properties.specs.declared.edit.document.Document.TheInside.{Inside}
 use Rattle.java_properties.specs.declared.edit.slots.Slots.{Slots}
 use Rattle.java_properties.proofs.BodyDocuments.Calls.{all-written}
-use Rattle.java_properties.proofs.Editing.{bom-front, editable, made-edits, removed-edits, result-made, set-edits, slots-held, slots-more, slots-none}
+use Rattle.java_properties.proofs.Editing.{bom-front, editable, made-edits, removed-edits, result-made, output-same, set-edits, slots-held, slots-more, slots-none, slots-read}
+use Rattle.java_properties.proofs.SetValues.{value-edits}
+use Rattle.properties_format.specs.Reading.Valued.{value_set}
+use Rattle.properties_format.specs.Reading.ValuedSlots.{slots_valued}
 use Rattle.java_properties.proofs.TextMaps.Values.{flipped}
 
 -- ---- lists of edits
@@ -83,6 +86,9 @@ module _ (d : Inside) (i : IsDocument d) where
   pub slots-in : HoldsIn (drop d.opened.start d.source.items) d.slots
   slots-in = slots-held (drop d.opened.start d.source.items) d.slots i.edits i.in_force i.editable i.scalar i.slots
 
+  pub slots-again : ReadsIn (encoding_of d.opened.encoding) (drop d.opened.start d.source.items) d.slots
+  slots-again = slots-read (drop d.opened.start d.source.items) d.slots i.edits i.in_force i.editable i.sound i.scalar i.slots
+
   pub slots-some : HoldsSome d.slots
   slots-some = record { body = drop d.opened.start d.source.items; holds = slots-in }
 
@@ -97,7 +103,7 @@ module _ (d : Inside) (i : IsDocument d) where
       let source = d.source.items in
       let made = edits_made e source i.edits in
       let h = subst (IsEditAllResult e source i.edits) (result-made made i.in_force i.editable i.sound) (edit_all_result-meets e source i.edits) in
-      let said = edits-say e source i.edits made (readable e source h.0 h.1) i.scalar (edits_made-meets e source i.edits h.0) in
+      let said = edits-contents e source i.edits made (readable e source h.0 h.1) i.scalar (edits_made-meets e source i.edits h.0) in
       subst (IsReadable e) (sym bytes-are) said.readable
 
   bytes-result : (made : List ℕ) → result_of (encoding_of d.encoding) (document_bytes d) made ≡ edited made
@@ -164,6 +170,35 @@ put-in d i slots values key value k v change same ordered =
     let changed = change (drop d.opened.start d.source.items) in
     let made = made-after d i slots values edit (k, v) changed in
     let set = set-edits k v (bytes-result d i (key_set e (document_bytes d) key value) ∙ ap edited made) in
+    let reads = i.values in
+    record {
+      document =
+          document-after d i slots values edit (k, v) changed
+          (λ entries items. (set.edit.reads reads.entries entries reads.items items).mapped (value_at d.values.entries) reads.is_map)
+          (λ entries items. (set.edit.reads reads.entries entries reads.items items).readable)
+          (λ j. same j ∙ ap (λ b. if b then Some value else value_at d.values.entries j) (flipped key j)) ordered;
+      set = set;
+    }
+
+-- A document after the value of a key was set.
+pub record IsValuedIn (d : Inside) (key value : List ℕ) (after : Inside) : Type 0 where
+  pub document : IsDocument after
+  pub set : HasValueSet (encoding_of d.encoding) (document_bytes d) key value (document_bytes after)
+
+pub valued-in : (d : Inside) → IsDocument d → (slots : Slots) (values : BTreeMap (String Global) (String Global)) (key value : List ℕ)
+    → All scalar key → All scalar value
+    → Changes (drop d.opened.start d.source.items) (slots_valued (encoding_of d.opened.encoding) key value) d.slots slots
+    → ((k : List ℕ) → value_at values.entries k ≡ update bytes_eq (value_at d.values.entries) key (Some value) k) → IsOrdered string_cmp values
+    → IsValuedIn d key value (record d { slots = slots; values = values })
+valued-in d i slots values key value k v change same ordered =
+    let e = encoding_of d.encoding in
+    let f = encoding_of d.opened.encoding in
+    let edit = set_value key value in
+    let after : Inside = record d { slots = slots; values = values } in
+    let part = drop d.opened.start d.source.items in
+    let changed = subst (λ w. Changes part (slots_valued w key value) d.slots slots) (sym (output-same f i.editable)) change in
+    let made = made-after d i slots values edit (k, v) changed in
+    let set = value-edits k v (bytes-result d i (value_set e (document_bytes d) key value) ∙ ap edited made) in
     let reads = i.values in
     record {
       document =

@@ -13,10 +13,10 @@ use Rattle.properties_format.specs.Body.{HeldLine, as_lines, held_in}
 use Rattle.properties_format.specs.Reading.Body.{entries_in, held_groups_of}
 use Rattle.properties_format.specs.Reading.Edited.{IsSound, AreSound}
 use Rattle.properties_format.specs.Reading.Items.{outcome_of, followed}
-use Rattle.properties_format.specs.Reading.Slots.{key_told}
+use Rattle.properties_format.specs.Reading.Slots.{outcome_key}
 use Rattle.properties_format.proofs.Maps.{map-none, map-comment, map-pair}
 use Rattle.properties_text.specs.Encoding.{encoding_of}
-use Rattle.java_properties.specs.BodyDocuments.{pair_told, updated_by, KeepsValue}
+use Rattle.java_properties.specs.BodyDocuments.{outcome_pair, updated_by, KeepsValue}
 use Rattle.java_properties.specs.BodyGroups.{IsWithin, TakesGroup, text_of}
 use Rattle.java_properties.specs.Maps.{Entries, value_at}
 use Rattle.java_properties.proofs.BodyKeys.{HasRead, read-none, read-more, read-all}
@@ -50,7 +50,7 @@ map-same entries f g h same k = subst (IsValue entries k) (sym (same k)) (h k)
 
 -- A logical line more puts its value under its key, where it is a pair.
 pub map-more : (entries : List Entry) (n : ℕ) (o : Outcome) (f g : List ℕ → Option (List ℕ)) → IsSound o → IsMap entries f
-    → ((k : List ℕ) → g k ≡ updated_by (pair_told o) f k) → IsMap (entries ++ followed n o []) g
+    → ((k : List ℕ) → g k ≡ updated_by (outcome_pair o) f k) → IsMap (entries ++ followed n o []) g
 map-more entries n ignored f g sound h puts = subst (λ v. IsMap v g) (sym (append-nil entries)) (map-same entries f g h puts)
 map-more entries n (given (comment text)) f g sound h puts = map-same (entries ++ followed n (given (comment text)) []) f g (map-comment entries n text f h) puts
 map-more entries n (given (pair key value)) f g sound h puts = map-pair entries n key value f g h puts
@@ -59,7 +59,7 @@ map-more entries n (broken kind) f g sound h puts = absurd sound
 -- A group more does so.
 pub map-group : (groups : List (List HeldLine)) (group : List HeldLine) (f g : List ℕ → Option (List ℕ)) → AreSound groups
     → IsSound (outcome_of (joined (as_lines group))) → IsMap (entries_in 1 groups) f
-    → ((k : List ℕ) → g k ≡ updated_by (pair_told (outcome_of (joined (as_lines group)))) f k) → IsMap (entries_in 1 (groups ++ group ∷ [])) g
+    → ((k : List ℕ) → g k ≡ updated_by (outcome_pair (outcome_of (joined (as_lines group)))) f k) → IsMap (entries_in 1 (groups ++ group ∷ [])) g
 map-group groups group f g sounds sound h puts =
     subst (λ v. IsMap v g) (sym (entries-append 1 groups (group ∷ []) sounds))
     (map-more (entries_in 1 groups) (1 + length (held_in groups)) (outcome_of (joined (as_lines group))) f g sound h puts)
@@ -84,9 +84,9 @@ values-none body reader values at passed going within empty = record {
 -- One more group was read.
 pub values-more : {X Y Z : Type 0} {e : Encoding} {body : List ℕ} {s t : GroupReader} {old : Entries Y Z} {group : Group} {copy : Option (String X)} (new : Entries Y Z)
     (told : Option (List ℕ × List ℕ)) → HasValues e body s old → TakesGroup body s group t → IsSound (outcome_of (chars (text_of body t group)))
-    → told ≡ pair_told (outcome_of (chars (text_of body t group))) → KeepsValue told old new copy → HasValues e body t new
+    → told ≡ outcome_pair (outcome_of (chars (text_of body t group))) → KeepsValue told old new copy → HasValues e body t new
 values-more {old = old} new told h k sound is kept =
-    let pair_is = is ∙ ap (λ v. pair_told (outcome_of v)) k.text in
+    let pair_is = is ∙ ap (λ v. outcome_pair (outcome_of v)) k.text in
     record {
       groups = h.groups ++ k.held ∷ [];
       read = read-more h.read k sound;
@@ -100,7 +100,7 @@ pub values-all : {Y Z : Type 0} {e : Encoding} {body : List ℕ} {reader : Group
 values-all {values = values} h done = subst (λ v. IsMap (entries_in 1 v) (value_at values)) (sym (read-all h.read done)) h.is_map
 
 -- The key of a pair that a logical line is is the key of that line.
-pub pair-key : (o : Outcome) → option_map (λ p. p.0) (pair_told o) ≡ key_told o
+pub pair-key : (o : Outcome) → option_map (λ p. p.0) (outcome_pair o) ≡ outcome_key o
 pair-key ignored = refl
 pair-key (given (comment text)) = refl
 pair-key (given (pair key value)) = refl

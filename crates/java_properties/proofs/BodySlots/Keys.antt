@@ -183,18 +183,18 @@ is-next s key i some p =
 
 -- It is placed.
 pub placing-next : (s : Slots) (rest : List (String Global × Vec ℕ)) (firsts : List (Option (Bor (List ℕ)))) (key : String Global) (stack : Vec ℕ)
-    (i : ℕ) (lent : Bor (List ℕ)) → HoldsSome s → IsPlacing s.places.entries ((key, stack) ∷ rest) (map key_at firsts) → Some i ≡ slice_get stack.items 0
-    → lent.now ≡ string_bytes key → length firsts ≡ length s.slots.items
-    → (i < length firsts) × IsPlacing s.places.entries rest (map key_at (set firsts i (Some lent)))
-placing-next s rest firsts key stack i lent some h first is size =
+    (i : ℕ) (borrowed : Bor (List ℕ)) → HoldsSome s → IsPlacing s.places.entries ((key, stack) ∷ rest) (map key_at firsts) → Some i ≡ slice_get stack.items 0
+    → borrowed.now ≡ string_bytes key → length firsts ≡ length s.slots.items
+    → (i < length firsts) × IsPlacing s.places.entries rest (map key_at (set firsts i (Some borrowed)))
+placing-next s rest firsts key stack i borrowed some h first is size =
     let head = head-got stack.items i first in
     let ordered = some.holds.holds.holds.ordered in
     let own : IsFirstIn s.places.entries (characters key) i = (head.0, entry-stack s.places h.done rest key stack ordered h.division ∙ head.1) in
     let n = is-next s (characters key) i some own in
     let mapped = length-map firsts key_at in
     let inside = n.inside in
-    let placed : set (map key_at firsts) i (Some (characters key)) ≡ map key_at (set firsts i (Some lent)) =
-    ap (λ v. set (map key_at firsts) i (Some (chars v))) (sym is) ∙ sym (map-set key_at firsts i (Some lent)) in (
+    let placed : set (map key_at firsts) i (Some (characters key)) ≡ map key_at (set firsts i (Some borrowed)) =
+    ap (λ v. set (map key_at firsts) i (Some (chars v))) (sym is) ∙ sym (map-set key_at firsts i (Some borrowed)) in (
       omega arith,
       subst (IsPlacing s.places.entries rest) placed
           (placing-more s.places.entries rest (map key_at firsts) key stack i head.0 h head.1 (omega arith) own n.alone),

@@ -3,6 +3,7 @@ use Rattle.std.proofs.Common.{◌≡◌, ℕ, ◌+◌, ◌-◌, ◌<◌, List, [
 use Rattle.std.specs.Prelude.{◌⊎◌, Bool, true, false, if◌then◌else◌, Option, Some, None, bytes_eq}
 use Rattle.std.specs.Str.{chars}
 use Rattle.std.specs.BTreeMap.{IsOrdered}
+use Rattle.std.specs.Option.{is_some}
 use Rattle.std.specs.String.{string_cmp}
 use Rattle.std.proofs.lemmas.List.{get_or_append_left}
 use Rattle.properties_format.specs.Encoding.{Encoding}
@@ -12,7 +13,7 @@ use Rattle.properties_format.specs.Reading.Body.{held_groups_of}
 use Rattle.properties_format.specs.Reading.Edited.{IsSound, AreSound}
 use Rattle.properties_format.specs.Reading.Items.{outcome_of}
 use Rattle.properties_format.specs.Reading.Slots as format
-use Rattle.properties_format.specs.Reading.Slots.{left_out, ended_by, closed_by, slot_has, slot_of, slot_list, slots_of, key_told, safe_ending, unended_bytes}
+use Rattle.properties_format.specs.Reading.Slots.{left_out, ended_by, closed_by, slot_has, slot_of, slot_list, slots_of, outcome_key, safe_ending, unended_bytes}
 use Rattle.properties_format.specs.Reading.Cells.{Cell, live, places, EndsAlive}
 use Rattle.properties_format.proofs.Edited.Steps.{final_group-push}
 use Rattle.properties_format.proofs.Slots.Edits.{closing_by, slots-closing, span-unended}
@@ -23,10 +24,11 @@ use Rattle.properties_text.specs.Encoding.{encoding_of}
 use Rattle.java_properties.specs.BodyGroups.{IsWithin, groups_left, TakesGroup, text_of}
 use Rattle.java_properties.specs.BodyKeys.{closing_of}
 use Rattle.java_properties.specs.BodyLines.{ending_in}
-use Rattle.java_properties.specs.BodySlots.{IsCell, no_cell, stack_at, slot_bytes, closing_in, Holds}
-use Rattle.java_properties.specs.BodySlots.Parsed.{HoldsParsed, HoldsGuard, AddsKey, AddsGroup, guard_cell, is_told}
+use Rattle.java_properties.specs.BodySlots.{IsCell, with_index, no_cell, stack_at, slot_bytes, closing_in, Holds}
+use Rattle.java_properties.specs.BodySlots.Parsed.{HoldsParsed, HoldsGuard, AddsKey, AddsGroup, guard_cell, matches_key}
 use Rattle.java_properties.proofs.BodyKeys.{HasRead, read-none, read-more, read-all, group-whole, some-groups}
 use Rattle.java_properties.proofs.BodySlots.{cells-length, cells-push}
+use Rattle.java_properties.proofs.BodySlots.Trails.{trails-as, trails-push}
 use Rattle.java_properties.proofs.TextMaps.Values.{flipped}
 use Rattle.java_properties.specs.declared.edit.place.BodySpan.{BodySpan}
 use Rattle.java_properties.specs.declared.edit.groups.Group.{Group}
@@ -38,10 +40,10 @@ use Rattle.java_properties.specs.declared.writer.settings.LineEnding.{LineEnding
 -- ---- one more slot
 
 -- whether a key is that of a slot
-slot-told : (key : List ℕ) (s : format.Slot) → slot_has key s ≡ is_told key s.key
-slot-told key s = of-key s.key
+slot-matches_key : (key : List ℕ) (s : format.Slot) → slot_has key s ≡ matches_key key s.key
+slot-matches_key key s = of-key s.key
   where
-    of-key : (o : Option (List ℕ)) → (elim o as (λ _. Bool) [ None ↦ false | Some k ↦ bytes_eq k key ]) ≡ is_told key o
+    of-key : (o : Option (List ℕ)) → (elim o as (λ _. Bool) [ None ↦ false | Some k ↦ bytes_eq k key ]) ≡ matches_key key o
     of-key None = refl
     of-key (Some k) = flipped k key
 
@@ -55,9 +57,11 @@ pub parsed-push : {body : List ℕ} {old : Slots} {cells : List Cell} (new : Slo
     → new.slots.items ≡ old.slots.items ++ slot ∷ []
     → new.links.items ≡ old.links.items ++ (length old.slots.items + 1) ∷ []
     → AddsKey s.key (length old.slots.items) old.places.entries new.places.entries
+    → new.lefts.items ≡ old.lefts.items ++ length old.slots.items ∷ []
+    → new.pairs.items ≡ with_index (is_some s.key) old.pairs.items (length old.slots.items)
     → new.first ≡ old.first → IsOrdered string_cmp new.places
     → HoldsParsed body new (cells ++ record { slot = s; alive = true } ∷ [])
-parsed-push {body} {old} {cells} new slot s h is slots links stacks first ordered =
+parsed-push {body} {old} {cells} new slot s h is slots links stacks lefts pairs first ordered =
     let cell : Cell = record { slot = s; alive = true } in
     let size : length old.slots.items ≡ length cells = cells-length body old.slots.items cells h.cells_are in
     let linked = h.linked in
@@ -69,10 +73,13 @@ parsed-push {body} {old} {cells} new slot s h is slots links stacks first ordere
       links_are = rw (links, size) (links-push cells old.links.items cell no_cell h.links_are linked);
       places_are = λ key.
           stacks key
-          ∙ stack-more (is_told key s.key) (stack_at old.places.entries key) (length old.slots.items)
-          ∙ ap₂ (λ v n. v ++ (if is_told key s.key then n ∷ [] else [])) (h.places_are key) size
-          ∙ ap (λ b. places key cells ++ (if b then length cells ∷ [] else [])) (sym (slot-told key s))
+          ∙ stack-more (matches_key key s.key) (stack_at old.places.entries key) (length old.slots.items)
+          ∙ ap₂ (λ v n. v ++ (if matches_key key s.key then n ∷ [] else [])) (h.places_are key) size
+          ∙ ap (λ b. places key cells ++ (if b then length cells ∷ [] else [])) (sym (slot-matches_key key s))
           ∙ sym (places-push key cells s);
+      trails_are = trails-as (cells ++ cell ∷ []) (old.lefts.items ++ length cells ∷ []) (with_index (is_some s.key) old.pairs.items (length cells)) new.lefts.items
+          new.pairs.items (lefts ∙ ap (λ n. old.lefts.items ++ n ∷ []) size) (pairs ∙ ap (with_index (is_some s.key) old.pairs.items) size)
+          (trails-push cells s (is_some s.key) old.lefts.items old.pairs.items refl h.trails_are);
       first = first ∙ h.first;
       guard = ap (λ v. let w : Cell = v in w.slot) (get_or_append_left cells (cell ∷ []) no_cell 0 some) ∙ h.guard;
       some = omega arith;
@@ -89,7 +96,7 @@ group_cell g = record { slot = slot_of g; alive = true }
 pub record IsLastRead (cells : List Cell) (g : List HeldLine) (s : Slots) : Type 0 where
   pub ends : EndsAlive cells
   pub others : 1 < length cells
-  pub closing : closing_in s.closing s.parting ≡ closing_by (safe_ending (unended_bytes g)) g
+  pub closing : closing_in s.closing s.separation ≡ closing_by (safe_ending (unended_bytes g)) g
 
 -- These groups of a body were read, and the slots are theirs.
 pub record IsReadTo (e : Encoding) (body : List ℕ) (reader : GroupReader) (s : Slots) : Type 0 where
@@ -161,28 +168,29 @@ closing-group g group by empty opens = closing-tests group.is_empty group.is_ope
 -- One more group was read.
 pub parsed-more : {e : Encoding} {body : List ℕ} {s t : GroupReader} {old : Slots} {group : Group} (new : Slots) (told : Option (List ℕ)) → is_editable e ≡ true
     → IsReadTo e body s old → TakesGroup body s group t → IsSound (outcome_of (chars (text_of body t group)))
-    → told ≡ key_told (outcome_of (chars (text_of body t group)))
+    → told ≡ outcome_key (outcome_of (chars (text_of body t group)))
     → AddsGroup body group told old new → IsReadTo e body t new
 parsed-more {e} {body} {s} {t} {old} {group} new told ok h k sound is a =
     let g = k.held in
-    let key : told ≡ (slot_of g).key = is ∙ ap (λ v. key_told (outcome_of v)) k.text in
+    let key : told ≡ (slot_of g).key = is ∙ ap (λ v. outcome_key (outcome_of v)) k.text in
     let cell = group-slot a.slot ok h.read k a.kept a.added a.ending a.left in
     let places = subst (λ v. AddsKey v (length old.slots.items) old.places.entries new.places.entries) key a.places in
+    let pairs = subst (λ v. new.pairs.items ≡ with_index (is_some v) old.pairs.items (length old.slots.items)) key a.pairs in
     let some = h.holds.some in
     let more = length-append h.cells (group_cell g ∷ []) in
-    let by : ending_of new.parting ≡ safe_ending (unended_bytes g) = a.parting ∙ ap safe_ending (group-bytes ok h.read k) in
+    let by : ending_of new.separation ≡ safe_ending (unended_bytes g) = a.separation ∙ ap safe_ending (group-bytes ok h.read k) in
     record {
       groups = h.groups ++ g ∷ [];
       read = read-more h.read k sound;
       cells = h.cells ++ group_cell g ∷ [];
-      holds = parsed-push new a.slot (slot_of g) h.holds cell a.slots a.links places a.first a.ordered;
+      holds = parsed-push new a.slot (slot_of g) h.holds cell a.slots a.links places a.lefts pairs a.first a.ordered;
       list = live-push h.cells (slot_of g) ∙ ap (λ v. v ++ slot_of g ∷ []) h.list ∙ sym (slot_list-push h.groups g);
       last = inr (
           record {
             ends = ends-push h.cells (slot_of g);
             others = omega arith;
-            closing = ap (λ v. closing_in v new.parting) a.closing
-                ∙ closing-group g group new.parting k.span.empty k.span.opens
+            closing = ap (λ v. closing_in v new.separation) a.closing
+                ∙ closing-group g group new.separation k.span.empty k.span.opens
                 ∙ ap (λ v. closing_by v g) by
                 ∙ ap (λ v. closing_by (safe_ending (unended_bytes v)) v) (sym (final_group-push h.groups g));
           }
@@ -210,6 +218,7 @@ parsed-all {e} {body} {reader} {s} ok h done =
           linked = h.holds.linked;
           links_are = h.holds.links_are;
           places_are = h.holds.places_are;
+          trails_are = h.holds.trails_are;
           ends = last.ends;
           first_in = omega arith;
           first_is = λ k less. absurd (omega arith);

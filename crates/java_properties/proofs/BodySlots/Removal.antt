@@ -8,10 +8,11 @@ use Rattle.properties_format.specs.Reading.Slots.{is_by_cr, is_lf_alone, are_one
 use Rattle.properties_format.specs.Reading.Cells.{Cell, dead, AreLinks, AreDeadBetween}
 use Rattle.properties_format.proofs.Slots.Links.{links-kill, links-shorten}
 use Rattle.java_properties.specs.BodySlots.{LooseCells, AreCells, IsCell, no_cell}
-use Rattle.java_properties.specs.BodySlots.Removal.{Tells, FindsNext, without_cell, Leaves, other, at_end, apart, both, KeepsRest, LeavesOut}
+use Rattle.java_properties.specs.BodySlots.Removal.{ChecksSlot, FindsNext, without_cell, Leaves, other, at_end, apart, both, KeepsRest, LeavesOut}
 use Rattle.java_properties.specs.declared.edit.slots.Slot.{Slot}
 use Rattle.java_properties.specs.declared.edit.slots.Slots.{Slots}
 use Rattle.java_properties.proofs.BodySlots.{cells-length, cells-at, cells-set}
+use Rattle.java_properties.proofs.BodySlots.Trails.{trails-kill}
 
 pub loose-length : (body : List ℕ) (s : Slots) (cells : List Cell) → LooseCells body s cells
     → length s.slots.items ≡ length cells
@@ -53,6 +54,7 @@ goes-on old place next to s slot links g is left inside room link made = record 
         links_are = subst (λ v. AreLinks cells v no_cell)
             (ap (λ n. set s.links.items place (get_or s.links.items n 0)) (sym g.is) ∙ ap (set s.links.items place)
             (sym link) ∙ sym made) short;
+        trails_are = w.trails_are;
         first_in = w.first_in;
         first_is = w.first_is;
         guard = w.guard;
@@ -134,6 +136,7 @@ leaves-set old place slot slots is made = record {
             (dead (get_or cells place no_cell)) h.cells_are gone);
         linked = h.linked ∙ sym size;
         links_are = links-kill cells old.links.items place (get_or cells place no_cell) no_cell h.links_are l;
+        trails_are = trails-kill cells place (get_or cells place no_cell) old.lefts.items old.pairs.items l h.trails_are;
         first_in = omega arith;
         first_is = λ k r. (kill-slot cells place k no_cell l).1 (h.first_is k r);
         guard = (kill-slot cells place 0 no_cell l).0 ∙ h.guard;
@@ -146,19 +149,19 @@ rest-leave : (old : Slots) (place : ℕ) (new : Slots) → Leaves old place new 
 rest-leave old place new h = record {
   places = ap (λ v. let x : Slots = v in x.places) h.same;
   closing = ap (λ v. let x : Slots = v in x.closing) h.same;
-  parting = ap (λ v. let x : Slots = v in x.parting) h.same;
+  separation = ap (λ v. let x : Slots = v in x.separation) h.same;
 }
 
 rest-next : (old : Slots) (place next : ℕ) (new : Slots) → FindsNext old place next new → KeepsRest old new
 rest-next old place next new h = record {
   places = ap (λ v. let x : Slots = v in x.places) h.same;
   closing = ap (λ v. let x : Slots = v in x.closing) h.same;
-  parting = ap (λ v. let x : Slots = v in x.parting) h.same;
+  separation = ap (λ v. let x : Slots = v in x.separation) h.same;
 }
 
 pub rest-both : (a b c : Slots) → KeepsRest a b → KeepsRest b c → KeepsRest a c
 rest-both a b c h k =
-    record { places = k.places ∙ h.places; closing = k.closing ∙ h.closing; parting = k.parting ∙ h.parting }
+    record { places = k.places ∙ h.places; closing = k.closing ∙ h.closing; separation = k.separation ∙ h.separation }
 
 -- A slot that is read is the cell in its place.
 pub slot-is : (body : List ℕ) (s : Slots) (cells : List Cell) (i : ℕ) (slot : Slot) → LooseCells body s cells
@@ -172,13 +175,13 @@ slot-is body s cells i slot h l is =
     (cells-at body s.slots.items cells i slot no_cell h.cells_are (omega arith))
 
 -- A slot that was left out has the ending that it had.
-ending-told : (body : List ℕ) (s : Slots) (cells : List Cell) (place : ℕ) (slot : Slot) (told : Bool)
+ending-checked : (body : List ℕ) (s : Slots) (cells : List Cell) (place : ℕ) (slot : Slot) (told : Bool)
     → LooseCells body s (without_cell cells place)
     → place < length cells
     → slot ≡ get_or s.slots.items place slot
-    → Tells (λ t. is_by_cr t.ending) slot told
+    → ChecksSlot (λ t. is_by_cr t.ending) slot told
     → is_by_cr (get_or cells place no_cell).slot.ending ≡ told
-ending-told body s cells place slot told w l is tells =
+ending-checked body s cells place slot told w l is tells =
     let size = length-set cells place (dead (get_or cells place no_cell)) in
     ap (λ v. let t : format.Slot = v in is_by_cr t.ending) (sym (kill-slot cells place place no_cell l).0)
     ∙ sym (tells body (get_or (without_cell cells place) place no_cell)
@@ -186,7 +189,7 @@ ending-told body s cells place slot told w l is tells =
 
 -- A place is left out: alone where its slot ends in no CR,
 pub leaves-other : (old : Slots) (place : ℕ) (new : Slots) (slot : Slot) (told : Bool) → Leaves old place new
-    → slot ≡ get_or new.slots.items place slot → Tells (λ t. is_by_cr t.ending) slot told → told ≡ false
+    → slot ≡ get_or new.slots.items place slot → ChecksSlot (λ t. is_by_cr t.ending) slot told → told ≡ false
     → LeavesOut old place new
 leaves-other old place new slot told h is tells n = record {
   leaves = λ body cells w l.
@@ -194,7 +197,7 @@ leaves-other old place new slot told h is tells n = record {
       record {
         new = without_cell cells place;
         loose = left;
-        left = other (ending-told body new cells place slot told left l is tells ∙ n) refl;
+        left = other (ending-checked body new cells place slot told left l is tells ∙ n) refl;
       };
   same = rest-leave old place new h;
 }
@@ -221,28 +224,28 @@ leaves-end old place s next new h f e = record {
 }
 
 -- whether the next slot is the LF of the same line ending
-one-told : (body : List ℕ) (s new : Slots) (cells : List Cell) (place next : ℕ) (slot lone : Slot) (told : Bool)
+one-checked : (body : List ℕ) (s new : Slots) (cells : List Cell) (place next : ℕ) (slot lone : Slot) (told : Bool)
     → LooseCells body s (without_cell cells place)
     → LooseCells body new (without_cell cells place)
     → place < length cells
     → next < length (without_cell cells place)
     → slot ≡ get_or s.slots.items place slot
-    → Tells (λ t. is_by_cr t.ending) slot true
+    → ChecksSlot (λ t. is_by_cr t.ending) slot true
     → lone ≡ get_or new.slots.items next lone
-    → Tells is_lf_alone lone told
+    → ChecksSlot is_lf_alone lone told
     → are_one_ending (get_or cells place no_cell).slot (get_or (without_cell cells place) next no_cell).slot ≡ told
-one-told body s new cells place next slot lone told w x l m is ends lone_is tells =
+one-checked body s new cells place next slot lone told w x l m is ends lone_is tells =
     let t = get_or (without_cell cells place) next no_cell in
-    ap (λ b. b && is_lf_alone t.slot) (ending-told body s cells place slot true w l is ends)
+    ap (λ b. b && is_lf_alone t.slot) (ending-checked body s cells place slot true w l is ends)
     ∙ sym (tells body t (slot-is body new (without_cell cells place) next lone x m lone_is))
 
 -- and where the next has another line ending.
 pub leaves-apart : (old : Slots) (place : ℕ) (s : Slots) (next : ℕ) (new : Slots) (slot lone : Slot) (cr told : Bool)
     → Leaves old place s
-    → slot ≡ get_or s.slots.items place slot → Tells (λ t. is_by_cr t.ending) slot cr → cr ≡ true
+    → slot ≡ get_or s.slots.items place slot → ChecksSlot (λ t. is_by_cr t.ending) slot cr → cr ≡ true
     → FindsNext s place next new
     → next < length new.slots.items
-    → lone ≡ get_or new.slots.items next lone → Tells is_lf_alone lone told → told ≡ false
+    → lone ≡ get_or new.slots.items next lone → ChecksSlot is_lf_alone lone told → told ≡ false
     → LeavesOut old place new
 leaves-apart old place s next new slot lone cr told h is ends by_cr f e lone_is tells n = record {
   leaves = λ body cells w l.
@@ -255,8 +258,8 @@ leaves-apart old place s next new slot lone cr told h is ends by_cr f e lone_is 
         new = without_cell cells place;
         loose = found.1;
         left = apart next found.0 inside
-            (one-told body s new cells place next slot lone told left found.1 l inside is
-            (subst (Tells (λ t. is_by_cr t.ending) slot) by_cr ends) lone_is tells ∙ n) refl;
+            (one-checked body s new cells place next slot lone told left found.1 l inside is
+            (subst (ChecksSlot (λ t. is_by_cr t.ending) slot) by_cr ends) lone_is tells ∙ n) refl;
       };
   same = rest-both old s new (rest-leave old place s h) (rest-next s place next new f);
 }
@@ -264,10 +267,10 @@ leaves-apart old place s next new slot lone cr told h is ends by_cr f e lone_is 
 -- The next goes with it where it is the LF of the same line ending.
 pub leaves-both : (old : Slots) (place : ℕ) (s : Slots) (next : ℕ) (t new : Slots) (slot lone : Slot) (cr told : Bool)
     → Leaves old place s
-    → slot ≡ get_or s.slots.items place slot → Tells (λ t. is_by_cr t.ending) slot cr → cr ≡ true
+    → slot ≡ get_or s.slots.items place slot → ChecksSlot (λ t. is_by_cr t.ending) slot cr → cr ≡ true
     → FindsNext s place next t
     → next < length t.slots.items
-    → lone ≡ get_or t.slots.items next lone → Tells is_lf_alone lone told → told ≡ true
+    → lone ≡ get_or t.slots.items next lone → ChecksSlot is_lf_alone lone told → told ≡ true
     → Leaves t next new
     → LeavesOut old place new
 leaves-both old place s next t new slot lone cr told h is ends by_cr f e lone_is tells y k = record {
@@ -281,8 +284,8 @@ leaves-both old place s next t new slot lone cr told h is ends by_cr f e lone_is
         new = without_cell (without_cell cells place) next;
         loose = k.cells body (without_cell cells place) found.1 inside;
         left = both next found.0 inside
-            (one-told body s t cells place next slot lone told left found.1 l inside is
-            (subst (Tells (λ t. is_by_cr t.ending) slot) by_cr ends) lone_is tells ∙ y) refl;
+            (one-checked body s t cells place next slot lone told left found.1 l inside is
+            (subst (ChecksSlot (λ t. is_by_cr t.ending) slot) by_cr ends) lone_is tells ∙ y) refl;
       };
   same = rest-both old t new (rest-both old s t (rest-leave old place s h) (rest-next s place next t f))
       (rest-leave t next new k);

@@ -14,6 +14,7 @@ use Rattle.java_properties.specs.BodySlots.Removal.{IsEmptied, EmptiesLast, AreW
 use Rattle.java_properties.specs.declared.edit.slots.Slot.{Slot}
 use Rattle.java_properties.specs.declared.edit.slots.Slots.{Slots}
 use Rattle.java_properties.proofs.BodySlots.{cells-at, cells-set, cells-length}
+use Rattle.java_properties.proofs.BodySlots.Trails.{trails-first}
 
 -- ---- the LF in front
 
@@ -33,9 +34,9 @@ held-slot body s cells i slot h l is =
     (cells-at body s.slots.items cells i slot no_cell h.cells_are (omega arith))
 
 rest-first : (old : Slots) (n : ℕ) (s : Slots) → FindsFirst old n s
-    → (s.closing ≡ old.closing) × (s.parting ≡ old.parting)
+    → (s.closing ≡ old.closing) × (s.separation ≡ old.separation)
 rest-first old n s f =
-    (ap (λ v. let x : Slots = v in x.closing) f.same, ap (λ v. let x : Slots = v in x.parting) f.same)
+    (ap (λ v. let x : Slots = v in x.closing) f.same, ap (λ v. let x : Slots = v in x.separation) f.same)
 
 -- No LF comes in front after a mark,
 pub guards-marked : (body : List ℕ) (marked : Bool) (old : Slots) (n : ℕ) (s : Slots) → FindsFirst old n s
@@ -53,12 +54,12 @@ guards-marked body marked old n s f m =
                 (ap (λ v. not v && b) m);
           };
       closing = rest.0;
-      parting = rest.1;
+      separation = rest.1;
     }
 
-and-told : (b c : Bool) → c ≡ false → (b && c) ≡ false
-and-told true c k = k
-and-told false c k = refl
+and-false : (b c : Bool) → c ≡ false → (b && c) ≡ false
+and-false true c k = k
+and-false false c k = refl
 
 -- nor where the first slot does not begin like one.
 pub guards-not : (body : List ℕ) (marked : Bool) (old : Slots) (n : ℕ) (s : Slots) (slot : Slot) (told : Bool)
@@ -75,11 +76,11 @@ guards-not body marked old n s slot told f is tells no_mark =
             cells = cells;
             holds = found.1;
             list = guard-none marked cells n no_cell found.0.inside found.0.none_before found.0.left
-                (and-told (not marked) (begins_like_bom (get_or cells n no_cell).slot.bytes)
+                (and-false (not marked) (begins_like_bom (get_or cells n no_cell).slot.bytes)
                 (ap begins_like_bom cell.bytes ∙ sym tells ∙ no_mark));
           };
       closing = rest.0;
-      parting = rest.1;
+      separation = rest.1;
     }
 
 -- the first cell is not left, where another slot begins like a mark
@@ -121,6 +122,7 @@ guarded-set body marked s first slots (g ∷ cs) n h f is made m b =
             let keyless : slot_has k g.slot ≡ false = ap (slot_has k) h.guard in
             h.places_are k ∙ sym (places-set k (g ∷ cs) 0 front no_cell inside
             (keyless ∙ sym (ap (λ v. v && slot_has k g.slot) gone)));
+        trails_are = trails-first g front cs s.lefts.items s.pairs.items h.trails_are;
         ends = ends-set (g ∷ cs) 0 front inside refl h.ends;
         first_in = omega arith;
         first_is = λ k l. absurd (omega arith);
@@ -150,7 +152,7 @@ guards-set body marked old n s slot first slots told f is tells is_mark m first_
           (ap begins_like_bom cell.bytes ∙ sym tells ∙ is_mark) in
           record { cells = g.cells; holds = g.holds; list = g.list };
       closing = rest.0;
-      parting = rest.1;
+      separation = rest.1;
     }
 
 -- ---- a key is removed
@@ -190,6 +192,6 @@ removes body key marked old s t new empties leaves guards m well h =
       list = ap (slots_guarded marked) (e.list ∙ ap (slots_without key) e.holds.list ∙ o.list) ∙ g.list;
       closing = sym e.closing
           ∙ e.holds.closing
-          ∙ ap₂ closing_in (sym leaves.closing) (sym leaves.parting)
-          ∙ ap₂ closing_in (sym guards.closing) (sym guards.parting);
+          ∙ ap₂ closing_in (sym leaves.closing) (sym leaves.separation)
+          ∙ ap₂ closing_in (sym guards.closing) (sym guards.separation);
     }

@@ -163,9 +163,9 @@ places-popped key k cells i stack m has is = elim (cases_Bool (bytes_eq k key)) 
 -- ---- the slots
 
 -- whether a number was found
-pub number-told : (found : Option ℕ) (n : ℕ) → option_eq (λ a b. a == b) found (Some n) ≡ true → found ≡ Some n
-number-told None n t = absurd (cc)
-number-told (Some m) n t = elim (eqb_tells m n) [
+pub number-from_eq : (found : Option ℕ) (n : ℕ) → option_eq (λ a b. a == b) found (Some n) ≡ true → found ≡ Some n
+number-from_eq None n t = absurd (cc)
+number-from_eq (Some m) n t = elim (eqb_tells m n) [
   | inl s ↦ ap (λ v. Some v) s.1
   | inr s ↦ let other = s.0 in absurd (cc)
 ]
@@ -211,9 +211,11 @@ pub last-emptied : (key : List ℕ) (old new : Slots) (last : ℕ) (slot : Slot)
     → new.slots.items ≡ set old.slots.items last slot
     → new.links ≡ old.links
     → new.first ≡ old.first
+    → new.lefts ≡ old.lefts
+    → new.pairs ≡ old.pairs
     → new.closing ≡ closing.Nothing
     → EmptiesLast key old new
-last-emptied key old new last slot n is popped ordered empty made links first nothing body m well h =
+last-emptied key old new last slot n is popped ordered empty made links first lefts pairs nothing body m well h =
     let cells = h.cells in
     let size = cells-length body old.slots.items cells h.holds.cells_are in
     let more = h.holds.others in
@@ -238,12 +240,12 @@ last-emptied key old new last slot n is popped ordered empty made links first no
         cells = set cells last emptied;
         holds = holds-loose body new (set cells last emptied)
             (loose-set body old new cells last slot emptied h.holds (omega arith) (omega arith) at.alive (empty body)
-            made links first)
+            made links first lefts pairs (λ k. refl))
             (ends-set cells last emptied (omega arith) refl h.holds.ends) (omega arith)
             (λ k. popped k ∙ places-popped key k cells last (stack_at old.places.entries k) at has (h.holds.places_are k))
             ordered;
         list = refl;
-        closing = sym (ap (λ v. closing_in v new.parting) nothing);
+        closing = sym (ap (λ v. closing_in v new.separation) nothing);
       };
       well_ended = record {
         slots = subst AreWellEnded (sym list)

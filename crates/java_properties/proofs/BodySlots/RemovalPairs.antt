@@ -41,6 +41,7 @@ going-start key old initial todo same is = record {
         cells_are = h.cells_are;
         linked = h.linked;
         links_are = h.links_are;
+        trails_are = h.trails_are;
         first_in = h.first_in;
         first_is = h.first_is;
         guard = h.guard;
@@ -52,7 +53,7 @@ going-start key old initial todo same is = record {
         loose = subst (λ v. LooseCells body v start) back loose;
         removing = subst (λ v. IsRemoving key start start v no_cell) all (removing-start key start no_cell a h.ends);
       };
-  rest = record { places = refl; closing = refl; parting = refl };
+  rest = record { places = refl; closing = refl; separation = refl };
 }
 
 -- a place has a slot
@@ -122,9 +123,9 @@ pub going-end : (key : List ℕ) (old initial s : Slots) (todo : List ℕ) (n : 
     → ((k : List ℕ) → stack_at initial.places.entries k ≡ (if bytes_eq k key then [] else stack_at old.places.entries k))
     → IsOrdered string_cmp initial.places
     → initial.closing ≡ old.closing
-    → initial.parting ≡ old.parting
+    → initial.separation ≡ old.separation
     → LeavesPairs key old s
-going-end key old initial s todo n g end others ordered closing parting = record {
+going-end key old initial s todo n g end others ordered closing separation = record {
   leaves = λ body start h a none.
       let now = (subst (AreGoing key old initial s) (drop_all n todo end) g).going body start h a in
       let r = now.removing in
@@ -141,7 +142,7 @@ going-end key old initial s todo n g end others ordered closing parting = record
         list = (removed-last_left key start now.cells last no_cell a h.ends (omega arith) r alive).1;
       };
   closing = g.rest.closing ∙ closing;
-  parting = g.rest.parting ∙ parting;
+  separation = g.rest.separation ∙ separation;
 }
   where
     apart-too : (k : List ℕ) → bytes_eq k key ≡ false → bytes_eq key k ≡ false

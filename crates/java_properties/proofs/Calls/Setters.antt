@@ -10,7 +10,7 @@ use Rattle.properties_format.proofs.Settings.Tests.{is_good_prefix-from, IsGoodP
 use Rattle.java_properties.specs.Errors.{kind_of}
 use Rattle.java_properties.specs.Settings.{with_prefix, with_separator}
 use Rattle.java_properties.specs.PropertiesWriter.{Writing, SetsPrefix, SetsSeparator, with_settings}
-use Rattle.java_properties.specs.Calls.{is_not_accepted, SaysAccepted, MayMake, Fails, MakesCall}
+use Rattle.java_properties.specs.Calls.{is_not_accepted, IsAcceptedResult, MayMake, Fails, MakesCall}
 use Rattle.java_properties.specs.declared.error.PropertiesError.{PropertiesError}
 use Rattle.java_properties.proofs.Calls.Made.{made-quiet}
 
@@ -24,20 +24,20 @@ good-separator separator bad = elim (cases_Bool (is_good_separator separator)) [
 
 module _ {W : Type 0} (sink : Sink W) (old new : Writing W) (result : Result Bool PropertiesError) where
   -- the call failed
-  failed : (call : Call) (error : PropertiesError) → is_not_accepted (kind_of error) ≡ false → Fails sink old call error new → SaysAccepted (Err error) result
+  failed : (call : Call) (error : PropertiesError) → is_not_accepted (kind_of error) ≡ false → Fails sink old call error new → IsAcceptedResult (Err error) result
       → MakesCall sink old call result new
   failed call error final fails is = rw (is, final) (record { fails = fails; final = final })
 
   -- the call was not accepted, and nothing changed
   refused : (call : Call) (error : PropertiesError) → MayMake old.failed call → is_not_accepted (kind_of error) ≡ true → is_accepted old.settings call ≡ false → written_line old.settings call ≡ None
-      → (call ≡ flush_call → ⊥) → settings_after_call old.settings call ≡ old.settings → new ≡ old → SaysAccepted (Err error) result → MakesCall sink old call result new
+      → (call ≡ flush_call → ⊥) → settings_after_call old.settings call ≡ old.settings → new ≡ old → IsAcceptedResult (Err error) result → MakesCall sink old call result new
   refused call error live said unaccepted none other kept same is = rw (is, said) (record {
     answer = sym unaccepted;
     made = made-quiet call live none other (same ∙ ap (with_settings old) (sym kept));
     quiet = λ e f. ap (λ (v : Writing W). v.sink) same;
   })
 
-  pub prefix-makes : (prefix : List ℕ) (answer : Result Unit PropertiesError) → SetsPrefix old prefix answer new → SaysAccepted answer result
+  pub prefix-makes : (prefix : List ℕ) (answer : Result Unit PropertiesError) → SetsPrefix old prefix answer new → IsAcceptedResult answer result
       → MakesCall sink old (prefix_call prefix) result new
   prefix-makes prefix (Ok done) h is =
       let good = is_good_prefix-from prefix h.good in
@@ -53,7 +53,7 @@ module _ {W : Type 0} (sink : Sink W) (old new : Writing W) (result : Result Boo
       refused (prefix_call prefix) error tt (ap is_not_accepted h.refuses.its_kind) bad refl (λ q. absurd (cc)) kept h.same is
   prefix-makes prefix (Err error) (inr h) is = failed (prefix_call prefix) error (ap is_not_accepted h.is.its_kind) h is
 
-  pub separator-makes : (separator : List ℕ) (answer : Result Unit PropertiesError) → SetsSeparator old separator answer new → SaysAccepted answer result
+  pub separator-makes : (separator : List ℕ) (answer : Result Unit PropertiesError) → SetsSeparator old separator answer new → IsAcceptedResult answer result
       → MakesCall sink old (separator_call separator) result new
   separator-makes separator (Ok done) h is =
       let good = is_good_separator-from separator h.good in

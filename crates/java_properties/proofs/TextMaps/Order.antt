@@ -18,7 +18,7 @@ use Rattle.std.proofs.lemmas.List.Sorted.{IsPermutation-map, IsPermutation-refl}
 use Rattle.std.proofs.lemmas.Map.Keys.{IsDistinct-head, IsDistinct-tail, IsDistinct-cons, IsDistinct-from_apart, IsDistinct-IsPermutation, apart_from_distinct, sorted_from_all_adjacent}
 use Rattle.std.proofs.lemmas.Map.Lookups.{exact_bytes}
 use Rattle.std.proofs.lemmas.Slice.Eq.{bytes_eq-Decides}
-use Rattle.java_properties.specs.Maps.{Entries, entry_texts, lent_texts, texts_of, AreInOrder}
+use Rattle.java_properties.specs.Maps.{Entries, entry_texts, borrowed_texts, texts_of, AreInOrder}
 use Rattle.java_properties.proofs.TextMaps.Values.{flipped}
 
 -- of two keys that differ, the one that isn't greater is less
@@ -48,42 +48,42 @@ distinct-bytes (e ∷ entries) h = IsDistinct-cons bytes_eq (string_bytes e.0) (
     (all-apart e.0 entries (IsDistinct-head string_eq e.0 (keys_of entries) h)) (distinct-bytes entries (IsDistinct-tail string_eq e.0 (keys_of entries) h))
 
 module _ {Y Z : Type 0} where
-  abbrev lent_key : Bor (String Y) × Bor (String Z) → List ℕ
-  lent_key entry = string_bytes entry.0.now
+  abbrev borrowed_key : Bor (String Y) × Bor (String Z) → List ℕ
+  borrowed_key entry = string_bytes entry.0.now
 
   abbrev pair_cmp : Bor (String Y) × Bor (String Z) → Bor (String Y) × Bor (String Z) → Ordering
   pair_cmp x y = ordering_then (string_cmp x.0.now y.0.now) (string_cmp x.1.now y.1.now)
 
-  keys-are : (xs : List (Bor (String Y) × Bor (String Z))) → keys_of (texts_of xs) ≡ map lent_key xs
-  keys-are xs = map-map (λ (e : List ℕ × List ℕ). e.0) lent_texts xs
+  keys-are : (xs : List (Bor (String Y) × Bor (String Z))) → keys_of (texts_of xs) ≡ map borrowed_key xs
+  keys-are xs = map-map (λ (e : List ℕ × List ℕ). e.0) borrowed_texts xs
 
-  neighbours : (xs : List (Bor (String Y) × Bor (String Z))) (d : Bor (String Y) × Bor (String Z)) → IsSorted pair_cmp xs → IsDistinct bytes_eq (map lent_key xs)
-      → (k : ℕ) → k + 1 < length (map lent_key xs)
-      → slice_cmp nat_cmp (get_or (map lent_key xs) k (lent_key d)) (get_or (map lent_key xs) (k + 1) (lent_key d)) ≡ Less
+  neighbours : (xs : List (Bor (String Y) × Bor (String Z))) (d : Bor (String Y) × Bor (String Z)) → IsSorted pair_cmp xs → IsDistinct bytes_eq (map borrowed_key xs)
+      → (k : ℕ) → k + 1 < length (map borrowed_key xs)
+      → slice_cmp nat_cmp (get_or (map borrowed_key xs) k (borrowed_key d)) (get_or (map borrowed_key xs) (k + 1) (borrowed_key d)) ≡ Less
   neighbours xs d sorted distinct k inside =
-      let within : k + 1 < length xs = let e = length-map xs lent_key in omega (arith, inside, e) in
-      let here = get_or-map lent_key xs k d (lent_key d) (omega (arith, within)) in
-      let next = get_or-map lent_key xs (k + 1) d (lent_key d) within in
-      let apart = apart_from_distinct bytes_eq (map lent_key xs) k (k + 1) (lent_key d) distinct (omega arith) inside in
+      let within : k + 1 < length xs = let e = length-map xs borrowed_key in omega (arith, inside, e) in
+      let here = get_or-map borrowed_key xs k d (borrowed_key d) (omega (arith, within)) in
+      let next = get_or-map borrowed_key xs (k + 1) d (borrowed_key d) within in
+      let apart = apart_from_distinct bytes_eq (map borrowed_key xs) k (k + 1) (borrowed_key d) distinct (omega arith) inside in
       let x = get_or xs k d in
       let y = get_or xs (k + 1) d in
       let above = first-decides (string_cmp y.0.now x.0.now) (string_cmp y.1.now x.1.now) (sorted k d (omega arith) within) in
-      let A : List ℕ → Type 0 = λ v. is_lt (slice_cmp nat_cmp v (lent_key x)) ≡ false in
-      let B : List ℕ → Type 0 = λ v. is_lt (slice_cmp nat_cmp (get_or (map lent_key xs) (k + 1) (lent_key d)) v) ≡ false in
-      ascends (get_or (map lent_key xs) k (lent_key d)) (get_or (map lent_key xs) (k + 1) (lent_key d)) (subst B (sym here) (subst A (sym next) above)) apart
+      let A : List ℕ → Type 0 = λ v. is_lt (slice_cmp nat_cmp v (borrowed_key x)) ≡ false in
+      let B : List ℕ → Type 0 = λ v. is_lt (slice_cmp nat_cmp (get_or (map borrowed_key xs) (k + 1) (borrowed_key d)) v) ≡ false in
+      ascends (get_or (map borrowed_key xs) k (borrowed_key d)) (get_or (map borrowed_key xs) (k + 1) (borrowed_key d)) (subst B (sym here) (subst A (sym next) above)) apart
 
   -- pairs in order, whose keys differ, have keys that ascend
-  strict : (xs : List (Bor (String Y) × Bor (String Z))) → IsSorted pair_cmp xs → IsDistinct bytes_eq (map lent_key xs)
-      → IsStrictlySortedBy (slice_cmp nat_cmp) (map lent_key xs)
+  strict : (xs : List (Bor (String Y) × Bor (String Z))) → IsSorted pair_cmp xs → IsDistinct bytes_eq (map borrowed_key xs)
+      → IsStrictlySortedBy (slice_cmp nat_cmp) (map borrowed_key xs)
   strict [] sorted distinct = sorted_from_all_adjacent nat_list_cmp_total [] [] (λ k inside. absurd (omega (arith, inside)))
-  strict (x ∷ xs) sorted distinct = sorted_from_all_adjacent nat_list_cmp_total (map lent_key (x ∷ xs)) (lent_key x) (neighbours (x ∷ xs) x sorted distinct)
+  strict (x ∷ xs) sorted distinct = sorted_from_all_adjacent nat_list_cmp_total (map borrowed_key (x ∷ xs)) (borrowed_key x) (neighbours (x ∷ xs) x sorted distinct)
 
 -- the entries of a map, after they were sorted
 pub in-order : {Y Z S : Type 0} (m : HashMap (String Y) (String Z) S) (xs ys : List (Bor (String Y) × Bor (String Z))) → texts_of xs ≡ map entry_texts m.entries
     → IsUnique string_eq m → IsPermutation xs ys → IsSorted (pair_cmp {Y = Y} {Z = Z}) ys → AreInOrder m.entries (texts_of ys)
 in-order {Y} {Z} m xs ys all unique moved sorted =
     let P : List (List ℕ × List ℕ) → Type 0 = λ v. IsPermutation v (texts_of ys) in
-    let entries = subst P all (IsPermutation-map lent_texts xs ys moved) in
+    let entries = subst P all (IsPermutation-map borrowed_texts xs ys moved) in
     let keys = IsPermutation-map (λ (e : List ℕ × List ℕ). e.0) (map entry_texts m.entries) (texts_of ys) entries in
     let distinct = IsDistinct-IsPermutation bytes_eq flipped (keys_of (map entry_texts m.entries)) (keys_of (texts_of ys)) keys (distinct-bytes m.entries unique) in
     let Q : List (List ℕ) → Type 0 = IsDistinct bytes_eq in

@@ -9,7 +9,7 @@ use Rattle.properties_format.specs.Maps.{IsMap}
 use Rattle.properties_format.proofs.Maps.{map-none, map-comment, map-pair}
 use Rattle.java_properties.specs.Errors.{IsBareError}
 use Rattle.java_properties.specs.Line.{number_of, content_of}
-use Rattle.java_properties.specs.PropertiesIter.{said, entry_of}
+use Rattle.java_properties.specs.PropertiesIter.{format_content, entry_of}
 use Rattle.java_properties.specs.GivenItems.{GivesEntry, GivesNone, GivesMalformed, GivesError}
 use Rattle.java_properties.specs.ReadLines.{entries_in, StopsReading}
 use Rattle.java_properties.specs.Maps.{Entries, value_at, InsertsIfPair, HasReadMap, ReadsValue}
@@ -42,13 +42,13 @@ module _ {R Y Z : Type 0} {reader : Reader R} {e : Encoding} where
 
   -- an item came, and went into the map if it is a pair
   pub passed-more : {from to next : R} {m n : Entries Y Z} {s t : ReaderState} (line : Line) → HasPassed reader e from m s to
-      → GivesEntry reader s to (entry_of line) t next → InsertsIfPair m (said (content_of line)) (Ok tt) n → HasPassed reader e from n t next
+      → GivesEntry reader s to (entry_of line) t next → InsertsIfPair m (format_content (content_of line)) (Ok tt) n → HasPassed reader e from n t next
   passed-more {from = from} {next = next} {m = m} {n = n} {t = t} line h g k = record {
     lines = h.lines ++ (line ∷ []);
     bytes = h.bytes ++ g.bytes;
     collected = let P : List Entry → Type 0 = λ v. Collected reader e from (h.bytes ++ g.bytes) v t next in
         subst P (entries-more h.lines line) (collected-next h.collected g);
-    is_map = let P : List Entry → Type 0 = λ v. IsMap v (value_at n) in subst P (entries-more h.lines line) (by-content (said (content_of line)) k);
+    is_map = let P : List Entry → Type 0 = λ v. IsMap v (value_at n) in subst P (entries-more h.lines line) (by-content (format_content (content_of line)) k);
   }
     where
       by-content : (c : Content) → InsertsIfPair m c (Ok tt) n → IsMap (entries_in h.lines ++ (item (number_of line) c ∷ [])) (value_at n)

@@ -36,8 +36,8 @@ lookup-never t never [] = refl
 lookup-never t never (e ∷ es) = rw (never e.0) (lookup-never t never es)
 
 -- a key of characters is sought by its bytes
-sought : (key : List ℕ) → all_scalars key ≡ true → (x : List ℕ) → IsUtf8 x → bytes_eq key (chars x) ≡ bytes_eq (encode_utf8_all key) x
-sought key s x is = together (bytes_eq key (chars x)) (bytes_eq (encode_utf8_all key) x)
+compares_encoded : (key : List ℕ) → all_scalars key ≡ true → (x : List ℕ) → IsUtf8 x → bytes_eq key (chars x) ≡ bytes_eq (encode_utf8_all key) x
+compares_encoded key s x is = together (bytes_eq key (chars x)) (bytes_eq (encode_utf8_all key) x)
     (λ h. (bytes_eq-Decides (encode_utf8_all key) x).1 (ap encode_utf8_all ((bytes_eq-Decides key (chars x)).0 h) ∙ encodes-chars x is))
     (λ h. (bytes_eq-Decides key (chars x)).1 (sym (chars-encodes key s) ∙ ap chars ((bytes_eq-Decides (encode_utf8_all key) x).0 h)))
 
@@ -69,7 +69,7 @@ at_bytes entries bytes = lookup (λ x. bytes_eq bytes (string_bytes x)) entries
 -- what entries have at characters is what they have at their bytes,
 by-bytes : {Y X : Type 0} (k : List ℕ) → all_scalars k ≡ true → (f : List (String Y × X)) → at_chars f k ≡ at_bytes f (encode_utf8_all k)
 by-bytes k s f = lookup-same (λ x. bytes_eq k (characters x)) (λ x. bytes_eq (encode_utf8_all k) (string_bytes x))
-    (λ x. sought k s (string_bytes x) (IsUtf8-string_bytes x)) f
+    (λ x. compares_encoded k s (string_bytes x) (IsUtf8-string_bytes x)) f
 
 -- and at what is no text they have nothing
 by-none : {Y X : Type 0} (k : List ℕ) → all_scalars k ≡ false → (f : List (String Y × X)) → at_chars f k ≡ None
@@ -106,7 +106,7 @@ module _ {Y X : Type 0} (old new : List (String Y × X)) (key : List ℕ) (is : 
   of-text s =
       by-bytes k s new
       ∙ h (encode_utf8_all k)
-      ∙ ap (λ b. cond b value (at_bytes old (encode_utf8_all k))) (flipped key (encode_utf8_all k) ∙ sym (sought k s key is) ∙ flipped k (chars key))
+      ∙ ap (λ b. cond b value (at_bytes old (encode_utf8_all k))) (flipped key (encode_utf8_all k) ∙ sym (compares_encoded k s key is) ∙ flipped k (chars key))
       ∙ ap (cond (bytes_eq (chars key) k) value) (sym (by-bytes k s old))
 
   of-none : all_scalars k ≡ false → at_chars new k ≡ update bytes_eq (at_chars old) (chars key) value k

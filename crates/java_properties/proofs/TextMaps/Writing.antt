@@ -17,7 +17,7 @@ use Rattle.java_properties.specs.Engine.{writing}
 use Rattle.java_properties.specs.Errors.{kind_of}
 use Rattle.java_properties.specs.PropertiesWriter.{Writing, new_writer, WritesLine, Flushes, HasWrittenLine, IsRefusedBy}
 use Rattle.java_properties.specs.Calls.{HasMade, is_not_accepted}
-use Rattle.java_properties.specs.Maps.{Texts, lent_texts, texts_of, call_for, calls_for, StopsInPairs, WritesPairs}
+use Rattle.java_properties.specs.Maps.{Texts, borrowed_texts, texts_of, call_for, calls_for, StopsInPairs, WritesPairs}
 use Rattle.java_properties.specs.declared.error.ErrorKind.{ErrorKind}
 use Rattle.java_properties.specs.declared.error.ErrorKind.TheVariants as kind
 use Rattle.java_properties.specs.declared.error.PropertiesError.{PropertiesError}
@@ -52,28 +52,28 @@ refused-final w key value other same reason = absurd reason
 
 -- ---- a list of pairs, cut at one of them
 
-abbrev lent_call : {Y Z : Type 0} → Bor (String Y) × Bor (String Z) → Call
-lent_call entry = call_for (lent_texts entry)
+abbrev borrowed_call : {Y Z : Type 0} → Bor (String Y) × Bor (String Z) → Call
+borrowed_call entry = call_for (borrowed_texts entry)
 
 -- the calls of the first pairs
 abbrev first_calls : {Y Z : Type 0} → ℕ → List (Bor (String Y) × Bor (String Z)) → List Call
 first_calls i entries = take i (calls_for (texts_of entries))
 
-calls-are : {Y Z : Type 0} (entries : List (Bor (String Y) × Bor (String Z))) → calls_for (texts_of entries) ≡ map lent_call entries
-calls-are entries = map-map call_for lent_texts entries
+calls-are : {Y Z : Type 0} (entries : List (Bor (String Y) × Bor (String Z))) → calls_for (texts_of entries) ≡ map borrowed_call entries
+calls-are entries = map-map call_for borrowed_texts entries
 
 module _ {Y Z : Type 0} (entries : List (Bor (String Y) × Bor (String Z))) (i : ℕ) (entry : Bor (String Y) × Bor (String Z)) (below : i < length entries) (is : entry ≡ get_or entries i entry) where
-  cut-at : calls_for (texts_of entries) ≡ first_calls i entries ++ (lent_call entry ∷ drop (i + 1) (calls_for (texts_of entries)))
+  cut-at : calls_for (texts_of entries) ≡ first_calls i entries ++ (borrowed_call entry ∷ drop (i + 1) (calls_for (texts_of entries)))
   cut-at =
-      let P : List Call → Type 0 = λ v. v ≡ take i v ++ (lent_call entry ∷ drop (i + 1) v) in
-      let Q : Bor (String Y) × Bor (String Z) → Type 0 = λ e. map lent_call entries ≡ take i (map lent_call entries) ++ (lent_call e ∷ drop (i + 1) (map lent_call entries)) in
-      subst P (sym (calls-are entries)) (subst Q (sym is) (calls-cut lent_call entries i entry below))
+      let P : List Call → Type 0 = λ v. v ≡ take i v ++ (borrowed_call entry ∷ drop (i + 1) v) in
+      let Q : Bor (String Y) × Bor (String Z) → Type 0 = λ e. map borrowed_call entries ≡ take i (map borrowed_call entries) ++ (borrowed_call e ∷ drop (i + 1) (map borrowed_call entries)) in
+      subst P (sym (calls-are entries)) (subst Q (sym is) (calls-cut borrowed_call entries i entry below))
 
-  take-at : first_calls (i + 1) entries ≡ first_calls i entries ++ (lent_call entry ∷ [])
+  take-at : first_calls (i + 1) entries ≡ first_calls i entries ++ (borrowed_call entry ∷ [])
   take-at =
-      let P : List Call → Type 0 = λ v. take (i + 1) v ≡ take i v ++ (lent_call entry ∷ []) in
-      let Q : Bor (String Y) × Bor (String Z) → Type 0 = λ e. take (i + 1) (map lent_call entries) ≡ take i (map lent_call entries) ++ (lent_call e ∷ []) in
-      subst P (sym (calls-are entries)) (subst Q (sym is) (calls-take lent_call entries i entry below))
+      let P : List Call → Type 0 = λ v. take (i + 1) v ≡ take i v ++ (borrowed_call entry ∷ []) in
+      let Q : Bor (String Y) × Bor (String Z) → Type 0 = λ e. take (i + 1) (map borrowed_call entries) ≡ take i (map borrowed_call entries) ++ (borrowed_call e ∷ []) in
+      subst P (sym (calls-are entries)) (subst Q (sym is) (calls-take borrowed_call entries i entry below))
 
 -- ---- pairs that are written
 
@@ -92,7 +92,7 @@ module _ {W Y Z : Type 0} (sink : Sink W) (a : Encoding) (old : W) (entries : Li
   first-all i w above h =
       let P : List Call → Type 0 = λ v. HasMade sink (new_writer a old) v w in
       let one = length-map (texts_of entries) call_for in
-      let two = length-map entries lent_texts in
+      let two = length-map entries borrowed_texts in
       let all : length (calls_for (texts_of entries)) ≤ i = omega (arith, above, one, two) in
       subst P (take_all i (calls_for (texts_of entries)) all) h
 
@@ -126,11 +126,11 @@ module _ {W Y Z : Type 0} (sink : Sink W) (a : Encoding) (old : W) (entries : Li
           writer = new;
           stops = record {
             before = first_calls i entries;
-            call = lent_call entry;
+            call = borrowed_call entry;
             others = others ++ (flush_call ∷ []);
             division =
                 ap (λ v. v ++ (flush_call ∷ [])) (cut-at entries i entry below is)
-                ∙ append_assoc (first_calls i entries) (lent_call entry ∷ others) (flush_call ∷ []);
+                ∙ append_assoc (first_calls i entries) (borrowed_call entry ∷ others) (flush_call ∷ []);
             middle = w;
             made = h;
             fails = record { fails = subst R value_is (subst Q key_is fails); final = pair-final i (chars key) (chars value) w new error h fails };

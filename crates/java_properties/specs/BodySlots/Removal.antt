@@ -10,8 +10,8 @@ use Rattle.java_properties.specs.declared.edit.slots.Slots.{Slots}
 -- ---- one slot
 
 -- The result of testing a slot, for each cell that it can be.
-abbrev pub Tells : (format.Slot → Bool) → Slot → Bool → Type 0
-Tells test slot result = (body : List ℕ) (cell : Cell) → IsCell body slot cell → result ≡ test cell.slot
+abbrev pub ChecksSlot : (format.Slot → Bool) → Slot → Bool → Type 0
+ChecksSlot test slot result = (body : List ℕ) (cell : Cell) → IsCell body slot cell → result ≡ test cell.slot
 
 -- ---- while slots are removed
 
@@ -71,7 +71,7 @@ pub record LeftCells (body : List ℕ) (cells : List Cell) (place : ℕ) (s : Sl
 pub record KeepsRest (old new : Slots) : Type 0 where
   pub places : new.places ≡ old.places
   pub closing : new.closing ≡ old.closing
-  pub parting : new.parting ≡ old.parting
+  pub separation : new.separation ≡ old.separation
 
 -- The slot at this index was removed, and with it an LF after it that belongs to its line ending.
 pub record LeavesOut (old : Slots) (place : ℕ) (new : Slots) : Type 0 where
@@ -108,7 +108,7 @@ pub record LeavesPairs (key : List ℕ) (old new : Slots) : Type 0 where
       → last_has key (live start) ≡ false
       → AreWithout body key start new
   pub closing : new.closing ≡ old.closing
-  pub parting : new.parting ≡ old.parting
+  pub separation : new.separation ≡ old.separation
 
 -- ---- the LF in front
 
@@ -127,4 +127,4 @@ pub record IsGuarded (body : List ℕ) (marked : Bool) (old : List Cell) (s : Sl
 pub record Guards (body : List ℕ) (marked : Bool) (old new : Slots) : Type 0 where
   pub guards : (cells : List Cell) → HoldsCells body old cells → IsGuarded body marked cells new
   pub closing : new.closing ≡ old.closing
-  pub parting : new.parting ≡ old.parting
+  pub separation : new.separation ≡ old.separation

@@ -5,7 +5,7 @@ ghost use Rattle.std.specs.Option.{option_map};
 ghost use Rattle.std.specs.Str.{chars};
 ghost use Rattle.properties_format.specs.Laws.{SplittingCommutes};
 ghost use Rattle.properties_text.specs.Encoding.{encoding_of};
-ghost use Rattle.java_properties.specs.Documents.{HasKeysInOrder, HasValueAt, OpensDocument, PutsInto, RemovesFrom, TellsKey};
+ghost use Rattle.java_properties.specs.Documents.{HasKeysInOrder, HasValueAt, OpensDocument, PutsInto, RemovesFrom, SetsValueIn, ChecksHasKey};
 
 use crate::edit::slots::Slots;
 use crate::edit::source::BodyStart;
@@ -99,7 +99,7 @@ impl Document {
     /// assert!(rt; !document.contains_key("host"));
     /// ```
     pub fn contains_key(&self, key: &str) -> bool
-        ensures { TellsKey self.now (chars key.now) result }
+        ensures { ChecksHasKey self.now (chars key.now) result }
     {
         self.get(key).is_some()
     }
@@ -124,6 +124,33 @@ impl Document {
     {
         let before = put_value(self.alloc, &mut self.values, key, value)?;
         match self.slots.put(self.alloc, self.opened.encoding, key, value) {
+            Ok(()) => Ok(()),
+            Err(error) => {
+                restore_value(&mut self.values, key, before);
+                Err(error)
+            }
+        }
+    }
+
+    /// Sets the value of a key and keeps the layout of its line, as [`set_value`](crate::set_value) does. If memory runs
+    /// out, nothing changes.
+    ///
+    /// ```text
+    /// let mut document = Document::parse(alloc, b"port  = 80\n", Encoding::UTF_8)?;
+    /// document.set_value("port", "8080")?;
+    /// let bytes = document.to_bytes(alloc)?;
+    /// // They are `port  = 8080` and a line feed.
+    /// ```
+    pub fn set_value(&mut self, key: &str, value: &str) -> Result<(), AllocError>
+        ensures { SetsValueIn (chars key.now) (chars value.now) self.old result self.new }
+    {
+        let alloc = self.alloc;
+        let before = put_value(alloc, &mut self.values, key, value)?;
+        let body = &self.source[self.opened.start..];
+        match self
+            .slots
+            .set_value(alloc, self.opened.encoding, body, key, value)
+        {
             Ok(()) => Ok(()),
             Err(error) => {
                 restore_value(&mut self.values, key, before);

@@ -1,7 +1,7 @@
 // Iterates over the groups of a body that is held in memory: logical lines, with the spans of their bytes.
 
 ghost use Rattle.std.specs.Prelude.{◌≡◌, ℕ, List, false, IfOk};
-ghost use Rattle.properties_lines.specs.HeldLines.{StandsInBody};
+ghost use Rattle.properties_lines.specs.HeldLines.{IsInBody};
 ghost use Rattle.java_properties.specs.BodyLines.{IsEndingOf};
 ghost use Rattle.properties_text.specs.Encoding.{encoding_of};
 ghost use Rattle.properties_lines.specs.LineSearch.{unit_size};
@@ -62,7 +62,7 @@ impl GroupReader {
         ensures start { result.scanner.at ≡ 0 }
         ensures none { result.scanner.passed ≡ 0 }
         ensures going { result.scanner.is_done ≡ false }
-        ensures stands { (body : List ℕ) → StandsInBody result.scanner body }
+        ensures within_body { (body : List ℕ) → IsInBody result.scanner body }
     {
         GroupReader {
             scanner: Scanner::in_body(encoding),

@@ -1,10 +1,10 @@
 // The keys and pairs of logical lines.
 
 ghost use Rattle.std.specs.Str.{chars};
-ghost use Rattle.java_properties.specs.BodyKeys.{FindsItem, TellsKey};
-ghost use Rattle.java_properties.specs.BodySlots.{TellsKeyOf};
-ghost use Rattle.java_properties.specs.BodyDocuments.{TellsPairOf};
-ghost use Rattle.java_properties.specs.BodyValues.{TellsValue};
+ghost use Rattle.java_properties.specs.BodyKeys.{FindsItem, ChecksKeyOfLine};
+ghost use Rattle.java_properties.specs.BodySlots.{FindsKeyOfLine};
+ghost use Rattle.java_properties.specs.BodyDocuments.{FindsPairOfLine};
+ghost use Rattle.java_properties.specs.BodyValues.{ChecksValueOfLine};
 
 use crate::error::PropertiesError;
 use crate::iter::found::{Found, find_escaped, find_plain};
@@ -14,7 +14,7 @@ use std::alloc::Global;
 /// Returns whether a logical line is a pair with this key. Fails if an escape in the line, which has this number, is
 /// malformed, or if memory runs out.
 pub fn has_key(alloc: Global, number: usize, line: &str, key: &str) -> Result<bool, PropertiesError>
-    ensures { TellsKey (chars line.now) (chars key.now) number result }
+    ensures { ChecksKeyOfLine (chars line.now) (chars key.now) number result }
 {
     match find_item(alloc, number, line)? {
         Some(found) => Ok(found.has_key(line, key)),
@@ -30,7 +30,7 @@ pub fn has_value(
     line: &str,
     value: &str,
 ) -> Result<bool, PropertiesError>
-    ensures { TellsValue (chars line.now) (chars value.now) number result }
+    ensures { ChecksValueOfLine (chars line.now) (chars value.now) number result }
 {
     match find_item(alloc, number, line)? {
         Some(found) => Ok(found.has_value(line, value)),
@@ -41,7 +41,7 @@ pub fn has_value(
 /// Returns the key of a logical line, or `None` if it isn't a pair. Fails if an escape in the line, which has this
 /// number, is malformed, or if memory runs out.
 pub fn key_of(alloc: Global, number: usize, line: &str) -> Result<Option<String>, PropertiesError>
-    ensures { TellsKeyOf (chars line.now) number result }
+    ensures { FindsKeyOfLine (chars line.now) number result }
 {
     match find_item(alloc, number, line)? {
         Some(found) => Ok(found.key(alloc, line)?),
@@ -56,7 +56,7 @@ pub fn pair_of(
     number: usize,
     line: &str,
 ) -> Result<Option<(String, String)>, PropertiesError>
-    ensures { TellsPairOf (chars line.now) number result }
+    ensures { FindsPairOfLine (chars line.now) number result }
 {
     match find_item(alloc, number, line)? {
         Some(found) => Ok(found.pair(alloc, line)?),

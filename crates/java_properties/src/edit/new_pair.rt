@@ -1,14 +1,15 @@
 // A new pair that looks like the last pair of its source.
 
 ghost use Rattle.std.specs.Prelude.{◌≡◌, ◌++◌, ◌≤◌, ◌&&◌, [], ◌∷◌, drop, length, if◌then◌else◌, IfOk, OnOk, false, true};
+ghost use Rattle.std.specs.Option.{option_map};
 ghost use Rattle.std.specs.Str.{chars};
 ghost use Rattle.properties_format.specs.Text as text;
 ghost use Rattle.properties_format.specs.Reading.Lines.{ends_in_cr};
 ghost use Rattle.properties_format.specs.Text.{is_blank, is_blanks, line_ending_text};
 ghost use Rattle.properties_format.specs.Encoding.{output_encoding};
 ghost use Rattle.properties_format.specs.Writing.{is_empty};
-ghost use Rattle.properties_format.specs.Printing.{encoded_text, spelt_key};
-ghost use Rattle.properties_format.specs.Valued.{new_pair_bytes, separator_after, shortened_after, spelt_value};
+ghost use Rattle.properties_format.specs.Printing.{encoded_text, printed_key};
+ghost use Rattle.properties_format.specs.Valued.{new_pair_bytes, separator_after, shortened_after, printed_value};
 ghost use Rattle.properties_format.specs.Reading.Body.{held_groups_of};
 ghost use Rattle.properties_format.specs.Reading.Settings.{is_good_separator};
 ghost use Rattle.properties_format.specs.Reading.Valued.{last_between, separator_by};
@@ -17,8 +18,8 @@ ghost use Rattle.properties_text.specs.Printing.{AppendsOnOk};
 ghost use Rattle.properties_lines.specs.LineSearch.{unit_size};
 ghost use Rattle.java_properties.specs.Maps.{characters};
 ghost use Rattle.java_properties.specs.Settings.{ending_of};
-ghost use Rattle.java_properties.specs.BodyKeys.{parted};
-ghost use Rattle.java_properties.specs.BodyValues.{FindsLastPair, IsLastEnding, IsLayoutAfter, IsSeparated, IsSeparatorLike};
+ghost use Rattle.java_properties.specs.BodyKeys.{closing_bytes};
+ghost use Rattle.java_properties.specs.BodyValues.{FindsLastPair, IsEndingWithin, IsLastEnding, IsLayoutAfter, IsSeparated, IsSeparatorLike, unended_pair};
 
 use crate::edit::front::between;
 use crate::edit::groups::{GroupReader, first_group};
@@ -72,9 +73,27 @@ fn separator_after(
     requires { unit_size (encoding_of encoding) ≡ 1 }
     ensures { IfOk result (λ text. characters text ≡ separator_by (chars key.now) (last_between (held_groups_of (encoding_of encoding) body.now))) }
 {
-    match last_pair(alloc, encoding, body)? {
-        Some(pair) => separator_like(alloc, encoding, part(body, pair), key),
+    match separator_in(alloc, encoding, body, key)? {
+        Some(separator) => Ok(separator),
         None => String::from_str(alloc, "="),
+    }
+}
+
+/// Returns the separator of a new pair with this key that looks like the last pair of the body, or `None` if the body
+/// has no pair. The encoding's units are one byte long.
+pub fn separator_in(
+    alloc: Global,
+    encoding: Encoding,
+    body: &[u8],
+    key: &str,
+) -> Result<Option<String>, AllocError>
+    requires { unit_size (encoding_of encoding) ≡ 1 }
+    ensures { IfOk result (λ text. option_map characters text
+        ≡ option_map (separator_after (chars key.now)) (last_between (held_groups_of (encoding_of encoding) body.now))) }
+{
+    match last_pair(alloc, encoding, body)? {
+        Some(pair) => Ok(Some(separator_like(alloc, encoding, part(body, pair), key)?)),
+        None => Ok(None),
     }
 }
 
@@ -165,15 +184,22 @@ fn push_shortened(short: &mut String, was_blank: bool, character: char) -> Resul
 fn last_ending(body: &[u8]) -> LineEnding
     ensures { IsLastEnding body.now result }
 {
+    ending_within(body).unwrap_or(LineEnding::LF)
+}
+
+/// Returns the last line ending of a body, if it has one.
+pub fn ending_within(body: &[u8]) -> Option<LineEnding>
+    ensures { IsEndingWithin body.now result }
+{
     let mut end = body.len();
     while end > 0 {
         match body[end - 1] {
-            b'\n' => return ending_by_lf(&body[..end - 1]),
-            b'\r' => return LineEnding::CR,
+            b'\n' => return Some(ending_by_lf(&body[..end - 1])),
+            b'\r' => return Some(LineEnding::CR),
             _ => end -= 1,
         }
     }
-    LineEnding::LF
+    None
 }
 
 // Returns the line ending that an LF after these bytes completes.
@@ -200,22 +226,24 @@ pub fn with_new_pair(
     requires separates { is_good_separator (characters layout.now.separator) ≡ true }
     ensures { let e = output_encoding (encoding_of opened.encoding) in
         let ending = line_ending_text (ending_of layout.now.ending) in
-        let parting = parted ending layout.now.closing in
-        let front = drop opened.start source.now ++ parting in
+        let separation = closing_bytes ending layout.now.closing in
+        let front = drop opened.start source.now ++ separation in
         let pair = new_pair_bytes e front (chars key.now) (characters layout.now.separator) (chars value.now) ending in
-        IfOk result (λ bytes. bytes.items ≡ source.now ++ (parting ++ pair)) }
+        IfOk result (λ bytes. bytes.items ≡ source.now ++ (separation ++ pair)) }
 {
     let mut line = LineBuffer::new(alloc);
-    let parting = parting_of(layout);
-    print_raw(&mut line, parting)?;
-    let first = are_empty(&source[opened.start..], parting.as_bytes());
-    print_new_pair(&mut line, opened.encoding, first, layout, key, value)?;
+    let separation = separation_of(layout);
+    print_raw(&mut line, separation)?;
+    let first = are_empty(&source[opened.start..], separation.as_bytes());
+    let separator = layout.separator.as_str();
+    print_new_pair(&mut line, opened.encoding, first, separator, key, value)?;
+    print_raw(&mut line, layout.ending.as_str())?;
     concatenated(alloc, source, line.as_slice(), b"")
 }
 
 // Returns the line endings that separate a new pair from the group before it.
-fn parting_of(layout: &Layout) -> &'static str
-    ensures { result.now ≡ parted (line_ending_text (ending_of layout.now.ending)) layout.now.closing }
+fn separation_of(layout: &Layout) -> &'static str
+    ensures { result.now ≡ closing_bytes (line_ending_text (ending_of layout.now.ending)) layout.now.closing }
 {
     match (layout.closing, layout.ending) {
         (Closing::Nothing, _) => "",
@@ -228,26 +256,41 @@ fn parting_of(layout: &Layout) -> &'static str
     }
 }
 
-// Appends a new pair with its line ending. A pair that is `first` in a body is printed so that it isn't taken for a byte
-// order mark.
+/// Returns a new pair as it is printed, without a line ending. A pair that is `first` in a body is printed so that it
+/// isn't taken for a byte order mark.
+pub fn printed_new_pair(
+    alloc: Global,
+    encoding: Encoding,
+    first: bool,
+    separator: &str,
+    key: &str,
+    value: &str,
+) -> Result<Vec<u8>, AllocError>
+    requires { is_good_separator (chars separator.now) ≡ true }
+    ensures { let e = output_encoding (encoding_of encoding) in
+        IfOk result (λ bytes. bytes.items ≡ unended_pair e first (chars key.now) (chars separator.now) (chars value.now)) }
+{
+    let mut line = LineBuffer::new(alloc);
+    print_new_pair(&mut line, encoding, first, separator, key, value)?;
+    concatenated(alloc, line.as_slice(), b"", b"")
+}
+
+// Appends a new pair without a line ending. A pair that is `first` in a body is printed so that it isn't taken for a
+// byte order mark.
 fn print_new_pair(
     line: &mut LineBuffer,
     encoding: Encoding,
     first: bool,
-    layout: &Layout,
+    separator: &str,
     key: &str,
     value: &str,
 ) -> Result<(), AllocError>
-    requires { is_good_separator (characters layout.now.separator) ≡ true }
+    requires { is_good_separator (chars separator.now) ≡ true }
     ensures { let e = output_encoding (encoding_of encoding) in
-        let separator = characters layout.now.separator in
-        let pair = spelt_key e false first (chars key.now) ++ (separator ++ spelt_value e (is_blanks separator) (chars value.now)) in
-        AppendsOnOk line.old (encoded_text e pair ++ line_ending_text (ending_of layout.now.ending)) result line.new }
+        AppendsOnOk line.old (unended_pair e first (chars key.now) (chars separator.now) (chars value.now)) result line.new }
 {
     let repertoire = repertoire_of(encoding);
     print_key(line, repertoire, first, key)?;
-    print_raw(line, layout.separator.as_str())?;
-    let after_blanks = are_blanks(layout.separator.as_str());
-    print_value(line, repertoire, after_blanks, value)?;
-    print_raw(line, layout.ending.as_str())
+    print_raw(line, separator)?;
+    print_value(line, repertoire, are_blanks(separator), value)
 }

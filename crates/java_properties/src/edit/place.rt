@@ -6,7 +6,7 @@ ghost use Rattle.properties_format.specs.Edited.{added_ending};
 ghost use Rattle.properties_format.specs.Reading.Lines.{ends_in_cr};
 ghost use Rattle.properties_text.specs.Encoding.{encoding_of};
 ghost use Rattle.properties_lines.specs.LineSearch.{unit_size};
-ghost use Rattle.java_properties.specs.BodyKeys.{FindsKey, closing_of, found_after, parted};
+ghost use Rattle.java_properties.specs.BodyKeys.{FindsKey, closing_of, found_after, closing_bytes};
 
 use crate::edit::groups::{Group, GroupReader};
 use crate::edit::keys::has_key;
@@ -101,8 +101,8 @@ pub fn closing_after(group: Group) -> Closing
 
 /// Returns the line endings that separate a new pair from the last group of a source: CRs if the source ends in a CR,
 /// otherwise LFs.
-pub fn parting(source: &[u8], closing: Closing) -> &'static [u8]
-    ensures { result.now ≡ parted (added_ending source.now) closing }
+pub fn separation(source: &[u8], closing: Closing) -> &'static [u8]
+    ensures { result.now ≡ closing_bytes (added_ending source.now) closing }
 {
     match (closing, ends_in_cr(source)) {
         (Closing::Nothing, _) => b"",

@@ -6,12 +6,12 @@ ghost use Rattle.properties_format.specs.Text.{line_feed};
 ghost use Rattle.properties_format.specs.Writing.{is_empty};
 ghost use Rattle.properties_format.specs.Edited.{added_ending, pair_bytes};
 ghost use Rattle.properties_format.specs.Encoding.{begins_like_bom};
-ghost use Rattle.java_properties.specs.BodyKeys.{AreWithin, left_bytes, parted, spans_bytes};
+ghost use Rattle.java_properties.specs.BodyKeys.{AreWithin, left_bytes, closing_bytes, spans_bytes};
 ghost use Rattle.properties_format.specs.Encoding.{output_encoding};
 ghost use Rattle.properties_text.specs.Encoding.{encoding_of};
 ghost use Rattle.properties_text.specs.Printing.{AppendsOnOk};
 
-use crate::edit::place::{BodySpan, Closing, parting};
+use crate::edit::place::{BodySpan, Closing, separation};
 use crate::edit::source::BodyStart;
 use properties_text::encoding::byte_order_mark::{ByteOrderMark, byte_order_mark};
 use properties_text::encoding::{Encoding, OutputEncoding};
@@ -53,17 +53,17 @@ pub fn appended(
 ) -> Result<Vec<u8>, AllocError>
     requires { opened.start ≤ length source.now }
     ensures { let e = output_encoding (encoding_of opened.encoding) in
-        let parting = parted (added_ending source.now) closing in
-        let first = is_empty (drop opened.start source.now ++ parting) in
+        let separation = closing_bytes (added_ending source.now) closing in
+        let first = is_empty (drop opened.start source.now ++ separation) in
         let line = pair_bytes e first (chars key.now) (chars value.now) in
-        IfOk result (λ bytes. bytes.items ≡ source.now ++ (parting ++ (line ++ line_feed ∷ []))) }
+        IfOk result (λ bytes. bytes.items ≡ source.now ++ (separation ++ (line ++ line_feed ∷ []))) }
 {
-    let parting = parting(source, closing);
-    let first = are_empty(&source[opened.start..], parting);
+    let separation = separation(source, closing);
+    let first = are_empty(&source[opened.start..], separation);
     let mut line = LineBuffer::new(alloc);
     print_pair(&mut line, opened.encoding, first, key, value)?;
     print_raw(&mut line, "\n")?;
-    concatenated(alloc, source, parting, line.as_slice())
+    concatenated(alloc, source, separation, line.as_slice())
 }
 
 /// Returns the source with only these parts of its body. An LF comes before them if they would begin like a byte order
@@ -128,10 +128,10 @@ fn begins_like_bom(bytes: &[u8]) -> bool
 }
 
 /// Returns whether both slices are empty.
-pub fn are_empty(rest: &[u8], parting: &[u8]) -> bool
-    ensures { result ≡ is_empty (rest.now ++ parting.now) }
+pub fn are_empty(rest: &[u8], separation: &[u8]) -> bool
+    ensures { result ≡ is_empty (rest.now ++ separation.now) }
 {
-    rest.is_empty() && parting.is_empty()
+    rest.is_empty() && separation.is_empty()
 }
 
 // Appends a pair without a line ending. A pair that is `first` in a body is printed so that it isn't taken for a byte

@@ -1,11 +1,12 @@
 // The groups of a source as slots in one array. Edits change the slots, and the bytes are built once.
 
-ghost use Rattle.std.specs.Prelude.{OnOk};
+ghost use Rattle.std.specs.Prelude.{◌≡◌, OnOk};
 ghost use Rattle.properties_format.specs.Edits.{Edit};
 ghost use Rattle.properties_format.specs.Encoding.{output_encoding};
 ghost use Rattle.properties_format.specs.Reading.EditedSlots.{slots_edited};
 ghost use Rattle.properties_text.specs.Encoding.{encoding_of};
-ghost use Rattle.java_properties.specs.BodySlots.{Changes, HoldsIn};
+ghost use Rattle.properties_lines.specs.LineSearch.{unit_size};
+ghost use Rattle.java_properties.specs.BodySlots.{Changes, ReadsIn};
 ghost use Rattle.java_properties.specs.Editing.{edit_in};
 
 use crate::edit::Edit;
@@ -17,10 +18,12 @@ use std::collections::BTreeMap;
 
 mod bytes;
 mod keys;
+mod layout;
 mod parse;
 mod places;
 mod put;
 mod remove;
+mod value;
 
 /// What remains of a group after the edits so far.
 #[derive(Drop)]
@@ -47,13 +50,18 @@ pub struct Slots {
     places: BTreeMap<String, Vec<usize>>,
     // No slot before this one is left.
     first: usize,
+    // The indices of all slots that are left, in order, without the first slot, and of some that aren't left.
+    lefts: Vec<usize>,
+    // The same for the slots of pairs.
+    pairs: Vec<usize>,
     // What separates a new pair from the last slot, and the line ending for it.
     closing: Closing,
-    parting: LineEnding,
+    separation: LineEnding,
 }
 
 impl Slots {
-    /// Applies an edit. `is_marked` says whether a byte order mark comes before the body.
+    /// Applies an edit. `is_marked` says whether a byte order mark comes before the body. The encoding's units are one byte
+    /// long.
     pub fn make(
         &mut self,
         alloc: Global,
@@ -62,7 +70,8 @@ impl Slots {
         is_marked: bool,
         edit: &Edit,
     ) -> Result<(), AllocError>
-        requires { HoldsIn body.now self.old }
+        requires bytes { unit_size (encoding_of encoding) ≡ 1 }
+        requires reads { ReadsIn (encoding_of encoding) body.now self.old }
         ensures { let e = output_encoding (encoding_of encoding) in
             OnOk result (Changes body.now (slots_edited e is_marked (edit_in edit.now)) self.old self.new) }
     {
@@ -72,6 +81,7 @@ impl Slots {
                 self.remove(alloc, body, is_marked, key);
                 Ok(())
             }
+            Edit::SetValue(key, value) => self.set_value(alloc, encoding, body, key, value),
         }
     }
 }

@@ -6,7 +6,7 @@ ghost use Rattle.std.specs.Io.KnownBytes.{ReadConsumes};
 ghost use Rattle.counted_io.specs.Faults.{CountsFault, ShowsEnd};
 ghost use Rattle.counted_io.specs.Streams.{IsSameReader, IsSameSink};
 ghost use Rattle.properties_text.specs.Encoding.{encoding_of};
-ghost use Rattle.java_properties.specs.WholeSources.{PassesItems, ReadsSource, WritesSource};
+ghost use Rattle.java_properties.specs.WholeSources.{ReadsAllItems, ReadsSource, WritesSource};
 
 use crate::error::PropertiesError;
 use crate::iter::items::ItemReader;
@@ -67,7 +67,7 @@ fn read_through<R: CountedRead>(
                     left: &bytes,
                     faults: 0,
                 };
-                return match pass_items(alloc, &mut broken, encoding) {
+                return match read_all_items(alloc, &mut broken, encoding) {
                     Ok(()) => unreachable!(),
                     Err(error) => Err(error.caused_by(fault)),
                 };
@@ -77,12 +77,12 @@ fn read_through<R: CountedRead>(
 }
 
 // Reads all items and drops them.
-fn pass_items<R: CountedRead>(
+fn read_all_items<R: CountedRead>(
     alloc: Global,
     reader: &mut R,
     encoding: Encoding,
 ) -> Result<(), PropertiesError>
-    ensures { PassesItems R.CountedRead (encoding_of encoding) reader.old result reader.new }
+    ensures { ReadsAllItems R.CountedRead (encoding_of encoding) reader.old result reader.new }
 {
     let mut items = ItemReader::new(alloc, encoding);
     while let Some(item) = items.next_item(reader) {

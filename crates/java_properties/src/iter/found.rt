@@ -7,15 +7,15 @@ ghost use Rattle.std.specs.Cow.{cow_str_bytes};
 ghost use Rattle.properties_text.specs.Parsing.{AreSpans, IsSpan, in_characters, spanned};
 ghost use Rattle.properties_format.specs.Items.{given};
 ghost use Rattle.properties_format.specs.Reading.Body.{is_pair_with};
-ghost use Rattle.properties_format.specs.Reading.Slots.{key_told};
+ghost use Rattle.properties_format.specs.Reading.Slots.{outcome_key};
 ghost use Rattle.properties_format.specs.Reading.Valued.{is_pair_to};
 ghost use Rattle.java_properties.specs.Maps.{characters};
-ghost use Rattle.java_properties.specs.BodyDocuments.{pair_characters, pair_told};
+ghost use Rattle.java_properties.specs.BodyDocuments.{pair_characters, outcome_pair};
 ghost use Rattle.properties_format.specs.Split.{IsSplit};
 ghost use Rattle.properties_text.specs.Escaping.{holds_backslash};
-ghost use Rattle.java_properties.specs.LentItems.{lent_entry, said_by, is_borrowed, BorrowsPlain, found_bytes, found_content, found_entry, AreTextsIn, spans_of, IsFoundIn, IsTextIn, FindsText, FindsContent, FindsIn, FindsPlain};
+ghost use Rattle.java_properties.specs.BorrowedItems.{borrowed_entry, borrowed_content, is_borrowed, BorrowsPlain, found_bytes, found_content, found_entry, AreTextsIn, spans_of, IsFoundIn, IsTextIn, FindsText, FindsContent, FindsIn, FindsPlain};
 
-use crate::iter::lent::{ContentRef, LineRef};
+use crate::iter::refs::{ContentRef, LineRef};
 use properties_text::escape::{UnescapeError, unescape};
 use properties_text::parse::{ParsedSpans, Span, parse_spans};
 use std::alloc::{AllocError, Global};
@@ -133,7 +133,7 @@ impl Found {
     /// Returns the item, with its texts cut out of the line that it was found in.
     pub(crate) fn cut(self, line: &str) -> LineRef<'_>
         requires { IsFoundIn line.now self }
-        ensures item { lent_entry result ≡ found_entry line.now self }
+        ensures item { borrowed_entry result ≡ found_entry line.now self }
         ensures borrowed { BorrowsPlain (chars line.now) result.content }
     {
         let Found {
@@ -170,7 +170,7 @@ impl Found {
     /// Returns a copy of the key, or `None` if the item is a comment.
     pub(crate) fn key(&self, alloc: Global, line: &str) -> Result<Option<String>, AllocError>
         requires { IsFoundIn line.now self.now }
-        ensures { IfOk result (λ key. option_map characters key ≡ key_told (given (found_content line.now self.now.content))) }
+        ensures { IfOk result (λ key. option_map characters key ≡ outcome_key (given (found_content line.now self.now.content))) }
     {
         match &self.content {
             FoundContent::Comment(_) => Ok(None),
@@ -185,7 +185,7 @@ impl Found {
         line: &str,
     ) -> Result<Option<(String, String)>, AllocError>
         requires { IsFoundIn line.now self.now }
-        ensures { IfOk result (λ pair. option_map pair_characters pair ≡ pair_told (given (found_content line.now self.now.content))) }
+        ensures { IfOk result (λ pair. option_map pair_characters pair ≡ outcome_pair (given (found_content line.now self.now.content))) }
     {
         match &self.content {
             FoundContent::Comment(_) => Ok(None),
@@ -201,7 +201,7 @@ impl FoundContent {
     fn cut(self, line: &str) -> ContentRef<'_>
         requires texts { AreTextsIn line.now self }
         requires slices { IsSplit (chars line.now) (in_characters (spanned line.now (Some (spans_of self)))) }
-        ensures said { said_by result ≡ found_content line.now self }
+        ensures content { borrowed_content result ≡ found_content line.now self }
         ensures borrowed { BorrowsPlain (chars line.now) result }
     {
         match self {

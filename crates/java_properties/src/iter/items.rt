@@ -7,12 +7,12 @@ ghost use Rattle.properties_format.specs.ItemsToCome.{start};
 ghost use Rattle.properties_text.specs.Encoding.{encoding_of};
 ghost use Rattle.properties_lines.specs.LineReader.{lines_left};
 ghost use Rattle.properties_lines.specs.LineJoiner.{Joiner};
-ghost use Rattle.java_properties.specs.LentItems.{lent_entry, found_entry, BorrowsPlain, IsFoundIn, FindsItem, Owns};
+ghost use Rattle.java_properties.specs.BorrowedItems.{borrowed_entry, found_entry, BorrowsPlain, IsFoundIn, FindsItem, Owns};
 ghost use Rattle.java_properties.specs.GivenItems.{GivesItem};
 
 use crate::error::PropertiesError;
 use crate::iter::found::{Found, find_escaped, find_plain};
-use crate::iter::lent::LineRef;
+use crate::iter::refs::LineRef;
 use crate::line::Line;
 use counted_io::CountedRead;
 use properties_lines::joiner::LineJoiner;
@@ -79,7 +79,7 @@ impl ItemReader {
     /// Returns the item that was found last.
     pub fn get(&self, found: Found) -> LineRef<'_>
         requires { IsFoundIn self.now.line found }
-        ensures item { lent_entry result ≡ found_entry self.now.line found }
+        ensures item { borrowed_entry result ≡ found_entry self.now.line found }
         ensures borrowed { BorrowsPlain (chars self.now.line) result.content }
     {
         found.cut(self.lines.line())

@@ -7,7 +7,7 @@ ghost use Rattle.std.specs.BTreeMap.{IsOrdered};
 ghost use Rattle.counted_io.specs.Streams.{IsSameReader};
 ghost use Rattle.properties_text.specs.Encoding.{encoding_of};
 ghost use Rattle.java_properties.specs.Maps.{characters};
-ghost use Rattle.java_properties.specs.KeyLines.{AddsKeyLine, FindsKeys, KeepsFirst, PushesKey, TellsLineKey};
+ghost use Rattle.java_properties.specs.KeyLines.{AddsKeyLine, FindsKeys, KeepsFirst, PushesKey, FindsLineKey};
 
 use crate::error::PropertiesError;
 use crate::iter::found::find_escaped;
@@ -88,7 +88,7 @@ fn push_key(
 
 // Returns the key of a logical line if it is a pair without a malformed escape.
 fn key_in(alloc: Global, line_number: usize, line: &str) -> Result<Option<String>, PropertiesError>
-    ensures { TellsLineKey (chars line.now) result }
+    ensures { FindsLineKey (chars line.now) result }
 {
     let found = match find_escaped(alloc, line_number, line) {
         Ok(found) => found,

@@ -6,7 +6,7 @@ ghost use Rattle.std.specs.BTreeMap.{IsOrdered};
 ghost use Rattle.counted_io.specs.Streams.{IsSameReader, IsSameSink};
 ghost use Rattle.properties_format.specs.Encoding.{output_encoding};
 ghost use Rattle.properties_text.specs.Encoding.{encoding_of};
-ghost use Rattle.java_properties.specs.PropertiesIter.{said};
+ghost use Rattle.java_properties.specs.PropertiesIter.{format_content};
 ghost use Rattle.java_properties.specs.Maps.{texts_of, InsertsIfPair, ReadsSorted, AreInOrder, WritesMap, MapReadsBack};
 
 use crate::error::PropertiesError;
@@ -53,7 +53,7 @@ fn insert_if_pair(
     content: LineContent,
 ) -> Result<(), PropertiesError>
     requires { IsOrdered string_cmp map.old }
-    ensures inserts { InsertsIfPair map.old.entries (said content) result map.new.entries }
+    ensures inserts { InsertsIfPair map.old.entries (format_content content) result map.new.entries }
     ensures ordered { IsOrdered string_cmp map.new }
 {
     match content {

@@ -1,7 +1,7 @@
 // A writer's calls as values.
 
 ghost use Rattle.counted_io.specs.Streams.{IsSameSink};
-ghost use Rattle.java_properties.specs.Calls.{calls_in, call_in, SaysAccepted, MakesCall, RunsCalls, LeavesFailed};
+ghost use Rattle.java_properties.specs.Calls.{calls_in, call_in, IsAcceptedResult, MakesCall, RunsCalls, LeavesFailed};
 ghost use Rattle.java_properties.specs.ReadBack.{ReadsBack, WritesOnlyThese};
 ghost use Rattle.java_properties.specs.AsciiOnly.{WritesAscii};
 
@@ -93,7 +93,7 @@ fn run_call<W: CountedWrite>(
 
 // Returns whether the call was accepted, or the error that ends the run.
 fn was_accepted(done: Result<(), PropertiesError>) -> Result<bool, PropertiesError>
-    ensures { SaysAccepted done result }
+    ensures { IsAcceptedResult done result }
 {
     match done {
         Ok(()) => Ok(true),

@@ -10,12 +10,12 @@ use Rattle.properties_format.specs.Body.{HeldLine, as_groups, AreGroupsOf, group
 use Rattle.properties_format.specs.Edited.{bom_of, IsKeySet, guarding_lf, IsKeyRemoved}
 use Rattle.properties_format.specs.Edited.{is_editable}
 use Rattle.properties_format.specs.Changed.{contents, IsSetIn, IsRemovedIn}
-use Rattle.properties_format.proofs.Edited.Told.{told_by, told}
-use Rattle.properties_format.proofs.Edited.Told.{givens}
-use Rattle.properties_format.proofs.Changed.Items.{items-told, told-items}
+use Rattle.properties_format.proofs.Edited.Outcomes.{outcomes_of, outcomes_in}
+use Rattle.properties_format.proofs.Edited.Outcomes.{givens}
+use Rattle.properties_format.proofs.Changed.Items.{items-outcomes, outcomes-items}
 use Rattle.properties_format.proofs.Body.Groups.{held-groups, held-body}
 use Rattle.properties_format.proofs.Edited.ByteOrderMarks.{source-whole, key_set-in_force, key_removed-in_force}
-use Rattle.properties_format.proofs.Edited.Contents.{ends-right, ComesTo, replaced-told, appended-told, removed-told}
+use Rattle.properties_format.proofs.Edited.Contents.{ends-right, ComesTo, replaced-outcomes, appended-outcomes, removed-outcomes}
 
 -- ---- what is read from a source
 
@@ -25,13 +25,13 @@ pub record IsReadable (e : Encoding) (source : List ℕ) : Type 0 where
   pub no_fault : AreItems (items_of e source end)
 
 -- the contents of a source's items
-abbrev pub says : Encoding → List ℕ → List Content
-says e source = contents (items_of e source end)
+abbrev pub source_contents : Encoding → List ℕ → List Content
+source_contents e source = contents (items_of e source end)
 
 -- The result can be edited too, and its contents have this property.
 pub record IsReadTo (e : Encoding) (result : List ℕ) (Such : List Content → Type 0) : Type 0 where
   pub readable : IsReadable e result
-  pub such : Such (says e result)
+  pub such : Such (source_contents e result)
 
 -- A body in force whose outcomes are contents.
 pub read-to : (e : Encoding) (result : List ℕ) (f : InForce) (Such : List Content → Type 0) → is_editable f.encoding ≡ true → byte_order_mark e result ≡ f
@@ -39,14 +39,14 @@ pub read-to : (e : Encoding) (result : List ℕ) (f : InForce) (Such : List Cont
     → IsReadTo e result Such
 read-to e result f Such ok same c =
     let g : is_editable (byte_order_mark e result).encoding ≡ true = ap (λ v. let w : InForce = v in is_editable w.encoding) same ∙ ok in
-    let t : told (byte_order_mark e result).encoding (byte_order_mark e result).body ≡ givens c.0 = ap (λ v. let w : InForce = v in told w.encoding w.body) same ∙ c.2 in
-    let m = told-items e result c.0 g t in
+    let t : outcomes_in (byte_order_mark e result).encoding (byte_order_mark e result).body ≡ givens c.0 = ap (λ v. let w : InForce = v in outcomes_in w.encoding w.body) same ∙ c.2 in
+    let m = outcomes-items e result c.0 g t in
     record { readable = record { editable = g; no_fault = m.0 }; such = subst Such (sym m.1) c.1 }
 
 -- The outcomes of the groups are the contents of a source that can be edited.
-pub groups-say : (e : Encoding) (source : List ℕ) (gs : List (List HeldLine)) → IsReadable e source
-    → AreGroupsOf (byte_order_mark e source).encoding (byte_order_mark e source).body gs → told_by (as_groups gs) ≡ givens (says e source)
-groups-say e source gs r h = items-told e source gs h r.no_fault
+pub groups-contents : (e : Encoding) (source : List ℕ) (gs : List (List HeldLine)) → IsReadable e source
+    → AreGroupsOf (byte_order_mark e source).encoding (byte_order_mark e source).body gs → outcomes_of (as_groups gs) ≡ givens (source_contents e source)
+groups-contents e source gs r h = items-outcomes e source gs h r.no_fault
 
 -- A CR at the end of the body is at the end of the source.
 ends-alike : (e : Encoding) (source : List ℕ) (gs : List (List HeldLine)) → IsReadable e source
@@ -60,24 +60,24 @@ ends-alike e source gs r h k =
 
 -- After a key is set, the last pair with the key has the value, or there is a new last pair if none has the key. All
 -- other contents are unchanged.
-pub key_set-says : (e : Encoding) (source key value result : List ℕ) → IsReadable e source → All scalar key → All scalar value
+pub key_set-contents : (e : Encoding) (source key value result : List ℕ) → IsReadable e source → All scalar key → All scalar value
     → IsKeySet e source key value result
-    → IsReadTo e result (IsSetIn key value (says e source))
-key_set-says e source key value result r k v h =
+    → IsReadTo e result (IsSetIn key value (source_contents e source))
+key_set-contents e source key value result r k v h =
     let f = byte_order_mark e source in
     let gs = held-groups f.encoding f.body h.groups r.editable h.held in
-    let t = groups-say e source h.groups r h.held in
-    read-to e result (record { encoding = f.encoding; body = h.body }) (IsSetIn key value (says e source)) r.editable (key_set-in_force e source key value result r.editable h)
+    let t = groups-contents e source h.groups r h.held in
+    read-to e result (record { encoding = f.encoding; body = h.body }) (IsSetIn key value (source_contents e source)) r.editable (key_set-in_force e source key value result r.editable h)
     (elim h.edited [
-      | inl m ↦ replaced-told f.encoding h.groups key value h.body (says e source) r.editable k v gs t m
-      | inr m ↦ appended-told f.encoding source h.groups key value h.body (says e source) r.editable k v gs (ends-alike e source h.groups r h.held) t m
+      | inl m ↦ replaced-outcomes f.encoding h.groups key value h.body (source_contents e source) r.editable k v gs t m
+      | inr m ↦ appended-outcomes f.encoding source h.groups key value h.body (source_contents e source) r.editable k v gs (ends-alike e source h.groups r h.held) t m
     ])
 
 -- After a key is removed, the pairs with the key are gone. All other contents are unchanged.
-pub key_removed-says : (e : Encoding) (source key result : List ℕ) → IsReadable e source → IsKeyRemoved e source key result
-    → IsReadTo e result (IsRemovedIn key (says e source))
-key_removed-says e source key result r h =
+pub key_removed-contents : (e : Encoding) (source key result : List ℕ) → IsReadable e source → IsKeyRemoved e source key result
+    → IsReadTo e result (IsRemovedIn key (source_contents e source))
+key_removed-contents e source key result r h =
     let f = byte_order_mark e source in
     let gs = held-groups f.encoding f.body h.groups r.editable h.held in
-    read-to e result (record { encoding = f.encoding; body = guarding_lf source h.rest ++ h.rest }) (IsRemovedIn key (says e source)) r.editable (key_removed-in_force e source key result r.editable h)
-    (removed-told f.encoding source key h.groups h.rest (says e source) gs (groups-say e source h.groups r h.held) h.without)
+    read-to e result (record { encoding = f.encoding; body = guarding_lf source h.rest ++ h.rest }) (IsRemovedIn key (source_contents e source)) r.editable (key_removed-in_force e source key result r.editable h)
+    (removed-outcomes f.encoding source key h.groups h.rest (source_contents e source) gs (groups-contents e source h.groups r h.held) h.without)

@@ -9,7 +9,7 @@ use Rattle.properties_format.specs.Edited.{edited, is_editable, ItemsAre, IsSetK
 use Rattle.properties_format.specs.Edits.{put, remove}
 use Rattle.properties_format.specs.Changed.{contents, IsSetIn, IsRemovedIn, map_edited, ReadsAfter}
 use Rattle.properties_format.proofs.Items.Unique.{items_of-only}
-use Rattle.properties_format.proofs.Changed.Laws.{IsReadable, says, IsReadTo, key_set-says, key_removed-says}
+use Rattle.properties_format.proofs.Changed.Laws.{IsReadable, source_contents, IsReadTo, key_set-contents, key_removed-contents}
 use Rattle.properties_format.proofs.Changed.Maps.{map-edited}
 
 -- A source that has a result can be edited.
@@ -19,25 +19,25 @@ readable e source ok h = record { editable = ok; no_fault = subst AreItems (item
 
 -- What is computed reads as the source after the edit.
 pub reads-after : (e : Encoding) (source result : List ℕ) (IsEdit : List Content → List Content → Type 0) (change : (List ℕ → Option (List ℕ)) → List ℕ → Option (List ℕ))
-    → IsReadTo e result (IsEdit (says e source))
+    → IsReadTo e result (IsEdit (source_contents e source))
     → ((old new : List Entry) → IsEdit (contents old) (contents new) → (value_at : List ℕ → Option (List ℕ)) → IsMap old value_at → IsMap new (change value_at))
     → ReadsAfter IsEdit change e source result
 reads-after e source result IsEdit change r m old new h k =
     let s = items_of-only e source end old h in
     let t = items_of-only e result end new k in
     let f : IsEdit (contents old) (contents new) =
-    subst (λ v. IsEdit (contents v) (contents new)) (sym s) (subst (λ v. IsEdit (says e source) (contents v)) (sym t) r.such) in
-    record { readable = subst AreItems (sym t) r.readable.no_fault; said = f; mapped = m old new f }
+    subst (λ v. IsEdit (contents v) (contents new)) (sym s) (subst (λ v. IsEdit (source_contents e source) (contents v)) (sym t) r.such) in
+    record { readable = subst AreItems (sym t) r.readable.no_fault; is_edit = f; mapped = m old new f }
 
 -- The result of setting a key reads as the source with that key set: the last pair with it has the new value, or there
 -- is a new last pair.
 pub set_key-reads : (e : Encoding) (source key value result : List ℕ) → All scalar key → All scalar value → IsSetKeyResult e source key value (edited result)
     → ReadsAfter (IsSetIn key value) (map_edited (put key value)) e source result
 set_key-reads e source key value result k v h =
-    reads-after e source result (IsSetIn key value) (map_edited (put key value)) (key_set-says e source key value result (readable e source h.0 h.1) k v h.2) (map-edited (put key value))
+    reads-after e source result (IsSetIn key value) (map_edited (put key value)) (key_set-contents e source key value result (readable e source h.0 h.1) k v h.2) (map-edited (put key value))
 
 -- The result of removing a key reads as the source without the pairs with that key.
 pub remove_key-reads : (e : Encoding) (source key result : List ℕ) → IsRemoveKeyResult e source key (edited result)
     → ReadsAfter (IsRemovedIn key) (map_edited (remove key)) e source result
 remove_key-reads e source key result h =
-    reads-after e source result (IsRemovedIn key) (map_edited (remove key)) (key_removed-says e source key result (readable e source h.0 h.1) h.2) (map-edited (remove key))
+    reads-after e source result (IsRemovedIn key) (map_edited (remove key)) (key_removed-contents e source key result (readable e source h.0 h.1) h.2) (map-edited (remove key))

@@ -7,11 +7,11 @@ use Rattle.properties_format.specs.Text.{line_feed, carriage_return, equals_sign
 use Rattle.properties_format.specs.Encoding.{Encoding, utf_8, utf_16le, utf_16be, InForce, byte_order_mark, begins_with, begins_like_bom, utf_8_bom}
 use Rattle.properties_format.specs.Encoding.{utf_16be_bom, utf_16le_bom}
 use Rattle.properties_format.specs.Reading.Lines.{ends_in_cr}
-use Rattle.properties_format.specs.Printing.{in_key_or_value, spelt_text, encoded_text, spelt_key}
+use Rattle.properties_format.specs.Printing.{in_key_or_value, printed_characters, encoded_text, printed_key}
 use Rattle.properties_format.specs.Writing.{is_empty}
 use Rattle.properties_format.specs.Body.{HeldLine, AreGroupsOf, ending_bytes, group_bytes, groups_bytes, last_ending}
 use Rattle.properties_format.specs.Edited.{pair_bytes, IsReplaced, IsAppended}
-use Rattle.properties_format.specs.Edited.{final_group, is_empty_line, is_left_open, added_ending, parting, bom_of, IsKeySet, guarding_lf, IsKeyRemoved}
+use Rattle.properties_format.specs.Edited.{final_group, is_empty_line, is_left_open, added_ending, separation, bom_of, IsKeySet, guarding_lf, IsKeyRemoved}
 use Rattle.properties_format.specs.Edited.{is_editable}
 use Rattle.properties_format.proofs.Encodings.ByteOrderMarks.{byte_order_mark-none}
 use Rattle.properties_format.proofs.Printing.Characters.{encoded-ascii, encoded_text-append}
@@ -98,22 +98,22 @@ ending-cut x crlf y = byte_order_mark-cut x carriage_return (line_feed ∷ y) (l
 
 -- The bytes of a pair, up to its separator.
 pair-parts : (e : Encoding) (first : Bool) (key value : List ℕ)
-    → pair_bytes e first key value ≡ encoded_text e (spelt_key e false first key) ++ (equals_sign ∷ encoded_text e (spelt_text e false in_key_or_value value))
+    → pair_bytes e first key value ≡ encoded_text e (printed_key e false first key) ++ (equals_sign ∷ encoded_text e (printed_characters e false in_key_or_value value))
 pair-parts e first key value =
-    encoded_text-append e (spelt_key e false first key) (equals_sign ∷ spelt_text e false in_key_or_value value)
-    ∙ ap (λ o. encoded_text e (spelt_key e false first key) ++ (unwrap_or o [] ++ encoded_text e (spelt_text e false in_key_or_value value))) (encoded-ascii e equals_sign (lit< tt))
+    encoded_text-append e (printed_key e false first key) (equals_sign ∷ printed_characters e false in_key_or_value value)
+    ∙ ap (λ o. encoded_text e (printed_key e false first key) ++ (unwrap_or o [] ++ encoded_text e (printed_characters e false in_key_or_value value))) (encoded-ascii e equals_sign (lit< tt))
 
 -- A printed pair contains an ASCII byte.
 pub pair-ascii : (e : Encoding) (first : Bool) (key value : List ℕ) → HasAscii (pair_bytes e first key value)
 pair-ascii e first key value =
-    (encoded_text e (spelt_key e false first key), equals_sign, encoded_text e (spelt_text e false in_key_or_value value), pair-parts e first key value, lit< tt)
+    (encoded_text e (printed_key e false first key), equals_sign, encoded_text e (printed_characters e false in_key_or_value value), pair-parts e first key value, lit< tt)
 
 -- A pair at the front doesn't begin like a byte order mark.
 first-unmarked : (e : Encoding) (key value rest : List ℕ) → begins_like_bom (pair_bytes e true key value ++ rest) ≡ false
 first-unmarked e key value rest =
     ascii-cut (pair_bytes e true key value) rest [] (pair-ascii e true key value)
     ∙ ap begins_like_bom (append-nil (pair_bytes e true key value))
-    ∙ pair-unmarked e false key (equals_sign ∷ []) (spelt_text e false in_key_or_value value) default_settings-good.separator
+    ∙ pair-unmarked e false key (equals_sign ∷ []) (printed_characters e false in_key_or_value value) default_settings-good.separator
 
 -- ---- setting a key
 
@@ -160,9 +160,9 @@ empty-last (l ∷ []) h k = of_bytes l.bytes refl
 empty-last (l ∷ m ∷ g) h k = absurd (cc)
 
 -- The separation before a new pair is empty, or begins with a line ending.
-parting-cases : (source : List ℕ) (g : List HeldLine)
-    → (is_empty_line g ≡ true) × (parting source g ≡ []) ⊎ (by : LineEnding) × (rest : List ℕ) × (parting source g ≡ line_ending_text by ++ rest)
-parting-cases source g = elim (cases_Bool (is_empty_line g)) [
+separation-cases : (source : List ℕ) (g : List HeldLine)
+    → (is_empty_line g ≡ true) × (separation source g ≡ []) ⊎ (by : LineEnding) × (rest : List ℕ) × (separation source g ≡ line_ending_text by ++ rest)
+separation-cases source g = elim (cases_Bool (is_empty_line g)) [
   | inl h ↦ inl (h, rw h refl)
   | inr h ↦ elim (cases_Bool (is_left_open g)) [
     | inl k ↦ inr (if ends_in_cr source then cr else lf, added_ending source, rw (h, k) refl)
@@ -174,7 +174,7 @@ parting-cases source g = elim (cases_Bool (is_empty_line g)) [
 appended-unmarked : (e : Encoding) (source : List ℕ) (gs : List (List HeldLine)) (key value body : List ℕ) → AreHeldGroups e gs
     → begins_like_bom (groups_bytes gs) ≡ false
     → IsAppended e source gs key value body → begins_like_bom body ≡ false
-appended-unmarked e source gs key value body k h r = elim (parting-cases source (final_group gs)) [
+appended-unmarked e source gs key value body k h r = elim (separation-cases source (final_group gs)) [
   | inl p ↦ none gs k h p.0 (ap (λ v. groups_bytes gs ++ v) p.1 ∙ append-nil (groups_bytes gs))
   | inr p ↦
       ap begins_like_bom r.bytes
@@ -185,16 +185,16 @@ appended-unmarked e source gs key value body k h r = elim (parting-cases source 
 ]
   where
     front : List ℕ
-    front = groups_bytes gs ++ parting source (final_group gs)
+    front = groups_bytes gs ++ separation source (final_group gs)
 
     tail : List ℕ
-    tail = pair_bytes e (is_empty (groups_bytes gs ++ parting source (final_group gs))) key value ++ line_feed ∷ []
+    tail = pair_bytes e (is_empty (groups_bytes gs ++ separation source (final_group gs))) key value ++ line_feed ∷ []
 
     none : (hs : List (List HeldLine)) → AreHeldGroups e hs → begins_like_bom (groups_bytes hs) ≡ false → is_empty_line (final_group hs) ≡ true
-        → groups_bytes gs ++ parting source (final_group gs) ≡ groups_bytes hs → begins_like_bom body ≡ false
+        → groups_bytes gs ++ separation source (final_group gs) ≡ groups_bytes hs → begins_like_bom body ≡ false
     none [] k h m s = absurd (cc)
     none (g ∷ []) k h m s =
-        let q : groups_bytes gs ++ parting source (final_group gs) ≡ [] = s ∙ append-nil (group_bytes g) ∙ empty-last g m k.ending in
+        let q : groups_bytes gs ++ separation source (final_group gs) ≡ [] = s ∙ append-nil (group_bytes g) ∙ empty-last g m k.ending in
         ap begins_like_bom r.bytes ∙ ap (λ v. begins_like_bom (v ++ (pair_bytes e (is_empty v) key value ++ line_feed ∷ []))) q
         ∙ first-unmarked e key value (line_feed ∷ [])
     none (g ∷ i ∷ hs) k h m s =

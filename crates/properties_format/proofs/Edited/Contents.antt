@@ -13,7 +13,7 @@ use Rattle.properties_format.specs.Items.{Outcome, ignored, given, broken}
 use Rattle.properties_format.specs.Reading.Items.{outcome_of}
 use Rattle.properties_format.specs.Writing.{is_empty}
 use Rattle.properties_format.specs.Body.{HeldLine, as_lines, as_groups, ending_bytes, group_bytes, groups_bytes, last_ending, HasKey, NoneHasKey}
-use Rattle.properties_format.specs.Edited.{pair_bytes, IsReplaced, IsAppended, final_group, is_empty_line, is_last_open, is_left_open, added_ending, parting}
+use Rattle.properties_format.specs.Edited.{pair_bytes, IsReplaced, IsAppended, final_group, is_empty_line, is_last_open, is_left_open, added_ending, separation}
 use Rattle.properties_format.specs.Edited.{IsWithout, guarding_lf, is_editable}
 use Rattle.properties_format.specs.Changed.{HoldNoPair, IsSetIn, IsRemovedIn}
 use Rattle.properties_format.proofs.Lines.Plain.{ends_in_cr-append, last-plain}
@@ -26,12 +26,12 @@ use Rattle.properties_format.proofs.Groups.Joined.{joined-push}
 use Rattle.properties_format.proofs.Items.Unique.{outcome_of-meets, outcome_of-only}
 use Rattle.properties_format.specs.Reading.Cut.{decoded_line}
 use Rattle.properties_format.proofs.Body.Decoded.{decoded-nil}
-use Rattle.properties_format.proofs.Edited.Told.{told_before, told_by, ended_lines, line_texts_in, line_texts, outcome-empty, told, IsFront, told-front}
-use Rattle.properties_format.proofs.Edited.Told.{told-lf, told-nil, told-one}
-use Rattle.properties_format.proofs.Edited.Told.{givens}
+use Rattle.properties_format.proofs.Edited.Outcomes.{outcome_before, outcomes_of, ended_lines, line_texts_in, line_texts, outcome-empty, outcomes_in, IsFront, outcomes-front}
+use Rattle.properties_format.proofs.Edited.Outcomes.{outcomes-lf, outcomes-nil, outcomes-one}
+use Rattle.properties_format.proofs.Edited.Outcomes.{givens}
 use Rattle.properties_format.proofs.Body.Groups.{EndsOpen, IsLastFit, IsHeldFront, IsHeldLast, AreHeldGroups}
 use Rattle.properties_format.proofs.Edited.ByteOrderMarks.{empty-last}
-use Rattle.properties_format.proofs.Edited.Pair.{told-pair, told-last_pair}
+use Rattle.properties_format.proofs.Edited.Pair.{outcomes-pair, outcomes-last_pair}
 
 -- the outcome of a group
 abbrev outcome : List HeldLine → Outcome
@@ -40,10 +40,10 @@ outcome g = outcome_of (joined (as_lines g))
 -- ---- outcomes in order
 
 -- An outcome before two lists of outcomes.
-pub told_before-append : (o : Outcome) (xs ys : List Outcome) → told_before o (xs ++ ys) ≡ told_before o xs ++ ys
-told_before-append ignored xs ys = refl
-told_before-append (given content) xs ys = refl
-told_before-append (broken kind) xs ys = refl
+pub outcome_before-append : (o : Outcome) (xs ys : List Outcome) → outcome_before o (xs ++ ys) ≡ outcome_before o xs ++ ys
+outcome_before-append ignored xs ys = refl
+outcome_before-append (given content) xs ys = refl
+outcome_before-append (broken kind) xs ys = refl
 
 -- all groups but the last
 abbrev AreFronts : Encoding → List (List HeldLine) → Type 0
@@ -58,13 +58,13 @@ groups-before e (f ∷ []) g after h = ((h.0, tt), h.1)
 groups-before e (f ∷ i ∷ before) g after h = let m = groups-before e (i ∷ before) g after h.1 in ((h.0, m.0), m.1)
 
 -- Such groups before any bytes.
-told-fronts : (e : Encoding) (gs : List (List HeldLine)) (d : List ℕ) → AreFronts e gs → told e (groups_bytes gs ++ d) ≡ told_by (as_groups gs) ++ told e d
-told-fronts e [] d h = refl
-told-fronts e (g ∷ gs) d h =
-    ap (told e) (append_assoc (group_bytes g) (groups_bytes gs) d)
-    ∙ told-front e (group_bytes g) (groups_bytes gs ++ d) (as_lines g) h.0.front
-    ∙ ap (told_before (outcome g)) (told-fronts e gs d h.1)
-    ∙ told_before-append (outcome g) (told_by (as_groups gs)) (told e d)
+outcomes-fronts : (e : Encoding) (gs : List (List HeldLine)) (d : List ℕ) → AreFronts e gs → outcomes_in e (groups_bytes gs ++ d) ≡ outcomes_of (as_groups gs) ++ outcomes_in e d
+outcomes-fronts e [] d h = refl
+outcomes-fronts e (g ∷ gs) d h =
+    ap (outcomes_in e) (append_assoc (group_bytes g) (groups_bytes gs) d)
+    ∙ outcomes-front e (group_bytes g) (groups_bytes gs ++ d) (as_lines g) h.0.front
+    ∙ ap (outcome_before (outcome g)) (outcomes-fronts e gs d h.1)
+    ∙ outcome_before-append (outcome g) (outcomes_of (as_groups gs)) (outcomes_in e d)
 
 -- Lines that are a whole group, or one that ends open, have that group as their only group at the end of the input.
 fit-group : (x : List Line) → IsWhole x ⊎ EndsOpen x → groups_of x end ≡ x ∷ []
@@ -74,21 +74,21 @@ fit-group (l ∷ ls) (inl h) = ap (λ v. groups_of v end) (sym (append-nil (l �
 fit-group (l ∷ ls) (inr h) = groups_of-unfinished (l ∷ ls) end h
 
 -- the last group
-told-last : (e : Encoding) (g : List HeldLine) → IsHeldLast e g → told e (group_bytes g) ≡ told_before (outcome g) []
-told-last e g h = told-one e (group_bytes g) (as_lines g) h.texts (fit-group (as_lines g) h.fits)
+outcomes-last : (e : Encoding) (g : List HeldLine) → IsHeldLast e g → outcomes_in e (group_bytes g) ≡ outcome_before (outcome g) []
+outcomes-last e g h = outcomes-one e (group_bytes g) (as_lines g) h.texts (fit-group (as_lines g) h.fits)
 
 -- The outcomes of a body are those of its groups.
-pub told-groups : (e : Encoding) (gs : List (List HeldLine)) → AreHeldGroups e gs → told e (groups_bytes gs) ≡ told_by (as_groups gs)
+pub told-groups : (e : Encoding) (gs : List (List HeldLine)) → AreHeldGroups e gs → outcomes_in e (groups_bytes gs) ≡ outcomes_of (as_groups gs)
 told-groups e [] h = absurd h
-told-groups e (g ∷ []) h = ap (told e) (append-nil (group_bytes g)) ∙ told-last e g h
+told-groups e (g ∷ []) h = ap (outcomes_in e) (append-nil (group_bytes g)) ∙ outcomes-last e g h
 told-groups e (g ∷ i ∷ gs) h =
-    told-front e (group_bytes g) (groups_bytes (i ∷ gs)) (as_lines g) h.0.front ∙ ap (told_before (outcome g)) (told-groups e (i ∷ gs) h.1)
+    outcomes-front e (group_bytes g) (groups_bytes (i ∷ gs)) (as_lines g) h.0.front ∙ ap (outcome_before (outcome g)) (told-groups e (i ∷ gs) h.1)
 
 -- The outcomes of two lists of groups.
-pub told_by-append : (gs hs : List (List HeldLine)) → told_by (as_groups (gs ++ hs)) ≡ told_by (as_groups gs) ++ told_by (as_groups hs)
-told_by-append [] hs = refl
-told_by-append (g ∷ gs) hs =
-    ap (told_before (outcome g)) (told_by-append gs hs) ∙ told_before-append (outcome g) (told_by (as_groups gs)) (told_by (as_groups hs))
+pub outcomes_of-append : (gs hs : List (List HeldLine)) → outcomes_of (as_groups (gs ++ hs)) ≡ outcomes_of (as_groups gs) ++ outcomes_of (as_groups hs)
+outcomes_of-append [] hs = refl
+outcomes_of-append (g ∷ gs) hs =
+    ap (outcome_before (outcome g)) (outcomes_of-append gs hs) ∙ outcome_before-append (outcome g) (outcomes_of (as_groups gs)) (outcomes_of (as_groups hs))
 
 -- ---- contents in order
 
@@ -98,22 +98,22 @@ givens-append [] ds = refl
 givens-append (c ∷ cs) ds = ap (λ v. given c ∷ v) (givens-append cs ds)
 
 -- contents divided into two lists
-pub record AreParted (xs ys : List Outcome) (cs : List Content) : Type 0 where
+pub record AreSplitContents (xs ys : List Outcome) (cs : List Content) : Type 0 where
   pub front : List Content
   pub back : List Content
   pub whole : cs ≡ front ++ back
-  pub front_told : xs ≡ givens front
-  pub back_told : ys ≡ givens back
+  pub front_given : xs ≡ givens front
+  pub back_given : ys ≡ givens back
 
 -- If two lists of outcomes are all contents, the contents are divided in the same way.
-pub givens-parted : (xs ys : List Outcome) (cs : List Content) → xs ++ ys ≡ givens cs → AreParted xs ys cs
-givens-parted [] ys cs h = record { front = []; back = cs; whole = refl; front_told = refl; back_told = h }
+pub givens-parted : (xs ys : List Outcome) (cs : List Content) → xs ++ ys ≡ givens cs → AreSplitContents xs ys cs
+givens-parted [] ys cs h = record { front = []; back = cs; whole = refl; front_given = refl; back_given = h }
 givens-parted (x ∷ xs) ys [] h = absurd (cc)
 givens-parted (x ∷ xs) ys (c ∷ cs) h =
     let p : x ≡ given c = cc in
     let q : xs ++ ys ≡ givens cs = cc in
     let m = givens-parted xs ys cs q in
-    record { front = c ∷ m.front; back = m.back; whole = ap (λ v. c ∷ v) {y = m.front ++ m.back} m.whole; front_told = ap₂ (λ v w. v ∷ w) p m.front_told; back_told = m.back_told }
+    record { front = c ∷ m.front; back = m.back; whole = ap (λ v. c ∷ v) {y = m.front ++ m.back} m.whole; front_given = ap₂ (λ v w. v ∷ w) p m.front_given; back_given = m.back_given }
 
 -- The outcome of a group with the key is a pair with it.
 pub key-outcome : (key : List ℕ) (g : List HeldLine) → HasKey key g → (old : List ℕ) × (outcome g ≡ given (pair key old))
@@ -126,7 +126,7 @@ other-outcome key g h v s = h (v, rw s at (outcome_of-meets (joined (as_lines g)
 -- An outcome that isn't a pair with the key, before others that contain none.
 hold-step : (key : List ℕ) (o : Outcome) (os : List Outcome) (cs : List Content) → ((v : List ℕ) → o ≡ given (pair key v) → ⊥)
     → ((ds : List Content) → os ≡ givens ds → HoldNoPair key ds)
-    → told_before o os ≡ givens cs → HoldNoPair key cs
+    → outcome_before o os ≡ givens cs → HoldNoPair key cs
 hold-step key ignored os cs other rest h = rest cs h
 hold-step key (given content) os [] other rest h = absurd (cc)
 hold-step key (given content) os (comment text ∷ cs) other rest h = rest cs (cc)
@@ -137,52 +137,52 @@ hold-step key (broken kind) os [] other rest h = absurd (cc)
 hold-step key (broken kind) os (c ∷ cs) other rest h = absurd (cc)
 
 -- Groups none of which has the key.
-pub none-hold : (key : List ℕ) (gs : List (List HeldLine)) (cs : List Content) → NoneHasKey key gs → told_by (as_groups gs) ≡ givens cs → HoldNoPair key cs
+pub none-hold : (key : List ℕ) (gs : List (List HeldLine)) (cs : List Content) → NoneHasKey key gs → outcomes_of (as_groups gs) ≡ givens cs → HoldNoPair key cs
 none-hold key [] [] h s = tt
 none-hold key [] (c ∷ cs) h s = absurd (cc)
-none-hold key (g ∷ gs) cs h s = hold-step key (outcome g) (told_by (as_groups gs)) cs (other-outcome key g h.0) (λ ds k. none-hold key gs ds h.1 k) s
+none-hold key (g ∷ gs) cs h s = hold-step key (outcome g) (outcomes_of (as_groups gs)) cs (other-outcome key g h.0) (λ ds k. none-hold key gs ds h.1 k) s
 
 -- ---- replacing the last pair
 
 -- The printed pair instead of a group.
-told-in_place : (e : Encoding) (first : Bool) (key value : List ℕ) (g : List HeldLine) (after : List (List HeldLine)) → is_editable e ≡ true → All scalar key
+outcomes-in_place : (e : Encoding) (first : Bool) (key value : List ℕ) (g : List HeldLine) (after : List (List HeldLine)) → is_editable e ≡ true → All scalar key
     → All scalar value
     → AreHeldGroups e (g ∷ after)
-    → told e (pair_bytes e first key value ++ (ending_bytes (last_ending g) ++ groups_bytes after)) ≡ given (pair key value) ∷ told_by (as_groups after)
-told-in_place e first key value g [] ok k v h =
-    ap (λ o. told e (pair_bytes e first key value ++ (ending_bytes o ++ []))) h.ending ∙ ap (told e) (append-nil (pair_bytes e first key value))
-    ∙ told-last_pair e first key value ok k v
-told-in_place e first key value g (i ∷ after) ok k v h =
-    ap (λ o. told e (pair_bytes e first key value ++ (ending_bytes o ++ groups_bytes (i ∷ after)))) h.0.ending
-    ∙ told-pair e first key value h.0.by (groups_bytes (i ∷ after)) ok k v
+    → outcomes_in e (pair_bytes e first key value ++ (ending_bytes (last_ending g) ++ groups_bytes after)) ≡ given (pair key value) ∷ outcomes_of (as_groups after)
+outcomes-in_place e first key value g [] ok k v h =
+    ap (λ o. outcomes_in e (pair_bytes e first key value ++ (ending_bytes o ++ []))) h.ending ∙ ap (outcomes_in e) (append-nil (pair_bytes e first key value))
+    ∙ outcomes-last_pair e first key value ok k v
+outcomes-in_place e first key value g (i ∷ after) ok k v h =
+    ap (λ o. outcomes_in e (pair_bytes e first key value ++ (ending_bytes o ++ groups_bytes (i ∷ after)))) h.0.ending
+    ∙ outcomes-pair e first key value h.0.by (groups_bytes (i ∷ after)) ok k v
     ∙ ap (λ w. given (pair key value) ∷ w) (told-groups e (i ∷ after) h.1)
 
 -- the outcomes of a body are these contents
 abbrev pub ComesTo : Encoding → List ℕ → (List Content → Type 0) → Type 0
-ComesTo e body Such = (new : List Content) × Such new × (told e body ≡ givens new)
+ComesTo e body Such = (new : List Content) × Such new × (outcomes_in e body ≡ givens new)
 
 -- If the last pair with the key is replaced, the contents are unchanged except for its new value.
-pub replaced-told : (e : Encoding) (gs : List (List HeldLine)) (key value body : List ℕ) (old : List Content) → is_editable e ≡ true → All scalar key
+pub replaced-outcomes : (e : Encoding) (gs : List (List HeldLine)) (key value body : List ℕ) (old : List Content) → is_editable e ≡ true → All scalar key
     → All scalar value → AreHeldGroups e gs
-    → told_by (as_groups gs) ≡ givens old → IsReplaced e gs key value body → ComesTo e body (IsSetIn key value old)
-replaced-told e gs key value body old ok k v h t r =
+    → outcomes_of (as_groups gs) ≡ givens old → IsReplaced e gs key value body → ComesTo e body (IsSetIn key value old)
+replaced-outcomes e gs key value body old ok k v h t r =
     let both = groups-before e r.before r.group r.after (rw r.division at h) in
     let a = key-outcome key r.group r.has_key in
-    let s : told_by (as_groups r.before) ++ given (pair key a.0) ∷ told_by (as_groups r.after) ≡ givens old =
-    ap (λ w. told_by (as_groups r.before) ++ told_before w (told_by (as_groups r.after))) (sym a.1)
-    ∙ sym (told_by-append r.before (r.group ∷ r.after))
-    ∙ ap (λ w. told_by (as_groups w)) (sym r.division)
+    let s : outcomes_of (as_groups r.before) ++ given (pair key a.0) ∷ outcomes_of (as_groups r.after) ≡ givens old =
+    ap (λ w. outcomes_of (as_groups r.before) ++ outcome_before w (outcomes_of (as_groups r.after))) (sym a.1)
+    ∙ sym (outcomes_of-append r.before (r.group ∷ r.after))
+    ∙ ap (λ w. outcomes_of (as_groups w)) (sym r.division)
     ∙ t in
-    let m = givens-parted (told_by (as_groups r.before)) (given (pair key a.0) ∷ told_by (as_groups r.after)) old s in
-    of_back m.front m.back a.0 m.whole m.front_told m.back_told both.0 both.1
+    let m = givens-parted (outcomes_of (as_groups r.before)) (given (pair key a.0) ∷ outcomes_of (as_groups r.after)) old s in
+    of_back m.front m.back a.0 m.whole m.front_given m.back_given both.0 both.1
   where
-    of_back : (front back : List Content) (old_value : List ℕ) → old ≡ front ++ back → told_by (as_groups r.before) ≡ givens front
-        → given (pair key old_value) ∷ told_by (as_groups r.after) ≡ givens back → AreFronts e r.before → AreHeldGroups e (r.group ∷ r.after)
+    of_back : (front back : List Content) (old_value : List ℕ) → old ≡ front ++ back → outcomes_of (as_groups r.before) ≡ givens front
+        → given (pair key old_value) ∷ outcomes_of (as_groups r.after) ≡ givens back → AreFronts e r.before → AreHeldGroups e (r.group ∷ r.after)
         → ComesTo e body (IsSetIn key value old)
     of_back front [] old_value w ft bt fs hs = absurd (cc)
     of_back front (c ∷ back) old_value w ft bt fs hs =
         let p : pair key old_value ≡ c = cc in
-        let q : told_by (as_groups r.after) ≡ givens back = cc in (
+        let q : outcomes_of (as_groups r.after) ≡ givens back = cc in (
           front ++ pair key value ∷ back,
           inl (record {
             before = front;
@@ -192,9 +192,9 @@ replaced-told e gs key value body old ok k v h t r =
             no_later = none-hold key r.after back r.no_later q;
             now = refl;
           }),
-          ap (told e) r.bytes
-              ∙ told-fronts e r.before _ fs
-              ∙ ap₂ (λ x y. x ++ y) ft (told-in_place e (is_empty (groups_bytes r.before)) key value r.group r.after ok k v hs ∙ ap (λ x. given (pair key value) ∷ x) q)
+          ap (outcomes_in e) r.bytes
+              ∙ outcomes-fronts e r.before _ fs
+              ∙ ap₂ (λ x y. x ++ y) ft (outcomes-in_place e (is_empty (groups_bytes r.before)) key value r.group r.after ok k v hs ∙ ap (λ x. given (pair key value) ∷ x) q)
               ∙ sym (givens-append front (pair key value ∷ back)),
         )
 
@@ -292,17 +292,17 @@ is-added x source h = elim (cases_Bool (ends_in_cr source)) [
 ]
 
 -- Nothing separates a pair from an empty line.
-parting-none : (source : List ℕ) (g : List HeldLine) → is_empty_line g ≡ true → parting source g ≡ []
-parting-none source g h = rw h refl
+separation-none : (source : List ℕ) (g : List HeldLine) → is_empty_line g ≡ true → separation source g ≡ []
+separation-none source g h = rw h refl
 
 -- Two line endings separate it from a group that is left open.
-parting-two : (source : List ℕ) (g : List HeldLine) → is_empty_line g ≡ false → is_left_open g ≡ true
-    → parting source g ≡ added_ending source ++ added_ending source
-parting-two source g h k = rw (h, k) refl
+separation-two : (source : List ℕ) (g : List HeldLine) → is_empty_line g ≡ false → is_left_open g ≡ true
+    → separation source g ≡ added_ending source ++ added_ending source
+separation-two source g h k = rw (h, k) refl
 
 -- One line ending separates it from any other group.
-parting-one : (source : List ℕ) (g : List HeldLine) → is_empty_line g ≡ false → is_left_open g ≡ false → parting source g ≡ added_ending source
-parting-one source g h k = rw (h, k) refl
+separation-one : (source : List ℕ) (g : List HeldLine) → is_empty_line g ≡ false → is_left_open g ≡ false → separation source g ≡ added_ending source
+separation-one source g h k = rw (h, k) refl
 
 -- The texts of the last group.
 last-texts : (e : Encoding) (g : List HeldLine) → IsHeldLast e g → line_texts_in e (lines_of (group_bytes g)) ≡ as_lines g
@@ -350,60 +350,60 @@ unfolding line_texts
 empty-texts e = ap (λ v. record { number = 0; text = v } ∷ []) (decoded-nil e)
 
 -- The last group, what separates it from the following bytes, and those bytes.
-told-parted : (e : Encoding) (source : List ℕ) (g : List HeldLine) (d : List ℕ) → IsHeldLast e g → EndsAlike (group_bytes g) source
-    → told e (group_bytes g ++ (parting source g ++ d)) ≡ told_before (outcome g) (told e d)
-told-parted e source g d h a = elim (cases_Bool (is_empty_line g)) [
+outcomes-parted : (e : Encoding) (source : List ℕ) (g : List HeldLine) (d : List ℕ) → IsHeldLast e g → EndsAlike (group_bytes g) source
+    → outcomes_in e (group_bytes g ++ (separation source g ++ d)) ≡ outcome_before (outcome g) (outcomes_in e d)
+outcomes-parted e source g d h a = elim (cases_Bool (is_empty_line g)) [
   | inl k ↦
       let x : group_bytes g ≡ [] = empty-last g k h.ending in
       let t : as_lines g ≡ record { number = 0; text = [] } ∷ [] = sym h.texts ∙ ap (line_texts e) x ∙ empty-texts e in
-      ap₂ (λ v w. told e (v ++ (w ++ d))) x (parting-none source g k)
-      ∙ ap (λ v. told_before v (told e d)) (sym (ap (λ v. outcome_of (joined v)) t ∙ outcome-empty))
+      ap₂ (λ v w. outcomes_in e (v ++ (w ++ d))) x (separation-none source g k)
+      ∙ ap (λ v. outcome_before v (outcomes_in e d)) (sym (ap (λ v. outcome_of (joined v)) t ∙ outcome-empty))
   | inr k ↦ elim (cases_Bool (is_left_open g)) [
     | inl m ↦
         let y = added_ending source ++ added_ending source in
-        ap (λ v. told e (group_bytes g ++ (v ++ d))) (parting-two source g k m)
-        ∙ ap (told e) (sym (append_assoc (group_bytes g) y d))
-        ∙ told-front e (group_bytes g ++ y) d (as_lines g ++ record { number = 0; text = [] } ∷ []) (two-front e source g h m (is-added (group_bytes g) source a))
-        ∙ ap (λ v. told_before (outcome_of v) (told e d)) (closed-by_empty (as_lines g) (fit-open g h.fits m)).1
+        ap (λ v. outcomes_in e (group_bytes g ++ (v ++ d))) (separation-two source g k m)
+        ∙ ap (outcomes_in e) (sym (append_assoc (group_bytes g) y d))
+        ∙ outcomes-front e (group_bytes g ++ y) d (as_lines g ++ record { number = 0; text = [] } ∷ []) (two-front e source g h m (is-added (group_bytes g) source a))
+        ∙ ap (λ v. outcome_before (outcome_of v) (outcomes_in e d)) (closed-by_empty (as_lines g) (fit-open g h.fits m)).1
     | inr m ↦
-        ap (λ v. told e (group_bytes g ++ (v ++ d))) (parting-one source g k m)
-        ∙ ap (told e) (sym (append_assoc (group_bytes g) (added_ending source) d))
-        ∙ told-front e (group_bytes g ++ added_ending source) d (as_lines g) (one-front e source g h m (is-added (group_bytes g) source a))
+        ap (λ v. outcomes_in e (group_bytes g ++ (v ++ d))) (separation-one source g k m)
+        ∙ ap (outcomes_in e) (sym (append_assoc (group_bytes g) (added_ending source) d))
+        ∙ outcomes-front e (group_bytes g ++ added_ending source) d (as_lines g) (one-front e source g h m (is-added (group_bytes g) source a))
   ]
 ]
 
 -- All groups, what separates them from the following bytes, and those bytes.
-told-after : (e : Encoding) (source : List ℕ) (gs : List (List HeldLine)) (d : List ℕ) → AreHeldGroups e gs → EndsAlike (groups_bytes gs) source
-    → told e (groups_bytes gs ++ (parting source (final_group gs) ++ d)) ≡ told_by (as_groups gs) ++ told e d
-told-after e source [] d h a = absurd h
-told-after e source (g ∷ []) d h a =
-    ap (λ v. told e (v ++ (parting source g ++ d))) (append-nil (group_bytes g))
-    ∙ told-parted e source g d h (λ q. a (ap ends_in_cr (append-nil (group_bytes g)) ∙ q))
-    ∙ told_before-append (outcome g) [] (told e d)
-told-after e source (g ∷ i ∷ gs) d h a =
-    ap (told e) (append_assoc (group_bytes g) (groups_bytes (i ∷ gs)) (parting source (final_group (i ∷ gs)) ++ d))
-    ∙ told-front e (group_bytes g) (groups_bytes (i ∷ gs) ++ (parting source (final_group (i ∷ gs)) ++ d)) (as_lines g) h.0.front
-    ∙ ap (told_before (outcome g)) (told-after e source (i ∷ gs) d h.1 (λ q. a (ends-right (group_bytes g) (groups_bytes (i ∷ gs)) q)))
-    ∙ told_before-append (outcome g) (told_by (as_groups (i ∷ gs))) (told e d)
+outcomes-after : (e : Encoding) (source : List ℕ) (gs : List (List HeldLine)) (d : List ℕ) → AreHeldGroups e gs → EndsAlike (groups_bytes gs) source
+    → outcomes_in e (groups_bytes gs ++ (separation source (final_group gs) ++ d)) ≡ outcomes_of (as_groups gs) ++ outcomes_in e d
+outcomes-after e source [] d h a = absurd h
+outcomes-after e source (g ∷ []) d h a =
+    ap (λ v. outcomes_in e (v ++ (separation source g ++ d))) (append-nil (group_bytes g))
+    ∙ outcomes-parted e source g d h (λ q. a (ap ends_in_cr (append-nil (group_bytes g)) ∙ q))
+    ∙ outcome_before-append (outcome g) [] (outcomes_in e d)
+outcomes-after e source (g ∷ i ∷ gs) d h a =
+    ap (outcomes_in e) (append_assoc (group_bytes g) (groups_bytes (i ∷ gs)) (separation source (final_group (i ∷ gs)) ++ d))
+    ∙ outcomes-front e (group_bytes g) (groups_bytes (i ∷ gs) ++ (separation source (final_group (i ∷ gs)) ++ d)) (as_lines g) h.0.front
+    ∙ ap (outcome_before (outcome g)) (outcomes-after e source (i ∷ gs) d h.1 (λ q. a (ends-right (group_bytes g) (groups_bytes (i ∷ gs)) q)))
+    ∙ outcome_before-append (outcome g) (outcomes_of (as_groups (i ∷ gs))) (outcomes_in e d)
 
 -- If a pair is appended to a body, its contents are those of the body followed by that pair.
-pub appended-told : (e : Encoding) (source : List ℕ) (gs : List (List HeldLine)) (key value body : List ℕ) (old : List Content) → is_editable e ≡ true
+pub appended-outcomes : (e : Encoding) (source : List ℕ) (gs : List (List HeldLine)) (key value body : List ℕ) (old : List Content) → is_editable e ≡ true
     → All scalar key → All scalar value
-    → AreHeldGroups e gs → (ends_in_cr (groups_bytes gs) ≡ true → ends_in_cr source ≡ true) → told_by (as_groups gs) ≡ givens old
+    → AreHeldGroups e gs → (ends_in_cr (groups_bytes gs) ≡ true → ends_in_cr source ≡ true) → outcomes_of (as_groups gs) ≡ givens old
     → IsAppended e source gs key value body
     → ComesTo e body (IsSetIn key value old)
-appended-told e source gs key value body old ok k v h a t r = (
+appended-outcomes e source gs key value body old ok k v h a t r = (
   old ++ pair key value ∷ [],
   inr (none-hold key gs old r.no_pair t, refl),
-  ap (told e) r.bytes
-      ∙ ap (told e) (append_assoc (groups_bytes gs) (parting source (final_group gs)) tail)
-      ∙ told-after e source gs tail h a
-      ∙ ap₂ (λ x y. x ++ y) t (told-pair e (is_empty (groups_bytes gs ++ parting source (final_group gs))) key value lf [] ok k v ∙ ap (λ w. given (pair key value) ∷ w) (told-nil e))
+  ap (outcomes_in e) r.bytes
+      ∙ ap (outcomes_in e) (append_assoc (groups_bytes gs) (separation source (final_group gs)) tail)
+      ∙ outcomes-after e source gs tail h a
+      ∙ ap₂ (λ x y. x ++ y) t (outcomes-pair e (is_empty (groups_bytes gs ++ separation source (final_group gs))) key value lf [] ok k v ∙ ap (λ w. given (pair key value) ∷ w) (outcomes-nil e))
       ∙ sym (givens-append old (pair key value ∷ [])),
 )
   where
     tail : List ℕ
-    tail = pair_bytes e (is_empty (groups_bytes gs ++ parting source (final_group gs))) key value ++ line_feed ∷ []
+    tail = pair_bytes e (is_empty (groups_bytes gs ++ separation source (final_group gs))) key value ++ line_feed ∷ []
 
 -- ---- removing a key
 
@@ -413,8 +413,8 @@ IsLeft key old os = (new : List Content) × IsRemovedIn key old new × (os ≡ g
 
 -- A group without the key stays.
 left-kept : (key : List ℕ) (o : Outcome) (os left : List Outcome) (old : List Content) → ((v : List ℕ) → o ≡ given (pair key v) → ⊥)
-    → told_before o os ≡ givens old
-    → ((cs : List Content) → os ≡ givens cs → IsLeft key cs left) → IsLeft key old (told_before o left)
+    → outcome_before o os ≡ givens old
+    → ((cs : List Content) → os ≡ givens cs → IsLeft key cs left) → IsLeft key old (outcome_before o left)
 left-kept key ignored os left old other h rest = rest old h
 left-kept key (given content) os left [] other h rest = absurd (cc)
 left-kept key (given content) os left (comment text ∷ cs) other h rest =
@@ -447,33 +447,33 @@ nothing-left key [] h = ([], refl, refl)
 nothing-left key (c ∷ cs) h = absurd (cc)
 
 -- The outcomes of the groups without the key are what is left of the contents.
-left-told : (e : Encoding) (key : List ℕ) (gs : List (List HeldLine)) (rest : List ℕ) (old : List Content) → AreHeldGroups e gs → IsWithout key gs rest
-    → told_by (as_groups gs) ≡ givens old
-    → IsLeft key old (told e rest)
-left-told e key [] rest old h w t = absurd h
-left-told e key (g ∷ []) rest old h (inl w) t =
+left-outcomes : (e : Encoding) (key : List ℕ) (gs : List (List HeldLine)) (rest : List ℕ) (old : List Content) → AreHeldGroups e gs → IsWithout key gs rest
+    → outcomes_of (as_groups gs) ≡ givens old
+    → IsLeft key old (outcomes_in e rest)
+left-outcomes e key [] rest old h w t = absurd h
+left-outcomes e key (g ∷ []) rest old h (inl w) t =
     let a = key-outcome key g w.0 in
-    rw (w.1, told-nil e) (left-out key a.0 [] [] old (ap (λ v. told_before v []) (sym a.1) ∙ t) (nothing-left key))
-left-told e key (g ∷ []) rest old h (inr w) t =
-    let s : told e rest ≡ told_before (outcome g) [] = ap (told e) (w.2 ∙ ap (λ v. group_bytes g ++ v) w.3 ∙ append-nil (group_bytes g)) ∙ told-last e g h in
+    rw (w.1, outcomes-nil e) (left-out key a.0 [] [] old (ap (λ v. outcome_before v []) (sym a.1) ∙ t) (nothing-left key))
+left-outcomes e key (g ∷ []) rest old h (inr w) t =
+    let s : outcomes_in e rest ≡ outcome_before (outcome g) [] = ap (outcomes_in e) (w.2 ∙ ap (λ v. group_bytes g ++ v) w.3 ∙ append-nil (group_bytes g)) ∙ outcomes-last e g h in
     rw s (left-kept key (outcome g) [] [] old (other-outcome key g w.0) t (nothing-left key))
-left-told e key (g ∷ i ∷ gs) rest old h (inl w) t =
+left-outcomes e key (g ∷ i ∷ gs) rest old h (inl w) t =
     let a = key-outcome key g w.0 in
-    left-out key a.0 (told_by (as_groups (i ∷ gs))) (told e rest) old (ap (λ v. told_before v (told_by (as_groups (i ∷ gs)))) (sym a.1) ∙ t)
-    (λ cs k. left-told e key (i ∷ gs) rest cs h.1 w.1 k)
-left-told e key (g ∷ i ∷ gs) rest old h (inr w) t =
-    let s : told e rest ≡ told_before (outcome g) (told e w.1) = ap (told e) w.2 ∙ told-front e (group_bytes g) w.1 (as_lines g) h.0.front in
+    left-out key a.0 (outcomes_of (as_groups (i ∷ gs))) (outcomes_in e rest) old (ap (λ v. outcome_before v (outcomes_of (as_groups (i ∷ gs)))) (sym a.1) ∙ t)
+    (λ cs k. left-outcomes e key (i ∷ gs) rest cs h.1 w.1 k)
+left-outcomes e key (g ∷ i ∷ gs) rest old h (inr w) t =
+    let s : outcomes_in e rest ≡ outcome_before (outcome g) (outcomes_in e w.1) = ap (outcomes_in e) w.2 ∙ outcomes-front e (group_bytes g) w.1 (as_lines g) h.0.front in
     rw s
-    (left-kept key (outcome g) (told_by (as_groups (i ∷ gs))) (told e w.1) old (other-outcome key g w.0) t
-    (λ cs k. left-told e key (i ∷ gs) w.1 cs h.1 w.3 k))
+    (left-kept key (outcome g) (outcomes_of (as_groups (i ∷ gs))) (outcomes_in e w.1) old (other-outcome key g w.0) t
+    (λ cs k. left-outcomes e key (i ∷ gs) w.1 cs h.1 w.3 k))
 
 -- A body without the groups with the key has the same contents, without the pairs with the key.
-pub removed-told : (e : Encoding) (source key : List ℕ) (gs : List (List HeldLine)) (rest : List ℕ) (old : List Content) → AreHeldGroups e gs
-    → told_by (as_groups gs) ≡ givens old
+pub removed-outcomes : (e : Encoding) (source key : List ℕ) (gs : List (List HeldLine)) (rest : List ℕ) (old : List Content) → AreHeldGroups e gs
+    → outcomes_of (as_groups gs) ≡ givens old
     → IsWithout key gs rest → ComesTo e (guarding_lf source rest ++ rest) (IsRemovedIn key old)
-removed-told e source key gs rest old h t w =
-    let m = left-told e key gs rest old h w t in
-    (m.0, m.1, told-guarding_lf ∙ m.2)
+removed-outcomes e source key gs rest old h t w =
+    let m = left-outcomes e key gs rest old h w t in
+    (m.0, m.1, outcomes-guarding_lf ∙ m.2)
   where
-    told-guarding_lf : told e (guarding_lf source rest ++ rest) ≡ told e rest
-    told-guarding_lf = elim (cases_Bool (not (begins_like_bom source) && begins_like_bom rest)) [ inl k ↦ rw k (told-lf e rest) | inr k ↦ rw k refl ]
+    outcomes-guarding_lf : outcomes_in e (guarding_lf source rest ++ rest) ≡ outcomes_in e rest
+    outcomes-guarding_lf = elim (cases_Bool (not (begins_like_bom source) && begins_like_bom rest)) [ inl k ↦ rw k (outcomes-lf e rest) | inr k ↦ rw k refl ]

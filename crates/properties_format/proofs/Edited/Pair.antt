@@ -13,33 +13,33 @@ use Rattle.properties_format.specs.Entries.{pair}
 use Rattle.properties_format.specs.Items.{given}
 use Rattle.properties_format.specs.Reading.Items.{outcome_of}
 use Rattle.properties_format.specs.Settings.{default_settings}
-use Rattle.properties_format.specs.Printing.{in_key_or_value, spelt_text, encoded_text, spelt_key, printed_text}
+use Rattle.properties_format.specs.Printing.{in_key_or_value, printed_characters, encoded_text, printed_key, printed_text}
 use Rattle.properties_format.specs.Writing.{pair_call}
 use Rattle.properties_format.specs.Edited.{is_editable, pair_bytes}
 use Rattle.properties_format.proofs.Lines.Only.{lines_of-plain}
 use Rattle.properties_format.proofs.Lines.Steps.{lines_of-line}
-use Rattle.properties_format.proofs.Groups.Logical.{StandsAlone}
+use Rattle.properties_format.proofs.Groups.Logical.{IsNotContinued}
 use Rattle.properties_format.proofs.Groups.Only.{groups_of-before}
 use Rattle.properties_format.proofs.Printing.Characters.{AreEncodable}
-use Rattle.properties_format.proofs.ReadBack.Texts.{texts-spelt}
-use Rattle.properties_format.proofs.ReadBack.Pairs.{IsReadAs, key-spelt, pair-read}
+use Rattle.properties_format.proofs.ReadBack.Texts.{texts-printed}
+use Rattle.properties_format.proofs.ReadBack.Pairs.{IsReadAs, key-printed, pair-read}
 use Rattle.properties_format.proofs.ReadBack.Lines.{wrote_text, joined-alone}
 use Rattle.properties_format.proofs.ReadBack.Bytes.{AreWritable, text-decoded, wrote_text-writable}
 use Rattle.properties_format.proofs.ReadBack.Law.{default_settings-good}
 use Rattle.properties_format.specs.Reading.Cut.{decoded_line}
 use Rattle.properties_format.proofs.Body.Decoded.{plain-bytes}
-use Rattle.properties_format.proofs.Edited.Told.{told_before, ended_lines, line_texts_in, line_texts, told, IsFront, told-front, told-one}
+use Rattle.properties_format.proofs.Edited.Outcomes.{outcome_before, ended_lines, line_texts_in, line_texts, outcomes_in, IsFront, outcomes-front, outcomes-one}
 
 -- the characters of the printed pair
 abbrev pub pair_text : Encoding → Bool → List ℕ → List ℕ → List ℕ
-pair_text e first key value = spelt_key e false first key ++ (equals_sign ∷ spelt_text e false in_key_or_value value)
+pair_text e first key value = printed_key e false first key ++ (equals_sign ∷ printed_characters e false in_key_or_value value)
 
 -- Its text is read as the pair.
 pair-read_as : (e : Encoding) (first : Bool) (key value : List ℕ) → All scalar key → All scalar value
     → IsReadAs (pair_text e first key value) (pair key value)
 pair-read_as e first key value h k =
-    pair-read (spelt_key e false first key) (spelt_text e false in_key_or_value value) (equals_sign ∷ []) key value (key-spelt e false first key (recursion_from_All scalar key h))
-    (texts-spelt e false value (recursion_from_All scalar value k)) default_settings-good.separator (λ q. refl)
+    pair-read (printed_key e false first key) (printed_characters e false in_key_or_value value) (equals_sign ∷ []) key value (key-printed e false first key (recursion_from_All scalar key h))
+    (texts-printed e false value (recursion_from_All scalar value k)) default_settings-good.separator (λ q. refl)
 
 -- ---- its bytes decode to its text
 
@@ -62,10 +62,10 @@ line-text : (e : Encoding) (n : ℕ) (key value : List ℕ)
     → wrote_text e default_settings n (pair_call key value ∷ []) ≡ pair_text e (n == 0) key value ++ line_feed ∷ []
 line-text e n [] value =
     append-nil (printed_text e default_settings (n == 0) (pair [] value))
-    ∙ sym (append_assoc (spelt_key e false (n == 0) []) (equals_sign ∷ spelt_text e false in_key_or_value value) (line_feed ∷ []))
+    ∙ sym (append_assoc (printed_key e false (n == 0) []) (equals_sign ∷ printed_characters e false in_key_or_value value) (line_feed ∷ []))
 line-text e n (c ∷ key) value =
     append-nil (printed_text e default_settings (n == 0) (pair (c ∷ key) value))
-    ∙ sym (append_assoc (spelt_key e false (n == 0) (c ∷ key)) (equals_sign ∷ spelt_text e false in_key_or_value value) (line_feed ∷ []))
+    ∙ sym (append_assoc (printed_key e false (n == 0) (c ∷ key)) (equals_sign ∷ printed_characters e false in_key_or_value value) (line_feed ∷ []))
 
 -- The characters of a printed pair can be written.
 pair-writable : (e : Encoding) (first : Bool) (key value : List ℕ) → All scalar key → All scalar value → AreWritable e (pair_text e first key value)
@@ -94,7 +94,7 @@ pair-decoded e first key value ok h k =
 -- ---- it is a group
 
 -- A comment line, or a line that isn't open, is a whole group by itself.
-alone-whole : (l : Line) → StandsAlone l.text → IsWhole (l ∷ [])
+alone-whole : (l : Line) → IsNotContinued l.text → IsWhole (l ∷ [])
 alone-whole l (inl h) = inl (h, refl)
 alone-whole l (inr h) = elim (cases_Bool (is_comment_line l.text)) [ inl k ↦ inl (k, refl) | inr k ↦ inr (k, h) ]
 
@@ -139,12 +139,12 @@ pair-front e first key value by ok h k =
     }
 
 -- The printed pair with a line ending, before any bytes.
-pub told-pair : (e : Encoding) (first : Bool) (key value : List ℕ) (by : LineEnding) (d : List ℕ) → is_editable e ≡ true → All scalar key → All scalar value
-    → told e (pair_bytes e first key value ++ (line_ending_text by ++ d)) ≡ given (pair key value) ∷ told e d
-told-pair e first key value by d ok h k =
-    ap (told e) (sym (append_assoc (pair_bytes e first key value) (line_ending_text by) d))
-    ∙ told-front e (pair_bytes e first key value ++ line_ending_text by) d (pair_line e first key value ∷ []) (pair-front e first key value by ok h k)
-    ∙ ap (λ v. told_before v (told e d)) (pair-outcome e first key value h k)
+pub outcomes-pair : (e : Encoding) (first : Bool) (key value : List ℕ) (by : LineEnding) (d : List ℕ) → is_editable e ≡ true → All scalar key → All scalar value
+    → outcomes_in e (pair_bytes e first key value ++ (line_ending_text by ++ d)) ≡ given (pair key value) ∷ outcomes_in e d
+outcomes-pair e first key value by d ok h k =
+    ap (outcomes_in e) (sym (append_assoc (pair_bytes e first key value) (line_ending_text by) d))
+    ∙ outcomes-front e (pair_bytes e first key value ++ line_ending_text by) d (pair_line e first key value ∷ []) (pair-front e first key value by ok h k)
+    ∙ ap (λ v. outcome_before v (outcomes_in e d)) (pair-outcome e first key value h k)
 
 -- Without a line ending, its bytes are one line too.
 pair-texts : (e : Encoding) (first : Bool) (key value : List ℕ) → is_editable e ≡ true → All scalar key → All scalar value
@@ -155,9 +155,9 @@ pair-texts e first key value ok h k =
     ∙ ap (λ v. record { number = 0; text = v } ∷ []) (pair-decoded e first key value ok h k)
 
 -- The printed pair as the last line.
-pub told-last_pair : (e : Encoding) (first : Bool) (key value : List ℕ) → is_editable e ≡ true → All scalar key → All scalar value
-    → told e (pair_bytes e first key value) ≡ given (pair key value) ∷ []
-told-last_pair e first key value ok h k =
+pub outcomes-last_pair : (e : Encoding) (first : Bool) (key value : List ℕ) → is_editable e ≡ true → All scalar key → All scalar value
+    → outcomes_in e (pair_bytes e first key value) ≡ given (pair key value) ∷ []
+outcomes-last_pair e first key value ok h k =
     let l = pair_line e first key value in
-    told-one e (pair_bytes e first key value) (l ∷ []) (pair-texts e first key value ok h k) (groups_of-before (l ∷ []) [] end (pair-whole e first key value h k))
-    ∙ ap (λ v. told_before v []) (pair-outcome e first key value h k)
+    outcomes-one e (pair_bytes e first key value) (l ∷ []) (pair-texts e first key value ok h k) (groups_of-before (l ∷ []) [] end (pair-whole e first key value h k))
+    ∙ ap (λ v. outcome_before v []) (pair-outcome e first key value h k)

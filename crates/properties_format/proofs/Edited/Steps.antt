@@ -13,7 +13,7 @@ use Rattle.properties_format.specs.Items.{Outcome, ignored, given, broken}
 use Rattle.properties_format.specs.Reading.Items.{outcome_of, followed}
 use Rattle.properties_format.specs.Entries.{pair, Entry}
 use Rattle.properties_format.specs.Settings.{default_settings}
-use Rattle.properties_format.specs.Printing.{in_key_or_value, spelt_text, encoded_text, spelt_key, printed}
+use Rattle.properties_format.specs.Printing.{in_key_or_value, printed_characters, encoded_text, printed_key, printed}
 use Rattle.properties_format.specs.Body.{HeldLine, HasKey, group_bytes, as_lines, held_in, last_ending}
 use Rattle.properties_format.specs.Edited.{pair_bytes, final_group, is_last_open, is_left_open, is_empty_line}
 use Rattle.properties_format.specs.Reading.Body.{held_of, held_lines_of, has_key, entries_in}
@@ -122,7 +122,7 @@ result-after n (g ∷ gs) hs made h =
 pub pair_bytes-printed : (e : Encoding) (first : Bool) (key value : List ℕ)
     → pair_bytes e first key value ++ line_feed ∷ [] ≡ printed e default_settings first (pair key value)
 pair_bytes-printed e first key value =
-    let x = spelt_key e false first key ++ (equals_sign ∷ spelt_text e false in_key_or_value value) in
+    let x = printed_key e false first key ++ (equals_sign ∷ printed_characters e false in_key_or_value value) in
     ap (λ o. encoded_text e x ++ (unwrap_or o [] ++ [])) (sym (encoded-ascii e line_feed (lit< tt)))
     ∙ sym (encoded_text-append e x (line_feed ∷ []))
-    ∙ ap (encoded_text e) (append_assoc (spelt_key e false first key) (equals_sign ∷ spelt_text e false in_key_or_value value) (line_feed ∷ []))
+    ∙ ap (encoded_text e) (append_assoc (printed_key e false first key) (equals_sign ∷ printed_characters e false in_key_or_value value) (line_feed ∷ []))

@@ -16,7 +16,7 @@ use Rattle.properties_format.specs.Utf16.{low_first, high_first, IsUtf16Piece, p
 use Rattle.properties_format.specs.Encoding.{Encoding, windows_1252, utf_8, utf_16le, utf_16be, output_encoding, one_byte, encoded, IsPiece, IsPieces, ascii_bytes}
 use Rattle.properties_format.specs.Reading.Encoding.{pieces_of}
 use Rattle.properties_format.proofs.Encodings.Windows1252.{windows_1252_character-byte, windows_1252-scalar, windows_1252-ascii, windows_1252_character-ascii}
-use Rattle.properties_format.proofs.Encodings.Utf8Characters.{encode-one, encode-says}
+use Rattle.properties_format.proofs.Encodings.Utf8Characters.{encode-one, encode-is_sequence}
 use Rattle.properties_format.proofs.Encodings.Utf8Sequences.{sequence-scalar, sequence-ascii}
 use Rattle.properties_format.proofs.Encodings.Pieces.{pieces_of-meets, pieces_of-piece}
 
@@ -32,7 +32,7 @@ windows_1252-encoded c bs y (Some b) e h =
 utf_8-encoded : (c : ℕ) (bs y : List ℕ) → scalar c → ◌≡◌ {A = Option (List ℕ)} (Some (encode_utf8 c)) (Some bs) → IsPiece utf_8 (piece bs c) y
 utf_8-encoded c bs y h e =
     let s = same_Some (encode_utf8 c) bs e in
-    let k = encode-says c h in
+    let k = encode-is_sequence c h in
     rw (← s) (whole k.0 k.1)
 
 -- In the encoding that is written, the bytes of a scalar value are a piece of it, whatever follows.

@@ -10,10 +10,10 @@ use Rattle.properties_format.proofs.Encodings.PieceEnds.{piece-more, piece-less,
 -- ---- Bytes added at the end.
 
 -- the last piece, if there is one, stays a piece before these bytes
-abbrev pub LastStands : Encoding → List Piece → List ℕ → Type 0
-LastStands e [] y = Unit {0}
-LastStands e (p ∷ []) y = IsPiece e p y
-LastStands e (p ∷ q ∷ ps) y = LastStands e (q ∷ ps) y
+abbrev pub LastStaysPiece : Encoding → List Piece → List ℕ → Type 0
+LastStaysPiece e [] y = Unit {0}
+LastStaysPiece e (p ∷ []) y = IsPiece e p y
+LastStaysPiece e (p ∷ q ∷ ps) y = LastStaysPiece e (q ∷ ps) y
 
 -- Bytes with a piece aren't empty.
 pieces-length : (e : Encoding) (d : List ℕ) (p : Piece) (ps : List Piece) → IsPieces e d (p ∷ ps) → 0 < length d
@@ -23,7 +23,7 @@ pieces-length e d p ps (rest, s, h, k) =
 
 -- If the last piece stays a piece before the bytes after it, the pieces of both are the pieces of the first followed by
 -- those of the second.
-pub pieces-append : (e : Encoding) (x y : List ℕ) (ps qs : List Piece) → IsPieces e x ps → LastStands e ps y → IsPieces e y qs → IsPieces e (x ++ y) (ps ++ qs)
+pub pieces-append : (e : Encoding) (x y : List ℕ) (ps qs : List Piece) → IsPieces e x ps → LastStaysPiece e ps y → IsPieces e y qs → IsPieces e (x ++ y) (ps ++ qs)
 pieces-append e x y [] qs h l k = rw h k
 pieces-append e x y (p ∷ []) qs (rest, s, h, m) l k =
     let t : x ≡ p.bytes = s ∙ ap (λ v. p.bytes ++ v) m ∙ append-nil p.bytes in
@@ -32,12 +32,12 @@ pieces-append e x y (p ∷ q ∷ ps) qs (rest, s, h, m) l k =
     (rest ++ y, ap (λ v. v ++ y) s ∙ append_assoc p.bytes rest y, piece-more e p rest y (pieces-length e rest q ps m) h, pieces-append e rest y (q ∷ ps) qs m l k)
 
 -- The pieces of bytes that end in such a piece, followed by those of the bytes after them.
-pub pieces_of-append : (e : Encoding) (x y : List ℕ) → LastStands e (pieces_of e x) y → pieces_of e (x ++ y) ≡ pieces_of e x ++ pieces_of e y
+pub pieces_of-append : (e : Encoding) (x y : List ℕ) → LastStaysPiece e (pieces_of e x) y → pieces_of e (x ++ y) ≡ pieces_of e x ++ pieces_of e y
 pieces_of-append e x y h =
     sym (pieces_of-only e (x ++ y) (pieces_of e x ++ pieces_of e y) (pieces-append e x y (pieces_of e x) (pieces_of e y) (pieces_of-meets e x) h (pieces_of-meets e y)))
 
 -- A last piece stays one before bytes that begin anew.
-last-anew : (e : Encoding) (x y : List ℕ) (ps : List Piece) → BeginsAnew e y → IsAligned e x → IsPieces e x ps → LastStands e ps y
+last-anew : (e : Encoding) (x y : List ℕ) (ps : List Piece) → BeginsAnew e y → IsAligned e x → IsPieces e x ps → LastStaysPiece e ps y
 last-anew e x y [] h a k = tt
 last-anew e x y (p ∷ []) h a (rest, s, m, t) =
     let q : x ≡ p.bytes = s ∙ ap (λ v. p.bytes ++ v) t ∙ append-nil p.bytes in

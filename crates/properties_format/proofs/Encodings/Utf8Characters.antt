@@ -37,24 +37,24 @@ encode-four c l =
     ∙ cond-false (nat_lt c 0x1_0000) _ _ (le-ltb c 0x1_0000 l)
 
 -- the bytes are a well-formed sequence with this character
-abbrev pub Says : List ℕ → ℕ → Type 0
-Says bs c = IsWellFormed bs × (c ≡ sequence_character bs)
+abbrev pub IsSequenceOf : List ℕ → ℕ → Type 0
+IsSequenceOf bs c = IsWellFormed bs × (c ≡ sequence_character bs)
 
 -- A byte after the first is a tail byte.
 next-in : (c : ℕ) → IsIn tail (next c)
 next-in c = (omega arith, omega arith)
 
 -- A byte below 80 hexadecimal is the sequence of the character with its number.
-says-one : (c : ℕ) → c < 0x80 → Says (c ∷ []) c
-says-one c h = (inl ((omega arith, omega arith), tt), omega arith)
+is_sequence-one : (c : ℕ) → c < 0x80 → IsSequenceOf (c ∷ []) c
+is_sequence-one c h = (inl ((omega arith, omega arith), tt), omega arith)
 
 -- The two bytes of a character below U+0800 decode to it.
 two-character : (c : ℕ) → c < 0x800 → c ≡ (192 + c / 64) % 2 ^ 5 * 2 ^ 6 + next c % 2 ^ 6
 two-character c h = omega arith
 
 -- From U+0080 on, these two bytes are the character's sequence.
-says-two : (c : ℕ) → 0x80 ≤ c → c < 0x800 → Says ((192 + c / 64) ∷ next c ∷ []) c
-says-two c l h = (inr (inl ((omega arith, omega arith), (next-in c, tt))), two-character c h)
+is_sequence-two : (c : ℕ) → 0x80 ≤ c → c < 0x800 → IsSequenceOf ((192 + c / 64) ∷ next c ∷ []) c
+is_sequence-two c l h = (inr (inl ((omega arith, omega arith), (next-in c, tt))), two-character c h)
 
 -- The three bytes of a character below U+10000 decode to it.
 three-character : (c : ℕ) → c < 0x1_0000 → c ≡ ((224 + c / 4096) % 2 ^ 4 * 2 ^ 6 + next (c / 64) % 2 ^ 6) * 2 ^ 6 + next c % 2 ^ 6
@@ -87,8 +87,8 @@ four-fits c l h = elim (cases_lt c 0x4_0000) [
 ]
 
 -- From U+0800 on, the bytes of a scalar value are its sequence.
-says-long : (c : ℕ) → 0x800 ≤ c → scalar c → Says (encode_utf8 c) c
-says-long c l h = elim (cases_lt c 0x1_0000) [
+is_sequence-long : (c : ℕ) → 0x800 ≤ c → scalar c → IsSequenceOf (encode_utf8 c) c
+is_sequence-long c l h = elim (cases_lt c 0x1_0000) [
   | inl k ↦ rw (encode-three c l k) (three-fits c l (low k h), three-character c k)
   | inr k ↦ rw (encode-four c k) (four-fits c k (high h), four-character c (high h))
 ]
@@ -102,11 +102,11 @@ says-long c l h = elim (cases_lt c 0x1_0000) [
     high (inr m) = m.1
 
 -- The bytes of a character are its sequence.
-pub encode-says : (c : ℕ) → scalar c → Says (encode_utf8 c) c
-encode-says c h = elim (cases_lt c 0x80) [
-  | inl k ↦ rw (encode-one c k) (says-one c k)
+pub encode-is_sequence : (c : ℕ) → scalar c → IsSequenceOf (encode_utf8 c) c
+encode-is_sequence c h = elim (cases_lt c 0x80) [
+  | inl k ↦ rw (encode-one c k) (is_sequence-one c k)
   | inr k ↦ elim (cases_lt c 0x800) [
-    | inl m ↦ rw (encode-two c k m) (says-two c k m)
-    | inr m ↦ says-long c m h
+    | inl m ↦ rw (encode-two c k m) (is_sequence-two c k m)
+    | inr m ↦ is_sequence-long c m h
   ]
 ]

@@ -135,58 +135,58 @@ fitting-fits (r ∷ rs) (b ∷ d) = elim (cases_Bool (is_in r b)) [
 -- ---- The row of a first byte.
 
 -- each row has a first byte, above those of the rows before it
-abbrev pub are_apart : ℕ → List (List Range) → Bool
-are_apart low [] = true
-are_apart low ([] ∷ more) = false
-are_apart low ((r ∷ rs) ∷ more) = (nat_le low r.least && nat_le r.least r.most) && (are_filled rs && are_apart (suc r.most) more)
+abbrev pub are_ascending : ℕ → List (List Range) → Bool
+are_ascending low [] = true
+are_ascending low ([] ∷ more) = false
+are_ascending low ((r ∷ rs) ∷ more) = (nat_le low r.least && nat_le r.least r.most) && (are_filled rs && are_ascending (suc r.most) more)
 
-record Apart (low : ℕ) (r : Range) (rs : List Range) (more : List (List Range)) : Type 0 where
+record Ascending (low : ℕ) (r : Range) (rs : List Range) (more : List (List Range)) : Type 0 where
   low_least : low ≤ r.least
   least_most : r.least ≤ r.most
   filled : are_filled rs ≡ true
-  others : are_apart (suc r.most) more ≡ true
+  others : are_ascending (suc r.most) more ≡ true
 
 -- The test of all rows, divided into the first row and the others.
-apart-parts : (low : ℕ) (r : Range) (rs : List Range) (more : List (List Range)) → are_apart low ((r ∷ rs) ∷ more) ≡ true → Apart low r rs more
-apart-parts low r rs more h =
-    let k = and_parts (nat_le low r.least && nat_le r.least r.most) (are_filled rs && are_apart (suc r.most) more) h in
+ascending-parts : (low : ℕ) (r : Range) (rs : List Range) (more : List (List Range)) → are_ascending low ((r ∷ rs) ∷ more) ≡ true → Ascending low r rs more
+ascending-parts low r rs more h =
+    let k = and_parts (nat_le low r.least && nat_le r.least r.most) (are_filled rs && are_ascending (suc r.most) more) h in
     let l = and_parts (nat_le low r.least) (nat_le r.least r.most) k.0 in
-    let m = and_parts (are_filled rs) (are_apart (suc r.most) more) k.1 in
+    let m = and_parts (are_filled rs) (are_ascending (suc r.most) more) k.1 in
     record { low_least = leb-true low r.least l.0; least_most = leb-true r.least r.most l.1; filled = m.0; others = m.1 }
 
 -- No sequence begins with a byte below those of the rows.
-above : (low : ℕ) (table : List (List Range)) (b : ℕ) (bs : List ℕ) → are_apart low table ≡ true → FitsSome table (b ∷ bs) → low ≤ b
+above : (low : ℕ) (table : List (List Range)) (b : ℕ) (bs : List ℕ) → are_ascending low table ≡ true → FitsSome table (b ∷ bs) → low ≤ b
 above low [] b bs h k = absurd k
 above low ([] ∷ more) b bs h k = absurd (cc)
-above low ((r ∷ rs) ∷ more) b bs h (inl k) = let a = apart-parts low r rs more h in omega arith
+above low ((r ∷ rs) ∷ more) b bs h (inl k) = let a = ascending-parts low r rs more h in omega arith
 above low ((r ∷ rs) ∷ more) b bs h (inr k) =
-    let a = apart-parts low r rs more h in
+    let a = ascending-parts low r rs more h in
     let l = above (suc r.most) more b bs a.others k in omega arith
 
 -- A sequence fits the row of its first byte.
-row-of : (low : ℕ) (table : List (List Range)) (b : ℕ) (bs : List ℕ) → are_apart low table ≡ true → FitsSome table (b ∷ bs)
+row-of : (low : ℕ) (table : List (List Range)) (b : ℕ) (bs : List ℕ) → are_ascending low table ≡ true → FitsSome table (b ∷ bs)
     → (rs : List Range) × (ranges_after table b ≡ Some rs) × FitsRow rs bs
 row-of low [] b bs h k = absurd k
 row-of low ([] ∷ more) b bs h k = absurd (cc)
 row-of low ((r ∷ rs) ∷ more) b bs h (inl k) = (rs, cond-true (is_in r b) (Some rs) (ranges_after more b) (is_in-true r b k.0), k.1)
 row-of low ((r ∷ rs) ∷ more) b bs h (inr k) =
-    let a = apart-parts low r rs more h in
+    let a = ascending-parts low r rs more h in
     let l = above (suc r.most) more b bs a.others k in
     let m = row-of (suc r.most) more b bs a.others k in
     (m.0, cond-false (is_in r b) (Some rs) (ranges_after more b) (is_in-false r b (λ q. omega arith)) ∙ m.1, m.2)
 
 -- Bytes that fit the ranges in the row of a first byte make a sequence with it, and none of the ranges is empty.
-row-fits : (low : ℕ) (table : List (List Range)) (b : ℕ) (rs : List Range) → are_apart low table ≡ true → ranges_after table b ≡ Some rs
+row-fits : (low : ℕ) (table : List (List Range)) (b : ℕ) (rs : List Range) → are_ascending low table ≡ true → ranges_after table b ≡ Some rs
     → (are_filled rs ≡ true) × ((bs : List ℕ) → FitsRow rs bs → FitsSome table (b ∷ bs))
 row-fits low [] b rs h k = absurd (none-some rs k)
 row-fits low ([] ∷ more) b rs h k = absurd (cc)
 row-fits low ((r ∷ qs) ∷ more) b rs h k = elim (cases_Bool (is_in r b)) [
   | inl m ↦
-      let a = apart-parts low r qs more h in
+      let a = ascending-parts low r qs more h in
       let e : qs ≡ rs = same_Some qs rs (sym (cond-true (is_in r b) (Some qs) (ranges_after more b) m) ∙ k) in
       rw (← e) (a.filled, λ bs q. inl (in-range r b m, q))
   | inr m ↦
-      let a = apart-parts low r qs more h in
+      let a = ascending-parts low r qs more h in
       let f = row-fits (suc r.most) more b rs a.others (sym (cond-false (is_in r b) (Some qs) (ranges_after more b) m) ∙ k) in
       (f.0, λ bs q. inr (f.1 bs q))
 ]
@@ -200,11 +200,11 @@ pub row-sequence : (b : ℕ) (rs : List Range) → ranges_after well_formed_rows
 row-sequence b rs h = row-fits 0 well_formed_rows b rs refl h
 
 -- If each row has a first byte, an empty list fits none.
-no-empty : (low : ℕ) (table : List (List Range)) → are_apart low table ≡ true → FitsSome table [] → ⊥
+no-empty : (low : ℕ) (table : List (List Range)) → are_ascending low table ≡ true → FitsSome table [] → ⊥
 no-empty low [] h k = k
 no-empty low ([] ∷ more) h k = cc
 no-empty low ((r ∷ rs) ∷ more) h (inl k) = k
-no-empty low ((r ∷ rs) ∷ more) h (inr k) = no-empty (suc r.most) more (apart-parts low r rs more h).others k
+no-empty low ((r ∷ rs) ∷ more) h (inr k) = no-empty (suc r.most) more (ascending-parts low r rs more h).others k
 
 -- A sequence isn't empty.
 pub sequence-nonempty : FitsSome well_formed_rows [] → ⊥

@@ -16,7 +16,7 @@ use Rattle.properties_format.specs.Encoding.{windows_1252, utf_8}
 use Rattle.properties_format.specs.Reading.Encoding.{pieces_of}
 use Rattle.properties_format.proofs.Encodings.Utf8Sequences.{sequence-scalar}
 use Rattle.properties_format.proofs.Encodings.Utf8Inverse.{encode-sequence}
-use Rattle.properties_format.proofs.Encodings.Utf8Characters.{encode-says}
+use Rattle.properties_format.proofs.Encodings.Utf8Characters.{encode-is_sequence}
 use Rattle.properties_format.proofs.Encodings.Characters.{pieces_of-encoded, pieces_of-ascii}
 
 -- The code point of a `char` is a scalar value.
@@ -47,7 +47,7 @@ utf8-sequences d [] h e = ([], sym e)
 utf8-sequences d (c ∷ cs) h e =
     let p = and_parts (std_utf8.scalar c) (all_scalars cs) h in
     let w = utf8-sequences (encode_utf8_all cs) cs p.1 refl in
-    (encode_utf8 c ∷ w.0, (encode_utf8_all cs, sym e, (encode-says c (scalar-from_char c p.0)).0, w.1))
+    (encode_utf8 c ∷ w.0, (encode_utf8_all cs, sym e, (encode-is_sequence c (scalar-from_char c p.0)).0, w.1))
 
 -- Bytes that are UTF-8 are well-formed.
 pub well_formed-from_IsUtf8 : (d : List ℕ) → IsUtf8 d → IsWellFormedText d

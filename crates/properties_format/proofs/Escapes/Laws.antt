@@ -1,7 +1,7 @@
 -- What a text means, given what it begins with.
 use Rattle.std.proofs.Common.{◌≡◌, ℕ, ◌==◌, ◌<◌, length, true, false, List, [], ◌∷◌, ◌++◌, map, None, refl, ap, ◌∙◌, append-nil, arith}
 use Rattle.properties_format.specs.Text.{backslash}
-use Rattle.properties_format.specs.Escapes.{letter_u, escaped_character, Four, four_text, are_hexadecimal, code_unit, is_high, is_low, is_surrogate, pair_character, Spelling, itself, escaped, unicode, surrogates, last, spelt_character, IsSpelling, spelt_before, AreSpellings, not_enough_digits, not_hex, invalid_character, malformed_by, means, breaks}
+use Rattle.properties_format.specs.Escapes.{letter_u, escaped_character, Four, four_text, are_hexadecimal, code_unit, is_high, is_low, is_surrogate, pair_character, Spelling, itself, escaped, unicode, surrogates, last, spelling_character, IsSpelling, spellings_before, AreSpellings, not_enough_digits, not_hex, invalid_character, malformed_by, means, breaks}
 use Rattle.properties_format.specs.Reading.Escapes.{with_low, after_u, in_front, text_in_front, meaning_of}
 use Rattle.properties_format.specs.Writing.{HoldsNoBackslash}
 use Rattle.properties_format.proofs.Escapes.First.{spelling_of-none}
@@ -69,19 +69,19 @@ IsWhole-spelling last rest h = absurd h
 -- Each of several whole spellings may come before what follows it.
 pub AreWhole-spellings : (ps : List Spelling) (rest : List ℕ) → AreWhole ps → AreSpellings ps rest
 AreWhole-spellings [] rest h = tt
-AreWhole-spellings (p ∷ ps) rest h = (IsWhole-spelling p (spelt_before ps rest) h.0, AreWhole-spellings ps rest h.1)
+AreWhole-spellings (p ∷ ps) rest h = (IsWhole-spelling p (spellings_before ps rest) h.0, AreWhole-spellings ps rest h.1)
 
 -- whole spellings before any text
-pub meaning_of-whole : (ps : List Spelling) (rest : List ℕ) → AreWhole ps → meaning_of (spelt_before ps rest) ≡ text_in_front (map spelt_character ps) (meaning_of rest)
+pub meaning_of-whole : (ps : List Spelling) (rest : List ℕ) → AreWhole ps → meaning_of (spellings_before ps rest) ≡ text_in_front (map spelling_character ps) (meaning_of rest)
 meaning_of-whole ps rest h = meaning_of-spellings ps rest (AreWhole-spellings ps rest h)
 
 -- whole spellings by themselves
-pub meaning_of-all : (ps : List Spelling) → AreWhole ps → meaning_of (spelt_before ps []) ≡ means (map spelt_character ps)
+pub meaning_of-all : (ps : List Spelling) → AreWhole ps → meaning_of (spellings_before ps []) ≡ means (map spelling_character ps)
 meaning_of-all ps h =
     meaning_of-whole ps [] h
-    ∙ ap (text_in_front (map spelt_character ps)) meaning_of-empty
-    ∙ text_in_front-means (map spelt_character ps) []
-    ∙ ap means (append-nil (map spelt_character ps))
+    ∙ ap (text_in_front (map spelling_character ps)) meaning_of-empty
+    ∙ text_in_front-means (map spelling_character ps) []
+    ∙ ap means (append-nil (map spelling_character ps))
 
 -- ---- a `\u` that begins no spelling
 

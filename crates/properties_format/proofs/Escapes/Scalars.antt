@@ -4,7 +4,7 @@ use Rattle.std.proofs.lemmas.Bool.{and_parts}
 use Rattle.std.proofs.lemmas.Bool.Decides.{nat_tests}
 use Rattle.std.proofs.lemmas.List.Elements.{All-nil, All-cons, All-head, All-tail}
 use Rattle.properties_format.specs.Text.{backslash, scalar}
-use Rattle.properties_format.specs.Escapes.{Four, is_hexadecimal, hexadecimal_value, are_hexadecimal, code_unit, is_surrogate, escaped_character, Spelling, itself, escaped, unicode, surrogates, last, spelling_text, spelt_character, IsSpelling, spelt_before, AreSpellings, Means}
+use Rattle.properties_format.specs.Escapes.{Four, is_hexadecimal, hexadecimal_value, are_hexadecimal, code_unit, is_surrogate, escaped_character, Spelling, itself, escaped, unicode, surrogates, last, spelling_text, spelling_character, IsSpelling, spellings_before, AreSpellings, Means}
 use Rattle.properties_format.proofs.Encodings.Characters.{pair-scalar}
 
 -- The value of a hexadecimal digit is below 16.
@@ -38,7 +38,7 @@ rest-scalars [] y h = h
 rest-scalars (c ∷ x) y h = rest-scalars x y (All-tail scalar c (x ++ y) h)
 
 -- The character of a spelling is a scalar value.
-spelling-scalar : (p : Spelling) (rest : List ℕ) → IsSpelling p rest → All scalar (spelling_text p ++ rest) → scalar (spelt_character p)
+spelling-scalar : (p : Spelling) (rest : List ℕ) → IsSpelling p rest → All scalar (spelling_text p ++ rest) → scalar (spelling_character p)
 spelling-scalar (itself c) rest h k = All-head scalar c rest k
 spelling-scalar (escaped c) rest h k = escaped-scalar c (All-head scalar c rest (All-tail scalar backslash (c ∷ rest) k))
 spelling-scalar (unicode d) rest h k = unit-scalar (code_unit d) (code_unit-below d h.0) h.1
@@ -46,12 +46,12 @@ spelling-scalar (surrogates high low) rest h k = pair-scalar (code_unit high) (c
 spelling-scalar last rest h k = inl (lit< tt)
 
 -- The characters of spellings in a text of scalar values are scalar values.
-pub spellings-scalars : (ps : List Spelling) (rest : List ℕ) → AreSpellings ps rest → All scalar (spelt_before ps rest) → All scalar (map spelt_character ps)
+pub spellings-scalars : (ps : List Spelling) (rest : List ℕ) → AreSpellings ps rest → All scalar (spellings_before ps rest) → All scalar (map spelling_character ps)
 spellings-scalars [] rest h k = All-nil scalar
 spellings-scalars (p ∷ ps) rest h k =
-    All-cons scalar (spelt_character p) (map spelt_character ps)
-    (spelling-scalar p (spelt_before ps rest) h.0 k)
-    (spellings-scalars ps rest h.1 (rest-scalars (spelling_text p) (spelt_before ps rest) k))
+    All-cons scalar (spelling_character p) (map spelling_character ps)
+    (spelling-scalar p (spellings_before ps rest) h.0 k)
+    (spellings-scalars ps rest h.1 (rest-scalars (spelling_text p) (spellings_before ps rest) k))
 
 -- A text of scalar values means a text of scalar values.
 pub means-scalars : (text meant : List ℕ) → Means text meant → All scalar text → All scalar meant

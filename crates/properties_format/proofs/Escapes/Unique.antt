@@ -1,7 +1,7 @@
 -- Each text means one text, or is malformed in one way.
 use Rattle.std.proofs.Common.{◌≡◌, ℕ, pred, length, List, [], ◌∷◌, ◌++◌, map, Option, Some, None, refl, ap, sym, ◌∙◌, subst, append-nil}
 use Rattle.properties_format.specs.Text.{backslash}
-use Rattle.properties_format.specs.Escapes.{letter_u, Malformed, four_text, Spelling, itself, escaped, unicode, surrogates, last, spelling_text, spelt_character, IsSpelling, spelt_before, AreSpellings, Means, NoSpelling, malformed_by, Breaks, Meaning, means, breaks, IsMeaning}
+use Rattle.properties_format.specs.Escapes.{letter_u, Malformed, four_text, Spelling, itself, escaped, unicode, surrogates, last, spelling_text, spelling_character, IsSpelling, spellings_before, AreSpellings, Means, NoSpelling, malformed_by, Breaks, Meaning, means, breaks, IsMeaning}
 use Rattle.properties_format.specs.Reading.Escapes.{first_spelling, in_front, text_in_front, fault_of, meaning_past, meaning_of}
 use Rattle.properties_format.proofs.Escapes.First.{spelling_of, spelling_of-only, spelling_of-none, IsFound, first_spelling-found}
 
@@ -17,7 +17,7 @@ spelling_tail last = []
 
 -- If a spelling is found, its character comes before what the rest means.
 past-spelling : (c : ℕ) (cs : List ℕ) (p : Spelling) → first_spelling c cs ≡ Some p
-    → meaning_past (c ∷ cs) 0 ≡ in_front (spelt_character p) (meaning_past cs (pred (length (spelling_text p))))
+    → meaning_past (c ∷ cs) 0 ≡ in_front (spelling_character p) (meaning_past cs (pred (length (spelling_text p))))
 past-spelling c cs p e = rw (e, meaning_past) refl
 
 -- If no spelling is found, the text is malformed.
@@ -26,7 +26,7 @@ past-none c cs e = rw (e, meaning_past) refl
 
 -- A spelling at the front that the computation has found.
 past-front : (p : Spelling) (rest : List ℕ) → spelling_of (spelling_text p ++ rest) ≡ Some p
-    → meaning_past (spelling_text p ++ rest) 0 ≡ in_front (spelt_character p) (meaning_past rest 0)
+    → meaning_past (spelling_text p ++ rest) 0 ≡ in_front (spelling_character p) (meaning_past rest 0)
 past-front (itself c) rest e = past-spelling c rest (itself c) e
 past-front (escaped c) rest e = past-spelling backslash (c ∷ rest) (escaped c) e
 past-front (unicode d) rest e = past-spelling backslash (letter_u ∷ four_text d ++ rest) (unicode d) e
@@ -34,7 +34,7 @@ past-front (surrogates high low) rest e = past-spelling backslash (letter_u ∷ 
 past-front last rest e = past-spelling backslash rest last e
 
 -- A spelling at the front, before what may follow it.
-pub meaning_of-spelling : (p : Spelling) (rest : List ℕ) → IsSpelling p rest → meaning_of (spelling_text p ++ rest) ≡ in_front (spelt_character p) (meaning_of rest)
+pub meaning_of-spelling : (p : Spelling) (rest : List ℕ) → IsSpelling p rest → meaning_of (spelling_text p ++ rest) ≡ in_front (spelling_character p) (meaning_of rest)
 unfolding meaning_of
 meaning_of-spelling p rest h = past-front p rest (spelling_of-only p rest h)
 
@@ -50,9 +50,9 @@ text_in_front-breaks (c ∷ x) kind = ap (in_front c) (text_in_front-breaks x ki
 
 -- Spellings at the front.
 pub meaning_of-spellings : (ps : List Spelling) (rest : List ℕ) → AreSpellings ps rest
-    → meaning_of (spelt_before ps rest) ≡ text_in_front (map spelt_character ps) (meaning_of rest)
+    → meaning_of (spellings_before ps rest) ≡ text_in_front (map spelling_character ps) (meaning_of rest)
 meaning_of-spellings [] rest h = refl
-meaning_of-spellings (p ∷ ps) rest h = meaning_of-spelling p (spelt_before ps rest) h.0 ∙ ap (in_front (spelt_character p)) (meaning_of-spellings ps rest h.1)
+meaning_of-spellings (p ∷ ps) rest h = meaning_of-spelling p (spellings_before ps rest) h.0 ∙ ap (in_front (spelling_character p)) (meaning_of-spellings ps rest h.1)
 
 -- An empty text means an empty text.
 pub meaning_of-empty : meaning_of [] ≡ means []
@@ -66,9 +66,9 @@ pub means-only : (text meant : List ℕ) → Means text meant → means meant �
 means-only text meant m = sym (
     ap meaning_of m.whole
     ∙ meaning_of-spellings m.spellings [] m.each
-    ∙ ap (text_in_front (map spelt_character m.spellings)) meaning_of-empty
-    ∙ text_in_front-means (map spelt_character m.spellings) []
-    ∙ ap means (append-nil (map spelt_character m.spellings) ∙ sym m.characters))
+    ∙ ap (text_in_front (map spelling_character m.spellings)) meaning_of-empty
+    ∙ text_in_front-means (map spelling_character m.spellings) []
+    ∙ ap means (append-nil (map spelling_character m.spellings) ∙ sym m.characters))
 
 -- If no spelling begins a text, none is found.
 none-found : (c : ℕ) (cs : List ℕ) (o : Option Spelling) → NoSpelling (c ∷ cs) → IsFound (c ∷ cs) o → o ≡ None
@@ -86,8 +86,8 @@ pub breaks-only : (text : List ℕ) (kind : Malformed) → Breaks text kind → 
 breaks-only text kind b = sym (
     ap meaning_of b.whole
     ∙ meaning_of-spellings b.spellings (backslash ∷ letter_u ∷ b.after) b.each
-    ∙ ap (text_in_front (map spelt_character b.spellings)) (meaning_of-fault b.after b.no_spelling)
-    ∙ text_in_front-breaks (map spelt_character b.spellings) (malformed_by b.after)
+    ∙ ap (text_in_front (map spelling_character b.spellings)) (meaning_of-fault b.after b.no_spelling)
+    ∙ text_in_front-breaks (map spelling_character b.spellings) (malformed_by b.after)
     ∙ ap breaks (sym b.fault))
 
 -- What a text resolves to is the computed meaning.
@@ -98,12 +98,12 @@ meaning_of-only text (breaks kind) h = breaks-only text kind h
 -- ---- a text resolves to the computed meaning
 
 -- A spelling at the front adds its character to the front of the meaning.
-front-meets : (p : Spelling) (x rest : List ℕ) (m : Meaning) → x ≡ spelling_text p ++ rest → IsSpelling p rest → IsMeaning rest m → IsMeaning x (in_front (spelt_character p) m)
+front-meets : (p : Spelling) (x rest : List ℕ) (m : Meaning) → x ≡ spelling_text p ++ rest → IsSpelling p rest → IsMeaning rest m → IsMeaning x (in_front (spelling_character p) m)
 front-meets p x rest (means meant) e h k = record {
   spellings = p ∷ k.spellings;
   whole = e ∙ ap (λ v. spelling_text p ++ v) k.whole;
   each = (rw k.whole at h, k.each);
-  characters = ap (λ v. spelt_character p ∷ v) k.characters;
+  characters = ap (λ v. spelling_character p ∷ v) k.characters;
 }
 front-meets p x rest (breaks kind) e h k = record {
   spellings = p ∷ k.spellings;

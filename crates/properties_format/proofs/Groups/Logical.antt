@@ -58,11 +58,11 @@ logical_lines-open l ls e h k =
 -- ---- a line of a text that no other line continues
 
 -- the line is a comment line, or isn't open
-abbrev pub StandsAlone : List ℕ → Type 0
-StandsAlone x = (is_comment_line x ≡ true) ⊎ (is_open x ≡ false)
+abbrev pub IsNotContinued : List ℕ → Type 0
+IsNotContinued x = (is_comment_line x ≡ true) ⊎ (is_open x ≡ false)
 
 -- Such a line is a group.
-pub groups-line : (n : ℕ) (text : List ℕ) (by : LineEnding) (y : List ℕ) (e : InputEnd) → HoldsNoLineEnd text → (by ≡ cr → begins_with_lf y ≡ false) → StandsAlone text
+pub groups-line : (n : ℕ) (text : List ℕ) (by : LineEnding) (y : List ℕ) (e : InputEnd) → HoldsNoLineEnd text → (by ≡ cr → begins_with_lf y ≡ false) → IsNotContinued text
     → groups_of (lines_to_come n false [] (text ++ (line_ending_text by ++ y)) e) e
     ≡ (record { number = n + 1; text = text } ∷ []) ∷ groups_of (lines_to_come (n + 1) false [] y e) e
 groups-line n text by y e h k (inl m) =

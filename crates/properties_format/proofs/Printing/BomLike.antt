@@ -9,7 +9,7 @@ use Rattle.std.proofs.lemmas.Str.{encode_same}
 use Rattle.properties_format.specs.Text.{scalar, space, backslash}
 use Rattle.properties_format.specs.Windows1252.{windows_1252_byte, windows_1252_character}
 use Rattle.properties_format.specs.Encoding.{Encoding, windows_1252, utf_8, encoded, one_byte, begins_with, begins_like_bom, utf_8_bom, utf_16be_bom, utf_16le_bom}
-use Rattle.properties_format.specs.Printing.{in_key_or_value, unit_escape, high_surrogate, low_surrogate, unicode_escape, literal, is_special, letter_escape, has_letter, spelt, spelt_text, encoded_text, is_bom_like}
+use Rattle.properties_format.specs.Printing.{in_key_or_value, unit_escape, high_surrogate, low_surrogate, unicode_escape, literal, is_special, letter_escape, has_letter, printed_character, printed_characters, encoded_text, is_bom_like}
 use Rattle.properties_format.proofs.Encodings.Windows1252.{windows_1252_character-byte}
 use Rattle.properties_format.proofs.Printing.Characters.{encoded_text-append, below-scalar}
 
@@ -56,8 +56,8 @@ letter-cases e c = elim (cases_Bool (has_letter c)) [
 ]
 
 -- What is printed for a character of a key is an escape, or the character itself.
-pub spelt-cases : (e : Encoding) (c : ℕ) → IsEscapedOrItself e c (spelt e false in_key_or_value c)
-spelt-cases e c =
+pub printed-cases : (e : Encoding) (c : ℕ) → IsEscapedOrItself e c (printed_character e false in_key_or_value c)
+printed-cases e c =
     let rest = cond (has_letter c) (letter_escape c) (cond (nat_lt c space) (unicode_escape c) (literal e false c)) in
     elim (cases_Bool (is_special c)) [
       | inl k ↦ inl (_, cond-true (is_special c) (backslash ∷ c ∷ []) rest k)
@@ -68,7 +68,7 @@ spelt-cases e c =
 
 -- A raw character: it is unescaped in a key, and its byte has its number. A backslash isn't one.
 record IsRaw (m : ℕ) : Type 0 where
-  itself : spelt windows_1252 false in_key_or_value m ≡ m ∷ []
+  itself : printed_character windows_1252 false in_key_or_value m ≡ m ∷ []
   byte : encoded windows_1252 m ≡ Some (m ∷ [])
   character : windows_1252_character m ≡ m
   no_escape : (m == backslash) ≡ false
@@ -78,12 +78,12 @@ AreRaw [] = Unit {0}
 AreRaw (m ∷ ms) = IsRaw m × AreRaw ms
 
 abbrev bytes_of : List ℕ → List ℕ
-bytes_of key = encoded_text windows_1252 (spelt_text windows_1252 false in_key_or_value key)
+bytes_of key = encoded_text windows_1252 (printed_characters windows_1252 false in_key_or_value key)
 
 -- The bytes of a key, given those of its first character.
-bytes-cons : (c : ℕ) (cs x : List ℕ) → spelt windows_1252 false in_key_or_value c ≡ x → bytes_of (c ∷ cs) ≡ encoded_text windows_1252 x ++ bytes_of cs
+bytes-cons : (c : ℕ) (cs x : List ℕ) → printed_character windows_1252 false in_key_or_value c ≡ x → bytes_of (c ∷ cs) ≡ encoded_text windows_1252 x ++ bytes_of cs
 bytes-cons c cs x e =
-    encoded_text-append windows_1252 (spelt windows_1252 false in_key_or_value c) (spelt_text windows_1252 false in_key_or_value cs)
+    encoded_text-append windows_1252 (printed_character windows_1252 false in_key_or_value c) (printed_characters windows_1252 false in_key_or_value cs)
     ∙ ap (λ v. encoded_text windows_1252 v ++ bytes_of cs) e
 
 -- If c is another character than m, a byte other than m is at the front.
@@ -94,7 +94,7 @@ other-byte m c ms (Some b) y raw other e some =
     and_left (m == b) (begins_with ms y) (ne_eqb m b (λ k. other (sym raw.character ∙ ap windows_1252_character k ∙ (windows_1252_character-byte c b e).0)))
 
 -- The bytes of a key with another first character don't begin with m.
-other-front : (m c : ℕ) (ms cs : List ℕ) → IsRaw m → m ≢ c → IsEscapedOrItself windows_1252 c (spelt windows_1252 false in_key_or_value c)
+other-front : (m c : ℕ) (ms cs : List ℕ) → IsRaw m → m ≢ c → IsEscapedOrItself windows_1252 c (printed_character windows_1252 false in_key_or_value c)
     → begins_with (m ∷ ms) (bytes_of (c ∷ cs)) ≡ false
 other-front m c ms cs raw other (inl k) =
     ap (begins_with (m ∷ ms)) (bytes-cons c cs (backslash ∷ k.0) k.1) ∙ and_left (m == backslash) (begins_with ms (encoded_text windows_1252 k.0 ++ bytes_of cs)) raw.no_escape
@@ -112,7 +112,7 @@ key-begins [] key raw = refl
 key-begins (m ∷ ms) [] raw = refl
 key-begins (m ∷ ms) (c ∷ cs) raw = elim (eqb_tells m c) [
   | inl k ↦ rw (← k.1) (same-front m ms cs raw.0 ∙ ap (λ b. (m == m) && b) (key-begins ms cs raw.1))
-  | inr k ↦ other-front m c ms cs raw.0 k.1 (spelt-cases windows_1252 c) ∙ sym (and_left (m == c) (begins_with ms cs) k.0)
+  | inr k ↦ other-front m c ms cs raw.0 k.1 (printed-cases windows_1252 c) ∙ sym (and_left (m == c) (begins_with ms cs) k.0)
 ]
 
 -- U+00EF is raw.
@@ -147,11 +147,11 @@ is_bom_like-windows_1252 key =
 -- ---- UTF-8
 
 abbrev utf_8_bytes_of : List ℕ → List ℕ
-utf_8_bytes_of key = encoded_text utf_8 (spelt_text utf_8 false in_key_or_value key)
+utf_8_bytes_of key = encoded_text utf_8 (printed_characters utf_8 false in_key_or_value key)
 
 -- The bytes of a key, given those of its first character.
-utf_8_bytes-cons : (c : ℕ) (cs x : List ℕ) → spelt utf_8 false in_key_or_value c ≡ x → utf_8_bytes_of (c ∷ cs) ≡ encoded_text utf_8 x ++ utf_8_bytes_of cs
-utf_8_bytes-cons c cs x e = encoded_text-append utf_8 (spelt utf_8 false in_key_or_value c) (spelt_text utf_8 false in_key_or_value cs) ∙ ap (λ v. encoded_text utf_8 v ++ utf_8_bytes_of cs) e
+utf_8_bytes-cons : (c : ℕ) (cs x : List ℕ) → printed_character utf_8 false in_key_or_value c ≡ x → utf_8_bytes_of (c ∷ cs) ≡ encoded_text utf_8 x ++ utf_8_bytes_of cs
+utf_8_bytes-cons c cs x e = encoded_text-append utf_8 (printed_character utf_8 false in_key_or_value c) (printed_characters utf_8 false in_key_or_value cs) ∙ ap (λ v. encoded_text utf_8 v ++ utf_8_bytes_of cs) e
 
 -- A text that begins with a list is that list followed by a rest.
 begins-rest : (ms d : List ℕ) → begins_with ms d ≡ true → (rest : List ℕ) × (d ≡ ms ++ rest)
@@ -204,11 +204,11 @@ utf_8-itself c y h =
     either (inr k) = ap (λ b. b || false) (false_from_ne_true (begins_with utf_8_bom (encode_utf8 c ++ y)) (λ t. k.1 (sym (byte_order_mark-of_feff c y t)))) ∙ sym (and_left (0xfeff == c) true k.0)
 
 -- A character that is escaped isn't U+FEFF, which is unescaped.
-not-feff : (c : ℕ) (rest : List ℕ) → spelt utf_8 false in_key_or_value c ≡ backslash ∷ rest → 0xfeff ≡ c → ⊥
-not-feff c rest e q = let k : ◌≡◌ {A = ℕ} 0x5c 0xfeff = ap (λ v. get_or v 0 0) (sym e ∙ ap (spelt utf_8 false in_key_or_value) (sym q)) in omega arith
+not-feff : (c : ℕ) (rest : List ℕ) → printed_character utf_8 false in_key_or_value c ≡ backslash ∷ rest → 0xfeff ≡ c → ⊥
+not-feff c rest e q = let k : ◌≡◌ {A = ℕ} 0x5c 0xfeff = ap (λ v. get_or v 0 0) (sym e ∙ ap (printed_character utf_8 false in_key_or_value) (sym q)) in omega arith
 
 -- A key that isn't empty begins like a byte order mark exactly if its first character is U+FEFF.
-utf_8-cons : (c : ℕ) (cs : List ℕ) → c < 0x11_0000 → IsEscapedOrItself utf_8 c (spelt utf_8 false in_key_or_value c) → is_bom_like utf_8 false (c ∷ cs) ≡ ((0xfeff == c) && true)
+utf_8-cons : (c : ℕ) (cs : List ℕ) → c < 0x11_0000 → IsEscapedOrItself utf_8 c (printed_character utf_8 false in_key_or_value c) → is_bom_like utf_8 false (c ∷ cs) ≡ ((0xfeff == c) && true)
 unfolding encode_utf8
 utf_8-cons c cs h (inl k) = ap begins_like_bom (utf_8_bytes-cons c cs (backslash ∷ k.0) k.1) ∙ sym (and_left (0xfeff == c) true (ne_eqb 0xfeff c (not-feff c k.0 k.1)))
 utf_8-cons c cs h (inr k) =
@@ -217,4 +217,4 @@ utf_8-cons c cs h (inr k) =
 -- In UTF-8, the keys that begin like a byte order mark are those that begin with U+FEFF.
 pub is_bom_like-utf_8 : (key : List ℕ) → All scalar key → is_bom_like utf_8 false key ≡ begins_with (0xfeff ∷ []) key
 is_bom_like-utf_8 [] h = refl
-is_bom_like-utf_8 (c ∷ cs) h = utf_8-cons c cs (below-scalar c (h 0 c (omega arith))) (spelt-cases utf_8 c)
+is_bom_like-utf_8 (c ∷ cs) h = utf_8-cons c cs (below-scalar c (h 0 c (omega arith))) (printed-cases utf_8 c)

@@ -9,7 +9,7 @@ use Rattle.properties_format.specs.Encoding.{Encoding, windows_1252, utf_8, utf_
 use Rattle.properties_format.specs.Entries.{Content, comment, pair}
 use Rattle.properties_format.specs.Split.{AreBlanks}
 use Rattle.properties_format.specs.Settings.{Settings, IsGoodSeparator}
-use Rattle.properties_format.specs.Printing.{Place, in_key_or_value, in_comment, in_prefix, unit_escape, high_surrogate, low_surrogate, unicode_escape, may_stand, literal, is_special, letter_escape, has_letter, spelt, spelt_text, encoded_text, is_bom_like, with_first_escaped, spelt_key, printed_text, printed}
+use Rattle.properties_format.specs.Printing.{Place, in_key_or_value, in_comment, in_prefix, unit_escape, high_surrogate, low_surrogate, unicode_escape, may_be_unescaped, literal, is_special, letter_escape, has_letter, printed_character, printed_characters, encoded_text, is_bom_like, with_first_escaped, printed_key, printed_text, printed}
 use Rattle.properties_format.proofs.Encodings.Windows1252.{windows_1252_byte-ascii}
 
 -- ---- two texts, one after another
@@ -21,10 +21,10 @@ encoded_text-append e (c ∷ x) y =
     ap (λ v. unwrap_or (encoded e c) [] ++ v) (encoded_text-append e x y) ∙ sym (append_assoc (unwrap_or (encoded e c) []) (encoded_text e x) (encoded_text e y))
 
 -- What is printed for two texts.
-pub spelt_text-append : (e : Encoding) (only : Bool) (place : Place) (x y : List ℕ) → spelt_text e only place (x ++ y) ≡ spelt_text e only place x ++ spelt_text e only place y
-spelt_text-append e only place [] y = refl
-spelt_text-append e only place (c ∷ x) y = ap (λ v. spelt e only place c ++ v) (spelt_text-append e only place x y)
-    ∙ sym (append_assoc (spelt e only place c) (spelt_text e only place x) (spelt_text e only place y))
+pub printed_characters-append : (e : Encoding) (only : Bool) (place : Place) (x y : List ℕ) → printed_characters e only place (x ++ y) ≡ printed_characters e only place x ++ printed_characters e only place y
+printed_characters-append e only place [] y = refl
+printed_characters-append e only place (c ∷ x) y = ap (λ v. printed_character e only place c ++ v) (printed_characters-append e only place x y)
+    ∙ sym (append_assoc (printed_character e only place c) (printed_characters e only place x) (printed_characters e only place y))
 
 -- ---- printed lines, by their parts
 
@@ -34,18 +34,18 @@ three-parts e x y z = encoded_text-append e x (y ++ z) ∙ ap (λ v. encoded_tex
 
 -- A comment: the bytes of the prefix, of the text and of the line ending.
 pub printed-comment : (e : Encoding) (s : Settings) (first : Bool) (text : List ℕ)
-    → printed e s first (comment text) ≡ encoded_text e (spelt_text e s.ascii_only in_prefix s.comment_prefix)
-    ++ (encoded_text e (spelt_text e s.ascii_only in_comment text) ++ encoded_text e (line_ending_text s.line_ending))
-printed-comment e s first text = three-parts e (spelt_text e s.ascii_only in_prefix s.comment_prefix) (spelt_text e s.ascii_only in_comment text) (line_ending_text s.line_ending)
+    → printed e s first (comment text) ≡ encoded_text e (printed_characters e s.ascii_only in_prefix s.comment_prefix)
+    ++ (encoded_text e (printed_characters e s.ascii_only in_comment text) ++ encoded_text e (line_ending_text s.line_ending))
+printed-comment e s first text = three-parts e (printed_characters e s.ascii_only in_prefix s.comment_prefix) (printed_characters e s.ascii_only in_comment text) (line_ending_text s.line_ending)
 
 -- A pair: the bytes of the key, of the separator, of the value and of the line ending.
 pub printed-pair : (e : Encoding) (s : Settings) (first : Bool) (key value : List ℕ)
     → printed e s first (pair key value)
-    ≡ encoded_text e (spelt_key e s.ascii_only first key)
-    ++ (encoded_text e s.kv_separator ++ (encoded_text e (spelt_text e s.ascii_only in_key_or_value value) ++ encoded_text e (line_ending_text s.line_ending)))
+    ≡ encoded_text e (printed_key e s.ascii_only first key)
+    ++ (encoded_text e s.kv_separator ++ (encoded_text e (printed_characters e s.ascii_only in_key_or_value value) ++ encoded_text e (line_ending_text s.line_ending)))
 printed-pair e s first key value =
-    encoded_text-append e (spelt_key e s.ascii_only first key) (s.kv_separator ++ (spelt_text e s.ascii_only in_key_or_value value ++ line_ending_text s.line_ending))
-    ∙ ap (λ v. encoded_text e (spelt_key e s.ascii_only first key) ++ v) (three-parts e s.kv_separator (spelt_text e s.ascii_only in_key_or_value value) (line_ending_text s.line_ending))
+    encoded_text-append e (printed_key e s.ascii_only first key) (s.kv_separator ++ (printed_characters e s.ascii_only in_key_or_value value ++ line_ending_text s.line_ending))
+    ∙ ap (λ v. encoded_text e (printed_key e s.ascii_only first key) ++ v) (three-parts e s.kv_separator (printed_characters e s.ascii_only in_key_or_value value) (line_ending_text s.line_ending))
 
 -- ---- characters that can be encoded
 
@@ -145,26 +145,26 @@ special-ascii c h = elim (or_cases (c == backslash) (c == space || (is_separator
 ]
 
 -- A character that may be written unescaped can be encoded.
-may_stand-encodable : (e : Encoding) (only : Bool) (c : ℕ) → may_stand e only c ≡ true → is_some (encoded e c) ≡ true
-may_stand-encodable e only c h = (and_parts (not only || nat_lt c 0x80) (is_some (encoded e c)) h).1
+may_be_unescaped-encodable : (e : Encoding) (only : Bool) (c : ℕ) → may_be_unescaped e only c ≡ true → is_some (encoded e c) ≡ true
+may_be_unescaped-encodable e only c h = (and_parts (not only || nat_lt c 0x80) (is_some (encoded e c)) h).1
 
 -- With ASCII-only output on or off, every ASCII character may be written unescaped.
-pub may_stand-ascii : (e : Encoding) (only : Bool) (c : ℕ) → c < 0x80 → may_stand e only c ≡ true
-may_stand-ascii e true c h = and_from (nat_lt c 0x80) (is_some (encoded e c)) (lt-ltb c 0x80 h) (ap is_some (encoded-ascii e c h))
-may_stand-ascii e false c h = ap is_some (encoded-ascii e c h)
+pub may_be_unescaped-ascii : (e : Encoding) (only : Bool) (c : ℕ) → c < 0x80 → may_be_unescaped e only c ≡ true
+may_be_unescaped-ascii e true c h = and_from (nat_lt c 0x80) (is_some (encoded e c)) (lt-ltb c 0x80 h) (ap is_some (encoded-ascii e c h))
+may_be_unescaped-ascii e false c h = ap is_some (encoded-ascii e c h)
 
 -- A special character with its backslash is an ASCII text.
 special-escape : (c : ℕ) → is_special c ≡ true → AreAscii (backslash ∷ c ∷ [])
 special-escape c h = (lit< tt, (special-ascii c h, tt))
 
 -- A character that is unescaped if that is allowed, and escaped otherwise, is printed as an ASCII text or as itself.
-literal-either : (e : Encoding) (only : Bool) (c : ℕ) (P : List ℕ → Type 0) → ((x : List ℕ) → AreAscii x → P x) → (may_stand e only c ≡ true → P (c ∷ [])) → P (literal e only c)
-literal-either e only c P ascii as_it_is = cond_both (may_stand e only c) (c ∷ []) (unicode_escape c) P as_it_is (λ k. ascii (unicode_escape c) (unicode_escape-ascii c))
+literal-either : (e : Encoding) (only : Bool) (c : ℕ) (P : List ℕ → Type 0) → ((x : List ℕ) → AreAscii x → P x) → (may_be_unescaped e only c ≡ true → P (c ∷ [])) → P (literal e only c)
+literal-either e only c P ascii as_it_is = cond_both (may_be_unescaped e only c) (c ∷ []) (unicode_escape c) P as_it_is (λ k. ascii (unicode_escape c) (unicode_escape-ascii c))
 
 -- What is printed is an ASCII text; or it is the character itself, which may be written unescaped.
-pub spelt-either : (e : Encoding) (only : Bool) (place : Place) (c : ℕ) (P : List ℕ → Type 0) → ((x : List ℕ) → AreAscii x → P x) → (may_stand e only c ≡ true → P (c ∷ []))
-    → P (spelt e only place c)
-spelt-either e only in_key_or_value c P ascii as_it_is =
+pub printed-either : (e : Encoding) (only : Bool) (place : Place) (c : ℕ) (P : List ℕ → Type 0) → ((x : List ℕ) → AreAscii x → P x) → (may_be_unescaped e only c ≡ true → P (c ∷ []))
+    → P (printed_character e only place c)
+printed-either e only in_key_or_value c P ascii as_it_is =
     cond_both (is_special c) (backslash ∷ c ∷ []) (cond (has_letter c) (letter_escape c) (cond (nat_lt c space) (unicode_escape c) (literal e only c))) P
     (λ k. ascii (backslash ∷ c ∷ []) (special-escape c k))
     (λ k. cond_both (has_letter c) (letter_escape c) (cond (nat_lt c space) (unicode_escape c) (literal e only c)) P
@@ -172,34 +172,34 @@ spelt-either e only in_key_or_value c P ascii as_it_is =
     (λ k. cond_both (nat_lt c space) (unicode_escape c) (literal e only c) P
     (λ k. ascii (unicode_escape c) (unicode_escape-ascii c))
     (λ k. literal-either e only c P ascii as_it_is)))
-spelt-either e only in_comment c P ascii as_it_is =
+printed-either e only in_comment c P ascii as_it_is =
     cond_both (c == backslash) (backslash ∷ backslash ∷ []) (cond (c == 0x0a || c == 0x0d) (letter_escape c) (literal e only c)) P
     (λ k. ascii (backslash ∷ backslash ∷ []) (lit< tt, (lit< tt, tt)))
     (λ k. cond_both (c == 0x0a || c == 0x0d) (letter_escape c) (literal e only c) P
     (λ k. ascii (letter_escape c) (letter_escape-ascii c))
     (λ k. literal-either e only c P ascii as_it_is))
-spelt-either e only in_prefix c P ascii as_it_is = literal-either e only c P ascii as_it_is
+printed-either e only in_prefix c P ascii as_it_is = literal-either e only c P ascii as_it_is
 
 -- what is printed for a character can be encoded
-pub spelt-encodable : (e : Encoding) (only : Bool) (place : Place) (c : ℕ) → AreEncodable e (spelt e only place c)
-spelt-encodable e only place c = spelt-either e only place c (AreEncodable e) (AreEncodable-ascii e) (λ k. (may_stand-encodable e only c k, tt))
+pub printed-encodable : (e : Encoding) (only : Bool) (place : Place) (c : ℕ) → AreEncodable e (printed_character e only place c)
+printed-encodable e only place c = printed-either e only place c (AreEncodable e) (AreEncodable-ascii e) (λ k. (may_be_unescaped-encodable e only c k, tt))
 
 -- What is printed for a text can be encoded.
-pub spelt_text-encodable : (e : Encoding) (only : Bool) (place : Place) (x : List ℕ) → AreEncodable e (spelt_text e only place x)
-spelt_text-encodable e only place [] = tt
-spelt_text-encodable e only place (c ∷ x) = AreEncodable-append e (spelt e only place c) (spelt_text e only place x) (spelt-encodable e only place c) (spelt_text-encodable e only place x)
+pub printed_characters-encodable : (e : Encoding) (only : Bool) (place : Place) (x : List ℕ) → AreEncodable e (printed_characters e only place x)
+printed_characters-encodable e only place [] = tt
+printed_characters-encodable e only place (c ∷ x) = AreEncodable-append e (printed_character e only place c) (printed_characters e only place x) (printed-encodable e only place c) (printed_characters-encodable e only place x)
 
 -- A key with its first character escaped can be encoded.
 with_first_escaped-encodable : (e : Encoding) (only : Bool) (key : List ℕ) → AreEncodable e (with_first_escaped e only key)
 with_first_escaped-encodable e only [] = tt
 with_first_escaped-encodable e only (c ∷ cs) =
-    AreEncodable-append e (unicode_escape c) (spelt_text e only in_key_or_value cs) (AreEncodable-ascii e (unicode_escape c) (unicode_escape-ascii c)) (spelt_text-encodable e only in_key_or_value cs)
+    AreEncodable-append e (unicode_escape c) (printed_characters e only in_key_or_value cs) (AreEncodable-ascii e (unicode_escape c) (unicode_escape-ascii c)) (printed_characters-encodable e only in_key_or_value cs)
 
 -- Any printed key can be encoded.
-pub spelt_key-encodable : (e : Encoding) (only : Bool) (first : Bool) (key : List ℕ) → AreEncodable e (spelt_key e only first key)
-spelt_key-encodable e only first key =
-    cond_both (first && is_bom_like e only key) (with_first_escaped e only key) (spelt_text e only in_key_or_value key) (AreEncodable e)
-    (λ k. with_first_escaped-encodable e only key) (λ k. spelt_text-encodable e only in_key_or_value key)
+pub printed_key-encodable : (e : Encoding) (only : Bool) (first : Bool) (key : List ℕ) → AreEncodable e (printed_key e only first key)
+printed_key-encodable e only first key =
+    cond_both (first && is_bom_like e only key) (with_first_escaped e only key) (printed_characters e only in_key_or_value key) (AreEncodable e)
+    (λ k. with_first_escaped-encodable e only key) (λ k. printed_characters-encodable e only in_key_or_value key)
 
 -- ---- whole lines
 
@@ -228,14 +228,14 @@ good_separator-ascii separator (inr g) = blanks-ascii separator g.blank
 -- A printed line can be encoded if its separator is good.
 pub printed_text-encodable : (e : Encoding) (s : Settings) (first : Bool) (line : Content) → IsGoodSeparator s.kv_separator → AreEncodable e (printed_text e s first line)
 printed_text-encodable e s first (comment text) g =
-    AreEncodable-append e (spelt_text e s.ascii_only in_prefix s.comment_prefix)
-    (spelt_text e s.ascii_only in_comment text ++ line_ending_text s.line_ending) (spelt_text-encodable e s.ascii_only in_prefix s.comment_prefix)
-    (AreEncodable-append e (spelt_text e s.ascii_only in_comment text) (line_ending_text s.line_ending)
-    (spelt_text-encodable e s.ascii_only in_comment text) (AreEncodable-ascii e (line_ending_text s.line_ending) (line_end-ascii s.line_ending)))
+    AreEncodable-append e (printed_characters e s.ascii_only in_prefix s.comment_prefix)
+    (printed_characters e s.ascii_only in_comment text ++ line_ending_text s.line_ending) (printed_characters-encodable e s.ascii_only in_prefix s.comment_prefix)
+    (AreEncodable-append e (printed_characters e s.ascii_only in_comment text) (line_ending_text s.line_ending)
+    (printed_characters-encodable e s.ascii_only in_comment text) (AreEncodable-ascii e (line_ending_text s.line_ending) (line_end-ascii s.line_ending)))
 printed_text-encodable e s first (pair key value) g =
-    AreEncodable-append e (spelt_key e s.ascii_only first key)
-    (s.kv_separator ++ (spelt_text e s.ascii_only in_key_or_value value ++ line_ending_text s.line_ending)) (spelt_key-encodable e s.ascii_only first key)
-    (AreEncodable-append e s.kv_separator (spelt_text e s.ascii_only in_key_or_value value ++ line_ending_text s.line_ending)
+    AreEncodable-append e (printed_key e s.ascii_only first key)
+    (s.kv_separator ++ (printed_characters e s.ascii_only in_key_or_value value ++ line_ending_text s.line_ending)) (printed_key-encodable e s.ascii_only first key)
+    (AreEncodable-append e s.kv_separator (printed_characters e s.ascii_only in_key_or_value value ++ line_ending_text s.line_ending)
     (AreEncodable-ascii e s.kv_separator (good_separator-ascii s.kv_separator g))
-    (AreEncodable-append e (spelt_text e s.ascii_only in_key_or_value value) (line_ending_text s.line_ending)
-    (spelt_text-encodable e s.ascii_only in_key_or_value value) (AreEncodable-ascii e (line_ending_text s.line_ending) (line_end-ascii s.line_ending))))
+    (AreEncodable-append e (printed_characters e s.ascii_only in_key_or_value value) (line_ending_text s.line_ending)
+    (printed_characters-encodable e s.ascii_only in_key_or_value value) (AreEncodable-ascii e (line_ending_text s.line_ending) (line_end-ascii s.line_ending))))

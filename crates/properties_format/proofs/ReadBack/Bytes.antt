@@ -9,11 +9,13 @@ use Rattle.properties_format.specs.Encoding.{Encoding, output_encoding, encoded,
 use Rattle.properties_format.specs.Reading.Encoding.{pieces_of}
 use Rattle.properties_format.specs.Entries.{Content, comment, pair}
 use Rattle.properties_format.specs.Settings.{Settings}
-use Rattle.properties_format.specs.Printing.{Place, in_key_or_value, in_comment, in_prefix, unicode_escape, spelt, spelt_text, encoded_text, is_bom_like, with_first_escaped, spelt_key, printed_text}
+use Rattle.properties_format.specs.Printing.{Place, in_key_or_value, in_comment, in_prefix, unicode_escape, printed_character, printed_characters, encoded_text, is_bom_like, with_first_escaped}
+use Rattle.properties_format.specs.Printing.{printed_key, printed_text}
 use Rattle.properties_format.specs.Writing.{Call, comment_call, pair_call, prefix_call, separator_call, ending_call, flush_call, ascii_only_call, is_empty, settings_after_call, written_line, lines_with, AreOfScalars, AreGoodSettings}
 use Rattle.properties_format.proofs.Encodings.Pieces.{pieces_of-nil}
 use Rattle.properties_format.proofs.Encodings.Characters.{pieces_of-encoded}
-use Rattle.properties_format.proofs.Printing.Characters.{AreEncodable, AreEncodable-append, AreAscii, line_end-ascii, unicode_escape-ascii, good_separator-ascii, spelt-either, printed_text-encodable}
+use Rattle.properties_format.proofs.Printing.Characters.{AreEncodable, AreEncodable-append, AreAscii, line_end-ascii, unicode_escape-ascii, good_separator-ascii, printed-either}
+use Rattle.properties_format.proofs.Printing.Characters.{printed_text-encodable}
 use Rattle.properties_format.proofs.ReadBack.Lines.{line_text, wrote_text, settings_after_call-good}
 
 -- ---- what can be encoded decodes to itself
@@ -42,23 +44,23 @@ ascii-scalars [] h = tt
 ascii-scalars (c ∷ x) h = (inl (let b = h.0 in omega arith), ascii-scalars x h.1)
 
 -- What is printed for a text of scalar values consists of scalar values.
-spelt_text-scalars : (e : Encoding) (only : Bool) (place : Place) (x : List ℕ) → AllByRecursion scalar x → AllByRecursion scalar (spelt_text e only place x)
-spelt_text-scalars e only place [] h = tt
-spelt_text-scalars e only place (c ∷ x) h =
-    scalars-append (spelt e only place c) (spelt_text e only place x) (spelt-either e only place c (AllByRecursion scalar) ascii-scalars (λ k. (h.0, tt))) (spelt_text-scalars e only place x h.1)
+printed_characters-scalars : (e : Encoding) (only : Bool) (place : Place) (x : List ℕ) → AllByRecursion scalar x → AllByRecursion scalar (printed_characters e only place x)
+printed_characters-scalars e only place [] h = tt
+printed_characters-scalars e only place (c ∷ x) h =
+    scalars-append (printed_character e only place c) (printed_characters e only place x) (printed-either e only place c (AllByRecursion scalar) ascii-scalars (λ k. (h.0, tt))) (printed_characters-scalars e only place x h.1)
 
 -- A key of scalar values with its first character escaped consists of scalar values.
 with_first_escaped-scalars : (e : Encoding) (only : Bool) (key : List ℕ) → AllByRecursion scalar key → AllByRecursion scalar (with_first_escaped e only key)
 with_first_escaped-scalars e only [] h = tt
 with_first_escaped-scalars e only (c ∷ cs) h =
-    scalars-append (unicode_escape c) (spelt_text e only in_key_or_value cs) (ascii-scalars (unicode_escape c) (unicode_escape-ascii c))
-    (spelt_text-scalars e only in_key_or_value cs h.1)
+    scalars-append (unicode_escape c) (printed_characters e only in_key_or_value cs) (ascii-scalars (unicode_escape c) (unicode_escape-ascii c))
+    (printed_characters-scalars e only in_key_or_value cs h.1)
 
 -- Any printed key of scalar values consists of scalar values.
-pub key-scalars : (e : Encoding) (only : Bool) (first : Bool) (key : List ℕ) → AllByRecursion scalar key → AllByRecursion scalar (spelt_key e only first key)
+pub key-scalars : (e : Encoding) (only : Bool) (first : Bool) (key : List ℕ) → AllByRecursion scalar key → AllByRecursion scalar (printed_key e only first key)
 key-scalars e only first key h =
-    cond_both (first && is_bom_like e only key) (with_first_escaped e only key) (spelt_text e only in_key_or_value key)
-    (AllByRecursion scalar) (λ k. with_first_escaped-scalars e only key h) (λ k. spelt_text-scalars e only in_key_or_value key h)
+    cond_both (first && is_bom_like e only key) (with_first_escaped e only key) (printed_characters e only in_key_or_value key)
+    (AllByRecursion scalar) (λ k. with_first_escaped-scalars e only key h) (λ k. printed_characters-scalars e only in_key_or_value key h)
 
 -- the texts of a line consist of scalar values
 ContentScalars : Content → Type 0
@@ -69,18 +71,18 @@ ContentScalars (pair key value) = All scalar key × All scalar value
 printed-scalars : (e : Encoding) (s : Settings) (first : Bool) (line : Content) → AreGoodSettings s → ContentScalars line → AllByRecursion scalar (printed_text e s first line)
 unfolding ContentScalars
 printed-scalars e s first (comment text) g h =
-    scalars-append (spelt_text e s.ascii_only in_prefix s.comment_prefix)
-    (spelt_text e s.ascii_only in_comment text ++ line_ending_text s.line_ending)
-    (spelt_text-scalars e s.ascii_only in_prefix s.comment_prefix (recursion_from_All scalar s.comment_prefix g.scalars))
-    (scalars-append (spelt_text e s.ascii_only in_comment text) (line_ending_text s.line_ending)
-    (spelt_text-scalars e s.ascii_only in_comment text (recursion_from_All scalar text h)) (ascii-scalars (line_ending_text s.line_ending) (line_end-ascii s.line_ending)))
+    scalars-append (printed_characters e s.ascii_only in_prefix s.comment_prefix)
+    (printed_characters e s.ascii_only in_comment text ++ line_ending_text s.line_ending)
+    (printed_characters-scalars e s.ascii_only in_prefix s.comment_prefix (recursion_from_All scalar s.comment_prefix g.scalars))
+    (scalars-append (printed_characters e s.ascii_only in_comment text) (line_ending_text s.line_ending)
+    (printed_characters-scalars e s.ascii_only in_comment text (recursion_from_All scalar text h)) (ascii-scalars (line_ending_text s.line_ending) (line_end-ascii s.line_ending)))
 printed-scalars e s first (pair key value) g h =
-    scalars-append (spelt_key e s.ascii_only first key)
-    (s.kv_separator ++ (spelt_text e s.ascii_only in_key_or_value value ++ line_ending_text s.line_ending))
+    scalars-append (printed_key e s.ascii_only first key)
+    (s.kv_separator ++ (printed_characters e s.ascii_only in_key_or_value value ++ line_ending_text s.line_ending))
     (key-scalars e s.ascii_only first key (recursion_from_All scalar key h.0))
-    (scalars-append s.kv_separator (spelt_text e s.ascii_only in_key_or_value value ++ line_ending_text s.line_ending) (ascii-scalars s.kv_separator (good_separator-ascii s.kv_separator g.separator))
-    (scalars-append (spelt_text e s.ascii_only in_key_or_value value) (line_ending_text s.line_ending)
-    (spelt_text-scalars e s.ascii_only in_key_or_value value (recursion_from_All scalar value h.1))
+    (scalars-append s.kv_separator (printed_characters e s.ascii_only in_key_or_value value ++ line_ending_text s.line_ending) (ascii-scalars s.kv_separator (good_separator-ascii s.kv_separator g.separator))
+    (scalars-append (printed_characters e s.ascii_only in_key_or_value value) (line_ending_text s.line_ending)
+    (printed_characters-scalars e s.ascii_only in_key_or_value value (recursion_from_All scalar value h.1))
     (ascii-scalars (line_ending_text s.line_ending) (line_end-ascii s.line_ending))))
 
 -- ---- everything that is written

@@ -10,12 +10,12 @@ use Rattle.properties_format.specs.Lines.{HoldsNoLineEnd}
 use Rattle.properties_format.specs.Groups.{is_comment_line}
 use Rattle.properties_format.specs.Split.{AreBlanks}
 use Rattle.properties_format.specs.Reading.Split.{trimmed}
-use Rattle.properties_format.specs.Escapes.{Spelling, itself, spelling_text, spelt_character, spelt_before, means}
+use Rattle.properties_format.specs.Escapes.{Spelling, itself, spelling_text, spelling_character, spellings_before, means}
 use Rattle.properties_format.specs.Reading.Escapes.{meaning_of}
 use Rattle.properties_format.specs.Entries.{comment}
 use Rattle.properties_format.specs.Reading.Items.{comment_outcome, split_outcome}
 use Rattle.properties_format.specs.Settings.{IsGoodPrefix}
-use Rattle.properties_format.specs.Printing.{in_comment, in_prefix, unicode_escape, may_stand, literal, spelt, spelt_text}
+use Rattle.properties_format.specs.Printing.{in_comment, in_prefix, unicode_escape, may_be_unescaped, literal, printed_character, printed_characters}
 use Rattle.properties_format.specs.Writing.{tail_of, HoldsNoBackslash}
 use Rattle.properties_format.proofs.Lines.Plain.{plain-append}
 use Rattle.properties_format.proofs.Groups.Joined.{is_comment_line-blank, is_comment_line-other}
@@ -23,16 +23,16 @@ use Rattle.properties_format.proofs.Split.Unique.{split_of-comment, sign-full}
 use Rattle.properties_format.proofs.Escapes.Laws.{IsWhole, AreWhole}
 use Rattle.properties_format.proofs.Escapes.Trimmed.{AllKeepBlanks, meaning_of-trimmed}
 use Rattle.properties_format.proofs.Settings.Tests.{tail_of-good}
-use Rattle.properties_format.proofs.Printing.Characters.{may_stand-ascii, blank-ascii}
-use Rattle.properties_format.proofs.ReadBack.Spellings.{IsSafe, IsPlainlySpelt, literal-plainly, in_comment-spelt}
+use Rattle.properties_format.proofs.Printing.Characters.{may_be_unescaped-ascii, blank-ascii}
+use Rattle.properties_format.proofs.ReadBack.Spellings.{IsSafe, IsPlainlyPrinted, literal-plainly, in_comment-printed}
 use Rattle.properties_format.proofs.ReadBack.Texts.{safe-whole, safe-plain}
 use Rattle.properties_format.proofs.ReadBack.Pairs.{IsReadAs, blanks-plain, cons-front}
 
 -- x is plainly spelt for y: it is the text of whole spellings of y that keep blanks, and contains no line end.
-record ArePlainlySpelt (x y : List ℕ) : Type 0 where
+record ArePlainlyPrinted (x y : List ℕ) : Type 0 where
   spellings : List Spelling
-  text : x ≡ spelt_before spellings []
-  characters : map spelt_character spellings ≡ y
+  text : x ≡ spellings_before spellings []
+  characters : map spelling_character spellings ≡ y
   whole : AreWhole spellings
   keep : AllKeepBlanks spellings
   plain : HoldsNoLineEnd x
@@ -50,7 +50,7 @@ plainly-plain c p (inl h) = safe-plain p h
 plainly-plain c p (inr h) = subst (λ v. HoldsNoLineEnd (spelling_text v)) (sym h.0) (h.2, tt)
 
 -- A plainly spelt character before a plainly spelt text.
-plainly-cons : (x y : List ℕ) (c : ℕ) (cs : List ℕ) → IsPlainlySpelt x c → ArePlainlySpelt y cs → ArePlainlySpelt (x ++ y) (c ∷ cs)
+plainly-cons : (x y : List ℕ) (c : ℕ) (cs : List ℕ) → IsPlainlyPrinted x c → ArePlainlyPrinted y cs → ArePlainlyPrinted (x ++ y) (c ∷ cs)
 plainly-cons x y c cs s t =
     record {
       spellings = s.spelling ∷ t.spellings;
@@ -64,38 +64,38 @@ plainly-cons x y c cs s t =
 -- ---- the text of a comment, and the tail of a prefix before it
 
 -- What is printed for the text of a comment is plainly spelt.
-comment-plainly : (e : Encoding) (only : Bool) (x : List ℕ) → AllByRecursion scalar x → ArePlainlySpelt (spelt_text e only in_comment x) x
+comment-plainly : (e : Encoding) (only : Bool) (x : List ℕ) → AllByRecursion scalar x → ArePlainlyPrinted (printed_characters e only in_comment x) x
 comment-plainly e only [] h = record { spellings = []; text = refl; characters = refl; whole = tt; keep = tt; plain = tt }
-comment-plainly e only (c ∷ x) h = plainly-cons (spelt e only in_comment c) (spelt_text e only in_comment x) c x (in_comment-spelt e only c h.0) (comment-plainly e only x h.1)
+comment-plainly e only (c ∷ x) h = plainly-cons (printed_character e only in_comment c) (printed_characters e only in_comment x) c x (in_comment-printed e only c h.0) (comment-plainly e only x h.1)
 
 -- A text equal to a plainly spelt one is plainly spelt.
-same-plainly : (x y z : List ℕ) → x ≡ y → ArePlainlySpelt y z → ArePlainlySpelt x z
-same-plainly x y z e s = subst (λ v. ArePlainlySpelt v z) (sym e) s
+same-plainly : (x y z : List ℕ) → x ≡ y → ArePlainlyPrinted y z → ArePlainlyPrinted x z
+same-plainly x y z e s = subst (λ v. ArePlainlyPrinted v z) (sym e) s
 
 -- The tail of a prefix without a backslash, before a plainly spelt text, is plainly spelt.
 tail-plainly : (e : Encoding) (only : Bool) (tail y cs : List ℕ) → AllByRecursion scalar tail → HoldsNoBackslash tail → HoldsNoLineEnd tail
-    → ArePlainlySpelt y cs → ArePlainlySpelt (spelt_text e only in_prefix tail ++ y) (tail ++ cs)
+    → ArePlainlyPrinted y cs → ArePlainlyPrinted (printed_characters e only in_prefix tail ++ y) (tail ++ cs)
 tail-plainly e only [] y cs h b p s = s
 tail-plainly e only (c ∷ tail) y cs h b p s =
-    same-plainly _ (literal e only c ++ (spelt_text e only in_prefix tail ++ y)) (c ∷ tail ++ cs) (append_assoc (literal e only c) (spelt_text e only in_prefix tail) y)
-    (plainly-cons (literal e only c) (spelt_text e only in_prefix tail ++ y) c (tail ++ cs) (literal-plainly e only c h.0 b.0 p.0) (tail-plainly e only tail y cs h.1 b.1 p.1 s))
+    same-plainly _ (literal e only c ++ (printed_characters e only in_prefix tail ++ y)) (c ∷ tail ++ cs) (append_assoc (literal e only c) (printed_characters e only in_prefix tail) y)
+    (plainly-cons (literal e only c) (printed_characters e only in_prefix tail ++ y) c (tail ++ cs) (literal-plainly e only c h.0 b.0 p.0) (tail-plainly e only tail y cs h.1 b.1 p.1 s))
 
 -- ---- the prefix
 
 -- An ASCII character is printed unescaped.
 literal-ascii : (e : Encoding) (only : Bool) (c : ℕ) → c < 0x80 → literal e only c ≡ c ∷ []
-literal-ascii e only c h = cond-true (may_stand e only c) (c ∷ []) (unicode_escape c) (may_stand-ascii e only c h)
+literal-ascii e only c h = cond-true (may_be_unescaped e only c) (c ∷ []) (unicode_escape c) (may_be_unescaped-ascii e only c h)
 
 -- A comment sign is ASCII, and isn't a line end.
 pub sign-ascii : (c : ℕ) → is_comment_sign c ≡ true → (c < 0x80) × (is_line_end c ≡ false)
 sign-ascii c h = elim (or_cases (c == 0x23) (c == 0x21) h) [ inl e ↦ rw (eqb-true c 0x23 e) (lit< tt, refl) | inr e ↦ rw (eqb-true c 0x21 e) (lit< tt, refl) ]
 
 -- The blanks and the comment sign of a prefix are printed unescaped.
-pub prefix-spelt : (e : Encoding) (only : Bool) (indent : List ℕ) (sign : ℕ) (tail : List ℕ) → AreBlanks indent → is_comment_sign sign ≡ true
-    → spelt_text e only in_prefix (indent ++ (sign ∷ tail)) ≡ indent ++ (sign ∷ spelt_text e only in_prefix tail)
-prefix-spelt e only [] sign tail b m = ap (λ v. v ++ spelt_text e only in_prefix tail) (literal-ascii e only sign (sign-ascii sign m).0)
-prefix-spelt e only (c ∷ indent) sign tail b m =
-    ap (λ v. v ++ spelt_text e only in_prefix (indent ++ (sign ∷ tail))) (literal-ascii e only c (blank-ascii c b.0)) ∙ ap (λ v. c ∷ v) (prefix-spelt e only indent sign tail b.1 m)
+pub prefix-printed : (e : Encoding) (only : Bool) (indent : List ℕ) (sign : ℕ) (tail : List ℕ) → AreBlanks indent → is_comment_sign sign ≡ true
+    → printed_characters e only in_prefix (indent ++ (sign ∷ tail)) ≡ indent ++ (sign ∷ printed_characters e only in_prefix tail)
+prefix-printed e only [] sign tail b m = ap (λ v. v ++ printed_characters e only in_prefix tail) (literal-ascii e only sign (sign-ascii sign m).0)
+prefix-printed e only (c ∷ indent) sign tail b m =
+    ap (λ v. v ++ printed_characters e only in_prefix (indent ++ (sign ∷ tail))) (literal-ascii e only c (blank-ascii c b.0)) ∙ ap (λ v. c ∷ v) (prefix-printed e only indent sign tail b.1 m)
 
 -- The rest of a text of scalar values consists of scalar values.
 scalar-right : (x y : List ℕ) → AllByRecursion scalar (x ++ y) → AllByRecursion scalar y
@@ -116,7 +116,7 @@ comment_line-after (c ∷ indent) sign rest b m = is_comment_line-blank c (inden
 
 -- Blanks, a comment sign and a plainly spelt text are read as the comment that is spelt, without the blanks at its
 -- ends.
-comment-at : (indent : List ℕ) (sign : ℕ) (rest content : List ℕ) → AreBlanks indent → is_comment_sign sign ≡ true → ArePlainlySpelt rest content
+comment-at : (indent : List ℕ) (sign : ℕ) (rest content : List ℕ) → AreBlanks indent → is_comment_sign sign ≡ true → ArePlainlyPrinted rest content
     → IsReadAs (indent ++ (sign ∷ rest)) (comment (trimmed content))
 comment-at indent sign rest content b m s =
     record {
@@ -130,18 +130,18 @@ comment-at indent sign rest content b m s =
 
 -- A comment under a good prefix without a backslash.
 pub comment-read : (e : Encoding) (only : Bool) (prefix text : List ℕ) → IsGoodPrefix prefix → HoldsNoBackslash prefix → AllByRecursion scalar prefix → AllByRecursion scalar text
-    → IsReadAs (spelt_text e only in_prefix prefix ++ spelt_text e only in_comment text) (comment (trimmed (tail_of prefix ++ text)))
+    → IsReadAs (printed_characters e only in_prefix prefix ++ printed_characters e only in_comment text) (comment (trimmed (tail_of prefix ++ text)))
 comment-read e only prefix text g b h k =
     let front = g.indent ++ (g.sign ∷ []) in
     let split : prefix ≡ front ++ g.tail = g.division ∙ sym (append_assoc g.indent (g.sign ∷ []) g.tail) in
     let scalars = scalar-right front g.tail (subst (AllByRecursion scalar) split h) in
     let slashes = slashes-right front g.tail (subst HoldsNoBackslash split b) in
-    let rest = spelt_text e only in_prefix g.tail ++ spelt_text e only in_comment text in
+    let rest = printed_characters e only in_prefix g.tail ++ printed_characters e only in_comment text in
     let read = comment-at g.indent g.sign rest (g.tail ++ text) g.indented g.signed
-    (tail-plainly e only g.tail (spelt_text e only in_comment text) text scalars slashes g.one_line (comment-plainly e only text k)) in
-    let same : spelt_text e only in_prefix prefix ++ spelt_text e only in_comment text ≡ g.indent ++ (g.sign ∷ rest) =
-    ap (λ v. spelt_text e only in_prefix v ++ spelt_text e only in_comment text) g.division
-    ∙ ap (λ v. v ++ spelt_text e only in_comment text) (prefix-spelt e only g.indent g.sign g.tail g.indented g.signed)
-    ∙ append_assoc g.indent (g.sign ∷ spelt_text e only in_prefix g.tail) (spelt_text e only in_comment text) in
+    (tail-plainly e only g.tail (printed_characters e only in_comment text) text scalars slashes g.one_line (comment-plainly e only text k)) in
+    let same : printed_characters e only in_prefix prefix ++ printed_characters e only in_comment text ≡ g.indent ++ (g.sign ∷ rest) =
+    ap (λ v. printed_characters e only in_prefix v ++ printed_characters e only in_comment text) g.division
+    ∙ ap (λ v. v ++ printed_characters e only in_comment text) (prefix-printed e only g.indent g.sign g.tail g.indented g.signed)
+    ∙ append_assoc g.indent (g.sign ∷ printed_characters e only in_prefix g.tail) (printed_characters e only in_comment text) in
     subst (λ v. IsReadAs v (comment (trimmed (tail_of prefix ++ text)))) (sym same)
     (subst (λ v. IsReadAs (g.indent ++ (g.sign ∷ rest)) (comment (trimmed (v ++ text)))) (sym (tail_of-good prefix g)) read)

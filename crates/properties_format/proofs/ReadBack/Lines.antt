@@ -13,17 +13,17 @@ use Rattle.properties_format.specs.Entries.{Content, comment, pair, Entry, item}
 use Rattle.properties_format.specs.Reading.Items.{split_outcome, outcome_of, followed, entries_of}
 use Rattle.properties_format.specs.Settings.{Settings}
 use Rattle.properties_format.specs.Reading.Settings.{is_good_prefix, is_good_separator}
-use Rattle.properties_format.specs.Printing.{in_key_or_value, in_comment, in_prefix, spelt_text, spelt_key, encoded_text, printed_text}
+use Rattle.properties_format.specs.Printing.{in_key_or_value, in_comment, in_prefix, printed_characters, printed_key, encoded_text, printed_text}
 use Rattle.properties_format.specs.Writing.{Call, comment_call, pair_call, prefix_call, separator_call, ending_call, flush_call, ascii_only_call, is_empty, settings_after_call, written_line, lines_with, line_bytes, wrote, content_read_back, item_read_back, items_read_back, HoldsNoBackslash, ArePrefixesClean, IsOfScalars, AreOfScalars, AreGoodSettings}
 use Rattle.properties_format.proofs.Lines.Plain.{plain-no_lf}
 use Rattle.properties_format.proofs.Lines.Steps.{lines_to_come-end}
 use Rattle.properties_format.proofs.Groups.Joined.{joined-comment_line, joined-closed}
-use Rattle.properties_format.proofs.Groups.Logical.{StandsAlone, groups-line}
+use Rattle.properties_format.proofs.Groups.Logical.{IsNotContinued, groups-line}
 use Rattle.properties_format.proofs.Split.Unique.{split_of-blank}
 use Rattle.properties_format.proofs.Settings.Tests.{IsGoodPrefix-from_test, IsGoodSeparator-from_test}
 use Rattle.properties_format.proofs.Printing.Characters.{encoded_text-append}
-use Rattle.properties_format.proofs.ReadBack.Texts.{texts-spelt}
-use Rattle.properties_format.proofs.ReadBack.Pairs.{IsReadAs, key-spelt, pair-read}
+use Rattle.properties_format.proofs.ReadBack.Texts.{texts-printed}
+use Rattle.properties_format.proofs.ReadBack.Pairs.{IsReadAs, key-printed, pair-read}
 use Rattle.properties_format.proofs.ReadBack.Comments.{comment-read}
 
 -- ---- the characters that are written
@@ -63,8 +63,8 @@ pub comment-line : (e : Encoding) (s : Settings) (first : Bool) (text : List ℕ
     → IsLineReadAs s.line_ending (printed_text e s first (comment text)) (content_read_back s (comment text))
 comment-line e s first text g b h =
     record {
-      text = spelt_text e s.ascii_only in_prefix s.comment_prefix ++ spelt_text e s.ascii_only in_comment text;
-      whole = sym (append_assoc (spelt_text e s.ascii_only in_prefix s.comment_prefix) (spelt_text e s.ascii_only in_comment text) (line_ending_text s.line_ending));
+      text = printed_characters e s.ascii_only in_prefix s.comment_prefix ++ printed_characters e s.ascii_only in_comment text;
+      whole = sym (append_assoc (printed_characters e s.ascii_only in_prefix s.comment_prefix) (printed_characters e s.ascii_only in_comment text) (line_ending_text s.line_ending));
       read = comment-read e s.ascii_only s.comment_prefix text g.prefix b (recursion_from_All scalar s.comment_prefix g.scalars) (recursion_from_All scalar text h);
     }
 
@@ -72,13 +72,13 @@ comment-line e s first text g b h =
 pub pair-line : (e : Encoding) (s : Settings) (first : Bool) (key value : List ℕ) → AreGoodSettings s → (key ≡ [] → is_blanks s.kv_separator ≡ false) → All scalar key → All scalar value
     → IsLineReadAs s.line_ending (printed_text e s first (pair key value)) (pair key value)
 pair-line e s first key value g some h k =
-    let front = spelt_key e s.ascii_only first key in
-    let back = spelt_text e s.ascii_only in_key_or_value value in
+    let front = printed_key e s.ascii_only first key in
+    let back = printed_characters e s.ascii_only in_key_or_value value in
     record {
       text = front ++ (s.kv_separator ++ back);
       whole = ap (λ v. front ++ v) (sym (append_assoc s.kv_separator back (line_ending_text s.line_ending))) ∙ sym (append_assoc front (s.kv_separator ++ back) (line_ending_text s.line_ending));
-      read = pair-read front back s.kv_separator key value (key-spelt e s.ascii_only first key (recursion_from_All scalar key h))
-          (texts-spelt e s.ascii_only value (recursion_from_All scalar value k)) g.separator some;
+      read = pair-read front back s.kv_separator key value (key-printed e s.ascii_only first key (recursion_from_All scalar key h))
+          (texts-printed e s.ascii_only value (recursion_from_All scalar value k)) g.separator some;
     }
 
 -- ---- all lines
@@ -89,7 +89,7 @@ pub record IsTextReadAs (m n : ℕ) (x : List ℕ) (entries : List Entry) : Type
   pub no_lf : begins_with_lf x ≡ false
 
 -- A comment line, or a line that isn't open, is its own logical line.
-pub joined-alone : (l : Line) → StandsAlone l.text → joined (l ∷ []) ≡ l.text
+pub joined-alone : (l : Line) → IsNotContinued l.text → joined (l ∷ []) ≡ l.text
 joined-alone l (inl m) = joined-comment_line l [] m
 joined-alone l (inr m) = joined-closed l m
 

@@ -8,47 +8,48 @@ use Rattle.properties_format.specs.Lines.{HoldsNoLineEnd}
 use Rattle.properties_format.specs.Groups.{is_open}
 use Rattle.properties_format.specs.Split.{Logical, AreBlanks, IsBetween, blanks, separator}
 use Rattle.properties_format.specs.Reading.Split.{split_of}
-use Rattle.properties_format.specs.Escapes.{Spelling, spelling_text, spelt_character, spelt_before}
+use Rattle.properties_format.specs.Escapes.{Spelling, spelling_text, spelling_character, spellings_before}
 use Rattle.properties_format.specs.Entries.{Content, pair}
 use Rattle.properties_format.specs.Items.{given}
 use Rattle.properties_format.specs.Reading.Items.{pair_outcome, split_outcome, outcome_of}
 use Rattle.properties_format.specs.Settings.{IsGoodSeparator, IsSignedSeparator}
-use Rattle.properties_format.specs.Printing.{in_key_or_value, unicode_escape, spelt_text, is_bom_like, with_first_escaped, spelt_key}
+use Rattle.properties_format.specs.Printing.{in_key_or_value, unicode_escape, printed_characters, is_bom_like, with_first_escaped, printed_key}
 use Rattle.properties_format.specs.Writing.{HoldsNoBackslash}
 use Rattle.properties_format.proofs.Lines.Plain.{plain-append}
 use Rattle.properties_format.proofs.Groups.Open.{is_open-after, blank-other}
-use Rattle.properties_format.proofs.Groups.Logical.{StandsAlone}
+use Rattle.properties_format.proofs.Groups.Logical.{IsNotContinued}
 use Rattle.properties_format.proofs.Split.Unique.{split_of-pair}
 use Rattle.properties_format.proofs.Split.Laws.{split_of-empty_key}
 use Rattle.properties_format.proofs.Settings.Tests.{is_blanks-from}
-use Rattle.properties_format.proofs.ReadBack.Spellings.{unicode-spelt}
-use Rattle.properties_format.proofs.ReadBack.Texts.{AreSafe, AreSafelySpelt, spelt-cons, texts-spelt, spelt-means, spelt-plain, spelt-closed, are_safe-key, BeginsFull, safe-begins, are_safe-begin}
+use Rattle.properties_format.proofs.ReadBack.Spellings.{unicode-printed}
+use Rattle.properties_format.proofs.ReadBack.Texts.{AreSafe, AreSafelyPrinted, printed-cons, texts-printed, printed-means, printed-plain, printed-closed, are_safe-key, BeginsFull, safe-begins}
+use Rattle.properties_format.proofs.ReadBack.Texts.{are_safe-begin}
 
 -- What a line's text is read as, if it is a line of its own.
 pub record IsReadAs (text : List ℕ) (content : Content) : Type 0 where
   pub some : text ≢ []
   pub plain : HoldsNoLineEnd text
-  pub alone : StandsAlone text
+  pub alone : IsNotContinued text
   pub outcome : outcome_of text ≡ given content
 
 -- ---- keys
 
 -- A key with its first character escaped is safely spelt.
-with_first_escaped-spelt : (e : Encoding) (only : Bool) (key : List ℕ) → AllByRecursion scalar key → AreSafelySpelt (with_first_escaped e only key) key
-with_first_escaped-spelt e only [] h = record { spellings = []; text = refl; characters = refl; safe = tt }
-with_first_escaped-spelt e only (c ∷ cs) h = spelt-cons (unicode_escape c) (spelt_text e only in_key_or_value cs) c cs (unicode-spelt c h.0) (texts-spelt e only cs h.1)
+with_first_escaped-printed : (e : Encoding) (only : Bool) (key : List ℕ) → AllByRecursion scalar key → AreSafelyPrinted (with_first_escaped e only key) key
+with_first_escaped-printed e only [] h = record { spellings = []; text = refl; characters = refl; safe = tt }
+with_first_escaped-printed e only (c ∷ cs) h = printed-cons (unicode_escape c) (printed_characters e only in_key_or_value cs) c cs (unicode-printed c h.0) (texts-printed e only cs h.1)
 
 -- A text equal to a safely spelt one is safely spelt.
-same-texts : (x y z : List ℕ) → x ≡ y → AreSafelySpelt y z → AreSafelySpelt x z
+same-texts : (x y z : List ℕ) → x ≡ y → AreSafelyPrinted y z → AreSafelyPrinted x z
 same-texts x y z e s = record { spellings = s.spellings; text = e ∙ s.text; characters = s.characters; safe = s.safe }
 
 -- Every printed key is safely spelt.
-pub key-spelt : (e : Encoding) (only : Bool) (first : Bool) (key : List ℕ) → AllByRecursion scalar key → AreSafelySpelt (spelt_key e only first key) key
-key-spelt e only first key h = elim (cases_Bool (first && is_bom_like e only key)) [
+pub key-printed : (e : Encoding) (only : Bool) (first : Bool) (key : List ℕ) → AllByRecursion scalar key → AreSafelyPrinted (printed_key e only first key) key
+key-printed e only first key h = elim (cases_Bool (first && is_bom_like e only key)) [
   | inl k ↦ same-texts _ (with_first_escaped e only key) key
-      (cond-true (first && is_bom_like e only key) (with_first_escaped e only key) (spelt_text e only in_key_or_value key) k) (with_first_escaped-spelt e only key h)
-  | inr k ↦ same-texts _ (spelt_text e only in_key_or_value key) key
-      (cond-false (first && is_bom_like e only key) (with_first_escaped e only key) (spelt_text e only in_key_or_value key) k) (texts-spelt e only key h)
+      (cond-true (first && is_bom_like e only key) (with_first_escaped e only key) (printed_characters e only in_key_or_value key) k) (with_first_escaped-printed e only key h)
+  | inr k ↦ same-texts _ (printed_characters e only in_key_or_value key) key
+      (cond-false (first && is_bom_like e only key) (with_first_escaped e only key) (printed_characters e only in_key_or_value key) k) (texts-printed e only key h)
 ]
 
 -- ---- separators
@@ -119,19 +120,19 @@ closed-after x (c ∷ d ∷ sep) y h some o = is_open-after x c (d ∷ sep ++ y)
 -- ---- the line of a pair
 
 -- A separator with a sign, followed by a value of safe spellings, is a pair with an empty key.
-split-empty_key : (vs : List Spelling) (sep : List ℕ) → AreSafe vs → IsSignedSeparator sep → split_of (sep ++ spelt_before vs []) ≡ Logical.pair [] (spelt_before vs [])
+split-empty_key : (vs : List Spelling) (sep : List ℕ) → AreSafe vs → IsSignedSeparator sep → split_of (sep ++ spellings_before vs []) ≡ Logical.pair [] (spellings_before vs [])
 split-empty_key vs sep v g =
-    ap split_of (ap (λ x. x ++ spelt_before vs []) g.division ∙ append_assoc g.before (g.sign ∷ g.after) (spelt_before vs []))
-    ∙ split_of-empty_key g.before g.sign g.after (spelt_before vs []) g.blank_before g.signed g.blank_after (are_safe-begin vs v).no_blank
+    ap split_of (ap (λ x. x ++ spellings_before vs []) g.division ∙ append_assoc g.before (g.sign ∷ g.after) (spellings_before vs []))
+    ∙ split_of-empty_key g.before g.sign g.after (spellings_before vs []) g.blank_before g.signed g.blank_after (are_safe-begin vs v).no_blank
 
 -- A good separator may separate a key from a value of safe spellings.
-between-of : (vs : List Spelling) (sep : List ℕ) → AreSafe vs → IsGoodSeparator sep → IsBetween sep (spelt_before vs [])
+between-of : (vs : List Spelling) (sep : List ℕ) → AreSafe vs → IsGoodSeparator sep → IsBetween sep (spellings_before vs [])
 between-of vs sep v (inl g) = separator g.before g.sign g.after g.division g.blank_before g.signed g.blank_after (are_safe-begin vs v).no_blank
 between-of vs sep v (inr g) = let b = are_safe-begin vs v in blanks g.some g.blank b.no_blank b.no_separator
 
 -- At least one safe spelling doesn't begin with a blank, a separator or a comment sign, whatever follows.
-some-after : (p : Spelling) (ps : List Spelling) (y : List ℕ) → AreSafe (p ∷ ps) → BeginsFull (spelt_before (p ∷ ps) [] ++ y)
-some-after p ps y h = rw (append_assoc (spelling_text p) (spelt_before ps []) y) (safe-begins p (spelt_before ps [] ++ y) h.0)
+some-after : (p : Spelling) (ps : List Spelling) (y : List ℕ) → AreSafe (p ∷ ps) → BeginsFull (spellings_before (p ∷ ps) [] ++ y)
+some-after p ps y h = rw (append_assoc (spelling_text p) (spellings_before ps []) y) (safe-begins p (spellings_before ps [] ++ y) h.0)
 
 -- Three texts together aren't empty if the second isn't.
 append-some : (x y z : List ℕ) → y ≢ [] → x ++ (y ++ z) ≢ []
@@ -141,27 +142,27 @@ append-some (c ∷ x) y z some q = cc
 
 -- A key and a value of safe spellings around a good separator, which isn't blanks only if the key is empty.
 split-pair : (ks vs : List Spelling) (sep : List ℕ) → AreSafe ks → AreSafe vs → IsGoodSeparator sep → (ks ≡ [] → is_blanks sep ≡ false)
-    → split_of (spelt_before ks [] ++ (sep ++ spelt_before vs [])) ≡ Logical.pair (spelt_before ks []) (spelt_before vs [])
+    → split_of (spellings_before ks [] ++ (sep ++ spellings_before vs [])) ≡ Logical.pair (spellings_before ks []) (spellings_before vs [])
 split-pair [] vs sep k v (inl g) some = split-empty_key vs sep v g
 split-pair [] vs sep k v (inr g) some = let a = some refl in let b = is_blanks-from sep g.blank in cc
 split-pair (p ∷ ps) vs sep k v g some =
-    let b = some-after p ps (sep ++ spelt_before vs []) k in
-    split_of-pair [] (spelt_before (p ∷ ps) []) sep (spelt_before vs []) tt (append-some (spelt_before (p ∷ ps) []) sep (spelt_before vs []) (separator-some sep g))
-    b.no_blank b.no_sign (are_safe-key (p ∷ ps) (sep ++ spelt_before vs []) k) (between-of vs sep v g)
+    let b = some-after p ps (sep ++ spellings_before vs []) k in
+    split_of-pair [] (spellings_before (p ∷ ps) []) sep (spellings_before vs []) tt (append-some (spellings_before (p ∷ ps) []) sep (spellings_before vs []) (separator-some sep g))
+    b.no_blank b.no_sign (are_safe-key (p ∷ ps) (sep ++ spellings_before vs []) k) (between-of vs sep v g)
 
 -- A key and a value, both safely spelt, around a good separator, which isn't blanks only if the key is empty.
-pub pair-read : (k v sep key value : List ℕ) → AreSafelySpelt k key → AreSafelySpelt v value → IsGoodSeparator sep → (key ≡ [] → is_blanks sep ≡ false)
+pub pair-read : (k v sep key value : List ℕ) → AreSafelyPrinted k key → AreSafelyPrinted v value → IsGoodSeparator sep → (key ≡ [] → is_blanks sep ≡ false)
     → IsReadAs (k ++ (sep ++ v)) (pair key value)
 pair-read k v sep key value ks vs g some =
     let q = separator-quiet sep g in
     record {
       some = append-some k sep v (separator-some sep g);
-      plain = plain-append k (sep ++ v) (spelt-plain k key ks) (plain-append sep v q.plain (spelt-plain v value vs));
-      alone = inr (closed-after k sep v q.slashes (separator-some sep g) (spelt-closed v value vs));
+      plain = plain-append k (sep ++ v) (printed-plain k key ks) (plain-append sep v q.plain (printed-plain v value vs));
+      alone = inr (closed-after k sep v q.slashes (separator-some sep g) (printed-closed v value vs));
       outcome =
           ap split_outcome
           (ap₂ (λ x y. split_of (x ++ (sep ++ y))) ks.text vs.text
-          ∙ split-pair ks.spellings vs.spellings sep ks.safe vs.safe g (λ e. some (sym ks.characters ∙ ap (λ x. map spelt_character x) e))
+          ∙ split-pair ks.spellings vs.spellings sep ks.safe vs.safe g (λ e. some (sym ks.characters ∙ ap (λ x. map spelling_character x) e))
           ∙ ap₂ (λ x y. Logical.pair x y) (sym ks.text) (sym vs.text))
-          ∙ ap₂ pair_outcome (spelt-means k key ks) (spelt-means v value vs);
+          ∙ ap₂ pair_outcome (printed-means k key ks) (printed-means v value vs);
     }

@@ -4,11 +4,12 @@ use Rattle.std.specs.Prelude.{Bool, nat_lt, nat_le}
 use Rattle.std.proofs.lemmas.Bool.{cases_Bool, cond-true, cond-false, and_left, and_right, or_from, or_cases, or_parts, lt-leb}
 use Rattle.properties_format.specs.Text.{scalar, tab, line_feed, form_feed, carriage_return, space, backslash, is_blank, is_line_end, is_comment_sign, is_separator}
 use Rattle.properties_format.specs.Encoding.{Encoding}
-use Rattle.properties_format.specs.Escapes.{letter_u, escaped_character, are_hexadecimal, code_unit, is_high, is_low, is_surrogate, pair_character, Spelling, itself, escaped, unicode, surrogates, last, spelling_text, spelt_character, IsSpelling}
-use Rattle.properties_format.specs.Printing.{in_key_or_value, in_comment, unit_escape, high_surrogate, low_surrogate, unicode_escape, may_stand, literal, is_special, letter_escape, has_letter, spelt}
+use Rattle.properties_format.specs.Escapes.{letter_u, escaped_character, are_hexadecimal, code_unit, is_high, is_low, is_surrogate, pair_character, Spelling, itself, escaped, unicode, surrogates, last, spelling_text, spelling_character, IsSpelling}
+use Rattle.properties_format.specs.Printing.{in_key_or_value, in_comment, unit_escape, high_surrogate, low_surrogate, unicode_escape, may_be_unescaped, literal, is_special, letter_escape, has_letter}
+use Rattle.properties_format.specs.Printing.{printed_character}
 use Rattle.properties_format.proofs.Escapes.Digits.{unit_digits, unit_digits-hexadecimal, unit_digits-unit, high_surrogate-high, low_surrogate-low, pair_character-surrogates}
 use Rattle.properties_format.proofs.Escapes.Trimmed.{KeepsBlanks, KeepsBlanks-itself, KeepsBlanks-escaped, KeepsBlanks-unicode, KeepsBlanks-surrogates}
-use Rattle.properties_format.proofs.Printing.Characters.{may_stand-ascii, below-scalar}
+use Rattle.properties_format.proofs.Printing.Characters.{may_be_unescaped-ascii, below-scalar}
 
 -- the spelling may be used in a key or a value
 abbrev pub IsSafe : Spelling → Type 0
@@ -19,17 +20,17 @@ IsSafe (surrogates high low) = IsSpelling (surrogates high low) []
 IsSafe last = ⊥
 
 -- x is a safe spelling of c.
-pub record IsSafelySpelt (x : List ℕ) (c : ℕ) : Type 0 where
+pub record IsSafelyPrinted (x : List ℕ) (c : ℕ) : Type 0 where
   pub spelling : Spelling
   pub text : x ≡ spelling_text spelling
-  pub character : spelt_character spelling ≡ c
+  pub character : spelling_character spelling ≡ c
   pub safe : IsSafe spelling
 
 -- x is a safe spelling of c, or c itself, which isn't a backslash or a line end; and it keeps blanks.
-pub record IsPlainlySpelt (x : List ℕ) (c : ℕ) : Type 0 where
+pub record IsPlainlyPrinted (x : List ℕ) (c : ℕ) : Type 0 where
   pub spelling : Spelling
   pub text : x ≡ spelling_text spelling
-  pub character : spelt_character spelling ≡ c
+  pub character : spelling_character spelling ≡ c
   pub safe : IsSafe spelling ⊎ ((spelling ≡ itself c) × ((c == backslash) ≡ false) × (is_line_end c ≡ false))
   pub keeps : KeepsBlanks spelling
 
@@ -42,8 +43,8 @@ scalar-no_surrogate c (inl h) =
 scalar-no_surrogate c (inr h) =
     or_from (is_high c) (is_low c) (and_right (nat_le 0xd800 c) (nat_lt c 0xdc00) (le-ltb c 0xdc00 (omega (arith, h)))) (and_right (nat_le 0xdc00 c) (nat_lt c 0xe000) (le-ltb c 0xe000 h.0))
 
-abbrev unit-spelt : (c : ℕ) → scalar c → c < 0x1_0000 → IsSafelySpelt (unit_escape c) c
-unit-spelt c h k =
+abbrev unit-printed : (c : ℕ) → scalar c → c < 0x1_0000 → IsSafelyPrinted (unit_escape c) c
+unit-printed c h k =
     record {
       spelling = unicode (unit_digits c);
       text = refl;
@@ -67,8 +68,8 @@ low-unit c = unit_digits-unit (low_surrogate c) (omega arith)
 pair-is : (c : ℕ) → scalar c → 0x1_0000 ≤ c → pair_character (code_unit (unit_digits (high_surrogate c))) (code_unit (unit_digits (low_surrogate c))) ≡ c
 pair-is c h k = ap₂ pair_character (high-unit c (below-scalar c h)) (low-unit c) ∙ pair_character-surrogates c k
 
-abbrev pair-spelt : (c : ℕ) → scalar c → 0x1_0000 ≤ c → IsSafelySpelt (unit_escape (high_surrogate c) ++ unit_escape (low_surrogate c)) c
-pair-spelt c h k =
+abbrev pair-printed : (c : ℕ) → scalar c → 0x1_0000 ≤ c → IsSafelyPrinted (unit_escape (high_surrogate c) ++ unit_escape (low_surrogate c)) c
+pair-printed c h k =
     record {
       spelling = surrogates (unit_digits (high_surrogate c)) (unit_digits (low_surrogate c));
       text = refl;
@@ -88,35 +89,35 @@ pair-keeps c h k b =
     (subst (λ v. is_blank v ≡ false) (sym (pair-is c h k)) b)
 
 -- A text equal to a safe spelling is a safe spelling.
-same-spelt : (x y : List ℕ) (c : ℕ) → x ≡ y → IsSafelySpelt y c → IsSafelySpelt x c
-same-spelt x y c e s = record { spelling = s.spelling; text = e ∙ s.text; character = s.character; safe = s.safe }
+same-printed : (x y : List ℕ) (c : ℕ) → x ≡ y → IsSafelyPrinted y c → IsSafelyPrinted x c
+same-printed x y c e s = record { spelling = s.spelling; text = e ∙ s.text; character = s.character; safe = s.safe }
 
 -- A text equal to a plain spelling is a plain spelling.
-same-plainly : (x y : List ℕ) (c : ℕ) → x ≡ y → IsPlainlySpelt y c → IsPlainlySpelt x c
+same-plainly : (x y : List ℕ) (c : ℕ) → x ≡ y → IsPlainlyPrinted y c → IsPlainlyPrinted x c
 same-plainly x y c e s = record { spelling = s.spelling; text = e ∙ s.text; character = s.character; safe = s.safe; keeps = s.keeps }
 
 -- `\u` escapes are a safe spelling of a scalar value.
-pub unicode-spelt : (c : ℕ) → scalar c → IsSafelySpelt (unicode_escape c) c
-unicode-spelt c h =
+pub unicode-printed : (c : ℕ) → scalar c → IsSafelyPrinted (unicode_escape c) c
+unicode-printed c h =
     let whole = unit_escape c in
     let two = unit_escape (high_surrogate c) ++ unit_escape (low_surrogate c) in
     elim (cases_Bool (nat_lt c 0x1_0000)) [
-      | inl k ↦ same-spelt (unicode_escape c) whole c (cond-true (nat_lt c 0x1_0000) whole two k) (unit-spelt c h (ltb-true c 0x1_0000 k))
-      | inr k ↦ same-spelt (unicode_escape c) two c (cond-false (nat_lt c 0x1_0000) whole two k) (pair-spelt c h (ltb-false c 0x1_0000 k))
+      | inl k ↦ same-printed (unicode_escape c) whole c (cond-true (nat_lt c 0x1_0000) whole two k) (unit-printed c h (ltb-true c 0x1_0000 k))
+      | inr k ↦ same-printed (unicode_escape c) two c (cond-false (nat_lt c 0x1_0000) whole two k) (pair-printed c h (ltb-false c 0x1_0000 k))
     ]
 
 -- `\u` escapes are a plain spelling of a scalar value that isn't a blank.
-pub unicode-plainly : (c : ℕ) → scalar c → is_blank c ≡ false → IsPlainlySpelt (unicode_escape c) c
+pub unicode-plainly : (c : ℕ) → scalar c → is_blank c ≡ false → IsPlainlyPrinted (unicode_escape c) c
 unicode-plainly c h b =
     let whole = unit_escape c in
     let two = unit_escape (high_surrogate c) ++ unit_escape (low_surrogate c) in
     elim (cases_Bool (nat_lt c 0x1_0000)) [
       | inl k ↦
-          let s = unit-spelt c h (ltb-true c 0x1_0000 k) in
+          let s = unit-printed c h (ltb-true c 0x1_0000 k) in
           same-plainly (unicode_escape c) whole c (cond-true (nat_lt c 0x1_0000) whole two k)
           (record { spelling = unicode (unit_digits c); text = refl; character = s.character; safe = inl s.safe; keeps = unit-keeps c (ltb-true c 0x1_0000 k) b })
       | inr k ↦
-          let s = pair-spelt c h (ltb-false c 0x1_0000 k) in
+          let s = pair-printed c h (ltb-false c 0x1_0000 k) in
           same-plainly (unicode_escape c) two c (cond-false (nat_lt c 0x1_0000) whole two k)
           (record {
             spelling = surrogates (unit_digits (high_surrogate c)) (unit_digits (low_surrogate c));
@@ -130,42 +131,42 @@ unicode-plainly c h b =
 -- ---- unescaped characters, and escapes of a backslash and one character
 
 -- A backslash and a character that isn't u or a line end are a safe spelling of what they mean.
-escape-spelt : (c d : ℕ) → (d == letter_u) ≡ false → is_line_end d ≡ false → escaped_character d ≡ c → IsSafelySpelt (backslash ∷ d ∷ []) c
-escape-spelt c d u l e = record { spelling = escaped d; text = refl; character = e; safe = (u, l) }
+escape-printed : (c d : ℕ) → (d == letter_u) ≡ false → is_line_end d ≡ false → escaped_character d ≡ c → IsSafelyPrinted (backslash ∷ d ∷ []) c
+escape-printed c d u l e = record { spelling = escaped d; text = refl; character = e; safe = (u, l) }
 
 -- What spells one character spells an equal one.
-at-character : (c d : ℕ) (x : ℕ → List ℕ) → (c == d) ≡ true → IsSafelySpelt (x d) d → IsSafelySpelt (x c) c
+at-character : (c d : ℕ) (x : ℕ → List ℕ) → (c == d) ≡ true → IsSafelyPrinted (x d) d → IsSafelyPrinted (x c) c
 at-character c d x e s = rw (eqb-true c d e) s
 
 -- A backslash and a special character are a safe spelling of that character.
-pub special-spelt : (c : ℕ) → is_special c ≡ true → IsSafelySpelt (backslash ∷ c ∷ []) c
-special-spelt c h = elim (or_cases (c == backslash) (c == space || (is_separator c || is_comment_sign c)) h) [
-  | inl e ↦ at-character c backslash (λ v. backslash ∷ v ∷ []) e (escape-spelt backslash backslash refl refl refl)
+pub special-printed : (c : ℕ) → is_special c ≡ true → IsSafelyPrinted (backslash ∷ c ∷ []) c
+special-printed c h = elim (or_cases (c == backslash) (c == space || (is_separator c || is_comment_sign c)) h) [
+  | inl e ↦ at-character c backslash (λ v. backslash ∷ v ∷ []) e (escape-printed backslash backslash refl refl refl)
   | inr h ↦ elim (or_cases (c == space) (is_separator c || is_comment_sign c) h) [
-    | inl e ↦ at-character c space (λ v. backslash ∷ v ∷ []) e (escape-spelt space space refl refl refl)
+    | inl e ↦ at-character c space (λ v. backslash ∷ v ∷ []) e (escape-printed space space refl refl refl)
     | inr h ↦ elim (or_cases (is_separator c) (is_comment_sign c) h) [
       | inl h ↦ elim (or_cases (c == 0x3d) (c == 0x3a) h) [
-        | inl e ↦ at-character c 0x3d (λ v. backslash ∷ v ∷ []) e (escape-spelt 0x3d 0x3d refl refl refl)
-        | inr e ↦ at-character c 0x3a (λ v. backslash ∷ v ∷ []) e (escape-spelt 0x3a 0x3a refl refl refl)
+        | inl e ↦ at-character c 0x3d (λ v. backslash ∷ v ∷ []) e (escape-printed 0x3d 0x3d refl refl refl)
+        | inr e ↦ at-character c 0x3a (λ v. backslash ∷ v ∷ []) e (escape-printed 0x3a 0x3a refl refl refl)
       ]
       | inr h ↦ elim (or_cases (c == 0x23) (c == 0x21) h) [
-        | inl e ↦ at-character c 0x23 (λ v. backslash ∷ v ∷ []) e (escape-spelt 0x23 0x23 refl refl refl)
-        | inr e ↦ at-character c 0x21 (λ v. backslash ∷ v ∷ []) e (escape-spelt 0x21 0x21 refl refl refl)
+        | inl e ↦ at-character c 0x23 (λ v. backslash ∷ v ∷ []) e (escape-printed 0x23 0x23 refl refl refl)
+        | inr e ↦ at-character c 0x21 (λ v. backslash ∷ v ∷ []) e (escape-printed 0x21 0x21 refl refl refl)
       ]
     ]
   ]
 ]
 
 -- A backslash and a letter are a safe spelling of the character that has that letter escape.
-letter-spelt : (c : ℕ) → has_letter c ≡ true → IsSafelySpelt (letter_escape c) c
-letter-spelt c h = elim (or_cases (c == tab || c == line_feed) (c == form_feed || c == carriage_return) h) [
+letter-printed : (c : ℕ) → has_letter c ≡ true → IsSafelyPrinted (letter_escape c) c
+letter-printed c h = elim (or_cases (c == tab || c == line_feed) (c == form_feed || c == carriage_return) h) [
   | inl h ↦ elim (or_cases (c == tab) (c == line_feed) h) [
-    | inl e ↦ at-character c tab letter_escape e (escape-spelt tab 0x74 refl refl refl)
-    | inr e ↦ at-character c line_feed letter_escape e (escape-spelt line_feed 0x6e refl refl refl)
+    | inl e ↦ at-character c tab letter_escape e (escape-printed tab 0x74 refl refl refl)
+    | inr e ↦ at-character c line_feed letter_escape e (escape-printed line_feed 0x6e refl refl refl)
   ]
   | inr h ↦ elim (or_cases (c == form_feed) (c == carriage_return) h) [
-    | inl e ↦ at-character c form_feed letter_escape e (escape-spelt form_feed 0x66 refl refl refl)
-    | inr e ↦ at-character c carriage_return letter_escape e (escape-spelt carriage_return 0x72 refl refl refl)
+    | inl e ↦ at-character c form_feed letter_escape e (escape-printed form_feed 0x66 refl refl refl)
+    | inr e ↦ at-character c carriage_return letter_escape e (escape-printed carriage_return 0x72 refl refl refl)
   ]
 ]
 
@@ -181,8 +182,8 @@ blank-cases : (c : ℕ) → (c == space) ≡ false → (c == tab) ≡ false → 
 blank-cases c a b d = or_from (c == space) (c == tab || c == form_feed) a (or_from (c == tab) (c == form_feed) b d)
 
 -- Such a character is a safe spelling of itself.
-itself-spelt : (c : ℕ) → IsOrdinary c → IsSafelySpelt (c ∷ []) c
-itself-spelt c o =
+itself-printed : (c : ℕ) → IsOrdinary c → IsSafelyPrinted (c ∷ []) c
+itself-printed c o =
     let a = or_parts (c == backslash) (c == space || (is_separator c || is_comment_sign c)) o.special in
     let b = or_parts (c == space) (is_separator c || is_comment_sign c) a.1 in
     let d = or_parts (is_separator c) (is_comment_sign c) b.1 in
@@ -197,26 +198,26 @@ itself-spelt c o =
     }
 
 -- Unescaped if that is allowed, otherwise escaped, such a character is safely spelt.
-literal-spelt : (e : Encoding) (only : Bool) (c : ℕ) → scalar c → IsOrdinary c → IsSafelySpelt (literal e only c) c
-literal-spelt e only c h o = elim (cases_Bool (may_stand e only c)) [
-  | inl k ↦ same-spelt (literal e only c) (c ∷ []) c (cond-true (may_stand e only c) (c ∷ []) (unicode_escape c) k) (itself-spelt c o)
-  | inr k ↦ same-spelt (literal e only c) (unicode_escape c) c (cond-false (may_stand e only c) (c ∷ []) (unicode_escape c) k) (unicode-spelt c h)
+literal-printed : (e : Encoding) (only : Bool) (c : ℕ) → scalar c → IsOrdinary c → IsSafelyPrinted (literal e only c) c
+literal-printed e only c h o = elim (cases_Bool (may_be_unescaped e only c)) [
+  | inl k ↦ same-printed (literal e only c) (c ∷ []) c (cond-true (may_be_unescaped e only c) (c ∷ []) (unicode_escape c) k) (itself-printed c o)
+  | inr k ↦ same-printed (literal e only c) (unicode_escape c) c (cond-false (may_be_unescaped e only c) (c ∷ []) (unicode_escape c) k) (unicode-printed c h)
 ]
 
 -- What is printed for a character in a key or a value is a safe spelling of it.
-pub in_key_or_value-spelt : (e : Encoding) (only : Bool) (c : ℕ) → scalar c → IsSafelySpelt (spelt e only in_key_or_value c) c
-in_key_or_value-spelt e only c h =
+pub in_key_or_value-printed : (e : Encoding) (only : Bool) (c : ℕ) → scalar c → IsSafelyPrinted (printed_character e only in_key_or_value c) c
+in_key_or_value-printed e only c h =
     let last_two = cond (nat_lt c space) (unicode_escape c) (literal e only c) in
     let last_three = cond (has_letter c) (letter_escape c) last_two in
     elim (cases_Bool (is_special c)) [
-      | inl k ↦ same-spelt _ (backslash ∷ c ∷ []) c (cond-true (is_special c) (backslash ∷ c ∷ []) last_three k) (special-spelt c k)
-      | inr k ↦ same-spelt _ last_three c (cond-false (is_special c) (backslash ∷ c ∷ []) last_three k)
+      | inl k ↦ same-printed _ (backslash ∷ c ∷ []) c (cond-true (is_special c) (backslash ∷ c ∷ []) last_three k) (special-printed c k)
+      | inr k ↦ same-printed _ last_three c (cond-false (is_special c) (backslash ∷ c ∷ []) last_three k)
           (elim (cases_Bool (has_letter c)) [
-            | inl l ↦ same-spelt _ (letter_escape c) c (cond-true (has_letter c) (letter_escape c) last_two l) (letter-spelt c l)
-            | inr l ↦ same-spelt _ last_two c (cond-false (has_letter c) (letter_escape c) last_two l)
+            | inl l ↦ same-printed _ (letter_escape c) c (cond-true (has_letter c) (letter_escape c) last_two l) (letter-printed c l)
+            | inr l ↦ same-printed _ last_two c (cond-false (has_letter c) (letter_escape c) last_two l)
                 (elim (cases_Bool (nat_lt c space)) [
-                  | inl m ↦ same-spelt _ (unicode_escape c) c (cond-true (nat_lt c space) (unicode_escape c) (literal e only c) m) (unicode-spelt c h)
-                  | inr m ↦ same-spelt _ (literal e only c) c (cond-false (nat_lt c space) (unicode_escape c) (literal e only c) m) (literal-spelt e only c h (record { special = k; letter = l }))
+                  | inl m ↦ same-printed _ (unicode_escape c) c (cond-true (nat_lt c space) (unicode_escape c) (literal e only c) m) (unicode-printed c h)
+                  | inr m ↦ same-printed _ (literal e only c) c (cond-false (nat_lt c space) (unicode_escape c) (literal e only c) m) (literal-printed e only c h (record { special = k; letter = l }))
                 ])
           ])
     ]
@@ -225,38 +226,38 @@ in_key_or_value-spelt e only c h =
 
 -- A backslash and a character are a plain spelling, if neither that character nor the one they mean is a blank.
 escape-plainly : (c d : ℕ) → (d == letter_u) ≡ false → is_line_end d ≡ false → escaped_character d ≡ c → is_blank d ≡ false
-    → is_blank (escaped_character d) ≡ false → IsPlainlySpelt (backslash ∷ d ∷ []) c
+    → is_blank (escaped_character d) ≡ false → IsPlainlyPrinted (backslash ∷ d ∷ []) c
 escape-plainly c d u l e b f = record { spelling = escaped d; text = refl; character = e; safe = inl (u, l); keeps = KeepsBlanks-escaped d b f }
 
 -- What plainly spells one character plainly spells an equal one.
-at-character_plainly : (c d : ℕ) (x : ℕ → List ℕ) → (c == d) ≡ true → IsPlainlySpelt (x d) d → IsPlainlySpelt (x c) c
+at-character_plainly : (c d : ℕ) (x : ℕ → List ℕ) → (c == d) ≡ true → IsPlainlyPrinted (x d) d → IsPlainlyPrinted (x c) c
 at-character_plainly c d x e s = rw (eqb-true c d e) s
 
 -- A blank may be written unescaped, because it is ASCII.
-blank-stands : (e : Encoding) (only : Bool) (c : ℕ) → is_blank c ≡ true → may_stand e only c ≡ true
+blank-stands : (e : Encoding) (only : Bool) (c : ℕ) → is_blank c ≡ true → may_be_unescaped e only c ≡ true
 blank-stands e only c h = elim (or_cases (c == space) (c == tab || c == form_feed) h) [
-  | inl k ↦ may_stand-ascii e only c (rw (eqb-true c space k) (lit< tt))
+  | inl k ↦ may_be_unescaped-ascii e only c (rw (eqb-true c space k) (lit< tt))
   | inr h ↦ elim (or_cases (c == tab) (c == form_feed) h) [
-    | inl k ↦ may_stand-ascii e only c (rw (eqb-true c tab k) (lit< tt))
-    | inr k ↦ may_stand-ascii e only c (rw (eqb-true c form_feed k) (lit< tt))
+    | inl k ↦ may_be_unescaped-ascii e only c (rw (eqb-true c tab k) (lit< tt))
+    | inr k ↦ may_be_unescaped-ascii e only c (rw (eqb-true c form_feed k) (lit< tt))
   ]
 ]
 
 -- A character that may not be written unescaped isn't a blank.
-escaped-full : (e : Encoding) (only : Bool) (c : ℕ) → may_stand e only c ≡ false → is_blank c ≡ false
+escaped-full : (e : Encoding) (only : Bool) (c : ℕ) → may_be_unescaped e only c ≡ false → is_blank c ≡ false
 escaped-full e only c h = elim (cases_Bool (is_blank c)) [ inl b ↦ (let k = blank-stands e only c b in cc) | inr b ↦ b ]
 
 -- Unescaped if that is allowed, otherwise escaped, a character that isn't a backslash or a line end is plainly spelt.
-pub literal-plainly : (e : Encoding) (only : Bool) (c : ℕ) → scalar c → (c == backslash) ≡ false → is_line_end c ≡ false → IsPlainlySpelt (literal e only c) c
-literal-plainly e only c h b l = elim (cases_Bool (may_stand e only c)) [
-  | inl k ↦ same-plainly (literal e only c) (c ∷ []) c (cond-true (may_stand e only c) (c ∷ []) (unicode_escape c) k)
+pub literal-plainly : (e : Encoding) (only : Bool) (c : ℕ) → scalar c → (c == backslash) ≡ false → is_line_end c ≡ false → IsPlainlyPrinted (literal e only c) c
+literal-plainly e only c h b l = elim (cases_Bool (may_be_unescaped e only c)) [
+  | inl k ↦ same-plainly (literal e only c) (c ∷ []) c (cond-true (may_be_unescaped e only c) (c ∷ []) (unicode_escape c) k)
       (record { spelling = itself c; text = refl; character = refl; safe = inr (refl, b, l); keeps = KeepsBlanks-itself c })
-  | inr k ↦ same-plainly (literal e only c) (unicode_escape c) c (cond-false (may_stand e only c) (c ∷ []) (unicode_escape c) k) (unicode-plainly c h (escaped-full e only c k))
+  | inr k ↦ same-plainly (literal e only c) (unicode_escape c) c (cond-false (may_be_unescaped e only c) (c ∷ []) (unicode_escape c) k) (unicode-plainly c h (escaped-full e only c k))
 ]
 
 -- What is printed for a character in a comment is a plain spelling of it.
-pub in_comment-spelt : (e : Encoding) (only : Bool) (c : ℕ) → scalar c → IsPlainlySpelt (spelt e only in_comment c) c
-in_comment-spelt e only c h =
+pub in_comment-printed : (e : Encoding) (only : Bool) (c : ℕ) → scalar c → IsPlainlyPrinted (printed_character e only in_comment c) c
+in_comment-printed e only c h =
     let rest = cond (c == line_feed || c == carriage_return) (letter_escape c) (literal e only c) in
     elim (cases_Bool (c == backslash)) [
       | inl k ↦ same-plainly _ (backslash ∷ backslash ∷ []) c (cond-true (c == backslash) (backslash ∷ backslash ∷ []) rest k)

@@ -8,36 +8,36 @@ use Rattle.properties_format.specs.Encoding.{Encoding}
 use Rattle.properties_format.specs.Lines.{HoldsNoLineEnd}
 use Rattle.properties_format.specs.Groups.{is_open}
 use Rattle.properties_format.specs.Split.{IsKey, begins}
-use Rattle.properties_format.specs.Escapes.{letter_u, is_hexadecimal, Four, four_text, are_hexadecimal, Spelling, itself, escaped, unicode, surrogates, last, spelling_text, spelt_character, spelt_before, means}
+use Rattle.properties_format.specs.Escapes.{letter_u, is_hexadecimal, Four, four_text, are_hexadecimal, Spelling, itself, escaped, unicode, surrogates, last, spelling_text, spelling_character, spellings_before, means}
 use Rattle.properties_format.specs.Reading.Escapes.{meaning_of}
-use Rattle.properties_format.specs.Printing.{in_key_or_value, spelt, spelt_text}
+use Rattle.properties_format.specs.Printing.{in_key_or_value, printed_character, printed_characters}
 use Rattle.properties_format.proofs.Lines.Plain.{plain-append}
 use Rattle.properties_format.proofs.Groups.Open.{is_open-two, is_open-other}
 use Rattle.properties_format.proofs.Split.Laws.{IsKey-nil, IsKey-plain, IsKey-escaped, IsKey-unicode}
 use Rattle.properties_format.proofs.Escapes.Digits.{hexadecimal-plain}
 use Rattle.properties_format.proofs.Escapes.Laws.{IsWhole, AreWhole, meaning_of-all}
-use Rattle.properties_format.proofs.ReadBack.Spellings.{IsSafe, IsSafelySpelt, in_key_or_value-spelt}
+use Rattle.properties_format.proofs.ReadBack.Spellings.{IsSafe, IsSafelyPrinted, in_key_or_value-printed}
 
 abbrev pub AreSafe : List Spelling → Type 0
 AreSafe [] = Unit {0}
 AreSafe (p ∷ ps) = IsSafe p × AreSafe ps
 
 -- x is the text of safe spellings of y.
-pub record AreSafelySpelt (x y : List ℕ) : Type 0 where
+pub record AreSafelyPrinted (x y : List ℕ) : Type 0 where
   pub spellings : List Spelling
-  pub text : x ≡ spelt_before spellings []
-  pub characters : map spelt_character spellings ≡ y
+  pub text : x ≡ spellings_before spellings []
+  pub characters : map spelling_character spellings ≡ y
   pub safe : AreSafe spellings
 
 -- One more character at the front.
-pub spelt-cons : (x y : List ℕ) (c : ℕ) (cs : List ℕ) → IsSafelySpelt x c → AreSafelySpelt y cs → AreSafelySpelt (x ++ y) (c ∷ cs)
-spelt-cons x y c cs s t =
+pub printed-cons : (x y : List ℕ) (c : ℕ) (cs : List ℕ) → IsSafelyPrinted x c → AreSafelyPrinted y cs → AreSafelyPrinted (x ++ y) (c ∷ cs)
+printed-cons x y c cs s t =
     record { spellings = s.spelling ∷ t.spellings; text = ap₂ (λ v w. v ++ w) s.text t.text; characters = ap₂ (λ v w. v ∷ w) s.character t.characters; safe = (s.safe, t.safe) }
 
 -- what is printed for a key or a value is safely spelt
-pub texts-spelt : (e : Encoding) (only : Bool) (x : List ℕ) → AllByRecursion scalar x → AreSafelySpelt (spelt_text e only in_key_or_value x) x
-texts-spelt e only [] h = record { spellings = []; text = refl; characters = refl; safe = tt }
-texts-spelt e only (c ∷ x) h = spelt-cons (spelt e only in_key_or_value c) (spelt_text e only in_key_or_value x) c x (in_key_or_value-spelt e only c h.0) (texts-spelt e only x h.1)
+pub texts-printed : (e : Encoding) (only : Bool) (x : List ℕ) → AllByRecursion scalar x → AreSafelyPrinted (printed_characters e only in_key_or_value x) x
+texts-printed e only [] h = record { spellings = []; text = refl; characters = refl; safe = tt }
+texts-printed e only (c ∷ x) h = printed-cons (printed_character e only in_key_or_value c) (printed_characters e only in_key_or_value x) c x (in_key_or_value-printed e only c h.0) (texts-printed e only x h.1)
 
 -- ---- what they mean
 
@@ -55,8 +55,8 @@ are_safe-whole [] h = tt
 are_safe-whole (p ∷ ps) h = (safe-whole p h.0, are_safe-whole ps h.1)
 
 -- A safely spelt text means what it spells.
-pub spelt-means : (x y : List ℕ) → AreSafelySpelt x y → meaning_of x ≡ means y
-spelt-means x y s = ap meaning_of s.text ∙ meaning_of-all s.spellings (are_safe-whole s.spellings s.safe) ∙ ap means s.characters
+pub printed-means : (x y : List ℕ) → AreSafelyPrinted x y → meaning_of x ≡ means y
+printed-means x y s = ap meaning_of s.text ∙ meaning_of-all s.spellings (are_safe-whole s.spellings s.safe) ∙ ap means s.characters
 
 -- ---- no line end
 
@@ -85,13 +85,13 @@ safe-plain (surrogates high low) h = plain-append (backslash ∷ letter_u ∷ fo
 safe-plain last h = absurd h
 
 -- Safe spellings contain no line end.
-are_safe-plain : (ps : List Spelling) → AreSafe ps → HoldsNoLineEnd (spelt_before ps [])
+are_safe-plain : (ps : List Spelling) → AreSafe ps → HoldsNoLineEnd (spellings_before ps [])
 are_safe-plain [] h = tt
-are_safe-plain (p ∷ ps) h = plain-append (spelling_text p) (spelt_before ps []) (safe-plain p h.0) (are_safe-plain ps h.1)
+are_safe-plain (p ∷ ps) h = plain-append (spelling_text p) (spellings_before ps []) (safe-plain p h.0) (are_safe-plain ps h.1)
 
 -- A safely spelt text contains no line end.
-pub spelt-plain : (x y : List ℕ) → AreSafelySpelt x y → HoldsNoLineEnd x
-spelt-plain x y s = rw s.text (are_safe-plain s.spellings s.safe)
+pub printed-plain : (x y : List ℕ) → AreSafelyPrinted x y → HoldsNoLineEnd x
+printed-plain x y s = rw s.text (are_safe-plain s.spellings s.safe)
 
 -- ---- no open backslash
 
@@ -117,14 +117,14 @@ safe-closed (surrogates high low) x h o = unit-closed x (backslash ∷ letter_u 
 safe-closed last x h o = absurd h
 
 -- A text that isn't open, followed by safe spellings, isn't open.
-are_safe-closed : (ps : List Spelling) (x : List ℕ) → AreSafe ps → is_open x ≡ false → is_open (x ++ spelt_before ps []) ≡ false
+are_safe-closed : (ps : List Spelling) (x : List ℕ) → AreSafe ps → is_open x ≡ false → is_open (x ++ spellings_before ps []) ≡ false
 are_safe-closed [] x h o = ap is_open (append-nil x) ∙ o
 are_safe-closed (p ∷ ps) x h o =
-    ap is_open (sym (append_assoc x (spelling_text p) (spelt_before ps []))) ∙ are_safe-closed ps (x ++ spelling_text p) h.1 (safe-closed p x h.0 o)
+    ap is_open (sym (append_assoc x (spelling_text p) (spellings_before ps []))) ∙ are_safe-closed ps (x ++ spelling_text p) h.1 (safe-closed p x h.0 o)
 
 -- A safely spelt text isn't open.
-pub spelt-closed : (x y : List ℕ) → AreSafelySpelt x y → is_open x ≡ false
-spelt-closed x y s = ap is_open s.text ∙ are_safe-closed s.spellings [] s.safe refl
+pub printed-closed : (x y : List ℕ) → AreSafelyPrinted x y → is_open x ≡ false
+printed-closed x y s = ap is_open s.text ∙ are_safe-closed s.spellings [] s.safe refl
 
 -- ---- a key, and how it begins
 
@@ -137,9 +137,9 @@ safe-key (surrogates high low) y rest h k = IsKey-unicode high (backslash ∷ le
 safe-key last y rest h k = absurd h
 
 -- Safe spellings are a key, whatever follows.
-pub are_safe-key : (ps : List Spelling) (rest : List ℕ) → AreSafe ps → IsKey (spelt_before ps []) rest
+pub are_safe-key : (ps : List Spelling) (rest : List ℕ) → AreSafe ps → IsKey (spellings_before ps []) rest
 are_safe-key [] rest h = IsKey-nil rest
-are_safe-key (p ∷ ps) rest h = safe-key p (spelt_before ps []) rest h.0 (are_safe-key ps rest h.1)
+are_safe-key (p ∷ ps) rest h = safe-key p (spellings_before ps []) rest h.0 (are_safe-key ps rest h.1)
 
 -- The text doesn't begin with a blank, a separator or a comment sign.
 pub record BeginsFull (x : List ℕ) : Type 0 where
@@ -156,6 +156,6 @@ safe-begins (surrogates high low) y h = record { no_blank = refl; no_separator =
 safe-begins last y h = absurd h
 
 -- The text of safe spellings doesn't begin with a blank, a separator or a comment sign.
-pub are_safe-begin : (ps : List Spelling) → AreSafe ps → BeginsFull (spelt_before ps [])
+pub are_safe-begin : (ps : List Spelling) → AreSafe ps → BeginsFull (spellings_before ps [])
 are_safe-begin [] h = record { no_blank = refl; no_separator = refl; no_sign = refl }
-are_safe-begin (p ∷ ps) h = safe-begins p (spelt_before ps []) h.0
+are_safe-begin (p ∷ ps) h = safe-begins p (spellings_before ps []) h.0

@@ -7,12 +7,12 @@ use Rattle.properties_format.specs.Encoding.{Encoding, begins_with, begins_like_
 use Rattle.properties_format.specs.Split.{AreBlanks}
 use Rattle.properties_format.specs.Entries.{Content, comment, pair}
 use Rattle.properties_format.specs.Settings.{Settings, IsGoodPrefix, IsGoodSeparator}
-use Rattle.properties_format.specs.Printing.{in_key_or_value, in_prefix, spelt_text, encoded_text, is_bom_like, with_first_escaped, spelt_key, printed_text}
+use Rattle.properties_format.specs.Printing.{in_key_or_value, in_prefix, printed_characters, encoded_text, is_bom_like, with_first_escaped, printed_key, printed_text}
 use Rattle.properties_format.specs.Writing.{Call, comment_call, pair_call, prefix_call, separator_call, ending_call, flush_call, ascii_only_call, is_empty, settings_after_call, lines_with, AreOfScalars, AreGoodSettings}
 use Rattle.properties_format.proofs.Printing.Characters.{encoded-ascii, encoded_text-append, blank-ascii, good_separator-ascii}
 use Rattle.properties_format.proofs.Printing.BomLike.{unicode-is_escape}
 use Rattle.properties_format.proofs.ReadBack.Pairs.{separator-some}
-use Rattle.properties_format.proofs.ReadBack.Comments.{prefix-spelt, sign-ascii}
+use Rattle.properties_format.proofs.ReadBack.Comments.{prefix-printed, sign-ascii}
 use Rattle.properties_format.proofs.ReadBack.Lines.{line_text, wrote_text, settings_after_call-good}
 
 -- ---- no byte order mark has an ASCII byte
@@ -65,11 +65,11 @@ indent-front [] sign rest b m = (sign, rest, refl, (sign-ascii sign m).0)
 indent-front (c ∷ indent) sign rest b m = (c, indent ++ (sign ∷ rest), refl, blank-ascii c b.0)
 
 -- A comment on the first line, with what follows its prefix.
-comment-unmarked : (e : Encoding) (only : Bool) (prefix rest : List ℕ) → IsGoodPrefix prefix → IsUnmarked e (spelt_text e only in_prefix prefix ++ rest)
+comment-unmarked : (e : Encoding) (only : Bool) (prefix rest : List ℕ) → IsGoodPrefix prefix → IsUnmarked e (printed_characters e only in_prefix prefix ++ rest)
 comment-unmarked e only prefix rest g =
-    let (c, y, same, h) = indent-front g.indent g.sign (spelt_text e only in_prefix g.tail) g.indented g.signed in
-    front-unmarked e (spelt_text e only in_prefix prefix ++ rest) c (y ++ rest)
-    (ap (λ v. v ++ rest) (ap (spelt_text e only in_prefix) g.division ∙ prefix-spelt e only g.indent g.sign g.tail g.indented g.signed ∙ same)) h
+    let (c, y, same, h) = indent-front g.indent g.sign (printed_characters e only in_prefix g.tail) g.indented g.signed in
+    front-unmarked e (printed_characters e only in_prefix prefix ++ rest) c (y ++ rest)
+    (ap (λ v. v ++ rest) (ap (printed_characters e only in_prefix) g.division ∙ prefix-printed e only g.indent g.sign g.tail g.indented g.signed ∙ same)) h
 
 -- a separator begins with an ASCII character
 separator-front : (sep : List ℕ) → IsGoodSeparator sep → (c : ℕ) × (y : List ℕ) × (sep ≡ c ∷ y) × (c < 0x80)
@@ -81,32 +81,32 @@ with_first_escaped-unmarked : (e : Encoding) (only : Bool) (key rest : List ℕ)
 with_first_escaped-unmarked e only [] rest h = cc
 with_first_escaped-unmarked e only (c ∷ cs) rest h =
     let (y, same) = unicode-is_escape c in
-    front-unmarked e (with_first_escaped e only (c ∷ cs) ++ rest) backslash ((y ++ spelt_text e only in_key_or_value cs) ++ rest)
-    (ap (λ v. (v ++ spelt_text e only in_key_or_value cs) ++ rest) same) (lit< tt)
+    front-unmarked e (with_first_escaped e only (c ∷ cs) ++ rest) backslash ((y ++ printed_characters e only in_key_or_value cs) ++ rest)
+    (ap (λ v. (v ++ printed_characters e only in_key_or_value cs) ++ rest) same) (lit< tt)
 
 -- A key that doesn't begin like a byte order mark, with what follows its separator.
-plain-unmarked : (e : Encoding) (only : Bool) (key sep rest : List ℕ) → IsGoodSeparator sep → is_bom_like e only key ≡ false → IsUnmarked e (spelt_text e only in_key_or_value key ++ (sep ++ rest))
+plain-unmarked : (e : Encoding) (only : Bool) (key sep rest : List ℕ) → IsGoodSeparator sep → is_bom_like e only key ≡ false → IsUnmarked e (printed_characters e only in_key_or_value key ++ (sep ++ rest))
 plain-unmarked e only key sep rest g h =
     let (c, y, same, k) = separator-front sep g in
-    ap (λ v. begins_like_bom (encoded_text e (spelt_text e only in_key_or_value key ++ (v ++ rest)))) same ∙ text-cut e (spelt_text e only in_key_or_value key) c (y ++ rest) k ∙ h
+    ap (λ v. begins_like_bom (encoded_text e (printed_characters e only in_key_or_value key ++ (v ++ rest)))) same ∙ text-cut e (printed_characters e only in_key_or_value key) c (y ++ rest) k ∙ h
 
 -- A pair on the first line, with what follows its separator.
 pub pair-unmarked : (e : Encoding) (only : Bool) (key sep rest : List ℕ) → IsGoodSeparator sep
-    → begins_like_bom (encoded_text e (spelt_key e only true key ++ (sep ++ rest))) ≡ false
+    → begins_like_bom (encoded_text e (printed_key e only true key ++ (sep ++ rest))) ≡ false
 pair-unmarked e only key sep rest g = elim (cases_Bool (is_bom_like e only key)) [
   | inl h ↦ ap (λ v. begins_like_bom (encoded_text e (v ++ (sep ++ rest))))
-      (cond-true (is_bom_like e only key) (with_first_escaped e only key) (spelt_text e only in_key_or_value key) h) ∙ with_first_escaped-unmarked e only key (sep ++ rest) h
+      (cond-true (is_bom_like e only key) (with_first_escaped e only key) (printed_characters e only in_key_or_value key) h) ∙ with_first_escaped-unmarked e only key (sep ++ rest) h
   | inr h ↦ ap (λ v. begins_like_bom (encoded_text e (v ++ (sep ++ rest))))
-      (cond-false (is_bom_like e only key) (with_first_escaped e only key) (spelt_text e only in_key_or_value key) h) ∙ plain-unmarked e only key sep rest g h
+      (cond-false (is_bom_like e only key) (with_first_escaped e only key) (printed_characters e only in_key_or_value key) h) ∙ plain-unmarked e only key sep rest g h
 ]
 
 -- A printed first line, with what follows it.
 printed-unmarked : (e : Encoding) (s : Settings) (line : Content) (rest : List ℕ) → AreGoodSettings s → IsUnmarked e (printed_text e s true line ++ rest)
 printed-unmarked e s (comment text) rest g =
-    ap (λ v. begins_like_bom (encoded_text e v)) (append_assoc (spelt_text e s.ascii_only in_prefix s.comment_prefix) _ rest) ∙ comment-unmarked e s.ascii_only s.comment_prefix _ g.prefix
+    ap (λ v. begins_like_bom (encoded_text e v)) (append_assoc (printed_characters e s.ascii_only in_prefix s.comment_prefix) _ rest) ∙ comment-unmarked e s.ascii_only s.comment_prefix _ g.prefix
 printed-unmarked e s (pair key value) rest g =
     ap (λ v. begins_like_bom (encoded_text e v))
-    (append_assoc (spelt_key e s.ascii_only true key) (s.kv_separator ++ _) rest ∙ ap (λ v. spelt_key e s.ascii_only true key ++ v) (append_assoc s.kv_separator _ rest))
+    (append_assoc (printed_key e s.ascii_only true key) (s.kv_separator ++ _) rest ∙ ap (λ v. printed_key e s.ascii_only true key ++ v) (append_assoc s.kv_separator _ rest))
     ∙ pair-unmarked e s.ascii_only key s.kv_separator _ g.separator
 
 -- ---- all lines

@@ -8,8 +8,8 @@ use Rattle.properties_format.specs.Entries.{pair}
 use Rattle.properties_format.specs.Items.{given}
 use Rattle.properties_format.specs.Body.{HeldLine, as_lines, NoneHasKey, groups_bytes}
 use Rattle.properties_format.specs.Edited.{is_editable}
-use Rattle.properties_format.specs.Valued.{IsNewSeparator, ending_in, parted_by, IsBodyValued}
-use Rattle.properties_format.specs.Reading.Slots.{key_told, slot_of, slot_list, closing_of, slots_of, is_first, empty_slot}
+use Rattle.properties_format.specs.Valued.{IsNewSeparator, ending_in, separation_by, IsBodyValued}
+use Rattle.properties_format.specs.Reading.Slots.{outcome_key, slot_of, slot_list, closing_of, slots_of, is_first, empty_slot}
 use Rattle.properties_format.specs.Reading.Valued.{last_between, separator_by}
 use Rattle.properties_format.specs.Reading.ValuedSlots.{last_slot_between, ending_in_slots, new_slot, slots_valued_at, slots_valued}
 use Rattle.properties_format.proofs.Items.Unique.{outcome_of-only}
@@ -17,7 +17,7 @@ use Rattle.properties_format.proofs.Body.Groups.{groups_bytes-append}
 use Rattle.properties_format.proofs.Slots.Merged.{AreInTurn, merged, merged-bytes, merged-none, merged-final}
 use Rattle.properties_format.proofs.Slots.Places.{last_slot-none}
 use Rattle.properties_format.proofs.Slots.Removed.{empty_group, empty-lines, empty-whole, empty-slot}
-use Rattle.properties_format.proofs.Slots.Apart.{AreApart, apart-first, some-alone, apart-append}
+use Rattle.properties_format.proofs.Slots.Unmerged.{AreUnmerged, unmerged-first, some-alone, unmerged-append}
 use Rattle.properties_format.proofs.Slots.Put.{ended-turn, ended-first, slot_list-append, final-after, none-slots}
 use Rattle.properties_format.proofs.Slots.LastEndings.{last_ending-slots, slots-cr, last_between-slots}
 use Rattle.properties_format.proofs.Slots.ClosedBy.{close-by}
@@ -29,14 +29,14 @@ pub record AreValued (e : Encoding) (key value : List ℕ) (gs : List (List Held
   pub groups : List (List HeldLine)
   pub in_turn : AreInTurn e groups
   pub edited : IsBodyValued e (merged gs) key value (groups_bytes groups)
-  pub apart : AreApart gs → AreApart groups
+  pub unmerged : AreUnmerged gs → AreUnmerged groups
   pub slots : slots_of groups ≡ slots_valued e key value (slots_of gs)
 
 -- the slot of a new pair
 added-slot : (e : Encoding) (first : Bool) (key sep value : List ℕ) (by : LineEnding) → IsAddedPair e first key sep value by
     → slot_of (added_line e first key sep value by ∷ []) ≡ new_slot e first key sep value by
 added-slot e first key sep value by p =
-    ap (λ w. record { bytes = added_bytes e first key sep value; ending = Some by; key = key_told w })
+    ap (λ w. record { bytes = added_bytes e first key sep value; ending = Some by; key = outcome_key w })
     (sym (outcome_of-only (joined (as_lines (added_line e first key sep value by ∷ []))) (given (pair key value)) p.has_pair))
 
 -- its bytes, with an empty line after it
@@ -72,11 +72,11 @@ valued-added e key value gs ok k v a none =
             ∙ ap (λ w. groups_bytes m.groups ++ w) (added-bytes e first key sep value by)
             ∙ ap (λ b. groups_bytes m.groups ++ (added_bytes e b key sep value ++ line_ending_text by)) (sym (ended-first e m.groups m.are_ended))
             ∙ ap₂ (λ w x. w ++ (added_bytes e (is_empty w) key sep value ++ x))
-            (m.bytes ∙ ap₂ (λ u w. u ++ w) (sym (merged-bytes gs)) (ap₂ parted_by ending (sym (merged-final e gs a)))) ending;
+            (m.bytes ∙ ap₂ (λ u w. u ++ w) (sym (merged-bytes gs)) (ap₂ separation_by ending (sym (merged-final e gs a)))) ending;
       }));
-      apart = λ q.
-          apart-append m.groups new (empty_group None ∷ []) (m.apart q) (some-alone (slot_of new) p.some)
-          (apart-first (slot_of new) (slot_of (empty_group None)) refl, tt);
+      unmerged = λ q.
+          unmerged-append m.groups new (empty_group None ∷ []) (m.unmerged q) (some-alone (slot_of new) p.some)
+          (unmerged-first (slot_of new) (slot_of (empty_group None)) refl, tt);
       slots =
           ap₂ (λ u w. record { list = u; closing = w })
           (slot_list-append m.groups (new ∷ empty_group None ∷ [])

@@ -12,7 +12,7 @@ use Rattle.properties_format.specs.Lines.{end}
 use Rattle.properties_format.specs.Groups.{joined}
 use Rattle.properties_format.specs.Entries.{comment, pair, Entry, item, malformed, read_fault, AreItems}
 use Rattle.properties_format.specs.Items.{Outcome, ignored, given, broken}
-use Rattle.properties_format.specs.Maps.{HasNoPair, IsLastValue, IsValue, StandsBefore, AreKeys}
+use Rattle.properties_format.specs.Maps.{HasNoPair, IsLastValue, IsValue, PairComesBefore, AreKeys}
 use Rattle.properties_format.specs.Body.{HeldLine, as_lines, groups_bytes}
 use Rattle.properties_format.specs.Edited.{is_editable}
 use Rattle.properties_format.specs.Edits.{Edit, AreScalarEdits}
@@ -22,7 +22,7 @@ use Rattle.properties_format.specs.Reading.Edits.{edits_made}
 use Rattle.properties_format.specs.Reading.Items.{outcome_of, followed, items_of}
 use Rattle.properties_format.specs.Reading.Keys.{Has, HasNot, ComesBefore, AreFirstOf, slot_keys, IsFirstPlace, AreFirsts, keys_at}
 use Rattle.properties_format.specs.Reading.Maps.{value_in}
-use Rattle.properties_format.specs.Reading.Slots.{Slot, Slots, slot_has, slot_of, slot_list, key_told, are_one_ending}
+use Rattle.properties_format.specs.Reading.Slots.{Slot, Slots, slot_has, slot_of, slot_list, outcome_key, are_one_ending}
 use Rattle.properties_format.specs.Reading.EditedSlots.{slots_after}
 use Rattle.properties_format.proofs.Body.Groups.{held_groups_of-only}
 use Rattle.properties_format.proofs.Body.Numbers.{items_of-groups}
@@ -93,9 +93,9 @@ value-key key value n (malformed kind m ∷ before) after = value-key key value 
 value-key key value n (read_fault m ∷ before) after = value-key key value n before after
 
 -- One more entry at the front keeps the order of two keys, if it isn't a pair with the later one.
-stands-on : (entry : Entry) {entries : List Entry} {key other : List ℕ} → ((others : List Entry) → HasNoPair other others → HasNoPair other (entry ∷ others))
-    → StandsBefore entries key other → StandsBefore (entry ∷ entries) key other
-stands-on entry none p =
+pair_before-on : (entry : Entry) {entries : List Entry} {key other : List ℕ} → ((others : List Entry) → HasNoPair other others → HasNoPair other (entry ∷ others))
+    → PairComesBefore entries key other → PairComesBefore (entry ∷ entries) key other
+pair_before-on entry none p =
     record {
       before = entry ∷ p.before;
       number = p.number;
@@ -103,23 +103,23 @@ stands-on entry none p =
       after = p.after;
       division = ap (λ v. entry ∷ v) p.division;
       none_before = none p.before p.none_before;
-      apart = p.apart;
+      differ = p.differ;
     }
 
-stands : (entries : List Entry) (xs ys : List (List ℕ)) (key other : List ℕ) → pair_keys entries ≡ xs ++ key ∷ ys → HasNot other xs → key ≢ other
-    → StandsBefore entries key other
-stands [] [] ys key other e n a = absurd (cc)
-stands [] (x ∷ xs) ys key other e n a = absurd (cc)
-stands (item m (pair k v) ∷ entries) [] ys key other e n a =
+pair_before : (entries : List Entry) (xs ys : List (List ℕ)) (key other : List ℕ) → pair_keys entries ≡ xs ++ key ∷ ys → HasNot other xs → key ≢ other
+    → PairComesBefore entries key other
+pair_before [] [] ys key other e n a = absurd (cc)
+pair_before [] (x ∷ xs) ys key other e n a = absurd (cc)
+pair_before (item m (pair k v) ∷ entries) [] ys key other e n a =
     let same : k ≡ key = cc in
-    record { before = []; number = m; value = v; after = entries; division = ap (λ w. item m (pair w v) ∷ entries) same; none_before = tt; apart = a }
-stands (item m (pair k v) ∷ entries) (x ∷ xs) ys key other e n a =
+    record { before = []; number = m; value = v; after = entries; division = ap (λ w. item m (pair w v) ∷ entries) same; none_before = tt; differ = a }
+pair_before (item m (pair k v) ∷ entries) (x ∷ xs) ys key other e n a =
     let same : x ≡ k = cc in
     let rest : pair_keys entries ≡ xs ++ key ∷ ys = cc in
-    stands-on (item m (pair k v)) (λ others none. ((λ q. n.0 (same ∙ q)), none)) (stands entries xs ys key other rest n.1 a)
-stands (item m (comment text) ∷ entries) xs ys key other e n a = stands-on (item m (comment text)) (λ others none. none) (stands entries xs ys key other e n a)
-stands (malformed kind m ∷ entries) xs ys key other e n a = stands-on (malformed kind m) (λ others none. none) (stands entries xs ys key other e n a)
-stands (read_fault m ∷ entries) xs ys key other e n a = stands-on (read_fault m) (λ others none. none) (stands entries xs ys key other e n a)
+    pair_before-on (item m (pair k v)) (λ others none. ((λ q. n.0 (same ∙ q)), none)) (pair_before entries xs ys key other rest n.1 a)
+pair_before (item m (comment text) ∷ entries) xs ys key other e n a = pair_before-on (item m (comment text)) (λ others none. none) (pair_before entries xs ys key other e n a)
+pair_before (malformed kind m ∷ entries) xs ys key other e n a = pair_before-on (malformed kind m) (λ others none. none) (pair_before entries xs ys key other e n a)
+pair_before (read_fault m ∷ entries) xs ys key other e n a = pair_before-on (read_fault m) (λ others none. none) (pair_before entries xs ys key other e n a)
 
 -- The keys of the pairs, each once in the order of their first pairs, are the keys of the entries.
 pub are-keys : (entries : List Entry) (all keys : List (List ℕ)) → pair_keys entries ≡ all → AreFirstOf all keys → AreKeys entries keys
@@ -129,13 +129,13 @@ are-keys entries all keys same h =
         (λ c. key-value key entries (subst (Has key) (sym same) (h.only key (contained key keys c)))),
         (λ v. contains key keys (h.every key (subst (Has key) (ap pair_keys (sym v.1.division) ∙ same) (value-key key v.0 v.1.number v.1.before v.1.after)))),
       );
-      in_order = λ i j d l m. let p = h.in_order i j d l m in stands entries p.before p.after _ _ (same ∙ p.division) p.none_before p.apart;
+      in_order = λ i j d l m. let p = h.in_order i j d l m in pair_before entries p.before p.after _ _ (same ∙ p.division) p.none_before p.differ;
     }
 
 -- ---- the keys of groups and their slots
 
 followed-key : (n : ℕ) (o : Outcome) (rest : List Entry) (keys : List (List ℕ)) → AreItems (followed n o rest) → (AreItems rest → pair_keys rest ≡ keys)
-    → pair_keys (followed n o rest) ≡ cons_option (key_told o) keys
+    → pair_keys (followed n o rest) ≡ cons_option (outcome_key o) keys
 followed-key n ignored rest keys a k = k a
 followed-key n (given (comment text)) rest keys a k = k a
 followed-key n (given (pair key value)) rest keys a k = ap (λ v. key ∷ v) (k a)
@@ -155,7 +155,7 @@ merged-keys e (g ∷ h ∷ gs) ((by, a, w), r) = elim (cases_Bool (are_one_endin
   | inl k ↦
       let m = one-ending g h k in
       let after = after-lf e h gs r m.by_lf in
-      let first : (slot_of (with_ending (Some crlf) g)).key ≡ (slot_of g).key = ap (λ v. key_told (outcome_of (joined v))) (texts-with (Some crlf) g) in
+      let first : (slot_of (with_ending (Some crlf) g)).key ≡ (slot_of g).key = ap (λ v. outcome_key (outcome_of (joined v))) (texts-with (Some crlf) g) in
       ap (λ v. slot_keys (slot_list v)) (merged-one g h gs k)
       ∙ ap (λ v. cons_option v (slot_keys (slot_list (merged gs)))) first
       ∙ ap (cons_option (slot_of g).key) (merged-keys e gs after ∙ ap (λ v. cons_option v (slot_keys (slot_list gs))) (sym (lf-key e h gs r m.empty)))
@@ -265,7 +265,7 @@ has-first cells key h = of-places (places key cells) refl
     of-places (i ∷ rest) e = (i, (rest, e))
 
 -- The first indices of two keys.
-record AreApart (cells : List Cell) (key other : List ℕ) : Type 0 where
+record HaveOrderedFirsts (cells : List Cell) (key other : List ℕ) : Type 0 where
   place : ℕ
   is_place : IsFirstPlace cells key place
   other_place : ℕ
@@ -273,7 +273,7 @@ record AreApart (cells : List Cell) (key other : List ℕ) : Type 0 where
   below : place < other_place
 
 -- A key whose first index is before that of another comes before it.
-comes-before : (cells : List Cell) (key other : List ℕ) → AreApart cells key other → ComesBefore (live_keys cells) key other
+comes-before : (cells : List Cell) (key other : List ℕ) → HaveOrderedFirsts cells key other → ComesBefore (live_keys cells) key other
 comes-before cells key other h =
     let m = first-cell key 0 cells h.place h.is_place.0 h.is_place.1 in
     let number = m.number in
@@ -283,7 +283,7 @@ comes-before cells key other h =
       after = live_keys m.after;
       division = ap live_keys m.division ∙ live-divided key m.before m.cell m.after m.has;
       none_before = no-slot other (live m.before) (places-none other 0 m.before (none-in (places_from other 0 m.before) refl));
-      apart = λ same. let e = sym h.is_place.1 ∙ ap (λ v. places v cells) same ∙ h.is_other.1 in let n : h.place ≡ h.other_place = cc in omega arith;
+      differ = λ same. let e = sym h.is_place.1 ∙ ap (λ v. places v cells) same ∙ h.is_other.1 in let n : h.place ≡ h.other_place = cc in omega arith;
     }
   where
     none-in : (ps : List ℕ) → places_from other 0 (first-cell key 0 cells h.place h.is_place.0 h.is_place.1).before ≡ ps
@@ -320,39 +320,39 @@ has-at (Some k ∷ firsts) key (inl e) = (0, ap Some e)
 has-at (Some k ∷ firsts) key (inr h) = let m = has-at firsts key h in (suc m.0, m.1)
 
 -- the keys from this index on, each of which has its first index there
-abbrev StandFrom : List Cell → ℕ → List (Option (List ℕ)) → Type 0
-StandFrom cells n firsts = (i : ℕ) (key : List ℕ) → get_or firsts i None ≡ Some key → IsFirstPlace cells key (n + i)
+abbrev AreFirstFrom : List Cell → ℕ → List (Option (List ℕ)) → Type 0
+AreFirstFrom cells n firsts = (i : ℕ) (key : List ℕ) → get_or firsts i None ≡ Some key → IsFirstPlace cells key (n + i)
 
-stand-next : (cells : List Cell) (n : ℕ) (o : Option (List ℕ)) (firsts : List (Option (List ℕ))) → StandFrom cells n (o ∷ firsts) → StandFrom cells (n + 1) firsts
-stand-next cells n o firsts h i key e = let m : n + suc i ≡ n + 1 + i = omega arith in subst (IsFirstPlace cells key) m (h (suc i) key e)
+are_first_from-next : (cells : List Cell) (n : ℕ) (o : Option (List ℕ)) (firsts : List (Option (List ℕ))) → AreFirstFrom cells n (o ∷ firsts) → AreFirstFrom cells (n + 1) firsts
+are_first_from-next cells n o firsts h i key e = let m : n + suc i ≡ n + 1 + i = omega arith in subst (IsFirstPlace cells key) m (h (suc i) key e)
 
 -- A key at an earlier index differs from each of them.
-later-keys : (cells : List Cell) (key : List ℕ) (place : ℕ) → IsFirstPlace cells key place → (n : ℕ) (firsts : List (Option (List ℕ))) → place < n → StandFrom cells n firsts
-    → AllByRecursion (AreApart cells key) (keys_at firsts)
+later-keys : (cells : List Cell) (key : List ℕ) (place : ℕ) → IsFirstPlace cells key place → (n : ℕ) (firsts : List (Option (List ℕ))) → place < n → AreFirstFrom cells n firsts
+    → AllByRecursion (HaveOrderedFirsts cells key) (keys_at firsts)
 later-keys cells key place p n [] l h = tt
-later-keys cells key place p n (None ∷ firsts) l h = later-keys cells key place p (n + 1) firsts (omega arith) (stand-next cells n None firsts h)
+later-keys cells key place p n (None ∷ firsts) l h = later-keys cells key place p (n + 1) firsts (omega arith) (are_first_from-next cells n None firsts h)
 later-keys cells key place p n (Some other ∷ firsts) l h = (
   record { place = place; is_place = p; other_place = n + 0; is_other = h 0 other refl; below = omega arith },
-  later-keys cells key place p (n + 1) firsts (omega arith) (stand-next cells n (Some other) firsts h),
+  later-keys cells key place p (n + 1) firsts (omega arith) (are_first_from-next cells n (Some other) firsts h),
 )
 
-all-apart : (cells : List Cell) (n : ℕ) (firsts : List (Option (List ℕ))) → StandFrom cells n firsts → AllPairs (AreApart cells) (keys_at firsts)
+all-apart : (cells : List Cell) (n : ℕ) (firsts : List (Option (List ℕ))) → AreFirstFrom cells n firsts → AllPairs (HaveOrderedFirsts cells) (keys_at firsts)
 all-apart cells n [] h = λ i j d l m. absurd (omega arith)
-all-apart cells n (None ∷ firsts) h = all-apart cells (n + 1) firsts (stand-next cells n None firsts h)
+all-apart cells n (None ∷ firsts) h = all-apart cells (n + 1) firsts (are_first_from-next cells n None firsts h)
 all-apart cells n (Some key ∷ firsts) h =
-    let next = stand-next cells n (Some key) firsts h in
-    AllPairs-cons (AreApart cells) key (keys_at firsts)
-    (All-from_recursion (AreApart cells key) (keys_at firsts) (later-keys cells key (n + 0) (h 0 key refl) (n + 1) firsts (omega arith) next))
+    let next = are_first_from-next cells n (Some key) firsts h in
+    AllPairs-cons (HaveOrderedFirsts cells) key (keys_at firsts)
+    (All-from_recursion (HaveOrderedFirsts cells key) (keys_at firsts) (later-keys cells key (n + 0) (h 0 key refl) (n + 1) firsts (omega arith) next))
     (all-apart cells (n + 1) firsts next)
 
 -- The keys at their first indices are the keys of the slots that are left.
 pub first-keys : (cells : List Cell) (firsts : List (Option (List ℕ))) → AreFirsts cells firsts → AreFirstOf (slot_keys (live cells)) (keys_at firsts)
 first-keys cells firsts h =
-    let apart = all-apart cells 0 firsts (λ i key e. let m : i ≡ 0 + i = omega arith in subst (IsFirstPlace cells key) m (h.only i key e)) in
+    let differ = all-apart cells 0 firsts (λ i key e. let m : i ≡ 0 + i = omega arith in subst (IsFirstPlace cells key) m (h.only i key e)) in
     record {
       only = λ key k. let m = has-at firsts key k in first-has cells key m.0 (h.only m.0 key m.1);
       every = λ key k. let m = has-first cells key k in at-has firsts m.0 key (h.every key m.0 m.1);
-      in_order = λ i j d l m. comes-before cells _ _ (apart i j d l m);
+      in_order = λ i j d l m. comes-before cells _ _ (differ i j d l m);
     }
 
 -- Two keys with the same first pair are equal.

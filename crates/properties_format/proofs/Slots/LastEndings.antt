@@ -13,7 +13,7 @@ use Rattle.properties_format.specs.Body.{HeldLine, as_lines, ending_bytes, held_
 use Rattle.properties_format.specs.Edited.{final_group, is_editable}
 use Rattle.properties_format.specs.Valued.{ending_among}
 use Rattle.properties_format.specs.Reading.Slots.{Slot, unended_bytes, slot_of, slot_list, is_by_cr, is_lf_alone, are_one_ending}
-use Rattle.properties_format.specs.Reading.Valued.{between_told, or_else, last_between}
+use Rattle.properties_format.specs.Reading.Valued.{between_if_pair, or_else, last_between}
 use Rattle.properties_format.specs.Reading.ValuedSlots.{slot_group, between_in_slot, last_slot_between, ending_past, ending_in_slots}
 use Rattle.properties_format.proofs.Lines.Plain.{ends_in_cr-append, plain-no_cr}
 use Rattle.properties_format.proofs.Split.Unique.{split_of-only}
@@ -21,7 +21,7 @@ use Rattle.properties_format.proofs.Body.Decoded.{decoded-nil}
 use Rattle.properties_format.proofs.Body.Groups.{IsLastFit}
 use Rattle.properties_format.proofs.Slots.Lines.{AreLinesBy, ending-of, unended-some, with_ending, texts-with, ending-with}
 use Rattle.properties_format.proofs.Slots.Merged.{AreInTurn, merged, merged-one, merged-two, one-ending, after-lf}
-use Rattle.properties_format.proofs.Slots.ReadAgain.{slot-group, slot-told}
+use Rattle.properties_format.proofs.Slots.ReadAgain.{slot-group, slot-between_if_pair}
 
 -- ---- the last line ending
 
@@ -187,42 +187,42 @@ slots-cr e by (g ∷ h ∷ gs) ok a k = slots-cr e (ending_past e by (slot_of g)
 -- ---- the last separator
 
 -- an LF alone is no pair
-told-alone : (e : Encoding) (o : Option LineEnding) (g : List HeldLine) → AreLinesBy e o g → unended_bytes g ≡ []
-    → between_told (split_of (joined (as_lines g))) (joined (as_lines g)) ≡ None
-told-alone e o [] a k = absurd a
-told-alone e o (h ∷ []) a k =
-    ap (λ v. between_told (split_of (joined (record { number = 0; text = v } ∷ []))) (joined (record { number = 0; text = v } ∷ [])))
+between-alone : (e : Encoding) (o : Option LineEnding) (g : List HeldLine) → AreLinesBy e o g → unended_bytes g ≡ []
+    → between_if_pair (split_of (joined (as_lines g))) (joined (as_lines g)) ≡ None
+between-alone e o [] a k = absurd a
+between-alone e o (h ∷ []) a k =
+    ap (λ v. between_if_pair (split_of (joined (record { number = 0; text = v } ∷ []))) (joined (record { number = 0; text = v } ∷ [])))
     (a.1 ∙ ap (decoded_line e) k ∙ decoded-nil e)
-    ∙ ap (λ v. between_told v []) (sym (split_of-only [] Logical.blank tt))
-told-alone e o (h ∷ i ∷ hs) a k = let m = unended-some e o (h ∷ i ∷ hs) a k in absurd (cc)
+    ∙ ap (λ v. between_if_pair v []) (sym (split_of-only [] Logical.blank tt))
+between-alone e o (h ∷ i ∷ hs) a k = let m = unended-some e o (h ∷ i ∷ hs) a k in absurd (cc)
 
 -- What stands between key and value of the last pair among the slots is that among the groups.
 pub last_between-slots : (e : Encoding) (gs : List (List HeldLine)) → is_editable e ≡ true → AreInTurn e gs
     → last_slot_between e (slot_list gs) ≡ last_between (merged gs)
 last_between-slots e [] ok a = absurd a
-last_between-slots e (g ∷ []) ok a = ap (or_else None) (slot-told e None g ok a.0 a.1)
+last_between-slots e (g ∷ []) ok a = ap (or_else None) (slot-between_if_pair e None g ok a.0 a.1)
 last_between-slots e (g ∷ h ∷ gs) ok ((own, a, w), r) = elim (cases_Bool (are_one_ending (slot_of g) (slot_of h))) [
   | inl one ↦
       let m = one-ending g h one in
       let told : last_slot_between e (slot_list (h ∷ gs)) ≡ last_between (merged gs) =
-      ap₂ or_else (last_between-slots e gs ok (after-lf e h gs r m.by_lf)) (first-told h gs r ∙ first-alone h gs r m.empty) ∙ or_else-none (last_between (merged gs)) in
-      ap₂ or_else told (slot-told e (Some own) g ok a (inl w))
-      ∙ ap (λ v. or_else (last_between (merged gs)) (between_told (split_of (joined v)) (joined v))) (sym (texts-with (Some crlf) g))
+      ap₂ or_else (last_between-slots e gs ok (after-lf e h gs r m.by_lf)) (first-between h gs r ∙ first-alone h gs r m.empty) ∙ or_else-none (last_between (merged gs)) in
+      ap₂ or_else told (slot-between_if_pair e (Some own) g ok a (inl w))
+      ∙ ap (λ v. or_else (last_between (merged gs)) (between_if_pair (split_of (joined v)) (joined v))) (sym (texts-with (Some crlf) g))
       ∙ ap last_between (sym (merged-one g h gs one))
   | inr two ↦
-      ap₂ or_else (last_between-slots e (h ∷ gs) ok r) (slot-told e (Some own) g ok a (inl w)) ∙ ap last_between (sym (merged-two g h gs two))
+      ap₂ or_else (last_between-slots e (h ∷ gs) ok r) (slot-between_if_pair e (Some own) g ok a (inl w)) ∙ ap last_between (sym (merged-two g h gs two))
 ]
   where
     or_else-none : (x : Option (List ℕ)) → or_else x None ≡ x
     or_else-none None = refl
     or_else-none (Some x) = refl
 
-    first-told : (h : List HeldLine) (gs : List (List HeldLine)) → AreInTurn e (h ∷ gs)
-        → between_in_slot e (slot_of h) ≡ between_told (split_of (joined (as_lines h))) (joined (as_lines h))
-    first-told h [] r = slot-told e None h ok r.0 r.1
-    first-told h (i ∷ gs) r = slot-told e (Some r.0.0) h ok r.0.1 (inl r.0.2)
+    first-between : (h : List HeldLine) (gs : List (List HeldLine)) → AreInTurn e (h ∷ gs)
+        → between_in_slot e (slot_of h) ≡ between_if_pair (split_of (joined (as_lines h))) (joined (as_lines h))
+    first-between h [] r = slot-between_if_pair e None h ok r.0 r.1
+    first-between h (i ∷ gs) r = slot-between_if_pair e (Some r.0.0) h ok r.0.1 (inl r.0.2)
 
     first-alone : (h : List HeldLine) (gs : List (List HeldLine)) → AreInTurn e (h ∷ gs) → unended_bytes h ≡ []
-        → between_told (split_of (joined (as_lines h))) (joined (as_lines h)) ≡ None
-    first-alone h [] r k = told-alone e None h r.0 k
-    first-alone h (i ∷ gs) r k = told-alone e (Some r.0.0) h r.0.1 k
+        → between_if_pair (split_of (joined (as_lines h))) (joined (as_lines h)) ≡ None
+    first-alone h [] r k = between-alone e None h r.0 k
+    first-alone h (i ∷ gs) r k = between-alone e (Some r.0.0) h r.0.1 k

@@ -8,9 +8,9 @@ use Rattle.properties_format.specs.Groups.{IsWhole, joined}
 use Rattle.properties_format.specs.Writing.{is_empty}
 use Rattle.properties_format.specs.Reading.Items.{outcome_of}
 use Rattle.properties_format.specs.Body.{HeldLine, as_lines, HasKey, NoneHasKey, ending_bytes, group_bytes, groups_bytes, last_ending}
-use Rattle.properties_format.specs.Edited.{pair_bytes, IsReplaced, IsAppended, final_group, is_empty_line, is_left_open, added_ending, parting, is_editable}
+use Rattle.properties_format.specs.Edited.{pair_bytes, IsReplaced, IsAppended, final_group, is_empty_line, is_left_open, added_ending, separation, is_editable}
 use Rattle.properties_format.specs.Reading.Edited.{KeyPlace, last_place}
-use Rattle.properties_format.specs.Reading.Slots.{Slot, ended_by, unended_bytes, key_told, slot_of, slot_list, safe_ending, closing_of, slots_of, is_first, last_slot, pair_slot, empty_slot, closed_slots, slots_put_at, is_by_lf, is_by_cr, are_one_ending}
+use Rattle.properties_format.specs.Reading.Slots.{Slot, ended_by, unended_bytes, outcome_key, slot_of, slot_list, safe_ending, closing_of, slots_of, is_first, last_slot, pair_slot, empty_slot, closed_slots, slots_put_at, is_by_lf, is_by_cr, are_one_ending}
 use Rattle.properties_format.proofs.Lines.Plain.{ends_in_cr-append, plain-no_cr}
 use Rattle.properties_format.proofs.Body.Groups.{as_lines-append, groups_bytes-append, group_bytes-append, EndsOpen, IsLastFit}
 use Rattle.properties_format.proofs.Edited.Pair.{pair_text, pair-whole, pair-plain, pair-decoded, pair-outcome}
@@ -38,7 +38,7 @@ pair-lines e first key value o ok k v = (pair-plain e first key value ok k v, sy
 pair-slot : (e : Encoding) (first : Bool) (key value : List ℕ) (o : Option LineEnding) → All scalar key → All scalar value
     → slot_of (pair_group e first key value o) ≡ pair_slot e first key value o
 pair-slot e first key value o k v =
-    ap (λ w. record { bytes = pair_bytes e first key value; ending = o; key = key_told w }) (pair-outcome e first key value k v)
+    ap (λ w. record { bytes = pair_bytes e first key value; ending = o; key = outcome_key w }) (pair-outcome e first key value k v)
 
 -- a text that has characters is told not to be empty
 pub some-empty : (x : List ℕ) → x ≢ [] → is_empty x ≡ false
@@ -308,7 +308,7 @@ unended-push (h ∷ i ∷ g) l n =
 record AreClosed (e : Encoding) (source : List ℕ) (gs : List (List HeldLine)) : Type 0 where
   groups : List (List HeldLine)
   are_ended : AreEnded e groups
-  bytes : groups_bytes groups ≡ groups_bytes gs ++ parting source (final_group gs)
+  bytes : groups_bytes groups ≡ groups_bytes gs ++ separation source (final_group gs)
   slots : slot_list groups ≡ closed_slots (closing_of (final_group gs)) (slot_list gs)
 
 -- the last group with an ending, as bytes and as a slot
@@ -324,7 +324,7 @@ pub slot-ended : (e : Encoding) (by : LineEnding) (g : List HeldLine) → AreLin
 slot-ended e by [] a = absurd a
 slot-ended e by (h ∷ hs) a =
     slot-same (slot_of (with_ending (Some by) (h ∷ hs))) (record { bytes = unended_bytes (h ∷ hs); ending = Some by; key = (slot_of (h ∷ hs)).key })
-    (unended-with (Some by) (h ∷ hs)) (ending-with (Some by) h hs) (ap (λ v. key_told (outcome_of (joined v))) (texts-with (Some by) (h ∷ hs)))
+    (unended-with (Some by) (h ∷ hs)) (ending-with (Some by) h hs) (ap (λ v. outcome_key (outcome_of (joined v))) (texts-with (Some by) (h ∷ hs)))
 
 -- a group with another last ending has lines still
 pub with-some : (o : Option LineEnding) (h : HeldLine) (hs : List HeldLine) → with_ending o (h ∷ hs) ≢ []
@@ -342,7 +342,7 @@ slot-closed e by (h ∷ hs) a u =
     slot-same (slot_of (w ++ l ∷ [])) (record { bytes = unended_bytes (h ∷ hs) ++ line_ending_text by; ending = Some by; key = (slot_of (h ∷ hs)).key })
     (unended-push w l (with-some (Some by) h hs) ∙ append-nil (group_bytes w) ∙ bytes-with (Some by) h hs)
     (last_ending-push w l)
-    (ap key_told
+    (ap outcome_key
     (ap (λ v. outcome_of (joined v)) (as_lines-append w (l ∷ []) ∙ ap (λ v. v ++ record { number = 0; text = [] } ∷ []) (texts-with (Some by) (h ∷ hs)))
     ∙ ap outcome_of (closed-by_empty (as_lines (h ∷ hs)) u).1))
 
@@ -403,10 +403,10 @@ close-last e source g a f same = elim (cases_Bool (is_empty_line g)) [
         ∙ sym (as_lines-append (with_ending (Some (safe_ending (group_bytes g))) g) (empty_group (Some (safe_ending (group_bytes g))))))
         (closed-by_empty (as_lines g) (fit-open g f y)).0
 
-    two : is_empty_line g ≡ false → is_left_open g ≡ true → parting source g ≡ added_ending source ++ added_ending source
+    two : is_empty_line g ≡ false → is_left_open g ≡ true → separation source g ≡ added_ending source ++ added_ending source
     two x y = rw (x, y) refl
 
-    one : is_empty_line g ≡ false → is_left_open g ≡ false → parting source g ≡ added_ending source
+    one : is_empty_line g ≡ false → is_left_open g ≡ false → separation source g ≡ added_ending source
     one x y = rw (x, y) refl
 
 -- Groups in turn are ended in this way.
@@ -420,7 +420,7 @@ close e source (g ∷ h ∷ gs) (a, r) same =
     record {
       groups = g ∷ m.groups;
       are_ended = (a, m.are_ended);
-      bytes = ap (λ v. group_bytes g ++ v) m.bytes ∙ sym (append_assoc (group_bytes g) (groups_bytes (h ∷ gs)) (parting source (final_group (h ∷ gs))));
+      bytes = ap (λ v. group_bytes g ++ v) m.bytes ∙ sym (append_assoc (group_bytes g) (groups_bytes (h ∷ gs)) (separation source (final_group (h ∷ gs))));
       slots = ap (λ v. slot_of g ∷ v) m.slots;
     }
 
@@ -440,7 +440,7 @@ appended e source key value gs ok k v alike a none = record {
         ∙ ap (λ w. groups_bytes m.groups ++ w) (append-nil (pair_bytes e first key value ++ line_feed ∷ []))
         ∙ ap (λ b. groups_bytes m.groups ++ (pair_bytes e b key value ++ line_feed ∷ [])) (sym (ended-first e m.groups m.are_ended))
         ∙ ap (λ w. w ++ (pair_bytes e (is_empty w) key value ++ line_feed ∷ []))
-        (m.bytes ∙ ap₂ (λ u w. u ++ parting source w) (sym (merged-bytes gs)) (sym (merged-final e gs a)));
+        (m.bytes ∙ ap₂ (λ u w. u ++ separation source w) (sym (merged-bytes gs)) (sym (merged-final e gs a)));
   };
   slots =
       ap₂ (λ u w. record { list = u; closing = w })

@@ -9,8 +9,8 @@ use Rattle.properties_format.specs.Reading.Items.{outcome_of}
 use Rattle.properties_format.specs.Body.{HeldLine, AreGroupsOf, as_lines, group_bytes, groups_bytes}
 use Rattle.properties_format.specs.Edited.{final_group, is_editable}
 use Rattle.properties_format.specs.Reading.Body.{held_groups_of}
-use Rattle.properties_format.specs.Reading.Slots.{unended_bytes, key_told, slot_of, slot_list}
-use Rattle.properties_format.specs.Reading.Valued.{between_in, between_told, front_of, between_of, is_pair_to, has_value}
+use Rattle.properties_format.specs.Reading.Slots.{unended_bytes, outcome_key, slot_of, slot_list}
+use Rattle.properties_format.specs.Reading.Valued.{between_in, between_if_pair, front_of, between_of, is_pair_to, has_value}
 use Rattle.properties_format.specs.Reading.ValuedSlots.{slot_group, between_in_slot, IsReadAgain, AreReadAgain}
 use Rattle.properties_format.proofs.Body.Groups.{EndsOpen, IsLastFit, held_groups_of-only}
 use Rattle.properties_format.proofs.Slots.Lines.{AreLinesBy, bytes-of, with_ending, texts-with, unended-with, lines-with}
@@ -51,9 +51,9 @@ pub slot-between : (e : Encoding) (o : Option LineEnding) (g : List HeldLine) �
 slot-between e o g ok a f = ap (λ v. between_in (joined v)) (slot-texts e o g ok a f)
 
 -- if it is a pair
-pub slot-told : (e : Encoding) (o : Option LineEnding) (g : List HeldLine) → is_editable e ≡ true → AreLinesBy e o g → IsLastFit g
-    → between_in_slot e (slot_of g) ≡ between_told (split_of (joined (as_lines g))) (joined (as_lines g))
-slot-told e o g ok a f = ap (λ v. between_told (split_of (joined v)) (joined v)) (slot-texts e o g ok a f)
+pub slot-between_if_pair : (e : Encoding) (o : Option LineEnding) (g : List HeldLine) → is_editable e ≡ true → AreLinesBy e o g → IsLastFit g
+    → between_in_slot e (slot_of g) ≡ between_if_pair (split_of (joined (as_lines g))) (joined (as_lines g))
+slot-between_if_pair e o g ok a f = ap (λ v. between_if_pair (split_of (joined v)) (joined v)) (slot-texts e o g ok a f)
 
 -- ---- the front
 
@@ -98,7 +98,7 @@ slot-read_again : (e : Encoding) (o : Option LineEnding) (g : List HeldLine) →
 slot-read_again e o g ok a f = record {
   group = with_ending None g;
   is_group = read-again e o g ok a f;
-  key_is = ap (λ v. key_told (outcome_of (joined v))) (sym (texts-with None g));
+  key_is = ap (λ v. outcome_key (outcome_of (joined v))) (sym (texts-with None g));
 }
 
 -- The slots of groups in turn are read again so.

@@ -13,10 +13,10 @@ use Rattle.properties_format.specs.Edits.{remove}
 use Rattle.properties_format.specs.Reading.Cut.{decoded_line}
 use Rattle.properties_format.specs.Reading.Body.{is_pair_with, has_key}
 use Rattle.properties_format.specs.Reading.Edited.{without}
-use Rattle.properties_format.specs.Reading.Slots.{Closing, left_out, unended_bytes, key_told, slot_of, slot_list, closing_of, slots_of, slot_has, empty_slot, are_one_ending, slots_without, last_has, slots_guarded}
+use Rattle.properties_format.specs.Reading.Slots.{Closing, left_out, unended_bytes, outcome_key, slot_of, slot_list, closing_of, slots_of, slot_has, empty_slot, are_one_ending, slots_without, last_has, slots_guarded}
 use Rattle.properties_format.specs.Reading.EditedSlots.{slots_edited}
 use Rattle.properties_format.proofs.Body.Decoded.{decoded-nil}
-use Rattle.properties_format.proofs.Edited.Told.{outcome-empty}
+use Rattle.properties_format.proofs.Edited.Outcomes.{outcome-empty}
 use Rattle.properties_format.proofs.Edited.ByteOrderMarks.{ending-cut}
 use Rattle.properties_format.proofs.Slots.Lines.{AreLinesBy, bytes-of, ending-of, unended-some, with_ending, texts-with}
 use Rattle.properties_format.proofs.Slots.Merged.{IsEndedGroup, AreInTurn, merged, merged-one, merged-two, one-ending, one-bytes, after-lf, final-next, turn-some}
@@ -27,7 +27,7 @@ use Rattle.properties_format.proofs.Slots.Merged.{IsEndedGroup, AreInTurn, merge
 pub slot-has : (key : List ℕ) (g : List HeldLine) → slot_has key (slot_of g) ≡ has_key key g
 slot-has key g = of-outcome (outcome_of (joined (as_lines g)))
   where
-    of-outcome : (o : Outcome) → slot_has key (record { bytes = unended_bytes g; ending = last_ending g; key = key_told o }) ≡ is_pair_with key o
+    of-outcome : (o : Outcome) → slot_has key (record { bytes = unended_bytes g; ending = last_ending g; key = outcome_key o }) ≡ is_pair_with key o
     of-outcome ignored = refl
     of-outcome (given (comment text)) = refl
     of-outcome (given (pair k v)) = refl
@@ -47,7 +47,7 @@ empty-whole o = inr (refl, refl)
 
 -- Its slot is an empty one.
 pub empty-slot : (o : Option LineEnding) → slot_of (empty_group o) ≡ empty_slot o
-empty-slot o = ap (λ v. record { bytes = []; ending = o; key = key_told v }) outcome-empty
+empty-slot o = ap (λ v. record { bytes = []; ending = o; key = outcome_key v }) outcome-empty
 
 -- A group before groups in turn.
 pub turn-before : (e : Encoding) (g : List HeldLine) (gs : List (List HeldLine)) → IsEndedGroup e g → AreInTurn e gs → AreInTurn e (g ∷ gs)

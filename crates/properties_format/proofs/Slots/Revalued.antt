@@ -16,7 +16,7 @@ use Rattle.properties_format.specs.Body.{HeldLine, as_lines, HasKey, NoneHasKey,
 use Rattle.properties_format.specs.Edited.{final_group, is_empty_line, is_last_open, is_left_open, is_editable}
 use Rattle.properties_format.specs.Valued.{value_text, HasPair}
 use Rattle.properties_format.specs.Reading.Edited.{KeyPlace, last_place}
-use Rattle.properties_format.specs.Reading.Slots.{is_lf_alone, ended_by, unended_bytes, key_told, slot_of, slot_list, closing_of, slots_of, is_first, last_slot, are_one_ending}
+use Rattle.properties_format.specs.Reading.Slots.{is_lf_alone, ended_by, unended_bytes, outcome_key, slot_of, slot_list, closing_of, slots_of, is_first, last_slot, are_one_ending}
 use Rattle.properties_format.specs.Reading.Valued.{front_of, between_of, between_in, has_value}
 use Rattle.properties_format.specs.Reading.ValuedSlots.{slot_group, revalued_slot, slots_valued_at}
 use Rattle.properties_format.proofs.Lines.Plain.{plain-no_lf, plain-no_cr, ends_in_cr-append}
@@ -27,7 +27,7 @@ use Rattle.properties_format.proofs.Slots.Lines.{AreLinesBy, first-none, ending-
 use Rattle.properties_format.proofs.Slots.Merged.{AreInTurn, merged, merged-one, merged-two, one-ending, merged-bytes, merged-none}
 use Rattle.properties_format.proofs.Slots.Places.{last_slot-some}
 use Rattle.properties_format.proofs.Slots.Removed.{slot-has}
-use Rattle.properties_format.proofs.Slots.Apart.{some-alone, apart-changed}
+use Rattle.properties_format.proofs.Slots.Unmerged.{some-alone, unmerged-changed}
 use Rattle.properties_format.proofs.Slots.Put.{some-empty, ended-turn, turn-split, slot_list-append, final-after, none-slots, pair-no_lf, merged-split, slot-same}
 use Rattle.properties_format.proofs.Slots.ReadAgain.{slot-value, slot-between, lines-decoded, decoded-with, front-with, slot-front}
 use Rattle.properties_format.proofs.Slots.AddedValue.{AreValued, valued-added}
@@ -124,8 +124,8 @@ record IsRevaluedGroup (e : Encoding) (o : Option LineEnding) (value : List ℕ)
   bytes : group_bytes group ≡ front_of e g ++ (encoded_text e (value_text e (between_of g) value) ++ ending_bytes o)
 
 -- the key that a group's slot has
-key-slot : (key : List ℕ) (g : List HeldLine) → HasKey key g → key_told (outcome_of (joined (as_lines g))) ≡ Some key
-key-slot key g h = ap key_told (sym (outcome_of-only (joined (as_lines g)) (given (pair key h.0)) h.1))
+key-slot : (key : List ℕ) (g : List HeldLine) → HasKey key g → outcome_key (outcome_of (joined (as_lines g))) ≡ Some key
+key-slot key g h = ap outcome_key (sym (outcome_of-only (joined (as_lines g)) (given (pair key h.0)) h.1))
 
 -- each pair has such a group
 revalued-group : (e : Encoding) (o : Option LineEnding) (key value : List ℕ) (g : List HeldLine) → is_editable e ≡ true → All scalar value → AreLinesBy e o g
@@ -262,7 +262,7 @@ valued-there e key value before g after ok a has no_later k =
     record {
       groups = gs;
       in_turn = a;
-      apart = λ q. q;
+      unmerged = λ q. q;
       edited = inl (record {
         before = merged before;
         group = with_ending at.ending g;
@@ -300,7 +300,7 @@ valued-other e key value before g after ok v a has no_later k =
     record {
       groups = before ++ m.group ∷ after;
       in_turn = ended-turn e before (m.group ∷ after) t.0 (s.changed m.group m.lines m.whole);
-      apart = λ q. apart-changed before g m.group after q m.some (ending-of e s.ending m.group m.lines ∙ sym (ending-of e s.ending g s.lines));
+      unmerged = λ q. unmerged-changed before g m.group after q m.some (ending-of e s.ending m.group m.lines ∙ sym (ending-of e s.ending g s.lines));
       edited = inr (inl (record {
         before = merged before;
         group = w;

@@ -14,7 +14,7 @@ use Rattle.properties_format.specs.Reading.Valued.{valued_at}
 use Rattle.properties_format.specs.Reading.ValuedSlots.{slots_valued, AreReadAgain}
 use Rattle.properties_format.proofs.Body.Groups.{held_groups_of-meets, held_groups_of-only, held-body}
 use Rattle.properties_format.proofs.Slots.Merged.{AreInTurn, in-turn, merged, merged-groups}
-use Rattle.properties_format.proofs.Slots.Apart.{apart-merged, merged-apart}
+use Rattle.properties_format.proofs.Slots.Unmerged.{unmerged-merged, merged-unmerged}
 use Rattle.properties_format.proofs.Slots.Edits.{slots-bytes, reached}
 use Rattle.properties_format.proofs.Slots.WellEnded.{turn-well_ended, turn-left_out}
 use Rattle.properties_format.proofs.Slots.ReadAgain.{turn-read_again}
@@ -57,7 +57,7 @@ valued-slots e key value body ok k v =
     valued-only e body key value gs (groups_bytes m.groups) ok held (subst (λ w. IsBodyValued e w key value (groups_bytes m.groups)) same m.edited) in
     let own : m.groups ≡ held_groups_of e (groups_bytes m.groups) =
     held_groups_of-only e (groups_bytes m.groups) m.groups
-    (subst (AreGroupsOf e (groups_bytes m.groups)) (apart-merged m.groups (m.apart (merged-apart gs same))) (merged-groups e m.groups ok m.in_turn)) in
+    (subst (AreGroupsOf e (groups_bytes m.groups)) (unmerged-merged m.groups (m.unmerged (merged-unmerged gs same))) (merged-groups e m.groups ok m.in_turn)) in
     ap slots_of (ap (held_groups_of e) (sym bytes) ∙ sym own) ∙ m.slots
 
 -- No LF alone among them is a pair, and the last has no ending.

@@ -10,10 +10,11 @@ use Rattle.properties_format.specs.Reading.Cut.{decoded_line}
 use Rattle.properties_format.specs.Body.{HeldLine, group_bytes, last_ending}
 use Rattle.properties_format.specs.Edited.{final_group, is_empty_line, is_left_open, is_editable}
 use Rattle.properties_format.specs.Edits.{Edit, AreScalarEdits}
-use Rattle.properties_format.specs.Reading.Slots.{unended_bytes, key_told, slot_of, slot_list, left_out, ended_by, closed_by, safe_ending, closing_of, AreWellEnded, IsWellEnded, final_slot, is_by_lf}
+use Rattle.properties_format.specs.Reading.Slots.{unended_bytes, outcome_key, slot_of, slot_list, left_out, ended_by, closed_by, safe_ending, closing_of, AreWellEnded, IsWellEnded, final_slot}
+use Rattle.properties_format.specs.Reading.Slots.{is_by_lf}
 use Rattle.properties_format.specs.Reading.EditedSlots.{slots_after}
 use Rattle.properties_format.proofs.Body.Decoded.{decoded-nil}
-use Rattle.properties_format.proofs.Edited.Told.{outcome-empty}
+use Rattle.properties_format.proofs.Edited.Outcomes.{outcome-empty}
 use Rattle.properties_format.proofs.Slots.Lines.{AreLinesBy, ending-of, unended-some}
 use Rattle.properties_format.proofs.Slots.Merged.{AreInTurn, empty-is}
 use Rattle.properties_format.proofs.Slots.Edits.{reached}
@@ -22,7 +23,7 @@ use Rattle.properties_format.proofs.Slots.Edits.{reached}
 pub empty-key : (e : Encoding) (o : Option LineEnding) (g : List HeldLine) → AreLinesBy e o g → unended_bytes g ≡ [] → (slot_of g).key ≡ None
 empty-key e o [] a k = absurd a
 empty-key e o (h ∷ []) a k =
-    ap (λ v. key_told (outcome_of (joined (record { number = 0; text = v } ∷ [])))) (a.1 ∙ ap (decoded_line e) k ∙ decoded-nil e) ∙ ap key_told outcome-empty
+    ap (λ v. outcome_key (outcome_of (joined (record { number = 0; text = v } ∷ [])))) (a.1 ∙ ap (decoded_line e) k ∙ decoded-nil e) ∙ ap outcome_key outcome-empty
 empty-key e o (h ∷ i ∷ hs) a k = let m = unended-some e o (h ∷ i ∷ hs) a k in absurd (cc)
 
 -- of groups in turn no LF alone is a pair, and the last slot has no ending

@@ -13,11 +13,11 @@ use Rattle.properties_format.specs.Edited.{final_group, is_empty_line, is_left_o
 use Rattle.properties_format.specs.Items.{ignored}
 use Rattle.properties_format.specs.Reading.Items.{outcome_of}
 use Rattle.properties_format.specs.Reading.Body.{held_of}
-use Rattle.properties_format.specs.Valued.{ending_among, ending_in, parted_by}
+use Rattle.properties_format.specs.Valued.{ending_among, ending_in, separation_by}
 use Rattle.properties_format.proofs.Body.Decoded.{decoded-nil}
 use Rattle.properties_format.proofs.Body.Groups.{IsLastFit, AreFit, held_ended, cut-off, lines-front, group_bytes-append, groups_bytes-append}
-use Rattle.properties_format.proofs.Edited.Told.{told_before, told_by, outcome-empty}
-use Rattle.properties_format.proofs.Edited.Contents.{fit-closed, fit-open, closed-by_empty, told_by-append}
+use Rattle.properties_format.proofs.Edited.Outcomes.{outcome_before, outcomes_of, outcome-empty}
+use Rattle.properties_format.proofs.Edited.Contents.{fit-closed, fit-open, closed-by_empty, outcomes_of-append}
 use Rattle.properties_format.proofs.Edited.Steps.{final_group-push}
 use Rattle.properties_format.proofs.Valued.Lined.{AreLined, last_by, lines-join, held_ended-append, held_in-append, AreAllWhole, fit-parts}
 
@@ -89,8 +89,8 @@ pub record AreClosed (e : Encoding) (gs : List (List HeldLine)) (closed : List (
   pub held : held_in closed ≡ held_ended e lines
   pub are_lines : AreLines lines []
   pub whole : AreAllWhole closed
-  pub bytes : groups_bytes closed ≡ groups_bytes gs ++ parted_by (ending_in gs) (final_group gs)
-  pub told : told_by (as_groups closed) ≡ told_by (as_groups gs)
+  pub bytes : groups_bytes closed ≡ groups_bytes gs ++ separation_by (ending_in gs) (final_group gs)
+  pub outcomes : outcomes_of (as_groups closed) ≡ outcomes_of (as_groups gs)
 
 -- If a line ending is added after the last line, it comes after the lines' bytes.
 ended-bytes : (e : Encoding) (by : LineEnding) (ls : List Ended) (last : List ℕ)
@@ -106,8 +106,8 @@ ended-bytes e by (l ∷ m ∷ ls) last =
     ∙ sym (append_assoc l.text (line_ending_text l.by ++ group_bytes (held_of e (m ∷ ls) last)) (line_ending_text by))
 
 -- The outcome of an empty line before others.
-pub told-empty : (e : Encoding) (o : Option LineEnding) → outcome_of (joined (as_lines (empty_line e o ∷ []))) ≡ ignored
-told-empty e o = ap (λ v. outcome_of (joined (record { number = 0; text = v } ∷ []))) (decoded-nil e) ∙ outcome-empty
+pub outcomes-empty : (e : Encoding) (o : Option LineEnding) → outcome_of (joined (as_lines (empty_line e o ∷ []))) ≡ ignored
+outcomes-empty e o = ap (λ v. outcome_of (joined (record { number = 0; text = v } ∷ []))) (decoded-nil e) ∙ outcome-empty
 
 -- The last group is an empty line, which is the last line of a body.
 empty-held : (e : Encoding) (ls : List Ended) (last : List ℕ) → is_empty_line (held_of e ls last) ≡ true → (ls ≡ []) × (last ≡ [])
@@ -143,16 +143,16 @@ fit-lines [] (inr k) q = k
 fit-lines (h ∷ g) k q = absurd (cc)
 
 -- Nothing separates a pair from an empty line.
-parted-none : (x : List ℕ) (g : List HeldLine) → is_empty_line g ≡ true → parted_by x g ≡ []
-parted-none x g h = rw h refl
+separation_by-none : (x : List ℕ) (g : List HeldLine) → is_empty_line g ≡ true → separation_by x g ≡ []
+separation_by-none x g h = rw h refl
 
 -- Two line endings separate a pair from a group that is left open.
-parted-two : (x : List ℕ) (g : List HeldLine) → is_empty_line g ≡ false → is_left_open g ≡ true → parted_by x g ≡ x ++ x
-parted-two x g h k = rw (h, k) refl
+separation_by-two : (x : List ℕ) (g : List HeldLine) → is_empty_line g ≡ false → is_left_open g ≡ true → separation_by x g ≡ x ++ x
+separation_by-two x g h k = rw (h, k) refl
 
 -- One line ending separates a pair from any other group.
-parted-one : (x : List ℕ) (g : List HeldLine) → is_empty_line g ≡ false → is_left_open g ≡ false → parted_by x g ≡ x
-parted-one x g h k = rw (h, k) refl
+separation_by-one : (x : List ℕ) (g : List HeldLine) → is_empty_line g ≡ false → is_left_open g ≡ false → separation_by x g ≡ x
+separation_by-one x g h k = rw (h, k) refl
 
 -- If groups are those of their bytes, they are ended in this way.
 pub closed-groups : (e : Encoding) (gs : List (List HeldLine)) → AreLined e gs → (closed : List (List HeldLine)) × AreClosed e gs closed
@@ -173,7 +173,7 @@ closed-groups e (g1 ∷ gs1) h = of-parts (last-group g1 gs1)
     of-closing init g front back s all a b w fit by by_is text closed (goes k) =
         let m = empty-held e back h.last (ap is_empty_line (sym b) ∙ k) in
         let none : group_bytes g ≡ [] = ap group_bytes (b ∙ ap₂ (held_of e) m.0 m.1) in
-        let told_g : outcome_of (joined (as_lines g)) ≡ ignored = ap (λ v. outcome_of (joined (as_lines v))) (b ∙ ap₂ (held_of e) m.0 m.1) ∙ told-empty e None in
+        let told_g : outcome_of (joined (as_lines g)) ≡ ignored = ap (λ v. outcome_of (joined (as_lines v))) (b ∙ ap₂ (held_of e) m.0 m.1) ∙ outcomes-empty e None in
         record {
           lines = front;
           held = ap held_in (append-nil init) ∙ a;
@@ -186,13 +186,13 @@ closed-groups e (g1 ∷ gs1) h = of-parts (last-group g1 gs1)
               ∙ sym (groups_bytes-append init (g ∷ []))
               ∙ ap groups_bytes (sym s)
               ∙ sym (append-nil (groups_bytes gs))
-              ∙ ap (λ v. groups_bytes gs ++ v) (sym (ap (parted_by (ending_in gs)) (ap final_group s ∙ final_group-push init g) ∙ parted-none (ending_in gs) g k));
-          told =
-              ap (λ v. told_by (as_groups v)) (append-nil init)
-              ∙ sym (append-nil (told_by (as_groups init)))
-              ∙ ap (λ v. told_by (as_groups init) ++ told_before v []) (sym told_g)
-              ∙ sym (told_by-append init (g ∷ []))
-              ∙ ap (λ v. told_by (as_groups v)) (sym s);
+              ∙ ap (λ v. groups_bytes gs ++ v) (sym (ap (separation_by (ending_in gs)) (ap final_group s ∙ final_group-push init g) ∙ separation_by-none (ending_in gs) g k));
+          outcomes =
+              ap (λ v. outcomes_of (as_groups v)) (append-nil init)
+              ∙ sym (append-nil (outcomes_of (as_groups init)))
+              ∙ ap (λ v. outcomes_of (as_groups init) ++ outcome_before v []) (sym told_g)
+              ∙ sym (outcomes_of-append init (g ∷ []))
+              ∙ ap (λ v. outcomes_of (as_groups v)) (sym s);
         }
     of-closing init g front back s all a b w fit by by_is text closed (ends k m) =
         let n : Ended = record { text = h.last; by = by } in
@@ -215,12 +215,12 @@ closed-groups e (g1 ∷ gs1) h = of-parts (last-group g1 gs1)
               ∙ ap (λ v. groups_bytes init ++ (v ++ ending_in gs)) (sym (append-nil (group_bytes g)))
               ∙ sym (append_assoc (groups_bytes init) (groups_bytes (g ∷ [])) (ending_in gs))
               ∙ ap (λ v. v ++ ending_in gs) (sym (groups_bytes-append init (g ∷ [])) ∙ ap groups_bytes (sym s))
-              ∙ ap (λ v. groups_bytes gs ++ v) (sym (ap (parted_by (ending_in gs)) (ap final_group s ∙ final_group-push init g) ∙ parted-one (ending_in gs) g k m));
-          told =
-              told_by-append init (ended_with by g ∷ [])
-              ∙ ap (λ v. told_by (as_groups init) ++ told_before (outcome_of (joined v)) []) (ended-texts by g)
-              ∙ sym (told_by-append init (g ∷ []))
-              ∙ ap (λ v. told_by (as_groups v)) (sym s);
+              ∙ ap (λ v. groups_bytes gs ++ v) (sym (ap (separation_by (ending_in gs)) (ap final_group s ∙ final_group-push init g) ∙ separation_by-one (ending_in gs) g k m));
+          outcomes =
+              outcomes_of-append init (ended_with by g ∷ [])
+              ∙ ap (λ v. outcomes_of (as_groups init) ++ outcome_before (outcome_of (joined v)) []) (ended-texts by g)
+              ∙ sym (outcomes_of-append init (g ∷ []))
+              ∙ ap (λ v. outcomes_of (as_groups v)) (sym s);
         }
     of-closing init g front back s all a b w fit by by_is text closed (closes k m) =
         let n : Ended = record { text = h.last; by = by } in
@@ -255,12 +255,12 @@ closed-groups e (g1 ∷ gs1) h = of-parts (last-group g1 gs1)
               ∙ ap (λ v. groups_bytes init ++ (v ++ (ending_in gs ++ ending_in gs))) (sym (append-nil (group_bytes g)))
               ∙ sym (append_assoc (groups_bytes init) (groups_bytes (g ∷ [])) (ending_in gs ++ ending_in gs))
               ∙ ap (λ v. v ++ (ending_in gs ++ ending_in gs)) (sym (groups_bytes-append init (g ∷ [])) ∙ ap groups_bytes (sym s))
-              ∙ ap (λ v. groups_bytes gs ++ v) (sym (ap (parted_by (ending_in gs)) (ap final_group s ∙ final_group-push init g) ∙ parted-two (ending_in gs) g k m));
-          told =
-              told_by-append init (x ∷ [])
-              ∙ ap (λ v. told_by (as_groups init) ++ told_before (outcome_of v) []) (ap joined texts ∙ c.1)
-              ∙ sym (told_by-append init (g ∷ []))
-              ∙ ap (λ v. told_by (as_groups v)) (sym s);
+              ∙ ap (λ v. groups_bytes gs ++ v) (sym (ap (separation_by (ending_in gs)) (ap final_group s ∙ final_group-push init g) ∙ separation_by-two (ending_in gs) g k m));
+          outcomes =
+              outcomes_of-append init (x ∷ [])
+              ∙ ap (λ v. outcomes_of (as_groups init) ++ outcome_before (outcome_of v) []) (ap joined texts ∙ c.1)
+              ∙ sym (outcomes_of-append init (g ∷ []))
+              ∙ ap (λ v. outcomes_of (as_groups v)) (sym s);
         }
 
     of-parts : (init : List (List HeldLine)) × (final : List HeldLine) × (gs ≡ init ++ final ∷ []) → (closed : List (List HeldLine)) × AreClosed e gs closed

@@ -9,20 +9,20 @@ use Rattle.properties_format.specs.Lines.{Ended}
 use Rattle.properties_format.specs.Groups.{IsWhole, joined}
 use Rattle.properties_format.specs.Entries.{Content, pair}
 use Rattle.properties_format.specs.Items.{given}
-use Rattle.properties_format.specs.Printing.{encoded_text, spelt_key}
+use Rattle.properties_format.specs.Printing.{encoded_text, printed_key}
 use Rattle.properties_format.specs.Writing.{is_empty}
 use Rattle.properties_format.specs.Body.{HeldLine, as_lines, as_groups, held_in, AreGroupsOf, group_bytes, groups_bytes, ending_bytes, last_ending, HasKey, NoneHasKey}
 use Rattle.properties_format.specs.Edited.{final_group, is_editable}
 use Rattle.properties_format.specs.Changed.{IsSetIn}
-use Rattle.properties_format.specs.Valued.{spelt_value, value_text, HasPair, IsThere, IsRevalued, ending_among, ending_in, parted_by, IsBodyValued}
+use Rattle.properties_format.specs.Valued.{printed_value, value_text, HasPair, IsThere, IsRevalued, ending_among, ending_in, separation_by, IsBodyValued}
 use Rattle.properties_format.specs.Reading.Edited.{KeyPlace, last_place}
 use Rattle.properties_format.specs.Reading.Valued.{last_between, separator_by, has_value, revalued_at, added_at, valued_at}
 use Rattle.properties_format.proofs.Items.Unique.{outcome_of-only}
 use Rattle.properties_format.proofs.Printing.Characters.{encoded_text-append}
 use Rattle.properties_format.proofs.Body.Decoded.{decoded-nil}
 use Rattle.properties_format.proofs.Body.Groups.{IsLastFit, AreFit, group_bytes-append, groups_bytes-append}
-use Rattle.properties_format.proofs.Edited.Told.{told_before, told_by, givens}
-use Rattle.properties_format.proofs.Edited.Contents.{told_by-append, givens-append, givens-parted, key-outcome, none-hold}
+use Rattle.properties_format.proofs.Edited.Outcomes.{outcome_before, outcomes_of, givens}
+use Rattle.properties_format.proofs.Edited.Contents.{outcomes_of-append, givens-append, givens-parted, key-outcome, none-hold}
 use Rattle.properties_format.proofs.Edited.Made.{last_place-none, last_place-some}
 use Rattle.properties_format.proofs.Valued.Fronts.{front_of-only}
 use Rattle.properties_format.proofs.Valued.Made.{group-decoded, has_value-true, new_separator-meets, valued-only}
@@ -31,32 +31,32 @@ use Rattle.properties_format.proofs.Valued.Lined.{fit-join, fit-parts, fit-first
 use Rattle.properties_format.proofs.Valued.Revalued.{between_after, value_after, missing}
 use Rattle.properties_format.proofs.Valued.Pair.{after-bytes, new_bytes, new_line, changed-pair}
 use Rattle.properties_format.proofs.Valued.Separators.{added_bytes, added_line, added-pair, new_separator-fit}
-use Rattle.properties_format.proofs.Valued.Added.{empty_line, told-empty, closed-groups}
+use Rattle.properties_format.proofs.Valued.Added.{empty_line, outcomes-empty, closed-groups}
 
 -- ---- their outcomes
 
 -- the outcomes of these groups are contents with this property
-abbrev pub AreTold : List (List HeldLine) → (List Content → Type 0) → Type 0
-AreTold gs Such = (new : List Content) × Such new × (told_by (as_groups gs) ≡ givens new)
+abbrev pub HaveContents : List (List HeldLine) → (List Content → Type 0) → Type 0
+HaveContents gs Such = (new : List Content) × Such new × (outcomes_of (as_groups gs) ≡ givens new)
 
 -- If the last pair with a key has a value, or gets it, the contents are those with the key set to it.
-pub pair-told : (before : List (List HeldLine)) (g h : List HeldLine) (after : List (List HeldLine)) (key value : List ℕ) (old : List Content)
-    → HasKey key g → NoneHasKey key after → HasPair key value h → told_by (as_groups (before ++ g ∷ after)) ≡ givens old
-    → AreTold (before ++ h ∷ after) (IsSetIn key value old)
-pair-told before g h after key value old k n p t =
+pub pair-outcomes : (before : List (List HeldLine)) (g h : List HeldLine) (after : List (List HeldLine)) (key value : List ℕ) (old : List Content)
+    → HasKey key g → NoneHasKey key after → HasPair key value h → outcomes_of (as_groups (before ++ g ∷ after)) ≡ givens old
+    → HaveContents (before ++ h ∷ after) (IsSetIn key value old)
+pair-outcomes before g h after key value old k n p t =
     let a = key-outcome key g k in
-    let s : told_by (as_groups before) ++ given (pair key a.0) ∷ told_by (as_groups after) ≡ givens old =
-    ap (λ w. told_by (as_groups before) ++ told_before w (told_by (as_groups after))) (sym a.1) ∙ sym (told_by-append before (g ∷ after)) ∙ t in
-    let m = givens-parted (told_by (as_groups before)) (given (pair key a.0) ∷ told_by (as_groups after)) old s in
-    of_back m.front m.back a.0 m.whole m.front_told m.back_told
+    let s : outcomes_of (as_groups before) ++ given (pair key a.0) ∷ outcomes_of (as_groups after) ≡ givens old =
+    ap (λ w. outcomes_of (as_groups before) ++ outcome_before w (outcomes_of (as_groups after))) (sym a.1) ∙ sym (outcomes_of-append before (g ∷ after)) ∙ t in
+    let m = givens-parted (outcomes_of (as_groups before)) (given (pair key a.0) ∷ outcomes_of (as_groups after)) old s in
+    of_back m.front m.back a.0 m.whole m.front_given m.back_given
   where
-    of_back : (front back : List Content) (old_value : List ℕ) → old ≡ front ++ back → told_by (as_groups before) ≡ givens front
-        → given (pair key old_value) ∷ told_by (as_groups after) ≡ givens back
-        → AreTold (before ++ h ∷ after) (IsSetIn key value old)
+    of_back : (front back : List Content) (old_value : List ℕ) → old ≡ front ++ back → outcomes_of (as_groups before) ≡ givens front
+        → given (pair key old_value) ∷ outcomes_of (as_groups after) ≡ givens back
+        → HaveContents (before ++ h ∷ after) (IsSetIn key value old)
     of_back front [] old_value w ft bt = absurd (cc)
     of_back front (c ∷ back) old_value w ft bt =
         let x : pair key old_value ≡ c = cc in
-        let q : told_by (as_groups after) ≡ givens back = cc in (
+        let q : outcomes_of (as_groups after) ≡ givens back = cc in (
           front ++ pair key value ∷ back,
           inl (record {
             before = front;
@@ -66,8 +66,8 @@ pair-told before g h after key value old k n p t =
             no_later = none-hold key after back n q;
             now = refl;
           }),
-          told_by-append before (h ∷ after)
-              ∙ ap₂ (λ y z. y ++ told_before z (told_by (as_groups after))) ft (sym (outcome_of-only (joined (as_lines h)) (given (pair key value)) p))
+          outcomes_of-append before (h ∷ after)
+              ∙ ap₂ (λ y z. y ++ outcome_before z (outcomes_of (as_groups after))) ft (sym (outcome_of-only (joined (as_lines h)) (given (pair key value)) p))
               ∙ ap (λ y. givens front ++ given (pair key value) ∷ y) q
               ∙ sym (givens-append front (pair key value ∷ back)),
         )
@@ -84,7 +84,7 @@ IsNotAt value (Some p) = has_value value p.group ≡ false
 pub record IsValued (e : Encoding) (gs : List (List HeldLine)) (key value body : List ℕ) : Type 0 where
   pub groups : List (List HeldLine)
   pub held : AreGroupsOf e body groups
-  pub said : (old : List Content) → told_by (as_groups gs) ≡ givens old → AreTold groups (IsSetIn key value old)
+  pub contents_set : (old : List Content) → outcomes_of (as_groups gs) ≡ givens old → HaveContents groups (IsSetIn key value old)
   pub again : (second : List ℕ) → IsNotAt second (last_place key gs) → valued_at e groups key second (last_place key groups) ≡ valued_at e gs key second (last_place key gs)
 
 -- A group that is a pair has exactly one value.
@@ -115,9 +115,9 @@ there-valued : (e : Encoding) (gs : List (List HeldLine)) (key value body : List
 there-valued e gs key value body ok l h = record {
   groups = gs;
   held = subst (λ v. AreGroupsOf e v gs) (sym h.bytes) (lined-groups e gs ok l);
-  said = λ old t.
-      subst (λ v. AreTold v (IsSetIn key value old)) (sym h.division)
-      (pair-told h.before h.group h.group h.after key value old (value, h.has_pair) h.no_later h.has_pair (ap (λ v. told_by (as_groups v)) (sym h.division) ∙ t));
+  contents_set = λ old t.
+      subst (λ v. HaveContents v (IsSetIn key value old)) (sym h.division)
+      (pair-outcomes h.before h.group h.group h.after key value old (value, h.has_pair) h.no_later h.has_pair (ap (λ v. outcomes_of (as_groups v)) (sym h.division) ∙ t));
   again = λ second k. refl;
 }
 
@@ -171,7 +171,7 @@ revalued-valued e source_body gs key value body ok v held r =
     record {
       groups = groups;
       held = next_held;
-      said = λ old t. pair-told r.before r.group g r.after key value old r.has_key r.no_later c.has_pair (ap (λ w. told_by (as_groups w)) (sym r.division) ∙ t);
+      contents_set = λ old t. pair-outcomes r.before r.group g r.after key value old r.has_key r.no_later c.has_pair (ap (λ w. outcomes_of (as_groups w)) (sym r.division) ∙ t);
       again = λ second k.
           let place : last_place key gs ≡ Some (record { before = r.before; group = r.group; after = r.after }) =
           ap (last_place key) r.division ∙ last_place-some key r.before r.group r.after r.has_key r.no_later in
@@ -197,9 +197,9 @@ revalued-valued e source_body gs key value body ok v held r =
 -- ---- a new pair
 
 -- A new pair after a front, with the same text between key and value.
-added-text : (e : Encoding) (between sep value : List ℕ) → between ≢ [] → is_blanks between ≡ is_blanks sep → value_text e between value ≡ spelt_value e (is_blanks sep) value
+added-text : (e : Encoding) (between sep value : List ℕ) → between ≢ [] → is_blanks between ≡ is_blanks sep → value_text e between value ≡ printed_value e (is_blanks sep) value
 added-text e [] sep value some same = absurd (some refl)
-added-text e (c ∷ cs) sep value some same = ap (λ b. spelt_value e b value) same
+added-text e (c ∷ cs) sep value some same = ap (λ b. printed_value e b value) same
 
 -- No pair has the key, and a new one is added.
 added-valued : (e : Encoding) (source_body : List ℕ) (gs : List (List HeldLine)) (key value body : List ℕ) → is_editable e ≡ true → All scalar key → All scalar value
@@ -210,7 +210,7 @@ added-valued e source_body gs key value body ok k v held none s =
     let m = closed-groups e gs l in
     let closed = m.0 in
     let c = m.1 in
-    let front = groups_bytes gs ++ parted_by (ending_in gs) (final_group gs) in
+    let front = groups_bytes gs ++ separation_by (ending_in gs) (final_group gs) in
     let first = is_empty front in
     let sep = separator_by key (last_between gs) in
     let by = ending_among lf (held_in gs) in
@@ -234,17 +234,17 @@ added-valued e source_body gs key value body ok k v held none s =
     (append-nil (group_bytes g) ∙ ap (λ w. added_bytes e first key sep value ++ w) (append-nil (line_ending_text by)))
     ∙ sym s in
     let next_held : AreGroupsOf e body groups = subst (λ w. AreGroupsOf e w groups) bytes (lined-groups e groups ok next) in
-    let written = spelt_key e false first key in
+    let written = printed_key e false first key in
     let new_front = front_of-only e g p.between (encoded_text e (written ++ sep)) ok (refl, tt) p.is_front in
     record {
       groups = groups;
       held = next_held;
-      said = λ old t. (
+      contents_set = λ old t. (
         old ++ pair key value ∷ [],
         inr (none-hold key gs old none t, refl),
-        told_by-append closed (g ∷ z ∷ [])
-            ∙ ap₂ (λ w x. w ++ x) (c.told ∙ t)
-            (ap₂ (λ w x. told_before w (told_before x [])) (sym (outcome_of-only (joined (as_lines g)) (given (pair key value)) p.has_pair)) (told-empty e None))
+        outcomes_of-append closed (g ∷ z ∷ [])
+            ∙ ap₂ (λ w x. w ++ x) (c.outcomes ∙ t)
+            (ap₂ (λ w x. outcome_before w (outcome_before x [])) (sym (outcome_of-only (joined (as_lines g)) (given (pair key value)) p.has_pair)) (outcomes-empty e None))
             ∙ sym (givens-append old (pair key value ∷ [])),
       );
       again = λ second no.
@@ -252,9 +252,9 @@ added-valued e source_body gs key value body ok k v held none s =
           (ap₂ (λ x b. groups_bytes closed ++ (x ++ (encoded_text e (value_text e b second) ++ (line_ending_text by ++ [])))) (sym new_front.1) (sym new_front.0)
           ∙ ap₂ (λ w x. w ++ (encoded_text e (written ++ sep) ++ (encoded_text e x ++ (line_ending_text by ++ [])))) c.bytes (added-text e p.between sep second p.between_some p.blanks)
           ∙ ap (λ w. front ++ w)
-          (sym (append_assoc (encoded_text e (written ++ sep)) (encoded_text e (spelt_value e (is_blanks sep) second)) (line_ending_text by ++ []))
+          (sym (append_assoc (encoded_text e (written ++ sep)) (encoded_text e (printed_value e (is_blanks sep) second)) (line_ending_text by ++ []))
           ∙ ap₂ (λ w x. w ++ x)
-          (sym (encoded_text-append e (written ++ sep) (spelt_value e (is_blanks sep) second)) ∙ ap (encoded_text e) (append_assoc written sep (spelt_value e (is_blanks sep) second)))
+          (sym (encoded_text-append e (written ++ sep) (printed_value e (is_blanks sep) second)) ∙ ap (encoded_text e) (append_assoc written sep (printed_value e (is_blanks sep) second)))
           (append-nil (line_ending_text by))))
           ∙ sym (ap (valued_at e gs key second) (last_place-none key gs none));
     }
@@ -264,7 +264,7 @@ added-valued e source_body gs key value body ok k v held none s =
 
     empty-no_key : (e : Encoding) (key : List ℕ) → ¬ (HasKey key (empty_line e None ∷ []))
     empty-no_key e key (x, h) =
-        let q = outcome_of-only (joined (as_lines (empty_line e None ∷ []))) (given (pair key x)) h ∙ told-empty e None in
+        let q = outcome_of-only (joined (as_lines (empty_line e None ∷ []))) (given (pair key x)) h ∙ outcomes-empty e None in
         absurd (cc)
 
 -- A body with a value set has these properties.

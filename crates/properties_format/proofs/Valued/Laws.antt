@@ -27,7 +27,7 @@ use Rattle.properties_format.proofs.Changed.Read.{readable}
 use Rattle.properties_format.proofs.EditLaws.{result-made, maps-differ, set-differs}
 use Rattle.properties_format.proofs.Valued.Made.{has_value-true, HasPair-test, value_set-only, set_value_result-meets, set_value_result-only}
 use Rattle.properties_format.proofs.Valued.Groups.{IsNotAt}
-use Rattle.properties_format.proofs.Valued.Read.{value_set-says, set_value-reads, value_set-again}
+use Rattle.properties_format.proofs.Valued.Read.{value_set-contents, set_value-reads, value_set-again}
 
 -- ---- the value of a key in a source
 
@@ -161,7 +161,7 @@ setting-own_value e source key value has result h =
 pub setting-value_twice : (e : Encoding) (source key first second : List ℕ) → SettingAValueTwiceIsSettingItOnce e source key first second
 setting-value_twice e source key first second k v w other between h result =
     let r = readable e source h.0 h.1 in
-    let next = (value_set-says e source key first between r k v h.2).readable in
+    let next = (value_set-contents e source key first between r k v h.2).readable in
     let bytes = value_set-again e source key first second between h.0 k v h.2 (not-at e source key second r other) in
     let same : set_value_result e between key second ≡ set_value_result e source key second =
     result-made e between (value_set e between key second) next ∙ ap edited bytes ∙ sym (result-made e source (value_set e source key second) r) in (
@@ -174,7 +174,7 @@ pub setting-value_again : (e : Encoding) (source key value : List ℕ) → Setti
 setting-value_again e source key value k v between h =
     let f = byte_order_mark e source in
     let r = readable e source h.0 h.1 in
-    let next = (value_set-says e source key value between r k v h.2).readable in
+    let next = (value_set-contents e source key value between r k v h.2).readable in
     let made : between ≡ value_set e source key value = value_set-only e source key value between h.0 h.2 in
     let bytes : value_set e between key value ≡ between = of-place made (last_place key (held_groups_of f.encoding f.body)) refl in
     subst (IsSetValueResult e between key value) (result-made e between (value_set e between key value) next ∙ ap edited bytes) (set_value_result-meets e between key value)

@@ -175,7 +175,7 @@ fit-changed g h (i ∷ hs) w k = (w, k.1)
 -- ---- changing a group
 
 -- Ended lines are cut off from ended lines.
-pub record IsParted (e : Encoding) (a b : List HeldLine) (ls : List Ended) : Type 0 where
+pub record AreEndedLines (e : Encoding) (a b : List HeldLine) (ls : List Ended) : Type 0 where
   pub front : List Ended
   pub back : List Ended
   pub all : ls ≡ front ++ back
@@ -183,7 +183,7 @@ pub record IsParted (e : Encoding) (a b : List HeldLine) (ls : List Ended) : Typ
   pub second : b ≡ held_ended e back
 
 -- Each division of ended lines is a division of a text's lines.
-pub part-ended : (e : Encoding) (a b : List HeldLine) (ls : List Ended) → a ++ b ≡ held_ended e ls → IsParted e a b ls
+pub part-ended : (e : Encoding) (a b : List HeldLine) (ls : List Ended) → a ++ b ≡ held_ended e ls → AreEndedLines e a b ls
 part-ended e [] b ls h = record { front = []; back = ls; all = refl; first = refl; second = h }
 part-ended e (l ∷ a) b [] h = absurd (cc)
 part-ended e (l ∷ a) b (m ∷ ls) h =

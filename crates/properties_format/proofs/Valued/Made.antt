@@ -13,10 +13,11 @@ use Rattle.properties_format.specs.Reading.Items.{outcome_of}
 use Rattle.properties_format.specs.Printing.{encoded_text}
 use Rattle.properties_format.specs.Body.{HeldLine, AreHeld, AreGroupsOf, as_lines, held_in, groups_bytes, ending_bytes, last_ending, HasKey}
 use Rattle.properties_format.specs.Edited.{bom_of, final_group, is_editable, EditResult}
-use Rattle.properties_format.specs.Valued.{value_text, HasPair, NoPairs, IsNewSeparator, ending_in, parted_by, new_pair_bytes, IsBodyValued, IsValueSet, IsSetValueResult}
+use Rattle.properties_format.specs.Valued.{value_text, HasPair, NoPairs, IsNewSeparator, ending_in, separation_by, new_pair_bytes, IsBodyValued, IsValueSet, IsSetValueResult}
 use Rattle.properties_format.specs.Reading.Body.{held_groups_of}
 use Rattle.properties_format.specs.Reading.Edited.{KeyPlace, last_place}
-use Rattle.properties_format.specs.Reading.Valued.{front_of, between_of, between_told, or_else, last_between, separator_by, is_pair_to, has_value, revalued_at, valued_at, value_set, set_value_result}
+use Rattle.properties_format.specs.Reading.Valued.{front_of, between_of, between_if_pair, or_else, last_between, separator_by, is_pair_to, has_value, revalued_at, valued_at, value_set}
+use Rattle.properties_format.specs.Reading.Valued.{set_value_result}
 use Rattle.properties_format.proofs.Items.Unique.{outcome_of-meets, outcome_of-only}
 use Rattle.properties_format.proofs.Split.Unique.{split_of-meets, split_of-only}
 use Rattle.properties_format.proofs.Cut.Byline.{decoded_line-only}
@@ -89,27 +90,27 @@ no_value-test key value g k h = false_from_ne_true (has_value value g) (λ m. h 
 last_between-none : (gs : List (List HeldLine)) → NoPairs gs → last_between gs ≡ None
 last_between-none [] h = refl
 last_between-none (g ∷ gs) h =
-    ap (λ v. or_else v (between_told (split_of (joined (as_lines g))) (joined (as_lines g)))) (last_between-none gs h.1)
+    ap (λ v. or_else v (between_if_pair (split_of (joined (as_lines g))) (joined (as_lines g)))) (last_between-none gs h.1)
     ∙ of-split (split_of (joined (as_lines g))) refl
   where
-    of-split : (l : Logical) → split_of (joined (as_lines g)) ≡ l → between_told (split_of (joined (as_lines g))) (joined (as_lines g)) ≡ None
+    of-split : (l : Logical) → split_of (joined (as_lines g)) ≡ l → between_if_pair (split_of (joined (as_lines g))) (joined (as_lines g)) ≡ None
     of-split Logical.blank s = rw s refl
     of-split (Logical.comment text) s = rw s refl
     of-split (Logical.pair key value) s = let m : IsPair (joined (as_lines g)) key value = rw s at (split_of-meets (joined (as_lines g))) in absurd (h.0 key value m)
 
 -- What separates the key from the value of a pair.
-told-pair : (line key value : List ℕ) (h : IsPair line key value) → between_told (split_of line) line ≡ Some h.between
-told-pair line key value h =
-    ap (λ v. between_told v line) (sym (split_of-only line (Logical.pair key value) h)) ∙ ap Some (between_in-pair line key value h)
+between-parsed_pair : (line key value : List ℕ) (h : IsPair line key value) → between_if_pair (split_of line) line ≡ Some h.between
+between-parsed_pair line key value h =
+    ap (λ v. between_if_pair v line) (sym (split_of-only line (Logical.pair key value) h)) ∙ ap Some (between_in-pair line key value h)
 
 -- The last pair is one that no other pair follows.
 last_between-some : (before : List (List HeldLine)) (g : List HeldLine) (after : List (List HeldLine)) (key value : List ℕ)
     (h : IsPair (joined (as_lines g)) key value) → NoPairs after → last_between (before ++ g ∷ after) ≡ Some h.between
 last_between-some [] g after key value h k =
-    ap (λ v. or_else v (between_told (split_of (joined (as_lines g))) (joined (as_lines g)))) (last_between-none after k)
-    ∙ told-pair (joined (as_lines g)) key value h
+    ap (λ v. or_else v (between_if_pair (split_of (joined (as_lines g))) (joined (as_lines g)))) (last_between-none after k)
+    ∙ between-parsed_pair (joined (as_lines g)) key value h
 last_between-some (f ∷ before) g after key value h k =
-    ap (λ v. or_else v (between_told (split_of (joined (as_lines f))) (joined (as_lines f)))) (last_between-some before g after key value h k)
+    ap (λ v. or_else v (between_if_pair (split_of (joined (as_lines f))) (joined (as_lines f)))) (last_between-some before g after key value h k)
 
 -- The first choice followed by nothing is the first choice.
 or_else-none : (a : Option (List ℕ)) → or_else a None ≡ a
@@ -123,12 +124,12 @@ or_else-three (Some x) b c = refl
 
 -- One more group: its own separator if it is a pair, otherwise that of the last pair before it.
 pub last_between-push : (gs : List (List HeldLine)) (g : List HeldLine)
-    → last_between (gs ++ g ∷ []) ≡ or_else (between_told (split_of (joined (as_lines g))) (joined (as_lines g))) (last_between gs)
-last_between-push [] g = sym (or_else-none (between_told (split_of (joined (as_lines g))) (joined (as_lines g))))
+    → last_between (gs ++ g ∷ []) ≡ or_else (between_if_pair (split_of (joined (as_lines g))) (joined (as_lines g))) (last_between gs)
+last_between-push [] g = sym (or_else-none (between_if_pair (split_of (joined (as_lines g))) (joined (as_lines g))))
 last_between-push (f ∷ gs) g =
-    let told = between_told (split_of (joined (as_lines f))) (joined (as_lines f)) in
+    let told = between_if_pair (split_of (joined (as_lines f))) (joined (as_lines f)) in
     ap (λ v. or_else v told) (last_between-push gs g)
-    ∙ or_else-three (between_told (split_of (joined (as_lines g))) (joined (as_lines g))) (last_between gs) told
+    ∙ or_else-three (between_if_pair (split_of (joined (as_lines g))) (joined (as_lines g))) (last_between gs) told
 
 -- The separator is the computed one.
 new_separator-only : (groups : List (List HeldLine)) (key separator : List ℕ) → IsNewSeparator groups key separator
@@ -234,7 +235,7 @@ valued-only e body key value gs result ok g (inr (inl h)) =
     ∙ sym (cond-false (has_value value h.group) (groups_bytes gs) (revalued_at e value p) (no_value-test key value h.group h.has_key h.other_value))
     ∙ ap (valued_at e gs key value) (sym (ap (last_place key) h.division ∙ last_place-some key h.before h.group h.after h.has_key h.no_later))
 valued-only e body key value gs result ok g (inr (inr h)) =
-    let front = groups_bytes gs ++ parted_by (ending_in gs) (final_group gs) in
+    let front = groups_bytes gs ++ separation_by (ending_in gs) (final_group gs) in
     h.bytes
     ∙ ap (λ s. front ++ new_pair_bytes e front key s value (ending_in gs)) (new_separator-only gs key h.separator h.is_separator)
     ∙ ap (valued_at e gs key value) (sym (last_place-none key gs h.no_pair))

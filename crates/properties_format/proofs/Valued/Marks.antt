@@ -5,11 +5,11 @@ use Rattle.std.specs.Prelude.{unwrap_or}
 use Rattle.std.proofs.lemmas.Bool.{cases_Bool, and_parts, and_from, or_cases, or_left, or_right, false_from_ne_true}
 use Rattle.properties_format.specs.Text.{equals_sign, LineEnding, lf, line_ending_text, is_blanks}
 use Rattle.properties_format.specs.Encoding.{Encoding, byte_order_mark, begins_with, begins_like_bom, utf_8_bom, utf_16be_bom, utf_16le_bom}
-use Rattle.properties_format.specs.Printing.{encoded_text, spelt_key}
+use Rattle.properties_format.specs.Printing.{encoded_text, printed_key}
 use Rattle.properties_format.specs.Writing.{is_empty}
 use Rattle.properties_format.specs.Body.{HeldLine, held_in, ending_bytes, group_bytes, groups_bytes, last_ending}
 use Rattle.properties_format.specs.Edited.{final_group, is_empty_line, is_left_open, is_editable}
-use Rattle.properties_format.specs.Valued.{spelt_value, value_text, IsFrontOf, IsRevalued, ending_among, ending_in, parted_by, IsNewSeparator, IsAdded, IsValueSet}
+use Rattle.properties_format.specs.Valued.{printed_value, value_text, IsFrontOf, IsRevalued, ending_among, ending_in, separation_by, IsNewSeparator, IsAdded, IsValueSet}
 use Rattle.properties_format.proofs.Cut.Byline.{decoded_line-only}
 use Rattle.properties_format.proofs.Printing.Characters.{encoded-ascii}
 use Rattle.properties_format.proofs.ReadBack.Unmarked.{byte_order_mark-cut, pair-unmarked}
@@ -66,7 +66,7 @@ front-valued : (e : Encoding) (group : List HeldLine) (between front value : Lis
     → is_editable e ≡ true
     → begins_like_bom (front ++ rest) ≡ false → begins_like_bom (front ++ (encoded_text e (value_text e between value) ++ more)) ≡ false
 front-valued e group [] front value f rest more ok h =
-    let x = spelt_value e false value in
+    let x = printed_value e false value in
     ap (λ o. begins_like_bom (front ++ ((unwrap_or o [] ++ encoded_text e x) ++ more))) (encoded-ascii e equals_sign (lit< tt))
     ∙ prefix-unmarked front rest equals_sign (encoded_text e x ++ more) (lit< tt) h
 front-valued e group (b ∷ bs) front value f rest more ok h =
@@ -105,17 +105,17 @@ revalued-unmarked e gs key value body ok k h r = of_before r.before r.division r
 
 -- A new pair at the front doesn't begin like a byte order mark.
 first-unmarked : (e : Encoding) (key sep value : List ℕ) (by : LineEnding) (groups : List (List HeldLine)) → IsNewSeparator groups key sep
-    → begins_like_bom (encoded_text e (spelt_key e false true key ++ (sep ++ spelt_value e (is_blanks sep) value)) ++ line_ending_text by) ≡ false
+    → begins_like_bom (encoded_text e (printed_key e false true key ++ (sep ++ printed_value e (is_blanks sep) value)) ++ line_ending_text by) ≡ false
 first-unmarked e key sep value by groups s =
-    let x = encoded_text e (spelt_key e false true key ++ (sep ++ spelt_value e (is_blanks sep) value)) in
+    let x = encoded_text e (printed_key e false true key ++ (sep ++ printed_value e (is_blanks sep) value)) in
     ap (λ v. begins_like_bom (x ++ v)) (sym (append-nil (line_ending_text by)))
     ∙ ending-cut x by []
-    ∙ pair-unmarked e false key sep (spelt_value e (is_blanks sep) value) (new_separator-fit groups key sep s).good
+    ∙ pair-unmarked e false key sep (printed_value e (is_blanks sep) value) (new_separator-fit groups key sep s).good
 
 -- What separates a pair from the last group is empty after an empty line, and otherwise begins with a line ending.
-parted-cases : (by : LineEnding) (g : List HeldLine)
-    → (is_empty_line g ≡ true) × (parted_by (line_ending_text by) g ≡ []) ⊎ (rest : List ℕ) × (parted_by (line_ending_text by) g ≡ line_ending_text by ++ rest)
-parted-cases by g = elim (cases_Bool (is_empty_line g)) [
+separation_by-cases : (by : LineEnding) (g : List HeldLine)
+    → (is_empty_line g ≡ true) × (separation_by (line_ending_text by) g ≡ []) ⊎ (rest : List ℕ) × (separation_by (line_ending_text by) g ≡ line_ending_text by ++ rest)
+separation_by-cases by g = elim (cases_Bool (is_empty_line g)) [
   | inl h ↦ inl (h, rw h refl)
   | inr h ↦ elim (cases_Bool (is_left_open g)) [
     | inl k ↦ inr (line_ending_text by, rw (h, k) refl)
@@ -126,7 +126,7 @@ parted-cases by g = elim (cases_Bool (is_empty_line g)) [
 -- If a new pair is added, a body that didn't begin like a byte order mark still doesn't.
 added-unmarked : (e : Encoding) (gs : List (List HeldLine)) (key value body : List ℕ) → AreHeldGroups e gs → begins_like_bom (groups_bytes gs) ≡ false
     → IsAdded e gs key value body → begins_like_bom body ≡ false
-added-unmarked e gs key value body k h r = elim (parted-cases (ending_among lf (held_in gs)) (final_group gs)) [
+added-unmarked e gs key value body k h r = elim (separation_by-cases (ending_among lf (held_in gs)) (final_group gs)) [
   | inl p ↦ none gs k h p.0 (ap (λ v. groups_bytes gs ++ v) p.1 ∙ append-nil (groups_bytes gs))
   | inr p ↦
       ap begins_like_bom r.bytes
@@ -137,16 +137,16 @@ added-unmarked e gs key value body k h r = elim (parted-cases (ending_among lf (
 ]
   where
     front : List ℕ
-    front = groups_bytes gs ++ parted_by (ending_in gs) (final_group gs)
+    front = groups_bytes gs ++ separation_by (ending_in gs) (final_group gs)
 
     tail : List ℕ → List ℕ
-    tail x = encoded_text e (spelt_key e false (is_empty x) key ++ (r.separator ++ spelt_value e (is_blanks r.separator) value)) ++ ending_in gs
+    tail x = encoded_text e (printed_key e false (is_empty x) key ++ (r.separator ++ printed_value e (is_blanks r.separator) value)) ++ ending_in gs
 
     none : (hs : List (List HeldLine)) → AreHeldGroups e hs → begins_like_bom (groups_bytes hs) ≡ false → is_empty_line (final_group hs) ≡ true
-        → groups_bytes gs ++ parted_by (ending_in gs) (final_group gs) ≡ groups_bytes hs → begins_like_bom body ≡ false
+        → groups_bytes gs ++ separation_by (ending_in gs) (final_group gs) ≡ groups_bytes hs → begins_like_bom body ≡ false
     none [] k h m s = absurd (cc)
     none (g ∷ []) k h m s =
-        let q : groups_bytes gs ++ parted_by (ending_in gs) (final_group gs) ≡ [] = s ∙ append-nil (group_bytes g) ∙ empty-last g m k.ending in
+        let q : groups_bytes gs ++ separation_by (ending_in gs) (final_group gs) ≡ [] = s ∙ append-nil (group_bytes g) ∙ empty-last g m k.ending in
         ap begins_like_bom r.bytes ∙ ap (λ v. begins_like_bom (v ++ tail v)) q ∙ first-unmarked e key r.separator value (ending_among lf (held_in gs)) gs r.is_separator
     none (g ∷ i ∷ hs) k h m s =
         ap begins_like_bom r.bytes

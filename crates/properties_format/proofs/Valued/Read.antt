@@ -7,20 +7,20 @@ use Rattle.properties_format.specs.Printing.{encoded_text}
 use Rattle.properties_format.specs.Body.{HeldLine, group_bytes, groups_bytes, ending_bytes, last_ending}
 use Rattle.properties_format.specs.Edited.{bom_of, final_group, edited, is_editable}
 use Rattle.properties_format.specs.Edits.{put}
-use Rattle.properties_format.specs.Changed.{IsSetIn, map_edited, AreOthersThanLast, StandIn, ReadsAfter, KeepsOthers}
-use Rattle.properties_format.specs.Valued.{value_text, ending_in, parted_by, new_pair_bytes, IsFrontOf, IsValueSet, IsSetValueResult, KeepsFront}
+use Rattle.properties_format.specs.Changed.{IsSetIn, map_edited, AreOthersThanLast, OccurIn, ReadsAfter, KeepsOthers}
+use Rattle.properties_format.specs.Valued.{value_text, ending_in, separation_by, new_pair_bytes, IsFrontOf, IsValueSet, IsSetValueResult, KeepsFront}
 use Rattle.properties_format.specs.Reading.Body.{held_groups_of}
 use Rattle.properties_format.specs.Reading.Edited.{last_place}
 use Rattle.properties_format.specs.Reading.Slots.{unended_bytes}
 use Rattle.properties_format.specs.Reading.Valued.{front_of, between_of, valued_at, value_set}
 use Rattle.properties_format.proofs.Body.Groups.{held_groups_of-only, held-groups, held-body, groups_bytes-append}
-use Rattle.properties_format.proofs.Edited.Told.{told, givens}
+use Rattle.properties_format.proofs.Edited.Outcomes.{outcomes_in, givens}
 use Rattle.properties_format.proofs.Edited.Contents.{told-groups}
 use Rattle.properties_format.proofs.Edited.ByteOrderMarks.{source-whole}
-use Rattle.properties_format.proofs.Changed.Laws.{IsReadable, says, IsReadTo, read-to, groups-say}
+use Rattle.properties_format.proofs.Changed.Laws.{IsReadable, source_contents, IsReadTo, read-to, groups-contents}
 use Rattle.properties_format.proofs.Changed.Read.{readable, reads-after}
 use Rattle.properties_format.proofs.Changed.Maps.{map-edited}
-use Rattle.properties_format.proofs.Changed.Stand.{stand-after, stand-before, stand-all, stand-alone}
+use Rattle.properties_format.proofs.Changed.Occur.{occur-after, occur-before, occur-all, occur-alone}
 use Rattle.properties_format.proofs.Valued.Made.{group-decoded}
 use Rattle.properties_format.proofs.Valued.Fronts.{front_of-meets}
 use Rattle.properties_format.proofs.Valued.Groups.{IsNotAt, IsValued, body-valued}
@@ -37,25 +37,25 @@ valued-body e source key value result ok k v h =
 
 -- After a value is set, the last pair with the key has it, or there is a new last pair if none has the key. All other
 -- contents are unchanged.
-pub value_set-says : (e : Encoding) (source key value result : List ℕ) → IsReadable e source → All scalar key → All scalar value
+pub value_set-contents : (e : Encoding) (source key value result : List ℕ) → IsReadable e source → All scalar key → All scalar value
     → IsValueSet e source key value result
-    → IsReadTo e result (IsSetIn key value (says e source))
-value_set-says e source key value result r k v h =
+    → IsReadTo e result (IsSetIn key value (source_contents e source))
+value_set-contents e source key value result r k v h =
     let f = byte_order_mark e source in
     let m = valued-body e source key value result r.editable k v h in
-    let t = m.said (says e source) (groups-say e source h.groups r h.held) in
-    let same : told f.encoding h.body ≡ givens t.0 =
-    ap (told f.encoding) (sym (held-body f.encoding h.body m.groups r.editable m.held))
+    let t = m.contents_set (source_contents e source) (groups-contents e source h.groups r h.held) in
+    let same : outcomes_in f.encoding h.body ≡ givens t.0 =
+    ap (outcomes_in f.encoding) (sym (held-body f.encoding h.body m.groups r.editable m.held))
     ∙ told-groups f.encoding m.groups (held-groups f.encoding h.body m.groups r.editable m.held)
     ∙ t.2 in
-    read-to e result (record { encoding = f.encoding; body = h.body }) (IsSetIn key value (says e source)) r.editable
+    read-to e result (record { encoding = f.encoding; body = h.body }) (IsSetIn key value (source_contents e source)) r.editable
     (value_set-in_force e source key value result r.editable h) (t.0, t.1, same)
 
 -- The result of setting a value reads as the source with that value.
 pub set_value-reads : (e : Encoding) (source key value result : List ℕ) → All scalar key → All scalar value → IsSetValueResult e source key value (edited result)
     → ReadsAfter (IsSetIn key value) (map_edited (put key value)) e source result
 set_value-reads e source key value result k v h =
-    reads-after e source result (IsSetIn key value) (map_edited (put key value)) (value_set-says e source key value result (readable e source h.0 h.1) k v h.2) (map-edited (put key value))
+    reads-after e source result (IsSetIn key value) (map_edited (put key value)) (value_set-contents e source key value result (readable e source h.0 h.1) k v h.2) (map-edited (put key value))
 
 -- ---- another value
 
@@ -94,27 +94,27 @@ value_set-keeps e source key value result h = elim h.edited [
     r.before ++ r.after,
     h.held,
     inr (r.before, r.group, r.after, r.division, (value, r.has_pair), r.no_later, refl),
-    subst (StandIn (r.before ++ r.after))
+    subst (OccurIn (r.before ++ r.after))
         (sym (h.whole ∙ ap (λ v. bom_of source ++ v) (r.bytes ∙ ap groups_bytes r.division ∙ groups_bytes-append r.before (r.group ∷ r.after))))
-        (stand-after (r.before ++ r.after) (bom_of source) _ (stand-before r.before r.after _ (stand-after r.after (group_bytes r.group) (groups_bytes r.after) (stand-alone r.after)))),
+        (occur-after (r.before ++ r.after) (bom_of source) _ (occur-before r.before r.after _ (occur-after r.after (group_bytes r.group) (groups_bytes r.after) (occur-alone r.after)))),
   )
   | inr (inl r) ↦ (
     h.groups,
     r.before ++ r.after,
     h.held,
     inr (r.before, r.group, r.after, r.division, r.has_key, r.no_later, refl),
-    subst (StandIn (r.before ++ r.after)) (sym (h.whole ∙ ap (λ v. bom_of source ++ v) r.bytes))
-        (stand-after (r.before ++ r.after) (bom_of source) _
-        (stand-before r.before r.after _
-        (stand-after r.after r.front _ (stand-after r.after _ _ (stand-after r.after _ (groups_bytes r.after) (stand-alone r.after)))))),
+    subst (OccurIn (r.before ++ r.after)) (sym (h.whole ∙ ap (λ v. bom_of source ++ v) r.bytes))
+        (occur-after (r.before ++ r.after) (bom_of source) _
+        (occur-before r.before r.after _
+        (occur-after r.after r.front _ (occur-after r.after _ _ (occur-after r.after _ (groups_bytes r.after) (occur-alone r.after)))))),
   )
   | inr (inr r) ↦ (
     h.groups,
     h.groups,
     h.held,
     inl (r.no_pair, refl),
-    subst (StandIn h.groups) (sym (h.whole ∙ ap (λ v. bom_of source ++ v) (r.bytes ∙ append_assoc (groups_bytes h.groups) _ _)))
-        (stand-after h.groups (bom_of source) _ (stand-all h.groups _)),
+    subst (OccurIn h.groups) (sym (h.whole ∙ ap (λ v. bom_of source ++ v) (r.bytes ∙ append_assoc (groups_bytes h.groups) _ _)))
+        (occur-after h.groups (bom_of source) _ (occur-all h.groups _)),
   )
 ]
 
@@ -244,8 +244,8 @@ value_set-keeps_front e source key value result ok h =
             }),
           )
       | inr (inr r) ↦
-          let parting = parted_by (ending_in h.groups) (final_group h.groups) in
-          let more = parting ++ new_pair_bytes f.encoding (groups_bytes h.groups ++ parting) key r.separator value (ending_in h.groups) in (
+          let separation = separation_by (ending_in h.groups) (final_group h.groups) in
+          let more = separation ++ new_pair_bytes f.encoding (groups_bytes h.groups ++ separation) key r.separator value (ending_in h.groups) in (
             h.groups,
             h.held,
             inr (
@@ -254,7 +254,7 @@ value_set-keeps_front e source key value result ok h =
               h.whole
                   ∙ ap (λ v. bom_of source ++ v)
                   (r.bytes
-                  ∙ append_assoc (groups_bytes h.groups) parting (new_pair_bytes f.encoding (groups_bytes h.groups ++ parting) key r.separator value (ending_in h.groups))
+                  ∙ append_assoc (groups_bytes h.groups) separation (new_pair_bytes f.encoding (groups_bytes h.groups ++ separation) key r.separator value (ending_in h.groups))
                   ∙ ap (λ v. v ++ more) (sym body))
                   ∙ sym (append_assoc (bom_of source) f.body more)
                   ∙ ap (λ v. v ++ more) (sym (source-whole e source)),

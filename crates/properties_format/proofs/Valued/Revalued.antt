@@ -12,7 +12,7 @@ use Rattle.properties_format.specs.Reading.Split.{ends_key}
 use Rattle.properties_format.specs.Printing.{encoded_text}
 use Rattle.properties_format.specs.Body.{HeldLine, as_lines}
 use Rattle.properties_format.specs.Edited.{is_editable}
-use Rattle.properties_format.specs.Valued.{spelt_value, value_text, IsFrontOf}
+use Rattle.properties_format.specs.Valued.{printed_value, value_text, IsFrontOf}
 use Rattle.properties_format.specs.Reading.Valued.{without_indent, added_by}
 use Rattle.properties_format.proofs.Groups.Open.{is_open-backslash, is_open-other, is_open-after, without_open_backslash-closed}
 use Rattle.properties_format.proofs.Groups.Joined.{joined-closed}
@@ -91,7 +91,7 @@ between_after (c ∷ cs) = c ∷ cs
 
 -- what is printed for the value after it
 abbrev pub value_after : Encoding → List ℕ → List ℕ → List ℕ
-value_after e between value = spelt_value e (is_blanks (between_after between)) value
+value_after e between value = printed_value e (is_blanks (between_after between)) value
 
 -- what is missing between key and value
 abbrev pub missing : List ℕ → List ℕ
@@ -251,7 +251,7 @@ pub after-front : (e : Encoding) (group : List HeldLine) (between front value : 
     → AreWritable e (value_after e between value)
     → decoded_line e (f.head ++ encoded_text e (value_text e between value)) ≡ f.head_text ++ value_text e between value
 after-front e group [] front value f ok w =
-    let x = spelt_value e false value in
+    let x = printed_value e false value in
     let head : decoded_line e f.head ≡ f.head_text = sym (decoded_line-only e f.head f.head_text f.is_head) in
     ap (λ o. decoded_line e (f.head ++ (unwrap_or o [] ++ encoded_text e x))) (encoded-ascii e equals_sign (lit< tt))
     ∙ ascii-among e f.head equals_sign (encoded_text e x) ok (lit< tt)

@@ -10,13 +10,13 @@ use Rattle.properties_format.specs.Cut.{IsDecodedLine}
 use Rattle.properties_format.specs.Reading.Cut.{decoded_line}
 use Rattle.properties_format.specs.Groups.{is_open, is_comment_line, IsWhole, joined}
 use Rattle.properties_format.specs.Split.{AreBlanks, begins, IsBetween, nothing, blanks, separator, IsPair}
-use Rattle.properties_format.specs.Escapes.{Spelling, spelling_text, spelt_character, spelt_before}
+use Rattle.properties_format.specs.Escapes.{Spelling, spelling_text, spelling_character, spellings_before}
 use Rattle.properties_format.specs.Settings.{IsGoodSeparator}
-use Rattle.properties_format.specs.Printing.{spelt_key, encoded_text}
+use Rattle.properties_format.specs.Printing.{printed_key, encoded_text}
 use Rattle.properties_format.specs.Writing.{is_empty}
 use Rattle.properties_format.specs.Body.{HeldLine, as_lines}
 use Rattle.properties_format.specs.Edited.{is_editable}
-use Rattle.properties_format.specs.Valued.{spelt_value, shortened_after, separator_after, IsNewSeparator, IsFrontOf, HasPair}
+use Rattle.properties_format.specs.Valued.{printed_value, shortened_after, separator_after, IsNewSeparator, IsFrontOf, HasPair}
 use Rattle.properties_format.proofs.Lines.Plain.{plain-append}
 use Rattle.properties_format.proofs.Groups.Joined.{joined-closed}
 use Rattle.properties_format.proofs.Split.Unique.{separator-full}
@@ -24,9 +24,9 @@ use Rattle.properties_format.proofs.Split.Laws.{IsKey-nil, separator-sign}
 use Rattle.properties_format.proofs.Settings.Tests.{is_blanks-from}
 use Rattle.properties_format.proofs.Escapes.Unique.{meaning_of-meets}
 use Rattle.properties_format.proofs.Cut.Byline.{decoded_line-meets}
-use Rattle.properties_format.proofs.Printing.Characters.{encoded_text-append, good_separator-ascii, spelt_key-encodable}
-use Rattle.properties_format.proofs.ReadBack.Texts.{AreSafe, AreSafelySpelt, spelt-means, spelt-plain, are_safe-key, BeginsFull, safe-begins}
-use Rattle.properties_format.proofs.ReadBack.Pairs.{key-spelt, separator-some, separator-quiet, closed-after}
+use Rattle.properties_format.proofs.Printing.Characters.{encoded_text-append, good_separator-ascii, printed_key-encodable}
+use Rattle.properties_format.proofs.ReadBack.Texts.{AreSafe, AreSafelyPrinted, printed-means, printed-plain, are_safe-key, BeginsFull, safe-begins}
+use Rattle.properties_format.proofs.ReadBack.Pairs.{key-printed, separator-some, separator-quiet, closed-after}
 use Rattle.properties_format.proofs.ReadBack.Bytes.{AreWritable, writable-append, key-scalars}
 use Rattle.properties_format.proofs.Body.Decoded.{decoded-nil, plain-bytes}
 use Rattle.properties_format.proofs.Valued.Fronts.{blanks-right, none-left, none-right, right-some}
@@ -125,12 +125,12 @@ pub record IsNewPair (key sep value : List ℕ) : Type 0 where
 
 -- A key with at least one spelling.
 new-keyed : (p : Spelling) (ps : List Spelling) (sep value : List ℕ) → AreSafe (p ∷ ps) → IsGoodSeparator sep → BeginsAfter (is_blanks sep) value
-    → IsNewPair (spelt_before (p ∷ ps) []) sep value
+    → IsNewPair (spellings_before (p ∷ ps) []) sep value
 new-keyed p ps sep value k g b =
-    let key = spelt_before (p ∷ ps) [] in
+    let key = spellings_before (p ∷ ps) [] in
     let full : BeginsFull (key ++ (sep ++ value)) =
-    subst BeginsFull (sym (append_assoc (spelling_text p) (spelt_before ps []) (sep ++ value)))
-    (safe-begins p (spelt_before ps [] ++ (sep ++ value)) k.0) in
+    subst BeginsFull (sym (append_assoc (spelling_text p) (spellings_before ps []) (sep ++ value)))
+    (safe-begins p (spellings_before ps [] ++ (sep ++ value)) k.0) in
     let some = separator-some sep g in
     record {
       is_pair = record {
@@ -170,10 +170,10 @@ new-empty sep value (inl g) s b = record {
 }
 
 -- A safely spelt key.
-new-pair : (written key sep value : List ℕ) → AreSafelySpelt written key → IsFitSeparator key sep → BeginsAfter (is_blanks sep) value → IsNewPair written sep value
+new-pair : (written key sep value : List ℕ) → AreSafelyPrinted written key → IsFitSeparator key sep → BeginsAfter (is_blanks sep) value → IsNewPair written sep value
 new-pair written key sep value s f b = of-spellings s.spellings s.text s.characters s.safe
   where
-    of-spellings : (ps : List Spelling) → written ≡ spelt_before ps [] → map spelt_character ps ≡ key → AreSafe ps → IsNewPair written sep value
+    of-spellings : (ps : List Spelling) → written ≡ spellings_before ps [] → map spelling_character ps ≡ key → AreSafe ps → IsNewPair written sep value
     of-spellings [] t m k = subst (λ v. IsNewPair v sep value) (sym t) (new-empty sep value f.good (f.signed (sym m)) b)
     of-spellings (p ∷ ps) t m k = subst (λ v. IsNewPair v sep value) (sym t) (new-keyed p ps sep value k f.good b)
 
@@ -181,7 +181,7 @@ new-pair written key sep value s f b = of-spellings s.spellings s.text s.charact
 
 -- the bytes of a new pair, at the front of a body or not, without a line ending
 abbrev pub added_bytes : Encoding → Bool → List ℕ → List ℕ → List ℕ → List ℕ
-added_bytes e first key sep value = encoded_text e (spelt_key e false first key ++ (sep ++ spelt_value e (is_blanks sep) value))
+added_bytes e first key sep value = encoded_text e (printed_key e false first key ++ (sep ++ printed_value e (is_blanks sep) value))
 
 -- the line of these bytes
 abbrev pub added_line : Encoding → Bool → List ℕ → List ℕ → List ℕ → LineEnding → HeldLine
@@ -195,7 +195,7 @@ pub record IsAddedPair (e : Encoding) (first : Bool) (key sep value : List ℕ) 
   pub whole : IsWhole (as_lines (added_line e first key sep value by ∷ []))
   pub has_pair : HasPair key value (added_line e first key sep value by ∷ [])
   pub between : List ℕ
-  pub is_front : IsFrontOf e (added_line e first key sep value by ∷ []) between (encoded_text e (spelt_key e false first key ++ sep))
+  pub is_front : IsFrontOf e (added_line e first key sep value by ∷ []) between (encoded_text e (printed_key e false first key ++ sep))
   pub between_some : between ≢ []
   pub blanks : is_blanks between ≡ is_blanks sep
 
@@ -207,14 +207,14 @@ text-some e x ok w h q = h (sym (text-own e x ok w) ∙ ap (decoded_line e) q �
 pub added-pair : (e : Encoding) (first : Bool) (key sep value : List ℕ) (by : LineEnding) → is_editable e ≡ true → All scalar key → All scalar value
     → IsFitSeparator key sep → IsAddedPair e first key sep value by
 added-pair e first key sep value by ok k v f =
-    let written = spelt_key e false first key in
-    let va = spelt_value e (is_blanks sep) value in
+    let written = printed_key e false first key in
+    let va = printed_value e (is_blanks sep) value in
     let keys = recursion_from_All scalar key k in
     let all = recursion_from_All scalar value v in
-    let spelt = key-spelt e false first key keys in
+    let printed_character = key-printed e false first key keys in
     let loose = value-loose e (is_blanks sep) value all in
-    let n = new-pair written key sep va spelt f (value-begins e (is_blanks sep) value all) in
-    let key_writable : AreWritable e written = record { scalars = key-scalars e false first key keys; encodable = spelt_key-encodable e false first key } in
+    let n = new-pair written key sep va printed_character f (value-begins e (is_blanks sep) value all) in
+    let key_writable : AreWritable e written = record { scalars = key-scalars e false first key keys; encodable = printed_key-encodable e false first key } in
     let sep_writable = ascii-writable e sep (good_separator-ascii sep f.good) in
     let value_written = value-writable e (is_blanks sep) value all in
     let front_writable = writable-append e written sep key_writable sep_writable in
@@ -226,7 +226,7 @@ added-pair e first key sep value by ok k v f =
     let closed_front : is_open (written ++ sep) ≡ false =
     ap (λ x. is_open (written ++ x)) (sym (append-nil sep)) ∙ closed-after written sep [] quiet.slashes sep_some refl in
     let plain_text : HoldsNoLineEnd (written ++ (sep ++ va)) =
-    plain-append written (sep ++ va) (spelt-plain written key spelt) (plain-append sep va quiet.plain (loosely-plain va value loose)) in
+    plain-append written (sep ++ va) (printed-plain written key printed_character) (plain-append sep va quiet.plain (loosely-plain va value loose)) in
     let line : HeldLine = record { bytes = added_bytes e first key sep value; text = written ++ (sep ++ va); ending = Some by } in
     let same : line ≡ added_line e first key sep value by =
     ap (λ x. let l : HeldLine = record { bytes = added_bytes e first key sep value; text = x; ending = Some by } in l) (sym decoded) in
@@ -241,7 +241,7 @@ added-pair e first key sep value by ok k v f =
         raw_key = written;
         raw_value = va;
         split = p.0;
-        key_means = rw (spelt-means written key spelt) at (meaning_of-meets written);
+        key_means = rw (printed-means written key printed_character) at (meaning_of-meets written);
         value_means = rw (loose-means va value loose) at (meaning_of-meets va);
       };
       between = n.is_pair.between;

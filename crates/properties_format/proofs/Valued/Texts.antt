@@ -8,16 +8,16 @@ use Rattle.properties_format.specs.Encoding.{Encoding}
 use Rattle.properties_format.specs.Lines.{HoldsNoLineEnd}
 use Rattle.properties_format.specs.Groups.{is_open}
 use Rattle.properties_format.specs.Split.{begins}
-use Rattle.properties_format.specs.Escapes.{Spelling, itself, spelling_text, spelt_character, spelt_before, means}
+use Rattle.properties_format.specs.Escapes.{Spelling, itself, spelling_text, spelling_character, spellings_before, means}
 use Rattle.properties_format.specs.Reading.Escapes.{meaning_of}
-use Rattle.properties_format.specs.Printing.{in_key_or_value, unit_escape, spelt, is_special}
+use Rattle.properties_format.specs.Printing.{in_key_or_value, unit_escape, printed_character, is_special}
 use Rattle.properties_format.specs.Writing.{is_empty}
-use Rattle.properties_format.specs.Valued.{is_free, spelt_inside, spelt_first, spelt_last, spelt_rest, spelt_value}
+use Rattle.properties_format.specs.Valued.{is_free, printed_inside, printed_first, printed_last, printed_rest, printed_value}
 use Rattle.properties_format.proofs.Lines.Plain.{plain-append}
 use Rattle.properties_format.proofs.Groups.Open.{is_open-other}
 use Rattle.properties_format.proofs.Escapes.Laws.{IsWhole, AreWhole, meaning_of-all}
-use Rattle.properties_format.proofs.Printing.Characters.{AreAscii, AreEncodable-ascii, spelt-encodable, spelt-either, unicode_escape-ascii, special-ascii}
-use Rattle.properties_format.proofs.ReadBack.Spellings.{IsSafe, IsSafelySpelt, special-spelt, unicode-spelt, in_key_or_value-spelt}
+use Rattle.properties_format.proofs.Printing.Characters.{AreAscii, AreEncodable-ascii, printed-encodable, printed-either, unicode_escape-ascii, special-ascii}
+use Rattle.properties_format.proofs.ReadBack.Spellings.{IsSafe, IsSafelyPrinted, special-printed, unicode-printed, in_key_or_value-printed}
 use Rattle.properties_format.proofs.ReadBack.Texts.{safe-whole, safe-plain, safe-closed, safe-begins}
 use Rattle.properties_format.proofs.ReadBack.Bytes.{AreWritable, ascii-scalars, writable-append}
 
@@ -33,35 +33,35 @@ AreLoose [] = Unit {0}
 AreLoose (p ∷ ps) = IsLoose p × AreLoose ps
 
 -- x is a loose spelling of c.
-record IsLooselySpelt (x : List ℕ) (c : ℕ) : Type 0 where
+record IsLooselyPrinted (x : List ℕ) (c : ℕ) : Type 0 where
   spelling : Spelling
   text : x ≡ spelling_text spelling
-  character : spelt_character spelling ≡ c
+  character : spelling_character spelling ≡ c
   loose : IsLoose spelling
 
 -- x is the text of loose spellings of y.
-pub record AreLooselySpelt (x y : List ℕ) : Type 0 where
+pub record AreLooselyPrinted (x y : List ℕ) : Type 0 where
   spellings : List Spelling
-  text : x ≡ spelt_before spellings []
-  characters : map spelt_character spellings ≡ y
+  text : x ≡ spellings_before spellings []
+  characters : map spelling_character spellings ≡ y
   loose : AreLoose spellings
 
 -- One more character at the front.
-loose-cons : (x y : List ℕ) (c : ℕ) (cs : List ℕ) → IsLooselySpelt x c → AreLooselySpelt y cs → AreLooselySpelt (x ++ y) (c ∷ cs)
+loose-cons : (x y : List ℕ) (c : ℕ) (cs : List ℕ) → IsLooselyPrinted x c → AreLooselyPrinted y cs → AreLooselyPrinted (x ++ y) (c ∷ cs)
 loose-cons x y c cs s t =
     record { spellings = s.spelling ∷ t.spellings; text = ap₂ (λ v w. v ++ w) s.text t.text; characters = ap₂ (λ v w. v ∷ w) s.character t.characters; loose = (s.loose, t.loose) }
 
 -- A single character.
-loose-one : (x : List ℕ) (c : ℕ) → IsLooselySpelt x c → AreLooselySpelt x (c ∷ [])
+loose-one : (x : List ℕ) (c : ℕ) → IsLooselyPrinted x c → AreLooselyPrinted x (c ∷ [])
 loose-one x c s =
     record { spellings = s.spelling ∷ []; text = s.text ∙ sym (append-nil (spelling_text s.spelling)); characters = ap (λ v. v ∷ []) s.character; loose = (s.loose, tt) }
 
 -- A safe spelling is loose.
-safely-loose : (x : List ℕ) (c : ℕ) → IsSafelySpelt x c → IsLooselySpelt x c
+safely-loose : (x : List ℕ) (c : ℕ) → IsSafelyPrinted x c → IsLooselyPrinted x c
 safely-loose x c s = record { spelling = s.spelling; text = s.text; character = s.character; loose = inl s.safe }
 
 -- A text equal to a loose spelling is a loose spelling.
-same-loose : (x y : List ℕ) (c : ℕ) → x ≡ y → IsLooselySpelt y c → IsLooselySpelt x c
+same-loose : (x y : List ℕ) (c : ℕ) → x ≡ y → IsLooselyPrinted y c → IsLooselyPrinted x c
 same-loose x y c e s = record { spelling = s.spelling; text = e ∙ s.text; character = s.character; loose = s.loose }
 
 -- ---- what they mean
@@ -77,7 +77,7 @@ are_loose-whole [] h = tt
 are_loose-whole (p ∷ ps) h = (loose-whole p h.0, are_loose-whole ps h.1)
 
 -- A loosely spelt text means what it spells.
-pub loose-means : (x y : List ℕ) → AreLooselySpelt x y → meaning_of x ≡ means y
+pub loose-means : (x y : List ℕ) → AreLooselyPrinted x y → meaning_of x ≡ means y
 loose-means x y s = ap meaning_of s.text ∙ meaning_of-all s.spellings (are_loose-whole s.spellings s.loose) ∙ ap means s.characters
 
 -- A loose spelling contains no line end.
@@ -86,12 +86,12 @@ loose-plain p (inl h) = safe-plain p h
 loose-plain p (inr h) = subst (λ v. HoldsNoLineEnd (spelling_text v)) (sym h.1) (h.3, tt)
 
 -- Loose spellings contain no line end.
-are_loose-plain : (ps : List Spelling) → AreLoose ps → HoldsNoLineEnd (spelt_before ps [])
+are_loose-plain : (ps : List Spelling) → AreLoose ps → HoldsNoLineEnd (spellings_before ps [])
 are_loose-plain [] h = tt
-are_loose-plain (p ∷ ps) h = plain-append (spelling_text p) (spelt_before ps []) (loose-plain p h.0) (are_loose-plain ps h.1)
+are_loose-plain (p ∷ ps) h = plain-append (spelling_text p) (spellings_before ps []) (loose-plain p h.0) (are_loose-plain ps h.1)
 
 -- A loosely spelt text contains no line end.
-pub loosely-plain : (x y : List ℕ) → AreLooselySpelt x y → HoldsNoLineEnd x
+pub loosely-plain : (x y : List ℕ) → AreLooselyPrinted x y → HoldsNoLineEnd x
 loosely-plain x y s = rw s.text (are_loose-plain s.spellings s.loose)
 
 -- A loose spelling leaves no line open.
@@ -100,13 +100,13 @@ loose-closed p x (inl h) o = safe-closed p x h o
 loose-closed p x (inr h) o = ap (λ v. is_open (x ++ spelling_text v)) h.1 ∙ is_open-other x h.0 h.2
 
 -- Loose spellings leave no line open.
-are_loose-closed : (ps : List Spelling) (x : List ℕ) → AreLoose ps → is_open x ≡ false → is_open (x ++ spelt_before ps []) ≡ false
+are_loose-closed : (ps : List Spelling) (x : List ℕ) → AreLoose ps → is_open x ≡ false → is_open (x ++ spellings_before ps []) ≡ false
 are_loose-closed [] x h o = ap is_open (append-nil x) ∙ o
 are_loose-closed (p ∷ ps) x h o =
-    ap is_open (sym (append_assoc x (spelling_text p) (spelt_before ps []))) ∙ are_loose-closed ps (x ++ spelling_text p) h.1 (loose-closed p x h.0 o)
+    ap is_open (sym (append_assoc x (spelling_text p) (spellings_before ps []))) ∙ are_loose-closed ps (x ++ spelling_text p) h.1 (loose-closed p x h.0 o)
 
 -- A loosely spelt text leaves no line open.
-pub loosely-closed : (x y z : List ℕ) → AreLooselySpelt y z → is_open x ≡ false → is_open (x ++ y) ≡ false
+pub loosely-closed : (x y z : List ℕ) → AreLooselyPrinted y z → is_open x ≡ false → is_open (x ++ y) ≡ false
 loosely-closed x y z s o = ap (λ v. is_open (x ++ v)) s.text ∙ are_loose-closed s.spellings x s.loose o
 
 -- ---- each character
@@ -132,45 +132,45 @@ first-special after_blanks c h = elim (or_cases (c == space) (after_blanks && is
 ]
 
 -- A character inside a value is loosely spelt.
-inside-loose : (e : Encoding) (c : ℕ) → scalar c → IsLooselySpelt (spelt_inside e c) c
+inside-loose : (e : Encoding) (c : ℕ) → scalar c → IsLooselyPrinted (printed_inside e c) c
 inside-loose e c h = elim (cases_Bool (is_free c)) [
   | inl k ↦
       let f = free-plain c k in
-      same-loose (spelt_inside e c) (c ∷ []) c (cond-true (is_free c) (c ∷ []) (spelt e false in_key_or_value c) k)
+      same-loose (printed_inside e c) (c ∷ []) c (cond-true (is_free c) (c ∷ []) (printed_character e false in_key_or_value c) k)
       (record { spelling = itself c; text = refl; character = refl; loose = inr (c, refl, f.0, f.1) })
   | inr k ↦
-      same-loose (spelt_inside e c) (spelt e false in_key_or_value c) c (cond-false (is_free c) (c ∷ []) (spelt e false in_key_or_value c) k)
-      (safely-loose (spelt e false in_key_or_value c) c (in_key_or_value-spelt e false c h))
+      same-loose (printed_inside e c) (printed_character e false in_key_or_value c) c (cond-false (is_free c) (c ∷ []) (printed_character e false in_key_or_value c) k)
+      (safely-loose (printed_character e false in_key_or_value c) c (in_key_or_value-printed e false c h))
 ]
 
 -- A character at the front of a value is loosely spelt.
-first-loose : (e : Encoding) (after_blanks : Bool) (c : ℕ) → scalar c → IsLooselySpelt (spelt_first e after_blanks c) c
+first-loose : (e : Encoding) (after_blanks : Bool) (c : ℕ) → scalar c → IsLooselyPrinted (printed_first e after_blanks c) c
 first-loose e after_blanks c h = elim (cases_Bool (c == space || (after_blanks && is_separator c))) [
   | inl k ↦
-      same-loose (spelt_first e after_blanks c) (backslash ∷ c ∷ []) c
-      (cond-true (c == space || (after_blanks && is_separator c)) (backslash ∷ c ∷ []) (spelt_inside e c) k)
-      (safely-loose (backslash ∷ c ∷ []) c (special-spelt c (first-special after_blanks c k)))
+      same-loose (printed_first e after_blanks c) (backslash ∷ c ∷ []) c
+      (cond-true (c == space || (after_blanks && is_separator c)) (backslash ∷ c ∷ []) (printed_inside e c) k)
+      (safely-loose (backslash ∷ c ∷ []) c (special-printed c (first-special after_blanks c k)))
   | inr k ↦
-      same-loose (spelt_first e after_blanks c) (spelt_inside e c) c
-      (cond-false (c == space || (after_blanks && is_separator c)) (backslash ∷ c ∷ []) (spelt_inside e c) k) (inside-loose e c h)
+      same-loose (printed_first e after_blanks c) (printed_inside e c) c
+      (cond-false (c == space || (after_blanks && is_separator c)) (backslash ∷ c ∷ []) (printed_inside e c) k) (inside-loose e c h)
 ]
 
 -- A space as `\u0020` is loosely spelt.
-space-loose : (c : ℕ) → (c == space) ≡ true → IsLooselySpelt (unit_escape space) c
-space-loose c k = rw (eqb-true c space k) (safely-loose (unit_escape space) space (unicode-spelt space (inl (lit< tt))))
+space-loose : (c : ℕ) → (c == space) ≡ true → IsLooselyPrinted (unit_escape space) c
+space-loose c k = rw (eqb-true c space k) (safely-loose (unit_escape space) space (unicode-printed space (inl (lit< tt))))
 
 -- A character at the end of a value is loosely spelt.
-last-loose : (e : Encoding) (c : ℕ) → scalar c → IsLooselySpelt (spelt_last e c) c
+last-loose : (e : Encoding) (c : ℕ) → scalar c → IsLooselyPrinted (printed_last e c) c
 last-loose e c h = elim (cases_Bool (c == space)) [
-  | inl k ↦ same-loose (spelt_last e c) (unit_escape space) c (cond-true (c == space) (unit_escape space) (spelt_inside e c) k) (space-loose c k)
-  | inr k ↦ same-loose (spelt_last e c) (spelt_inside e c) c (cond-false (c == space) (unit_escape space) (spelt_inside e c) k) (inside-loose e c h)
+  | inl k ↦ same-loose (printed_last e c) (unit_escape space) c (cond-true (c == space) (unit_escape space) (printed_inside e c) k) (space-loose c k)
+  | inr k ↦ same-loose (printed_last e c) (printed_inside e c) c (cond-false (c == space) (unit_escape space) (printed_inside e c) k) (inside-loose e c h)
 ]
 
 -- The characters after the first are loosely spelt.
-rest-loose : (e : Encoding) (cs : List ℕ) → AllByRecursion scalar cs → AreLooselySpelt (spelt_rest e cs) cs
+rest-loose : (e : Encoding) (cs : List ℕ) → AllByRecursion scalar cs → AreLooselyPrinted (printed_rest e cs) cs
 rest-loose e [] h = record { spellings = []; text = refl; characters = refl; loose = tt }
-rest-loose e (c ∷ []) h = loose-one (spelt_last e c) c (last-loose e c h.0)
-rest-loose e (c ∷ d ∷ cs) h = loose-cons (spelt_inside e c) (spelt_rest e (d ∷ cs)) c (d ∷ cs) (inside-loose e c h.0) (rest-loose e (d ∷ cs) h.1)
+rest-loose e (c ∷ []) h = loose-one (printed_last e c) c (last-loose e c h.0)
+rest-loose e (c ∷ d ∷ cs) h = loose-cons (printed_inside e c) (printed_rest e (d ∷ cs)) c (d ∷ cs) (inside-loose e c h.0) (rest-loose e (d ∷ cs) h.1)
 
 -- The test for a value that is a single space.
 alone-space : (c : ℕ) (cs : List ℕ) → (is_empty cs && c == space) ≡ true → (cs ≡ []) × ((c == space) ≡ true)
@@ -178,18 +178,18 @@ alone-space c [] h = (refl, h)
 alone-space c (d ∷ cs) h = absurd (cc)
 
 -- What is printed for a value is loosely spelt.
-pub value-loose : (e : Encoding) (after_blanks : Bool) (value : List ℕ) → AllByRecursion scalar value → AreLooselySpelt (spelt_value e after_blanks value) value
+pub value-loose : (e : Encoding) (after_blanks : Bool) (value : List ℕ) → AllByRecursion scalar value → AreLooselyPrinted (printed_value e after_blanks value) value
 value-loose e after_blanks [] h = record { spellings = []; text = refl; characters = refl; loose = tt }
 value-loose e after_blanks (c ∷ cs) h =
-    let more = spelt_first e after_blanks c ++ spelt_rest e cs in
+    let more = printed_first e after_blanks c ++ printed_rest e cs in
     elim (cases_Bool (is_empty cs && c == space)) [
       | inl k ↦
           let a = alone-space c cs k in
-          subst (λ v. AreLooselySpelt v (c ∷ cs)) (sym (cond-true (is_empty cs && c == space) (unit_escape space) more k))
-          (subst (λ v. AreLooselySpelt (unit_escape space) (c ∷ v)) (sym a.0) (loose-one (unit_escape space) c (space-loose c a.1)))
+          subst (λ v. AreLooselyPrinted v (c ∷ cs)) (sym (cond-true (is_empty cs && c == space) (unit_escape space) more k))
+          (subst (λ v. AreLooselyPrinted (unit_escape space) (c ∷ v)) (sym a.0) (loose-one (unit_escape space) c (space-loose c a.1)))
       | inr k ↦
-          subst (λ v. AreLooselySpelt v (c ∷ cs)) (sym (cond-false (is_empty cs && c == space) (unit_escape space) more k))
-          (loose-cons (spelt_first e after_blanks c) (spelt_rest e cs) c cs (first-loose e after_blanks c h.0) (rest-loose e cs h.1))
+          subst (λ v. AreLooselyPrinted v (c ∷ cs)) (sym (cond-false (is_empty cs && c == space) (unit_escape space) more k))
+          (loose-cons (printed_first e after_blanks c) (printed_rest e cs) c cs (first-loose e after_blanks c h.0) (rest-loose e cs h.1))
     ]
 
 -- ---- how it begins
@@ -216,36 +216,36 @@ free-begins after_blanks c y h k =
         elim (or_cases (c == 0x23) (c == 0x21) m) [ inl e ↦ rw (eqb-true c 0x23 e) refl | inr e ↦ rw (eqb-true c 0x21 e) refl ]
 
 -- The first character of a value, before any text.
-first-begins : (e : Encoding) (after_blanks : Bool) (c : ℕ) (y : List ℕ) → scalar c → BeginsAfter after_blanks (spelt_first e after_blanks c ++ y)
+first-begins : (e : Encoding) (after_blanks : Bool) (c : ℕ) (y : List ℕ) → scalar c → BeginsAfter after_blanks (printed_first e after_blanks c ++ y)
 first-begins e after_blanks c y h = elim (cases_Bool (c == space || (after_blanks && is_separator c))) [
   | inl k ↦
-      subst (λ v. BeginsAfter after_blanks (v ++ y)) (sym (cond-true (c == space || (after_blanks && is_separator c)) (backslash ∷ c ∷ []) (spelt_inside e c) k))
+      subst (λ v. BeginsAfter after_blanks (v ++ y)) (sym (cond-true (c == space || (after_blanks && is_separator c)) (backslash ∷ c ∷ []) (printed_inside e c) k))
       (record { no_blank = refl; no_separator = λ q. refl })
   | inr k ↦
-      subst (λ v. BeginsAfter after_blanks (v ++ y)) (sym (cond-false (c == space || (after_blanks && is_separator c)) (backslash ∷ c ∷ []) (spelt_inside e c) k))
+      subst (λ v. BeginsAfter after_blanks (v ++ y)) (sym (cond-false (c == space || (after_blanks && is_separator c)) (backslash ∷ c ∷ []) (printed_inside e c) k))
       (elim (cases_Bool (is_free c)) [
         | inl m ↦
-            subst (λ v. BeginsAfter after_blanks (v ++ y)) (sym (cond-true (is_free c) (c ∷ []) (spelt e false in_key_or_value c) m))
+            subst (λ v. BeginsAfter after_blanks (v ++ y)) (sym (cond-true (is_free c) (c ∷ []) (printed_character e false in_key_or_value c) m))
             (free-begins after_blanks c y m k)
         | inr m ↦
-            let s = in_key_or_value-spelt e false c h in
+            let s = in_key_or_value-printed e false c h in
             let b = safe-begins s.spelling y s.safe in
-            subst (λ v. BeginsAfter after_blanks (v ++ y)) (sym (cond-false (is_free c) (c ∷ []) (spelt e false in_key_or_value c) m ∙ s.text))
+            subst (λ v. BeginsAfter after_blanks (v ++ y)) (sym (cond-false (is_free c) (c ∷ []) (printed_character e false in_key_or_value c) m ∙ s.text))
             (record { no_blank = b.no_blank; no_separator = λ q. b.no_separator })
       ])
 ]
 
 -- What is printed for a value doesn't begin with a blank, and after blanks it doesn't begin with a separator.
-pub value-begins : (e : Encoding) (after_blanks : Bool) (value : List ℕ) → AllByRecursion scalar value → BeginsAfter after_blanks (spelt_value e after_blanks value)
+pub value-begins : (e : Encoding) (after_blanks : Bool) (value : List ℕ) → AllByRecursion scalar value → BeginsAfter after_blanks (printed_value e after_blanks value)
 value-begins e after_blanks [] h = record { no_blank = refl; no_separator = λ q. refl }
 value-begins e after_blanks (c ∷ cs) h =
-    let more = spelt_first e after_blanks c ++ spelt_rest e cs in
+    let more = printed_first e after_blanks c ++ printed_rest e cs in
     elim (cases_Bool (is_empty cs && c == space)) [
       | inl k ↦
           subst (BeginsAfter after_blanks) (sym (cond-true (is_empty cs && c == space) (unit_escape space) more k))
           (record { no_blank = refl; no_separator = λ q. refl })
       | inr k ↦
-          subst (BeginsAfter after_blanks) (sym (cond-false (is_empty cs && c == space) (unit_escape space) more k)) (first-begins e after_blanks c (spelt_rest e cs) h.0)
+          subst (BeginsAfter after_blanks) (sym (cond-false (is_empty cs && c == space) (unit_escape space) more k)) (first-begins e after_blanks c (printed_rest e cs) h.0)
     ]
 
 -- ---- it can be written
@@ -255,15 +255,15 @@ pub ascii-writable : (e : Encoding) (x : List ℕ) → AreAscii x → AreWritabl
 ascii-writable e x h = record { scalars = ascii-scalars x h; encodable = AreEncodable-ascii e x h }
 
 -- A character inside a value can be written.
-inside-writable : (e : Encoding) (c : ℕ) → scalar c → AreWritable e (spelt_inside e c)
+inside-writable : (e : Encoding) (c : ℕ) → scalar c → AreWritable e (printed_inside e c)
 inside-writable e c h =
-    cond_both (is_free c) (c ∷ []) (spelt e false in_key_or_value c) (AreWritable e) (λ k. ascii-writable e (c ∷ []) ((free-plain c k).2, tt))
-    (λ k. record { scalars = spelt-either e false in_key_or_value c (AllByRecursion scalar) ascii-scalars (λ m. (h, tt)); encodable = spelt-encodable e false in_key_or_value c })
+    cond_both (is_free c) (c ∷ []) (printed_character e false in_key_or_value c) (AreWritable e) (λ k. ascii-writable e (c ∷ []) ((free-plain c k).2, tt))
+    (λ k. record { scalars = printed-either e false in_key_or_value c (AllByRecursion scalar) ascii-scalars (λ m. (h, tt)); encodable = printed-encodable e false in_key_or_value c })
 
 -- A character at the front of a value can be written.
-first-writable : (e : Encoding) (after_blanks : Bool) (c : ℕ) → scalar c → AreWritable e (spelt_first e after_blanks c)
+first-writable : (e : Encoding) (after_blanks : Bool) (c : ℕ) → scalar c → AreWritable e (printed_first e after_blanks c)
 first-writable e after_blanks c h =
-    cond_both (c == space || (after_blanks && is_separator c)) (backslash ∷ c ∷ []) (spelt_inside e c) (AreWritable e)
+    cond_both (c == space || (after_blanks && is_separator c)) (backslash ∷ c ∷ []) (printed_inside e c) (AreWritable e)
     (λ k. ascii-writable e (backslash ∷ c ∷ []) (lit< tt, (special-ascii c (first-special after_blanks c k), tt))) (λ k. inside-writable e c h)
 
 -- A space as `\u0020` can be written.
@@ -271,14 +271,14 @@ space-writable : (e : Encoding) → AreWritable e (unit_escape space)
 space-writable e = ascii-writable e (unit_escape space) (unicode_escape-ascii space)
 
 -- The characters after the first can be written.
-rest-writable : (e : Encoding) (cs : List ℕ) → AllByRecursion scalar cs → AreWritable e (spelt_rest e cs)
+rest-writable : (e : Encoding) (cs : List ℕ) → AllByRecursion scalar cs → AreWritable e (printed_rest e cs)
 rest-writable e [] h = ascii-writable e [] tt
-rest-writable e (c ∷ []) h = cond_both (c == space) (unit_escape space) (spelt_inside e c) (AreWritable e) (λ k. space-writable e) (λ k. inside-writable e c h.0)
-rest-writable e (c ∷ d ∷ cs) h = writable-append e (spelt_inside e c) (spelt_rest e (d ∷ cs)) (inside-writable e c h.0) (rest-writable e (d ∷ cs) h.1)
+rest-writable e (c ∷ []) h = cond_both (c == space) (unit_escape space) (printed_inside e c) (AreWritable e) (λ k. space-writable e) (λ k. inside-writable e c h.0)
+rest-writable e (c ∷ d ∷ cs) h = writable-append e (printed_inside e c) (printed_rest e (d ∷ cs)) (inside-writable e c h.0) (rest-writable e (d ∷ cs) h.1)
 
 -- What is printed for a value of scalar values can be written.
-pub value-writable : (e : Encoding) (after_blanks : Bool) (value : List ℕ) → AllByRecursion scalar value → AreWritable e (spelt_value e after_blanks value)
+pub value-writable : (e : Encoding) (after_blanks : Bool) (value : List ℕ) → AllByRecursion scalar value → AreWritable e (printed_value e after_blanks value)
 value-writable e after_blanks [] h = ascii-writable e [] tt
 value-writable e after_blanks (c ∷ cs) h =
-    cond_both (is_empty cs && c == space) (unit_escape space) (spelt_first e after_blanks c ++ spelt_rest e cs) (AreWritable e) (λ k. space-writable e)
-    (λ k. writable-append e (spelt_first e after_blanks c) (spelt_rest e cs) (first-writable e after_blanks c h.0) (rest-writable e cs h.1))
+    cond_both (is_empty cs && c == space) (unit_escape space) (printed_first e after_blanks c ++ printed_rest e cs) (AreWritable e) (λ k. space-writable e)
+    (λ k. writable-append e (printed_first e after_blanks c) (printed_rest e cs) (first-writable e after_blanks c h.0) (rest-writable e cs h.1))

@@ -112,7 +112,7 @@ added-size first x =
 
 -- A walk is before these lines, the first of which is the first of the group or not: they add what is left of the text
 -- before the value, followed by the value.
-pub record StandsBefore (e : Encoding) (first : Bool) (lines : List HeldLine) (left value : List ℕ) : Type 0 where
+pub record IsWalkBefore (e : Encoding) (first : Bool) (lines : List HeldLine) (left value : List ℕ) : Type 0 where
   pub decoded : AreDecoded e lines
   pub adds : joined_by first lines ≡ left ++ value
   pub may_end : MayEnd left value
@@ -120,7 +120,7 @@ pub record StandsBefore (e : Encoding) (first : Bool) (lines : List HeldLine) (l
 
 -- The walk begins before all lines of the group.
 pub walk-begins : (e : Encoding) (group : List HeldLine) (key value : List ℕ) → AreDecoded e group → IsPair (joined (as_lines group)) key value
-    → StandsBefore e true group (before_value (joined (as_lines group))) value
+    → IsWalkBefore e true group (before_value (joined (as_lines group))) value
 walk-begins e [] key value d h = absurd (no_lines-no_pair key value h)
 walk-begins e (i ∷ is) key value d h =
     let line = joined (as_lines (i ∷ is)) in
@@ -133,11 +133,11 @@ walk-begins e (i ∷ is) key value d h =
     }
 
 -- The walk ends before the lines do.
-pub walk-ends : (e : Encoding) (first : Bool) (left value : List ℕ) → StandsBefore e first [] left value → ⊥
+pub walk-ends : (e : Encoding) (first : Bool) (left value : List ℕ) → IsWalkBefore e first [] left value → ⊥
 walk-ends e first left value h = h.some (none-left left value (sym h.adds))
 
 -- In the last line, no more is left than that line adds.
-pub walk-last : (e : Encoding) (first : Bool) (h : HeldLine) (left value : List ℕ) → StandsBefore e first (h ∷ []) left value
+pub walk-last : (e : Encoding) (first : Bool) (h : HeldLine) (left value : List ℕ) → IsWalkBefore e first (h ∷ []) left value
     → utf8_size left ≤ utf8_size (added_by first h.text)
 walk-last e first h left value w =
     let s : added_by first h.text ≡ left ++ value = sym (append-nil (added_by first h.text)) ∙ w.adds in
@@ -145,7 +145,7 @@ walk-last e first h left value w =
     omega arith
 
 -- If as much is left as a line adds, the front ends with what it adds.
-pub walk-here : (e : Encoding) (first : Bool) (h : HeldLine) (hs : List HeldLine) (left value : List ℕ) → StandsBefore e first (h ∷ hs) left value
+pub walk-here : (e : Encoding) (first : Bool) (h : HeldLine) (hs : List HeldLine) (left value : List ℕ) → IsWalkBefore e first (h ∷ hs) left value
     → utf8_size left ≡ utf8_size (added_by first h.text)
     → added_by first h.text ≡ left
 walk-here e first h hs left value w l =
@@ -163,7 +163,7 @@ may-here p r j v s some (inr k) =
 -- If less is left than a line adds, the front ends inside it: at the index after as many ASCII bytes as the text of the
 -- line has ASCII characters up to there.
 pub walk-inside : (e : Encoding) (first : Bool) (h : HeldLine) (hs : List HeldLine) (left value : List ℕ) → is_editable e ≡ true
-    → StandsBefore e first (h ∷ hs) left value → utf8_size left < utf8_size (added_by first h.text)
+    → IsWalkBefore e first (h ∷ hs) left value → utf8_size left < utf8_size (added_by first h.text)
     → (x y : List ℕ) → h.text ≡ x ++ y → without_indent first h.text ≡ left ++ y
     → length (front_in e first left (h ∷ hs)) ≡ after_ascii (ascii_count x) h.bytes
 walk-inside e first h hs left value ok w l x y s t =
@@ -181,10 +181,10 @@ pub record GoesOn (e : Encoding) (first : Bool) (h : HeldLine) (hs : List HeldLi
   pub next : List ℕ
   pub whole : left ≡ added_by first h.text ++ next
   pub size : utf8_size left ≡ utf8_size (added_by first h.text) + utf8_size next
-  pub stands : StandsBefore e false hs next value
+  pub is_before : IsWalkBefore e false hs next value
 
 -- If more is left than a line adds, the walk continues past it.
-pub walk-on : (e : Encoding) (first : Bool) (h : HeldLine) (hs : List HeldLine) (left value : List ℕ) → StandsBefore e first (h ∷ hs) left value
+pub walk-on : (e : Encoding) (first : Bool) (h : HeldLine) (hs : List HeldLine) (left value : List ℕ) → IsWalkBefore e first (h ∷ hs) left value
     → utf8_size (added_by first h.text) < utf8_size left → GoesOn e first h hs left value
 walk-on e first h hs left value w l =
     let a = added_by first h.text in
@@ -197,7 +197,7 @@ walk-on e first h hs left value w l =
       next = m.0;
       whole = m.1;
       size = m.2;
-      stands = record { decoded = w.decoded.1; adds = rest; may_end = may-later m.0 some m.1 w.may_end; some = some };
+      is_before = record { decoded = w.decoded.1; adds = rest; may_end = may-later m.0 some m.1 w.may_end; some = some };
     }
   where
     may-later : (q : List ℕ) → q ≢ [] → left ≡ added_by first h.text ++ q → MayEnd left value → MayEnd q value

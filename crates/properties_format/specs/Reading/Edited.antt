@@ -9,7 +9,7 @@ use Rattle.properties_format.specs.Items.{Outcome, ignored, given, broken}
 use Rattle.properties_format.specs.Reading.Items.{outcome_of, items_of}
 use Rattle.properties_format.specs.Writing.{is_empty}
 use Rattle.properties_format.specs.Body.{HeldLine, as_lines, ending_bytes, group_bytes, groups_bytes, last_ending}
-use Rattle.properties_format.specs.Edited.{pair_bytes, final_group, parting, bom_of, guarding_lf, EditResult, edited, unsupported, unreadable, is_editable}
+use Rattle.properties_format.specs.Edited.{pair_bytes, final_group, separation, bom_of, guarding_lf, EditResult, edited, unsupported, unreadable, is_editable}
 use Rattle.properties_format.specs.Reading.Body.{has_key, held_groups_of}
 
 -- ---- setting a key
@@ -35,7 +35,7 @@ abbrev pub set_at : Encoding → List ℕ → List (List HeldLine) → List ℕ 
 set_at e source groups key value (Some p) =
     groups_bytes p.before ++ (pair_bytes e (is_empty (groups_bytes p.before)) key value ++ (ending_bytes (last_ending p.group) ++ groups_bytes p.after))
 set_at e source groups key value None =
-    let front : List ℕ = groups_bytes groups ++ parting source (final_group groups) in
+    let front : List ℕ = groups_bytes groups ++ separation source (final_group groups) in
     front ++ (pair_bytes e (is_empty front) key value ++ line_feed ∷ [])
 
 -- the source with the key set, given the encoding in force and the body

@@ -3,7 +3,7 @@ use Rattle.std.specs.Prelude.{◌==◌, ◌&&◌, ℕ, zero, suc, pred, length, 
 use Rattle.properties_format.specs.Hexadecimal.{Four, are_hexadecimal, code_unit}
 use Rattle.properties_format.specs.Surrogates.{is_high, is_low}
 use Rattle.properties_format.specs.Text.{backslash}
-use Rattle.properties_format.specs.Escapes.{Malformed, not_enough_digits, letter_u, Spelling, itself, escaped, unicode, surrogates, last, spelling_text, spelt_character, malformed_by, Meaning, means, breaks}
+use Rattle.properties_format.specs.Escapes.{Malformed, not_enough_digits, letter_u, Spelling, itself, escaped, unicode, surrogates, last, spelling_text, spelling_character, malformed_by, Meaning, means, breaks}
 
 -- the spelling of a high surrogate, given the text after its escape: the two escapes, if that text begins with the
 -- escape of a low surrogate
@@ -54,7 +54,7 @@ meaning_past [] skipped = means []
 meaning_past (c ∷ cs) (suc skipped) = meaning_past cs skipped
 meaning_past (c ∷ cs) zero = elim (first_spelling c cs) [
   | None ↦ breaks (fault_of cs)
-  | Some p ↦ in_front (spelt_character p) (meaning_past cs (pred (length (spelling_text p))))
+  | Some p ↦ in_front (spelling_character p) (meaning_past cs (pred (length (spelling_text p))))
 ]
 
 -- the meaning of the text

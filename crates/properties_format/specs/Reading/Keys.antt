@@ -20,7 +20,7 @@ pub record ComesBefore (all : List (List ℕ)) (key other : List ℕ) : Type 0 w
   pub after : List (List ℕ)
   pub division : all ≡ before ++ key ∷ after
   pub none_before : HasNot other before
-  pub apart : key ≢ other
+  pub differ : key ≢ other
 
 -- These are the keys of the list, each once, in the order of their first occurrences.
 pub record AreFirstOf (all keys : List (List ℕ)) : Type 0 where

@@ -46,15 +46,15 @@ unended_bytes (h ∷ []) = h.bytes
 unended_bytes (h ∷ i ∷ hs) = h.bytes ++ (ending_bytes h.ending ++ unended_bytes (i ∷ hs))
 
 -- the key of an outcome, if it is a pair
-abbrev pub key_told : Outcome → Option (List ℕ)
-key_told ignored = None
-key_told (given (comment text)) = None
-key_told (given (pair key value)) = Some key
-key_told (broken kind) = None
+abbrev pub outcome_key : Outcome → Option (List ℕ)
+outcome_key ignored = None
+outcome_key (given (comment text)) = None
+outcome_key (given (pair key value)) = Some key
+outcome_key (broken kind) = None
 
 -- the slot of a group
 abbrev pub slot_of : List HeldLine → Slot
-slot_of g = record { bytes = unended_bytes g; ending = last_ending g; key = key_told (outcome_of (joined (as_lines g))) }
+slot_of g = record { bytes = unended_bytes g; ending = last_ending g; key = outcome_key (outcome_of (joined (as_lines g))) }
 
 -- the slots of the groups, in order
 abbrev pub slot_list : List (List HeldLine) → List Slot

@@ -13,7 +13,7 @@ use Rattle.properties_format.specs.Reading.Items.{outcome_of}
 use Rattle.properties_format.specs.Printing.{encoded_text}
 use Rattle.properties_format.specs.Body.{HeldLine, as_lines, ending_bytes, groups_bytes, last_ending}
 use Rattle.properties_format.specs.Edited.{final_group, bom_of, EditResult}
-use Rattle.properties_format.specs.Valued.{value_text, separator_after, ending_in, parted_by, new_pair_bytes}
+use Rattle.properties_format.specs.Valued.{value_text, separator_after, ending_in, separation_by, new_pair_bytes}
 use Rattle.properties_format.specs.Reading.Body.{held_groups_of}
 use Rattle.properties_format.specs.Reading.Edited.{KeyPlace, last_place, result_of}
 
@@ -85,10 +85,10 @@ between_of group = between_in (joined (as_lines group))
 -- ---- the separator of a new pair
 
 -- what separates the key from the value, if the line is a pair
-abbrev pub between_told : Logical → List ℕ → Option (List ℕ)
-between_told Logical.blank x = None
-between_told (Logical.comment text) x = None
-between_told (Logical.pair key value) x = Some (between_in x)
+abbrev pub between_if_pair : Logical → List ℕ → Option (List ℕ)
+between_if_pair Logical.blank x = None
+between_if_pair (Logical.comment text) x = None
+between_if_pair (Logical.pair key value) x = Some (between_in x)
 
 -- the first if there is one, otherwise the second
 abbrev pub or_else : Option (List ℕ) → Option (List ℕ) → Option (List ℕ)
@@ -98,7 +98,7 @@ or_else (Some x) b = Some x
 -- what separates the key from the value in the last pair, if there is a pair
 abbrev pub last_between : List (List HeldLine) → Option (List ℕ)
 last_between [] = None
-last_between (g ∷ gs) = or_else (last_between gs) (between_told (split_of (joined (as_lines g))) (joined (as_lines g)))
+last_between (g ∷ gs) = or_else (last_between gs) (between_if_pair (split_of (joined (as_lines g))) (joined (as_lines g)))
 
 -- the separator of a new pair with this key, given what separates the key from the value in the last pair, if there is
 -- one
@@ -128,7 +128,7 @@ revalued_at e value p =
 -- the body with a new pair at its end
 abbrev pub added_at : Encoding → List (List HeldLine) → List ℕ → List ℕ → List ℕ
 added_at e groups key value =
-    let front : List ℕ = groups_bytes groups ++ parted_by (ending_in groups) (final_group groups) in
+    let front : List ℕ = groups_bytes groups ++ separation_by (ending_in groups) (final_group groups) in
     front ++ new_pair_bytes e front key (separator_by key (last_between groups)) value (ending_in groups)
 
 -- the body with the value set, given the place of the last pair with the key, if there is one

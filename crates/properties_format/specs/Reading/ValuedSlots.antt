@@ -5,13 +5,13 @@ use Rattle.properties_format.specs.Encoding.{Encoding}
 use Rattle.properties_format.specs.Groups.{joined}
 use Rattle.properties_format.specs.Reading.Split.{split_of}
 use Rattle.properties_format.specs.Reading.Items.{outcome_of}
-use Rattle.properties_format.specs.Printing.{spelt_key, encoded_text}
+use Rattle.properties_format.specs.Printing.{printed_key, encoded_text}
 use Rattle.properties_format.specs.Body.{HeldLine, as_lines}
 use Rattle.properties_format.specs.Edited.{final_group}
-use Rattle.properties_format.specs.Valued.{spelt_value, value_text, ending_among}
+use Rattle.properties_format.specs.Valued.{printed_value, value_text, ending_among}
 use Rattle.properties_format.specs.Reading.Body.{held_groups_of}
-use Rattle.properties_format.specs.Reading.Valued.{front_of, between_of, between_told, or_else, separator_by, has_value}
-use Rattle.properties_format.specs.Reading.Slots.{Slot, key_told, Closing, left_out, ended_by, closed_by, Slots, is_first, SlotPlace, last_slot, empty_slot, closed_slots, is_by_cr, is_lf_alone}
+use Rattle.properties_format.specs.Reading.Valued.{front_of, between_of, between_if_pair, or_else, separator_by, has_value}
+use Rattle.properties_format.specs.Reading.Slots.{Slot, outcome_key, Closing, left_out, ended_by, closed_by, Slots, is_first, SlotPlace, last_slot, empty_slot, closed_slots, is_by_cr, is_lf_alone}
 
 -- the group of a slot, from its bytes
 abbrev pub slot_group : Encoding → Slot → List HeldLine
@@ -29,7 +29,7 @@ revalued_slot e value s =
 
 -- what stands between key and value, where the slot is a pair
 abbrev pub between_in_slot : Encoding → Slot → Option (List ℕ)
-between_in_slot e s = let line : List ℕ = joined (as_lines (slot_group e s)) in between_told (split_of line) line
+between_in_slot e s = let line : List ℕ = joined (as_lines (slot_group e s)) in between_if_pair (split_of line) line
 
 -- what stands between key and value of the last pair
 abbrev pub last_slot_between : Encoding → List Slot → Option (List ℕ)
@@ -57,7 +57,7 @@ closing_with by (closed_by other) = closed_by by
 -- the slot of a new pair, which is the first of the body or not
 abbrev pub new_slot : Encoding → Bool → List ℕ → List ℕ → List ℕ → LineEnding → Slot
 new_slot e first key separator value by =
-    record { bytes = encoded_text e (spelt_key e false first key ++ (separator ++ spelt_value e (is_blanks separator) value)); ending = Some by; key = Some key }
+    record { bytes = encoded_text e (printed_key e false first key ++ (separator ++ printed_value e (is_blanks separator) value)); ending = Some by; key = Some key }
 
 -- the slots with a new pair at their end, and an empty last line after it
 abbrev pub slots_added : Encoding → List ℕ → List ℕ → Slots → Slots
@@ -88,7 +88,7 @@ slots_valued e key value s = slots_valued_at e key value s (last_slot key s.list
 pub record IsReadAgain (e : Encoding) (s : Slot) : Type 0 where
   pub group : List HeldLine
   pub is_group : held_groups_of e s.bytes ≡ group ∷ []
-  pub key_is : s.key ≡ key_told (outcome_of (joined (as_lines group)))
+  pub key_is : s.key ≡ outcome_key (outcome_of (joined (as_lines group)))
 
 -- each of the slots is such
 abbrev pub AreReadAgain : Encoding → List Slot → Type 0

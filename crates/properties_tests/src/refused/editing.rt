@@ -14,6 +14,7 @@ use std::process::Abort;
 enum Change<'a> {
     Put(&'a str, &'a str),
     Remove(&'a str),
+    SetValue(&'a str, &'a str),
 }
 
 // Lines that are decoded, joined and unescaped, and more pairs with the key than a list takes without growing.
@@ -52,6 +53,7 @@ fn changed(
     match change {
         Change::Put(key, value) => set_key(alloc, source, encoding, key, value),
         Change::Remove(key) => remove_key(alloc, source, encoding, key),
+        Change::SetValue(key, value) => set_value(alloc, source, encoding, key, value),
     }
 }
 
@@ -72,6 +74,10 @@ fn edit_of(alloc: Global, change: Change<'_>) -> Result<Edit, AllocError> {
             String::from_str(alloc, value)?,
         )),
         Change::Remove(key) => Ok(Edit::Remove(String::from_str(alloc, key)?)),
+        Change::SetValue(key, value) => Ok(Edit::SetValue(
+            String::from_str(alloc, key)?,
+            String::from_str(alloc, value)?,
+        )),
     }
 }
 
@@ -83,6 +89,7 @@ fn change_document(document: &mut Document, change: Change<'_>) -> Result<(), Al
             document.remove(key);
             Ok(())
         }
+        Change::SetValue(key, value) => document.set_value(key, value),
     }
 }
 
@@ -122,14 +129,12 @@ fn gives(rt: &impl Abort, answer: Result<Vec<u8>, PropertiesError>, wanted: &[u8
 enum Call<'a> {
     One(Change<'a>),
     All(&'a [Edit]),
-    Value(&'a str, &'a str),
 }
 
 fn answer(alloc: Global, source: &[u8], call: Call<'_>) -> Result<Vec<u8>, PropertiesError> {
     match call {
         Call::One(made) => changed(alloc, source, Encoding::WINDOWS_1252, made),
         Call::All(edits) => edit_all(alloc, source, Encoding::WINDOWS_1252, edits),
-        Call::Value(key, value) => set_value(alloc, source, Encoding::WINDOWS_1252, key, value),
     }
 }
 
@@ -177,19 +182,34 @@ const SPREAD: &[u8] = b"a=1\r\nk\\u00e9\\\r\n  y  :  2\\\r\n  3\r\n";
 #[test]
 fn a_value_is_set_or_refused(rt: HostRuntime) {
     let wanted = b"a=1\r\nk\\u00e9\\\r\n  y  :  \xe9=\\u0020\r\n".as_slice();
-    let call = Call::Value(KEY, "\u{e9}= ");
+    let call = Call::One(Change::SetValue(KEY, "\u{e9}= "));
     check_given(&rt, rt.alloc(), SPREAD, call, wanted);
 }
 
 #[test]
 fn a_value_of_a_new_key_is_set_or_refused(rt: HostRuntime) {
     let wanted = b"a=1\r\nk\\u00e9\\\r\n  y  :  2\\\r\n  3\r\nc : x\r\n".as_slice();
-    check_given(&rt, rt.alloc(), SPREAD, Call::Value("c", "x"), wanted);
+    let call = Call::One(Change::SetValue("c", "x"));
+    check_given(&rt, rt.alloc(), SPREAD, call, wanted);
 }
 
 #[test]
 fn a_value_that_is_there_stays_or_is_refused(rt: HostRuntime) {
-    check_given(&rt, rt.alloc(), SPREAD, Call::Value(KEY, "23"), SPREAD);
+    let call = Call::One(Change::SetValue(KEY, "23"));
+    check_given(&rt, rt.alloc(), SPREAD, call, SPREAD);
+}
+
+#[test]
+fn values_are_set_in_a_list_or_refused(rt: HostRuntime) {
+    let wanted = b"a=1\r\nk\\u00e9\\\r\n  y  :  \xe9=\\u0020\r\nc : x\r\n".as_slice();
+    let changes = [
+        Change::SetValue(KEY, "\u{e9}= "),
+        Change::SetValue("c", "x"),
+    ];
+    if let Ok(edits) = edits_of(rt.alloc(), &changes) {
+        let call = Call::All(edits.as_slice());
+        check_given(&rt, rt.alloc(), SPREAD, call, wanted);
+    }
 }
 
 // The guard before what begins like a byte order mark has its room from the start.
@@ -257,6 +277,17 @@ fn a_document_gets_a_new_key_or_stays(rt: HostRuntime) -> Result<(), PropertiesE
 }
 
 #[test]
+fn a_value_of_a_document_is_set_or_stays(rt: HostRuntime) -> Result<(), PropertiesError> {
+    check_document(&rt, rt.alloc(), Change::SetValue("k", "x"), b"k=x\na\\")
+}
+
+#[test]
+fn a_document_gets_a_value_of_a_new_key_or_stays(rt: HostRuntime) -> Result<(), PropertiesError> {
+    let wanted = b"k=1\na\\\n\nc=x\n".as_slice();
+    check_document(&rt, rt.alloc(), Change::SetValue("c", "x"), wanted)
+}
+
+#[test]
 fn a_key_of_a_document_is_removed_without_memory(rt: HostRuntime) -> Result<(), PropertiesError> {
     check_document(&rt, rt.alloc(), Change::Remove("k"), b"a\\")?;
     check_document(&rt, rt.alloc(), Change::Remove("a"), b"k=1\n")
@@ -296,7 +327,7 @@ fn a_malformed_escape_is_told_or_memory_is_where_a_key_is_set(rt: HostRuntime) {
 
 #[test]
 fn a_malformed_escape_is_told_or_memory_is_where_a_value_is_set(rt: HostRuntime) {
-    check_malformed(&rt, rt.alloc(), Call::Value(KEY, "x"));
+    check_malformed(&rt, rt.alloc(), Call::One(Change::SetValue(KEY, "x")));
 }
 
 #[test]
@@ -324,7 +355,7 @@ fn utf_16_is_refused_without_memory(rt: HostRuntime) {
         Call::One(Change::Put("a", "b")),
         Call::One(Change::Remove("a")),
         Call::All(&[]),
-        Call::Value("a", "b"),
+        Call::One(Change::SetValue("a", "b")),
     ];
     for call in calls {
         let told = answer(rt.alloc(), source, call);

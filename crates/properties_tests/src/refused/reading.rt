@@ -34,7 +34,7 @@ fn is_item(line: &Line, at: usize) -> bool {
 }
 
 // Whether what is lent is the item at this place.
-fn is_lent_item(line: &LineRef<'_>, at: usize) -> bool {
+fn is_borrowed_item(line: &LineRef<'_>, at: usize) -> bool {
     let Some((key, value)) = PAIRS.get(at) else {
         return false;
     };
@@ -69,12 +69,12 @@ fn items_end_where_memory_is_refused(rt: HostRuntime) -> Result<(), Fail> {
 }
 
 // Each lent item, or Memory after some of them and nothing after it. Says whether each came.
-fn lends_each_item(rt: &impl Abort, alloc: Global) -> Result<bool, Fail> {
+fn borrows_each_item(rt: &impl Abort, alloc: Global) -> Result<bool, Fail> {
     let mut items = PropertiesIter::new(alloc, INPUT)?;
     for at in 0..PAIRS.len() {
-        let is_lent = match items.next_ref() {
+        let is_borrowed = match items.next_ref() {
             Some(Ok(line)) => {
-                assert!(rt; is_lent_item(&line, at));
+                assert!(rt; is_borrowed_item(&line, at));
                 true
             }
             Some(Err(error)) => {
@@ -83,7 +83,7 @@ fn lends_each_item(rt: &impl Abort, alloc: Global) -> Result<bool, Fail> {
             }
             None => panic!(rt; "no item {at}"),
         };
-        if !is_lent {
+        if !is_borrowed {
             assert!(rt; items.next_ref().is_none());
             assert!(rt; items.next().is_none());
             return Ok(false);
@@ -95,21 +95,26 @@ fn lends_each_item(rt: &impl Abort, alloc: Global) -> Result<bool, Fail> {
 
 // One growth at most is refused, so a second reading comes to the end.
 #[test]
-fn lent_items_end_where_memory_is_refused(rt: HostRuntime) -> Result<(), Fail> {
-    if !lends_each_item(&rt, rt.alloc())? {
-        assert!(rt; lends_each_item(&rt, rt.alloc())?);
+fn borrowed_items_end_where_memory_is_refused(rt: HostRuntime) -> Result<(), Fail> {
+    if !borrows_each_item(&rt, rt.alloc())? {
+        assert!(rt; borrows_each_item(&rt, rt.alloc())?);
     }
     Ok(())
 }
 
 // A copy of the item at this place is made at once, or is refused and then made. The item is lent all the same.
-fn check_copy(rt: &impl Abort, alloc: Global, lent: &LineRef<'_>, at: usize) -> Result<(), Fail> {
-    let copy = match lent.to_line(alloc) {
+fn check_copy(
+    rt: &impl Abort,
+    alloc: Global,
+    borrowed: &LineRef<'_>,
+    at: usize,
+) -> Result<(), Fail> {
+    let copy = match borrowed.to_line(alloc) {
         Ok(copy) => copy,
         Err(error) => {
             assert!(rt; is_memory(&error));
-            assert!(rt; is_lent_item(lent, at));
-            lent.to_line(alloc)?
+            assert!(rt; is_borrowed_item(borrowed, at));
+            borrowed.to_line(alloc)?
         }
     };
     assert!(rt; is_item(&copy, at));
@@ -121,7 +126,7 @@ fn a_refused_copy_is_made_the_next_time(rt: HostRuntime) -> Result<(), Fail> {
     let mut items = PropertiesIter::new(rt.alloc(), INPUT)?;
     for at in 0..PAIRS.len() {
         match items.next_ref() {
-            Some(Ok(lent)) => check_copy(&rt, rt.alloc(), &lent, at)?,
+            Some(Ok(borrowed)) => check_copy(&rt, rt.alloc(), &borrowed, at)?,
             Some(Err(error)) => {
                 assert!(rt; is_memory(&error));
                 return Ok(());

@@ -13,11 +13,11 @@ use borrow.Rule.Slice.PartMut.{put_mid, post_of}
 use Rattle.properties_format.specs.Text.{space, backslash}
 use Rattle.properties_format.specs.Windows1252.{windows_1252_byte, windows_1252_table, is_in_table, place_from}
 use Rattle.properties_format.specs.Encoding.{Encoding, windows_1252, utf_8, one_byte, encoded}
-use Rattle.properties_format.specs.Printing.{in_key_or_value, unicode_escape, may_stand, literal, is_special, has_letter, letter_escape, spelt, spelt_text, encoded_text}
-use Rattle.properties_format.proofs.Printing.Characters.{AreAscii, encoded_text-append, spelt_text-append, encoded_text-ascii, encoded-ascii, special-ascii, letter_escape-ascii}
+use Rattle.properties_format.specs.Printing.{in_key_or_value, unicode_escape, may_be_unescaped, literal, is_special, has_letter, letter_escape, printed_character, printed_characters, encoded_text}
+use Rattle.properties_format.proofs.Printing.Characters.{AreAscii, encoded_text-append, printed_characters-append, encoded_text-ascii, encoded-ascii, special-ascii, letter_escape-ascii}
 use Rattle.properties_format.proofs.Encodings.Utf8Characters.{encode-two, encode-three, encode-four}
 use Rattle.properties_text.specs.Encoding.{output_of, EncodesFront}
-use Rattle.properties_text.specs.Printing.{spelt_byte, spelt_bytes, backslashes_before, last_of, text_bytes, Stands, all_of_windows_1252}
+use Rattle.properties_text.specs.Printing.{printed_byte, printed_bytes, backslashes_before, last_of, text_bytes, PrintsByteByByte, all_of_windows_1252}
 use Rattle.properties_text.specs.declared.print.Repertoire.{Repertoire}
 use Rattle.properties_text.specs.declared.encoding.encode.OutputEncoding.TheVariants.{Utf8}
 use Rattle.properties_text.specs.declared.print.Place.TheVariants.{KeyOrValue}
@@ -25,14 +25,14 @@ use Rattle.properties_text.proofs.Printing.Characters.{encoded_escape}
 
 -- ---- bytes, one after another
 
-pub spelt_bytes-append : (x y : List ℕ) → spelt_bytes (x ++ y) ≡ spelt_bytes x ++ spelt_bytes y
-spelt_bytes-append [] y = refl
-spelt_bytes-append (b ∷ x) y = ap (λ v. spelt_byte b ++ v) (spelt_bytes-append x y) ∙ sym (append_assoc (spelt_byte b) (spelt_bytes x) (spelt_bytes y))
+pub printed_bytes-append : (x y : List ℕ) → printed_bytes (x ++ y) ≡ printed_bytes x ++ printed_bytes y
+printed_bytes-append [] y = refl
+printed_bytes-append (b ∷ x) y = ap (λ v. printed_byte b ++ v) (printed_bytes-append x y) ∙ sym (append_assoc (printed_byte b) (printed_bytes x) (printed_bytes y))
 
 -- One byte, printed with the tables.
-pub spelt_byte-tables : (b : ℕ) (before : List ℕ) → backslashes_before b < 2
-    → spelt_byte b ≡ cond (backslashes_before b == 1) (backslash ∷ last_of b ∷ []) (last_of b ∷ [])
-spelt_byte-tables b before h = elim (cases_Bool (is_special b)) [
+pub printed_byte-tables : (b : ℕ) (before : List ℕ) → backslashes_before b < 2
+    → printed_byte b ≡ cond (backslashes_before b == 1) (backslash ∷ last_of b ∷ []) (last_of b ∷ [])
+printed_byte-tables b before h = elim (cases_Bool (is_special b)) [
   | inl s ↦ rw s refl
   | inr s ↦ elim (cases_Bool (has_letter b)) [
     | inl l ↦ rw (s, l) refl
@@ -74,37 +74,37 @@ pub last-at : (b : ℕ) → b < 256 → slice_index last-table b ≡ last_of b
 last-at b h = eqb-true _ _ (agree_below_at (λ b. slice_index last-table b == last_of b) (λ k. true) 256 b refl h)
 
 -- One more byte is printed.
-pub spelt_bytes-more : (bs : List ℕ) (i : ℕ) → i < length bs → spelt_bytes (take (i + 1) bs) ≡ spelt_bytes (take i bs) ++ spelt_byte (get_or bs i 0)
-spelt_bytes-more bs i h =
-    ap spelt_bytes (take_more bs i 0 h)
-    ∙ spelt_bytes-append (take i bs) (get_or bs i 0 ∷ [])
-    ∙ ap (λ v. spelt_bytes (take i bs) ++ v) (append-nil (spelt_byte (get_or bs i 0)))
+pub printed_bytes-more : (bs : List ℕ) (i : ℕ) → i < length bs → printed_bytes (take (i + 1) bs) ≡ printed_bytes (take i bs) ++ printed_byte (get_or bs i 0)
+printed_bytes-more bs i h =
+    ap printed_bytes (take_more bs i 0 h)
+    ∙ printed_bytes-append (take i bs) (get_or bs i 0 ∷ [])
+    ∙ ap (λ v. printed_bytes (take i bs) ++ v) (append-nil (printed_byte (get_or bs i 0)))
 
 -- What is printed for bytes, after what was printed before.
-pub printed-after : (bytes out spelt : List ℕ) (filled room written : ℕ) → filled ≤ length bytes → written ≤ length out → take written out ≡ spelt
-    → take (filled + written) (put_mid filled room bytes out) ≡ take filled bytes ++ spelt
-printed-after bytes out spelt filled room written h k e =
+pub printed-after : (bytes out printed_character : List ℕ) (filled room written : ℕ) → filled ≤ length bytes → written ≤ length out → take written out ≡ printed_character
+    → take (filled + written) (put_mid filled room bytes out) ≡ take filled bytes ++ printed_character
+printed-after bytes out printed_character filled room written h k e =
     ap (λ n. take (n + written) (put_mid filled room bytes out)) (sym (length-take-le filled bytes h))
     ∙ take-append-add (take filled bytes) (out ++ post_of filled room bytes) written
     ∙ ap (λ v. take filled bytes ++ v) (take-append-le written out (post_of filled room bytes) k ∙ e)
 
 -- The first bytes are printed, and the rest follows.
 pub printed-front : (line rest new whole : List ℕ) (size n read : ℕ) → size ≡ length rest → read ≤ n
-    → new ≡ line ++ spelt_bytes (take read (take n rest)) → line ++ spelt_bytes rest ≡ whole
-    → new ++ spelt_bytes (take (size - read) (drop read rest)) ≡ whole
+    → new ≡ line ++ printed_bytes (take read (take n rest)) → line ++ printed_bytes rest ≡ whole
+    → new ++ printed_bytes (take (size - read) (drop read rest)) ≡ whole
 printed-front line rest new whole size n read is_size within printed held =
-    ap₂ (λ x y. x ++ spelt_bytes y)
-    (printed ∙ ap (λ v. line ++ spelt_bytes v) (take-take read n rest within))
+    ap₂ (λ x y. x ++ printed_bytes y)
+    (printed ∙ ap (λ v. line ++ printed_bytes v) (take-take read n rest within))
     (take_all (size - read) (drop read rest) (omega (arith, is_size, length-drop read rest)))
-    ∙ append_assoc line (spelt_bytes (take read rest)) (spelt_bytes (drop read rest))
-    ∙ ap (λ v. line ++ v) (sym (spelt_bytes-append (take read rest) (drop read rest)) ∙ ap spelt_bytes (take-append-drop read rest))
+    ∙ append_assoc line (printed_bytes (take read rest)) (printed_bytes (drop read rest))
+    ∙ ap (λ v. line ++ v) (sym (printed_bytes-append (take read rest) (drop read rest)) ∙ ap printed_bytes (take-append-drop read rest))
     ∙ held
 
 -- All bytes are printed.
 pub printed-whole : (line bytes new : List ℕ) (n read : ℕ) → read ≤ n → length bytes ≤ read
-    → new ≡ line ++ spelt_bytes (take read (take n bytes)) → new ≡ line ++ spelt_bytes bytes
+    → new ≡ line ++ printed_bytes (take read (take n bytes)) → new ≡ line ++ printed_bytes bytes
 printed-whole line bytes new n read within all printed =
-    printed ∙ ap (λ v. line ++ spelt_bytes v) (take-take read n bytes within ∙ take_all read bytes all)
+    printed ∙ ap (λ v. line ++ printed_bytes v) (take-take read n bytes within ∙ take_all read bytes all)
 
 -- ---- ASCII
 
@@ -114,8 +114,8 @@ literal-ascii e true c h = rw (lt-ltb c 0x80 h, encoded-ascii e c h) refl
 literal-ascii e false c h = rw (encoded-ascii e c h) refl
 
 -- An ASCII character is printed as its byte is.
-pub ascii-spelt : (e : Encoding) (only : Bool) (c : ℕ) → c < 0x80 → encoded_text e (spelt e only in_key_or_value c) ≡ spelt_byte c
-ascii-spelt e only c h = elim (cases_Bool (is_special c)) [
+pub ascii-printed : (e : Encoding) (only : Bool) (c : ℕ) → c < 0x80 → encoded_text e (printed_character e only in_key_or_value c) ≡ printed_byte c
+ascii-printed e only c h = elim (cases_Bool (is_special c)) [
   | inl s ↦ rw s (encoded_text-ascii e (backslash ∷ c ∷ []) (lit< tt, (h, tt)))
   | inr s ↦ elim (cases_Bool (has_letter c)) [
     | inl l ↦ rw (s, l) (encoded_text-ascii e (letter_escape c) (letter_escape-ascii c))
@@ -127,18 +127,18 @@ ascii-spelt e only c h = elim (cases_Bool (is_special c)) [
 ]
 
 -- A text of ASCII characters is printed as its bytes are.
-ascii-text : (e : Encoding) (only : Bool) (cs : List ℕ) → AreAscii cs → encoded_text e (spelt_text e only in_key_or_value cs) ≡ spelt_bytes cs
+ascii-text : (e : Encoding) (only : Bool) (cs : List ℕ) → AreAscii cs → encoded_text e (printed_characters e only in_key_or_value cs) ≡ printed_bytes cs
 ascii-text e only [] h = refl
 ascii-text e only (c ∷ cs) h =
-    encoded_text-append e (spelt e only in_key_or_value c) (spelt_text e only in_key_or_value cs)
-    ∙ ap₂ (λ x y. x ++ y) (ascii-spelt e only c h.0) (ascii-text e only cs h.1)
+    encoded_text-append e (printed_character e only in_key_or_value c) (printed_characters e only in_key_or_value cs)
+    ∙ ap₂ (λ x y. x ++ y) (ascii-printed e only c h.0) (ascii-text e only cs h.1)
 
 are-ascii : (bs : List ℕ) → All (λ b. b < 128) bs → AreAscii bs
 are-ascii [] h = tt
 are-ascii (b ∷ bs) h = (All-head (λ b. b < 128) b bs h, are-ascii bs (All-tail (λ b. b < 128) b bs h))
 
-pub stands-ascii : (r : Repertoire) (bs : List ℕ) → IsAscii bs → Stands r bs
-stands-ascii r bs h = rw (chars-IsAscii bs h) (ascii-text (output_of r.encoding) r.ascii_only bs (are-ascii bs (All-from_ascii bs h)))
+pub bytewise-ascii : (r : Repertoire) (bs : List ℕ) → IsAscii bs → PrintsByteByByte r bs
+bytewise-ascii r bs h = rw (chars-IsAscii bs h) (ascii-text (output_of r.encoding) r.ascii_only bs (are-ascii bs (All-from_ascii bs h)))
 
 -- ---- UTF-8
 
@@ -157,10 +157,10 @@ pub past-control : (b : ℕ) → 0x80 ≤ b → nat_lt b space ≡ false
 past-control b h = le-ltb b space (omega arith)
 
 -- A byte above ASCII is copied.
-past-byte : (b : ℕ) → 0x80 ≤ b → spelt_byte b ≡ b ∷ []
+past-byte : (b : ℕ) → 0x80 ≤ b → printed_byte b ≡ b ∷ []
 past-byte b h = rw (past-special b h, past-letter b h, past-control b h) refl
 
-past-bytes : (bs : List ℕ) → ArePast bs → spelt_bytes bs ≡ bs
+past-bytes : (bs : List ℕ) → ArePast bs → printed_bytes bs ≡ bs
 past-bytes [] h = refl
 past-bytes (b ∷ bs) h = ap₂ (λ x y. x ++ y) (past-byte b h.0) (past-bytes bs h.1)
 
@@ -174,22 +174,22 @@ encode-past c h = elim (cases_lt c 0x800) [
   ]
 ]
 
-utf_8-spelt : (c : ℕ) → encoded_text utf_8 (spelt utf_8 false in_key_or_value c) ≡ spelt_bytes (encode_utf8 c)
-utf_8-spelt c = elim (cases_lt c 0x80) [
-  | inl h ↦ ascii-spelt utf_8 false c h ∙ sym (ap spelt_bytes (encode_ascii c h) ∙ append-nil (spelt_byte c))
+utf_8-printed : (c : ℕ) → encoded_text utf_8 (printed_character utf_8 false in_key_or_value c) ≡ printed_bytes (encode_utf8 c)
+utf_8-printed c = elim (cases_lt c 0x80) [
+  | inl h ↦ ascii-printed utf_8 false c h ∙ sym (ap printed_bytes (encode_ascii c h) ∙ append-nil (printed_byte c))
   | inr h ↦
       rw (past-special c h, past-letter c h, past-control c h) (append-nil (encode_utf8 c) ∙ sym (past-bytes (encode_utf8 c) (encode-past c h)))
 ]
 
-utf_8-text : (cs : List ℕ) → encoded_text utf_8 (spelt_text utf_8 false in_key_or_value cs) ≡ spelt_bytes (encode_utf8_all cs)
+utf_8-text : (cs : List ℕ) → encoded_text utf_8 (printed_characters utf_8 false in_key_or_value cs) ≡ printed_bytes (encode_utf8_all cs)
 utf_8-text [] = refl
 utf_8-text (c ∷ cs) =
-    encoded_text-append utf_8 (spelt utf_8 false in_key_or_value c) (spelt_text utf_8 false in_key_or_value cs)
-    ∙ ap₂ (λ x y. x ++ y) (utf_8-spelt c) (utf_8-text cs)
-    ∙ sym (spelt_bytes-append (encode_utf8 c) (encode_utf8_all cs))
+    encoded_text-append utf_8 (printed_character utf_8 false in_key_or_value c) (printed_characters utf_8 false in_key_or_value cs)
+    ∙ ap₂ (λ x y. x ++ y) (utf_8-printed c) (utf_8-text cs)
+    ∙ sym (printed_bytes-append (encode_utf8 c) (encode_utf8_all cs))
 
-pub stands-utf_8 : (r : Repertoire) (bs : List ℕ) → r.encoding ≡ Utf8 → r.ascii_only ≡ false → IsUtf8 bs → Stands r bs
-stands-utf_8 r bs is off u = rw (is, off) (utf_8-text (chars bs) ∙ ap spelt_bytes (encodes-chars bs u))
+pub bytewise-utf_8 : (r : Repertoire) (bs : List ℕ) → r.encoding ≡ Utf8 → r.ascii_only ≡ false → IsUtf8 bs → PrintsByteByByte r bs
+bytewise-utf_8 r bs is off u = rw (is, off) (utf_8-text (chars bs) ∙ ap printed_bytes (encodes-chars bs u))
 
 -- ---- windows-1252
 
@@ -220,62 +220,62 @@ byte-past c b h e = elim (cases_Bool (nat_lt c 0x100 && not (is_in_table c))) [
     own c b h e = let same : c ≡ b = cc in omega arith
 
 -- A character that has a byte is printed as that byte is.
-pub byte-spelt : (c b : ℕ) → windows_1252_byte c ≡ Some b → encoded_text windows_1252 (spelt windows_1252 false in_key_or_value c) ≡ spelt_byte b
-byte-spelt c b e = elim (cases_lt c 0x80) [
+pub byte-printed : (c b : ℕ) → windows_1252_byte c ≡ Some b → encoded_text windows_1252 (printed_character windows_1252 false in_key_or_value c) ≡ printed_byte b
+byte-printed c b e = elim (cases_lt c 0x80) [
   | inl h ↦
       let own : Some (b ∷ []) ≡ Some (c ∷ []) = sym (ap one_byte e) ∙ encoded-ascii windows_1252 c h in
       let same : b ≡ c = cc in
-      ascii-spelt windows_1252 false c h ∙ ap spelt_byte (sym same)
+      ascii-printed windows_1252 false c h ∙ ap printed_byte (sym same)
   | inr h ↦
       let known : encoded windows_1252 c ≡ Some (b ∷ []) = ap one_byte e in
       rw (past-special c h, past-letter c h, past-control c h, known) (rw known (sym (past-byte b (byte-past c b h e))))
 ]
 
 -- Characters that have bytes are printed as those bytes are.
-pub bytes-spelt : (cs bs : List ℕ) → map windows_1252_byte cs ≡ map Some bs → encoded_text windows_1252 (spelt_text windows_1252 false in_key_or_value cs) ≡ spelt_bytes bs
-bytes-spelt [] [] h = refl
-bytes-spelt [] (b ∷ bs) h = absurd (cc)
-bytes-spelt (c ∷ cs) [] h = absurd (cc)
-bytes-spelt (c ∷ cs) (b ∷ bs) h =
+pub bytes-printed : (cs bs : List ℕ) → map windows_1252_byte cs ≡ map Some bs → encoded_text windows_1252 (printed_characters windows_1252 false in_key_or_value cs) ≡ printed_bytes bs
+bytes-printed [] [] h = refl
+bytes-printed [] (b ∷ bs) h = absurd (cc)
+bytes-printed (c ∷ cs) [] h = absurd (cc)
+bytes-printed (c ∷ cs) (b ∷ bs) h =
     let first : windows_1252_byte c ≡ Some b = cc in
     let more : map windows_1252_byte cs ≡ map Some bs = cc in
-    encoded_text-append windows_1252 (spelt windows_1252 false in_key_or_value c) (spelt_text windows_1252 false in_key_or_value cs)
-    ∙ ap₂ (λ x y. x ++ y) (byte-spelt c b first) (bytes-spelt cs bs more)
+    encoded_text-append windows_1252 (printed_character windows_1252 false in_key_or_value c) (printed_characters windows_1252 false in_key_or_value cs)
+    ∙ ap₂ (λ x y. x ++ y) (byte-printed c b first) (bytes-printed cs bs more)
 
-spelt-front : (text bs rest : List ℕ) → EncodesFront text bs rest
-    → text_bytes all_of_windows_1252 KeyOrValue text ≡ spelt_bytes bs ++ text_bytes all_of_windows_1252 KeyOrValue rest
-spelt-front text bs rest h =
+printed_bytes-front : (text bs rest : List ℕ) → EncodesFront text bs rest
+    → text_bytes all_of_windows_1252 KeyOrValue text ≡ printed_bytes bs ++ text_bytes all_of_windows_1252 KeyOrValue rest
+printed_bytes-front text bs rest h =
     ap (text_bytes all_of_windows_1252 KeyOrValue) h.1
-    ∙ ap (encoded_text windows_1252) (spelt_text-append windows_1252 false in_key_or_value h.0 rest)
-    ∙ encoded_text-append windows_1252 (spelt_text windows_1252 false in_key_or_value h.0) (spelt_text windows_1252 false in_key_or_value rest)
-    ∙ ap (λ v. v ++ text_bytes all_of_windows_1252 KeyOrValue rest) (bytes-spelt h.0 bs h.2)
+    ∙ ap (encoded_text windows_1252) (printed_characters-append windows_1252 false in_key_or_value h.0 rest)
+    ∙ encoded_text-append windows_1252 (printed_characters windows_1252 false in_key_or_value h.0) (printed_characters windows_1252 false in_key_or_value rest)
+    ∙ ap (λ v. v ++ text_bytes all_of_windows_1252 KeyOrValue rest) (bytes-printed h.0 bs h.2)
 
 -- A run of characters at the front of a text is printed.
 pub run-front : (line new whole text bs rest : List ℕ) → line ++ text_bytes all_of_windows_1252 KeyOrValue text ≡ whole → EncodesFront text bs rest
-    → new ≡ line ++ spelt_bytes bs → new ++ text_bytes all_of_windows_1252 KeyOrValue rest ≡ whole
+    → new ≡ line ++ printed_bytes bs → new ++ text_bytes all_of_windows_1252 KeyOrValue rest ≡ whole
 run-front line new whole text bs rest held h e =
     ap (λ v. v ++ text_bytes all_of_windows_1252 KeyOrValue rest) e
-    ∙ append_assoc line (spelt_bytes bs) (text_bytes all_of_windows_1252 KeyOrValue rest)
-    ∙ ap (λ v. line ++ v) (sym (spelt-front text bs rest h))
+    ∙ append_assoc line (printed_bytes bs) (text_bytes all_of_windows_1252 KeyOrValue rest)
+    ∙ ap (λ v. line ++ v) (sym (printed_bytes-front text bs rest h))
     ∙ held
 
 -- One character at the front is printed.
 pub one-more : (line new whole rest : List ℕ) (c : ℕ) → line ++ text_bytes all_of_windows_1252 KeyOrValue (c ∷ rest) ≡ whole
-    → new ≡ line ++ encoded_text windows_1252 (spelt windows_1252 false in_key_or_value c) → new ++ text_bytes all_of_windows_1252 KeyOrValue rest ≡ whole
+    → new ≡ line ++ encoded_text windows_1252 (printed_character windows_1252 false in_key_or_value c) → new ++ text_bytes all_of_windows_1252 KeyOrValue rest ≡ whole
 one-more line new whole rest c held e =
     ap (λ v. v ++ text_bytes all_of_windows_1252 KeyOrValue rest) e
-    ∙ append_assoc line (encoded_text windows_1252 (spelt windows_1252 false in_key_or_value c)) (text_bytes all_of_windows_1252 KeyOrValue rest)
-    ∙ ap (λ v. line ++ v) (sym (encoded_text-append windows_1252 (spelt windows_1252 false in_key_or_value c) (spelt_text windows_1252 false in_key_or_value rest)))
+    ∙ append_assoc line (encoded_text windows_1252 (printed_character windows_1252 false in_key_or_value c)) (text_bytes all_of_windows_1252 KeyOrValue rest)
+    ∙ ap (λ v. line ++ v) (sym (encoded_text-append windows_1252 (printed_character windows_1252 false in_key_or_value c) (printed_characters windows_1252 false in_key_or_value rest)))
     ∙ held
 
 -- A character that windows-1252 lacks is escaped.
-pub lacked-spelt : (c : ℕ) → 0x80 ≤ c → is_some (windows_1252_byte c) ≡ false → encoded_text windows_1252 (spelt windows_1252 false in_key_or_value c) ≡ unicode_escape c
-lacked-spelt c h e =
+pub lacked-printed : (c : ℕ) → 0x80 ≤ c → is_some (windows_1252_byte c) ≡ false → encoded_text windows_1252 (printed_character windows_1252 false in_key_or_value c) ≡ unicode_escape c
+lacked-printed c h e =
     ap (encoded_text windows_1252) (
     cond-false (is_special c) _ _ (past-special c h)
     ∙ cond-false (has_letter c) _ _ (past-letter c h)
     ∙ cond-false (nat_lt c space) _ _ (past-control c h)
-    ∙ cond-false (may_stand windows_1252 false c) (c ∷ []) (unicode_escape c) (some-byte (windows_1252_byte c) ∙ e)
+    ∙ cond-false (may_be_unescaped windows_1252 false c) (c ∷ []) (unicode_escape c) (some-byte (windows_1252_byte c) ∙ e)
     )
     ∙ encoded_escape windows_1252 c
   where
@@ -285,4 +285,4 @@ lacked-spelt c h e =
 
 pub lacked-more : (line new whole rest : List ℕ) (c : ℕ) → line ++ text_bytes all_of_windows_1252 KeyOrValue (c ∷ rest) ≡ whole → 0x80 ≤ c
     → is_some (windows_1252_byte c) ≡ false → new ≡ line ++ unicode_escape c → new ++ text_bytes all_of_windows_1252 KeyOrValue rest ≡ whole
-lacked-more line new whole rest c held h e f = one-more line new whole rest c held (f ∙ ap (λ v. line ++ v) (sym (lacked-spelt c h e)))
+lacked-more line new whole rest c held h e f = one-more line new whole rest c held (f ∙ ap (λ v. line ++ v) (sym (lacked-printed c h e)))

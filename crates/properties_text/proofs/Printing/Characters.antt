@@ -6,8 +6,8 @@ use Rattle.std.proofs.lemmas.Bool.{cond-true, cond-false, and_from, and_left, an
 use Rattle.std.proofs.lemmas.Str.{encodes-chars, encode_ascii}
 use Rattle.properties_format.specs.Text.{backslash}
 use Rattle.properties_format.specs.Encoding.{Encoding, encoded}
-use Rattle.properties_format.specs.Printing.{Place, in_key_or_value, unit_escape, high_surrogate, low_surrogate, unicode_escape, may_stand, literal, is_special, has_letter, letter_escape, spelt, spelt_text, encoded_text}
-use Rattle.properties_format.proofs.Printing.Characters.{encoded_text-append, spelt_text-append, AreAscii, encoded_text-ascii, unicode_escape-ascii}
+use Rattle.properties_format.specs.Printing.{Place, in_key_or_value, unit_escape, high_surrogate, low_surrogate, unicode_escape, may_be_unescaped, literal, is_special, has_letter, letter_escape, printed_character, printed_characters, encoded_text}
+use Rattle.properties_format.proofs.Printing.Characters.{encoded_text-append, printed_characters-append, AreAscii, encoded_text-ascii, unicode_escape-ascii}
 
 -- A backslash and an ASCII character encode as themselves.
 pub encoded_pair : (e : Encoding) (b : ℕ) → b < 0x80 → encoded_text e (backslash ∷ b ∷ []) ≡ backslash ∷ b ∷ []
@@ -20,7 +20,7 @@ encoded_escape e c = encoded_text-ascii e (unicode_escape c) (unicode_escape-asc
 -- A character that may be written unescaped is.
 pub literal_known : (e : Encoding) (only : Bool) (c : ℕ) → (not only || nat_lt c 0x80) ≡ true → is_some (encoded e c) ≡ true → encoded_text e (literal e only c) ≡ unwrap_or (encoded e c) []
 literal_known e only c k h =
-    ap (encoded_text e) (cond-true (may_stand e only c) (c ∷ []) (unicode_escape c) (and_from (not only || nat_lt c 0x80) (is_some (encoded e c)) k h)) ∙ append-nil (unwrap_or (encoded e c) [])
+    ap (encoded_text e) (cond-true (may_be_unescaped e only c) (c ∷ []) (unicode_escape c) (and_from (not only || nat_lt c 0x80) (is_some (encoded e c)) k h)) ∙ append-nil (unwrap_or (encoded e c) [])
 
 nothing : (o : Option (List ℕ)) → is_some o ≡ false → unwrap_or o [] ≡ []
 nothing None h = refl
@@ -30,14 +30,14 @@ nothing (Some x) h = cc
 pub literal_lacked : (e : Encoding) (only : Bool) (c : ℕ) (before at : List ℕ) → is_some (encoded e c) ≡ false → at ≡ before ++ unwrap_or (encoded e c) []
     → before ++ encoded_text e (literal e only c) ≡ at ++ unicode_escape c
 literal_lacked e only c before at h k =
-    ap (λ v. before ++ encoded_text e v) (cond-false (may_stand e only c) (c ∷ []) (unicode_escape c) (and_right (not only || nat_lt c 0x80) (is_some (encoded e c)) h))
+    ap (λ v. before ++ encoded_text e v) (cond-false (may_be_unescaped e only c) (c ∷ []) (unicode_escape c) (and_right (not only || nat_lt c 0x80) (is_some (encoded e c)) h))
     ∙ ap (λ v. before ++ v) (encoded_escape e c)
     ∙ ap (λ v. v ++ unicode_escape c) (sym (k ∙ ap (λ v. before ++ v) (nothing (encoded e c) h) ∙ append-nil before))
 
 -- A character that ASCII-only output rules out is escaped.
 pub literal_kept : (e : Encoding) (only : Bool) (c : ℕ) → (not only || nat_lt c 0x80) ≡ false → encoded_text e (literal e only c) ≡ unicode_escape c
 literal_kept e only c k =
-    ap (encoded_text e) (cond-false (may_stand e only c) (c ∷ []) (unicode_escape c) (and_left (not only || nat_lt c 0x80) (is_some (encoded e c)) k)) ∙ encoded_escape e c
+    ap (encoded_text e) (cond-false (may_be_unescaped e only c) (c ∷ []) (unicode_escape c) (and_left (not only || nat_lt c 0x80) (is_some (encoded e c)) k)) ∙ encoded_escape e c
 
 -- Above U+FFFF, an escape is two.
 pub escape_wide : (c : ℕ) (before at : List ℕ) → 0x1_0000 ≤ c → at ≡ before ++ unit_escape (high_surrogate c)
@@ -52,8 +52,8 @@ abbrev pub IsOtherControl : ℕ → Type 0
 IsOtherControl c = (c < 0x20) × (c ≢ 0x09) × (c ≢ 0x0a) × (c ≢ 0x0c) × (c ≢ 0x0d)
 
 -- In a key or a value, it is escaped as `\u` and its code point.
-pub spelt_control : (e : Encoding) (only : Bool) (c : ℕ) → IsOtherControl c → spelt e only in_key_or_value c ≡ unicode_escape c
-spelt_control e only c (h, tab, lf, ff, cr) =
+pub printed_control : (e : Encoding) (only : Bool) (c : ℕ) → IsOtherControl c → printed_character e only in_key_or_value c ≡ unicode_escape c
+printed_control e only c (h, tab, lf, ff, cr) =
     cond-false (is_special c) (backslash ∷ c ∷ []) (cond (has_letter c) (letter_escape c) (cond (nat_lt c 0x20) (unicode_escape c) (literal e only c))) (not-special c h)
     ∙ cond-false (has_letter c) (letter_escape c) (cond (nat_lt c 0x20) (unicode_escape c) (literal e only c)) (no-letter c tab lf ff cr)
     ∙ cond-true (nat_lt c 0x20) (unicode_escape c) (literal e only c) (lt-ltb c 0x20 h)
@@ -66,22 +66,22 @@ spelt_control e only c (h, tab, lf, ff, cr) =
 
 -- One more character is printed.
 pub printed_more : (e : Encoding) (only : Bool) (place : Place) (before xs : List ℕ) (c : ℕ)
-    → (before ++ encoded_text e (spelt_text e only place xs)) ++ encoded_text e (spelt e only place c) ≡ before ++ encoded_text e (spelt_text e only place (xs ++ c ∷ []))
+    → (before ++ encoded_text e (printed_characters e only place xs)) ++ encoded_text e (printed_character e only place c) ≡ before ++ encoded_text e (printed_characters e only place (xs ++ c ∷ []))
 printed_more e only place before xs c =
-    append_assoc before (encoded_text e (spelt_text e only place xs)) (encoded_text e (spelt e only place c))
+    append_assoc before (encoded_text e (printed_characters e only place xs)) (encoded_text e (printed_character e only place c))
     ∙ ap (λ v. before ++ v) (
-    sym (encoded_text-append e (spelt_text e only place xs) (spelt e only place c))
-    ∙ ap (λ v. encoded_text e (spelt_text e only place xs ++ v)) (sym (append-nil (spelt e only place c)))
-    ∙ ap (encoded_text e) (sym (spelt_text-append e only place xs (c ∷ [])))
+    sym (encoded_text-append e (printed_characters e only place xs) (printed_character e only place c))
+    ∙ ap (λ v. encoded_text e (printed_characters e only place xs ++ v)) (sym (append-nil (printed_character e only place c)))
+    ∙ ap (encoded_text e) (sym (printed_characters-append e only place xs (c ∷ [])))
     )
 
 -- The escape of the first character, and the text after it.
 pub first_escaped_more : (e : Encoding) (only : Bool) (place : Place) (before cs : List ℕ) (c : ℕ)
-    → (before ++ unicode_escape c) ++ encoded_text e (spelt_text e only place cs) ≡ before ++ encoded_text e (unicode_escape c ++ spelt_text e only place cs)
+    → (before ++ unicode_escape c) ++ encoded_text e (printed_characters e only place cs) ≡ before ++ encoded_text e (unicode_escape c ++ printed_characters e only place cs)
 first_escaped_more e only place before cs c =
-    append_assoc before (unicode_escape c) (encoded_text e (spelt_text e only place cs))
+    append_assoc before (unicode_escape c) (encoded_text e (printed_characters e only place cs))
     ∙ ap (λ v. before ++ v) (
-    ap (λ v. v ++ encoded_text e (spelt_text e only place cs)) (sym (encoded_escape e c)) ∙ sym (encoded_text-append e (unicode_escape c) (spelt_text e only place cs))
+    ap (λ v. v ++ encoded_text e (printed_characters e only place cs)) (sym (encoded_escape e c)) ∙ sym (encoded_text-append e (unicode_escape c) (printed_characters e only place cs))
     )
 
 -- ---- texts appended without escapes

@@ -10,11 +10,11 @@ use Rattle.properties_format.specs.Encoding.{windows_1252, one_byte}
 use Rattle.properties_format.specs.Printing.{unicode_escape}
 use Rattle.properties_format.proofs.Printing.Characters.{encoded-ascii}
 use Rattle.byte_blocks.proofs.Rows.{starts, starts-take}
-use Rattle.properties_text.specs.Printing.{spelt_byte, text_bytes, all_of_windows_1252}
+use Rattle.properties_text.specs.Printing.{printed_byte, text_bytes, all_of_windows_1252}
 use Rattle.properties_text.specs.declared.print.Place.TheVariants.{KeyOrValue}
 use Rattle.properties_text.specs.declared.print.escapes.TheConstants.{DIGITS}
 use Rattle.properties_text.proofs.Texts.Characters.{first_ascii}
-use Rattle.properties_text.proofs.Printing.Bytes.{ascii-spelt, one-more, lacked-more}
+use Rattle.properties_text.proofs.Printing.Bytes.{ascii-printed, one-more, lacked-more}
 
 -- ---- the table of digits
 
@@ -55,10 +55,10 @@ escape-more line new whole text rest c held first lacks put =
 
 -- The first byte is written, if it is ASCII.
 pub byte-more : (line new whole text : List ℕ) → IsUtf8 text → 0 < length text → get_or text 0 0 < 0x80
-    → line ++ text_bytes all_of_windows_1252 KeyOrValue (chars text) ≡ whole → new ≡ line ++ spelt_byte (get_or text 0 0)
+    → line ++ text_bytes all_of_windows_1252 KeyOrValue (chars text) ≡ whole → new ≡ line ++ printed_byte (get_or text 0 0)
     → new ++ text_bytes all_of_windows_1252 KeyOrValue (chars (drop 1 text)) ≡ whole
 byte-more line new whole [] u some h held put = absurd (omega arith)
 byte-more line new whole (b ∷ bs) u some h held put =
     one-more line new whole (chars bs) b
     (subst (λ v. line ++ text_bytes all_of_windows_1252 KeyOrValue v ≡ whole) (first_ascii b bs h u).characters held)
-    (put ∙ ap (λ v. line ++ v) (sym (ascii-spelt windows_1252 false b h)))
+    (put ∙ ap (λ v. line ++ v) (sym (ascii-printed windows_1252 false b h)))

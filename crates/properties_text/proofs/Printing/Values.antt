@@ -9,7 +9,7 @@ use Rattle.properties_format.specs.Encoding.{Encoding, utf_8, characters}
 use Rattle.properties_format.specs.Reading.Encoding.{pieces_of}
 use Rattle.properties_format.specs.Printing.{unit_escape, unicode_escape, encoded_text}
 use Rattle.properties_format.specs.Writing.{is_empty}
-use Rattle.properties_format.specs.Valued.{spelt_inside, spelt_first, spelt_last, spelt_rest, spelt_value}
+use Rattle.properties_format.specs.Valued.{printed_inside, printed_first, printed_last, printed_rest, printed_value}
 use Rattle.properties_format.proofs.Encodings.Pieces.{pieces_of-nil}
 use Rattle.properties_format.proofs.Encodings.WellFormed.{characters-text}
 use Rattle.properties_format.proofs.Cut.Byline.{nothing-decoded}
@@ -19,18 +19,18 @@ use Rattle.properties_text.specs.Printing.{held_text}
 -- the printed characters inside a value
 abbrev inside_text : Encoding → List ℕ → List ℕ
 inside_text e [] = []
-inside_text e (c ∷ cs) = spelt_inside e c ++ inside_text e cs
+inside_text e (c ∷ cs) = printed_inside e c ++ inside_text e cs
 
 -- One more character inside a value.
-inside-push : (e : Encoding) (xs : List ℕ) (c : ℕ) → inside_text e (xs ++ c ∷ []) ≡ inside_text e xs ++ spelt_inside e c
-inside-push e [] c = append-nil (spelt_inside e c)
-inside-push e (x ∷ xs) c = ap (λ v. spelt_inside e x ++ v) (inside-push e xs c) ∙ sym (append_assoc (spelt_inside e x) (inside_text e xs) (spelt_inside e c))
+inside-push : (e : Encoding) (xs : List ℕ) (c : ℕ) → inside_text e (xs ++ c ∷ []) ≡ inside_text e xs ++ printed_inside e c
+inside-push e [] c = append-nil (printed_inside e c)
+inside-push e (x ∷ xs) c = ap (λ v. printed_inside e x ++ v) (inside-push e xs c) ∙ sym (append_assoc (printed_inside e x) (inside_text e xs) (printed_inside e c))
 
 -- The characters after the first, the last of which is printed as the last one.
-rest-push : (e : Encoding) (xs : List ℕ) (c : ℕ) → spelt_rest e (xs ++ c ∷ []) ≡ inside_text e xs ++ spelt_last e c
+rest-push : (e : Encoding) (xs : List ℕ) (c : ℕ) → printed_rest e (xs ++ c ∷ []) ≡ inside_text e xs ++ printed_last e c
 rest-push e [] c = refl
-rest-push e (x ∷ []) c = ap (λ v. v ++ spelt_last e c) (sym (append-nil (spelt_inside e x)))
-rest-push e (x ∷ y ∷ xs) c = ap (λ v. spelt_inside e x ++ v) (rest-push e (y ∷ xs) c) ∙ sym (append_assoc (spelt_inside e x) (inside_text e (y ∷ xs)) (spelt_last e c))
+rest-push e (x ∷ []) c = ap (λ v. v ++ printed_last e c) (sym (append-nil (printed_inside e x)))
+rest-push e (x ∷ y ∷ xs) c = ap (λ v. printed_inside e x ++ v) (rest-push e (y ∷ xs) c) ∙ sym (append_assoc (printed_inside e x) (inside_text e (y ∷ xs)) (printed_last e c))
 
 -- Bytes appended to a line in two parts.
 parts-after : (e : Encoding) (before x y : List ℕ) → (before ++ encoded_text e x) ++ encoded_text e y ≡ before ++ encoded_text e (x ++ y)
@@ -48,42 +48,42 @@ held-more e before ys line new None c h s = (ys, refl, s ∙ append-nil line ∙
 held-more e before ys line new (Some d) c h s = (
   ys,
   refl,
-  s ∙ ap (λ v. v ++ encoded_text e (spelt_inside e d)) h.2 ∙ parts-after e before (inside_text e h.0) (spelt_inside e d)
+  s ∙ ap (λ v. v ++ encoded_text e (printed_inside e d)) h.2 ∙ parts-after e before (inside_text e h.0) (printed_inside e d)
       ∙ ap (λ v. before ++ encoded_text e v) (sym (inside-push e h.0 d) ∙ ap (inside_text e) (sym h.1)),
 )
 
 -- The last character is printed.
-pub held-last : (e : Encoding) (before ys line new : List ℕ) (c : ℕ) → HasHeld e before ys (Some c) line → new ≡ line ++ encoded_text e (spelt_last e c)
-    → new ≡ before ++ encoded_text e (spelt_rest e ys)
+pub held-last : (e : Encoding) (before ys line new : List ℕ) (c : ℕ) → HasHeld e before ys (Some c) line → new ≡ line ++ encoded_text e (printed_last e c)
+    → new ≡ before ++ encoded_text e (printed_rest e ys)
 held-last e before ys line new c h s =
     s
-    ∙ ap (λ v. v ++ encoded_text e (spelt_last e c)) h.2
-    ∙ parts-after e before (inside_text e h.0) (spelt_last e c)
-    ∙ ap (λ v. before ++ encoded_text e v) (sym (rest-push e h.0 c) ∙ ap (spelt_rest e) (sym h.1))
+    ∙ ap (λ v. v ++ encoded_text e (printed_last e c)) h.2
+    ∙ parts-after e before (inside_text e h.0) (printed_last e c)
+    ∙ ap (λ v. before ++ encoded_text e v) (sym (rest-push e h.0 c) ∙ ap (printed_rest e) (sym h.1))
 
 -- There is no character.
-pub held-none : (e : Encoding) (before ys line : List ℕ) → HasHeld e before ys None line → line ≡ before ++ encoded_text e (spelt_rest e ys)
-held-none e before ys line h = h.1 ∙ sym (ap (λ v. before ++ encoded_text e (spelt_rest e v)) h.0 ∙ append-nil before)
+pub held-none : (e : Encoding) (before ys line : List ℕ) → HasHeld e before ys None line → line ≡ before ++ encoded_text e (printed_rest e ys)
+held-none e before ys line h = h.1 ∙ sym (ap (λ v. before ++ encoded_text e (printed_rest e v)) h.0 ∙ append-nil before)
 
 -- A value that is a single space is printed as its escape.
 pub space-alone : (e : Encoding) (after_blanks : Bool) (before new : List ℕ) → new ≡ before ++ unicode_escape space
-    → new ≡ before ++ encoded_text e (spelt_value e after_blanks (space ∷ []))
+    → new ≡ before ++ encoded_text e (printed_value e after_blanks (space ∷ []))
 space-alone e after_blanks before new s = s ∙ ap (λ v. before ++ v) (sym (encoded_text-ascii e (unicode_escape space) (unicode_escape-ascii space)))
 
 -- Any other value is printed as its first character and those after it.
 pub value-after : (e : Encoding) (after_blanks : Bool) (before line new : List ℕ) (c : ℕ) (cs : List ℕ) → (is_empty cs && c == space) ≡ false
-    → line ≡ before ++ encoded_text e (spelt_first e after_blanks c) → new ≡ line ++ encoded_text e (spelt_rest e cs)
-    → new ≡ before ++ encoded_text e (spelt_value e after_blanks (c ∷ cs))
+    → line ≡ before ++ encoded_text e (printed_first e after_blanks c) → new ≡ line ++ encoded_text e (printed_rest e cs)
+    → new ≡ before ++ encoded_text e (printed_value e after_blanks (c ∷ cs))
 value-after e after_blanks before line new c cs h s t =
     t
-    ∙ ap (λ v. v ++ encoded_text e (spelt_rest e cs)) s
-    ∙ parts-after e before (spelt_first e after_blanks c) (spelt_rest e cs)
-    ∙ ap (λ v. before ++ encoded_text e v) (sym (cond-false (is_empty cs && c == space) (unit_escape space) (spelt_first e after_blanks c ++ spelt_rest e cs) h))
+    ∙ ap (λ v. v ++ encoded_text e (printed_rest e cs)) s
+    ∙ parts-after e before (printed_first e after_blanks c) (printed_rest e cs)
+    ∙ ap (λ v. before ++ encoded_text e v) (sym (cond-false (is_empty cs && c == space) (unit_escape space) (printed_first e after_blanks c ++ printed_rest e cs) h))
 
 -- A space at the end is printed as its escape.
-pub last_space : (e : Encoding) (c : ℕ) → c ≡ space → encoded_text e (spelt_last e c) ≡ unicode_escape c
+pub last_space : (e : Encoding) (c : ℕ) → c ≡ space → encoded_text e (printed_last e c) ≡ unicode_escape c
 last_space e c k =
-    ap (λ v. encoded_text e (spelt_last e v)) k
+    ap (λ v. encoded_text e (printed_last e v)) k
     ∙ encoded_text-ascii e (unicode_escape space) (unicode_escape-ascii space)
     ∙ ap unicode_escape (sym k)
 

@@ -9,8 +9,8 @@ use Rattle.std.proofs.lemmas.Simd.{splat_is_map}
 use Rattle.properties_format.specs.Text.{space, backslash}
 use Rattle.properties_format.specs.Printing.{is_special, has_letter}
 use Rattle.byte_blocks.specs.Moving.{spread}
-use Rattle.properties_text.specs.Printing.{spelt_byte, spelt_bytes, with_backslashes}
-use Rattle.properties_text.proofs.Printing.Bytes.{spelt_bytes-append}
+use Rattle.properties_text.specs.Printing.{printed_byte, printed_bytes, with_backslashes}
+use Rattle.properties_text.proofs.Printing.Bytes.{printed_bytes-append}
 
 -- ---- backslashes
 
@@ -45,12 +45,12 @@ module _ (v : List ℕ) (marks : List Bool) (k : ℕ) (long : length v ≡ 16) (
 no-letter : (b : ℕ) → space ≤ b → has_letter b ≡ false
 no-letter b h = rw (ne_eqb b 0x09 (omega arith), ne_eqb b 0x0a (omega arith), ne_eqb b 0x0c (omega arith), ne_eqb b 0x0d (omega arith)) refl
 
-spelt-plain : (b : ℕ) → space ≤ b → cond (is_special b) (backslash ∷ b ∷ []) (b ∷ []) ≡ spelt_byte b
-spelt-plain b h = rw (no-letter b h, le-ltb b space h) refl
+printed-plain : (b : ℕ) → space ≤ b → cond (is_special b) (backslash ∷ b ∷ []) (b ∷ []) ≡ printed_byte b
+printed-plain b h = rw (no-letter b h, le-ltb b space h) refl
 
-pub spelt : (v : List ℕ) → All (λ b. space ≤ b) v → with_backslashes v ≡ spelt_bytes v
+pub spelt : (v : List ℕ) → All (λ b. space ≤ b) v → with_backslashes v ≡ printed_bytes v
 spelt [] h = refl
-spelt (b ∷ v) h = ap₂ (λ x y. x ++ y) (spelt-plain b (All-head (λ b. space ≤ b) b v h)) (spelt v (All-tail (λ b. space ≤ b) b v h))
+spelt (b ∷ v) h = ap₂ (λ x y. x ++ y) (printed-plain b (All-head (λ b. space ≤ b) b v h)) (spelt v (All-tail (λ b. space ≤ b) b v h))
 
 -- The first i + n elements: the first i, and n more.
 pub front_more : (i n m : ℕ) (xs : List ℕ) → m ≡ i + n → take m xs ≡ take i xs ++ chunk i n xs
@@ -61,24 +61,24 @@ front_more (suc i) n (suc m) (x ∷ xs) e = ap (λ l. x ∷ l) (front_more i n m
 
 -- The first k of n more bytes are printed, if they aren't control characters.
 pub more-plain : (out new bytes : List ℕ) (at next read k n : ℕ) → All (λ b. space ≤ b) (take k (chunk read 16 bytes)) → k ≤ 16 → n ≡ read + k
-    → take next new ≡ take at out ++ with_backslashes (take k (chunk read 16 bytes)) → take at out ≡ spelt_bytes (take read bytes)
-    → take next new ≡ spelt_bytes (take n bytes)
+    → take next new ≡ take at out ++ with_backslashes (take k (chunk read 16 bytes)) → take at out ≡ printed_bytes (take read bytes)
+    → take next new ≡ printed_bytes (take n bytes)
 more-plain out new bytes at next read k n plain le e put held =
     put
     ∙ ap₂ (λ x y. x ++ y) held (spelt (take k (chunk read 16 bytes)) plain)
-    ∙ ap (λ l. spelt_bytes (take read bytes) ++ spelt_bytes l) (take-take k 16 (drop read bytes) le)
-    ∙ sym (ap spelt_bytes (front_more read k n bytes e) ∙ spelt_bytes-append (take read bytes) (chunk read k bytes))
+    ∙ ap (λ l. printed_bytes (take read bytes) ++ printed_bytes l) (take-take k 16 (drop read bytes) le)
+    ∙ sym (ap printed_bytes (front_more read k n bytes e) ∙ printed_bytes-append (take read bytes) (chunk read k bytes))
 
 -- All of n more bytes are printed, if none is a control character.
 pub more-is : (out new bytes : List ℕ) (at next read k n : ℕ) → All (λ b. space ≤ b) (chunk read 16 bytes) → k ≤ 16 → n ≡ read + k
-    → take next new ≡ take at out ++ with_backslashes (take k (chunk read 16 bytes)) → take at out ≡ spelt_bytes (take read bytes)
-    → take next new ≡ spelt_bytes (take n bytes)
+    → take next new ≡ take at out ++ with_backslashes (take k (chunk read 16 bytes)) → take at out ≡ printed_bytes (take read bytes)
+    → take next new ≡ printed_bytes (take n bytes)
 more-is out new bytes at next read k n plain = more-plain out new bytes at next read k n (All-take (λ b. space ≤ b) k (chunk read 16 bytes) plain)
 
 -- All of eight to fifteen bytes are printed.
 pub ends-is : (new bytes v : List ℕ) (written : ℕ) → 8 ≤ length bytes → length bytes < 16 → v ≡ take 8 bytes ++ drop (length bytes - 8) bytes → All (λ b. space ≤ b) v
     → take written new ≡ with_backslashes (take (length bytes - 8) v ++ drop 8 v)
-    → take written new ≡ spelt_bytes (take (length bytes) bytes)
+    → take written new ≡ printed_bytes (take (length bytes) bytes)
 ends-is new bytes v written low high both plain put =
     let s = length bytes - 8 in
     let lo = take 8 bytes in
@@ -88,4 +88,4 @@ ends-is new bytes v written low high both plain put =
     let two : drop 8 v ≡ drop s bytes = ap (drop 8) both ∙ drop_at lo hi 8 size in
     put
     ∙ spelt (take s v ++ drop 8 v) (All-append (λ b. space ≤ b) (take s v) (drop 8 v) (All-take (λ b. space ≤ b) s v plain) (All-drop (λ b. space ≤ b) 8 v plain))
-    ∙ ap spelt_bytes (ap₂ (λ x y. x ++ y) one two ∙ take-append-drop s bytes ∙ sym (take_all (length bytes) bytes (omega arith)))
+    ∙ ap printed_bytes (ap₂ (λ x y. x ++ y) one two ∙ take-append-drop s bytes ∙ sym (take_all (length bytes) bytes (omega arith)))

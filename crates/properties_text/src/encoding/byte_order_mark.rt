@@ -1,6 +1,6 @@
 //! The byte order mark at the front of an input.
 
-ghost use Rattle.properties_text.specs.Decoding.{TellsBom};
+ghost use Rattle.properties_text.specs.Decoding.{FindsByteOrderMark};
 
 use super::Encoding;
 
@@ -17,7 +17,7 @@ pub enum ByteOrderMark {
 
 /// Looks for a byte order mark at the front of the bytes.
 pub fn byte_order_mark(bytes: &[u8]) -> ByteOrderMark
-    ensures { TellsBom bytes.now result }
+    ensures { FindsByteOrderMark bytes.now result }
 {
     match bytes {
         [0xef, 0xbb, 0xbf, ..] => ByteOrderMark::Present(Encoding::UTF_8, 3),

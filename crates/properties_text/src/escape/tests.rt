@@ -5,7 +5,7 @@ use std::test::Fail;
 
 fn shown(alloc: Global, text: &str) -> Result<String, Fail> {
     match unescape(alloc, text) {
-        Ok(CowStr::Borrowed(same)) => Ok(format!(in alloc; "lent {same:?}")?),
+        Ok(CowStr::Borrowed(same)) => Ok(format!(in alloc; "borrowed {same:?}")?),
         Ok(CowStr::Owned(resolved)) => Ok(format!(in alloc; "{resolved:?}")?),
         Err(error) => Ok(format!(in alloc; "{error:?}")?),
     }
@@ -16,9 +16,9 @@ fn resolves_escapes(rt: HostRuntime) -> Result<(), Fail> {
     let rows = [
         (r"\\\n\r\t\f\u0001\b", r#""\\\n\r\t\u{c}\u{1}b""#),
         (r"\", r#""\0""#),
-        ("", r#"lent """#),
-        ("x", r#"lent "x""#),
-        ("\u{1f41e} = #!", "lent \"\u{1f41e} = #!\""),
+        ("", r#"borrowed """#),
+        ("x", r#"borrowed "x""#),
+        ("\u{1f41e} = #!", "borrowed \"\u{1f41e} = #!\""),
         (r"\\", r#""\\""#),
         (r"\#", r##""#""##),
         (r"\!", r#""!""#),

@@ -1,7 +1,7 @@
 // Prints the bytes of a key or a value, with vectors and tables.
 
 ghost use Rattle.std.specs.Prelude.{◌≡◌, ◌+◌, ◌*◌, ◌<◌, ◌≤◌, ◌++◌, length, take, IfOk, OnOk};
-ghost use Rattle.properties_text.specs.Printing.{AppendsOnOk, ArePrinted, spelt_byte, spelt_bytes, backslashes_before, last_of};
+ghost use Rattle.properties_text.specs.Printing.{AppendsOnOk, ArePrinted, printed_byte, printed_bytes, backslashes_before, last_of};
 
 use super::print_byte;
 use crate::line_buffer::{LineBuffer, make_room};
@@ -53,7 +53,7 @@ const LAST: [u8; 256] = [
 /// Prints bytes, and escapes those that have to be. Bytes above ASCII are copied.
 #[inline(never)]
 pub fn print_bytes(line: &mut LineBuffer, bytes: &[u8]) -> Result<(), AllocError>
-    ensures { AppendsOnOk line.old (spelt_bytes bytes.now) result line.new }
+    ensures { AppendsOnOk line.old (printed_bytes bytes.now) result line.new }
 {
     if bytes.len() >= FEW {
         return print_many(line, bytes);
@@ -68,7 +68,7 @@ pub fn print_bytes(line: &mut LineBuffer, bytes: &[u8]) -> Result<(), AllocError
 // Prints more than a few bytes. Kept out of line so that the path for few bytes stays short.
 #[inline(never)]
 fn print_many(line: &mut LineBuffer, bytes: &[u8]) -> Result<(), AllocError>
-    ensures { AppendsOnOk line.old (spelt_bytes bytes.now) result line.new }
+    ensures { AppendsOnOk line.old (printed_bytes bytes.now) result line.new }
 {
     let read = print_in_room(line, &bytes[..bytes.len().min(STEP)]);
     if read == bytes.len() {
@@ -83,7 +83,7 @@ fn print_many(line: &mut LineBuffer, bytes: &[u8]) -> Result<(), AllocError>
 fn print_in_room(line: &mut LineBuffer, bytes: &[u8]) -> usize
     requires { length bytes.now ≤ 64 }
     ensures within { result ≤ length bytes.now }
-    ensures printed { line.new ≡ line.old ++ spelt_bytes (take result bytes.now) }
+    ensures printed { line.new ≡ line.old ++ printed_bytes (take result bytes.now) }
 {
     if line.bytes.len() - line.filled < 2 * bytes.len() {
         return 0;
@@ -96,7 +96,7 @@ fn print_in_room(line: &mut LineBuffer, bytes: &[u8]) -> usize
 // Prints the rest of a text that is long, has bytes that take a longer escape, or found too little room.
 #[inline(never)]
 fn print_rest(line: &mut LineBuffer, bytes: &[u8]) -> Result<(), AllocError>
-    ensures { AppendsOnOk line.old (spelt_bytes bytes.now) result line.new }
+    ensures { AppendsOnOk line.old (printed_bytes bytes.now) result line.new }
 {
     let mut rest = bytes;
     while let Some(first) = rest.first() {
@@ -115,7 +115,7 @@ fn print_rest(line: &mut LineBuffer, bytes: &[u8]) -> Result<(), AllocError>
 #[inline(always)]
 fn print_short(line: &mut LineBuffer, bytes: &[u8]) -> Result<usize, AllocError>
     ensures within { IfOk result (λ read. read ≤ length bytes.now) }
-    ensures printed { IfOk result (λ read. line.new ≡ line.old ++ spelt_bytes (take read bytes.now)) }
+    ensures printed { IfOk result (λ read. line.new ≡ line.old ++ printed_bytes (take read bytes.now)) }
 {
     make_room(&mut line.bytes, line.filled, 2 * bytes.len())?;
     let printed = put_after(&mut line.bytes, line.filled, bytes);
@@ -145,7 +145,7 @@ fn put_after(out: &mut [u8], filled: usize, bytes: &[u8]) -> Printed
     ensures length { length out.new ≡ length out.old }
     ensures read { result.read ≤ length bytes.now }
     ensures written { filled + result.written ≤ length out.new }
-    ensures printed { let bytes = spelt_bytes (take result.read bytes.now) in
+    ensures printed { let bytes = printed_bytes (take result.read bytes.now) in
         take (filled + result.written) out.new ≡ take filled out.old ++ bytes }
 {
     put(&mut out[filled..], bytes)
@@ -158,7 +158,7 @@ fn put(out: &mut [u8], bytes: &[u8]) -> Printed
     ensures read { result.read ≤ length bytes.now }
     ensures written { result.written ≤ length out.new }
     ensures length { length out.new ≡ length out.old }
-    ensures printed { take result.written out.new ≡ spelt_bytes (take result.read bytes.now) }
+    ensures printed { take result.written out.new ≡ printed_bytes (take result.read bytes.now) }
 {
     if bytes.len() < FEW {
         return put_singly(out, bytes, NOTHING);
@@ -275,7 +275,7 @@ pub fn put_byte(out: &mut [u8], at: usize, byte: u8) -> usize
     requires short { backslashes_before byte < 2 }
     ensures length { length out.new ≡ length out.old }
     ensures within { result ≤ at + 2 }
-    ensures printed { take result out.new ≡ take at out.old ++ spelt_byte byte }
+    ensures printed { take result out.new ≡ take at out.old ++ printed_byte byte }
 {
     out[at] = b'\\';
     let last = at + usize::from(backslashes_before(byte));

@@ -6,8 +6,8 @@ use Rattle.std.specs.Str.{chars}
 use Rattle.properties_format.specs.Edits as format
 use Rattle.properties_format.specs.Encoding.{Encoding, utf_8}
 use Rattle.properties_format.specs.Names.{name_of}
+use Rattle.java_properties.specs.Editing.{edits_in}
 use Rattle.java_properties.specs.declared.edit.Edit as editor
-use Rattle.java_properties.specs.declared.edit.Edit.TheVariants.{Put, Remove}
 use Rattle.properties_text.specs.Encoding.{encoding_of}
 use Rattle.properties_tools.specs.declared.propedit.asked.Command as code_command
 use Rattle.properties_tools.specs.declared.propedit.asked.Command.TheVariants.{Get, List as Listed, Check, Change}
@@ -65,8 +65,8 @@ kind_of (with_default value) = of_default
 kind_of with_zero = of_end
 
 -- No two options are about the same.
-abbrev pub AreApart : List Choice → Type 0
-AreApart choices = AllPairs (λ a b. kind_of a ≢ kind_of b) choices
+abbrev pub AreDistinctOptions : List Choice → Type 0
+AreDistinctOptions choices = AllPairs (λ a b. kind_of a ≢ kind_of b) choices
 
 -- what options choose together
 pub record Choices : Type 0 where
@@ -95,12 +95,12 @@ all_choices (choice ∷ choices) = with_choice choice (all_choices choices)
 
 -- an edit that words ask for: a key to set and its value, or a key to remove
 pub data Edit : Type 0 where
-  put : List ℕ → List ℕ → Edit
+  set : List ℕ → List ℕ → Edit
   remove : List ℕ → Edit
 
 -- the words of an edit
 abbrev pub edit_words : Edit → List (List ℕ)
-edit_words (put key value) = codes "set" ∷ (key ∷ (value ∷ []))
+edit_words (set key value) = codes "set" ∷ (key ∷ (value ∷ []))
 edit_words (remove key) = codes "remove" ∷ (key ∷ [])
 
 -- the words of edits, one after another
@@ -108,10 +108,16 @@ abbrev pub words_of : List Edit → List (List ℕ)
 words_of [] = []
 words_of (edit ∷ edits) = edit_words edit ++ words_of edits
 
--- the same edit, with characters for its texts
+-- What is made of it, with characters for its texts. Setting a key keeps the layout of its line.
 abbrev pub in_characters : Edit → format.Edit
-in_characters (put key value) = format.put (chars key) (chars value)
+in_characters (set key value) = format.set_value (chars key) (chars value)
 in_characters (remove key) = format.remove (chars key)
+
+-- The words are those of edits, and these are made.
+pub record AreWordsOfEdits (words : List (List ℕ)) (edits : List format.Edit) : Type 0 where
+  pub asked : List Edit
+  pub is : words ≡ words_of asked
+  pub made : edits ≡ map in_characters asked
 
 -- What is done: the value of a key is printed, or a default; or the keys that begin with a prefix; or what is wrong; or
 -- edits are made.
@@ -119,7 +125,7 @@ pub data Command : Type 0 where
   get : List ℕ → Option (List ℕ) → TextEnd → Command
   list : List ℕ → TextEnd → Command
   check : Command
-  change : List Edit → Command
+  change : List format.Edit → Command
 
 -- The words are those of the command, whatever the options are. The prefix may be left out, and of edits there is at least
 -- one.
@@ -127,7 +133,7 @@ abbrev pub AreWordsOf : List (List ℕ) → Command → Type 0
 AreWordsOf words (get key default end) = words ≡ codes "get" ∷ (key ∷ [])
 AreWordsOf words (list prefix end) = (words ≡ codes "list" ∷ (prefix ∷ [])) ⊎ ((words ≡ codes "list" ∷ []) × (prefix ≡ []))
 AreWordsOf words check = words ≡ codes "check" ∷ []
-AreWordsOf words (change edits) = (words ≡ words_of edits) × (edits ≢ [])
+AreWordsOf words (change edits) = AreWordsOfEdits words edits × (edits ≢ [])
 
 abbrev pub IsInPlace : Source → Type 0
 IsInPlace standard_input = ⊥
@@ -176,7 +182,7 @@ AsksAfter choices words (work_request w) = AsksWork choices words w ⊎ ((rest :
 -- The arguments ask for it: they are options, no two about the same, and then words that ask for it.
 pub record Asks (arguments : List (List ℕ)) (request : Request) : Type 0 where
   pub choices : List Choice
-  pub apart : AreApart choices
+  pub distinct : AreDistinctOptions choices
   pub words : List (List ℕ)
   pub is : arguments ≡ words_of_choices choices ++ words
   pub asks : AsksAfter (all_choices choices) words request
@@ -193,16 +199,8 @@ IsAsked arguments (Some request) = Asks arguments request
 
 -- ---- values of the code
 
--- an edit of the code, with its texts in UTF-8
-abbrev pub text_edit : editor.Edit → Edit
-text_edit (Put key value) = put (string_bytes key) (string_bytes value)
-text_edit (Remove key) = remove (string_bytes key)
-
-abbrev pub text_edits : List editor.Edit → List Edit
-text_edits edits = map text_edit edits
-
-abbrev pub vec_edits : Vec editor.Edit → List Edit
-vec_edits edits = text_edits edits.items
+abbrev pub vec_edits : Vec editor.Edit → List format.Edit
+vec_edits edits = edits_in edits.items
 
 abbrev pub command_of : code_command.Command → Command
 command_of (Get key default end) = get (string_bytes key) (option_map string_bytes default) end

@@ -3,6 +3,7 @@ use Rattle.std.specs.Prelude.{◌≡◌, ◌≢◌, ℕ, List, [], ◌∷◌, �
 use Rattle.std.specs.Borrow.{Bor}
 use Rattle.std.specs.Option.{option_map}
 use Rattle.std.specs.declared.string.String.{String}
+use Rattle.properties_format.specs.Edits as format
 use Rattle.properties_format.specs.Encoding.{Encoding}
 use Rattle.properties_format.specs.Names.{name_of}
 use Rattle.properties_text.specs.Encoding.{encoding_of}
@@ -17,8 +18,8 @@ use Rattle.properties_tools.specs.declared.propedit.asked.commands.Question.TheV
 use Rattle.properties_tools.specs.declared.propedit.asked.edits.BorrowedEdit.{BorrowedEdit}
 use Rattle.properties_tools.specs.declared.propedit.asked.edits.BorrowedEdit.TheVariants as Borrowed
 use Rattle.properties_tools.specs.Propedit.Asked.{Source, standard_input, file, in_place, Choice, in_encoding, from_file, edits_file, with_default, with_zero, choice_words, words_of_choices}
-use Rattle.properties_tools.specs.Propedit.Asked.{Kind, of_encoding, of_source, of_default, of_end, kind_of, AreApart, Choices, with_choice, all_choices, Edit, put, remove}
-use Rattle.properties_tools.specs.Propedit.Asked.{edit_words, words_of, Command, get, list, check, change, AreWordsOf, Suits, Work, Request, work_request, AsksWork, AsksAfter}
+use Rattle.properties_tools.specs.Propedit.Asked.{Kind, of_encoding, of_source, of_default, of_end, kind_of, AreDistinctOptions, Choices, with_choice, all_choices, Edit, set, remove}
+use Rattle.properties_tools.specs.Propedit.Asked.{edit_words, words_of, AreWordsOfEdits, Command, get, list, check, change, AreWordsOf, Suits, Work, Request, work_request, AsksWork, AsksAfter}
 
 -- the bytes of a text that is borrowed
 abbrev pub borrowed_bytes : {Z : Type 0} → Bor (String Z) → List ℕ
@@ -89,13 +90,13 @@ IsWithSource choices source (Some more) = (choices.source ≡ standard_input) ×
 -- The words are those of options, no two about the same, and of others that begin with no option.
 pub record HasChosen (words : List (List ℕ)) (choices : Choices) (rest : List (List ℕ)) : Type 0 where
   pub done : List Choice
-  pub apart : AreApart done
+  pub distinct : AreDistinctOptions done
   pub is : words ≡ words_of_choices done ++ rest
   pub chosen : choices ≡ all_choices done
 
 -- what the options choose that words begin with, and the words after these, where no two are about the same
 abbrev pub AreChosen : List (List ℕ) → Option (Choices × List (List ℕ)) → Type 0
-AreChosen words None = (choices : List Choice) (rest : List (List ℕ)) → words ≡ words_of_choices choices ++ rest → IsNextChoice rest None → AreApart choices → ⊥
+AreChosen words None = (choices : List Choice) (rest : List (List ℕ)) → words ≡ words_of_choices choices ++ rest → IsNextChoice rest None → AreDistinctOptions choices → ⊥
 AreChosen words (Some next) = HasChosen words next.0 next.1 × IsNextChoice next.1 None
 
 -- the same where options before these words chose so
@@ -116,7 +117,7 @@ question_command Asked.Check = check
 
 -- the command that changes nothing and that the words are
 abbrev pub IsQuestion : Choices → List (List ℕ) → Option Command → Type 0
-IsQuestion choices words None = (command : Command) → AreWordsOf words command → Suits choices command → (edits : List Edit) × (command ≡ change edits)
+IsQuestion choices words None = (command : Command) → AreWordsOf words command → Suits choices command → (edits : List format.Edit) × (command ≡ change edits)
 IsQuestion choices words (Some command) = AreWordsOf words command × Suits choices command
 
 -- the command that words are
@@ -154,7 +155,7 @@ AsksSomeAfter choices words = (w : Work) × AsksAfter choices words (work_reques
 
 -- the edit of borrowed texts
 abbrev pub borrowed_edit : BorrowedEdit → Edit
-borrowed_edit (Borrowed.Put key value) = put (borrowed_bytes key) (borrowed_bytes value)
+borrowed_edit (Borrowed.Set key value) = set (borrowed_bytes key) (borrowed_bytes value)
 borrowed_edit (Borrowed.Remove key) = remove (borrowed_bytes key)
 
 -- the same with the words after it
@@ -167,9 +168,9 @@ IsNextEdit words None = (edit : Edit) (others : List (List ℕ)) → words ≡ e
 IsNextEdit words (Some next) = words ≡ edit_words next.0 ++ next.1
 
 -- the setting of this key, and the words after its value, where a word is left for the value
-abbrev pub IsPutNext : List ℕ → List (List ℕ) → Option (Edit × List (List ℕ)) → Type 0
-IsPutNext key words None = words ≡ []
-IsPutNext key words (Some next) = (value : List ℕ) × (words ≡ value ∷ next.1) × (next.0 ≡ put key value)
+abbrev pub IsSetNext : List ℕ → List (List ℕ) → Option (Edit × List (List ℕ)) → Type 0
+IsSetNext key words None = words ≡ []
+IsSetNext key words (Some next) = (value : List ℕ) × (words ≡ value ∷ next.1) × (next.0 ≡ set key value)
 
 -- These words are those of edits.
 abbrev pub AreEdits : List (List ℕ) → Type 0
@@ -180,7 +181,7 @@ abbrev pub IsEditCount : List (List ℕ) → Option ℕ → Type 0
 IsEditCount words None = (edits : List Edit) → words ≡ words_of edits → ⊥
 IsEditCount words (Some count) = (edits : List Edit) × (words ≡ words_of edits) × (length edits ≡ count)
 
--- the edits whose words these are, where they are those of edits
-abbrev pub AreEditsOf : List (List ℕ) → Option (List Edit) → Type 0
+-- the edits that are made, where the words are those of edits
+abbrev pub AreEditsOf : List (List ℕ) → Option (List format.Edit) → Type 0
 AreEditsOf words None = (edits : List Edit) → words ≡ words_of edits → ⊥
-AreEditsOf words (Some edits) = words ≡ words_of edits
+AreEditsOf words (Some edits) = AreWordsOfEdits words edits

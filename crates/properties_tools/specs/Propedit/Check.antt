@@ -8,7 +8,7 @@ use Rattle.properties_format.specs.MalformedEscapes.{AreMalformedEscapes}
 use Rattle.properties_format.specs.Text.{line_feed}
 use Rattle.java_properties.specs.Errors.{IsBareError}
 use Rattle.java_properties.specs.KeyLines.{AreKeyLines, KeyEntry}
-use Rattle.java_properties.specs.MalformedEscapes.{told_escapes}
+use Rattle.java_properties.specs.MalformedEscapes.{escape_records}
 use Rattle.java_properties.specs.declared.error.ErrorKind.TheVariants as kind
 use Rattle.java_properties.specs.declared.error.PropertiesError.{PropertiesError}
 use Rattle.java_properties.specs.declared.iter.malformed.MalformedEscape.{MalformedEscape}
@@ -50,7 +50,7 @@ pub record IsReport (name : List ℕ) (e : Encoding) (source text : List ℕ) : 
   pub malformed : AreMalformedEscapes e source escapes
   pub keys : List KeyEntry
   pub are_keys : AreKeyLines e source keys
-  pub is : text ≡ ill_formed_lines name numbers ++ (escape_lines name (told_escapes escapes) ++ repeat_lines name keys)
+  pub is : text ≡ ill_formed_lines name numbers ++ (escape_lines name (escape_records escapes) ++ repeat_lines name keys)
 
 -- What reporting returns. It fails only if memory runs out.
 abbrev pub Reports : {Z : Type 0} → Encoding → List ℕ → List ℕ → Result (String Z) PropertiesError → Type 0

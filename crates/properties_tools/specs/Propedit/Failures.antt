@@ -8,7 +8,7 @@ use Rattle.java_properties.specs.declared.error.ErrorKind.TheVariants as kind
 use Rattle.java_properties.specs.declared.error.PropertiesError.{PropertiesError}
 use Rattle.java_properties.specs.declared.error.Reason.{Reason}
 use Rattle.java_properties.specs.declared.iter.malformed.MalformedEscape.{MalformedEscape}
-use Rattle.properties_tools.specs.Messages.{said_line, HasSaid}
+use Rattle.properties_tools.specs.Messages.{printed_line, HasPrintedLine}
 use Rattle.properties_tools.specs.declared.propedit.error.Failure.{Failure}
 use Rattle.properties_tools.specs.declared.propedit.error.Failure.TheVariants.{NotUtf8, Malformed, Input, Output}
 
@@ -80,14 +80,14 @@ pub record IsMessage (name : List ℕ) (failure : Failure) (text : List ℕ) : T
 
 -- the line of such a text
 abbrev pub IsMessageLine : List ℕ → Failure → List ℕ → Type 0
-IsMessageLine name failure line = (text : List ℕ) × IsMessage name failure text × (line ≡ said_line text)
+IsMessageLine name failure line = (text : List ℕ) × IsMessage name failure text × (line ≡ printed_line text)
 
 -- The message of a failure was printed as a line, as far as the sink took it.
 pub record PrintsMessage {W : Type 0} (sink : Sink W) (old : W) (name : List ℕ) (failure : Failure) (new : W) : Type 0 where
   pub text : List ℕ
   pub is_message : IsMessage name failure text
-  pub says : HasSaid sink old (said_line text) new
+  pub says : HasPrintedLine sink old (printed_line text) new
 
 -- The message of a failure is printed as a line, if there is memory for the line.
-abbrev pub SaysFailure : {W : Type 0} → Sink W → W → List ℕ → Failure → W → Type 0
-SaysFailure sink old name failure new = PrintsMessage sink old name failure new ⊎ (new ≡ old)
+abbrev pub PrintsFailure : {W : Type 0} → Sink W → W → List ℕ → Failure → W → Type 0
+PrintsFailure sink old name failure new = PrintsMessage sink old name failure new ⊎ (new ≡ old)

@@ -2,8 +2,8 @@
 use Rattle.std.specs.Prelude.{◌≡◌, ◌⊎◌, ℕ, Bool, true, false, List, [], ◌++◌, Option, None, Some, IfSome, codes, string_bytes}
 use Rattle.std.specs.Fmt.{◌++?◌}
 use Rattle.counted_io.specs.Streams.{Sink}
-use Rattle.properties_tools.specs.Messages.{said_line, HasSaid}
-use Rattle.properties_tools.specs.Propedit.Failures.{message, SaysFailure}
+use Rattle.properties_tools.specs.Messages.{printed_line, HasPrintedLine}
+use Rattle.properties_tools.specs.Propedit.Failures.{message, PrintsFailure}
 use Rattle.properties_tools.specs.declared.propedit.error.Failure.{Failure}
 use Rattle.properties_tools.specs.declared.propedit.in_place.Problem.{Problem}
 use Rattle.properties_tools.specs.declared.propedit.in_place.Problem.TheVariants as problem
@@ -37,18 +37,18 @@ replace_display e = problem_display (string_bytes e.temporary) e.problem ++? Som
 pub record IsProblemLine (path : List ℕ) (error : ReplaceError) (line : List ℕ) : Type 0 where
   pub words : List ℕ
   pub printed : IfSome (replace_display error) (λ known. words ≡ known)
-  pub is : line ≡ said_line (message path None words)
+  pub is : line ≡ printed_line (message path None words)
 
 -- Such a line was printed, as far as the sink took it.
 pub record PrintsProblem {W : Type 0} (sink : Sink W) (old : W) (path : List ℕ) (error : ReplaceError) (new : W) : Type 0 where
   pub line : List ℕ
   pub is_line : IsProblemLine path error line
-  pub says : HasSaid sink old line new
+  pub says : HasPrintedLine sink old line new
 
 -- Why a file is not replaced is printed as a line, if there is memory for the line.
-abbrev pub SaysProblem : {W : Type 0} → Sink W → W → List ℕ → ReplaceError → W → Type 0
-SaysProblem sink old path error new = PrintsProblem sink old path error new ⊎ (new ≡ old)
+abbrev pub PrintsProblemIfMemory : {W : Type 0} → Sink W → W → List ℕ → ReplaceError → W → Type 0
+PrintsProblemIfMemory sink old path error new = PrintsProblem sink old path error new ⊎ (new ≡ old)
 
 -- Why a file is not edited is printed as a line, if there is memory for the line: it is not read, its edits fail, or it is not replaced.
-abbrev pub SaysUnedited : {W : Type 0} → Sink W → W → List ℕ → W → Type 0
-SaysUnedited sink old path new = ((failure : Failure) × SaysFailure sink old path failure new) ⊎ ((error : ReplaceError) × SaysProblem sink old path error new)
+abbrev pub PrintsUnedited : {W : Type 0} → Sink W → W → List ℕ → W → Type 0
+PrintsUnedited sink old path new = ((failure : Failure) × PrintsFailure sink old path failure new) ⊎ ((error : ReplaceError) × PrintsProblemIfMemory sink old path error new)

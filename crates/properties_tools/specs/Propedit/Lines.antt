@@ -5,7 +5,7 @@ use Rattle.std.specs.Borrow.{Bor}
 use Rattle.properties_format.specs.Encoding.{Encoding, windows_1252, utf_8, utf_16le, utf_16be, byte_order_mark}
 use Rattle.properties_format.specs.Lines.{end, Line, Lines, IsLines, numbered_lines}
 use Rattle.properties_format.specs.Utf8.{IsWellFormedText}
-use Rattle.properties_lines.specs.Scanner.{IsTold, bytes_of}
+use Rattle.properties_lines.specs.Scanner.{HasRightFlags, bytes_of}
 use Rattle.properties_lines.specs.declared.scanner.RawLine.{RawLine}
 use Rattle.java_properties.specs.Errors.{IsBareError}
 use Rattle.java_properties.specs.declared.error.ErrorKind.TheVariants as kind
@@ -69,4 +69,4 @@ IsUtf8Body e source None = HasIllFormed e source []
 pub record IsFound (body : List ℕ) (line : RawLine) : Type 0 where
   pub ordered : line.start ≤ line.end
   pub within : line.end ≤ length body
-  pub told : IsTold utf_8 (bytes_of body line) line
+  pub flags : HasRightFlags utf_8 (bytes_of body line) line

@@ -5,8 +5,8 @@ use Rattle.properties_format.specs.Encoding.{Encoding}
 use Rattle.properties_format.specs.MalformedEscapes as format
 use Rattle.properties_format.specs.MalformedEscapes.{AreMalformedEscapes}
 use Rattle.java_properties.specs.Errors.{IsBareError}
-use Rattle.java_properties.specs.KeyLines.{AreKeyLines, KeyEntry, said_keys}
-use Rattle.java_properties.specs.MalformedEscapes.{told_escape, told_escapes}
+use Rattle.java_properties.specs.KeyLines.{AreKeyLines, KeyEntry, key_line_entries}
+use Rattle.java_properties.specs.MalformedEscapes.{escape_record, escape_records}
 use Rattle.java_properties.specs.declared.error.ErrorKind.TheVariants as kind
 use Rattle.java_properties.specs.declared.error.PropertiesError.{PropertiesError}
 use Rattle.java_properties.specs.declared.iter.keys.KeyLine.{KeyLine}
@@ -20,7 +20,7 @@ pub record HasMalformed (e : Encoding) (source : List ℕ) (found : List Malform
   pub escapes : List format.MalformedEscape
   pub are : AreMalformedEscapes e source escapes
   pub only : (others : List format.MalformedEscape) → AreMalformedEscapes e source others → others ≡ escapes
-  pub is : found ≡ told_escapes escapes
+  pub is : found ≡ escape_records escapes
 
 -- What finding them returns. It fails only if memory runs out.
 abbrev pub FindsMalformedIn : Encoding → List ℕ → Result (Vec MalformedEscape) PropertiesError → Type 0
@@ -29,8 +29,8 @@ FindsMalformedIn e source (Err error) = IsBareError kind.Memory error
 
 -- These are the keys of a source, each with its line and the line in which it comes first, and the only ones.
 pub record HasKeys (e : Encoding) (source : List ℕ) (found : List KeyLine) : Type 0 where
-  pub are : AreKeyLines e source (said_keys found)
-  pub only : (others : List KeyEntry) → AreKeyLines e source others → others ≡ said_keys found
+  pub are : AreKeyLines e source (key_line_entries found)
+  pub only : (others : List KeyEntry) → AreKeyLines e source others → others ≡ key_line_entries found
 
 -- What finding them returns. It fails only if memory runs out.
 abbrev pub FindsKeysIn : Encoding → List ℕ → Result (Vec KeyLine) PropertiesError → Type 0
@@ -50,7 +50,7 @@ pub record IsFirstMalformed (e : Encoding) (source : List ℕ) (found : Malforme
   pub escape : format.MalformedEscape
   pub others : List format.MalformedEscape
   pub are : AreMalformedEscapes e source (escape ∷ others)
-  pub is : found ≡ told_escape escape
+  pub is : found ≡ escape_record escape
 
 -- Why a source is refused, or not even looked through: its first ill-formed line; where there is none, its first malformed
 -- escape; or memory ran out.

@@ -24,7 +24,8 @@ pub const USAGE: &str = "usage: propedit [OPTION ..] get KEY
   list    prints the keys, or those that begin with PREFIX, each once, in the order of the file
   check   prints each line that is not UTF-8, the first malformed escape of each line, and each repeated key
   set, remove
-          print the file with these edits, made in order; other lines stay as they are
+          print the file with these edits, made in order; set changes a value and keeps the layout of its line,
+          and other lines stay as they are
 
   -f FILE        reads FILE instead of standard input
   -i FILE        edits FILE in place (set and remove)
@@ -40,7 +41,7 @@ Status: 0 done or found, 1 not found or check found something, 2 wrong arguments
 ";
 
 /// What `--version` prints.
-pub const VERSION: &str = "propedit 1.2.0\n";
+pub const VERSION: &str = "propedit 1.3.0\n";
 
 /// What the arguments ask for.
 #[derive(Drop)]
@@ -81,7 +82,7 @@ pub enum Command {
     List(String, TextEnd),
     /// Print what is wrong.
     Check,
-    /// Make these edits in order. There is one at least.
+    /// Make these edits in order. There is one at least, and each sets a value or removes a key.
     Change(Vec<Edit>),
 }
 

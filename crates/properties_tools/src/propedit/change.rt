@@ -15,8 +15,9 @@ use std::alloc::Global;
 /// encoding that is not edited.
 ///
 /// ```text
-/// let edits = vec![in alloc; Edit::Put(port, value)]?;
+/// let edits = vec![in alloc; Edit::SetValue(port, value)]?;
 /// let bytes = change(alloc, b"# the front door\nport = 80\n", Encoding::UTF_8, &edits)?;
+/// // Where the value is `8080`: `# the front door`, a line feed, `port = 8080` and a line feed.
 /// ```
 pub fn change(
     alloc: Global,
@@ -39,7 +40,7 @@ mod tests {
 
     // One edit, which sets a key.
     fn edit(alloc: Global, key: &str, value: &str) -> Result<Vec<Edit>, AllocError> {
-        let edit = Edit::Put(
+        let edit = Edit::SetValue(
             String::from_str(alloc, key)?,
             String::from_str(alloc, value)?,
         );
@@ -58,7 +59,7 @@ mod tests {
         let bytes = changed?;
         assert_eq!(rt;
             bytes.as_slice(),
-            b"# a\nport=1\nhost=\xc5\xbc\r\n".as_slice()
+            b"# a\nport=1\nhost : \xc5\xbc\r\n".as_slice()
         );
         Ok(())
     }

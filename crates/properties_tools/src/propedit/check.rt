@@ -2,7 +2,7 @@
 
 ghost use Rattle.std.specs.Prelude.{◌≡◌, ◌++◌, OnOk};
 ghost use Rattle.std.specs.String.{string_bytes};
-ghost use Rattle.java_properties.specs.KeyLines.{said_key, said_keys};
+ghost use Rattle.java_properties.specs.KeyLines.{key_line_entry, key_line_entries};
 ghost use Rattle.properties_text.specs.Encoding.{encoding_of};
 ghost use Rattle.properties_tools.specs.Propedit.Failures.{comment_words};
 ghost use Rattle.properties_tools.specs.Propedit.Check.{escape_lines, ill_formed_lines, repeat_line, repeat_lines, Reports};
@@ -70,7 +70,7 @@ fn place_words(in_comment: bool) -> &'static str
 }
 
 fn push_repeats(text: &mut String, name: &str, keys: &[KeyLine]) -> Result<(), AllocError>
-    ensures { OnOk result (string_bytes text.new ≡ string_bytes text.old ++ repeat_lines name.now (said_keys keys.now)) }
+    ensures { OnOk result (string_bytes text.new ≡ string_bytes text.old ++ repeat_lines name.now (key_line_entries keys.now)) }
 {
     for key in keys {
         push_repeat(text, name, key)?;
@@ -79,7 +79,7 @@ fn push_repeats(text: &mut String, name: &str, keys: &[KeyLine]) -> Result<(), A
 }
 
 fn push_repeat(text: &mut String, name: &str, key: &KeyLine) -> Result<(), AllocError>
-    ensures { OnOk result (string_bytes text.new ≡ string_bytes text.old ++ repeat_line name.now (said_key key.now)) }
+    ensures { OnOk result (string_bytes text.new ≡ string_bytes text.old ++ repeat_line name.now (key_line_entry key.now)) }
 {
     if key.first == key.line_number {
         return Ok(());

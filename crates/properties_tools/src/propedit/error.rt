@@ -2,7 +2,7 @@
 
 ghost use Rattle.std.specs.Prelude.{◌≡◌, IfOk, string_bytes};
 ghost use Rattle.counted_io.specs.Streams.{IsSameSink};
-ghost use Rattle.properties_tools.specs.Propedit.Failures.{escape_reason, number_of, place_of, IsErrorReason, IsMessageLine, IsReasonOf, LacksMemory, SaysFailure};
+ghost use Rattle.properties_tools.specs.Propedit.Failures.{escape_reason, number_of, place_of, IsErrorReason, IsMessageLine, IsReasonOf, LacksMemory, PrintsFailure};
 
 use crate::messages::say;
 use counted_io::CountedWrite;
@@ -90,7 +90,7 @@ impl Failure {
 /// // They hold `propedit: app.properties:7: not UTF-8; -e windows-1252 reads it`, and a line feed.
 /// ```
 pub fn say_failure<E: CountedWrite>(alloc: Global, errors: &mut E, name: &str, failure: &Failure)
-    ensures says { SaysFailure E.CountedWrite errors.old name.now failure.now errors.new }
+    ensures says { PrintsFailure E.CountedWrite errors.old name.now failure.now errors.new }
     ensures same_sink { IsSameSink E.CountedWrite errors.old errors.new }
 {
     if let Ok(line) = message(alloc, name, failure) {

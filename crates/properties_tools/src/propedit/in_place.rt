@@ -2,7 +2,7 @@
 
 ghost use Rattle.std.specs.Prelude.{◌≡◌, ◌⊎◌, string_bytes, IfOk};
 ghost use Rattle.counted_io.specs.Streams.{IsSameSink};
-ghost use Rattle.properties_tools.specs.Propedit.InPlace.{problem_display, replace_display, IsProblemLine, SaysProblem, SaysUnedited};
+ghost use Rattle.properties_tools.specs.Propedit.InPlace.{problem_display, replace_display, IsProblemLine, PrintsProblemIfMemory, PrintsUnedited};
 
 use crate::messages::say;
 use crate::propedit::error::Failure;
@@ -36,7 +36,7 @@ pub fn edit_file<E: CountedWrite>(
 ) -> u8
     ensures status { (result ≡ 0) ⊎ (result ≡ 2) }
     ensures quiet { result ≡ 0 → errors.new ≡ errors.old }
-    ensures says { result ≡ 2 → SaysUnedited E.CountedWrite errors.old path.now errors.new }
+    ensures says { result ≡ 2 → PrintsUnedited E.CountedWrite errors.old path.now errors.new }
     ensures same_sink { IsSameSink E.CountedWrite errors.old errors.new }
 {
     match replace_edited(rt, alloc, path, encoding, edits) {
@@ -85,7 +85,7 @@ fn fail_to_replace<E: CountedWrite>(
     error: &ReplaceError,
 ) -> u8
     ensures status { result ≡ 2 }
-    ensures says { SaysProblem E.CountedWrite errors.old path.now error.now errors.new }
+    ensures says { PrintsProblemIfMemory E.CountedWrite errors.old path.now error.now errors.new }
     ensures same_sink { IsSameSink E.CountedWrite errors.old errors.new }
 {
     if let Ok(line) = problem_line(alloc, path, error) {

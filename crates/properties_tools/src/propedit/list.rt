@@ -2,7 +2,7 @@
 
 ghost use Rattle.std.specs.Prelude.{◌≡◌, IfOk};
 ghost use Rattle.std.specs.Str.{chars};
-ghost use Rattle.java_properties.specs.KeyLines.{said_key, said_keys};
+ghost use Rattle.java_properties.specs.KeyLines.{key_line_entry, key_line_entries};
 ghost use Rattle.properties_text.specs.Encoding.{encoding_of};
 ghost use Rattle.properties_tools.specs.Propedit.Listing.{Lists, PrintsKeys, is_key_listed};
 
@@ -38,14 +38,14 @@ pub fn list(
 
 // Whether no pair before has the key, and it begins with the prefix.
 fn is_listed(key: &KeyLine, prefix: &str) -> bool
-    ensures { result ≡ is_key_listed (chars prefix.now) (said_key key.now) }
+    ensures { result ≡ is_key_listed (chars prefix.now) (key_line_entry key.now) }
 {
     key.first == key.line_number && key.key.as_str().starts_with(prefix)
 }
 
 // Those of the keys that are listed, and the status.
 fn listed(alloc: Global, keys: &[KeyLine], prefix: &str, end: TextEnd) -> Result<Answer, AllocError>
-    ensures { IfOk result (PrintsKeys end (chars prefix.now) (said_keys keys.now)) }
+    ensures { IfOk result (PrintsKeys end (chars prefix.now) (key_line_entries keys.now)) }
 {
     let mut text = Vec::new(alloc);
     for key in keys {

@@ -14,12 +14,12 @@ enum Wish<'a> {
     Get(&'a str),
     List(&'a str),
     Check,
-    Put(&'a str, &'a str),
+    Set(&'a str, &'a str),
     Remove(&'a str),
 }
 
-fn put(alloc: Global, key: &str, value: &str) -> Result<Edit, AllocError> {
-    Ok(Edit::Put(
+fn set(alloc: Global, key: &str, value: &str) -> Result<Edit, AllocError> {
+    Ok(Edit::SetValue(
         String::from_str(alloc, key)?,
         String::from_str(alloc, value)?,
     ))
@@ -30,7 +30,7 @@ fn command(alloc: Global, wish: Wish<'_>) -> Result<Command, AllocError> {
         Wish::Get(key) => Command::Get(String::from_str(alloc, key)?, None, TextEnd::LineFeed),
         Wish::List(prefix) => Command::List(String::from_str(alloc, prefix)?, TextEnd::LineFeed),
         Wish::Check => Command::Check,
-        Wish::Put(key, value) => Command::Change(vec![in alloc; put(alloc, key, value)?]?),
+        Wish::Set(key, value) => Command::Change(vec![in alloc; set(alloc, key, value)?]?),
         Wish::Remove(key) => {
             Command::Change(vec![in alloc; Edit::Remove(String::from_str(alloc, key)?)]?)
         }
@@ -117,12 +117,49 @@ fn prints_the_answer(rt: HostRuntime) -> Result<(), Fail> {
             b"standard input:2: repeats the key of line 1\n",
         ),
         gives(
-            Wish::Put("a", "\u{e9}"),
+            Wish::Set("a", "\u{e9}"),
             b"# x\r\na : 1\r\nb=c",
             0,
-            b"# x\r\na=\xc3\xa9\r\nb=c",
+            b"# x\r\na : \xc3\xa9\r\nb=c",
         ),
         gives(Wish::Remove("a"), b"a=1\nb=2\na=3", 0, b"b=2\n"),
+    ];
+    check_rows(&rt, rt.alloc(), rows.as_slice())
+}
+
+#[test]
+fn keeps_the_layout_of_a_line(rt: HostRuntime) -> Result<(), Fail> {
+    let rows: [Row<'_>; 5] = [
+        gives(
+            Wish::Set("key", "a b"),
+            b"  \\u006bey    = old\r\n# x",
+            0,
+            b"  \\u006bey    = a b\r\n# x",
+        ),
+        gives(
+            Wish::Set("url", "http://a:1?b=c"),
+            b"url\thttp://a",
+            0,
+            b"url\thttp://a:1?b=c",
+        ),
+        gives(
+            Wish::Set("a", "1 2"),
+            b"a : 1\\\n  \\ 2\n",
+            0,
+            b"a : 1\\\n  \\ 2\n",
+        ),
+        gives(
+            Wish::Set("a", "3"),
+            b"a: 1\\\n   2\nb = c",
+            0,
+            b"a: 3\nb = c",
+        ),
+        gives(
+            Wish::Set("c", "3"),
+            b"a = 1\r\nb: 2\r\n",
+            0,
+            b"a = 1\r\nb: 2\r\nc: 3\r\n",
+        ),
     ];
     check_rows(&rt, rt.alloc(), rows.as_slice())
 }
@@ -137,10 +174,10 @@ fn prints_why_it_fails(rt: HostRuntime) -> Result<(), Fail> {
         fails(Wish::Get("b"), b"a=\xe9\nb=1", not_utf_8),
         fails(Wish::List(""), b"a=\xe9\nb=\\u12", not_utf_8),
         fails(Wish::Get("a"), b"a=1\nk=\\u12", malformed),
-        fails(Wish::Put("a", "2"), b"a=1\nk=\\u12", malformed),
+        fails(Wish::Set("a", "2"), b"a=1\nk=\\u12", malformed),
         fails(Wish::Remove("c"), b"# C:\\users", in_comment),
         fails(
-            Wish::Put("a", "2"),
+            Wish::Set("a", "2"),
             b"\xfe\xff\0a",
             "propedit: standard input: Encoding can't be edited.\n",
         ),
@@ -190,7 +227,7 @@ fn prints_why_a_read_failed(rt: HostRuntime) -> Result<(), Fail> {
         Wish::Get("a"),
         Wish::List(""),
         Wish::Check,
-        Wish::Put("a", "2"),
+        Wish::Set("a", "2"),
     ];
     for wish in wishes {
         let work = work(rt.alloc(), Encoding::UTF_8, wish)?;
@@ -299,19 +336,19 @@ fn check_refusal(rt: &impl Abort, alloc: Global, wish: Wish<'_>, wanted: &[u8]) 
 fn prints_that_memory_ran_out(rt: HostRuntime) {
     check_refusal(&rt, rt.alloc(), Wish::Get("a"), b"1\n");
     check_refusal(&rt, rt.alloc(), Wish::List(""), b"a\n");
-    check_refusal(&rt, rt.alloc(), Wish::Put("a", "2"), b"a=2");
+    check_refusal(&rt, rt.alloc(), Wish::Set("a", "2"), b"a=2");
 }
 
 #[test]
 fn replaces_where_something_changes(rt: HostRuntime) -> Result<(), Fail> {
     let alloc = rt.alloc();
-    let edits = vec![in alloc; put(alloc, "a", "2")?]?;
+    let edits = vec![in alloc; set(alloc, "a", "2")?]?;
     let Ok(Some(bytes)) = replacement(alloc, b"a = 1\n", Encoding::UTF_8, &edits) else {
         assert!(rt; false);
         return Ok(());
     };
-    assert_eq!(rt; bytes.as_slice(), b"a=2\n".as_slice());
-    let same = replacement(alloc, b"a=2\n", Encoding::UTF_8, &edits);
+    assert_eq!(rt; bytes.as_slice(), b"a = 2\n".as_slice());
+    let same = replacement(alloc, b"a : 2\n", Encoding::UTF_8, &edits);
     assert!(rt; matches!(&same, Ok(None)));
     let refused = replacement(alloc, b"a=\\u12\n", Encoding::UTF_8, &edits);
     assert!(rt; matches!(&refused, Err(Failure::Malformed(_))));

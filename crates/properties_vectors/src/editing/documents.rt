@@ -3,7 +3,7 @@
 use crate::notation::{Clause, Halt, quoted};
 use crate::outcome::Outcome;
 use crate::reading::items_after;
-use crate::shown::{compare, reading_of, told};
+use crate::shown::{compare, error_text, reading_of};
 use crate::writing::text;
 use java_properties::{Document, Encoding, LineContent, read_lines, read_sorted};
 use std::alloc::{AllocError, Global};
@@ -20,7 +20,7 @@ pub fn check_document(
     let mut seen = String::new(alloc);
     match Document::parse(alloc, source, encoding) {
         Err(error) => {
-            let came = told(alloc, &error)?;
+            let came = error_text(alloc, &error)?;
             compare(alloc, outcome, "by a document", came.as_str())?;
         }
         Ok(mut document) => {
@@ -56,6 +56,7 @@ fn take_step(
 ) -> Result<(), Halt> {
     match (step.word.as_str(), step.texts.as_slice()) {
         ("put", [key, value]) => document.put(text(key)?, text(value)?)?,
+        ("value", [key, value]) => document.set_value(text(key)?, text(value)?)?,
         ("remove", [key]) => {
             let key = text(key)?;
             let was_there = document.contains_key(key);

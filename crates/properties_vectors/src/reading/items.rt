@@ -2,7 +2,7 @@
 
 use super::Reading;
 use crate::notation::shown;
-use crate::shown::told;
+use crate::shown::error_text;
 use java_properties::{ErrorKind, Line, LineContent, PropertiesError};
 use std::alloc::{AllocError, Global};
 use std::io;
@@ -65,7 +65,7 @@ impl Item {
                 ErrorKind::Io => Kind::Fault,
                 _ => Kind::Error,
             },
-            text: told(alloc, error)?,
+            text: error_text(alloc, error)?,
         })
     }
 

@@ -24,7 +24,7 @@ impl Script {
                         pieces.push(Vec::from_slice(alloc, text.as_slice())?)?;
                     }
                 }
-                (Tail::End, []) => tail = Tail::Fault(fault_of(clause.word.as_str())?),
+                (Tail::End, []) => tail = Tail::Fault(fault_kind(clause.word.as_str())?),
                 _ => return Err(Halt::Unreadable),
             }
         }
@@ -63,7 +63,7 @@ fn times_of(word: &str) -> Result<u32, Halt> {
     }
 }
 
-fn fault_of(word: &str) -> Result<io::ErrorKind, Halt> {
+fn fault_kind(word: &str) -> Result<io::ErrorKind, Halt> {
     match word {
         "fault TimedOut" => Ok(io::ErrorKind::TimedOut),
         "fault Interrupted" => Ok(io::ErrorKind::Interrupted),

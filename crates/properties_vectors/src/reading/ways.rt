@@ -175,8 +175,8 @@ fn next_item<R: CountedRead>(
     place: u64,
 ) -> Option<Result<Line, PropertiesError>> {
     match way {
-        Way::NextRef => lent_item(alloc, items),
-        Way::NextAndNextRef if place % 2 == 1 => lent_item(alloc, items),
+        Way::NextRef => borrowed_item(alloc, items),
+        Way::NextAndNextRef if place % 2 == 1 => borrowed_item(alloc, items),
         Way::AdvanceAndGet => match items.advance()? {
             Ok(found) => Some(items.get(found).to_line(alloc)),
             Err(error) => Some(Err(error)),
@@ -185,7 +185,7 @@ fn next_item<R: CountedRead>(
     }
 }
 
-fn lent_item<R: CountedRead>(
+fn borrowed_item<R: CountedRead>(
     alloc: Global,
     items: &mut PropertiesIter<R>,
 ) -> Option<Result<Line, PropertiesError>> {

@@ -1,7 +1,7 @@
 // Sinks that take little and fail at each of the writes that calls make.
 
 use super::lists::{check_lists, copied};
-use super::sinks::{Cut, FAULTS, Sink, cut_at, told_fault};
+use super::sinks::{Cut, FAULTS, Sink, cut_at, fault_text};
 use super::{Words, Written, shown_calls, write};
 use crate::notation::{Clause, Halt};
 use crate::outcome::Outcome;
@@ -23,7 +23,7 @@ pub fn check_faults(
             if let Some(cut) = cut_at(whole.ends.as_slice(), most, fail_at) {
                 for how in FAULTS {
                     let sink = Sink::failing(most, fail_at, how);
-                    let written = write(alloc, encoding, sink, clauses, Words::Told)?;
+                    let written = write(alloc, encoding, sink, clauses, Words::Parts)?;
                     let wanted = wanted(alloc, clauses, whole, cut, how)?;
                     check_sink(alloc, &written, wanted.as_str(), fail_at, outcome)?;
                     check_lists(alloc, encoding, sink, clauses, &written, outcome)?;
@@ -73,7 +73,7 @@ fn wanted(
             continue;
         }
         answers.push(if place == cut.place {
-            Some(told_fault(alloc, cut.line, how)?)
+            Some(fault_text(alloc, cut.line, how)?)
         } else if place > cut.place && is_send(clause) {
             Some(String::from_str(alloc, "Failed")?)
         } else {

@@ -4,7 +4,7 @@ use super::sinks::Sink;
 use super::{Written, line_ending, owned, shown_calls, writer_to};
 use crate::notation::{Clause, Halt};
 use crate::outcome::Outcome;
-use crate::shown::{reading_of, told};
+use crate::shown::{error_text, reading_of};
 use java_properties::{Call, Encoding, run_calls};
 use std::alloc::{AllocError, Global};
 
@@ -41,7 +41,7 @@ pub fn check_lists(
                     }
                     answers.push(copied(alloc, single)?)?;
                 }
-                answers.push(Some(told(alloc, &error)?))?;
+                answers.push(Some(error_text(alloc, &error)?))?;
             }
         }
     }

@@ -1,10 +1,10 @@
 // Maps that are written whole, each pair a clause.
 
-use super::sinks::{FAULTS, ROOMY, Sink, cut_at, front_sink, told_fault};
+use super::sinks::{FAULTS, ROOMY, Sink, cut_at, fault_text, front_sink};
 use super::{owned, shown_calls};
 use crate::notation::{Clause, Halt};
 use crate::outcome::Outcome;
-use crate::shown::{compare, told};
+use crate::shown::{compare, error_text};
 use counted_io::ScriptedSink;
 use java_properties::{Encoding, read, read_sorted, write, write_sorted};
 use std::alloc::{AllocError, Global};
@@ -67,7 +67,7 @@ fn written(
     };
     let answer = match done {
         Ok(()) => None,
-        Err(error) => Some(told(alloc, &error)?),
+        Err(error) => Some(error_text(alloc, &error)?),
     };
     let came = shown_calls(alloc, &[answer], sink.bytes(), sink.faults())?;
     Ok((came, sink))
@@ -89,7 +89,7 @@ fn check_faults(
                 for how in FAULTS {
                     let sink = Sink::failing(most, fail_at, how);
                     let (came, sink) = written(alloc, encoding, sink, pairs, way)?;
-                    let answer = Some(told_fault(alloc, cut.line, how)?);
+                    let answer = Some(fault_text(alloc, cut.line, how)?);
                     let taken = whole.get(..cut.taken).unwrap_or(whole);
                     let wanted = shown_calls(alloc, &[answer], taken, 1)?;
                     if came != wanted || sink.calls() != fail_at {

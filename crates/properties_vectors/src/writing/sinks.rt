@@ -121,7 +121,7 @@ pub fn cut_at(ends: &[usize], most: usize, fail_at: usize) -> Option<Cut> {
 }
 
 /// What is told of a write that fails so in the line of this number.
-pub fn told_fault(alloc: Global, line: usize, how: SinkFault) -> Result<String, Halt> {
+pub fn fault_text(alloc: Global, line: usize, how: SinkFault) -> Result<String, Halt> {
     Ok(match how {
         SinkFault::Fault(kind) => format!(in alloc; "Io in line {line} by {kind:?}")?,
         SinkFault::Nothing => format!(in alloc; "Io in line {line}")?,

@@ -8,7 +8,7 @@ use Rattle.properties_format.proofs.Edits.Results.{edit_all_result-meets}
 use Rattle.properties_text.specs.Encoding.{encoding_of}
 use Rattle.java_properties.specs.BodySlots.{Holds}
 use Rattle.java_properties.specs.Editing.{AreMade, edit_in, edits_in}
-use Rattle.java_properties.proofs.Editing.{edits_in-more, edits-scalars, refusal, slots-none, slots-held, slots-more, slots-edits, splitting}
+use Rattle.java_properties.proofs.Editing.{edits_in-more, edits-scalars, refusal, slots-none, slots-held, slots-read, slots-more, slots-edits, splitting}
 use Rattle.java_properties.proofs.edit.edit_all.Goals as goal
 
 pub returns-in_err-opened-clause-splitting : goal.returns-in_err-opened-clause-splitting
@@ -34,10 +34,11 @@ loop-edit-init c =
     let parsed = rw (take_rest c.args.source.now start) at c.in_ok-slots.ensures in
     rw (take_rest c.args.source.now start) (slots-none c.in_ok-slots.slots c.in_ok-opened.ensures.0 parsed.1)
 
-pub make-requires : goal.make-requires
-make-requires c =
+pub make-requires-clause-reads : goal.make-requires-clause-reads
+make-requires-clause-reads c =
     let done = take c.loop-edit.edit-index c.args.edits.now in
-    slots-held _ c.loop-edit.slots (edits_in done) c.in_ok-opened.ensures.0 c.in_ok-opened.ensures.1 (edits-scalars done) c.loop-edit.invariant
+    let parsed = rw (take_rest c.args.source.now c.in_ok-opened.opened.start) at c.in_ok-slots.ensures in
+    slots-read _ c.loop-edit.slots (edits_in done) c.in_ok-opened.ensures.0 c.in_ok-opened.ensures.1 parsed.0 (edits-scalars done) c.loop-edit.invariant
 
 pub returns-in_err-make-clause-splitting : goal.returns-in_err-make-clause-splitting
 returns-in_err-make-clause-splitting c = splitting (encoding_of c.args.encoding) c.args.source.now

@@ -71,15 +71,18 @@ impl Slots {
             links: Vec::new(alloc),
             places: BTreeMap::new(alloc),
             first: 0,
+            lefts: Vec::new(alloc),
+            pairs: Vec::new(alloc),
             closing: Closing::Nothing,
-            parting: LineEnding::LF,
+            separation: LineEnding::LF,
         };
-        slots.push(Slot {
+        slots.slots.push(Slot {
             kept: BodySpan { start: 0, end: 0 },
             added: Vec::new(alloc),
             ending: Some(LineEnding::LF),
             is_left: false,
         })?;
+        slots.links.push(1)?;
         Ok(slots)
     }
 
@@ -97,7 +100,7 @@ impl Slots {
         ensures { OnOk result (AddsGroup body.now group (option_map characters key) self.old self.new) }
     {
         let place = self.slots.len();
-        self.push(Slot {
+        let slot = Slot {
             kept: BodySpan {
                 start: group.start,
                 end: group.end,
@@ -105,17 +108,22 @@ impl Slots {
             added: Vec::new(alloc),
             ending: group.ending,
             is_left: true,
-        })?;
+        };
+        self.push(slot, key.is_some())?;
         add_key(alloc, &mut self.places, key, place)?;
         self.closing = closing_after(group);
-        self.parting = parting_after(&body[group.start..group.end]);
+        self.separation = separation_after(&body[group.start..group.end]);
         Ok(())
     }
 
-    /// Appends a slot.
-    pub fn push(&mut self, slot: Slot) -> Result<(), AllocError>
-        ensures { OnOk result (Pushes self.old slot self.new) }
+    // Appends a slot.
+    fn push(&mut self, slot: Slot, is_pair: bool) -> Result<(), AllocError>
+        ensures { OnOk result (Pushes self.old slot is_pair self.new) }
     {
+        self.lefts.push(self.slots.len())?;
+        if is_pair {
+            self.pairs.push(self.slots.len())?;
+        }
         self.slots.push(slot)?;
         self.links.push(self.slots.len())?;
         Ok(())
@@ -140,7 +148,7 @@ fn add_key(
 }
 
 // Returns a line ending that doesn't form a CR LF with the end of these bytes.
-fn parting_after(bytes: &[u8]) -> LineEnding
+fn separation_after(bytes: &[u8]) -> LineEnding
     ensures { ending_of result ≡ safe_ending bytes.now }
 {
     if ends_in_cr(bytes) {

@@ -7,7 +7,7 @@ ghost use Rattle.properties_format.specs.Encoding.{output_encoding};
 ghost use Rattle.properties_text.specs.Encoding.{encoding_of};
 ghost use Rattle.java_properties.specs.BodySlots.{FindsFirst, Pushes, PutsOrKeeps};
 ghost use Rattle.java_properties.specs.BodySlots.{HoldsSome, IsLastOf, closing_in, stack_at};
-ghost use Rattle.java_properties.specs.BodySlots.Put.{ClosesSlot, FindsNextFirst, Refills};
+ghost use Rattle.java_properties.specs.BodySlots.Put.{AppendsOrKeeps, ClosesSlot, FindsNextFirst, Refills};
 ghost use Rattle.java_properties.specs.BodySlots.Put.{HasRoom, HasRoomToClose, KeepsParts};
 ghost use Rattle.java_properties.specs.declared.edit.place.Closing.TheVariants.{TwoEndings};
 
@@ -59,8 +59,9 @@ impl Slots {
         Ok(())
     }
 
-    // Makes the slot at this index a printed pair. If it is the last one, an LF separates it from a pair after it.
-    fn refill(&mut self, place: usize, pair: Vec<u8>)
+    /// Makes the slot at this index a pair with these bytes. If it is the last one, an LF separates it from a pair after
+    /// it.
+    pub fn refill(&mut self, place: usize, pair: Vec<u8>)
         requires { place < length self.old.slots.items }
         ensures { Refills self.old place pair.items self.new }
     {
@@ -69,11 +70,11 @@ impl Slots {
         slot.added = pair;
         if place + 1 == self.slots.len() {
             self.closing = Closing::OneEnding;
-            self.parting = LineEnding::LF;
+            self.separation = LineEnding::LF;
         }
     }
 
-    // Appends the pair after all slots, and an empty slot after it.
+    // Appends the pair after all slots.
     fn append(
         &mut self,
         alloc: Global,
@@ -86,27 +87,45 @@ impl Slots {
         ensures { let e = output_encoding (encoding_of encoding) in
             PutsOrKeeps e (chars key.now) (chars value.now) self.old result self.new }
     {
-        self.make_room()?;
         let is_first = self.is_next_first();
         let pair = printed_pair(alloc, encoding, is_first, key, value)?;
+        self.append_pair(alloc, key, pair, self.separation, LineEnding::LF)
+    }
+
+    /// Appends a pair with these bytes and this line ending after all slots, and an empty slot after it. `separation` is
+    /// what closes the last slot before it. If memory runs out, nothing of what is left changes.
+    pub fn append_pair(
+        &mut self,
+        alloc: Global,
+        key: &str,
+        pair: Vec<u8>,
+        separation: LineEnding,
+        ending: LineEnding,
+    ) -> Result<(), AllocError>
+        requires { HoldsSome self.old }
+        ensures { AppendsOrKeeps (chars key.now) pair.items separation ending self.old result self.new }
+    {
+        self.make_room()?;
         let last = self.slots.len() - 1;
         let place_key = String::from_str(alloc, key)?;
         add_place(alloc, &mut self.places, place_key, last + 1)?;
 
         // Space for everything that follows is reserved, so no step of it fails.
-        self.slots[last].close(self.closing, self.parting);
-        self.push_reserved(Slot {
+        self.slots[last].close(self.closing, separation);
+        let slot = Slot {
             kept: BodySpan { start: 0, end: 0 },
             added: pair,
-            ending: Some(LineEnding::LF),
+            ending: Some(ending),
             is_left: true,
-        });
-        self.push_reserved(Slot {
+        };
+        self.push_reserved(slot, true);
+        let empty = Slot {
             kept: BodySpan { start: 0, end: 0 },
             added: Vec::new(alloc),
             ending: None,
             is_left: true,
-        });
+        };
+        self.push_reserved(empty, false);
         self.closing = Closing::Nothing;
         Ok(())
     }
@@ -120,6 +139,8 @@ impl Slots {
     {
         self.slots.reserve(2)?;
         self.links.reserve(2)?;
+        self.lefts.reserve(2)?;
+        self.pairs.reserve(2)?;
         match self.closing {
             Closing::Nothing | Closing::OneEnding => Ok(()),
             Closing::TwoEndings => {
@@ -130,17 +151,21 @@ impl Slots {
     }
 
     // Appends a slot, for which space is reserved.
-    fn push_reserved(&mut self, slot: Slot)
+    fn push_reserved(&mut self, slot: Slot, is_pair: bool)
         requires { HasRoom 1 self.old }
-        ensures pushes { Pushes self.old slot self.new }
+        ensures pushes { Pushes self.old slot is_pair self.new }
         ensures room { (n : ℕ) → HasRoom (n + 1) self.old → HasRoom n self.new }
     {
+        self.lefts.push_reserved(self.slots.len());
+        if is_pair {
+            self.pairs.push_reserved(self.slots.len());
+        }
         self.slots.push_reserved(slot);
         self.links.push_reserved(self.slots.len());
     }
 
-    // Returns whether a pair appended after the last slot would be the first that is left.
-    fn is_next_first(&mut self) -> bool
+    /// Returns whether a pair appended after the last slot would be the first that is left.
+    pub fn is_next_first(&mut self) -> bool
         requires { HoldsSome self.old }
         ensures { FindsNextFirst self.old result self.new }
     {

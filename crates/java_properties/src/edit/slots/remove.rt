@@ -5,7 +5,7 @@ ghost use Rattle.std.specs.Str.{chars};
 ghost use Rattle.properties_format.specs.Encoding.{begins_like_bom, begins_with};
 ghost use Rattle.properties_format.specs.Reading.Slots as format;
 ghost use Rattle.java_properties.specs.BodySlots.{Changes, HoldsIn, HoldsSome, left_without, slot_bytes};
-ghost use Rattle.java_properties.specs.BodySlots.Removal.{EmptiesLast, FindsNext, Guards, HasPlace, HoldsSomeCells, Leaves, LeavesOut, LeavesPairs, Tells};
+ghost use Rattle.java_properties.specs.BodySlots.Removal.{EmptiesLast, FindsNext, Guards, HasPlace, HoldsSomeCells, Leaves, LeavesOut, LeavesPairs, ChecksSlot};
 
 use crate::edit::place::{BodySpan, Closing};
 use crate::edit::slots::places::{last_place, pop_place, take_places};
@@ -21,7 +21,7 @@ impl Slots {
     {
         self.empty_last(alloc, key);
         self.drop_pairs(alloc, key);
-        self.part_false_mark(body, is_marked);
+        self.guard_false_mark(body, is_marked);
     }
 
     // If the last slot is a pair with the key, replaces it by an empty slot.
@@ -54,7 +54,7 @@ impl Slots {
     }
 
     // Puts an LF before slots that begin like a byte order mark, unless one comes before the body.
-    fn part_false_mark(&mut self, body: &[u8], is_marked: bool)
+    fn guard_false_mark(&mut self, body: &[u8], is_marked: bool)
         requires { HoldsSomeCells body.now self.old }
         ensures { Guards body.now is_marked self.old self.new }
     {
@@ -105,7 +105,7 @@ impl Slots {
 
 impl Slot {
     fn ends_by_cr(&self) -> bool
-        ensures { Tells (λ slot. format.is_by_cr slot.ending) self.now result }
+        ensures { ChecksSlot (λ slot. format.is_by_cr slot.ending) self.now result }
     {
         match self.ending {
             Some(LineEnding::CR) => true,
@@ -113,9 +113,9 @@ impl Slot {
         }
     }
 
-    // Returns whether the slot is an LF and nothing else.
-    fn is_lf_alone(&self) -> bool
-        ensures { Tells format.is_lf_alone self.now result }
+    /// Returns whether the slot is an LF and nothing else.
+    pub fn is_lf_alone(&self) -> bool
+        ensures { ChecksSlot format.is_lf_alone self.now result }
     {
         let is_by_lf = match self.ending {
             Some(LineEnding::LF) => true,

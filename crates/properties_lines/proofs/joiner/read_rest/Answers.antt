@@ -8,11 +8,11 @@ use Rattle.properties_lines.proofs.joiner.read_rest.Goals as goal
 
 pub begin-requires-clause-ascii : goal.begin-requires-clause-ascii
 begin-requires-clause-ascii g c =
-    known-ascii c.args.lines.now (encoding_of c.encoding.result) c.line.result.now c.is_ascii.result c.requires.told c.encoding.ensures c.line.ensures c.is_ascii.ensures
+    known-ascii c.args.lines.now (encoding_of c.encoding.result) c.line.result.now c.is_ascii.result c.requires.flags c.encoding.ensures c.line.ensures c.is_ascii.ensures
 
 pub begin-requires-clause-backslash : goal.begin-requires-clause-backslash
 begin-requires-clause-backslash g c =
-    known-plain c.args.lines.now c.line.result.now c.has_backslash.result c.requires.told c.line.ensures c.has_backslash.ensures
+    known-plain c.args.lines.now c.line.result.now c.has_backslash.result c.requires.flags c.line.ensures c.has_backslash.ensures
 
 pub returns-then-join_lines-clause-reads : goal.returns-then-join_lines-clause-reads
 returns-then-join_lines-clause-reads g c =

@@ -10,16 +10,16 @@ use Rattle.properties_text.proofs.escape.unescape.Goals as goal
 pub returns-in_default : goal.returns-in_default
 returns-in_default c =
     let p = plain c.as_bytes.result.now c.args.s.now c.utf8.s c.as_bytes.ensures.value c.in_default.ensures in
-    record { meaning = means_plain (chars c.args.s.now) p.meaning; lent = sym (ap not p.holds) }
+    record { meaning = means_plain (chars c.args.s.now) p.meaning; borrowed = sym (ap not p.holds) }
 
-pub returns-in_err-text-clause-lent : goal.returns-in_err-text-clause-lent
-returns-in_err-text-clause-lent c =
+pub returns-in_err-text-clause-borrowed : goal.returns-in_err-text-clause-borrowed
+returns-in_err-text-clause-borrowed c =
     let s = split_at c.as_bytes.result.now c.args.s.now c.in-Some.first c.utf8.s c.as_bytes.ensures.value c.in-Some.ensures in
     let p = err_from_is_err_and c.from_residual.result c.from_residual.ensures.1 in
     rw p.1 (sym (ap not s.holds))
 
-pub returns-in_err-push_part-clause-lent : goal.returns-in_err-push_part-clause-lent
-returns-in_err-push_part-clause-lent c =
+pub returns-in_err-push_part-clause-borrowed : goal.returns-in_err-push_part-clause-borrowed
+returns-in_err-push_part-clause-borrowed c =
     let s = split_at c.as_bytes.result.now c.args.s.now c.in-Some.first c.utf8.s c.as_bytes.ensures.value c.in-Some.ensures in
     let p = err_from_is_err_and c.from_residual-in_err-push_part.result c.from_residual-in_err-push_part.ensures.1 in
     rw p.1 (sym (ap not s.holds))
@@ -34,7 +34,7 @@ returns-in_err-push_resolved c =
     (subst (λ v. IsRefused (chars v) c.in_err-push_resolved.field-0.0) c.range_from.ensures.value c.in_err-push_resolved.ensures) in
     record {
       meaning = rw (p.1, p.2) refused;
-      lent = rw p.1 (sym (ap not s.holds));
+      borrowed = rw p.1 (sym (ap not s.holds));
     }
 
 pub returns : goal.returns
@@ -48,5 +48,5 @@ returns c =
     let meant = means_front (chars text) (chars (take at text)) (chars (drop at text)) h.0 s.meaning (ap (λ v. meaning_of (chars v)) (sym c.range_from.ensures.value) ∙ h.1) in
     record {
       meaning = subst (Means (chars text)) (sym (h.2 ∙ ap (λ v. chars v ++ h.0) before)) meant;
-      lent = sym (ap not s.holds);
+      borrowed = sym (ap not s.holds);
     }

@@ -2,7 +2,7 @@ use Rattle.std.proofs.Common.{◌++◌, sym, ◌∙◌, ap}
 use Rattle.std.proofs.lemmas.List.{map-id}
 use Rattle.std.proofs.lemmas.Iterator.{YieldsList-from_chars}
 use Rattle.std.proofs.lemmas.Iterator.Consumers.{YieldsList-end}
-use Rattle.properties_format.specs.Printing.{spelt, spelt_text, encoded_text}
+use Rattle.properties_format.specs.Printing.{printed_character, printed_characters, encoded_text}
 use Rattle.properties_text.specs.Encoding.{output_of}
 use Rattle.properties_text.specs.Printing.{place_of}
 use Rattle.properties_text.proofs.Printing.Characters.{printed_more}
@@ -13,7 +13,7 @@ loop-character-preserved c =
     let e = output_of c.args.repertoire.encoding in
     let place = place_of c.args.place in
     c.in_ok-print_character.ensures
-    ∙ ap (λ v. v ++ encoded_text e (spelt e c.args.repertoire.ascii_only place c.in-Some.character)) c.loop-character.invariant
+    ∙ ap (λ v. v ++ encoded_text e (printed_character e c.args.repertoire.ascii_only place c.in-Some.character)) c.loop-character.invariant
     ∙ printed_more e c.args.repertoire.ascii_only place c.args.line.now c.loop-character.yielded c.in-Some.character
 
 pub returns : goal.returns
@@ -24,4 +24,4 @@ returns c =
     let yields = YieldsList-from_chars c.args.text.now c.utf8.text cc in
     let last = YieldsList-end yields loop.yielded _ loop.yielded_by _ _ c.in-None.is c.next.ensures.steps in
     let all = sym (map-id loop.yielded) ∙ last.0 in
-    c.loop-character.invariant ∙ ap (λ v. c.args.line.now ++ encoded_text e (spelt_text e c.args.repertoire.ascii_only place v)) all
+    c.loop-character.invariant ∙ ap (λ v. c.args.line.now ++ encoded_text e (printed_characters e c.args.repertoire.ascii_only place v)) all

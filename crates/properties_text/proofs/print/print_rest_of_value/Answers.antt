@@ -4,7 +4,7 @@ use Rattle.std.proofs.lemmas.Iterator.{YieldsList-from_chars}
 use Rattle.std.proofs.lemmas.Iterator.Consumers.{YieldsList-end}
 use Rattle.std.proofs.lemmas.Result.{on_ok_weaker}
 use Rattle.properties_format.specs.Printing.{encoded_text}
-use Rattle.properties_format.specs.Valued.{spelt_rest}
+use Rattle.properties_format.specs.Valued.{printed_rest}
 use Rattle.properties_text.specs.Encoding.{output_of}
 use Rattle.properties_text.proofs.Printing.Values.{held-more, held-last, held-none}
 use Rattle.properties_text.proofs.print.print_rest_of_value.Goals as goal
@@ -25,7 +25,7 @@ returns-in-Some-held c =
     on_ok_weaker c.print_last_of_value.result
     (λ h.
     held-last e c.args.line.now loop.yielded loop.line c.print_last_of_value.new.line c.in-Some-held.last held h
-    ∙ ap (λ v. c.args.line.now ++ encoded_text e (spelt_rest e v)) all)
+    ∙ ap (λ v. c.args.line.now ++ encoded_text e (printed_rest e v)) all)
     c.print_last_of_value.ensures
 
 pub returns-in-None-held : goal.returns-in-None-held
@@ -36,4 +36,4 @@ returns-in-None-held c =
     let last = YieldsList-end yields loop.yielded _ loop.yielded_by _ _ c.in-None.is c.next.ensures.steps in
     let all = sym (map-id loop.yielded) ∙ last.0 in
     let held = rw c.in-None-held.is at loop.invariant in
-    held-none e c.args.line.now loop.yielded loop.line held ∙ ap (λ v. c.args.line.now ++ encoded_text e (spelt_rest e v)) all
+    held-none e c.args.line.now loop.yielded loop.line held ∙ ap (λ v. c.args.line.now ++ encoded_text e (printed_rest e v)) all

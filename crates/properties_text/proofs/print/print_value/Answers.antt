@@ -5,7 +5,7 @@ use Rattle.std.proofs.lemmas.Bool.{and_left, and_right, false_from_ne_true}
 use Rattle.std.proofs.lemmas.Result.{on_ok_weaker}
 use Rattle.properties_format.specs.Printing.{encoded_text}
 use Rattle.properties_format.specs.Writing.{is_empty}
-use Rattle.properties_format.specs.Valued.{spelt_value}
+use Rattle.properties_format.specs.Valued.{printed_value}
 use Rattle.properties_text.specs.Encoding.{output_of}
 use Rattle.properties_text.proofs.Printing.Values.{space-alone, value-after, some-characters, none-left}
 use Rattle.properties_text.proofs.print.print_value.Goals as goal
@@ -21,7 +21,7 @@ returns-then-first-eq32 c =
     let first = c.if-first-eq32.true in
     let all = parts ∙ ap₂ (λ v w. v ∷ w) first none in
     on_ok_weaker c.print_escape.result
-    (λ h. space-alone e c.args.after_blanks c.args.line.now c.print_escape.new.line h ∙ ap (λ v. c.args.line.now ++ encoded_text e (spelt_value e c.args.after_blanks v)) (sym all))
+    (λ h. space-alone e c.args.after_blanks c.args.line.now c.print_escape.new.line h ∙ ap (λ v. c.args.line.now ++ encoded_text e (printed_value e c.args.after_blanks v)) (sym all))
     c.print_escape.ensures
 
 pub returns : goal.returns
@@ -41,5 +41,5 @@ returns c =
     (λ h.
     value-after e c.args.after_blanks c.args.line.now c.print_first_of_value.new.line c.print_rest_of_value.new.line c.in-Some.first (chars rest) other
     c.in_ok-print_first_of_value.ensures h
-    ∙ ap (λ v. c.args.line.now ++ encoded_text e (spelt_value e c.args.after_blanks v)) (sym all))
+    ∙ ap (λ v. c.args.line.now ++ encoded_text e (printed_value e c.args.after_blanks v)) (sym all))
     c.print_rest_of_value.ensures

@@ -1,10 +1,10 @@
 use Rattle.std.proofs.Common.{subst}
 use Rattle.std.specs.Str.{IsAscii}
 use Rattle.properties_text.specs.Printing.{all_of_windows_1252}
-use Rattle.properties_text.proofs.Printing.Bytes.{stands-ascii}
+use Rattle.properties_text.proofs.Printing.Bytes.{bytewise-ascii}
 use Rattle.properties_text.proofs.print.print_windows_1252.Goals as goal
 
 pub returns-then-is_ascii : goal.returns-then-is_ascii
 returns-then-is_ascii c =
-    let stands = stands-ascii all_of_windows_1252 c.args.text.now (subst IsAscii c.as_bytes.ensures.value (c.is_ascii.ensures.0 c.if-is_ascii.true)) in
-    rw (stands, ← c.as_bytes-then-is_ascii.ensures.value) c.print_bytes.ensures
+    let bytewise = bytewise-ascii all_of_windows_1252 c.args.text.now (subst IsAscii c.as_bytes.ensures.value (c.is_ascii.ensures.0 c.if-is_ascii.true)) in
+    rw (bytewise, ← c.as_bytes-then-is_ascii.ensures.value) c.print_bytes.ensures

@@ -1,8 +1,8 @@
 use Rattle.std.proofs.Common.{refl, ◌∙◌}
 use Rattle.std.proofs.lemmas.Result.{err_from_is_err_and}
 use Rattle.counted_io.specs.Streams.{reader, sink}
-use Rattle.java_properties.specs.LentItems.{found_content}
-use Rattle.java_properties.proofs.Told.{compute-entry, compute-none, compute-error}
+use Rattle.java_properties.specs.BorrowedItems.{found_content}
+use Rattle.java_properties.proofs.StatedItems.{compute-entry, compute-none, compute-error}
 use Rattle.properties_tools.proofs.Filtering.{passed-none, passed-more, stops-reading, stops-writing, returns}
 use Rattle.properties_tools.proofs.filter.write_pairs.Goals as goal
 

@@ -2,8 +2,9 @@
 
 ghost use Rattle.std.specs.Prelude.{◌≡◌, map, string_bytes, IfOk, OnErr};
 ghost use Rattle.std.specs.Option.{option_map};
-ghost use Rattle.properties_tools.specs.Propedit.Asked.{text_edit, vec_edits, words_of};
-ghost use Rattle.properties_tools.specs.Propedit.AskedParts.{borrowed_edit, edit_next, AreEdits, AreEditsOf, IsEditCount, IsNextEdit, IsPutNext};
+ghost use Rattle.java_properties.specs.Editing.{edit_in};
+ghost use Rattle.properties_tools.specs.Propedit.Asked.{in_characters, vec_edits, AreWordsOfEdits};
+ghost use Rattle.properties_tools.specs.Propedit.AskedParts.{borrowed_edit, edit_next, AreEdits, AreEditsOf, IsEditCount, IsNextEdit, IsSetNext};
 
 use java_properties::Edit;
 use std::alloc::{AllocError, Global};
@@ -39,7 +40,7 @@ fn edit_count(words: &[String]) -> Option<usize>
 fn edits_of(alloc: Global, words: &[String], count: usize) -> Result<Vec<Edit>, AllocError>
     requires { AreEdits (map string_bytes words.now) }
     ensures { let names = map string_bytes words.now in
-        IfOk result (λ edits. names ≡ words_of (vec_edits edits)) }
+        IfOk result (λ edits. AreWordsOfEdits names (vec_edits edits)) }
 {
     let mut edits = Vec::with_capacity(alloc, count)?;
     let mut rest = words;
@@ -53,16 +54,16 @@ fn edits_of(alloc: Global, words: &[String], count: usize) -> Result<Vec<Edit>, 
 // An edit whose texts are borrowed.
 #[derive(Clone, Copy)]
 enum BorrowedEdit<'a> {
-    Put(&'a String, &'a String),
+    Set(&'a String, &'a String),
     Remove(&'a String),
 }
 
 impl BorrowedEdit<'_> {
     fn into_edit(self) -> Result<Edit, AllocError>
-        ensures { IfOk result (λ edit. text_edit edit ≡ borrowed_edit self.entry) }
+        ensures { IfOk result (λ edit. edit_in edit ≡ in_characters (borrowed_edit self.entry)) }
     {
         match self {
-            BorrowedEdit::Put(key, value) => Ok(Edit::Put(key.clone()?, value.clone()?)),
+            BorrowedEdit::Set(key, value) => Ok(Edit::SetValue(key.clone()?, value.clone()?)),
             BorrowedEdit::Remove(key) => Ok(Edit::Remove(key.clone()?)),
         }
     }
@@ -76,19 +77,19 @@ fn next_edit(words: &[String]) -> Option<(BorrowedEdit<'_>, &[String])>
         return None;
     };
     match word.as_str() {
-        "set" => next_put(key, others),
+        "set" => next_set(key, others),
         "remove" => Some((BorrowedEdit::Remove(key), others)),
         _ => None,
     }
 }
 
 // The setting of a key, whose value is the first of these words, and the words after it.
-fn next_put<'a>(key: &'a String, words: &'a [String]) -> Option<(BorrowedEdit<'a>, &'a [String])>
+fn next_set<'a>(key: &'a String, words: &'a [String]) -> Option<(BorrowedEdit<'a>, &'a [String])>
     ensures { let names = map string_bytes words.now in
-        IsPutNext (string_bytes key.now) names (option_map edit_next result) }
+        IsSetNext (string_bytes key.now) names (option_map edit_next result) }
 {
     let [value, others @ ..] = words else {
         return None;
     };
-    Some((BorrowedEdit::Put(key, value), others))
+    Some((BorrowedEdit::Set(key, value), others))
 }

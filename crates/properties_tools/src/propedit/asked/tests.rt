@@ -77,7 +77,7 @@ fn add_command(text: &mut String, command: &Command) -> Result<(), AllocError> {
 fn add_edits(text: &mut String, edits: &[Edit]) -> Result<(), AllocError> {
     for edit in edits {
         match edit {
-            Edit::Put(key, value) => {
+            Edit::SetValue(key, value) => {
                 add(text, "set")?;
                 add(text, key.as_str())?;
                 add(text, value.as_str())?;
@@ -86,6 +86,7 @@ fn add_edits(text: &mut String, edits: &[Edit]) -> Result<(), AllocError> {
                 add(text, "remove")?;
                 add(text, key.as_str())?;
             }
+            Edit::Put(_, _) => add(text, "put")?,
         }
     }
     Ok(())

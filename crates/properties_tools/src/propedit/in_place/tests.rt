@@ -158,7 +158,7 @@ fn set_in(
     make(rt, path, bytes)?;
     let key = String::from_str(alloc, "a")?;
     let value = String::from_str(alloc, value)?;
-    let edits = vec![in alloc; Edit::Put(key, value)]?;
+    let edits = vec![in alloc; Edit::SetValue(key, value)]?;
     let mut errors = Counted::new(Vec::new(alloc));
     let status = edit_file(rt, alloc, path, Encoding::UTF_8, &edits, &mut errors);
     let now = look_at(rt, alloc, path)?.bytes;
@@ -172,7 +172,7 @@ fn edits_a_file(rt: HostRuntime) -> Result<(), Fail> {
     let (status, errors, now) = set_in(&rt, path, b"# x\na : 1\nb = 2", "3")?;
     assert_eq!(rt; status, 0);
     assert_eq!(rt; errors.as_slice(), b"".as_slice());
-    assert_eq!(rt; now.as_slice(), b"# x\na=3\nb = 2".as_slice());
+    assert_eq!(rt; now.as_slice(), b"# x\na : 3\nb = 2".as_slice());
     let (status, errors, now) = set_in(&rt, path, b"# x\na=3", "3")?;
     assert_eq!(rt; status, 0);
     assert_eq!(rt; errors.as_slice(), b"".as_slice());

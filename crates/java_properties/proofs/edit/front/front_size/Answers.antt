@@ -8,7 +8,7 @@ pub loop-text-init : goal.loop-text-init
 loop-text-init c =
     let new = c.new-lines.ensures in
     walking-begins c.new-lines.result new.start new.going
-    record { bytes = rw new.encoding c.requires.bytes; stands = new.stands c.args.pair.now } (ap encoding_of new.encoding) c.requires.before
+    record { bytes = rw new.encoding c.requires.bytes; within_body = new.within_body c.args.pair.now } (ap encoding_of new.encoding) c.requires.before
 
 pub head_size-requires-clause-added : goal.head_size-requires-clause-added
 head_size-requires-clause-added c =

@@ -14,7 +14,7 @@ loop-others-init c =
     let body = c.args.body.now in
     let n = c.new-groups.ensures in
     let same = ap encoding_of n.encoding in
-    let within : IsWithin body s = record { bytes = ap unit_size same ∙ c.requires; stands = n.stands body } in
+    let within : IsWithin body s = record { bytes = ap unit_size same ∙ c.requires; within_body = n.within_body body } in
     subst (λ e. HasKept e body (chars c.args.key.now) s c.new-others.result.items 0) same
     (kept-none body (chars c.args.key.now) s c.new-others.result.items n.start n.none n.going within c.new-others.ensures.items)
 

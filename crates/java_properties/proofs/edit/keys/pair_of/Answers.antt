@@ -1,6 +1,6 @@
 use Rattle.std.proofs.Common.{ap, sym, ◌∙◌, subst}
 use Rattle.properties_format.specs.Reading.Edited.{IsSound}
-use Rattle.java_properties.specs.BodyDocuments.{pair_told}
+use Rattle.java_properties.specs.BodyDocuments.{outcome_pair}
 use Rattle.java_properties.proofs.Items.{found-item}
 use Rattle.java_properties.proofs.edit.keys.pair_of.Goals as goal
 
@@ -8,4 +8,4 @@ pub returns-in_ok-pair-in-Some : goal.returns-in_ok-pair-in-Some
 returns-in_ok-pair-in-Some c =
     let found = rw c.in-Some.is at c.in_ok-found.ensures in
     let item = found-item c.args.line.now c.in-Some.found found in
-    (subst IsSound (sym item) tt, c.in_ok-pair-in-Some.ensures ∙ ap pair_told (sym item))
+    (subst IsSound (sym item) tt, c.in_ok-pair-in-Some.ensures ∙ ap outcome_pair (sym item))

@@ -1,18 +1,7 @@
-use Rattle.std.proofs.Common.{arith}
-use Rattle.java_properties.proofs.LastPairs.{last-feed, last-return, last-none}
+use Rattle.std.proofs.Common.{sym, subst}
+use Rattle.java_properties.specs.BodyValues.{IsLastEnding}
+use Rattle.java_properties.proofs.LastPairs.{within-last}
 use Rattle.java_properties.proofs.edit.new_pair.last_ending.Goals as goal
 
-pub returns-in-10 : goal.returns-in-10
-returns-in-10 c =
-    let inv = c.loop-end.invariant in
-    last-feed c.args.body.now c.loop-end.end c.ending_by_lf.result c.loop-end-test.true inv.within c.in-10.is inv.plain c.ending_by_lf.ensures
-
-pub returns-in-13 : goal.returns-in-13
-returns-in-13 c =
-    let inv = c.loop-end.invariant in
-    last-return c.args.body.now c.loop-end.end c.loop-end-test.true inv.within c.in-13.is inv.plain
-
 pub returns : goal.returns
-returns c =
-    let over = c.loop-end-test.false in
-    last-none c.args.body.now c.loop-end.end (omega arith) c.loop-end.invariant.plain
+returns c = subst (IsLastEnding c.args.body.now) (sym c.unwrap_or.ensures) (within-last c.args.body.now c.ending_within.result c.ending_within.ensures)

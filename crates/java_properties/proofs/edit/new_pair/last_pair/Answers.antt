@@ -9,7 +9,7 @@ pub loop-groups-init : goal.loop-groups-init
 loop-groups-init c =
     let new = c.new-groups.ensures in
     passed-none c.args.body.now c.new-groups.result new.start new.going
-    record { bytes = rw new.encoding c.requires; stands = new.stands c.args.body.now } (ap encoding_of new.encoding)
+    record { bytes = rw new.encoding c.requires; within_body = new.within_body c.args.body.now } (ap encoding_of new.encoding)
 
 pub loop-groups-preserved-then-is_some : goal.loop-groups-preserved-then-is_some
 loop-groups-preserved-then-is_some c =

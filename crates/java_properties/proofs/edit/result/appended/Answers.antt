@@ -12,9 +12,9 @@ pub returns : goal.returns
 returns c =
     let e = output_encoding (encoding_of c.args.opened.encoding) in
     let source = c.args.source.now in
-    let first = c.are_empty-first.ensures ∙ ap₂ (λ v w. is_empty (v ++ w)) (take_rest source c.args.opened.start) c.parting-parting.ensures in
+    let first = c.are_empty-first.ensures ∙ ap₂ (λ v w. is_empty (v ++ w)) (take_rest source c.args.opened.start) c.separation-separation.ensures in
     IfOk-weaker c.concatenated.result _ _
     (λ bytes h.
     appended e e source _ _ c.are_empty-first.result _ (chars c.args.key.now) (chars c.args.value.now) _ _ _ c.new-line.ensures c.in_ok-print_pair.ensures c.in_ok-print_raw.ensures.appended
-    (h ∙ ap₂ (λ v w. source ++ (v ++ w)) c.parting-parting.ensures c.as_slice.ensures) first)
+    (h ∙ ap₂ (λ v w. source ++ (v ++ w)) c.separation-separation.ensures c.as_slice.ensures) first)
     c.concatenated.ensures

@@ -18,5 +18,5 @@ pub returns-in-Err-clause-reads : goal.returns-in-Err-clause-reads
 returns-in-Err-clause-reads g c =
     let P : PropertiesError → Type 0 = λ v. FailsInRead (reader g.R.Read g.R.CountedRead) (encoding_of c.args.encoding) c.args.reader.now v c.read_counted.new.self in
     let fails = fails-here c.in-Err.fault c.in-Err.ensures.bytes c.in-Err.ensures.faults c.in-Err.ensures.gives in
-    inl (subst P (sym c.caused_by.ensures) (fails-in-read (λ b. let w : Broken = b in w.left.now) (λ b. let w : Broken = b in w.faults) (λ b. []) _ c.pass_items.new.reader
-    c.deref.ensures.value c.loop-bytes.invariant.read fails c.in-Err-pass_items.ensures))
+    inl (subst P (sym c.caused_by.ensures) (fails-in-read (λ b. let w : Broken = b in w.left.now) (λ b. let w : Broken = b in w.faults) (λ b. []) _ c.read_all_items.new.reader
+    c.deref.ensures.value c.loop-bytes.invariant.read fails c.in-Err-read_all_items.ensures))

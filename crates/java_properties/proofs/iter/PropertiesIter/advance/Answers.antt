@@ -1,8 +1,8 @@
 use Rattle.std.proofs.Common.{rules}
 use Rattle.counted_io.specs.Streams.{reader}
-use Rattle.java_properties.specs.LentItems.{FindsItem}
+use Rattle.java_properties.specs.BorrowedItems.{FindsItem}
 use Rattle.java_properties.specs.PropertiesIter.{Reading}
-use Rattle.java_properties.proofs.Told.{tell-advance}
+use Rattle.java_properties.proofs.StatedItems.{state-advance}
 use Rattle.java_properties.proofs.iter.PropertiesIter.advance.Goals as goal
 
 pub returns-clause-gives : goal.returns-clause-gives
@@ -12,4 +12,4 @@ returns-clause-gives g c =
     let joiner = c.advance.new.self in
     let new : Reading _ = record { reader = c.advance.new.reader; state = joiner.state; line = joiner.line } in
     let finds : FindsItem r old.state old.reader c.advance.result joiner c.advance.new.reader = search rules in
-    (tell-advance r old new c.advance.result finds, search rules)
+    (state-advance r old new c.advance.result finds, search rules)

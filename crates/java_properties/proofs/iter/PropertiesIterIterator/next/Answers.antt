@@ -1,7 +1,7 @@
 use Rattle.std.proofs.Common.{rules}
 use Rattle.counted_io.specs.Streams.{reader}
 use Rattle.java_properties.specs.GivenItems.{GivesItem}
-use Rattle.java_properties.proofs.Told.{tell-item}
+use Rattle.java_properties.proofs.StatedItems.{state-item}
 use Rattle.java_properties.proofs.iter.PropertiesIterIterator.next.Goals as goal
 
 pub returns-clause-steps : goal.returns-clause-steps
@@ -11,4 +11,4 @@ returns-clause-steps g c =
     let state = c.next_item.new.self.state in
     let to = c.next_item.new.reader in
     let gives : GivesItem r old.state old.reader c.next_item.result state to = search rules in
-    (tell-item r old.state state old.reader to c.next_item.result gives, search rules)
+    (state-item r old.state state old.reader to c.next_item.result gives, search rules)

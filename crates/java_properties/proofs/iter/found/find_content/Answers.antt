@@ -1,5 +1,5 @@
 use Rattle.java_properties.proofs.Items.{comment-no_item, key-no_item, unresolved}
-use Rattle.java_properties.proofs.LentItems.{value-breaks}
+use Rattle.java_properties.proofs.BorrowedItems.{value-breaks}
 use Rattle.java_properties.proofs.iter.found.find_content.Goals as goal
 
 pub returns-in-Err : goal.returns-in-Err

@@ -2,7 +2,7 @@ use Rattle.std.proofs.Common.{◌≡◌, ◌∙◌, refl, ap, sym, subst, inl, i
 use Rattle.std.proofs.lemmas.Result.{err_from_is_err_and}
 use Rattle.properties_text.specs.Encoding.{encoding_of}
 use Rattle.properties_lines.specs.LineJoiner.{Joiner, Joining}
-use Rattle.java_properties.specs.Errors.{IsBareError, SaysLineError}
+use Rattle.java_properties.specs.Errors.{IsBareError, IsLineError}
 use Rattle.java_properties.specs.declared.error.ErrorKind.TheVariants.{Memory}
 use Rattle.java_properties.specs.declared.error.PropertiesError.{PropertiesError}
 use Rattle.java_properties.proofs.MalformedEscapes.{found-start, found-next, found-all, found-error, found-lost}
@@ -40,7 +40,7 @@ returns-in-Some-take_error-clause-finds g c = elim c.in_default.ensures.joins [
       absurd (cc (c.in-Some-take_error.is, c.take_error.ensures.error, none))
   | inr k ↦
       let same : k.error ≡ c.in-Some-take_error.error = cc (c.in-Some-take_error.is, c.take_error.ensures.error, k.kept) in
-      let says = subst (λ v. SaysLineError v c.from.result) (sym same) c.from.ensures in
+      let says = subst (λ v. IsLineError v c.from.result) (sym same) c.from.ensures in
       found-error c.loop-number.invariant.found k.live k.why says
 ]
 

@@ -4,7 +4,7 @@ use Rattle.counted_io.specs.Streams.{reader}
 use Rattle.properties_lines.specs.LineJoiner.{Joining, Joins}
 use Rattle.properties_lines.specs.declared.logical.LogicalLine.{LogicalLine}
 use Rattle.properties_lines.proofs.LogicalLines.{ascii-keeps}
-use Rattle.properties_lines.proofs.LineJoiner.{joining, joins-none, joins-lent, joins-rest, known-ascii}
+use Rattle.properties_lines.proofs.LineJoiner.{joining, joins-none, joins-borrowed, joins-rest, known-ascii}
 use Rattle.properties_lines.proofs.joiner.LineJoiner.next_line.Goals as goal
 
 pub returns-then-not-find_line-clause-joins : goal.returns-then-not-find_line-clause-joins
@@ -15,7 +15,7 @@ returns-then-not-find_line-clause-joins g c =
     subst P c.self.view_is (joins-none before.lines found before.line before.has_backslash c.if-not-find_line.ensures.finds)
 
 pub invariant_of-self-then-not-has_backslash : goal.invariant_of-self-then-not-has_backslash
-invariant_of-self-then-not-has_backslash g c = λ lent.
+invariant_of-self-then-not-has_backslash g c = λ borrowed.
     let found = c.find_line.new.self in
     let told = c.if-not-find_line.ensures.finds.1 in
     let ascii = known-ascii found found.state.encoding found.line c.is_ascii.result told refl refl c.is_ascii.ensures c.if-is_ascii.true in
@@ -25,12 +25,12 @@ pub returns-then-not-has_backslash-clause-joins : goal.returns-then-not-has_back
 returns-then-not-has_backslash-clause-joins g c =
     let before = c.self.inside in
     let found = c.find_line.new.self in
-    let P : Joining → Type 0 = λ v. Joins (reader g.R.Read g.R.CountedRead) v c.args.reader.now (Some found.state.passed) (joining found c.lend.new.self false) c.find_line.new.reader in
-    let kept = ap (λ v. let w : LogicalLine = v in w.is_kept) c.lend.ensures in
+    let P : Joining → Type 0 = λ v. Joins (reader g.R.Read g.R.CountedRead) v c.args.reader.now (Some found.state.passed) (joining found c.borrow_text.new.self false) c.find_line.new.reader in
+    let kept = ap (λ v. let w : LogicalLine = v in w.is_kept) c.borrow_text.ensures in
     let ascii = sym c.is_ascii.ensures ∙ c.if-is_ascii.true in
     let plain = sym c.has_backslash.ensures ∙ c.if-not-has_backslash.true in
     let old = joining before.lines before.line before.has_backslash in
-    rw c.number.ensures (subst P c.self.view_is (joins-lent old found c.lend.new.self c.if-not-find_line.ensures.finds ascii plain kept))
+    rw c.number.ensures (subst P c.self.view_is (joins-borrowed old found c.borrow_text.new.self c.if-not-find_line.ensures.finds ascii plain kept))
 
 pub returns-clause-joins : goal.returns-clause-joins
 returns-clause-joins g c =

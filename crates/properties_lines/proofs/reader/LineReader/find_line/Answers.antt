@@ -5,4 +5,4 @@ use Rattle.properties_lines.proofs.reader.LineReader.find_line.Goals as goal
 pub returns-in-Line-clause-finds : goal.returns-in-Line-clause-finds
 returns-in-Line-clause-finds g c =
     let line = c.in-Line.ensures in
-    (found false c.scan.new.self (along-start c.args.self.now.state c.args.reader.now) (λ w. absurd (cc)) line, line.told, line.error)
+    (found false c.scan.new.self (along-start c.args.self.now.state c.args.reader.now) (λ w. absurd (cc)) line, line.flags, line.error)

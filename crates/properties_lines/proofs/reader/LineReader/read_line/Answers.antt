@@ -1,11 +1,11 @@
 use Rattle.std.proofs.Common.{inl, inr, ◌++◌, ◌∙◌, sym, arith}
-use Rattle.properties_lines.proofs.LineReaders.{found, along-read, refused, lets_go-on}
+use Rattle.properties_lines.proofs.LineReaders.{found, along-read, refused, releases-on}
 use Rattle.properties_lines.proofs.reader.LineReader.read_line.Goals as goal
 
 pub returns-in-Line-clause-finds : goal.returns-in-Line-clause-finds
 returns-in-Line-clause-finds g c =
     let line = c.in-Line.ensures in
-    (found c.reads.ended c.scan.new.self c.reads.invariant.along.1 c.reads.invariant.ended line, line.told, line.error)
+    (found c.reads.ended c.scan.new.self c.reads.invariant.along.1 c.reads.invariant.ended line, line.flags, line.error)
 
 pub reads-preserved-in-Bytes : goal.reads-preserved-in-Bytes
 reads-preserved-in-Bytes g c =
@@ -24,7 +24,7 @@ reads-preserved-in-Bytes g c =
         | inl d ↦ absurd (cc)
         | inr d ↦ absurd (omega arith)
       ];
-      line = lets_go-on c.args.self.now c.reads.self c.scan.new.self c.read.new.self c.reads.invariant.line none.line bytes.2.line;
+      line = releases-on c.args.self.now c.reads.self c.scan.new.self c.read.new.self c.reads.invariant.line none.line bytes.2.line;
       same_reader = c.read.ensures.same_reader ∙ c.reads.invariant.same_reader;
     }
 
@@ -38,5 +38,5 @@ returns-in-Failed-clause-finds g c =
       live = sym along.done ∙ none.live;
       error = e;
       why = refused c.read.new.reader c.read.new.self.state e along none c.in-Failed.ensures.reads.1;
-      failed = record { done = failed.done; error = failed.error; line = lets_go-on c.args.self.now c.reads.self c.scan.new.self c.read.new.self c.reads.invariant.line none.line failed.line };
+      failed = record { done = failed.done; error = failed.error; line = releases-on c.args.self.now c.reads.self c.scan.new.self c.read.new.self c.reads.invariant.line none.line failed.line };
     })

@@ -21,4 +21,4 @@ returns c =
     decides s c.take_mark.new.self c.args.held.now c.args.ended c.requires.fits c.requires.mark (λ h. elim c.else-not-ended.branch [
       | else-not-ended-via-then-not-ended+else-is_undecided w ↦ mark-decided rest c.byte_order_mark-mark.result tells (sym w.is_undecided.ensures ∙ w.if-is_undecided.false)
       | else-not-ended-via-else-not-ended w ↦ absurd (cc (h, w.if-not-ended.false))
-    ]) took.stands took.within took.same
+    ]) took.state took.within took.same

@@ -17,8 +17,8 @@ take_found-requires-in-Ok-2-clause-found c =
     let other = rw rest at c.if-bytes-size-eq92.false in
     plain-found (drop s.at c.args.held.now) c.in-Ok.size c.in-Ok.is_ascii found other
 
-pub take_found-requires-in-Ok-2-clause-told : goal.take_found-requires-in-Ok-2-clause-told
-take_found-requires-in-Ok-2-clause-told c =
+pub take_found-requires-in-Ok-2-clause-flags : goal.take_found-requires-in-Ok-2-clause-flags
+take_found-requires-in-Ok-2-clause-flags c =
     let s = c.args.self.now in
     let found = rw c.in-Ok.is at (rw (take_rest c.args.held.now s.at) at c.search_blocks.ensures.finds) in
     sym (plain-unescaped (take c.in-Ok.size (drop s.at c.args.held.now)) found.0.clear)

@@ -11,8 +11,8 @@ returns-then-end c =
       ascii = c.requires.ascii;
       backslash = c.requires.backslash;
     } in
-    let passed = rw c.pass_line.ensures at c.pass_feed.ensures in
-    takes-cr c.args.self.now c.pass_feed.new.self c.args.held.now c.args.end c.args.unit c.args.is_ascii c.args.has_backslash c.pass_feed.result taken c.if-end.true passed
+    let passed = rw c.take_line.ensures at c.skip_feed.ensures in
+    takes-cr c.args.self.now c.skip_feed.new.self c.args.held.now c.args.end c.args.unit c.args.is_ascii c.args.has_backslash c.skip_feed.result taken c.if-end.true passed
 
 pub returns-else-end : goal.returns-else-end
 returns-else-end c =
@@ -24,4 +24,4 @@ returns-else-end c =
       ascii = c.requires.ascii;
       backslash = c.requires.backslash;
     } in
-    rw c.pass_line.ensures (takes-lf c.args.self.now c.args.held.now c.args.end c.args.unit c.args.is_ascii c.args.has_backslash taken c.if-end.false)
+    rw c.take_line.ensures (takes-lf c.args.self.now c.args.held.now c.args.end c.args.unit c.args.is_ascii c.args.has_backslash taken c.if-end.false)

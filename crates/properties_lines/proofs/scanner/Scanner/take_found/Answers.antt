@@ -3,7 +3,7 @@ use Rattle.std.proofs.lemmas.List.{get_or-drop}
 use Rattle.properties_format.specs.Text.{carriage_return}
 use Rattle.properties_text.specs.Encoding.{encoding_of}
 use Rattle.properties_lines.specs.LineSearch.{IsFirstLineEnd}
-use Rattle.properties_lines.proofs.ScannerSearch.{found-end, told-ascii, ready-on, searches-on}
+use Rattle.properties_lines.proofs.ScannerSearch.{found-end, flags-ascii, ready-on, searches-on}
 use Rattle.properties_lines.proofs.scanner.Scanner.take_found.Goals as goal
 
 pub take-requires-clause-found : goal.take-requires-clause-found
@@ -18,7 +18,7 @@ take-requires-clause-found c =
 pub take-requires-clause-ascii : goal.take-requires-clause-ascii
 take-requires-clause-ascii c =
     let found = rw c.in-Ok.is at c.requires.found in
-    told-ascii (drop c.args.self.now.at c.args.held.now) c.in-Ok.size 1 c.in-Ok.is_ascii refl found.0.ascii
+    flags-ascii (drop c.args.self.now.at c.args.held.now) c.in-Ok.size 1 c.in-Ok.is_ascii refl found.0.ascii
 
 pub search_on-requires : goal.search_on-requires
 search_on-requires c =

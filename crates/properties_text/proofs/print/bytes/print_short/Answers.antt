@@ -1,6 +1,6 @@
 use Rattle.std.proofs.Common.{◌++◌, ◌+◌, take, ap, ◌∙◌}
 use Rattle.std.proofs.lemmas.List.{with_items_is}
-use Rattle.properties_text.specs.Printing.{spelt_bytes}
+use Rattle.properties_text.specs.Printing.{printed_bytes}
 use Rattle.properties_text.proofs.print.bytes.print_short.Goals as goal
 
 pub returns-clause-printed : goal.returns-clause-printed
@@ -11,4 +11,4 @@ returns-clause-printed c =
     let line = ap (take c.line.inside.filled) room.value ∙ c.make_room.ensures.same ∙ c.line.view_is in
     ap (take (c.line.inside.filled + put.result.written)) bytes
     ∙ put.ensures.printed
-    ∙ ap (λ v. v ++ spelt_bytes (take put.result.read c.args.bytes.now)) line
+    ∙ ap (λ v. v ++ printed_bytes (take put.result.read c.args.bytes.now)) line

@@ -1,7 +1,7 @@
 use Rattle.std.proofs.Common.{◌≡◌, ◌+◌, ◌++◌, refl, sym, ◌∙◌, ap, arith, get_or, take, drop}
 use Rattle.properties_text.proofs.Blocks.{no-controls}
-use Rattle.properties_text.specs.Printing.{spelt_byte, spelt_bytes}
-use Rattle.properties_text.proofs.Printing.Bytes.{spelt_bytes-more}
+use Rattle.properties_text.specs.Printing.{printed_byte, printed_bytes}
+use Rattle.properties_text.proofs.Printing.Bytes.{printed_bytes-more}
 use Rattle.properties_text.proofs.Printing.Vectors.{more-plain}
 use Rattle.properties_text.proofs.print.bytes.put_control.Goals as goal
 
@@ -28,10 +28,10 @@ returns-clause-printed c =
     let plain = no-controls (take 16 (drop c.args.so_far.read c.args.bytes.now)) c.marks.result front.result c.marks.ensures (omega (arith, front.ensures.value)) in
     let bytes = c.args.bytes.now in
     let read = c.args.so_far.read + front.result in
-    let same : take c.put_16-at.result c.put_16-at.new.out ≡ spelt_bytes (take read bytes) =
+    let same : take c.put_16-at.result c.put_16-at.new.out ≡ printed_bytes (take read bytes) =
     more-plain c.args.out.now c.put_16-at.new.out bytes c.args.so_far.written c.put_16-at.result c.args.so_far.read front.result read plain front.ensures.within refl put.printed held.same in
     record {
       read = omega arith;
       written = omega arith;
-      same = last.printed ∙ ap (λ v. v ++ spelt_byte (get_or bytes read 0)) same ∙ sym (spelt_bytes-more bytes read (omega arith));
+      same = last.printed ∙ ap (λ v. v ++ printed_byte (get_or bytes read 0)) same ∙ sym (printed_bytes-more bytes read (omega arith));
     }

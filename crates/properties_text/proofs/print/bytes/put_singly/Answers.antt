@@ -1,6 +1,6 @@
 use Rattle.std.proofs.Common.{◌++◌, sym, ◌∙◌, ap, arith, get_or}
-use Rattle.properties_text.specs.Printing.{spelt_byte}
-use Rattle.properties_text.proofs.Printing.Bytes.{spelt_bytes-more}
+use Rattle.properties_text.specs.Printing.{printed_byte}
+use Rattle.properties_text.proofs.Printing.Bytes.{printed_bytes-more}
 use Rattle.properties_text.proofs.print.bytes.put_singly.Goals as goal
 
 pub loop-read-preserved : goal.loop-read-preserved
@@ -13,6 +13,6 @@ loop-read-preserved c =
       printed = record {
         read = omega arith;
         written = omega arith;
-        same = put.printed ∙ ap (λ v. v ++ spelt_byte (get_or bytes c.loop-read.read 0)) held.printed.same ∙ sym (spelt_bytes-more bytes c.loop-read.read c.loop-read-test.true);
+        same = put.printed ∙ ap (λ v. v ++ printed_byte (get_or bytes c.loop-read.read 0)) held.printed.same ∙ sym (printed_bytes-more bytes c.loop-read.read c.loop-read-test.true);
       };
     }

@@ -1,6 +1,6 @@
 use Rattle.std.proofs.Common.{◌<◌, ◌++◌, get_or, length, take, refl, ap, subst, ◌∙◌, arith}
 use Rattle.std.proofs.lemmas.Str.{IsCharBoundary-after_ascii}
-use Rattle.properties_text.specs.Printing.{spelt_byte}
+use Rattle.properties_text.specs.Printing.{printed_byte}
 use Rattle.properties_text.proofs.Printing.Escapes.{escape-more, byte-more}
 use Rattle.properties_text.proofs.print.lacking.put_lacking.Goals as goal
 
@@ -41,5 +41,5 @@ loop-out-preserved c =
       left = omega (arith, held.left, left.ensures.len, some);
       printed = rw left.ensures.value (byte-more (take c.loop-out.end c.loop-out.out) (take put.result put.new.out) _ rest held.utf8 some
           (subst (λ v. get_or v 0 0 < 128) same (found.ensures.ascii refl)) held.printed
-          (put.ensures.printed ∙ ap (λ v. take c.loop-out.end c.loop-out.out ++ spelt_byte (get_or v 0 0)) c.as_bytes-then-is_between.ensures.value));
+          (put.ensures.printed ∙ ap (λ v. take c.loop-out.end c.loop-out.out ++ printed_byte (get_or v 0 0)) c.as_bytes-then-is_between.ensures.value));
     }

@@ -8,7 +8,7 @@ pub loop-numbers-init : goal.loop-numbers-init
 loop-numbers-init c =
     let at = c.in_body-scanner.ensures in
     let body = c.args.body.now in
-    found-none body c.in_body-scanner.result c.new-numbers.result.items (ap encoding_of at.encoding) (at.fits body) at.place (at.stands body) c.new-numbers.ensures.items
+    found-none body c.in_body-scanner.result c.new-numbers.result.items (ap encoding_of at.encoding) (at.fits body) at.place (at.state body) c.new-numbers.ensures.items
 
 pub push_if_ill_formed-requires : goal.push_if_ill_formed-requires
 push_if_ill_formed-requires c =

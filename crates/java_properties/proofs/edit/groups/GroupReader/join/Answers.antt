@@ -15,5 +15,5 @@ loop-joined-preserved c =
           group-more c.args.body.now before mid.joined mid.self c.find_line.new.self c.join.new.self c.line-line.result.now.end c.ending_of.result
           c.in_ok-is_open.is_open (mid.invariant.whole before h) c.loop-joined-test.true taken adds.0 adds.1 c.in_ok-is_open.ensures.same
           (ap (λ v. let w : RawLine = v in w.end) line) ending;
-      within = record { bytes = taken.within.bytes; stands = taken.within.stands };
+      within = record { bytes = taken.within.bytes; within_body = taken.within.within_body };
     }

@@ -1,7 +1,9 @@
-use Rattle.std.proofs.Common.{◌≡◌, true, length, refl, ap, subst, arith}
+use Rattle.std.proofs.Common.{◌≡◌, true, length, refl, ap, sym, ◌∙◌, subst, arith}
 use Rattle.std.specs.Option.{option_map}
 use Rattle.java_properties.specs.Maps.{characters}
+use Rattle.java_properties.specs.BodySlots.{with_index}
 use Rattle.java_properties.specs.BodySlots.Parsed.{AddsKey}
+use Rattle.java_properties.proofs.BodySlots.Trails.{some-mapped}
 use Rattle.java_properties.specs.declared.edit.slots.Slot.{Slot}
 use Rattle.java_properties.specs.declared.edit.slots.Slots.{Slots}
 use Rattle.java_properties.proofs.edit.slots.Slots.add_group.Goals as goal
@@ -32,7 +34,9 @@ returns c =
       links = pushed.links;
       places = subst (λ n. AddsKey told n c.args.self.now.places.entries new) place added;
       ordered = c.in_ok-add_key.ensures.ordered;
+      lefts = pushed.lefts;
+      pairs = pushed.pairs ∙ ap (λ b. with_index b c.args.self.now.pairs.items (length c.args.self.now.slots.items)) (c.is_some.ensures ∙ sym (some-mapped characters c.args.key));
       first = ap (λ v. let w : Slots = v in w.first) pushed.same;
       closing = c.closing_after-self.ensures;
-      parting = c.parting_after-self.ensures;
+      separation = c.separation_after-self.ensures;
     }

@@ -20,7 +20,7 @@ returns-in-Nothing c =
           let number = cells-length body new.slots.items cells m.1.cells_are in
           let count = c.len.ensures in
           let size : c.len.result ≡ length cells = omega (arith, new.slots.ok.0) in (
-            sym (ap (λ v. is_first (closed_slots (closing_in v old.parting) (live cells))) closing
+            sym (ap (λ v. is_first (closed_slots (closing_in v old.separation) (live cells))) closing
                 ∙ next-out cells c.first_left-first.result c.len.result m.0 m.1.ends size),
             m.1,
           );
@@ -31,7 +31,7 @@ pub returns-in-OneEnding : goal.returns-in-OneEnding
 returns-in-OneEnding c =
     let old = c.args.self.now in
     let f = c.first_left-first.ensures in
-    let by = ending_of old.parting in
+    let by = ending_of old.separation in
     record {
       finds = λ body cells h.
           let m = f.finds body cells h in
@@ -39,10 +39,10 @@ returns-in-OneEnding c =
             elim c.in-OneEnding.is [
               | inl k ↦
                   let closing = sym (ap (λ v. let s : Slots = v in s.closing) f.same) ∙ k in
-                  sym (ap (λ v. is_first (closed_slots (closing_in v old.parting) (live cells))) closing ∙ next-ended cells by m.1.ends (omega arith))
+                  sym (ap (λ v. is_first (closed_slots (closing_in v old.separation) (live cells))) closing ∙ next-ended cells by m.1.ends (omega arith))
               | inr k ↦
                   let closing = sym (ap (λ v. let s : Slots = v in s.closing) f.same) ∙ k in
-                  sym (ap (λ v. is_first (closed_slots (closing_in v old.parting) (live cells))) closing ∙ next-closed cells by m.1.ends (omega arith))
+                  sym (ap (λ v. is_first (closed_slots (closing_in v old.separation) (live cells))) closing ∙ next-closed cells by m.1.ends (omega arith))
             ],
             m.1,
           );

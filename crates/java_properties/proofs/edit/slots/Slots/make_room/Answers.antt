@@ -23,5 +23,7 @@ returns-in-TwoEndings-clause-kept c =
           })
           c.index_mut.ensures.value (subst (λ v. AreCells body v cells) (sym c.reserve.ensures.items) h);
       links = c.reserve-2.ensures.items;
+      lefts = c.reserve-3.ensures.items;
+      pairs = c.reserve-4.ensures.items;
       same = refl;
     }

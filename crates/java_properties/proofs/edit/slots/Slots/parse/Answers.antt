@@ -16,7 +16,7 @@ loop-slots-init c =
     let slots = c.in_ok-slots.slots in
     let new = c.new-groups.ensures in
     let same = ap encoding_of new.encoding in
-    let within : IsWithin body reader = record { bytes = ap unit_size same ∙ c.requires; stands = new.stands body } in
+    let within : IsWithin body reader = record { bytes = ap unit_size same ∙ c.requires; within_body = new.within_body body } in
     subst (λ e. IsReadTo e body reader slots) same (parsed-none body reader slots new.start new.none new.going within c.in_ok-slots.ensures)
 
 pub returns-in_err-key : goal.returns-in_err-key

@@ -21,7 +21,7 @@ loop-values-init c =
     let values = c.new-values.result.entries in
     let new = c.new-groups.ensures in
     let same = ap encoding_of new.encoding in
-    let within : IsWithin body reader = record { bytes = ap unit_size same ∙ c.requires; stands = new.stands body } in
+    let within : IsWithin body reader = record { bytes = ap unit_size same ∙ c.requires; within_body = new.within_body body } in
     record {
       slots = subst (λ e. IsReadTo e body reader slots) same (parsed-none body reader slots new.start new.none new.going within c.in_ok-slots.ensures);
       values = subst (λ e. HasValues e body reader values) same (values-none body reader values new.start new.none new.going within c.new-values.ensures.empty);

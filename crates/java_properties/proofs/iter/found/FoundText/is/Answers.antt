@@ -2,7 +2,7 @@ use Rattle.std.proofs.Common.{◌∙◌, ap, sym}
 use Rattle.std.specs.Prelude.{bytes_eq}
 use Rattle.std.specs.Str.{chars}
 use Rattle.properties_text.specs.Parsing.{bytes_in}
-use Rattle.java_properties.specs.LentItems.{bytes_of}
+use Rattle.java_properties.specs.BorrowedItems.{bytes_of}
 use Rattle.java_properties.proofs.TextMaps.Values.{same-characters}
 use Rattle.java_properties.proofs.iter.found.FoundText.is.Goals as goal
 

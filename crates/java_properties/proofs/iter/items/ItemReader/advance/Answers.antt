@@ -5,8 +5,8 @@ use Rattle.properties_format.specs.ItemsToCome.{ReaderState}
 use Rattle.counted_io.specs.Streams.{reader}
 use Rattle.properties_lines.specs.LineReader.{lines_left}
 use Rattle.properties_lines.specs.LineJoiner.{Joiner, Joining}
-use Rattle.java_properties.specs.LentItems.{found_content, IsFoundIn}
-use Rattle.java_properties.specs.Errors.{SaysLineError}
+use Rattle.java_properties.specs.BorrowedItems.{found_content, IsFoundIn}
+use Rattle.java_properties.specs.Errors.{IsLineError}
 use Rattle.java_properties.specs.GivenItems.{IsNoItem}
 use Rattle.java_properties.proofs.Items.{Passed, passed-start, passed-error, passed-no_item, tells-error, found-item, gives-item, passed-blank, plain-blank}
 use Rattle.java_properties.proofs.iter.items.ItemReader.advance.Goals as goal
@@ -87,7 +87,7 @@ returns-clause-finds g c = elim c.in_default.ensures.joins [
   | inr k ↦
       let done = ap (λ v. let w : Joining = v in w.at.state.is_done) c.take_error.ensures.taken ∙ k.done in
       let same : k.error ≡ c.in_ok-error.error = cc (c.in_ok-error.was, c.take_error.ensures.error, k.kept) in
-      let says = subst (λ v. SaysLineError v c.from.result) (sym same) c.from.ensures in
+      let says = subst (λ v. IsLineError v c.from.result) (sym same) c.from.ensures in
       let p = passed-error c.loop-number.invariant.passed.1 k.live (tells-error k.why says) in
       (p.0, done, inr p.1)
 ]

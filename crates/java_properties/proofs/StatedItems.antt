@@ -1,0 +1,129 @@
+-- What calls give, by the items to come as they are computed, and as the public clauses say it: by divisions. Each follows from the other.
+use Rattle.std.proofs.Common.{ℕ, List, inl, inr}
+use Rattle.std.specs.Prelude.{Bool, ◌⊎◌, Option, Some, None, Result, Ok, Err}
+use Rattle.counted_io.specs.Streams.{Reader}
+use Rattle.properties_format.specs.Entries.{Entry}
+use Rattle.properties_format.specs.ItemsToCome.{ReaderState}
+use Rattle.properties_format.proofs.ItemsToCome.Divisions.{are_to_come, to_come_are, comes_first, first_comes, lines_come_first, first_lines_come}
+use Rattle.properties_lines.specs.LineReader as finder
+use Rattle.properties_lines.specs.LineJoiner as joiner
+use Rattle.java_properties.specs.GivenItems as given
+use Rattle.java_properties.specs.BorrowedItems.{FindsItem, AdvancesTo}
+use Rattle.java_properties.specs.PropertiesIter as stated
+use Rattle.java_properties.specs.PropertiesIter.{Reading}
+use Rattle.java_properties.specs.declared.error.PropertiesError.{PropertiesError}
+use Rattle.java_properties.specs.declared.iter.found.Found.{Found}
+use Rattle.java_properties.specs.declared.line.Line.{Line}
+
+-- ---- as the clauses say it
+
+state-some : {old new : ReaderState} {bytes : List ℕ} → finder.PassesSome old bytes new → stated.PassesSome old bytes new
+state-some h = record { lines = h.lines; first = lines_come_first h.reads }
+
+pub state-all : {old : ReaderState} {bytes : List ℕ} → finder.PassesAll old bytes → stated.PassesAll old bytes
+state-all h = record { last = h.last; passes = state-some h.passes; passed = h.passed }
+
+state-gives : {old new : ReaderState} {bytes : List ℕ} {entry : Entry} → given.Gives old bytes entry new → stated.Gives old bytes entry new
+state-gives (given.Gives.going_on g h) = stated.Gives.going_on g (comes_first h)
+state-gives (given.Gives.at_last d h) = stated.Gives.at_last d (are_to_come h)
+
+state-breaks : {old : ReaderState} {bytes : List ℕ} {entry : Entry} {at_end : Bool} → given.BreaksOff old bytes entry at_end → stated.BreaksOff old bytes entry at_end
+state-breaks (given.BreaksOff.before_all h) = stated.BreaksOff.before_all (λ d ending. are_to_come (h d ending))
+state-breaks (given.BreaksOff.at_last e h) = stated.BreaksOff.at_last e (are_to_come h)
+
+state-lazy : {R : Type 0} {old : ReaderState} {from to : R} {bytes : List ℕ} → joiner.IsLazyItems old from bytes to → stated.IsLazyItems old from bytes to
+state-lazy (inl h) = inl h
+state-lazy (inr h) = inr (are_to_come h)
+
+module _ {R : Type 0} {reader : Reader R} {old new : ReaderState} {from to : R} where
+  state-entry : {entry : Entry} → given.GivesEntry reader old from entry new to → stated.GivesEntry reader old from entry new to
+  state-entry h =
+      record { bytes = h.bytes; read = h.read; live = h.live; gives = state-gives h.gives; passes = λ g. state-some (h.passes g); ended = h.ended; lazy = state-lazy h.lazy }
+
+  state-none : given.GivesNone reader old from new to → stated.GivesNone reader old from new to
+  state-none h = record { bytes = h.bytes; read = h.read; items = are_to_come h.items; done = h.done; idle = h.idle; ended = h.ended }
+
+module _ {R : Type 0} {reader : Reader R} {old : ReaderState} {from to : R} where
+  state-error : {e : PropertiesError} → given.GivesMalformed reader old from e to ⊎ given.GivesError reader old from e to
+      → stated.GivesMalformed reader old from e to ⊎ stated.GivesError reader old from e to
+  state-error (inl h) = inl (record { bytes = h.bytes; number = h.number; kind = h.kind; read = h.read; is = h.is; breaks = state-breaks h.breaks; lazy = state-lazy h.lazy })
+  state-error (inr (inl h)) = inr (inl (record {
+    bytes = h.bytes;
+    error = h.error;
+    number = h.number;
+    failed = h.failed;
+    is = h.is;
+    items = are_to_come h.items;
+    lazy = are_to_come h.lazy;
+  }))
+  state-error (inr (inr (inl h))) = inr (inr (inl (record { bytes = h.bytes; read = h.read; passes = state-all h.passes; is = h.is; lazy = state-lazy h.lazy })))
+  state-error (inr (inr (inr h))) = inr (inr (inr (record { bytes = h.bytes; read = h.read; is = h.is; lazy = state-lazy h.lazy })))
+
+pub state-item : {R : Type 0} (reader : Reader R) (old new : ReaderState) (from to : R) (answer : Option (Result Line PropertiesError))
+    → given.GivesItem reader old from answer new to → stated.GivesItem reader old from answer new to
+state-item reader old new from to None h = state-none h
+state-item reader old new from to (Some (Ok line)) h = state-entry h
+state-item reader old new from to (Some (Err e)) h = (h.0, h.1, state-error h.2)
+
+pub state-advance : {R : Type 0} (reader : Reader R) (old new : Reading R) (answer : Option (Result Found PropertiesError))
+    → FindsItem reader old.state old.reader answer (record { state = new.state; line = new.line }) new.reader → AdvancesTo reader old answer new
+state-advance reader old new None h = state-none h
+state-advance reader old new (Some (Ok found)) h = (state-entry h.0, h.1)
+state-advance reader old new (Some (Err e)) h = (h.0, h.1, state-error h.2)
+
+-- ---- as it is computed
+
+compute-some : {old new : ReaderState} {bytes : List ℕ} → stated.PassesSome old bytes new → finder.PassesSome old bytes new
+compute-some h = record { lines = h.lines; reads = first_lines_come h.first }
+
+compute-all : {old : ReaderState} {bytes : List ℕ} → stated.PassesAll old bytes → finder.PassesAll old bytes
+compute-all h = record { last = h.last; passes = compute-some h.passes; passed = h.passed }
+
+compute-gives : {old new : ReaderState} {bytes : List ℕ} {entry : Entry} → stated.Gives old bytes entry new → given.Gives old bytes entry new
+compute-gives (stated.Gives.going_on g h) = given.Gives.going_on g (first_comes h)
+compute-gives (stated.Gives.at_last d h) = given.Gives.at_last d (to_come_are h)
+
+compute-breaks : {old : ReaderState} {bytes : List ℕ} {entry : Entry} {at_end : Bool} → stated.BreaksOff old bytes entry at_end → given.BreaksOff old bytes entry at_end
+compute-breaks (stated.BreaksOff.before_all h) = given.BreaksOff.before_all (λ d ending. to_come_are (h d ending))
+compute-breaks (stated.BreaksOff.at_last e h) = given.BreaksOff.at_last e (to_come_are h)
+
+compute-lazy : {R : Type 0} {old : ReaderState} {from to : R} {bytes : List ℕ} → stated.IsLazyItems old from bytes to → joiner.IsLazyItems old from bytes to
+compute-lazy (inl h) = inl h
+compute-lazy (inr h) = inr (to_come_are h)
+
+module _ {R : Type 0} {reader : Reader R} {old new : ReaderState} {from to : R} where
+  pub compute-entry : {entry : Entry} → stated.GivesEntry reader old from entry new to → given.GivesEntry reader old from entry new to
+  compute-entry h = record {
+    bytes = h.bytes;
+    read = h.read;
+    live = h.live;
+    gives = compute-gives h.gives;
+    passes = λ g. compute-some (h.passes g);
+    ended = h.ended;
+    lazy = compute-lazy h.lazy;
+  }
+
+  pub compute-none : stated.GivesNone reader old from new to → given.GivesNone reader old from new to
+  compute-none h = record { bytes = h.bytes; read = h.read; items = to_come_are h.items; done = h.done; idle = h.idle; ended = h.ended }
+
+module _ {R : Type 0} {reader : Reader R} {old : ReaderState} {from to : R} where
+  pub compute-error : {e : PropertiesError} → stated.GivesMalformed reader old from e to ⊎ stated.GivesError reader old from e to
+      → given.GivesMalformed reader old from e to ⊎ given.GivesError reader old from e to
+  compute-error (inl h) = inl (record { bytes = h.bytes; number = h.number; kind = h.kind; read = h.read; is = h.is; breaks = compute-breaks h.breaks; lazy = compute-lazy h.lazy })
+  compute-error (inr (inl h)) = inr (inl (record {
+    bytes = h.bytes;
+    error = h.error;
+    number = h.number;
+    failed = h.failed;
+    is = h.is;
+    items = to_come_are h.items;
+    lazy = to_come_are h.lazy;
+  }))
+  compute-error (inr (inr (inl h))) = inr (inr (inl (record { bytes = h.bytes; read = h.read; passes = compute-all h.passes; is = h.is; lazy = compute-lazy h.lazy })))
+  compute-error (inr (inr (inr h))) = inr (inr (inr (record { bytes = h.bytes; read = h.read; is = h.is; lazy = compute-lazy h.lazy })))
+
+pub compute-item : {R : Type 0} (reader : Reader R) (old new : ReaderState) (from to : R) (answer : Option (Result Line PropertiesError))
+    → stated.GivesItem reader old from answer new to → given.GivesItem reader old from answer new to
+compute-item reader old new from to None h = compute-none h
+compute-item reader old new from to (Some (Ok line)) h = compute-entry h
+compute-item reader old new from to (Some (Err e)) h = (h.0, h.1, compute-error h.2)

@@ -1,0 +1,181 @@
+-- Borrowed items as contracts see them, and what is found of them before they are borrowed.
+use Rattle.std.specs.Prelude.{◌≡◌, ◌⊎◌, ℕ, Bool, true, false, not, List, Option, Some, None, Result, Ok, Err}
+use Rattle.std.specs.Option.{is_some}
+use Rattle.std.specs.Str.{chars}
+use Rattle.std.specs.String.{string_bytes}
+use Rattle.std.specs.Cow.{cow_str_bytes}
+use Rattle.std.specs.declared.borrow.CowStr.{CowStr}
+use Rattle.std.specs.declared.borrow.CowStr.TheVariants.{Borrowed, Owned}
+use Rattle.std.specs.declared.string.String.{String}
+use Rattle.counted_io.specs.Streams.{Reader, IsSameReader}
+use Rattle.properties_format.specs.Entries as entry
+use Rattle.properties_format.specs.Entries.{Content, Entry, item}
+use Rattle.properties_format.specs.Escapes.{Means}
+use Rattle.properties_format.specs.Split as split
+use Rattle.properties_format.specs.Split.{IsSplit}
+use Rattle.properties_format.specs.Items.{ignored}
+use Rattle.properties_format.specs.Reading.Items.{outcome_of}
+use Rattle.java_properties.specs.Errors.{IsBareError, IsUnresolvedError}
+use Rattle.properties_text.specs.Escaping.{holds_backslash, IsRefused}
+use Rattle.properties_text.specs.declared.escape.UnescapeError.{UnescapeError}
+use Rattle.properties_format.specs.ItemsToCome.{ReaderState}
+use Rattle.properties_lines.specs.LineJoiner.{Joiner}
+use Rattle.java_properties.specs.Line.{number_of, content_of}
+use Rattle.properties_text.specs.Parsing.{bytes_in, spanned, in_characters, IsSpan}
+use Rattle.java_properties.specs.GivenItems as given
+use Rattle.java_properties.specs.GivenItems.{IsNoItem}
+use Rattle.java_properties.specs.PropertiesIter.{Reading, entry_of, GivesEntry, GivesNone, GivesMalformed, GivesError}
+use Rattle.java_properties.specs.declared.error.ErrorKind.TheVariants as kind
+use Rattle.java_properties.specs.declared.error.PropertiesError.{PropertiesError}
+use Rattle.java_properties.specs.declared.iter.found.Found.{Found}
+use Rattle.java_properties.specs.declared.iter.found.FoundContent.{FoundContent}
+use Rattle.java_properties.specs.declared.iter.found.FoundContent.TheVariants as found
+use Rattle.java_properties.specs.declared.iter.found.FoundText.{FoundText}
+use Rattle.java_properties.specs.declared.iter.refs.ContentRef.{ContentRef}
+use Rattle.java_properties.specs.declared.iter.refs.ContentRef.TheVariants as borrowed
+use Rattle.java_properties.specs.declared.iter.refs.LineRef.{LineRef}
+use Rattle.java_properties.specs.declared.line.Line.{Line}
+use Rattle.java_properties.specs.declared.line.LineContent.{LineContent}
+use Rattle.java_properties.specs.declared.line.LineContent.TheVariants as own
+use Rattle.properties_text.specs.declared.parse.ParsedSpans.{ParsedSpans}
+use Rattle.properties_text.specs.declared.parse.ParsedSpans.TheVariants as spans
+use Rattle.properties_text.specs.declared.parse.Span.{Span}
+
+-- ---- borrowed items
+
+-- the entry of a borrowed item
+abbrev pub borrowed_content : ContentRef → Content
+borrowed_content (borrowed.Comment text) = entry.comment (chars (cow_str_bytes text))
+borrowed_content (borrowed.KVPair key value) = entry.pair (chars (cow_str_bytes key)) (chars (cow_str_bytes value))
+
+abbrev pub borrowed_entry : LineRef → Entry
+borrowed_entry line = item line.line_number (borrowed_content line.content)
+
+abbrev pub is_borrowed : {Z : Type 0} → CowStr Z → Bool
+is_borrowed (Borrowed text) = true
+is_borrowed (Owned text) = false
+
+-- In this logical line, each text is borrowed if and only if its slice of the line contains no backslash.
+abbrev pub BorrowsPlain : List ℕ → ContentRef → Type 0
+BorrowsPlain line (borrowed.Comment text) = (raw : List ℕ) × IsSplit line (split.comment raw) × (is_borrowed text ≡ not (holds_backslash raw))
+BorrowsPlain line (borrowed.KVPair key value) =
+    (raw_key : List ℕ) × (raw_value : List ℕ) × IsSplit line (split.pair raw_key raw_value)
+    × (is_borrowed key ≡ not (holds_backslash raw_key)) × (is_borrowed value ≡ not (holds_backslash raw_value))
+
+-- The texts of an item equal those of a borrowed item.
+abbrev pub IsCopyOf : ContentRef → LineContent → Type 0
+IsCopyOf (borrowed.Comment text) (own.Comment copy) = string_bytes copy ≡ cow_str_bytes text
+IsCopyOf (borrowed.Comment text) (own.KVPair key value) = ⊥
+IsCopyOf (borrowed.KVPair key value) (own.Comment copy) = ⊥
+IsCopyOf (borrowed.KVPair key value) (own.KVPair key_copy value_copy) =
+    (string_bytes key_copy ≡ cow_str_bytes key) × (string_bytes value_copy ≡ cow_str_bytes value)
+
+-- The owned copy of a borrowed item; or memory ran out.
+abbrev pub IsLineOf : LineRef → Result Line PropertiesError → Type 0
+IsLineOf line (Ok copy) = (number_of copy ≡ line.line_number) × IsCopyOf line.content (content_of copy)
+IsLineOf line (Err e) = IsBareError kind.Memory e
+
+abbrev pub IsContentOf : ContentRef → Result LineContent PropertiesError → Type 0
+IsContentOf content (Ok copy) = IsCopyOf content copy
+IsContentOf content (Err e) = IsBareError kind.Memory e
+
+-- ---- what was found
+
+-- the bytes of a text: its slice of the line, or the text with its escapes resolved
+abbrev pub bytes_of : {Z : Type 0} → List ℕ → Option (String Z) → List ℕ
+bytes_of slice None = slice
+bytes_of slice (Some text) = string_bytes text
+
+abbrev pub found_bytes : List ℕ → FoundText → List ℕ
+found_bytes line text = bytes_of (bytes_in line text.span) text.resolved
+
+abbrev pub found_content : List ℕ → FoundContent → Content
+found_content line (found.Comment text) = entry.comment (chars (found_bytes line text))
+found_content line (found.KVPair key value) = entry.pair (chars (found_bytes line key)) (chars (found_bytes line value))
+
+-- the entry that was found in this line
+abbrev pub found_entry : List ℕ → Found → Entry
+found_entry line found = item found.line_number (found_content line found.content)
+
+abbrev pub spans_of : FoundContent → ParsedSpans
+spans_of (found.Comment text) = spans.Comment text.span
+spans_of (found.KVPair key value) = spans.KVPair key.span value.span
+
+-- The text is what a slice of the line means. It was resolved if and only if the slice contains a backslash.
+pub record IsTextIn (line : List ℕ) (text : FoundText) : Type 0 where
+  pub span : IsSpan line text.span
+  pub means : Means (chars (bytes_in line text.span)) (chars (found_bytes line text))
+  pub resolved : is_some text.resolved ≡ holds_backslash (chars (bytes_in line text.span))
+
+abbrev pub AreTextsIn : List ℕ → FoundContent → Type 0
+AreTextsIn line (found.Comment text) = IsTextIn line text
+AreTextsIn line (found.KVPair key value) = IsTextIn line key × IsTextIn line value
+
+-- It was found in this logical line.
+pub record IsFoundIn (line : List ℕ) (found : Found) : Type 0 where
+  pub slices : IsSplit (chars line) (in_characters (spanned line (Some (spans_of found.content))))
+  pub texts : AreTextsIn line found.content
+
+-- The text of this span of the line; or why it can't be resolved.
+abbrev pub FindsText : List ℕ → Span → Result FoundText UnescapeError → Type 0
+FindsText line span (Ok text) = (text.span ≡ span) × IsTextIn line text
+FindsText line span (Err e) = IsRefused (chars (bytes_in line span)) e
+
+-- The texts of these spans of the line; or why they can't be resolved, whatever the line's number. In a pair, a
+-- malformed key is reported before a malformed value.
+abbrev pub FindsContent : List ℕ → ParsedSpans → Result FoundContent UnescapeError → Type 0
+FindsContent line spans (Ok content) = (spans_of content ≡ spans) × AreTextsIn line content
+FindsContent line spans (Err e) = (number : ℕ) (error : PropertiesError) → IsUnresolvedError e number error → IsNoItem number (chars line) error
+
+-- What was found in a logical line, or `None` if it is blank; or why its texts can't be resolved, whatever its number.
+abbrev pub FindsIn : List ℕ → ℕ → Result (Option Found) UnescapeError → Type 0
+FindsIn line number (Ok None) = outcome_of (chars line) ≡ ignored
+FindsIn line number (Ok (Some found)) = (found.line_number ≡ number) × IsFoundIn line found
+FindsIn line number (Err e) = (number : ℕ) (error : PropertiesError) → IsUnresolvedError e number error → IsNoItem number (chars line) error
+
+-- what was found in a logical line without a backslash
+abbrev pub FindsPlain : List ℕ → ℕ → Option Found → Type 0
+FindsPlain line number None = outcome_of (chars line) ≡ ignored
+FindsPlain line number (Some found) = (found.line_number ≡ number) × IsFoundIn line found
+
+-- What was found is now an owned item; or memory for it ran out, and the reading ended.
+abbrev pub Owns : Joiner → Found → Result Line PropertiesError → Joiner → Type 0
+Owns old found (Ok line) new = (entry_of line ≡ found_entry old.line found) × (new ≡ old)
+Owns old found (Err e) new = IsBareError kind.Memory e × (new ≡ record old { state = record old.state { is_done = true } })
+
+-- ---- the calls
+
+-- The next item as it is found, and the state after searching for it. After `None` and after an error the iterator is
+-- at its end.
+abbrev pub FindsItem : {R : Type 0} → Reader R → ReaderState → R → Option (Result Found PropertiesError) → Joiner → R → Type 0
+FindsItem reader old from None new to = given.GivesNone reader old from new.state to
+FindsItem reader old from (Some (Ok found)) new to = given.GivesEntry reader old from (found_entry new.line found) new.state to × IsFoundIn new.line found
+FindsItem reader old from (Some (Err e)) new to =
+    (old.is_done ≡ false) × (new.state.is_done ≡ true) × (given.GivesMalformed reader old from e to ⊎ given.GivesError reader old from e to)
+
+-- The next item of an iterator as it is found, in terms of divisions.
+abbrev pub AdvancesTo : {R : Type 0} → Reader R → Reading R → Option (Result Found PropertiesError) → Reading R → Type 0
+AdvancesTo reader old None new = GivesNone reader old.state old.reader new.state new.reader
+AdvancesTo reader old (Some (Ok found)) new =
+    GivesEntry reader old.state old.reader (found_entry new.line found) new.state new.reader × IsFoundIn new.line found
+AdvancesTo reader old (Some (Err e)) new =
+    (old.state.is_done ≡ false) × (new.state.is_done ≡ true)
+    × (GivesMalformed reader old.state old.reader e new.reader ⊎ GivesError reader old.state old.reader e new.reader)
+
+-- The iterator keeps the reader that it was created with.
+abbrev pub AdvanceGives : {R : Type 0} → Reader R → Reading R → Option (Result Found PropertiesError) → Reading R → Type 0
+AdvanceGives reader old answer new =
+    AdvancesTo reader old answer new × IsSameReader reader old.reader new.reader
+
+-- The next item as it is borrowed, and the state after that.
+abbrev pub BorrowsItem : {R : Type 0} → Reader R → Reading R → Option (Result LineRef PropertiesError) → Reading R → Type 0
+BorrowsItem reader old None new = GivesNone reader old.state old.reader new.state new.reader
+BorrowsItem reader old (Some (Ok line)) new =
+    GivesEntry reader old.state old.reader (borrowed_entry line) new.state new.reader × BorrowsPlain (chars new.line) line.content
+BorrowsItem reader old (Some (Err e)) new =
+    (old.state.is_done ≡ false) × (new.state.is_done ≡ true)
+    × (GivesMalformed reader old.state old.reader e new.reader ⊎ GivesError reader old.state old.reader e new.reader)
+
+-- It is the next item, according to some state of the iterator after the call.
+abbrev pub NextRefGives : {R : Type 0} → Reader R → Reading R → Option (Result LineRef PropertiesError) → Type 0
+NextRefGives {R} reader old answer = (new : Reading R) × BorrowsItem reader old answer new × IsSameReader reader old.reader new.reader

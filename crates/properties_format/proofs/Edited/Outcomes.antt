@@ -1,0 +1,143 @@
+-- The outcomes of the groups of some bytes, in order: that of a whole group at the front comes first, followed by those
+-- of the bytes after it.
+use Rattle.std.proofs.Common.{◌≡◌, ℕ, ◌+◌, Bool, true, false, List, [], ◌∷◌, ◌++◌, refl, ap, ap₂, sym, ◌∙◌, inl, inr}
+use Rattle.std.proofs.lemmas.Bool.Decides.{eqb_tells}
+use Rattle.properties_format.specs.Text.{line_feed}
+use Rattle.properties_format.specs.Encoding.{Encoding}
+use Rattle.properties_format.specs.Lines.{Ended, Lines, end, more, Line, numbered, line_ends}
+use Rattle.properties_format.specs.Reading.Lines.{lines_of, ends_in_cr, rest_of_end, lines_to_come}
+use Rattle.properties_format.specs.Groups.{IsWhole, joined}
+use Rattle.properties_format.specs.Reading.Groups.{groups_of}
+use Rattle.properties_format.specs.Entries.{Content}
+use Rattle.properties_format.specs.Items.{Outcome, ignored, given, broken}
+use Rattle.properties_format.specs.Reading.Items.{outcome_of, split_outcome}
+use Rattle.properties_format.proofs.Lines.Append.{lines_to_come-append}
+use Rattle.properties_format.proofs.Groups.Only.{groups_of-before}
+use Rattle.properties_format.proofs.Split.Unique.{split_of-blank}
+use Rattle.properties_format.specs.Reading.Cut.{decoded_line}
+use Rattle.properties_format.proofs.Body.Decoded.{decoded-nil}
+
+-- ---- the outcomes of groups
+
+-- an outcome before others; a blank line has none
+abbrev pub outcome_before : Outcome → List Outcome → List Outcome
+outcome_before ignored os = os
+outcome_before (given content) os = given content ∷ os
+outcome_before (broken kind) os = broken kind ∷ os
+
+-- the outcomes of the groups, in order
+abbrev pub outcomes_of : List (List Line) → List Outcome
+outcomes_of [] = []
+outcomes_of (g ∷ gs) = outcome_before (outcome_of (joined g)) (outcomes_of gs)
+
+-- contents as outcomes, none of them malformed
+abbrev pub givens : List Content → List Outcome
+givens [] = []
+givens (c ∷ cs) = given c ∷ givens cs
+
+-- ---- the lines of some bytes, each decoded by itself
+
+-- lines of bytes with their texts, without numbers
+abbrev pub decoded_each : Encoding → List Line → List Line
+decoded_each e [] = []
+decoded_each e (l ∷ ls) = record { number = 0; text = decoded_line e l.text } ∷ decoded_each e ls
+
+abbrev pub ended_lines : Encoding → List Ended → List Line
+ended_lines e [] = []
+ended_lines e (l ∷ ls) = record { number = 0; text = decoded_line e l.text } ∷ ended_lines e ls
+
+abbrev pub line_texts_in : Encoding → Lines → List Line
+line_texts_in e lines = ended_lines e lines.ended ++ record { number = 0; text = decoded_line e lines.last } ∷ []
+
+-- the texts of the lines of some bytes
+unfoldable pub line_texts : Encoding → List ℕ → List Line
+line_texts e d = line_texts_in e (lines_of d)
+
+-- the outcomes of the groups of some bytes
+unfoldable pub outcomes_in : Encoding → List ℕ → List Outcome
+outcomes_in e d = outcomes_of (groups_of (line_texts e d) end)
+
+-- Two lists of lines, each line decoded by itself.
+decoded_each-append : (e : Encoding) (ls ms : List Line) → decoded_each e (ls ++ ms) ≡ decoded_each e ls ++ decoded_each e ms
+decoded_each-append e [] ms = refl
+decoded_each-append e (l ∷ ls) ms = ap (λ v. record { number = 0; text = decoded_line e l.text } ∷ v) (decoded_each-append e ls ms)
+
+-- If more may come, the numbered lines are the ended ones.
+decoded-more : (e : Encoding) (n : ℕ) (ls : List Ended) (last : List ℕ) → decoded_each e (numbered n ls last more) ≡ ended_lines e ls
+decoded-more e n [] last = refl
+decoded-more e n (l ∷ ls) last = ap (λ v. record { number = 0; text = decoded_line e l.text } ∷ v) (decoded-more e (n + 1) ls last)
+
+-- At the end of the input, the last line is one of them too.
+decoded-end : (e : Encoding) (n : ℕ) (ls : List Ended) (last : List ℕ)
+    → decoded_each e (numbered n ls last end) ≡ line_texts_in e (record { ended = ls; last = last })
+decoded-end e n [] last = refl
+decoded-end e n (l ∷ ls) last = ap (λ v. record { number = 0; text = decoded_line e l.text } ∷ v) (decoded-end e (n + 1) ls last)
+
+-- The lines to come of some bytes have the texts of those bytes' lines.
+line_texts-numbered : (e : Encoding) (n : ℕ) (d : List ℕ) → decoded_each e (lines_to_come n false [] d end) ≡ line_texts e d
+unfolding line_texts
+line_texts-numbered e n d = decoded-end e n (lines_of d).ended (lines_of d).last
+
+-- The lines of bytes that end in a line end come before those of what follows, without an LF that belongs to a CR.
+pub line_texts-append : (e : Encoding) (x d : List ℕ) → (lines_of x).last ≡ []
+    → line_texts e (x ++ d) ≡ ended_lines e (lines_of x).ended ++ line_texts e (rest_of_end (ends_in_cr x) d)
+line_texts-append e x d h =
+    let ls = lines_of x in
+    sym (line_texts-numbered e 0 (x ++ d))
+    ∙ ap (decoded_each e) (lines_to_come-append 0 x d end)
+    ∙ decoded_each-append e (numbered 0 ls.ended ls.last more) (lines_to_come (0 + line_ends ls) (ends_in_cr x) ls.last d end)
+    ∙ ap₂ (λ v w. v ++ w) (decoded-more e 0 ls.ended ls.last)
+    (ap (λ v. decoded_each e (lines_to_come (0 + line_ends ls) (ends_in_cr x) v d end)) h ∙ line_texts-numbered e (0 + line_ends ls) (rest_of_end (ends_in_cr x) d))
+
+-- ---- a group at the front
+
+-- The bytes end in a line end, and their lines are one whole group.
+pub record IsFront (e : Encoding) (x : List ℕ) (g : List Line) : Type 0 where
+  pub ended : (lines_of x).last ≡ []
+  pub texts : ended_lines e (lines_of x).ended ≡ g
+  pub whole : IsWhole g
+
+-- With such bytes at the front, their group comes first, followed by what comes without an LF that belongs to a CR.
+front-outcomes : (e : Encoding) (x d : List ℕ) (g : List Line) → IsFront e x g
+    → outcomes_in e (x ++ d) ≡ outcome_before (outcome_of (joined g)) (outcomes_in e (rest_of_end (ends_in_cr x) d))
+unfolding outcomes_in
+front-outcomes e x d g h =
+    ap (λ v. outcomes_of (groups_of v end)) (line_texts-append e x d h.ended ∙ ap (λ v. v ++ line_texts e (rest_of_end (ends_in_cr x) d)) h.texts)
+    ∙ ap outcomes_of (groups_of-before g (line_texts e (rest_of_end (ends_in_cr x) d)) end h.whole)
+
+-- ---- empty lines
+
+-- An empty line has no outcome.
+pub outcome-empty : outcome_of [] ≡ ignored
+outcome-empty = ap split_outcome (split_of-blank [] tt)
+
+-- An LF is an empty line, and a whole group.
+lf-front : (e : Encoding) → IsFront e (line_feed ∷ []) (record { number = 0; text = [] } ∷ [])
+lf-front e = record { ended = refl; texts = ap (λ v. record { number = 0; text = v } ∷ []) (decoded-nil e); whole = inr (refl, refl) }
+
+-- An LF at the front has no outcome.
+pub outcomes-lf : (e : Encoding) (d : List ℕ) → outcomes_in e (line_feed ∷ d) ≡ outcomes_in e d
+outcomes-lf e d = front-outcomes e (line_feed ∷ []) d (record { number = 0; text = [] } ∷ []) (lf-front e) ∙ ap (λ v. outcome_before v (outcomes_in e d)) outcome-empty
+
+-- So it doesn't matter whether an LF at the front is left out.
+outcomes-rest : (e : Encoding) (b : Bool) (d : List ℕ) → outcomes_in e (rest_of_end b d) ≡ outcomes_in e d
+outcomes-rest e false d = refl
+outcomes-rest e true [] = refl
+outcomes-rest e true (c ∷ d) = elim (eqb_tells c line_feed) [
+  | inl k ↦ rw k.1 (sym (outcomes-lf e d))
+  | inr k ↦ rw k.0 refl
+]
+
+-- The outcome of a group before any bytes comes first, followed by the outcomes of those bytes.
+pub outcomes-front : (e : Encoding) (x d : List ℕ) (g : List Line) → IsFront e x g → outcomes_in e (x ++ d) ≡ outcome_before (outcome_of (joined g)) (outcomes_in e d)
+outcomes-front e x d g h = front-outcomes e x d g h ∙ ap (outcome_before (outcome_of (joined g))) (outcomes-rest e (ends_in_cr x) d)
+
+-- An empty list of bytes has no outcomes.
+pub outcomes-nil : (e : Encoding) → outcomes_in e [] ≡ []
+unfolding outcomes_in line_texts
+outcomes-nil e = ap (λ v. outcomes_of (groups_of (record { number = 0; text = v } ∷ []) end)) (decoded-nil e) ∙ ap (λ v. outcome_before v []) outcome-empty
+
+-- The outcome of bytes that are one group is that of the group.
+pub outcomes-one : (e : Encoding) (d : List ℕ) (g : List Line) → line_texts e d ≡ g → groups_of g end ≡ g ∷ [] → outcomes_in e d ≡ outcome_before (outcome_of (joined g)) []
+unfolding outcomes_in
+outcomes-one e d g h k = ap (λ v. outcomes_of (groups_of v end)) h ∙ ap outcomes_of k

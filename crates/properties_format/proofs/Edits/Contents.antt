@@ -1,0 +1,24 @@
+-- What a source says after edits in turn.
+use Rattle.std.proofs.Common.{ℕ, List, [], ◌∷◌, ap, sym, subst}
+use Rattle.properties_format.specs.Encoding.{Encoding}
+use Rattle.properties_format.specs.Edits.{Edit, put, remove, set_value, IsEdited, AreEdited, IsScalarEdit, AreScalarEdits}
+use Rattle.properties_format.specs.Changed.{IsEditedIn, AreEditedIn}
+use Rattle.properties_format.proofs.Changed.Laws.{IsReadable, source_contents, IsReadTo, key_set-contents, key_removed-contents}
+use Rattle.properties_format.proofs.Valued.Read.{value_set-contents}
+
+-- the same of each edit
+pub edit-contents : (e : Encoding) (source : List ℕ) (edit : Edit) (result : List ℕ) → IsReadable e source → IsScalarEdit edit → IsEdited e source edit result
+    → IsReadTo e result (IsEditedIn edit (source_contents e source))
+edit-contents e source (put key value) result r k h = key_set-contents e source key value result r k.0 k.1 h
+edit-contents e source (remove key) result r k h = key_removed-contents e source key result r h
+edit-contents e source (set_value key value) result r k h = value_set-contents e source key value result r k.0 k.1 h
+
+-- After edits in turn the source says what it said after the same edits.
+pub edits-contents : (e : Encoding) (source : List ℕ) (edits : List Edit) (result : List ℕ) → IsReadable e source → AreScalarEdits edits
+    → AreEdited e source edits result
+    → IsReadTo e result (AreEditedIn edits (source_contents e source))
+edits-contents e source [] result r k h = record { readable = subst (IsReadable e) (sym h) r; such = ap (source_contents e) h }
+edits-contents e source (edit ∷ edits) result r k h =
+    let m = edit-contents e source edit h.0 r k.0 h.1 in
+    let n = edits-contents e h.0 edits result m.readable k.1 h.2 in
+    record { readable = n.readable; such = (source_contents e h.0, m.such, n.such) }

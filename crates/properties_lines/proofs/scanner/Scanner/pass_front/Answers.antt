@@ -1,6 +1,0 @@
-use Rattle.properties_lines.proofs.ScannerFront.{settles-feed}
-use Rattle.properties_lines.proofs.scanner.Scanner.pass_front.Goals as goal
-
-pub returns-in-Feed : goal.returns-in-Feed
-returns-in-Feed c =
-    settles-feed c.args.self.now c.pass_feed.new.self c.args.held.now c.args.ended c.pass_feed.result c.requires.fits c.requires.live c.in-Feed.is c.pass_feed.ensures

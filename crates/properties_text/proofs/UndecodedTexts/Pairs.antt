@@ -1,0 +1,130 @@
+-- A pair that is printed from where it stands in a line.
+use Rattle.std.proofs.Common.{◌≡◌, ℕ, ◌≤◌, ◌+◌, ◌-◌, Bool, false, List, ◌++◌, length, take, drop, sym, ap, ◌∙◌, subst, inl, inr, append_assoc, arith}
+use Rattle.std.specs.Prelude.{Option, Some}
+use Rattle.std.proofs.lemmas.List.{length-append, length-take-le, drop-take, take-take}
+use Rattle.properties_format.specs.Split.{pair, IsSplit}
+use Rattle.properties_format.specs.Reading.Undecoded.{characters_of}
+use Rattle.properties_format.proofs.Undecoded.{decodes, splitting-commutes}
+use Rattle.properties_text.specs.Decoding.{text_of}
+use Rattle.properties_text.specs.Escaping.{IsRefused}
+use Rattle.properties_text.specs.Parsing.{bytes_in, IsPairAt, AreInPlace}
+use Rattle.properties_text.specs.declared.parse.ParsedSpans.{ParsedSpans}
+use Rattle.properties_text.specs.declared.parse.ParsedSpans.TheVariants.{KVPair}
+use Rattle.properties_text.specs.Printing.{all_of_windows_1252, text_bytes, key_bytes}
+use Rattle.properties_text.specs.declared.encoding.Encoding.TheVariants.{WINDOWS_1252}
+use Rattle.properties_text.specs.declared.escape.UnescapeError.{UnescapeError}
+use Rattle.properties_text.specs.declared.escape.UnescapeError.TheVariants as error
+use Rattle.properties_text.specs.declared.print.undecoded.UndecodedPair.{UndecodedPair}
+use Rattle.properties_text.specs.declared.parse.Span.{Span}
+use Rattle.properties_text.specs.declared.print.Place.TheVariants.{KeyOrValue}
+use Rattle.properties_text.specs.UndecodedTexts.{IsAppended, undecoded_line, IsUndecodedPair, IsPairAppended, IsPairRefused}
+
+-- the text of bytes
+text : (d : List ℕ) → text_of WINDOWS_1252 d ≡ characters_of d
+text d = decodes d
+
+-- what stands in the bytes up to an end stands in them all
+in-front : (bytes : List ℕ) (end : ℕ) (span : Span) → span.start ≤ span.end → span.end ≤ end → bytes_in (take end bytes) span ≡ bytes_in bytes span
+in-front bytes end span o w =
+    let size = span.end - span.start in
+    ap (take size) (ap (λ n. drop span.start (take n bytes)) (let e : end ≡ span.start + (end - span.start) = omega (arith, o, w) in e) ∙ drop-take span.start (end - span.start) bytes)
+    ∙ take-take size (end - span.start) (drop span.start bytes) (omega (arith, o, w))
+
+-- a pair that was found in the bytes up to an end
+pub pair-found : (p : UndecodedPair) (end : ℕ) (found : Option ParsedSpans) → end ≤ length p.bytes.now → found ≡ Some (KVPair p.key p.value)
+    → AreInPlace (take end p.bytes.now) found → IsUndecodedPair p × (undecoded_line p ≡ take end p.bytes.now)
+pair-found p end found h is places =
+    let line = take end p.bytes.now in
+    let place = subst (AreInPlace line) is places in
+    let key = bytes_in line p.key in
+    let value = bytes_in line p.value in
+    let d = place.division in
+    let size : length line ≡ end = length-take-le end p.bytes.now h in
+    let all = ap length d.whole ∙ length-append d.indent (key ++ (d.between ++ value)) in
+    let parts = length-append key (d.between ++ value) in
+    let last = length-append d.between value in
+    let whole : undecoded_line p ≡ line = ap (λ n. take n p.bytes.now) (place.value_end ∙ size) in
+    let key_ordered : p.key.start ≤ p.key.end = omega (arith, place.key_end) in
+    let key_within : p.key.end ≤ end = omega (arith, size, place.key_start, place.key_end, all, parts) in
+    let value_ordered : p.value.start ≤ p.value.end = omega (arith, place.key_start, place.key_end, place.value_start, place.value_end, all, parts, last) in
+    let value_within : p.value.end ≤ end = omega (arith, size, place.value_end) in (
+      record {
+        key_ordered = key_ordered;
+        key_within = omega (arith, key_within, h);
+        value_ordered = value_ordered;
+        value_within = omega (arith, value_within, h);
+        place = subst (λ v. IsPairAt v p.key p.value) (sym whole) place;
+      },
+      whole,
+    )
+
+-- the line is split into the bytes of the two spans
+line-split : (p : UndecodedPair) → IsUndecodedPair p → IsSplit (undecoded_line p) (pair (bytes_in p.bytes.now p.key) (bytes_in p.bytes.now p.value))
+line-split p h =
+    let line = undecoded_line p in
+    let key = bytes_in line p.key in
+    let value = bytes_in line p.value in
+    let d = h.place.division in
+    let all = ap length d.whole ∙ length-append d.indent (key ++ (d.between ++ value)) in
+    let parts = length-append key (d.between ++ value) in
+    let inside : p.key.end ≤ p.value.end = omega (arith, h.place.key_start, h.place.key_end, h.place.value_end, all, parts) in
+    subst (λ v. IsSplit line (pair v (bytes_in p.bytes.now p.value))) (in-front p.bytes.now p.value.end p.key h.key_ordered inside)
+    (subst (λ v. IsSplit line (pair key v)) (in-front p.bytes.now p.value.end p.value h.value_ordered (omega arith)) d)
+
+-- a pair of bytes is the pair of the line's text
+pair-split : (p : UndecodedPair) → IsUndecodedPair p
+    → IsSplit (text_of WINDOWS_1252 (undecoded_line p)) (pair (text_of WINDOWS_1252 (bytes_in p.bytes.now p.key)) (text_of WINDOWS_1252 (bytes_in p.bytes.now p.value)))
+pair-split p h =
+    let key = bytes_in p.bytes.now p.key in
+    let value = bytes_in p.bytes.now p.value in
+    rw (text (undecoded_line p), text key, text value) ((splitting-commutes (undecoded_line p)).split (pair key value) (line-split p h))
+
+-- what is appended one after another
+pub parts-appended : (first : Bool) (old one two three four separator ending : List ℕ) (p : UndecodedPair) → IsUndecodedPair p
+    → IsAppended first old (bytes_in p.bytes.now p.key) one → two ≡ one ++ separator
+    → IsAppended false two (bytes_in p.bytes.now p.value) three → four ≡ three ++ ending → IsPairAppended first old (undecoded_line p) separator ending four
+parts-appended first old one two three four separator ending p h k s v e =
+    let a = key_bytes all_of_windows_1252 first k.meant in
+    let b = text_bytes all_of_windows_1252 KeyOrValue v.meant in
+    record {
+      key = k.meant;
+      value = v.meant;
+      meaning = record {
+        raw_key = text_of WINDOWS_1252 (bytes_in p.bytes.now p.key);
+        raw_value = text_of WINDOWS_1252 (bytes_in p.bytes.now p.value);
+        split = pair-split p h;
+        key_means = k.meaning;
+        value_means = v.meaning;
+      };
+      printed =
+          e
+          ∙ ap (λ x. x ++ ending) (v.printed ∙ ap (λ x. x ++ b) (s ∙ ap (λ x. x ++ separator) k.printed))
+          ∙ append_assoc ((old ++ a) ++ separator) b ending
+          ∙ append_assoc (old ++ a) separator (b ++ ending)
+          ∙ append_assoc old a (separator ++ (b ++ ending));
+    }
+
+-- a key that breaks
+pub key-refused : (p : UndecodedPair) (e : UnescapeError) → IsUndecodedPair p
+    → IsRefused (text_of WINDOWS_1252 (bytes_in p.bytes.now p.key)) e → IsPairRefused (undecoded_line p) e
+key-refused p (error.Malformed malformed) h b = inr (inl (record {
+  raw_key = text_of WINDOWS_1252 (bytes_in p.bytes.now p.key);
+  raw_value = text_of WINDOWS_1252 (bytes_in p.bytes.now p.value);
+  split = pair-split p h;
+  breaks = b;
+}))
+key-refused p error.Memory h b = tt
+
+-- and a value that does, after a key that means a text
+pub value-refused : (first : Bool) (old one : List ℕ) (p : UndecodedPair) (e : UnescapeError) → IsUndecodedPair p
+    → IsAppended first old (bytes_in p.bytes.now p.key) one
+    → IsRefused (text_of WINDOWS_1252 (bytes_in p.bytes.now p.value)) e → IsPairRefused (undecoded_line p) e
+value-refused first old one p (error.Malformed malformed) h k b = inr (inr (record {
+  raw_key = text_of WINDOWS_1252 (bytes_in p.bytes.now p.key);
+  raw_value = text_of WINDOWS_1252 (bytes_in p.bytes.now p.value);
+  key = k.meant;
+  split = pair-split p h;
+  key_means = k.meaning;
+  breaks = b;
+}))
+value-refused first old one p error.Memory h k b = tt

@@ -1,0 +1,443 @@
+// Prints pairs of windows-1252 that are undecoded, most of them without decoding or resolving them.
+
+ghost use Rattle.std.specs.Prelude.{◌≡◌, ◌+◌, ◌*◌, ◌<◌, ◌≤◌, ◌==◌, length, take, get_or, true, false, None, IfSome, OnErr};
+ghost use Rattle.properties_format.specs.Text.{backslash};
+ghost use Rattle.properties_format.specs.Escapes.{letter_u, is_surrogate, are_hexadecimal, code_unit};
+ghost use Rattle.properties_text.specs.Parsing.{bytes_in};
+ghost use Rattle.properties_text.specs.UndecodedTexts.{PrintsUndecoded, undecoded_line, IsUndecodedPair, IsNoPair, PrintsPair, IsKept, IsAppended, ArePut, IsPrinted, IsByteOf, digits_at};
+
+use super::bytes::{NOTHING, Printed, backslashes_before, put_16, put_byte};
+use super::escapes::put_unit;
+use super::{WINDOWS_1252, print_key};
+use crate::encoding::{Encoding, TextBuffer, byte_of, has_byte};
+use crate::escape::{UnescapeError, escaped_byte, unescape, value_of};
+use crate::line_buffer::{LineBuffer, make_room};
+use crate::parse::{ParsedSpans, Span, parse_bytes};
+use byte_blocks::{Byte, ByteClass, Controls, Either};
+use std::alloc::Global;
+use std::simd::prelude::*;
+
+/// A pair of windows-1252 that isn't decoded or resolved.
+#[derive(Clone, Copy)]
+pub struct UndecodedPair<'a> {
+    /// The line, up to the value's end. Bytes after it are not printed, but may be read as part of a block.
+    pub bytes: &'a [u8],
+    /// The position of the key.
+    pub key: Span,
+    /// The position of the value.
+    pub value: Span,
+}
+
+impl<'a> UndecodedPair<'a> {
+    /// Finds the pair in the first `end` bytes, which are one logical line. Returns `None` if it is blank or a comment.
+    pub fn parse(bytes: &'a [u8], end: usize) -> Option<UndecodedPair<'a>>
+        requires { end ≤ length bytes.now }
+        ensures pair { IfSome result (λ p. IsUndecodedPair p × (undecoded_line p ≡ take end bytes.now)) }
+        ensures none { result ≡ None → IsNoPair (take end bytes.now) }
+    {
+        match parse_bytes(&bytes[..end]) {
+            Some(ParsedSpans::KVPair(key, value)) => Some(UndecodedPair { bytes, key, value }),
+            Some(ParsedSpans::Comment(_)) | None => None,
+        }
+    }
+}
+
+/// Appends a pair as a writer prints it in windows-1252, with `separator` and `ending` as they are.
+///
+/// If `first`, the key comes first in a file and is printed so that it isn't taken for a byte order mark. Fails with the
+/// first malformed escape, or if memory runs out; then nothing is appended.
+///
+/// ```text
+/// let bytes = br"caf\u00e9:a b";
+/// if let Some(pair) = UndecodedPair::parse(bytes, bytes.len()) {
+///     print_undecoded_pair(alloc, &mut line, false, pair, b" = ", b"\n")?; // appends `caf\xe9 = a\ b` and a line feed
+/// }
+/// ```
+pub fn print_undecoded_pair(
+    alloc: Global,
+    line: &mut LineBuffer,
+    first: bool,
+    pair: UndecodedPair<'_>,
+    separator: &[u8],
+    ending: &[u8],
+) -> Result<(), UnescapeError>
+    requires { IsUndecodedPair pair }
+    ensures printed { PrintsPair first line.old pair.entry separator.now ending.now result line.new }
+    ensures unchanged { OnErr result (line.new ≡ line.old) }
+{
+    let filled = line.filled;
+    let printed = print_parts(alloc, line, first, pair, separator, ending);
+    if printed.is_err() {
+        line.truncate(filled);
+    }
+    printed
+}
+
+// Appends the parts of a pair one after another. If it fails, the first of them may be left.
+#[inline(always)]
+fn print_parts(
+    alloc: Global,
+    line: &mut LineBuffer,
+    first: bool,
+    pair: UndecodedPair<'_>,
+    separator: &[u8],
+    ending: &[u8],
+) -> Result<(), UnescapeError>
+    requires { IsUndecodedPair pair }
+    ensures printed { PrintsPair first line.old pair.entry separator.now ending.now result line.new }
+    ensures kept { IsKept line.old line.new }
+{
+    print_span(alloc, line, first, pair.bytes, pair.key)?;
+    line.extend(separator)?;
+    print_span(alloc, line, false, pair.bytes, pair.value)?;
+    line.extend(ending)?;
+    Ok(())
+}
+
+// Appends the key or the value at this position as it is printed. On an error nothing is appended.
+#[inline(always)]
+fn print_span(
+    alloc: Global,
+    line: &mut LineBuffer,
+    first: bool,
+    bytes: &[u8],
+    span: Span,
+) -> Result<(), UnescapeError>
+    requires ordered { span.start ≤ span.end }
+    requires within { span.end ≤ length bytes.now }
+    ensures printed { PrintsUndecoded first line.old (bytes_in bytes.now span) result line.new }
+    ensures unchanged { OnErr result (line.new ≡ line.old) }
+{
+    let rest = &bytes[span.start..];
+    let end = span.end - span.start;
+    if !first && print_usual(line, rest, end) {
+        return Ok(());
+    }
+    print_decoded(alloc, line, first, &rest[..end])
+}
+
+// Decodes and resolves the key or the value with these bytes, and appends it as it is printed. On an error nothing is
+// appended. This is for few of them: the first key, and those with a malformed escape or an unescaped control character.
+#[inline(never)]
+fn print_decoded(
+    alloc: Global,
+    line: &mut LineBuffer,
+    first: bool,
+    bytes: &[u8],
+) -> Result<(), UnescapeError>
+    ensures printed { PrintsUndecoded first line.old bytes.now result line.new }
+    ensures unchanged { OnErr result (line.new ≡ line.old) }
+{
+    let mut text = TextBuffer::new(alloc);
+    text.push_decoded(Encoding::WINDOWS_1252, bytes)?;
+    let meant = unescape(alloc, text.as_str())?;
+    let mut printed = LineBuffer::new(alloc);
+    print_key(&mut printed, WINDOWS_1252, first, &meant)?;
+    line.extend(printed.as_slice())?;
+    Ok(())
+}
+
+// Appends what a usual text is printed as, and says that it did. Otherwise nothing is appended.
+#[inline(always)]
+fn print_usual(line: &mut LineBuffer, bytes: &[u8], end: usize) -> bool
+    requires { end ≤ length bytes.now }
+    ensures printed { result ≡ true → IsAppended false line.old (take end bytes.now) line.new }
+    ensures unchanged { result ≡ false → line.new ≡ line.old }
+{
+    let Some(room) = (2 * end).checked_add(32) else {
+        return false;
+    };
+    if make_room(&mut line.bytes, line.filled, room).is_err() {
+        return false;
+    }
+    let Some(filled) = put_after(&mut line.bytes, line.filled, bytes, end) else {
+        return false;
+    };
+    line.filled = filled;
+    true
+}
+
+// Puts what a text is printed as after the first `filled` bytes, and returns the place after it.
+#[inline(always)]
+fn put_after(out: &mut [u8], filled: usize, bytes: &[u8], end: usize) -> Option<usize>
+    requires within { end ≤ length bytes.now }
+    requires room { filled + (2 * end + 32) ≤ length out.old }
+    ensures same_room { length out.new ≡ length out.old }
+    ensures kept { take filled out.new ≡ take filled out.old }
+    ensures inside { IfSome result (λ at. at ≤ length out.new) }
+    ensures printed { IfSome result (λ at. IsAppended false (take filled out.old) (take end bytes.now) (take at out.new)) }
+{
+    let written = put_printed(&mut out[filled..], bytes, end)?;
+    Some(filled + written)
+}
+
+// Where sixteen bytes cannot be copied as they are.
+type Stops = Either<Controls, Byte<b'\\'>>;
+
+// Puts what a text is printed as at the front of a buffer, and returns its length; or nothing, where the text is
+// malformed or holds a control character, and what was put is of no use.
+#[inline(always)]
+fn put_printed(out: &mut [u8], bytes: &[u8], end: usize) -> Option<usize>
+    requires within { end ≤ length bytes.now }
+    requires room { 2 * end + 32 ≤ length out.old }
+    ensures same_room { length out.new ≡ length out.old }
+    ensures printed { IfSome result (λ written. IsPrinted (take end bytes.now) written out.new) }
+{
+    let blocks = put_blocks(out, bytes, end, NOTHING);
+    if blocks.read == end {
+        return Some(blocks.written);
+    }
+    let reached = put_singly(out, &bytes[..end], blocks);
+    if reached.read == end {
+        Some(reached.written)
+    } else {
+        None
+    }
+}
+
+// Goes on by blocks of sixteen, and past what stands between them, as far as sixteen bytes are there.
+#[inline(always)]
+fn put_blocks(out: &mut [u8], bytes: &[u8], end: usize, so_far: Printed) -> Printed
+    requires within { end ≤ length bytes.now }
+    requires room { 2 * end + 32 ≤ length out.old }
+    requires so_far { ArePut (take end bytes.now) so_far out.old }
+    ensures same_room { length out.new ≡ length out.old }
+    ensures put { ArePut (take end bytes.now) result out.new }
+{
+    let mut reached = so_far;
+    while reached.read < end && bytes.len() - reached.read >= 16 {
+        let read = reached.read;
+        reached = put_block(out, bytes, end, reached);
+        if reached.read < end && reached.read < read + 16 {
+            let before = reached.read;
+            reached = put_escapes(out, &bytes[..end], reached);
+            if reached.read == before {
+                break;
+            }
+        }
+    }
+    reached
+}
+
+// Puts the bytes of a block up to one that cannot be copied.
+#[inline(always)]
+fn put_block(out: &mut [u8], bytes: &[u8], end: usize, so_far: Printed) -> Printed
+    requires within { end ≤ length bytes.now }
+    requires room { 2 * end + 32 ≤ length out.old }
+    requires so_far { ArePut (take end bytes.now) so_far out.old }
+    requires some { so_far.read < end }
+    requires block { so_far.read + 16 ≤ length bytes.now }
+    ensures same_room { length out.new ≡ length out.old }
+    ensures onwards { so_far.read ≤ result.read }
+    ensures put { ArePut (take end bytes.now) result out.new }
+{
+    let v = u8x16::from_slice(&bytes[so_far.read..]);
+    let kept = Stops::marks(v).front_of((end - so_far.read).min(16));
+    let written = put_16(out, so_far.written, v, kept);
+    Printed {
+        read: so_far.read + kept,
+        written,
+    }
+}
+
+// Goes on spelling by spelling, up to one that is malformed or unusual.
+#[inline(never)]
+fn put_singly(out: &mut [u8], text: &[u8], so_far: Printed) -> Printed
+    requires room { 2 * length text.now ≤ length out.old }
+    requires so_far { ArePut text.now so_far out.old }
+    ensures same_room { length out.new ≡ length out.old }
+    ensures put { ArePut text.now result out.new }
+{
+    let mut reached = so_far;
+    while reached.read < text.len() {
+        let read = reached.read;
+        reached = put_one(out, text, reached);
+        if reached.read == read {
+            break;
+        }
+    }
+    reached
+}
+
+// Goes on by escapes that stand side by side, or with a character between two of them.
+#[inline(always)]
+fn put_escapes(out: &mut [u8], text: &[u8], so_far: Printed) -> Printed
+    requires room { 2 * length text.now ≤ length out.old }
+    requires so_far { ArePut text.now so_far out.old }
+    ensures same_room { length out.new ≡ length out.old }
+    ensures onwards { so_far.read ≤ result.read }
+    ensures put { ArePut text.now result out.new }
+{
+    let mut reached = so_far;
+    while text.len() - reached.read >= 2 {
+        let read = reached.read;
+        if text[read] != b'\\' {
+            if text[read + 1] != b'\\' {
+                break;
+            }
+            reached = put_itself(out, text, reached);
+        } else if text[read + 1] != b'u' {
+            reached = put_escaped(out, text, reached);
+        } else {
+            reached = put_unicode(out, text, reached);
+        }
+        if reached.read == read {
+            break;
+        }
+    }
+    reached
+}
+
+// Puts the next spelling, or nothing.
+#[inline(always)]
+fn put_one(out: &mut [u8], text: &[u8], so_far: Printed) -> Printed
+    requires room { 2 * length text.now ≤ length out.old }
+    requires so_far { ArePut text.now so_far out.old }
+    requires some { so_far.read < length text.now }
+    ensures same_room { length out.new ≡ length out.old }
+    ensures onwards { so_far.read ≤ result.read }
+    ensures put { ArePut text.now result out.new }
+{
+    if text[so_far.read] != b'\\' {
+        return put_itself(out, text, so_far);
+    }
+    if text.len() - so_far.read < 2 {
+        return so_far;
+    }
+    if text[so_far.read + 1] != b'u' {
+        return put_escaped(out, text, so_far);
+    }
+    put_unicode(out, text, so_far)
+}
+
+// Puts a byte that stands for itself.
+#[inline(always)]
+fn put_itself(out: &mut [u8], text: &[u8], so_far: Printed) -> Printed
+    requires room { 2 * length text.now ≤ length out.old }
+    requires so_far { ArePut text.now so_far out.old }
+    requires some { so_far.read < length text.now }
+    requires itself { (get_or text.now so_far.read 0 == backslash) ≡ false }
+    ensures same_room { length out.new ≡ length out.old }
+    ensures onwards { so_far.read ≤ result.read }
+    ensures put { ArePut text.now result out.new }
+{
+    let byte = text[so_far.read];
+    if backslashes_before(byte) > 1 {
+        return so_far;
+    }
+    let written = put_byte(out, so_far.written, byte);
+    Printed {
+        read: so_far.read + 1,
+        written,
+    }
+}
+
+// Puts the character of a backslash and a byte.
+#[inline(always)]
+fn put_escaped(out: &mut [u8], text: &[u8], so_far: Printed) -> Printed
+    requires room { 2 * length text.now ≤ length out.old }
+    requires so_far { ArePut text.now so_far out.old }
+    requires some { so_far.read + 2 ≤ length text.now }
+    requires escape { get_or text.now so_far.read 0 ≡ backslash }
+    requires no_unit { (get_or text.now (so_far.read + 1) 0 == letter_u) ≡ false }
+    ensures same_room { length out.new ≡ length out.old }
+    ensures onwards { so_far.read ≤ result.read }
+    ensures put { ArePut text.now result out.new }
+{
+    let byte = escaped_byte(text[so_far.read + 1]);
+    if backslashes_before(byte) > 1 {
+        return so_far;
+    }
+    let written = put_byte(out, so_far.written, byte);
+    Printed {
+        read: so_far.read + 2,
+        written,
+    }
+}
+
+// Puts the character of a `\u` escape, or of two surrogates.
+#[inline(always)]
+fn put_unicode(out: &mut [u8], text: &[u8], so_far: Printed) -> Printed
+    requires room { 2 * length text.now ≤ length out.old }
+    requires so_far { ArePut text.now so_far out.old }
+    requires some { so_far.read + 2 ≤ length text.now }
+    requires escape { get_or text.now so_far.read 0 ≡ backslash }
+    requires unit { get_or text.now (so_far.read + 1) 0 ≡ letter_u }
+    ensures same_room { length out.new ≡ length out.old }
+    ensures onwards { so_far.read ≤ result.read }
+    ensures put { ArePut text.now result out.new }
+{
+    let at = so_far.read;
+    if text.len() - at < 6 {
+        return so_far;
+    }
+    let Some(value) = value_of(text[at + 2], text[at + 3], text[at + 4], text[at + 5]) else {
+        return so_far;
+    };
+    let Some(character) = char::from_u32(value) else {
+        return put_surrogate_pair(out, text, so_far, value);
+    };
+    match byte_for(character) {
+        Some(byte) => Printed {
+            read: at + 6,
+            written: put_byte(out, so_far.written, byte),
+        },
+        None => Printed {
+            read: at + 6,
+            written: put_unit(out, so_far.written, value),
+        },
+    }
+}
+
+// Puts the character of two surrogates, of which the first was read. It stands apart, since they are rare.
+#[inline(never)]
+fn put_surrogate_pair(out: &mut [u8], text: &[u8], so_far: Printed, high: u32) -> Printed
+    requires room { 2 * length text.now ≤ length out.old }
+    requires so_far { ArePut text.now so_far out.old }
+    requires some { so_far.read + 6 ≤ length text.now }
+    requires escape { get_or text.now so_far.read 0 ≡ backslash }
+    requires unit { get_or text.now (so_far.read + 1) 0 ≡ letter_u }
+    requires digits { are_hexadecimal (digits_at text.now (so_far.read + 2)) ≡ true }
+    requires high { high ≡ code_unit (digits_at text.now (so_far.read + 2)) }
+    requires surrogate { is_surrogate high ≡ true }
+    ensures same_room { length out.new ≡ length out.old }
+    ensures onwards { so_far.read ≤ result.read }
+    ensures put { ArePut text.now result out.new }
+{
+    let at = so_far.read;
+    if high >= 0xdc00 || text.len() - at < 12 || text[at + 6] != b'\\' || text[at + 7] != b'u' {
+        return so_far;
+    }
+    let Some(low) = value_of(text[at + 8], text[at + 9], text[at + 10], text[at + 11]) else {
+        return so_far;
+    };
+    if low < 0xdc00 || low >= 0xe000 {
+        return so_far;
+    }
+    let middle = put_unit(out, so_far.written, high);
+    let written = put_unit(out, middle, low);
+    Printed {
+        read: at + 12,
+        written,
+    }
+}
+
+// The byte that a character is printed as, after a backslash or not; or none where it is printed by digits.
+#[inline(always)]
+fn byte_for(character: char) -> Option<u8>
+    ensures { IsByteOf character result }
+{
+    if !has_byte(character) {
+        return None;
+    }
+    let Some(byte) = byte_of(character) else {
+        return None;
+    };
+    if backslashes_before(byte) > 1 {
+        return None;
+    }
+    Some(byte)
+}
+
+#[cfg(test)]
+mod tests;

@@ -1,0 +1,75 @@
+// Pairs that are printed as a file spells them.
+
+use super::*;
+use crate::escape::Malformed;
+use std::test::Fail;
+
+// What stands after `|` once the pair of a line was printed, or how it was refused.
+fn printed(alloc: Global, first: bool, spelt: &[u8]) -> Result<LineBuffer, Fail> {
+    let mut line = LineBuffer::new(alloc);
+    line.push(b'|')?;
+    let Some(pair) = UndecodedPair::parse(spelt, spelt.len()) else {
+        line.extend(b"no pair")?;
+        return Ok(line);
+    };
+    match print_undecoded_pair(alloc, &mut line, first, pair, b" = ", b"\r\n") {
+        Ok(()) => {}
+        Err(UnescapeError::Malformed(Malformed::NotEnoughDigits)) => line.extend(b"short")?,
+        Err(UnescapeError::Malformed(Malformed::NotHex)) => line.extend(b"no digit")?,
+        Err(UnescapeError::Malformed(Malformed::InvalidCharacter)) => line.extend(b"alone")?,
+        Err(UnescapeError::Memory) => line.extend(b"memory")?,
+    }
+    Ok(line)
+}
+
+#[test]
+fn prints_undecoded_pairs(rt: HostRuntime) -> Result<(), Fail> {
+    let rows: [(bool, &[u8], &[u8]); 22] = [
+        (false, b"a=b", b"|a = b\r\n"),
+        (false, b"=", b"| = \r\n"),
+        (false, b" \x0c", b"|no pair"),
+        (false, b" # a=b", b"|no pair"),
+        (
+            false,
+            b"a\\ key\\:of.more_than\\=sixteen : and a value: of more than sixteen # signs! ",
+            b"|a\\ key\\:of.more_than\\=sixteen = and\\ a\\ value\\:\\ of\\ more\\ than\\ sixteen\\ \\#\\ signs\\!\\ \r\n",
+        ),
+        (false, b"\\k\\e\\y \\\\", b"|key = \\\\\r\n"),
+        (
+            false,
+            b"\xe9\x80=\\u00E9\\u20ac\\u0041",
+            b"|\xe9\x80 = \xe9\x80A\r\n",
+        ),
+        (
+            false,
+            b"\\u0430\\u0431\\ \\u0432=\\u0430, \\u0431-\\u0432\\uD83D\\uDC1e",
+            b"|\\u0430\\u0431\\ \\u0432 = \\u0430,\\ \\u0431-\\u0432\\ud83d\\udc1e\r\n",
+        ),
+        (
+            false,
+            b"\\u000a\\u0001\\u007F=\\t\\n\\f\\r\t\x0c",
+            b"|\\n\\u0001\x7f = \\t\\n\\f\\r\\t\\f\r\n",
+        ),
+        (false, b"\\\x80\\\xff=\\\t\\ ", b"|\x80\xff = \\t\\ \r\n"),
+        (false, b"\x01=\\\x1f", b"|\\u0001 = \\u001f\r\n"),
+        (false, b"a=b\\", b"|a = b\\u0000\r\n"),
+        (false, b"a=a value of more than sixteen\\u12", b"|short"),
+        (false, b"\\u0g00=\\u1", b"|no digit"),
+        (false, b"\\ud83d=a", b"|alone"),
+        (false, b"a=\\udc1e\\ud83d", b"|alone"),
+        (false, b"a=\\ud83d\\u0041", b"|alone"),
+        (false, b"a=\\ud83d\\ud83d", b"|alone"),
+        (true, b"\xff\\\xfe=a", b"|\\u00ff\xfe = a\r\n"),
+        (false, b"\xff\\\xfe=a", b"|\xff\xfe = a\r\n"),
+        (
+            true,
+            b"\\u00EF\xbb\xbf=\xff\xfe",
+            b"|\\u00ef\xbb\xbf = \xff\xfe\r\n",
+        ),
+        (true, b"\\ud83d=a", b"|alone"),
+    ];
+    for (first, spelt, wanted) in rows {
+        assert_eq!(rt; printed(rt.alloc(), first, spelt)?.as_slice(), wanted);
+    }
+    Ok(())
+}
