@@ -1,4 +1,4 @@
--- What counting the items of an input tells.
+-- The result of counting the items of an input.
 use Rattle.std.specs.Prelude.{◌≡◌, ℕ, true, List, length}
 use Rattle.counted_io.specs.Streams.{Reader, HasRead}
 use Rattle.properties_format.specs.Encoding.{Encoding}

@@ -1,4 +1,4 @@
--- What keeping the pairs of an input alone tells.
+-- The result of keeping only the pairs of an input.
 use Rattle.std.specs.Prelude.{◌≡◌, ℕ, List}
 use Rattle.counted_io.specs.Streams.{Reader}
 use Rattle.properties_format.specs.Encoding.{Encoding, output_encoding}

@@ -1,12 +1,13 @@
-// Lists of pairs told apart by the bytes that they are written as. Reading inverts writing, so no two of them are alike.
+// Compares lists of pairs by the bytes that they are written as. Reading inverts writing, so different lists have
+// different bytes.
 
 ghost use Rattle.calling.specs.Comparing.{ComparesPairs};
 
 use counted_io::CountedWrite;
 use java_properties::{PropertiesWriter, laws};
 
-/// Whether two lists of pairs are equal, told by their bytes: each is what this writer writes of a list that it takes,
-/// where no line stands before it.
+/// Whether two lists of pairs are equal, by their bytes: each is what this writer writes for a list that it accepts, if
+/// no line was written before.
 pub fn are_same_pairs<W: CountedWrite>(
     writer: &PropertiesWriter<W>,
     first: &[u8],

@@ -1,6 +1,6 @@
 // Editors that change settings in a file's bytes, and keep its comments.
 
-use java_properties::{Edit, Encoding, PropertiesError, edit_all, set_key};
+use java_properties::{Edit, Encoding, PropertiesError, edit_all, set_key, set_value};
 use std::alloc::{AllocError, Global};
 use std::collections::BTreeMap;
 
@@ -8,6 +8,11 @@ use std::collections::BTreeMap;
 pub fn set_port(alloc: Global, file: &[u8], port: u16) -> Result<Vec<u8>, PropertiesError> {
     let text = format!(in alloc; "{port}")?;
     set_key(alloc, file, Encoding::UTF_8, "port", text.as_str())
+}
+
+/// The file with this URL. Its line keeps its indent and its separator, so it looks as it did.
+pub fn set_url(alloc: Global, file: &[u8], url: &str) -> Result<Vec<u8>, PropertiesError> {
+    set_value(alloc, file, Encoding::UTF_8, "url", url)
 }
 
 /// The file with every setting of a map: those that it has are replaced, others come last, in order.
@@ -38,6 +43,15 @@ mod tests {
         let file = b"# the front door\r\nport : 80\r\n\r\nhost = a\r\n".as_slice();
         let edited = set_port(rt.alloc(), file, 8080)?;
         let wanted = b"# the front door\r\nport=8080\r\n\r\nhost = a\r\n".as_slice();
+        assert_eq!(rt; edited.as_slice(), wanted);
+        Ok(())
+    }
+
+    #[test]
+    fn sets_a_url(rt: HostRuntime) -> Result<(), Fail> {
+        let file = b"# the back end\n  url : x\n".as_slice();
+        let edited = set_url(rt.alloc(), file, "https://a:1")?;
+        let wanted = b"# the back end\n  url : https://a:1\n".as_slice();
         assert_eq!(rt; edited.as_slice(), wanted);
         Ok(())
     }

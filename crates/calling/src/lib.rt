@@ -4,7 +4,9 @@
 pub mod catalogue;
 pub mod compare;
 pub mod convert;
+pub mod copy;
 pub mod count;
+pub mod document;
 pub mod edit;
 pub mod find;
 pub mod greetings;

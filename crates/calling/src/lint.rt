@@ -24,9 +24,7 @@ pub fn lint(alloc: Global, name: &str, source: &[u8]) -> Result<Vec<String>, Pro
     for key in &key_lines(alloc, &mut input, Encoding::UTF_8)? {
         let (number, first) = (key.line_number, key.first);
         if first != number {
-            let message = format!(in alloc;
-                "{name}:{number}: this key stands in line {first} too"
-            )?;
+            let message = format!(in alloc; "{name}:{number}: this key is in line {first} too")?;
             messages.push(message)?;
         }
     }
@@ -70,8 +68,8 @@ mod tests {
             "my.properties:1: Malformed \\uxxxx encoding: not hex. (in a comment)",
             "my.properties:5: Malformed \\uxxxx encoding: not hex.",
             "my.properties:6: Malformed \\uxxxx encoding: invalid character.",
-            "my.properties:4: this key stands in line 2 too",
-            "my.properties:8: this key stands in line 2 too",
+            "my.properties:4: this key is in line 2 too",
+            "my.properties:8: this key is in line 2 too",
         ];
         assert_eq!(rt; messages.len(), wanted.len());
         for (message, text) in messages.iter().zip(wanted) {
@@ -85,7 +83,7 @@ mod tests {
         assert_eq!(rt; messages.len(), 2);
         assert_eq!(rt;
             messages[1].as_str(),
-            "my.properties:3: this key stands in line 1 too"
+            "my.properties:3: this key is in line 1 too"
         );
         assert!(rt; lint_file(&rt, rt.alloc(), "no/such.properties").is_ok());
         Ok(())

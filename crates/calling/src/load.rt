@@ -49,7 +49,7 @@ impl LoadError {
     }
 }
 
-/// Reads UTF-8. A key that is not there keeps its default, and the last of two that are the same stands.
+/// Reads UTF-8. A missing key keeps its default, and a repeated key has its last value.
 pub fn load<R: CountedRead>(alloc: Global, input: &mut R) -> Result<Server, LoadError> {
     let mut server = default_server(alloc).map_err(PropertiesError::from)?;
     for item in PropertiesIter::new_with_encoding(alloc, input, Encoding::UTF_8)? {

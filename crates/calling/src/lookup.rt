@@ -5,6 +5,7 @@ ghost use Rattle.std.specs.Option.{option_map};
 ghost use Rattle.std.specs.Str.{chars};
 ghost use Rattle.counted_io.specs.Streams.{IsSameReader};
 ghost use Rattle.properties_format.specs.Encoding.{windows_1252};
+ghost use Rattle.properties_text.specs.Encoding.{encoding_of};
 ghost use Rattle.java_properties.specs.Errors.{IsBareError};
 ghost use Rattle.java_properties.specs.Maps.{ReadsValue, characters, value_at};
 ghost use Rattle.java_properties.specs.ReadLines.{StopsReading};
@@ -12,9 +13,9 @@ ghost use Rattle.java_properties.specs.declared.error.ErrorKind.TheVariants.{Mem
 ghost use Rattle.calling.specs.Lookups.{borrowed_characters};
 
 use counted_io::CountedRead;
-use java_properties::{PropertiesError, read};
+use java_properties::{Encoding, PropertiesError, read, read_sorted};
 use std::alloc::Global;
-use std::collections::HashMap;
+use std::collections::{BTreeMap, HashMap};
 
 /// The last value of a key in an input in windows-1252, or `None` where no pair has it.
 #[tactic(auto, using(java_properties::proofs::TextMaps::Reading::reads_value))]
@@ -43,6 +44,35 @@ fn value_of<'a>(map: &'a HashMap<String, String>, key: &str) -> Option<&'a Strin
     map.get(key)
 }
 
+/// The last value of a key in an input in this encoding, or `None` where no pair has it.
+#[tactic(auto, using(java_properties::proofs::TextMaps::Reading::reads_value))]
+pub fn lookup_sorted<R: CountedRead>(
+    alloc: Global,
+    input: &mut R,
+    encoding: Encoding,
+    key: &str,
+) -> Result<Option<String>, PropertiesError>
+    ensures finds { IfOk result (λ found. let value = option_map characters found in
+        ReadsValue R.CountedRead (encoding_of encoding) input.old (chars key.now) value input.new) }
+    ensures stops { let e = encoding_of encoding in
+        IfErr result (λ error. StopsReading R.CountedRead e input.old error input.new ⊎ IsBareError Memory error) }
+    ensures same_reader { IsSameReader R.CountedRead input.old input.new }
+{
+    let map = read_sorted(alloc, input, encoding)?;
+    let Some(value) = value_of_sorted(&map, key) else {
+        return Ok(None);
+    };
+    Ok(Some(String::from_str(alloc, value.as_str())?))
+}
+
+// As `value_of`, in a sorted map: the lemma is another one.
+#[tactic(auto, using(java_properties::proofs::TextMaps::Values::value_at_text_sorted))]
+fn value_of_sorted<'a>(map: &'a BTreeMap<String, String>, key: &str) -> Option<&'a String>
+    ensures { option_map borrowed_characters result ≡ value_at map.now.entries (chars key.now) }
+{
+    map.get(key)
+}
+
 #[cfg(test)]
 mod tests {
     use super::*;
@@ -57,6 +87,15 @@ mod tests {
         assert_eq!(rt; found.as_deref(), Some("3"));
         let mut input: &[u8] = text;
         assert!(rt; lookup(alloc, &mut input, "c")?.is_none());
+        Ok(())
+    }
+
+    #[test]
+    fn looks_up_in_an_encoding(rt: HostRuntime) -> Result<(), Fail> {
+        let alloc = rt.alloc();
+        let mut input: &[u8] = "café = 1\nb = 2\ncaf\\u00e9 = 3 €\n".as_bytes();
+        let found = lookup_sorted(alloc, &mut input, Encoding::UTF_8, "café")?;
+        assert_eq!(rt; found.as_deref(), Some("3 €"));
         Ok(())
     }
 }

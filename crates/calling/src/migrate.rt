@@ -20,7 +20,7 @@ fn rename(alloc: Global, document: &mut Document, from: &str, to: &str) -> Resul
     let Some(value) = document.get(from) else {
         return Ok(());
     };
-    // `put` changes the document, from which the value is lent.
+    // `put` changes the document, which the value borrows from.
     let value = String::from_str(alloc, value)?;
     document.put(to, value.as_str())?;
     document.remove(from);

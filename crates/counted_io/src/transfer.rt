@@ -12,6 +12,7 @@ use std::io;
 /// let mut output = Counted::new(Vec::new(alloc));
 /// send(&mut output, b"a=b\n").is_ok();
 /// ```
+#[inline(always)]
 pub fn send<W: CountedWrite>(sink: &mut W, bytes: &[u8]) -> Result<(), Option<io::Error>>
     ensures sends { Sends W.CountedWrite sink.old bytes.now result sink.new }
     ensures same_sink { IsSameSink W.CountedWrite sink.old sink.new }

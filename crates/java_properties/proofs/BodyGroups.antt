@@ -69,7 +69,7 @@ one-byte-ending utf_8 (Some by) h = ending-utf_8 by
 one-byte-ending utf_16le ending h = absurd (omega arith)
 one-byte-ending utf_16be ending h = absurd (omega arith)
 
--- what stands between two places of some bytes
+-- what is between two places of some bytes
 between : (d x y z : List ℕ) (start stop next : ℕ) → drop start d ≡ x ++ (y ++ z) → z ≡ drop next d → start ≤ stop → stop ≤ next → next ≤ length d
     → length x ≡ stop - start → take (next - stop) (drop stop d) ≡ y
 between d x y z start stop next h rest ordered placed within size =

@@ -120,9 +120,9 @@ read-fault {e} {body} {groups} {s} {t} {group} error h k (inl (how, breaks, is))
     )
 read-fault error h k (inr is) = inr is
 
--- ---- where the key stands
+-- ---- where the key is
 
--- After these groups it is known where the key stands.
+-- After these groups it is known where the key is.
 pub record HasLooked (e : Encoding) (body key : List ℕ) (s : GroupReader) (found : place.KeyPlace) : Type 0 where
   pub groups : List (List HeldLine)
   pub read : HasRead e body groups s
@@ -134,7 +134,7 @@ pub looked-none : (body key : List ℕ) (s : GroupReader) (found : place.KeyPlac
 looked-none body key s found at passed going w none =
     record { groups = []; read = read-none body s at passed going w; pair = subst (IsPlace key []) (sym none) refl; closing = inl refl }
 
--- a group after which a new pair is parted so
+-- a group after which a new pair is separated so
 closing_bytes-group : (source : List ℕ) (g : List HeldLine) (group : Group) → group.is_empty ≡ is_empty_line g → group.is_open ≡ is_left_open g
     → separation source g ≡ closing_bytes (added_ending source) (closing_of group.is_empty group.is_open)
 closing_bytes-group source g group a b = rw (a, b) (closing_bytes-tests source (is_empty_line g) (is_left_open g))
@@ -299,7 +299,7 @@ kept-removed {e} {body} {key} {s} {t} {others} {start} {group} more h k sound is
           ∙ sym (without-push key h.groups k.held ∙ ap (λ v. without key h.groups ++ v) (cond-true (has_key key k.held) [] (group_bytes k.held ++ []) has) ∙ append-nil (without key h.groups));
     }
 
--- the group that came stands in the body after those that were read
+-- the group that came is in the body after those that were read
 pub group-whole : {e : Encoding} {body : List ℕ} {groups : List (List HeldLine)} {s t : GroupReader} {group : Group} → is_editable e ≡ true
     → HasRead e body groups s → (k : TakesGroup body s group t)
     → body ≡ groups_bytes groups ++ (group_bytes k.held ++ groups_bytes (groups_left body t))

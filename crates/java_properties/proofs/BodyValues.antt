@@ -24,7 +24,7 @@ use Rattle.properties_format.specs.Body.{HeldLine, as_lines, held_in, ending_byt
 use Rattle.properties_format.specs.Edited.{is_editable}
 use Rattle.properties_format.specs.Reading.Cut.{decoded_line}
 use Rattle.properties_format.specs.Reading.Body.{held_of, held_lines_of, held_groups_of}
-use Rattle.properties_format.specs.Reading.Valued.{added_by, without_indent, front_in, front_of}
+use Rattle.properties_format.specs.Reading.Valued.{added_by, without_indent, front_in, front_of, last_between}
 use Rattle.properties_format.proofs.Body.Groups.{held_groups_of-meets, held_of-only}
 use Rattle.properties_format.proofs.Cut.Only.{cut_of-only}
 use Rattle.properties_format.proofs.Valued.Fronts.{AreDecoded, indented, joined_by, open_backslash, shut-whole, split-longer}
@@ -38,7 +38,7 @@ use Rattle.properties_lines.specs.Scanner.{bytes_of}
 use Rattle.properties_lines.specs.declared.scanner.RawLine.{RawLine}
 use Rattle.java_properties.specs.BodyGroups.{IsWithin, TakesLine}
 use Rattle.properties_format.specs.Printing.{encoded_text}
-use Rattle.properties_format.specs.Valued.{value_text, separator_after}
+use Rattle.properties_format.specs.Valued.{value_text}
 use Rattle.properties_format.specs.Body.{group_bytes, last_ending}
 use Rattle.properties_format.specs.Reading.Items.{outcome_of}
 use Rattle.properties_format.specs.Reading.Slots.{unended_bytes}
@@ -50,7 +50,7 @@ use Rattle.properties_format.proofs.Valued.Fronts.{front_of-meets}
 use Rattle.properties_format.proofs.Valued.Read.{front-unended}
 use Rattle.properties_format.proofs.Valued.Walks.{front-within}
 use Rattle.java_properties.specs.BodyGroups.{text_of}
-use Rattle.java_properties.specs.BodyValues.{IsBeforeValue, IsFrontSize, IsPairAlone, IsNewValue, IsSeparated, IsSeparatorLike, revalued_in}
+use Rattle.java_properties.specs.BodyValues.{IsBeforeValue, IsFrontSize, IsPairAlone, IsNewValue, IsGroupAlone, revalued_in}
 use Rattle.java_properties.specs.declared.edit.value.NewValue.{NewValue}
 use Rattle.std.proofs.Common.{take-add}
 use Rattle.std.proofs.lemmas.List.{length-take}
@@ -131,7 +131,7 @@ after-more xs place (suc n) next d all told l some t h k =
           omega arith
     ]
 
--- the place where no byte is left, or none is sought
+-- the place where no byte is left, or none is searched for
 pub after-none : (d : List ℕ) → after_ascii 0 d ≡ 0
 after-none d = refl
 
@@ -518,7 +518,7 @@ pub value-new : {e : Encoding} {body : List ℕ} {group : Group} {s : GroupReade
     → line ≡ text_of body s group → IsFirstGroup e body group s → (a : IsPairAlone e body) → IsBetweenAt line span
     → false ≡ is_pair_to value (outcome_of (chars line)) → IsFrontSize e body size → separator ≡ bytes_in line span
     → bytes ≡ encoded_text e (value_text e (chars separator) value)
-    → IsNewValue e body value (record { front = size; bytes = bytes })
+    → IsNewValue e body value (record { front_size = size; bytes = bytes })
 value-new {e} {body} {group} {s} value line separator bytes size span ok is f a at other front cut printed =
     let x = joined (as_lines a.group) in
     let same : chars line ≡ x = ap chars is ∙ f.text ∙ ap (λ g. joined (as_lines g)) (same-group f a) in
@@ -537,36 +537,24 @@ value-new {e} {body} {group} {s} value line separator bytes size span ok is f a 
 
 -- ---- a separator
 
--- the separator like that of a pair by itself
-pub separator-like : {e : Encoding} {body : List ℕ} {group : Group} {s : GroupReader} (key line cut separator : List ℕ) (span : Span) → line ≡ text_of body s group
-    → IsFirstGroup e body group s → IsSeparated e body → IsBetweenAt line span → cut ≡ bytes_in line span → separator ≡ separator_after key (chars cut)
-    → IsSeparatorLike e body key separator
-separator-like {e} {body} {group} {s} key line cut separator span is f a at same like =
-    let one : f.held ≡ a.group = let q = sym f.groups ∙ a.is_group in cc in
-    let text : chars line ≡ joined (as_lines a.group) = ap chars is ∙ f.text ∙ ap (λ g. joined (as_lines g)) one in
-    let m = line-pair line (joined (as_lines a.group)) span text at in
-    record { group = a.group; is_group = a.is_group; is_like = like ∙ ap (separator_after key) (ap chars same ∙ sym m.1) }
-
--- A pair by itself is separated.
-pub separated-some : {e : Encoding} {body : List ℕ} {group : Group} {s : GroupReader} (line : List ℕ) → line ≡ text_of body s group → IsFirstGroup e body group s → IsSeparated e body
-    → between_if_pair (split_of (chars line)) (chars line) ≡ None → ⊥
-separated-some line is f a none =
-    let one : f.held ≡ a.group = let q = sym f.groups ∙ a.is_group in cc in
-    let text : chars line ≡ joined (as_lines a.group) = ap chars is ∙ f.text ∙ ap (λ g. joined (as_lines g)) one in
-    let told = a.of_pair in
-    let lacks = subst (λ x. between_if_pair (split_of x) x ≡ None) text none in
-    absurd (cc)
+-- what separates key and value in a group by itself
+pub alone-between : {e : Encoding} {body : List ℕ} {group : Group} {s : GroupReader} (line : List ℕ) → line ≡ text_of body s group → IsFirstGroup e body group s
+    → IsGroupAlone e body → last_between (held_groups_of e body) ≡ between_if_pair (split_of (chars line)) (chars line)
+alone-between line is f a =
+    let one : f.held ≡ a.0 = let q = sym f.groups ∙ a.1 in cc in
+    let text : chars line ≡ joined (as_lines a.0) = ap chars is ∙ f.text ∙ ap (λ g. joined (as_lines g)) one in
+    ap last_between a.1 ∙ ap (λ x. between_if_pair (split_of x) x) (sym text)
 
 -- A source with a value for a pair, from what stays of the pair and what follows it.
 pub revalued-made : (e : Encoding) (source : List ℕ) (start end : ℕ) (value bytes : List ℕ) (new : NewValue) (n : IsNewValue e (take (end - start) (drop start source)) value new)
-    → bytes ≡ take (start + new.front) source ++ (new.bytes ++ drop end source) → bytes ≡ revalued_in e source start end value n.group
+    → bytes ≡ take (start + new.front_size) source ++ (new.bytes ++ drop end source) → bytes ≡ revalued_in e source start end value n.group
 revalued-made e source start end value bytes new n made =
     let part = drop start source in
     let within = n.within in
     let sized : length (take (end - start) part) ≤ end - start = length-take-most (end - start) part in
-    let short : take new.front part ≡ front_of e n.group =
-    sym (take-take new.front (end - start) part (omega arith)) ∙ n.front in
-    let front : take (start + new.front) source ≡ take start source ++ front_of e n.group = take-add start new.front source ∙ ap (λ v. take start source ++ v) short in
+    let short : take new.front_size part ≡ front_of e n.group =
+    sym (take-take new.front_size (end - start) part (omega arith)) ∙ n.front in
+    let front : take (start + new.front_size) source ≡ take start source ++ front_of e n.group = take-add start new.front_size source ∙ ap (λ v. take start source ++ v) short in
     made
     ∙ ap₂ (λ v w. v ++ (w ++ drop end source)) front n.bytes_are
     ∙ append_assoc (take start source) (front_of e n.group) (encoded_text e (value_text e (between_of n.group) value) ++ drop end source)

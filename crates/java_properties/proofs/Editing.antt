@@ -1,35 +1,28 @@
 -- What an edit of a source comes to.
-use Rattle.std.proofs.Common.{◌≡◌, ◌==◌, ℕ, ◌+◌, ◌-◌, ◌≤◌, List, [], ◌∷◌, ◌++◌, All, length, take, drop, refl, ap, ap₂, sym, ◌∙◌, subst, inl, inr, append-nil, append_assoc, length-append, length-drop, arith}
+use Rattle.std.proofs.Common.{◌≡◌, ◌==◌, ℕ, ◌+◌, ◌-◌, ◌≤◌, List, [], ◌∷◌, ◌++◌, All, length, take, drop, refl, ap, ap₂, sym, ◌∙◌, subst, inl, inr, append-nil, append_assoc, length-append, length-drop, arith, lit<, take-add, ◌<◌, get_or}
 use Rattle.std.specs.Str.{chars, IsUtf8}
 use Rattle.std.proofs.lemmas.Str.{scalars-chars}
 use Rattle.properties_text.proofs.Printing.Keys.{scalars-all}
-use Rattle.std.specs.Prelude.{Bool, true, false, if◌then◌else◌, Some, None}
+use Rattle.std.specs.Prelude.{Bool, true, false, if◌then◌else◌, Some, None, Result, Err, IsErrAnd, not, ◌&&◌, unwrap_or}
 use Rattle.std.proofs.Math.Seq.{drop-append_seam}
-use Rattle.std.proofs.lemmas.List.{length-take-le, drop-drop}
+use Rattle.std.proofs.lemmas.List.{length-take-le, drop-drop, take_rest, take_more, map-append}
+use Rattle.std.proofs.lemmas.Result.{err_from_is_err_and}
 use Rattle.std.proofs.lemmas.Bool.{cases_Bool, cond-true}
 use Rattle.properties_format.proofs.Encodings.ByteOrderMarks.{byte_order_mark-none}
 use Rattle.properties_text.specs.Decoding as text
-use Rattle.std.specs.Prelude.{not}
-use Rattle.std.proofs.Common.{lit<, take-add}
-use Rattle.std.specs.Prelude.{◌&&◌, unwrap_or}
 use Rattle.properties_format.specs.Text.{scalar, line_feed, equals_sign}
 use Rattle.properties_format.specs.Printing.{in_key_or_value, printed_key, printed_characters, encoded_text}
 use Rattle.properties_format.proofs.Printing.Characters.{encoded-ascii, encoded_text-append}
-use Rattle.properties_text.specs.Encoding.{output_of}
-use Rattle.properties_text.specs.Printing.{key_bytes, text_bytes}
-use Rattle.properties_text.specs.declared.encoding.encode.OutputEncoding.{OutputEncoding}
-use Rattle.properties_text.specs.declared.print.Repertoire.{Repertoire}
-use Rattle.properties_text.specs.declared.print.Place.TheVariants.{KeyOrValue}
 use Rattle.properties_format.specs.Encoding.{Encoding, windows_1252, utf_8, utf_16le, utf_16be, InForce, byte_order_mark, begins_with, begins_like_bom, utf_8_bom, utf_16be_bom, utf_16le_bom, output_encoding}
 use Rattle.properties_format.specs.Laws.{SplittingCommutes}
 use Rattle.properties_format.proofs.Laws.{splitting-commutes}
 use Rattle.properties_format.specs.Lines.{end}
 use Rattle.properties_format.specs.Writing.{is_empty}
 use Rattle.properties_format.specs.Body.{ending_bytes, groups_bytes, last_ending}
-use Rattle.properties_format.specs.Edited.{bom_of, pair_bytes, separation, added_ending, is_editable, EditResult, edited, unsupported, IsSetKeyResult, IsRemoveKeyResult}
+use Rattle.properties_format.specs.Edited.{bom_of, pair_bytes, separation, added_ending, is_editable, edited, unsupported, IsEditResult, IsSetKeyResult, IsRemoveKeyResult}
 use Rattle.properties_format.specs.Reading.Items.{items_of}
 use Rattle.properties_format.specs.Reading.Body.{held_groups_of, entries_in}
-use Rattle.properties_format.specs.Reading.Slots.{unended_bytes}
+use Rattle.properties_format.specs.Reading.Slots.{unended_bytes, slots_bytes, slots_of}
 use Rattle.properties_format.specs.Reading.Edited.{AreSound, without, key_removed, key_removed_in, result_by, result_of, key_set, key_set_in, set_at, set_key_result, remove_key_result, KeyPlace, last_place}
 use Rattle.properties_format.proofs.Body.Groups.{groups_bytes-append, held_groups_of-meets, held-body}
 use Rattle.properties_format.proofs.Body.Numbers.{items_of-groups}
@@ -37,35 +30,27 @@ use Rattle.properties_format.proofs.Edited.ByteOrderMarks.{source-whole}
 use Rattle.properties_format.proofs.Edited.Results.{set_key_result-meets, set_key_result-only, remove_key_result-meets, remove_key_result-only}
 use Rattle.properties_format.proofs.Edited.Steps.{result-after}
 use Rattle.properties_format.proofs.Slots.Lines.{bytes-unended}
-use Rattle.properties_format.proofs.Changed.Read.{set_key-reads, remove_key-reads}
+use Rattle.properties_format.proofs.Changed.Read.{set_key-reads, remove_key-reads, readable}
 use Rattle.properties_format.proofs.Edits.Read.{edit_all-reads}
 use Rattle.properties_format.specs.Edits.{Edit, AreScalarEdits, IsEditAllResult}
-use Rattle.properties_format.specs.Reading.Edits.{edit_all_result}
-use Rattle.properties_format.proofs.Edits.Results.{edit_all_result-meets, edit_all_result-only}
+use Rattle.properties_format.specs.Reading.Edits.{edit_all_result, edits_made}
+use Rattle.properties_format.proofs.Edits.Results.{edit_all_result-meets, edit_all_result-only, edits_made-meets}
 use Rattle.java_properties.proofs.ReadBack.Scalars.{string-scalars}
-use Rattle.std.proofs.Common.{◌<◌, get_or}
-use Rattle.std.proofs.lemmas.List.{take_more, map-append}
 use Rattle.java_properties.specs.declared.edit.Edit as edit
 use Rattle.java_properties.specs.declared.edit.Edit.TheVariants as variant
-use Rattle.properties_format.specs.Reading.Slots.{slots_bytes, slots_of}
 use Rattle.properties_format.specs.Reading.EditedSlots.{slots_edited, source_slots, slots_after, slots_made}
 use Rattle.properties_format.proofs.Slots.Edits.{edit_all_result-slots, slots_after-push}
 use Rattle.properties_format.proofs.Slots.WellEnded.{slots_after-well_ended}
 use Rattle.properties_format.specs.Reading.ValuedSlots.{AreReadAgain}
 use Rattle.properties_format.proofs.Slots.ValuedBody.{slots_after-read_again}
-use Rattle.java_properties.specs.Editing.{edit_in, edits_in, AreMade}
+use Rattle.java_properties.specs.Editing.{edit_in, edits_in, AreMade, IsRefusal, IsSet, IsRemoved}
 use Rattle.properties_format.proofs.Edits.Contents.{edits-contents}
-use Rattle.properties_format.proofs.Changed.Read.{readable}
-use Rattle.properties_format.proofs.Edits.Results.{edits_made-meets}
-use Rattle.properties_format.specs.Reading.Edits.{edits_made}
 use Rattle.java_properties.proofs.BodySlots.SoundSlots.{slots_after-contents}
-use Rattle.java_properties.specs.BodySlots.{HaveContents}
-use Rattle.java_properties.specs.BodySlots.{Holds, HoldsIn, ReadsIn, Changes}
+use Rattle.java_properties.specs.BodySlots.{HaveContents, Holds, HoldsIn, ReadsIn, Changes}
 use Rattle.java_properties.specs.declared.edit.slots.Slots.{Slots}
 use Rattle.properties_format.proofs.Changed.Occur.{key_set-keeps, key_removed-keeps}
 use Rattle.properties_text.specs.Encoding.{encoding_of}
 use Rattle.java_properties.specs.BodyKeys.{IsErrorOfGroups, IsPlaceOf, IsPlace, IsKeyFound, AreOthersFound, left_bytes, closing_bytes}
-use Rattle.java_properties.specs.Editing.{IsRefusal, IsSet, IsRemoved}
 use Rattle.java_properties.specs.Sources.{IsInForce}
 use Rattle.java_properties.proofs.BodyGroups.{front-of, no-bytes}
 use Rattle.java_properties.specs.declared.edit.place.BodySpan.{BodySpan}
@@ -75,7 +60,7 @@ use Rattle.java_properties.specs.declared.error.PropertiesError.{PropertiesError
 
 -- ---- a source that is open
 
--- its byte order mark stands before its body
+-- its byte order mark comes before its body
 pub bom-front : {source : List ℕ} {e : Encoding} {opened : BodyStart} → IsInForce source e opened → bom_of source ≡ take opened.start source
 bom-front {source} {e} {opened} h =
     let body = drop opened.start source in
@@ -107,13 +92,18 @@ not-unsupported : {e : Encoding} {source : List ℕ} {opened : BodyStart} → Is
     → is_editable (byte_order_mark e source).encoding ≡ false → ⊥
 not-unsupported h ok none = let yes = ap (λ v. let w : InForce = v in is_editable w.encoding) h.in_force ∙ ok in absurd (cc)
 
--- the first fault of its groups is the refusal of a source
-pub refusal : {source : List ℕ} {e : Encoding} {opened : BodyStart} {error : PropertiesError} (IsMeant : EditResult → Type 0) (made : List ℕ)
-    → IsInForce source e opened → is_editable (encoding_of opened.encoding) ≡ true
-    → IsMeant (result_of e source made) → (IsMeant unsupported → is_editable (byte_order_mark e source).encoding ≡ false)
-    → IsErrorOfGroups (held_groups_of (encoding_of opened.encoding) (drop opened.start source)) error → IsRefusal IsMeant error
-refusal IsMeant made h ok meets only (inl (how, n, first, is)) = inr (inl (how, n, subst IsMeant (groups-of made h ok ∙ first made) meets, is))
-refusal IsMeant made h ok meets only (inr is) = inr (inr ((λ none. not-unsupported h ok (only none)), is))
+-- The first fault of the groups is the refusal of their source, and what a `?` returns.
+pub refusal : {A : Type 0} {source : List ℕ} {e : Encoding} {opened : BodyStart} {error : PropertiesError} (result : Result A PropertiesError) (Makes : List ℕ → Type 0) (made : List ℕ)
+    → IsInForce source e opened → is_editable (encoding_of opened.encoding) ≡ true → IsEditResult e source Makes (result_of e source made)
+    → IsErrorOfGroups (held_groups_of (encoding_of opened.encoding) (take (length source - opened.start) (drop opened.start source))) error
+    → IsErrAnd result (λ x. x ≡ error) → (x : PropertiesError) × (result ≡ Err x) × IsRefusal (IsEditResult e source Makes) x
+refusal {source = source} {e} {opened} result Makes made h ok meets fault returned =
+    let r = err_from_is_err_and result returned in
+    (r.0, r.1, subst (IsRefusal (IsEditResult e source Makes)) (sym r.2) (by (rw (take_rest source opened.start) at fault)))
+  where
+    by : {error : PropertiesError} → IsErrorOfGroups (held_groups_of (encoding_of opened.encoding) (drop opened.start source)) error → IsRefusal (IsEditResult e source Makes) error
+    by (inl (how, n, first, is)) = inr (inl (how, n, subst (IsEditResult e source Makes) (groups-of made h ok ∙ first made) meets, is))
+    by (inr is) = inr (inr ((λ none. not-unsupported h ok none), is))
 
 -- ---- a key is set
 
@@ -139,30 +129,18 @@ output-same utf_16be h = absurd (cc)
 
 -- ---- the printed pair
 
--- its key, the separator and its value, one after the other
-pub pair-parts : (output : OutputEncoding) (first : Bool) (key value : List ℕ)
-    → let r : Repertoire = record { encoding = output; ascii_only = false } in
-    pair_bytes (output_of output) first key value ≡ key_bytes r first key ++ (equals_sign ∷ text_bytes r KeyOrValue value)
-pair-parts output first key value =
-    let e = output_of output in
+-- it is appended part by part
+pub pair-appended : (e : Encoding) (first : Bool) (key value start keyed separated all : List ℕ)
+    → keyed ≡ start ++ encoded_text e (printed_key e false first key) → separated ≡ keyed ++ equals_sign ∷ []
+    → all ≡ separated ++ encoded_text e (printed_characters e false in_key_or_value value) → all ≡ start ++ pair_bytes e first key value
+pair-appended e first key value start keyed separated all h k m =
     let front = printed_key e false first key in
     let back = printed_characters e false in_key_or_value value in
-    encoded_text-append e front (equals_sign ∷ back)
-    ∙ ap (λ o. encoded_text e front ++ (unwrap_or o [] ++ encoded_text e back)) (encoded-ascii e equals_sign (lit< tt))
-
--- it is appended part by part
-pub pair-appended : (output : OutputEncoding) (first : Bool) (key value start keyed separated all : List ℕ)
-    → let r : Repertoire = record { encoding = output; ascii_only = false } in
-    keyed ≡ start ++ key_bytes r first key → separated ≡ keyed ++ equals_sign ∷ [] → all ≡ separated ++ text_bytes r KeyOrValue value
-    → all ≡ start ++ pair_bytes (output_of output) first key value
-pair-appended output first key value start keyed separated all h k m =
-    let r : Repertoire = record { encoding = output; ascii_only = false } in
-    let front = key_bytes r first key in
-    let back = text_bytes r KeyOrValue value in
-    m ∙ ap (λ v. v ++ back) (k ∙ ap (λ v. v ++ equals_sign ∷ []) h)
-    ∙ append_assoc (start ++ front) (equals_sign ∷ []) back
-    ∙ append_assoc start front (equals_sign ∷ back)
-    ∙ ap (λ v. start ++ v) (sym (pair-parts output first key value))
+    m ∙ ap (λ v. v ++ encoded_text e back) (k ∙ ap (λ v. v ++ equals_sign ∷ []) h)
+    ∙ append_assoc (start ++ encoded_text e front) (equals_sign ∷ []) (encoded_text e back)
+    ∙ append_assoc start (encoded_text e front) (equals_sign ∷ encoded_text e back)
+    ∙ ap (λ v. start ++ v) (sym (encoded_text-append e front (equals_sign ∷ back)
+    ∙ ap (λ o. encoded_text e front ++ (unwrap_or o [] ++ encoded_text e back)) (encoded-ascii e equals_sign (lit< tt))))
 
 -- ---- whether it is the first
 
@@ -182,7 +160,7 @@ appended e f source separation all first other key value start paired ended none
 
 -- ---- a pair is replaced
 
--- what stands before the last pair, and what after it
+-- what comes before the last pair, and what after it
 pub record IsSplitAt (body : List ℕ) (k : KeyPlace) (pair : BodySpan) : Type 0 where
   pub front : take pair.start body ≡ groups_bytes k.before
   pub back : drop pair.end body ≡ ending_bytes (last_ending k.group) ++ groups_bytes k.after
@@ -291,7 +269,7 @@ appended-result {source} {e} {opened} {found} key value bytes h ok k none made =
 pub splitting : (e : Encoding) (source : List ℕ) → SplittingCommutes e source
 splitting e source = splitting-commutes e source
 
--- a pair of a body stands within the source
+-- a pair of a body is within the source
 pub span-within : {source : List ℕ} {e : Encoding} {opened : BodyStart} {found : place.KeyPlace} {key : List ℕ} (pair : BodySpan) → IsInForce source e opened
     → is_editable (encoding_of opened.encoding) ≡ true → IsKeyFound (encoding_of opened.encoding) (drop opened.start source) key found → found.pair ≡ Some pair
     → opened.start + pair.end ≤ length source
@@ -423,7 +401,7 @@ pub slots-none : {source : List ℕ} {e : Encoding} {opened : BodyStart} (slots 
 slots-none {source} {e} {opened} slots h holds =
     subst (Holds (drop opened.start source) slots) (sym (ap (λ v. let w : InForce = v in slots_of (held_groups_of w.encoding w.body)) h.in_force)) holds
 
--- after any they hold what stands of it,
+-- after any they hold what is left of it,
 pub slots-held : {source : List ℕ} {e : Encoding} {opened : BodyStart} (body : List ℕ) (slots : Slots) (edits : List Edit) → IsInForce source e opened
     → is_editable (encoding_of opened.encoding) ≡ true → AreScalarEdits edits → Holds body slots (slots_after e source edits) → HoldsIn body slots
 slots-held {source} {e} {opened} body slots edits h ok scalar holds =

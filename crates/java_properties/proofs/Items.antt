@@ -7,34 +7,35 @@ use Rattle.std.proofs.lemmas.Str.{chars-nil}
 use Rattle.properties_format.specs.Split as split
 use Rattle.properties_format.specs.Split.{IsSplit}
 use Rattle.properties_format.specs.Escapes.{Means}
-use Rattle.properties_format.specs.Entries.{Content, Entry, item, comment, pair}
+use Rattle.properties_format.specs.Entries.{Content, Entry, item, comment, pair, malformed}
 use Rattle.properties_format.specs.Items.{ignored, given, broken}
 use Rattle.properties_format.specs.Reading.Items.{outcome_of}
-use Rattle.properties_format.specs.Entries.{malformed}
 use Rattle.properties_format.proofs.Items.Unique.{outcome_of-only}
 use Rattle.properties_format.proofs.Items.Outcomes.{followed-ignored, followed-given, followed-broken}
 use Rattle.counted_io.specs.Streams.{Reader, HasRead}
 use Rattle.counted_io.proofs.Streams.{read-none, read-more, failed-more}
-use Rattle.properties_format.specs.Lines.{InputEnd, end, fault, more}
+use Rattle.properties_format.specs.Lines.{Line, InputEnd, end, fault, more}
 use Rattle.properties_format.specs.ItemsToCome.{ReaderState}
 use Rattle.properties_format.specs.Reading.ItemsToCome.{items_to_come}
 use Rattle.properties_format.proofs.ItemsToCome.Unique.{items_to_come-done}
 use Rattle.properties_text.specs.Escaping.{malformed_in, IsRefused}
 use Rattle.properties_text.specs.declared.escape.UnescapeError.{UnescapeError}
 use Rattle.properties_text.specs.declared.escape.UnescapeError.TheVariants as unescape
-use Rattle.java_properties.specs.Errors.{IsBareError, IsUnresolved, IsUnresolvedError, IsLineError}
-use Rattle.java_properties.specs.BorrowedItems.{found_content, spans_of, AreTextsIn, IsFoundIn, FindsItem, FindsPlain}
+use Rattle.java_properties.specs.Errors.{IsBareError, IsUnresolved, IsUnresolvedError}
+use Rattle.java_properties.specs.BorrowedItems.{found_content, found_entry, spans_of, AreTextsIn, IsFoundIn}
 use Rattle.properties_lines.specs.LineReader.{PassesSome}
 use Rattle.properties_lines.proofs.LineJoiner.{some-start, some-on, all-on}
-use Rattle.properties_lines.specs.LineJoiner.{IsLazyItems, JoinsError, JoinsNext, Comes, Joiner, numbered_line}
-use Rattle.properties_lines.specs.declared.error.LineError.{LineError}
+use Rattle.properties_lines.specs.LineJoiner.{IsLazyItems, JoinsError, JoinsLine, Comes, Joiner}
+use Rattle.properties_lines.specs.declared.error.LineError.TheVariants as why
 use Rattle.properties_text.specs.Parsing.{spanned, in_characters}
-use Rattle.java_properties.specs.GivenItems.{IsNoItem, Gives, BreaksOff, GivesEntry, GivesNone, GivesMalformed, GivesError}
+use Rattle.java_properties.specs.GivenItems.{FindsItem, FindsPlain, GivesItem, IsNoItem, Owns, Gives, BreaksOff, GivesEntry, GivesNone, GivesMalformed, GivesError}
 use Rattle.java_properties.specs.declared.error.ErrorKind.TheVariants.{Memory}
 use Rattle.java_properties.specs.declared.iter.found.Found.{Found}
 use Rattle.java_properties.specs.declared.iter.found.FoundContent.{FoundContent}
 use Rattle.java_properties.specs.declared.iter.found.FoundContent.TheVariants as found
 use Rattle.java_properties.specs.declared.error.PropertiesError.{PropertiesError}
+use Rattle.java_properties.specs.declared.line.Line as line
+use Rattle.java_properties.specs.PropertiesIter.{entry_of}
 
 -- ---- a logical line
 
@@ -143,9 +144,9 @@ module _ {R : Type 0} {reader : Reader R} where
   passed-after {s} {r = r} h g q d ending = ap (λ v. items_to_come s v ending) (append_assoc r q d) ∙ passed-on h g (q ++ d) ending
 
   -- an item came
-  pub gives-item : {s t : ReaderState} {from to next : R} {r : List ℕ} (number : ℕ) (new : Joiner) (content : Content) → Passed reader s from r t to
-      → JoinsNext reader t to number new next → outcome_of (chars new.line) ≡ given content → GivesEntry reader s from (item number content) new.state next
-  gives-item {s} {t} {r = r} number new content h n o = record {
+  pub gives-item : {s t : ReaderState} {from to next : R} {r : List ℕ} (line : Line) (new : ReaderState) (content : Content) → Passed reader s from r t to
+      → JoinsLine reader t to line new next → outcome_of line.text ≡ given content → GivesEntry reader s from (item line.number content) new next
+  gives-item {s} {t} {r = r} line new content h n o = record {
     bytes = r ++ n.bytes;
     read = read-more h.read n.read;
     live = passed-live h n.live;
@@ -155,17 +156,17 @@ module _ {R : Type 0} {reader : Reader R} where
     lazy = passed-lazy h n.live n.lazy;
   }
     where
-      by-comes : Comes t n.bytes (numbered_line number new) new.state → Gives s (r ++ n.bytes) (item number content) new.state
+      by-comes : Comes t n.bytes line new → Gives s (r ++ n.bytes) (item line.number content) new
       by-comes (Comes.going_on k logical) = Gives.going_on k (record {
         items = λ d ending.
-            passed-after h n.live n.bytes d ending ∙ logical.items d ending ∙ followed-given number (chars new.line) content (items_to_come new.state d ending) o;
+            passed-after h n.live n.bytes d ending ∙ logical.items d ending ∙ followed-given line.number line.text content (items_to_come new d ending) o;
       })
-      by-comes (Comes.at_last k items) = Gives.at_last k (passed-on h n.live n.bytes end ∙ items ∙ followed-given number (chars new.line) content [] o)
+      by-comes (Comes.at_last k items) = Gives.at_last k (passed-on h n.live n.bytes end ∙ items ∙ followed-given line.number line.text content [] o)
 
   -- a blank line came
-  pub passed-blank : {s t : ReaderState} {from to next : R} {r : List ℕ} (number : ℕ) (new : Joiner) → Passed reader s from r t to
-      → (n : JoinsNext reader t to number new next) → outcome_of (chars new.line) ≡ ignored → Passed reader s from (r ++ n.bytes) new.state next
-  passed-blank {s} {t} {next = next} {r = r} number new h n o = record {
+  pub passed-blank : {s t : ReaderState} {from to next : R} {r : List ℕ} (line : Line) (new : ReaderState) → Passed reader s from r t to
+      → (n : JoinsLine reader t to line new next) → outcome_of line.text ≡ ignored → Passed reader s from (r ++ n.bytes) new next
+  passed-blank {s} {t} {next = next} {r = r} line new h n o = record {
     read = read-more h.read n.read;
     live = λ e. let l = passed-live h n.live in absurd (cc);
     items = by-comes n.comes;
@@ -173,63 +174,52 @@ module _ {R : Type 0} {reader : Reader R} where
     lazy = passed-lazy h n.live n.lazy;
   }
     where
-      by-comes : Comes t n.bytes (numbered_line number new) new.state
-          → (new.state.is_done ≡ false) × ((d : List ℕ) (ending : InputEnd) → items_to_come s ((r ++ n.bytes) ++ d) ending ≡ items_to_come new.state d ending)
-          ⊎ (new.state.is_done ≡ true) × (items_to_come s (r ++ n.bytes) end ≡ []) × ((s.is_done ≡ true) ⊎ (reader.at_end next ≡ true))
+      by-comes : Comes t n.bytes line new
+          → (new.is_done ≡ false) × ((d : List ℕ) (ending : InputEnd) → items_to_come s ((r ++ n.bytes) ++ d) ending ≡ items_to_come new d ending)
+          ⊎ (new.is_done ≡ true) × (items_to_come s (r ++ n.bytes) end ≡ []) × ((s.is_done ≡ true) ⊎ (reader.at_end next ≡ true))
       by-comes (Comes.going_on k logical) = inl (
         k,
         λ d ending.
-            passed-after h n.live n.bytes d ending ∙ logical.items d ending ∙ followed-ignored number (chars new.line) (items_to_come new.state d ending) o,
+            passed-after h n.live n.bytes d ending ∙ logical.items d ending ∙ followed-ignored line.number line.text (items_to_come new d ending) o,
       )
       by-comes (Comes.at_last k items) =
-          inr (k, passed-on h n.live n.bytes end ∙ items ∙ followed-ignored number (chars new.line) [] o, inr (n.ended k))
-
-  -- why no line could be read
-  pub tells-error : {s u : ReaderState} {from to : R} {why : LineError} {e : PropertiesError} → JoinsError reader s from why u to → IsLineError why e → GivesError reader s from e to
-  tells-error {e = e} (inl f) says = inl (record {
-    bytes = f.bytes;
-    error = f.error;
-    number = f.number;
-    failed = f.failed;
-    is = subst (λ v. IsLineError v e) f.is says;
-    items = f.items;
-    lazy = f.lazy;
-  })
-  tells-error {e = e} (inr (inl f)) says =
-      inr (inl (record { bytes = f.bytes; read = f.read; passes = f.passes; is = subst (λ v. IsLineError v e) f.is says; lazy = f.lazy }))
-  tells-error {e = e} (inr (inr f)) says = inr (inr (record { bytes = f.bytes; read = f.read; is = subst (λ v. IsLineError v e) f.is says; lazy = f.lazy }))
+          inr (k, passed-on h n.live n.bytes end ∙ items ∙ followed-ignored line.number line.text [] o, inr (n.ended k))
 
   -- a line could not be read
   pub passed-error : {s t : ReaderState} {from to next : R} {r : List ℕ} {e : PropertiesError} → Passed reader s from r t to → t.is_done ≡ false
       → GivesError reader t to e next → (s.is_done ≡ false) × GivesError reader s from e next
-  passed-error {r = r} h g (inl f) = (
-    passed-live h g,
-    inl (record {
-      bytes = r ++ f.bytes;
-      error = f.error;
-      number = f.number;
-      failed = failed-more h.read f.failed;
-      is = f.is;
-      items = passed-on h g f.bytes fault ∙ f.items;
-      lazy = elim h.lazy [ inl e ↦ passed-more h g e.1 f.lazy | inr e ↦ e ];
-    }),
-  )
-  passed-error {r = r} h g (inr (inl f)) =
-      (passed-live h g, inr (inl (record { bytes = r ++ f.bytes; read = read-more h.read f.read; passes = all-on (h.passes g) f.passes; is = f.is; lazy = passed-lazy h g f.lazy })))
-  passed-error {r = r} h g (inr (inr f)) =
-      (passed-live h g, inr (inr (record { bytes = r ++ f.bytes; read = read-more h.read f.read; is = f.is; lazy = passed-lazy h g f.lazy })))
+  passed-error {s} {t} {from} {to} {next} {r} h g n = (passed-live h g, record { why = n.why; last = n.last; joins = by n.joins; is = n.is })
+    where
+      by : JoinsError reader t to n.why n.last next → JoinsError reader s from n.why n.last next
+      by (inl f) = inl (record {
+        bytes = r ++ f.bytes;
+        error = f.error;
+        number = f.number;
+        failed = failed-more h.read f.failed;
+        is = f.is;
+        items = passed-on h g f.bytes fault ∙ f.items;
+        lazy = elim h.lazy [ inl e ↦ passed-more h g e.1 f.lazy | inr e ↦ e ];
+      })
+      by (inr (inl f)) =
+          inr (inl (record { bytes = r ++ f.bytes; read = read-more h.read f.read; passes = all-on (h.passes g) f.passes; is = f.is; lazy = passed-lazy h g f.lazy }))
+      by (inr (inr f)) = inr (inr (record { bytes = r ++ f.bytes; read = read-more h.read f.read; is = f.is; lazy = passed-lazy h g f.lazy }))
+
+  -- there was no memory
+  no-room : {s : ReaderState} {from to : R} {e : PropertiesError} (bytes : List ℕ) → HasRead reader from bytes to → IsLazyItems s from bytes to → IsBareError Memory e
+      → GivesError reader s from e to
+  no-room {s} bytes h lazy is =
+      record { why = why.Memory; last = s; joins = inr (inr (record { bytes = bytes; read = h; is = refl; lazy = lazy })); is = is }
 
   -- a line gave no item
-  pub passed-no_item : {s t : ReaderState} {from to next : R} {r : List ℕ} {e : PropertiesError} (number : ℕ) (new : Joiner) → Passed reader s from r t to
-      → JoinsNext reader t to number new next → IsNoItem number (chars new.line) e
+  pub passed-no_item : {s t : ReaderState} {from to next : R} {r : List ℕ} {e : PropertiesError} (line : Line) (new : ReaderState) → Passed reader s from r t to
+      → JoinsLine reader t to line new next → IsNoItem line.number line.text e
       → (s.is_done ≡ false) × (GivesMalformed reader s from e next ⊎ GivesError reader s from e next)
-  passed-no_item {r = r} number new h n (inr is) =
-      (passed-live h n.live, inr (inr (inr (record { bytes = r ++ n.bytes; read = read-more h.read n.read; is = is; lazy = passed-lazy h n.live n.lazy }))))
-  passed-no_item {s} {t} {next = next} {r = r} number new h n (inl (kind, o, is)) = (
+  passed-no_item {r = r} line new h n (inr is) = (passed-live h n.live, inr (no-room (r ++ n.bytes) (read-more h.read n.read) (passed-lazy h n.live n.lazy) is))
+  passed-no_item {s} {t} {next = next} {r = r} line new h n (inl (kind, o, is)) = (
     passed-live h n.live,
     inl (record {
       bytes = r ++ n.bytes;
-      number = number;
+      number = line.number;
       kind = kind;
       read = read-more h.read n.read;
       is = is;
@@ -238,10 +228,10 @@ module _ {R : Type 0} {reader : Reader R} where
     }),
   )
     where
-      by-comes : Comes t n.bytes (numbered_line number new) new.state → BreaksOff s (r ++ n.bytes) (malformed kind number) (reader.at_end next)
+      by-comes : Comes t n.bytes line new → BreaksOff s (r ++ n.bytes) (malformed kind line.number) (reader.at_end next)
       by-comes (Comes.going_on k logical) = BreaksOff.before_all (λ d ending.
-          passed-after h n.live n.bytes d ending ∙ logical.items d ending ∙ followed-broken number (chars new.line) kind (items_to_come new.state d ending) o)
-      by-comes (Comes.at_last k items) = BreaksOff.at_last (n.ended k) (passed-on h n.live n.bytes end ∙ items ∙ followed-broken number (chars new.line) kind [] o)
+          passed-after h n.live n.bytes d ending ∙ logical.items d ending ∙ followed-broken line.number line.text kind (items_to_come new d ending) o)
+      by-comes (Comes.at_last k items) = BreaksOff.at_last (n.ended k) (passed-on h n.live n.bytes end ∙ items ∙ followed-broken line.number line.text kind [] o)
 
   -- no line came
   pub passed-none : {s t u : ReaderState} {from to next : R} {r : List ℕ} → Passed reader s from r t to → t.is_done ≡ true → u ≡ t → next ≡ to
@@ -311,7 +301,11 @@ module _ {R : Type 0} {reader : Reader R} where
   passed-finds (Some (Err e)) new next h (live, done, inl n) = (passed-live h live, done, inl (passed-malformed h live n))
   passed-finds (Some (Err e)) new next h (live, done, inr n) = let k = passed-error h live n in (k.0, done, inr k.1)
 
-  -- an item came for which there was no memory
-  pub item-lost : {s t : ReaderState} {from to : R} {entry : Entry} {e : PropertiesError} → GivesEntry reader s from entry t to → IsBareError Memory e
-      → (s.is_done ≡ false) × GivesError reader s from e to
-  item-lost n is = (n.live, inr (inr (record { bytes = n.bytes; read = n.read; is = is; lazy = n.lazy })))
+  -- an item came, and is owned now, or there was no memory for that
+  pub gives-owned : {s : ReaderState} {from to : R} (found : Found) (old new : Joiner) (answer : Result line.Line PropertiesError)
+      → GivesEntry reader s from (found_entry old.line found) old.state to → Owns old found answer new → GivesItem reader s from (Some answer) new.state to
+  gives-owned {s} {from} {to} found old new (Ok line) n k =
+      let P : Entry → Type 0 = λ v. GivesEntry reader s from v old.state to in
+      let Q : Joiner → Type 0 = λ v. GivesEntry reader s from (entry_of line) v.state to in
+      subst Q (sym k.1) (subst P (sym k.0) n)
+  gives-owned found old new (Err e) n k = (n.live, ap (λ v. let w : Joiner = v in w.state.is_done) k.1, inr (no-room n.bytes n.read n.lazy k.0))

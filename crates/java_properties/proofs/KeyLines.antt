@@ -38,11 +38,13 @@ use Rattle.java_properties.specs.declared.error.ErrorKind.TheVariants as kind
 use Rattle.java_properties.specs.declared.error.PropertiesError.{PropertiesError}
 use Rattle.properties_text.specs.declared.escape.Malformed.{Malformed}
 use Rattle.properties_text.specs.declared.escape.UnescapeError.TheVariants as unescape
-use Rattle.java_properties.specs.BorrowedItems.{FindsIn, found_content}
+use Rattle.java_properties.specs.BorrowedItems.{found_content}
+use Rattle.java_properties.specs.GivenItems.{FindsIn}
 use Rattle.java_properties.specs.declared.iter.found.Found as found
 use Rattle.java_properties.proofs.Items.{found-item}
 use Rattle.java_properties.proofs.TextMaps.Values.{at_chars-sorted, at_chars-updated}
-use Rattle.java_properties.specs.KeyLines.{KeyPlace, keys_from, AreKeysIn, AreKeys, HasNoKey, HasFirstNumber, KeyEntry, AreFirstsOf, AreKeyLines, key_line_entry, key_line_entries, FindsAllKeys, number_at, KeepsFirst, AddsKeyLine, AddsIfKey, PushesKey}
+use Rattle.java_properties.specs.KeyLines.{KeyPlace, keys_from, AreKeysIn, AreKeys, HasNoKey, HasFirstNumber, KeyEntry, AreFirstsOf, AreKeyLines, key_line_entry, key_line_entries, FindsAllKeys}
+use Rattle.java_properties.specs.LineByLine.{number_at, KeepsFirst, AddsKeyLine, AddsIfKey, PushesKey}
 use Rattle.java_properties.specs.declared.iter.keys.KeyLine as code
 use Rattle.java_properties.proofs.MalformedEscapes.{Collected, collected-start, collected-next, collected-groups, found-error, found-lost, broken-in}
 
@@ -101,7 +103,7 @@ are_keys-only e bytes keys h =
     ∙ ap (λ v. keys_in (groups_of (numbered_lines v end) end)) (lines_of-only h.text h.lines h.divided)
     ∙ ap (λ v. keys_in (groups_of (numbered_lines (lines_of v) end) end)) (decoded_of-only e bytes h.text h.decoded)
 
--- ---- where a key stands first
+-- ---- where a key comes first
 
 -- the number of the first place with this key
 abbrev pub first_place : List KeyPlace → List ℕ → Option ℕ
@@ -219,7 +221,7 @@ first-push (l ∷ ks) k key = elim (cases_Bool (bytes_eq l.key key)) [
   | inr other ↦ rw other (first-push ks k key)
 ]
 
--- where it stands first
+-- where it comes first
 pub first-added : (ks : List KeyPlace) (k : KeyPlace) (key : List ℕ)
     → first_place (ks ++ k ∷ []) key ≡ update bytes_eq (first_place ks) k.key (Some (unwrap_or (first_place ks k.key) k.number)) key
 first-added ks k key = first-push ks k key ∙ elim (cases_Bool (bytes_eq k.key key)) [ inl same ↦ here same | inr other ↦ there other ]

@@ -30,20 +30,19 @@ use Rattle.java_properties.specs.declared.writer.settings.LineEnding.{LineEnding
 use Rattle.java_properties.specs.declared.writer.settings.LineEnding.TheVariants.{CR, LF}
 use Rattle.properties_text.specs.Parsing.{bytes_in}
 use Rattle.std.proofs.Math.Seq.{take-append_seam, drop-append_seam}
-use Rattle.properties_format.specs.Split.{Logical, blank, comment, pair}
 use Rattle.properties_format.specs.Settings.{IsGoodSeparator}
 use Rattle.properties_format.specs.Body.{ending_bytes, last_ending, AreGroupsOf}
 use Rattle.properties_format.specs.Edited.{is_editable}
 use Rattle.properties_format.specs.Valued.{separator_after}
 use Rattle.properties_format.specs.Reading.Settings.{is_good_separator}
-use Rattle.properties_format.specs.Reading.Valued.{between_in, between_of, separator_by}
+use Rattle.properties_format.specs.Reading.Valued.{separator_by}
 use Rattle.properties_format.proofs.Body.Groups.{held-body, held_groups_of-meets}
 use Rattle.properties_format.proofs.Settings.Tests.{is_good_separator-from}
 use Rattle.properties_format.proofs.Slots.Lines.{bytes-unended}
 use Rattle.properties_format.proofs.Valued.Made.{new_separator-meets}
 use Rattle.properties_format.proofs.Valued.Separators.{new_separator-fit}
-use Rattle.properties_format.proofs.Valued.Unended.{without_ending, unended-groups, unended-joined, unended-between}
-use Rattle.java_properties.specs.BodyValues.{IsLastPairOf, IsSeparated, IsSeparatorLike}
+use Rattle.properties_format.proofs.Valued.Unended.{without_ending, unended-groups, unended-joined}
+use Rattle.java_properties.specs.BodyValues.{IsLastPairOf, IsGroupAlone}
 use Rattle.java_properties.proofs.BodyValues.{middle-of}
 use Rattle.std.specs.Str.{chars}
 use Rattle.properties_format.specs.Encoding.{Encoding}
@@ -284,39 +283,15 @@ pub last-part : (e : Encoding) (body : List ℕ) (span : BodySpan) → is_editab
     → IsPartAt body k.before k.group k.after span.start span.end
 last-part e body span ok k = part-at e body k.before k.group k.after span.start span.end ok k.division k.starts k.ends
 
--- The last pair by itself separates a key and a value.
-pub last-separated : (e : Encoding) (body : List ℕ) (span : BodySpan) → is_editable e ≡ true → (k : IsLastPairOf (held_groups_of e body) span)
-    → IsSeparated e (take (span.end - span.start) (drop span.start body))
-last-separated e body span ok k =
-    let part = last-part e body span ok k in record {
-      group = without_ending k.group;
-      is_group = part-group e body k.before k.group k.after _ ok k.division part.part;
-      between = k.between;
-      of_pair = subst (λ x. between_if_pair (split_of x) x ≡ Some k.between) (sym (unended-joined k.group)) k.of_pair;
-    }
-
-between_if_pair-is : (x b : List ℕ) (s : Logical) → between_if_pair s x ≡ Some b → between_in x ≡ b
-between_if_pair-is x b blank h = absurd (cc)
-between_if_pair-is x b (comment text) h = absurd (cc)
-between_if_pair-is x b (pair key value) h = cc
-
--- The separator like that of the last pair is that of a new pair.
-pub last-separator : (e : Encoding) (body key separator : List ℕ) (span : BodySpan) → is_editable e ≡ true → (k : IsLastPairOf (held_groups_of e body) span)
-    → IsSeparatorLike e (take (span.end - span.start) (drop span.start body)) key separator → separator ≡ separator_by key (last_between (held_groups_of e body))
-last-separator e body key separator span ok k like =
-    let part = last-part e body span ok k in
-    let alone = part-group e body k.before k.group k.after _ ok k.division part.part in
-    let same : like.group ≡ without_ending k.group = let q = sym like.is_group ∙ alone in cc in
-    let between : between_of like.group ≡ k.between =
-    ap between_of same ∙ unended-between k.group ∙ between_if_pair-is (joined (as_lines k.group)) k.between (split_of (joined (as_lines k.group))) k.of_pair in
-    like.is_like ∙ ap (separator_after key) between ∙ sym (ap (separator_by key) k.last)
-
--- So it is where a body may have no pair.
-pub last-separator_in : (e : Encoding) (body key separator : List ℕ) (span : BodySpan) → is_editable e ≡ true → (k : IsLastPairOf (held_groups_of e body) span)
-    → IsSeparatorLike e (take (span.end - span.start) (drop span.start body)) key separator
-    → Some separator ≡ option_map (separator_after key) (last_between (held_groups_of e body))
-last-separator_in e body key separator span ok k like =
-    ap Some (last-separator e body key separator span ok k like ∙ ap (separator_by key) k.last) ∙ sym (ap (option_map (separator_after key)) k.last)
+-- The last pair by itself is one group, with the same separator.
+pub last-alone : (e : Encoding) (body : List ℕ) (span : BodySpan) → is_editable e ≡ true → IsLastPairOf (held_groups_of e body) span
+    → let part = take (span.end - span.start) (drop span.start body) in
+    IsGroupAlone e part × (last_between (held_groups_of e part) ≡ last_between (held_groups_of e body))
+last-alone e body span ok k =
+    let alone = part-group e body k.before k.group k.after _ ok k.division (last-part e body span ok k).part in (
+      (without_ending k.group, alone),
+      ap last_between alone ∙ ap (λ x. between_if_pair (split_of x) x) (unended-joined k.group) ∙ k.of_pair ∙ sym k.last,
+    )
 
 -- The separator of a new pair, where there is one to take,
 pub separator-found : (key separator : List ℕ) (last : Option (List ℕ)) → Some separator ≡ option_map (separator_after key) last → separator ≡ separator_by key last

@@ -1,12 +1,15 @@
 pub mod Settings
 pub mod Engine
+pub mod UndecodedPairs
 pub mod Calls
 pub mod ReadBack
 pub mod AsciiOnly
 pub mod Comparisons
 pub mod Items
 pub mod BorrowedItems
+pub mod CopiedLines
 pub mod StatedItems
+pub mod Copying
 pub mod Readings
 pub mod MalformedEscapes
 pub mod KeyLines

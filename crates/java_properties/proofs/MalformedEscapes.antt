@@ -32,10 +32,10 @@ use Rattle.properties_text.specs.Escaping.{malformed_in}
 use Rattle.properties_text.specs.declared.escape.Malformed as escape
 use Rattle.properties_text.specs.declared.escape.UnescapeError.TheVariants as unescape
 use Rattle.java_properties.specs.Errors.{IsBareError, IsLineError, malformed_kind, malformed_cause}
-use Rattle.java_properties.specs.GivenItems.{IsNoItem}
-use Rattle.java_properties.specs.BorrowedItems.{FindsIn}
+use Rattle.java_properties.specs.GivenItems.{FindsIn, IsNoItem}
 use Rattle.java_properties.specs.declared.iter.found.Found as code
-use Rattle.java_properties.specs.MalformedEscapes.{escape_record, escape_records, FindsAll, FailsToFind, StopsFinding, PushesMalformed}
+use Rattle.java_properties.specs.MalformedEscapes.{escape_record, escape_records, FindsAll, FailsToFind, StopsFinding}
+use Rattle.java_properties.specs.LineByLine.{PushesMalformed}
 use Rattle.java_properties.specs.declared.error.ErrorKind.TheVariants as kind
 use Rattle.java_properties.specs.declared.error.PropertiesError.{PropertiesError}
 use Rattle.java_properties.specs.declared.iter.malformed.MalformedEscape.{MalformedEscape}
@@ -210,7 +210,9 @@ module _ {R : Type 0} {reader : Reader R} where
         ended = h.collected.ended d;
         are = malformed_escapes_of-meets e bytes;
         only = malformed_escapes_of-only e bytes;
-        is = h.escapes ∙ ap (λ v. escape_records (escapes_in v)) (collected-groups h.collected d) ∙ ap escape_records (escapes_in-groups e bytes _ (groups_of-meets (numbered_lines (lines_of (decoded_of e bytes)) end) end));
+        is = h.escapes
+            ∙ ap (λ v. escape_records (escapes_in v)) (collected-groups h.collected d)
+            ∙ ap escape_records (escapes_in-groups e bytes _ (groups_of-meets (numbered_lines (lines_of (decoded_of e bytes)) end) end));
       })
 
   -- a read failed

@@ -129,14 +129,14 @@ pub indent-full : (key separator : List ℕ) → IsUtf8 key → false ≡ (lengt
 indent-full key separator u h = ap (λ b. b && is_blanks (chars separator)) (sym (empty-chars key u false h))
 
 -- an equals sign where nothing separates the pair, or where blanks would be an indent
-pub fitting-none : (key separator : List ℕ) → separator ≡ [] → equals_sign ∷ [] ≡ separator_after key separator
-fitting-none key separator h = ap (separator_after key) (sym h)
+pub separator_for-none : (key separator : List ℕ) → separator ≡ [] → equals_sign ∷ [] ≡ separator_after key separator
+separator_for-none key separator h = ap (separator_after key) (sym h)
 
-pub fitting-indent : (key separator : List ℕ) → (is_empty key && is_blanks separator) ≡ true → equals_sign ∷ [] ≡ separator_after key separator
-fitting-indent key [] h = refl
-fitting-indent key (c ∷ cs) h = sym (cond-true (is_empty key && is_blanks (c ∷ cs)) (equals_sign ∷ []) (shortened_after false (c ∷ cs)) h)
+pub separator_for-indent : (key separator : List ℕ) → (is_empty key && is_blanks separator) ≡ true → equals_sign ∷ [] ≡ separator_after key separator
+separator_for-indent key [] h = refl
+separator_for-indent key (c ∷ cs) h = sym (cond-true (is_empty key && is_blanks (c ∷ cs)) (equals_sign ∷ []) (shortened_after false (c ∷ cs)) h)
 
 -- and otherwise the separator, shortened
-pub fitting-other : (key separator : List ℕ) → separator ≢ [] → (is_empty key && is_blanks separator) ≡ false → shortened_after false separator ≡ separator_after key separator
-fitting-other key [] some h = absurd (some refl)
-fitting-other key (c ∷ cs) some h = sym (cond-false (is_empty key && is_blanks (c ∷ cs)) (equals_sign ∷ []) (shortened_after false (c ∷ cs)) h)
+pub separator_for-other : (key separator : List ℕ) → separator ≢ [] → (is_empty key && is_blanks separator) ≡ false → shortened_after false separator ≡ separator_after key separator
+separator_for-other key [] some h = absurd (some refl)
+separator_for-other key (c ∷ cs) some h = sym (cond-false (is_empty key && is_blanks (c ∷ cs)) (equals_sign ∷ []) (shortened_after false (c ∷ cs)) h)

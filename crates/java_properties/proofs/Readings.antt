@@ -15,8 +15,10 @@ use Rattle.properties_format.proofs.Items.Numbers.{items_of-ascend}
 use Rattle.properties_format.proofs.Cut.Byline.{byline-is_lines, lines-is_byline}
 use Rattle.properties_format.proofs.Laws.{one-reading}
 use Rattle.properties_format.proofs.ItemsToCome.Unique.{items_to_come-start}
-use Rattle.java_properties.specs.Errors.{IsBareError}
+use Rattle.java_properties.specs.Errors.{IsBareError, IsLineError}
 use Rattle.properties_lines.specs.LineReader.{PassesSome}
+use Rattle.properties_lines.specs.LineJoiner.{JoinsError}
+use Rattle.properties_lines.specs.declared.error.LineError.{LineError}
 use Rattle.properties_lines.proofs.LineJoiner.{some-start, some-on, all-on}
 use Rattle.java_properties.proofs.StatedItems.{state-all}
 use Rattle.java_properties.specs.GivenItems.{Gives, BreaksOff, GivesEntry, GivesNone, GivesMalformed, GivesError}
@@ -141,17 +143,23 @@ module _ {R : Type 0} {reader : Reader R} where
   -- a line could not be read
   pub collected-error : {e : Encoding} {from to next : R} {r : List ℕ} {entries : List Entry} {s : ReaderState} {error : PropertiesError} → Collected reader e from r entries s to
       → s.is_done ≡ false → GivesError reader s to error next → StopsFailed reader e from entries error next ⊎ StopsEarly reader e from entries error next
-  collected-error {e} {r = r} {entries} h g (inl f) = inl (record {
-    bytes = r ++ f.bytes;
-    cause = f.error;
-    number = f.number;
-    failed = failed-more h.read f.failed;
-    is = f.is;
-    reading = reading-of e (r ++ f.bytes) fault _ (live-on h.comes g f.bytes fault ∙ ap (λ v. entries ++ v) f.items);
-  })
-  collected-error {r = r} h g (inr (inl f)) =
-      inr (record { bytes = r ++ f.bytes; read = read-more h.read f.read; is = inl (f.is, state-all (all-on (h.passes g) f.passes)); begins = early h g f.bytes })
-  collected-error {r = r} h g (inr (inr f)) = inr (record { bytes = r ++ f.bytes; read = read-more h.read f.read; is = inr f.is; begins = early h g f.bytes })
+  collected-error {e} {from} {to} {next} {r} {entries} {s} {error} h g n = by n.joins
+    where
+      says : {why : LineError} → n.why ≡ why → IsLineError why error
+      says same = subst (λ v. IsLineError v error) same n.is
+
+      by : JoinsError reader s to n.why n.last next → StopsFailed reader e from entries error next ⊎ StopsEarly reader e from entries error next
+      by (inl f) = inl (record {
+        bytes = r ++ f.bytes;
+        cause = f.error;
+        number = f.number;
+        failed = failed-more h.read f.failed;
+        is = says f.is;
+        reading = reading-of e (r ++ f.bytes) fault _ (live-on h.comes g f.bytes fault ∙ ap (λ v. entries ++ v) f.items);
+      })
+      by (inr (inl f)) =
+          inr (record { bytes = r ++ f.bytes; read = read-more h.read f.read; is = inl (says f.is, state-all (all-on (h.passes g) f.passes)); begins = early h g f.bytes })
+      by (inr (inr f)) = inr (record { bytes = r ++ f.bytes; read = read-more h.read f.read; is = inr (says f.is); begins = early h g f.bytes })
 
   -- an error came
   pub collected-stops : {e : Encoding} {from to next : R} {r : List ℕ} {s : ReaderState} {error : PropertiesError} (lines : List Line) → Collected reader e from r (entries_in lines) s to

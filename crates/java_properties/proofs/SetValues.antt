@@ -46,7 +46,7 @@ raw-pair key g (value, h) = (h.raw_key, h.raw_value, h.split)
 
 -- ---- a value is set
 
--- a new pair is parted from the source by so many line endings as a printed pair
+-- a new pair is separated from the source by as many line endings as a printed pair
 closing_bytes-any : (g : List HeldLine) (how : Closing) → separation [] g ≡ closing_bytes (added_ending []) how → (ending : List ℕ) → separation_by ending g ≡ closing_bytes ending how
 closing_bytes-any g how h ending = tests (is_empty_line g) (is_left_open g) how h
   where

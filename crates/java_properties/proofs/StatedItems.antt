@@ -1,5 +1,5 @@
 -- What calls give, by the items to come as they are computed, and as the public clauses say it: by divisions. Each follows from the other.
-use Rattle.std.proofs.Common.{ℕ, List, inl, inr}
+use Rattle.std.proofs.Common.{ℕ, List, refl, subst, inl, inr}
 use Rattle.std.specs.Prelude.{Bool, ◌⊎◌, Option, Some, None, Result, Ok, Err}
 use Rattle.counted_io.specs.Streams.{Reader}
 use Rattle.properties_format.specs.Entries.{Entry}
@@ -7,8 +7,12 @@ use Rattle.properties_format.specs.ItemsToCome.{ReaderState}
 use Rattle.properties_format.proofs.ItemsToCome.Divisions.{are_to_come, to_come_are, comes_first, first_comes, lines_come_first, first_lines_come}
 use Rattle.properties_lines.specs.LineReader as finder
 use Rattle.properties_lines.specs.LineJoiner as joiner
+use Rattle.properties_lines.specs.declared.error.LineError.{LineError}
+use Rattle.properties_lines.specs.declared.error.LineError.TheVariants as why
+use Rattle.java_properties.specs.Errors.{IsLineError}
 use Rattle.java_properties.specs.GivenItems as given
-use Rattle.java_properties.specs.BorrowedItems.{FindsItem, AdvancesTo}
+use Rattle.java_properties.specs.GivenItems.{FindsItem}
+use Rattle.java_properties.specs.BorrowedItems.{AdvancesTo}
 use Rattle.java_properties.specs.PropertiesIter as stated
 use Rattle.java_properties.specs.PropertiesIter.{Reading}
 use Rattle.java_properties.specs.declared.error.PropertiesError.{PropertiesError}
@@ -36,28 +40,33 @@ state-lazy (inl h) = inl h
 state-lazy (inr h) = inr (are_to_come h)
 
 module _ {R : Type 0} {reader : Reader R} {old new : ReaderState} {from to : R} where
-  state-entry : {entry : Entry} → given.GivesEntry reader old from entry new to → stated.GivesEntry reader old from entry new to
+  pub state-entry : {entry : Entry} → given.GivesEntry reader old from entry new to → stated.GivesEntry reader old from entry new to
   state-entry h =
       record { bytes = h.bytes; read = h.read; live = h.live; gives = state-gives h.gives; passes = λ g. state-some (h.passes g); ended = h.ended; lazy = state-lazy h.lazy }
 
-  state-none : given.GivesNone reader old from new to → stated.GivesNone reader old from new to
+  pub state-none : given.GivesNone reader old from new to → stated.GivesNone reader old from new to
   state-none h = record { bytes = h.bytes; read = h.read; items = are_to_come h.items; done = h.done; idle = h.idle; ended = h.ended }
 
 module _ {R : Type 0} {reader : Reader R} {old : ReaderState} {from to : R} where
-  state-error : {e : PropertiesError} → given.GivesMalformed reader old from e to ⊎ given.GivesError reader old from e to
-      → stated.GivesMalformed reader old from e to ⊎ stated.GivesError reader old from e to
-  state-error (inl h) = inl (record { bytes = h.bytes; number = h.number; kind = h.kind; read = h.read; is = h.is; breaks = state-breaks h.breaks; lazy = state-lazy h.lazy })
-  state-error (inr (inl h)) = inr (inl (record {
+  state-line : {e : PropertiesError} {why : LineError} {last : ReaderState} → joiner.JoinsError reader old from why last to → IsLineError why e
+      → stated.GivesError reader old from e to
+  state-line {e} (inl h) says = inl (record {
     bytes = h.bytes;
     error = h.error;
     number = h.number;
     failed = h.failed;
-    is = h.is;
+    is = subst (λ v. IsLineError v e) h.is says;
     items = are_to_come h.items;
     lazy = are_to_come h.lazy;
-  }))
-  state-error (inr (inr (inl h))) = inr (inr (inl (record { bytes = h.bytes; read = h.read; passes = state-all h.passes; is = h.is; lazy = state-lazy h.lazy })))
-  state-error (inr (inr (inr h))) = inr (inr (inr (record { bytes = h.bytes; read = h.read; is = h.is; lazy = state-lazy h.lazy })))
+  })
+  state-line {e} (inr (inl h)) says =
+      inr (inl (record { bytes = h.bytes; read = h.read; passes = state-all h.passes; is = subst (λ v. IsLineError v e) h.is says; lazy = state-lazy h.lazy }))
+  state-line {e} (inr (inr h)) says = inr (inr (record { bytes = h.bytes; read = h.read; is = subst (λ v. IsLineError v e) h.is says; lazy = state-lazy h.lazy }))
+
+  pub state-error : {e : PropertiesError} → given.GivesMalformed reader old from e to ⊎ given.GivesError reader old from e to
+      → stated.GivesMalformed reader old from e to ⊎ stated.GivesError reader old from e to
+  state-error (inl h) = inl (record { bytes = h.bytes; number = h.number; kind = h.kind; read = h.read; is = h.is; breaks = state-breaks h.breaks; lazy = state-lazy h.lazy })
+  state-error (inr h) = inr (state-line h.joins h.is)
 
 pub state-item : {R : Type 0} (reader : Reader R) (old new : ReaderState) (from to : R) (answer : Option (Result Line PropertiesError))
     → given.GivesItem reader old from answer new to → stated.GivesItem reader old from answer new to
@@ -110,17 +119,28 @@ module _ {R : Type 0} {reader : Reader R} {old : ReaderState} {from to : R} wher
   pub compute-error : {e : PropertiesError} → stated.GivesMalformed reader old from e to ⊎ stated.GivesError reader old from e to
       → given.GivesMalformed reader old from e to ⊎ given.GivesError reader old from e to
   compute-error (inl h) = inl (record { bytes = h.bytes; number = h.number; kind = h.kind; read = h.read; is = h.is; breaks = compute-breaks h.breaks; lazy = compute-lazy h.lazy })
-  compute-error (inr (inl h)) = inr (inl (record {
-    bytes = h.bytes;
-    error = h.error;
-    number = h.number;
-    failed = h.failed;
+  compute-error (inr (inl h)) = inr (record {
+    why = why.Io h.number h.error;
+    last = old;
+    joins = inl (record {
+      bytes = h.bytes;
+      error = h.error;
+      number = h.number;
+      failed = h.failed;
+      is = refl;
+      items = to_come_are h.items;
+      lazy = to_come_are h.lazy;
+    });
     is = h.is;
-    items = to_come_are h.items;
-    lazy = to_come_are h.lazy;
-  }))
-  compute-error (inr (inr (inl h))) = inr (inr (inl (record { bytes = h.bytes; read = h.read; passes = compute-all h.passes; is = h.is; lazy = compute-lazy h.lazy })))
-  compute-error (inr (inr (inr h))) = inr (inr (inr (record { bytes = h.bytes; read = h.read; is = h.is; lazy = compute-lazy h.lazy })))
+  })
+  compute-error (inr (inr (inl h))) = inr (record {
+    why = why.TooManyLines;
+    last = old;
+    joins = inr (inl (record { bytes = h.bytes; read = h.read; passes = compute-all h.passes; is = refl; lazy = compute-lazy h.lazy }));
+    is = h.is;
+  })
+  compute-error (inr (inr (inr h))) =
+      inr (record { why = why.Memory; last = old; joins = inr (inr (record { bytes = h.bytes; read = h.read; is = refl; lazy = compute-lazy h.lazy })); is = h.is })
 
 pub compute-item : {R : Type 0} (reader : Reader R) (old new : ReaderState) (from to : R) (answer : Option (Result Line PropertiesError))
     → stated.GivesItem reader old from answer new to → given.GivesItem reader old from answer new to

@@ -15,7 +15,7 @@ use Rattle.properties_format.specs.Text.{is_blanks}
 use Rattle.properties_format.specs.Printing.{encoded_text, printed_key}
 use Rattle.properties_format.specs.Body.{HeldLine, as_lines, groups_bytes, held_in, AreGroupsOf}
 use Rattle.properties_format.specs.Edited.{is_editable}
-use Rattle.properties_format.specs.Valued.{value_text, printed_value, ending_among, separator_after}
+use Rattle.properties_format.specs.Valued.{value_text, printed_value, ending_among}
 use Rattle.properties_format.specs.Reading.Body.{held_groups_of}
 use Rattle.properties_format.specs.Reading.Edited.{IsSound}
 use Rattle.properties_format.specs.Reading.Settings.{is_good_separator}
@@ -83,8 +83,8 @@ pub record IsNewValue (e : Encoding) (bytes value : List ℕ) (new : NewValue) :
   pub group : List HeldLine
   pub is_group : held_groups_of e bytes ≡ group ∷ []
   pub other : has_value value group ≡ false
-  pub within : new.front ≤ length bytes
-  pub front : take new.front bytes ≡ front_of e group
+  pub within : new.front_size ≤ length bytes
+  pub front : take new.front_size bytes ≡ front_of e group
   pub bytes_are : new.bytes ≡ encoded_text e (value_text e (between_of group) value)
 
 -- How a pair by itself gets a value, or `None` if it has the value; or memory ran out.
@@ -127,18 +127,9 @@ IsLastPair groups (Some span) = IsLastPairOf groups span
 abbrev pub FindsLastPair : Encoding → List ℕ → Option BodySpan → Type 0
 FindsLastPair e body span = IsLastPair (held_groups_of e body) span
 
--- The bytes are one group, which is a pair, whose escapes may be malformed.
-pub record IsSeparated (e : Encoding) (bytes : List ℕ) : Type 0 where
-  pub group : List HeldLine
-  pub is_group : held_groups_of e bytes ≡ group ∷ []
-  pub between : List ℕ
-  pub of_pair : between_if_pair (split_of (joined (as_lines group))) (joined (as_lines group)) ≡ Some between
-
--- The separator of a new pair with this key, like that of the one pair of these bytes.
-pub record IsSeparatorLike (e : Encoding) (bytes key separator : List ℕ) : Type 0 where
-  pub group : List HeldLine
-  pub is_group : held_groups_of e bytes ≡ group ∷ []
-  pub is_like : separator ≡ separator_after key (between_of group)
+-- The bytes are one group.
+abbrev pub IsGroupAlone : Encoding → List ℕ → Type 0
+IsGroupAlone e bytes = (group : List HeldLine) × (held_groups_of e bytes ≡ group ∷ [])
 
 -- This is the last line ending of a body, or an LF if it has none.
 abbrev pub IsLastEnding : List ℕ → LineEnding → Type 0

@@ -13,18 +13,11 @@ use Rattle.properties_format.specs.Entries.{Content, Entry, item}
 use Rattle.properties_format.specs.Escapes.{Means}
 use Rattle.properties_format.specs.Split as split
 use Rattle.properties_format.specs.Split.{IsSplit}
-use Rattle.properties_format.specs.Items.{ignored}
-use Rattle.properties_format.specs.Reading.Items.{outcome_of}
-use Rattle.java_properties.specs.Errors.{IsBareError, IsUnresolvedError}
-use Rattle.properties_text.specs.Escaping.{holds_backslash, IsRefused}
-use Rattle.properties_text.specs.declared.escape.UnescapeError.{UnescapeError}
-use Rattle.properties_format.specs.ItemsToCome.{ReaderState}
-use Rattle.properties_lines.specs.LineJoiner.{Joiner}
+use Rattle.java_properties.specs.Errors.{IsBareError}
+use Rattle.properties_text.specs.Escaping.{holds_backslash}
 use Rattle.java_properties.specs.Line.{number_of, content_of}
 use Rattle.properties_text.specs.Parsing.{bytes_in, spanned, in_characters, IsSpan}
-use Rattle.java_properties.specs.GivenItems as given
-use Rattle.java_properties.specs.GivenItems.{IsNoItem}
-use Rattle.java_properties.specs.PropertiesIter.{Reading, entry_of, GivesEntry, GivesNone, GivesMalformed, GivesError}
+use Rattle.java_properties.specs.PropertiesIter.{Reading, GivesEntry, GivesNone, GivesMalformed, GivesError}
 use Rattle.java_properties.specs.declared.error.ErrorKind.TheVariants as kind
 use Rattle.java_properties.specs.declared.error.PropertiesError.{PropertiesError}
 use Rattle.java_properties.specs.declared.iter.found.Found.{Found}
@@ -39,7 +32,6 @@ use Rattle.java_properties.specs.declared.line.LineContent.{LineContent}
 use Rattle.java_properties.specs.declared.line.LineContent.TheVariants as own
 use Rattle.properties_text.specs.declared.parse.ParsedSpans.{ParsedSpans}
 use Rattle.properties_text.specs.declared.parse.ParsedSpans.TheVariants as spans
-use Rattle.properties_text.specs.declared.parse.Span.{Span}
 
 -- ---- borrowed items
 
@@ -116,44 +108,9 @@ pub record IsFoundIn (line : List ℕ) (found : Found) : Type 0 where
   pub slices : IsSplit (chars line) (in_characters (spanned line (Some (spans_of found.content))))
   pub texts : AreTextsIn line found.content
 
--- The text of this span of the line; or why it can't be resolved.
-abbrev pub FindsText : List ℕ → Span → Result FoundText UnescapeError → Type 0
-FindsText line span (Ok text) = (text.span ≡ span) × IsTextIn line text
-FindsText line span (Err e) = IsRefused (chars (bytes_in line span)) e
-
--- The texts of these spans of the line; or why they can't be resolved, whatever the line's number. In a pair, a
--- malformed key is reported before a malformed value.
-abbrev pub FindsContent : List ℕ → ParsedSpans → Result FoundContent UnescapeError → Type 0
-FindsContent line spans (Ok content) = (spans_of content ≡ spans) × AreTextsIn line content
-FindsContent line spans (Err e) = (number : ℕ) (error : PropertiesError) → IsUnresolvedError e number error → IsNoItem number (chars line) error
-
--- What was found in a logical line, or `None` if it is blank; or why its texts can't be resolved, whatever its number.
-abbrev pub FindsIn : List ℕ → ℕ → Result (Option Found) UnescapeError → Type 0
-FindsIn line number (Ok None) = outcome_of (chars line) ≡ ignored
-FindsIn line number (Ok (Some found)) = (found.line_number ≡ number) × IsFoundIn line found
-FindsIn line number (Err e) = (number : ℕ) (error : PropertiesError) → IsUnresolvedError e number error → IsNoItem number (chars line) error
-
--- what was found in a logical line without a backslash
-abbrev pub FindsPlain : List ℕ → ℕ → Option Found → Type 0
-FindsPlain line number None = outcome_of (chars line) ≡ ignored
-FindsPlain line number (Some found) = (found.line_number ≡ number) × IsFoundIn line found
-
--- What was found is now an owned item; or memory for it ran out, and the reading ended.
-abbrev pub Owns : Joiner → Found → Result Line PropertiesError → Joiner → Type 0
-Owns old found (Ok line) new = (entry_of line ≡ found_entry old.line found) × (new ≡ old)
-Owns old found (Err e) new = IsBareError kind.Memory e × (new ≡ record old { state = record old.state { is_done = true } })
-
 -- ---- the calls
 
--- The next item as it is found, and the state after searching for it. After `None` and after an error the iterator is
--- at its end.
-abbrev pub FindsItem : {R : Type 0} → Reader R → ReaderState → R → Option (Result Found PropertiesError) → Joiner → R → Type 0
-FindsItem reader old from None new to = given.GivesNone reader old from new.state to
-FindsItem reader old from (Some (Ok found)) new to = given.GivesEntry reader old from (found_entry new.line found) new.state to × IsFoundIn new.line found
-FindsItem reader old from (Some (Err e)) new to =
-    (old.is_done ≡ false) × (new.state.is_done ≡ true) × (given.GivesMalformed reader old from e to ⊎ given.GivesError reader old from e to)
-
--- The next item of an iterator as it is found, in terms of divisions.
+-- The next item of an iterator as it is found. After `None` and after an error the iterator is at its end.
 abbrev pub AdvancesTo : {R : Type 0} → Reader R → Reading R → Option (Result Found PropertiesError) → Reading R → Type 0
 AdvancesTo reader old None new = GivesNone reader old.state old.reader new.state new.reader
 AdvancesTo reader old (Some (Ok found)) new =

@@ -10,9 +10,12 @@ pub mod DisplayTexts
 pub mod PropertiesIter
 pub mod GivenItems
 pub mod BorrowedItems
+pub mod Copying
+pub mod CopiedLines
 pub mod ReadLines
 pub mod MalformedEscapes
 pub mod KeyLines
+pub mod LineByLine
 pub mod ReadInto
 pub mod Maps
 pub mod BodyLines

@@ -1,12 +1,11 @@
 -- The result of searching for malformed escapes, and the reader afterwards.
-use Rattle.std.specs.Prelude.{◌≡◌, ◌⊎◌, ℕ, true, List, [], ◌++◌, map, Some, Result, Ok, Err}
+use Rattle.std.specs.Prelude.{◌≡◌, ◌⊎◌, ℕ, true, List, map, Some, Result, Ok, Err}
 use Rattle.std.specs.declared.io.Error.{Error}
 use Rattle.std.specs.declared.vec.Vec.{Vec}
 use Rattle.counted_io.specs.Streams.{Reader, HasRead, HasFailed}
 use Rattle.properties_format.specs.Encoding.{Encoding}
 use Rattle.properties_format.specs.MalformedEscapes as format
-use Rattle.properties_format.specs.MalformedEscapes.{AreMalformedEscapes, IsCutLine, escapes_from}
-use Rattle.properties_format.specs.Reading.Items.{outcome_of}
+use Rattle.properties_format.specs.MalformedEscapes.{AreMalformedEscapes, IsCutLine}
 use Rattle.properties_format.specs.ItemsToCome.{start}
 use Rattle.java_properties.specs.Errors.{IsBareError, IsStreamError, malformed_kind}
 use Rattle.java_properties.specs.PropertiesIter.{PassesAll}
@@ -50,8 +49,3 @@ pub record StopsFinding {R : Type 0} (reader : Reader R) (e : Encoding) (from : 
 abbrev pub FindsMalformed : {R Z : Type 0} → Reader R → Encoding → R → Result (Vec MalformedEscape Z) PropertiesError → R → Type 0
 FindsMalformed reader e from (Ok found) to = FindsAll reader e from found.items to
 FindsMalformed reader e from (Err error) to = FailsToFind reader e from error to ⊎ StopsFinding reader e from error to
-
--- What a logical line with this number and text adds; or memory ran out.
-abbrev pub PushesMalformed : {Z : Type 0} → ℕ → List ℕ → Vec MalformedEscape Z → Result Unit PropertiesError → Vec MalformedEscape Z → Type 0
-PushesMalformed number x old (Ok done) new = new.items ≡ old.items ++ escape_records (escapes_from number x (outcome_of x) [])
-PushesMalformed number x old (Err error) new = IsBareError kind.Memory error

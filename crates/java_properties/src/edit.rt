@@ -28,7 +28,7 @@ use crate::edit::result::{appended, reduced_to, replaced};
 use crate::edit::slots::Slots;
 use crate::edit::source::BodyStart;
 pub use crate::edit::streams::{read_source, write_source};
-use crate::edit::value::revalued;
+use crate::edit::value::with_value;
 use crate::error::PropertiesError;
 use properties_text::encoding::Encoding;
 use std::alloc::Global;
@@ -75,8 +75,8 @@ pub fn set_key(
 ///
 /// If the last pair with the key has the value, no byte changes. If it has another value, the pair keeps its bytes up
 /// to the end of its separator, or of its key if nothing separates key and value, and it keeps its last line ending:
-/// the indentation, the key as it is spelt, and the separator with the blanks around it. Everything between the two
-/// gives way, including continuations. If nothing separates key and value, an equals sign comes before the value.
+/// the indentation, the key as it is spelt, and the separator with the blanks around it. The new value replaces
+/// everything between the two, including continuations. If nothing separates key and value, an equals sign comes before the value.
 ///
 /// If no pair has the key, a pair is appended that looks like the last pair of the source: it has that pair's
 /// separator, with each run of blanks cut to its first one. The separator is an equals sign if there is no pair, if the
@@ -112,7 +112,7 @@ pub fn set_value(
     let body = &source[opened.start..];
     let place = find_key(alloc, opened.encoding, body, key)?;
     let bytes = match place.pair {
-        Some(pair) => revalued(alloc, source, opened, pair, value)?,
+        Some(pair) => with_value(alloc, source, opened, pair, value)?,
         None => {
             let layout = layout_after(alloc, opened.encoding, body, place.closing, key)?;
             with_new_pair(alloc, source, opened, &layout, key, value)?
@@ -165,8 +165,8 @@ pub enum Edit {
 ///
 /// Without edits, the result is a copy of the source. The source is read once and the result is built once, so the time
 /// is proportional to the size of the source and the edits together. In addition, the key of each pair and of each edit
-/// is looked up among the others, which takes a few comparisons for each doubling of their number. [`Edit::SetValue`]
-/// reads the pair that it changes or, if no pair has the key, the last pair.
+/// is looked up among the others, which takes a few comparisons for each doubling of their number; and each
+/// [`Edit::SetValue`] reads the pair that it changes or, if no pair has the key, the last pair that is left.
 ///
 /// UTF-16 is refused. A source with a malformed escape anywhere is refused with the error that reading the source would
 /// return.

@@ -49,7 +49,7 @@ pub fn one_reading()
 ///
 /// ```text
 /// laws::reading_inverts_writing();
-/// // A proof that comes after may take what `run_calls` wrote to be read as what the calls told.
+/// // Proofs that come after may use that what `run_calls` wrote has exactly the items of its calls.
 /// ```
 pub fn reading_inverts_writing()
     ensures items { (e : Encoding) (s : Settings) (calls : List Call) → ReadingInvertsWriting e s calls }
@@ -76,7 +76,7 @@ pub fn splitting_commutes_with_decoding()
 /// same as setting it once, to the later value. After a key is set, the map has its value; after a key is removed, the
 /// map has no value for it. Every other key keeps its value.
 ///
-/// A value that is set with its layout kept is in the map as well. Setting the value that a key has changes no byte, and
+/// A value that is set with its layout kept is in the map as well. Setting the value that a key has changes no byte,
 /// nor does setting a value again. Setting a value twice is the same as setting it once, to the later value, if the
 /// source doesn't have the later value already.
 ///

@@ -29,8 +29,8 @@ pub use edit::{
 };
 pub use error::{Cause, ErrorKind, PropertiesError, Reason};
 pub use iter::{
-    ContentRef, Found, KeyLine, LineRef, MalformedEscape, PropertiesIter, Stopped, key_lines,
-    malformed_escapes, read_lines,
+    ContentRef, CopyError, Found, KeyLine, LineRef, MalformedEscape, PropertiesIter, Stopped,
+    key_lines, malformed_escapes, read_lines,
 };
 pub use line::{Line, LineContent};
 pub use maps::{read, read_sorted, write, write_sorted};

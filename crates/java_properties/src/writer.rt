@@ -38,8 +38,8 @@ pub use settings::LineEnding;
 /// ```
 #[derive(Drop)]
 pub struct PropertiesWriter<W> {
-    sink: W,
-    engine: Engine,
+    pub(crate) sink: W,
+    pub(crate) engine: Engine,
 }
 
 impl<W> Model for PropertiesWriter<W> {

@@ -1,4 +1,4 @@
--- A source with a key set or removed: which of its bytes are replaced or left out, which are added, and which stand as they were.
+-- A source with a key set or removed: which of its bytes are replaced or left out, which are added, and which stay.
 -- Source: java.util.Properties of Java SE 7, load (a later pair takes the place of an earlier one) and store (how a pair is written).
 use Rattle.std.specs.Prelude.{◌≡◌, ◌⊎◌, ℕ, ◌&&◌, not, Bool, true, false, if◌then◌else◌, List, [], ◌∷◌, ◌++◌}
 use Rattle.properties_format.specs.Text.{line_feed, equals_sign, lf, cr, line_ending_text}

@@ -1,6 +1,6 @@
 -- How natural lines are joined, step by step.
 use Rattle.std.proofs.Common.{◌≡◌, ◌+◌, ℕ, Bool, true, false, List, [], ◌∷◌, ◌++◌, refl, sym, ap, ap₂, ◌∙◌, inl, inr, subst, append_assoc, append-nil}
-use Rattle.std.specs.Prelude.{◌⊎◌, ◌↔◌, if◌then◌else◌, not, Option, Some, None, is_some}
+use Rattle.std.specs.Prelude.{◌≢◌, ◌⊎◌, if◌then◌else◌, not, Option, Some, None, is_some}
 use Rattle.std.specs.Str.{chars, IsUtf8}
 use Rattle.std.proofs.lemmas.Bool.{cases_Bool}
 use Rattle.std.proofs.lemmas.Str.{IsUtf8-nil}
@@ -24,11 +24,12 @@ use Rattle.properties_text.proofs.Texts.Resolving.{plain-closed}
 use Rattle.properties_lines.specs.LineReader as finder
 use Rattle.properties_lines.specs.LineReader.{Finder, Finds, Passes, PassesSome, PassesAll, IsLazy, HasRightLineFlags, ReleasesOrKeeps, FindsError, found_line}
 use Rattle.properties_lines.specs.LogicalLine.{IsAsciiLine, KeepsText, IsNotContinued, OpensJoin, text_with, is_continued}
-use Rattle.properties_lines.specs.LineJoiner.{line_text, join_of, joiner_of, Pends, Closes, AddsOpen, AddsLast, EndJoin, IsLazyJoin, IsLazyItems, GoesOn, JoinsAll, JoinError, JoinsNone, JoinsOn, Joiner, Joining, Comes, Joins, JoinsGroup, JoinsLine, JoinsNext, JoinsError, IsUndecoded, JoinsAlone, JoinsText, ReadsWhole, ReadsNone, ReadsRest}
+use Rattle.properties_lines.specs.LineJoiner.{line_text, join_of, joiner_of, Pends, Closes, AddsOpen, AddsLast, EndJoin, IsLazyJoin, IsLazyItems, GoesOn, JoinsAll, JoinError, JoinsNone, JoinsOn, Joining, Comes, Joins, JoinsGroup, JoinsLine, JoinsNext, JoinsError, IsWindows1252, JoinsBytes, JoinsText, ReadsWhole, ReadsNone, ReadsRest, ReadsContinued, ReadsJoined}
 use Rattle.properties_lines.specs.declared.error.LineError.TheVariants as why
 use Rattle.properties_lines.specs.declared.error.LineError.{LineError}
 use Rattle.properties_lines.specs.declared.logical.LogicalLine.{LogicalLine}
-use Rattle.properties_lines.proofs.OpenLines.{continued-other, continued-decoded, stands-alone, alone-ends}
+use Rattle.properties_lines.proofs.LineReaders.{encoding-on}
+use Rattle.properties_lines.proofs.OpenLines.{begun-decoded, continued-other, continued-closed, continued-both, continued-decoded, stands-alone}
 use Rattle.properties_lines.proofs.LogicalLines.{ascii-keeps, unescaped-decoded}
 
 -- ---- where no line comes
@@ -187,6 +188,7 @@ module _ {R : Type 0} {reader : Reader R} where
     pends = start-pends s text;
     adds = adds-start s text;
     passes = λ g. some-start s;
+    encoding = λ d. (d, refl);
     done = λ e. e;
     ended = λ e. inl e;
     idle = λ e. (refl, refl);
@@ -220,11 +222,12 @@ module _ {R : Type 0} {reader : Reader R} where
   pub goes-more : {s t : ReaderState} {from to next : R} {old r text new : List ℕ} (number : ℕ) (found : Finder) → GoesOn reader s from old r text t to
       → (h : finder.FindsNext reader t to number found next) → is_open (line_text found) ≡ true → new ≡ text ++ addition (line_text found)
       → GoesOn reader s from old (r ++ h.bytes) new found.state next
-  goes-more number found h n o e = record {
+  goes-more {s} {t} number found h n o e = record {
     read = read-more h.read n.read;
     pends = more-pends (found_line number found) h.pends n.live n.passes o e;
     adds = adds-more (found_line number found) h.adds n.live n.passes o e;
     passes = λ g. some-on (h.passes n.live) (some-come n.passes g);
+    encoding = encoding-on s t found.state h.encoding n.encoding;
     done = λ k. let d = h.done k in let l = n.live in absurd (cc);
     ended = λ k. inr (n.ended k);
     idle = λ k. let d = h.done k in let l = n.live in absurd (cc);
@@ -235,12 +238,13 @@ module _ {R : Type 0} {reader : Reader R} where
   pub joins-closed : {s t : ReaderState} {from to next : R} {old r text new : List ℕ} (number : ℕ) (found : Finder) → GoesOn reader s from old r text t to
       → finder.FindsNext reader t to number found next → is_open (line_text found) ≡ false → new ≡ text ++ addition (line_text found)
       → JoinsAll reader s from old new found.state next
-  joins-closed {r = r} number found h n o e = record {
+  joins-closed {s} {t} {r = r} number found h n o e = record {
     bytes = r ++ n.bytes;
     read = read-more h.read n.read;
     closes = more-closes (found_line number found) h.pends n.live n.passes o e;
     adds = adds-last (found_line number found) h.adds n.live n.passes o e;
     passes = λ g. some-on (h.passes n.live) (some-come n.passes g);
+    encoding = encoding-on s t found.state h.encoding n.encoding;
     done = λ k. let d = h.done k in let l = n.live in absurd (cc);
     ended = λ k. inr (n.ended k);
     idle = λ k. let d = h.done k in let l = n.live in absurd (cc);
@@ -256,6 +260,7 @@ module _ {R : Type 0} {reader : Reader R} where
     closes = done-closes h.pends d;
     adds = adds-done h.adds d;
     passes = h.passes;
+    encoding = h.encoding;
     done = λ k. d;
     ended = h.ended;
     idle = h.idle;
@@ -460,11 +465,10 @@ module _ {R : Type 0} {reader : Reader R} where
       ]
 
   -- the line and those after it are one
-  joins-joined : {s : ReaderState} {from to next : R} (number : ℕ) (mid : Finder) (new : Joiner) → finder.FindsNext reader s from number mid to
-      → is_comment_line (line_text mid) ≡ false → is_open (line_text mid) ≡ true
-      → JoinsAll reader mid.state to (without_open_backslash (line_text mid)) (chars new.line) new.state next
-      → (line : JoinsNext reader s from number new next) × (line.group.first ≡ found_line number mid)
-  joins-joined {next = next} number mid new n c o j =
+  joins-joined : {s : ReaderState} {from to next : R} (number : ℕ) (mid : Finder) (text : List ℕ) (new : ReaderState) → finder.FindsNext reader s from number mid to
+      → is_comment_line (line_text mid) ≡ false → is_open (line_text mid) ≡ true → JoinsAll reader mid.state to (without_open_backslash (line_text mid)) text new next
+      → (line : JoinsLine reader s from (record { number = number; text = text }) new next) × (line.group.first ≡ found_line number mid)
+  joins-joined {next = next} number mid text new n c o j =
       let group = join-group (found_line number mid) n.passes c o j.adds (λ e. (j.done e, (j.idle e).0)) in (
         record {
           bytes = n.bytes ++ j.bytes;
@@ -568,17 +572,10 @@ module _ {R : Type 0} {reader : Reader R} where
         number_is = refl;
         error = error;
         text = kept-utf8 found.state.encoding found.line line.text line.is_kept keeps;
-        comes = λ n. (joins-alone found.state.passed found (text_with line found.line) n c text, inr (c, refl));
+        comes = λ n. joins-alone found.state.passed found (text_with line found.line) n c text;
+        encoding = λ d. (d, refl);
         plain = λ h. ap holds_backslash text ∙ unescaped-decoded found.state.encoding found.line h;
       }
-
-  -- the text that is kept came
-  kept-comes : {S : ReaderState} {start to : R} (number : ℕ) (first : format.Line) (lines : Finder) (line : LogicalLine) → line.is_kept ≡ true
-      → (n : JoinsNext reader S start number (record { state = lines.state; line = line.text }) to) × (n.group.first ≡ first)
-      → (n : JoinsNext reader S start number (joiner_of lines line) to) × (n.group.first ≡ first)
-  kept-comes {S} {start} {to} number first lines line kept h =
-      let P : Bool → Type 0 = λ v. (n : JoinsNext reader S start number (record { state = lines.state; line = if v then line.text else lines.line }) to) × (n.group.first ≡ first) in
-      subst P (sym kept) h
 
   -- and so is it with the lines that are joined to it
   pub reads-joined : {from to : R} (found lines : Finder) (begun line : LogicalLine) → OpensJoin (line_text found) begun
@@ -586,74 +583,96 @@ module _ {R : Type 0} {reader : Reader R} where
       → ReadsWhole reader found from found.state.passed lines line to
   reads-joined {from} {to} found lines begun line o j error kept =
       let P : List ℕ → Type 0 = λ v. JoinsAll reader found.state from v (chars line.text) lines.state to in
-      let first = found_line found.state.passed found in
       record {
         number_is = refl;
         error = error;
         text = λ e. absurd (cc);
-        comes = λ n.
-            let joined = joins-joined found.state.passed found (record { state = lines.state; line = line.text }) n o.other o.opens (subst P o.closed j) in
-            let read = kept-comes found.state.passed first lines line kept joined in
-            (read.0, inl (ap (λ v. let w : format.Line = v in is_continued w.text) read.1 ∙ continued-other first.text o.other ∙ o.opens));
+        comes = λ {S} {start} n.
+            let Q : Bool → Type 0 = λ v. JoinsNext reader S start found.state.passed (record { state = lines.state; line = if v then line.text else lines.line }) to in
+            subst Q (sym kept) (joins-joined found.state.passed found (chars line.text) lines.state n o.other o.opens (subst P o.closed j)).0;
+        encoding = j.encoding;
         plain = λ h. absurd (opens-escaped found o.opens h);
       }
 
   -- these can't be read to their end
-  pub reads-broken : {from to : R} (found lines : Finder) (begun line : LogicalLine) → OpensJoin (line_text found) begun
-      → JoinsNone reader found from (chars begun.text) lines to → line.is_kept ≡ true → ReadsNone reader found from lines line to
-  reads-broken {from} {to} found lines begun line o j kept =
+  pub reads-broken : {from to : R} (found lines : Finder) (begun : List ℕ) → is_comment_line (line_text found) ≡ false → is_open (line_text found) ≡ true
+      → begun ≡ without_open_backslash (line_text found) → JoinsNone reader found from begun lines to → ReadsNone reader found from lines to
+  reads-broken {from} {to} found lines begun c o closed j =
       let P : List ℕ → Type 0 = λ v. JoinError reader found.state from v j.error lines.state to in
-      record {
-        done = j.done;
-        error = j.error;
-        kept = j.kept;
-        text = λ e. absurd (cc);
-        why = λ n. joins-broken found.state.passed found n o.other o.opens j.live (subst P o.closed j.why);
-      }
+      record { done = j.done; error = j.error; kept = j.kept; why = λ n. joins-broken found.state.passed found n c o j.live (subst P closed j.why) }
 
   -- there was no memory for its text
-  pub reads-no_room : {from : R} (found lines : Finder) (line : LogicalLine) → lines ≡ failed found why.Memory → line.is_kept ≡ true
-      → ReadsNone reader found from lines line from
-  reads-no_room found lines line e kept = rw e (record {
-    done = refl;
-    error = why.Memory;
-    kept = refl;
-    text = λ borrowed. absurd (cc);
-    why = λ n. joins-no_room found.state.passed found n refl;
-  })
+  pub reads-no_room : {from : R} (found lines : Finder) → lines ≡ failed found why.Memory → ReadsNone reader found from lines from
+  reads-no_room found lines e =
+      rw e (record { done = refl; error = why.Memory; kept = refl; why = λ n. joins-no_room found.state.passed found n refl })
 
 -- ---- lines that aren't decoded
 
--- a line without a backslash is a logical line
-pub plain-undecoded : (found : Finder) → found.state.encoding ≡ windows_1252 → holds_backslash found.line ≡ false → IsUndecoded found
-plain-undecoded found e plain = (e, inr (plain-closed (line_text found) (unescaped-decoded found.state.encoding found.line plain)))
+-- a line without a backslash isn't continued
+pub plain-whole : (d : List ℕ) → holds_backslash d ≡ false → is_continued d ≡ false
+plain-whole d plain = continued-closed d (plain-closed d plain)
 
--- another is if it isn't continued
-pub whole-undecoded : (found : Finder) (is_continued_line : Bool) → found.state.encoding ≡ windows_1252 → is_continued_line ≡ is_continued found.line
-    → (not is_continued_line ≡ true) ↔ IsUndecoded found
-whole-undecoded found is_continued_line e told =
+-- a line that isn't continued by its bytes is a logical line
+whole-undecoded : (found : Finder) → found.state.encoding ≡ windows_1252 → is_continued found.line ≡ false → IsNotContinued (line_text found)
+whole-undecoded found e h =
     let P : Encoding → Type 0 = λ v. is_continued (decoded_line v found.line) ≡ is_continued found.line in
-    let same : is_continued (line_text found) ≡ is_continued_line = subst P (sym e) (continued-decoded found.line) ∙ sym told in (
-      λ h. (e, stands-alone (line_text found) (same ∙ not-true is_continued_line h)),
-      λ u. ap not (sym same ∙ alone-ends (line_text found) u.1),
-    )
-  where
-    not-true : (b : Bool) → not b ≡ true → b ≡ false
-    not-true true h = absurd (cc)
-    not-true false h = refl
+    stands-alone (line_text found) (subst P (sym e) (continued-decoded found.line) ∙ h)
+
+-- one that is is no comment, and open
+open-undecoded : (found : Finder) → found.state.encoding ≡ windows_1252 → is_continued found.line ≡ true → (is_comment_line (line_text found) ≡ false) × (is_open (line_text found) ≡ true)
+open-undecoded found e h =
+    let P : Encoding → Type 0 = λ v. is_continued (decoded_line v found.line) ≡ is_continued found.line in
+    continued-both (line_text found) (subst P (sym e) (continued-decoded found.line) ∙ h)
+
+-- its text, without the backslash
+begun-undecoded : (found : Finder) (begun : List ℕ) → found.state.encoding ≡ windows_1252 → begun ≡ without_open_backslash found.line
+    → decoded_line windows_1252 begun ≡ without_open_backslash (line_text found)
+begun-undecoded found begun e h =
+    let P : Encoding → Type 0 = λ v. decoded_line windows_1252 begun ≡ without_open_backslash (decoded_line v found.line) in
+    subst P (sym e) (begun-decoded found.line begun h)
+
+module _ {R : Type 0} {reader : Reader R} where
+  -- the lines that continue it are of windows-1252 too
+  pub goes-windows_1252 : {s t : ReaderState} {from to next : R} {old r text : List ℕ} (number : ℕ) (found : Finder) → IsWindows1252 s → GoesOn reader s from old r text t to
+      → finder.FindsNext reader t to number found next → found.state.encoding ≡ windows_1252
+  goes-windows_1252 number found w h n = let a = h.encoding w.0 in let b = n.encoding a.0 in b.1 ∙ a.1 ∙ w.1
+
+  -- it is a logical line with those that were joined to it
+  reads-bytes : {from to : R} (found lines : Finder) (bytes : List ℕ) → (is_comment_line (line_text found) ≡ false) × (is_open (line_text found) ≡ true)
+      → JoinsAll reader found.state from (without_open_backslash (line_text found)) (decoded_line windows_1252 bytes) lines.state to → lines.error ≡ None
+      → ReadsContinued reader found from lines bytes to
+  reads-bytes found lines bytes o j error = record {
+    error = error;
+    comes = λ n.
+        let read = joins-joined found.state.passed found (decoded_line windows_1252 bytes) lines.state n o.0 o.1 j in
+        (read.0, ap (λ v. let w : format.Line = v in is_continued w.text) read.1 ∙ continued-other (line_text found) o.0 ∙ o.1);
+    encoding = j.encoding;
+  }
+
+-- the line and those that were joined to it were read to their end, or not
+pub reads-all_bytes : {R : Type 0} (reader : Reader R) (from to : R) (found lines : Finder) (begun bytes : List ℕ) (result : Bool) → found.state.encoding ≡ windows_1252
+    → is_continued found.line ≡ true → begun ≡ without_open_backslash found.line
+    → JoinsOn reader found from (decoded_line windows_1252 begun) result lines to (decoded_line windows_1252 bytes) → ReadsJoined reader found from result lines bytes to
+reads-all_bytes reader from to found lines begun bytes true e h closed j =
+    let P : List ℕ → Type 0 = λ v. JoinsAll reader found.state from v (decoded_line windows_1252 bytes) lines.state to in
+    reads-bytes found lines bytes (open-undecoded found e h) (subst P (begun-undecoded found begun e closed) j.0) j.1
+reads-all_bytes reader from to found lines begun bytes false e h closed j =
+    let o = open-undecoded found e h in
+    reads-broken found lines (decoded_line windows_1252 begun) o.0 o.1 (begun-undecoded found begun e closed) j
 
 -- ---- the next logical line
 
--- what a contract sees of the joiner of this reader and this line
-abbrev pub joining : Finder → LogicalLine → Bool → Joining
-joining lines line has_backslash = record { at = joiner_of lines line; natural = lines.line; has_backslash = has_backslash; error = lines.error }
+-- what a contract sees of the joiner of this reader, this line and these joined bytes
+abbrev pub joining : Finder → LogicalLine → List ℕ → Bool → Bool → Joining
+joining lines line joined is_joined has_backslash =
+    record { at = joiner_of lines line; bytes = if is_joined then joined else lines.line; has_backslash = has_backslash; error = lines.error }
 
 module _ {R : Type 0} {reader : Reader R} where
   -- no line was found
-  pub joins-none : {from to : R} (before after : Finder) (line : LogicalLine) (has_backslash : Bool) → Finds reader before from false after to
-      → Joins reader (joining before line has_backslash) from None (joining after line has_backslash) to
-  joins-none before after line has_backslash (inl h) = inl (h.0, ap (λ v. joining v line has_backslash) h.1, h.2)
-  joins-none before after line has_backslash (inr h) = inr (record {
+  pub joins-none : {from to : R} (before after : Finder) (line : LogicalLine) (joined : List ℕ) (is_joined has_backslash : Bool) → Finds reader before from false after to
+      → Joins reader (joining before line joined is_joined has_backslash) from None (joining after line joined is_joined has_backslash) to
+  joins-none before after line joined is_joined has_backslash (inl h) = inl (h.0, ap (λ v. joining v line joined is_joined has_backslash) h.1, h.2)
+  joins-none before after line joined is_joined has_backslash (inr h) = inr (record {
     live = h.live;
     done = h.failed.done;
     error = h.error;
@@ -671,57 +690,74 @@ module _ {R : Type 0} {reader : Reader R} where
       by-line (inr e) = subst (λ v. IsUtf8 v) (sym e) IsUtf8-nil
 
   -- the line is borrowed
-  pub joins-borrowed : {from to : R} (old : Joining) (found : Finder) (line : LogicalLine)
+  pub joins-borrowed : {from to : R} (old : Joining) (found : Finder) (line : LogicalLine) (joined : List ℕ) (is_joined : Bool)
       → finder.FindsNext reader old.at.state from found.state.passed found to × HasRightLineFlags found × (found.error ≡ None) → found.is_ascii ≡ true → found.has_backslash ≡ false
-      → line.is_kept ≡ false → Joins reader old from (Some found.state.passed) (joining found line false) to
-  joins-borrowed {from} {to} old found line n is_ascii none kept =
+      → line.is_kept ≡ false → Joins reader old from (Some found.state.passed) (joining found line joined is_joined false) to
+  joins-borrowed {from} {to} old found line joined is_joined n is_ascii none kept =
       let e = found.state.encoding in
       let text = (ascii-keeps e found.line (known-ascii found e found.line found.is_ascii n.1 refl refl refl is_ascii)).1 in
       let plain = unescaped-decoded e found.line (known-plain found found.line found.has_backslash n.1 refl refl none) in
+      let bytes = if is_joined then joined else found.line in
       let P : Bool → Type 0 = λ v. Joins reader old from (Some found.state.passed)
-      (record { at = record { state = found.state; line = if v then line.text else found.line }; natural = found.line; has_backslash = false; error = found.error }) to in
+      (record { at = record { state = found.state; line = if v then line.text else found.line }; bytes = bytes; has_backslash = false; error = found.error }) to in
       let borrowed = joins-alone found.state.passed found found.line n.0 (inr (plain-closed (line_text found) plain)) text in
       subst P (sym kept) (borrowed, λ h. ap holds_backslash text ∙ plain, n.2)
 
+  -- it couldn't be read
+  pub joins-broken_off : {from mid : R} (to : R) (old : Joining) (found lines : Finder) (line : LogicalLine) (joined : List ℕ) (is_joined : Bool) (has_backslash : Bool)
+      → finder.FindsNext reader old.at.state from found.state.passed found mid → ReadsNone reader found mid lines to
+      → Joins reader old from None (joining lines line joined is_joined has_backslash) to
+  joins-broken_off to old found lines line joined is_joined has_backslash n h = inr (record { live = n.live; done = h.done; error = h.error; kept = h.kept; why = h.why n })
+
   -- the rest of it was read
-  pub joins-rest : {from mid : R} (to : R) (old : Joining) (found lines : Finder) (line : LogicalLine) (result : Option ℕ) (has_backslash : Bool)
+  pub joins-rest : {from mid : R} (to : R) (old : Joining) (found lines : Finder) (line : LogicalLine) (joined : List ℕ) (is_joined : Bool) (result : Option ℕ) (has_backslash : Bool)
       → finder.FindsNext reader old.at.state from found.state.passed found mid × HasRightLineFlags found × (found.error ≡ None) → has_backslash ≡ found.has_backslash
-      → ReadsRest reader found mid result lines line to → Joins reader old from result (joining lines line has_backslash) to
-  joins-rest {from} {mid} to old found lines line (Some number) has_backslash n same h =
+      → ReadsRest reader found mid result lines line to → Joins reader old from result (joining lines line joined is_joined has_backslash) to
+  joins-rest {from} {mid} to old found lines line joined is_joined (Some number) has_backslash n same h =
       let P : ℕ → Type 0 = λ v. finder.FindsNext reader old.at.state from v found mid in
-      ((h.comes (subst P (sym h.number_is) n.0)).0, λ e. h.plain (known-plain found found.line has_backslash n.1 refl same e), h.error)
-  joins-rest to old found lines line None has_backslash n same h =
-      inr (record { live = n.0.live; done = h.done; error = h.error; kept = h.kept; why = h.why n.0 })
+      (h.comes (subst P (sym h.number_is) n.0), λ e. h.plain (known-plain found found.line has_backslash n.1 refl same e), h.error)
+  joins-rest to old found lines line joined is_joined None has_backslash n same h = joins-broken_off to old found lines line joined is_joined has_backslash n.0 h.0
 
   -- the line isn't decoded
-  pub joins-undecoded : {from to : R} (old : Joining) (found : Finder) (line : LogicalLine) (has_backslash : Bool)
+  pub joins-undecoded : {from to : R} (old : Joining) (found : Finder) (line : LogicalLine) (joined : List ℕ) (has_backslash : Bool)
       → finder.FindsNext reader old.at.state from found.state.passed found to × HasRightLineFlags found × (found.error ≡ None) → has_backslash ≡ found.has_backslash
-      → IsUndecoded found → JoinsAlone reader old from found.state.passed (joining found line has_backslash) to
-  joins-undecoded {from} {to} old found line has_backslash n same u =
+      → found.state.encoding ≡ windows_1252 → is_continued found.line ≡ false
+      → JoinsBytes reader old from found.state.passed (joining found line joined false has_backslash) to
+  joins-undecoded {from} {to} old found line joined has_backslash n same e c =
       let P : Encoding → Type 0 = λ v. JoinsLine reader old.at.state from (record { number = found.state.passed; text = decoded_line v found.line }) found.state to in
-      let A : Encoding → Type 0 = λ v. IsNotContinued (decoded_line v found.line) in
       record {
-        joins = subst P u.0 (line-alone found.state.passed found n.0 u.1);
-        encoding = u.0;
-        alone = subst A u.0 u.1;
-        backslash = same ∙ (n.1 0 0).backslash;
+        joins = subst P e (line-alone found.state.passed found n.0 (whole-undecoded found e c));
+        encoding = e;
+        backslash = inl (same ∙ (n.1 0 0).backslash);
         plain = λ h. unescaped-decoded windows_1252 found.line (known-plain found found.line has_backslash n.1 refl same h);
         error = n.2;
       }
 
-  -- it is, and the rest of it was read
-  pub joins-text : {from mid : R} (to : R) (old : Joining) (found lines : Finder) (line : LogicalLine) (number : ℕ) (has_backslash : Bool)
+  -- it is joined with others
+  pub joins-bytes : {from mid : R} (to : R) (old : Joining) (found lines : Finder) (line : LogicalLine) (joined : List ℕ) (has_backslash : Bool)
       → finder.FindsNext reader old.at.state from found.state.passed found mid × HasRightLineFlags found × (found.error ≡ None) → has_backslash ≡ found.has_backslash
-      → (IsUndecoded found → ⊥) → ReadsWhole reader found mid number lines line to → JoinsText reader old from number (joining lines line has_backslash) to
-  joins-text {from} {mid} to old found lines line number has_backslash n same decoded h =
-      let P : ℕ → Type 0 = λ v. finder.FindsNext reader old.at.state from v found mid in
-      let read = h.comes (subst P (sym h.number_is) n.0) in
+      → found.state.encoding ≡ windows_1252 → is_continued found.line ≡ true → ReadsContinued reader found mid lines joined to
+      → JoinsBytes reader old from found.state.passed (joining lines line joined true has_backslash) to
+  joins-bytes to old found lines line joined has_backslash n same e c h =
+      let read = h.comes n.0 in
       record {
         joins = read.0;
-        exactly = λ e. elim read.1 [
-          | inl c ↦ c
-          | inr k ↦ absurd (decoded (sym (ap (λ v. let w : ReaderState = v in w.encoding) k.1) ∙ e, k.0))
-        ];
+        encoding = (h.encoding n.0.decided).1 ∙ e;
+        backslash = inr read.1;
+        plain = λ k. let closed = plain-whole found.line (known-plain found found.line has_backslash n.1 refl same k) in absurd (cc);
+        error = h.error;
+      }
+
+  -- it is in another encoding, and the rest of it was read
+  pub joins-text : {from mid : R} (to : R) (old : Joining) (found lines : Finder) (line : LogicalLine) (joined : List ℕ) (is_joined : Bool) (number : ℕ) (has_backslash : Bool)
+      → finder.FindsNext reader old.at.state from found.state.passed found mid × HasRightLineFlags found × (found.error ≡ None) → has_backslash ≡ found.has_backslash
+      → found.state.encoding ≢ windows_1252 → ReadsWhole reader found mid number lines line to
+      → JoinsText reader old from number (joining lines line joined is_joined has_backslash) to
+  joins-text {from} {mid} to old found lines line joined is_joined number has_backslash n same other h =
+      let P : ℕ → Type 0 = λ v. finder.FindsNext reader old.at.state from v found mid in
+      record {
+        joins = h.comes (subst P (sym h.number_is) n.0);
+        other = λ e. other (sym (h.encoding n.0.decided).1 ∙ e);
         plain = λ e. h.plain (known-plain found found.line has_backslash n.1 refl same e);
         error = h.error;
       }

@@ -14,7 +14,8 @@ use Rattle.properties_format.specs.Reading.ItemsToCome.{text_to_come, natural_to
 use Rattle.properties_format.specs.Reading.ReaderSteps.{Gives, ReadsLines, after_read}
 use Rattle.properties_format.proofs.ItemsToCome.Entries.{gives-on}
 use Rattle.properties_format.proofs.ItemsToCome.Steps.{lines-start, lines-on, lines-then, lines-read}
-use Rattle.properties_lines.specs.Scanner.{is_decided, after_cr, scanner_state, bytes_of, Fits, Scans}
+use Rattle.properties_text.specs.Encoding.{encoding_of}
+use Rattle.properties_lines.specs.Scanner.{is_decided, after_cr, scanner_state, bytes_of, Fits, Scans, KeepsEncoding}
 use Rattle.properties_lines.specs.LineReader as reading
 use Rattle.properties_lines.specs.LineReader.{Finder, found_line, reads_left, lines_left, awaits_front, HasRightLineFlags, HoldsLine, HoldsNone, ScansHeld, ReleasesOrKeeps, IsLazy}
 use Rattle.properties_lines.specs.LineReader.{Along, IsAtEnd, ReadsBytes, HasFailedFor, IsReadError, Finds, FindsNext, FindsFault, FindsTooMany, FindsNoRoom, FindsNone, FindsError}
@@ -27,6 +28,7 @@ use Rattle.properties_lines.specs.declared.scanner.Front.{Front}
 use Rattle.properties_lines.specs.declared.scanner.Front.TheVariants.{Mark, Feed, Nothing}
 use Rattle.properties_lines.specs.declared.scanner.Scanner.{Scanner}
 use Rattle.properties_lines.proofs.ScannerFront.{fits-grown, fits-release, release}
+use Rattle.properties_lines.proofs.Scans.{kept-encoding}
 
 -- ---- where no line end is held
 
@@ -110,6 +112,8 @@ scans-held s new held error ended Line h g = record {
     | inr x ↦ inr (x.0, x.2)
   ];
   fits = omega (arith, g.number, g.numbered);
+  decided = g.decided;
+  encoding = λ d. (g.decided, kept-encoding (scanner_state s held) (encoding_of new.encoding) (drop new.line.start held) d g.front);
   flags = λ start end. record { ascii = g.flags.ascii; backslash = g.flags.backslash };
   error = no-error error s.is_done h g.live;
 }
@@ -122,6 +126,7 @@ scans-held s new held error ended More h (on, g) = (
     alike = g.alike;
     passed = g.passed;
     done = g.done;
+    encoding = g.encoding;
     nearer = reads-nearer s new held error g.stays;
     error = refl;
     line = ap (bytes_of held) g.line;
@@ -167,9 +172,12 @@ releases-on a b c d h e k = elim k [
   | inr none ↦ inr none
 ]
 
+pub encoding-on : (s t u : ReaderState) → KeepsEncoding s t → KeepsEncoding t u → KeepsEncoding s u
+encoding-on s t u h k d = let a = h d in let b = k a.0 in (b.0, b.1 ∙ a.1)
+
 module _ {R : Type 0} {reader : Reader R} where
   pub along-start : (s : ReaderState) (from : R) → Along reader s from [] s from
-  along-start s from = record { read = read-none from; gives = lines-start s; passed = refl; done = refl; lazy = inl (refl, refl) }
+  along-start s from = record { read = read-none from; gives = lines-start s; passed = refl; done = refl; encoding = λ d. (d, refl); lazy = inl (refl, refl) }
 
   along-none : {s t : ReaderState} {from to : R} {r : List ℕ} → Along reader s from r t to → natural_to_come t [] more ≡ [] → natural_to_come s [] more ≡ []
   along-none {s} {t} h k = elim h.lazy [
@@ -180,11 +188,12 @@ module _ {R : Type 0} {reader : Reader R} where
   -- what was held gave no line, and bytes were read
   along-held : {s : ReaderState} {t u : Finder} {from to next : R} {r : List ℕ} (q : List ℕ) → Along reader s from r t.state to → HoldsNone t u → HasRead reader to q next
       → Along reader s from (r ++ q) (after_read u.state q) next
-  along-held {u = u} q h k m = record {
+  along-held {s} {t} {u} q h k m = record {
     read = read-more h.read m;
     gives = lines-on h.gives (lines-on k.alike (lines-read u.state q));
     passed = k.passed ∙ h.passed;
     done = k.done ∙ h.done;
+    encoding = encoding-on s t.state u.state h.encoding k.encoding;
     lazy = inr (along-none h k.none);
   }
 
@@ -198,7 +207,7 @@ module _ {R : Type 0} {reader : Reader R} where
 
   pub found : {s : ReaderState} {t : Finder} {from to : R} {r : List ℕ} (ended : Bool) (new : Finder) → Along reader s from r t.state to → (ended ≡ true → IsAtEnd reader t.state to)
       → HoldsLine t ended new → FindsNext reader s from new.state.passed new to
-  found {r = r} false new h last k = record {
+  found {s} {t} {r = r} false new h last k = record {
     bytes = r;
     read = h.read;
     live = sym h.done ∙ k.live;
@@ -208,6 +217,8 @@ module _ {R : Type 0} {reader : Reader R} where
       | inr x ↦ absurd (cc x.1)
     ];
     counted = λ d. refl;
+    decided = k.decided;
+    encoding = encoding-on s t.state new.state h.encoding k.encoding;
     ended = elim k.going [
       | inl x ↦ λ d. absurd (cc)
       | inr x ↦ absurd (cc x.1)
@@ -229,6 +240,8 @@ module _ {R : Type 0} {reader : Reader R} where
         numbered = k.number ∙ ap (λ n. n + 1) h.passed;
         passes = reading.Passes.at_last done (gives-on before gives);
         counted = λ d. refl;
+        decided = k.decided;
+        encoding = encoding-on s t.state new.state h.encoding k.encoding;
         ended = λ d. stopped.ended;
         lazy = h.lazy;
       }

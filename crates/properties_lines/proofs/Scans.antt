@@ -7,11 +7,12 @@ use Rattle.properties_format.specs.Encoding.{Encoding, InForce}
 use Rattle.properties_format.specs.Lines.{more}
 use Rattle.properties_format.specs.Cut.{HoldsNoLineEndUnit}
 use Rattle.properties_format.specs.Reading.Cut.{decoded_line}
+use Rattle.properties_format.specs.ItemsToCome.{ReaderState}
 use Rattle.properties_format.specs.Reading.ReaderSteps.{HoldsNoEnd}
 use Rattle.properties_format.proofs.ItemsToCome.Lines.{natural-more}
 use Rattle.properties_text.specs.Encoding.{encoding_of}
 use Rattle.properties_lines.specs.LineSearch.{unit_size, whole_units}
-use Rattle.properties_lines.specs.Scanner.{is_decided, scanner_state, bytes_of, Fits, Comes, IsCutOff, HasRightFlags, GivesLine, AsksForMore, IsAlike, IsReady, TakesLine, LacksEnd, TakesLast}
+use Rattle.properties_lines.specs.Scanner.{is_decided, scanner_state, front_of, bytes_of, Fits, Comes, IsCutOff, HasRightFlags, GivesLine, AsksForMore, IsAlike, IsReady, TakesLine, LacksEnd, TakesLast}
 use Rattle.properties_lines.specs.declared.scanner.Front.{Front}
 use Rattle.properties_lines.specs.declared.scanner.Front.TheVariants.{Mark, Feed, Nothing}
 use Rattle.properties_lines.specs.declared.scanner.RawLine.{RawLine}
@@ -33,6 +34,10 @@ as-many h = ap (λ v. let w : Scanner = v in w.passed) h.same
 -- the scanner, where all that is held was searched
 abbrev all_searched : Scanner → List ℕ → Scanner
 all_searched s held = record s { searched = whole_units (encoding_of s.encoding) (length (drop s.at held)) }
+
+-- the encoding in force, once it is known
+pub kept-encoding : (s : ReaderState) (e : Encoding) (body : List ℕ) → s.is_decided ≡ true → front_of s ≡ record { encoding = e; body = body } → e ≡ s.encoding
+kept-encoding s e body d h = sym (ap (λ v. let w : InForce = v in w.encoding) (rw d at h))
 
 -- ---- a line up to its end
 
@@ -147,6 +152,7 @@ more-of old mid held f g n h holds = record {
   passed = as-many h;
   done = ap (λ v. let w : Scanner = v in w.is_done) h.same;
   line = ap (λ v. let w : Scanner = v in w.line) h.same;
+  encoding = λ d. (ap is_decided (settled h), kept-encoding (scanner_state old held) (encoding_of mid.encoding) (drop mid.at held) d h.front);
   stays = stays old.front refl;
   fits = record {
     within = h.fits.within;

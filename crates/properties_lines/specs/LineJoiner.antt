@@ -1,5 +1,5 @@
 -- The joiner of lines as contracts see it, and the results and effects of its calls.
-use Rattle.std.specs.Prelude.{◌≡◌, ◌⊎◌, ◌++◌, ℕ, Bool, true, false, List, [], ◌∷◌, Option, Some, None}
+use Rattle.std.specs.Prelude.{◌≡◌, ◌≢◌, ◌⊎◌, ◌++◌, ℕ, Bool, true, false, List, [], ◌∷◌, Option, Some, None}
 use Rattle.std.specs.Str.{chars, IsUtf8}
 use Rattle.std.specs.declared.io.Error.{Error}
 use Rattle.counted_io.specs.Streams.{Reader, HasRead, HasFailed}
@@ -16,7 +16,8 @@ use Rattle.properties_format.specs.Reading.ReaderSteps.{ReadsLogical}
 use Rattle.properties_text.specs.Escaping.{holds_backslash}
 use Rattle.properties_lines.specs.LineReader as finder
 use Rattle.properties_lines.specs.LineReader.{Finder, Passes, PassesSome, PassesAll}
-use Rattle.properties_lines.specs.LogicalLine.{text_with, is_continued, IsNotContinued}
+use Rattle.properties_lines.specs.Scanner.{KeepsEncoding}
+use Rattle.properties_lines.specs.LogicalLine.{text_with, is_continued}
 use Rattle.properties_lines.specs.declared.logical.LogicalLine.{LogicalLine}
 use Rattle.properties_lines.specs.declared.error.LineError.TheVariants as why
 use Rattle.properties_lines.specs.declared.error.LineError.{LineError}
@@ -28,11 +29,11 @@ pub record Joiner : Type 0 where
   pub state : ReaderState
   pub line : List ℕ
 
--- the joiner, the bytes of the natural line that was found last, whether the line that was joined last may contain a
--- backslash, and the error that is kept
+-- the joiner, the bytes of the line that was joined last if it isn't decoded, whether that line may contain a backslash,
+-- and the error that is kept
 pub record Joining : Type 0 where
   pub at : Joiner
-  pub natural : List ℕ
+  pub bytes : List ℕ
   pub has_backslash : Bool
   pub error : Option LineError
 
@@ -134,6 +135,7 @@ pub record GoesOn {R : Type 0} (reader : Reader R) (old : ReaderState) (from : R
   pub pends : Pends old old_text bytes text new
   pub adds : AddsOpen old old_text bytes text new
   pub passes : new.is_done ≡ false → PassesSome old bytes new
+  pub encoding : KeepsEncoding old new
   pub done : old.is_done ≡ true → new.is_done ≡ true
   pub ended : new.is_done ≡ true → (old.is_done ≡ true) ⊎ (reader.at_end to ≡ true)
   pub idle : old.is_done ≡ true → (bytes ≡ []) × (to ≡ from)
@@ -146,6 +148,7 @@ pub record JoinsAll {R : Type 0} (reader : Reader R) (old : ReaderState) (from :
   pub closes : Closes old old_text bytes text new
   pub adds : AddsLast old old_text bytes text new
   pub passes : new.is_done ≡ false → PassesSome old bytes new
+  pub encoding : KeepsEncoding old new
   pub done : old.is_done ≡ true → new.is_done ≡ true
   pub ended : new.is_done ≡ true → (old.is_done ≡ true) ⊎ (reader.at_end to ≡ true)
   pub idle : old.is_done ≡ true → (bytes ≡ []) × (to ≡ from)
@@ -236,31 +239,26 @@ Joins reader old from (Some number) new to =
 
 -- ---- lines that aren't decoded
 
--- The natural line that was found is one of windows-1252, and a logical line by itself.
-abbrev pub IsUndecoded : Finder → Type 0
-IsUndecoded found = (found.state.encoding ≡ windows_1252) × IsNotContinued (line_text found)
-
--- A natural line of windows-1252 was found that is a logical line by itself, and it wasn't decoded.
-pub record JoinsAlone {R : Type 0} (reader : Reader R) (old : Joining) (from : R) (number : ℕ) (new : Joining) (to : R) : Type 0 where
-  pub joins : JoinsLine reader old.at.state from (record { number = number; text = decoded_line windows_1252 new.natural }) new.at.state to
+-- A line of windows-1252 was read, and it wasn't decoded. Whether it may contain a backslash is exact, unless its first
+-- natural line is continued.
+pub record JoinsBytes {R : Type 0} (reader : Reader R) (old : Joining) (from : R) (number : ℕ) (new : Joining) (to : R) : Type 0 where
+  pub joins : JoinsLine reader old.at.state from (record { number = number; text = decoded_line windows_1252 new.bytes }) new.at.state to
   pub encoding : new.at.state.encoding ≡ windows_1252
-  pub alone : IsNotContinued (decoded_line windows_1252 new.natural)
-  pub backslash : new.has_backslash ≡ holds_backslash new.natural
-  pub plain : new.has_backslash ≡ false → holds_backslash (decoded_line windows_1252 new.natural) ≡ false
+  pub backslash : (new.has_backslash ≡ holds_backslash new.bytes) ⊎ (is_continued joins.group.first.text ≡ true)
+  pub plain : new.has_backslash ≡ false → holds_backslash (decoded_line windows_1252 new.bytes) ≡ false
   pub error : new.error ≡ None
 
--- A text was returned. A natural line of windows-1252 that is a logical line by itself is no such text: if the encoding
--- is windows-1252, the first natural line is continued.
+-- A text in another encoding was returned.
 pub record JoinsText {R : Type 0} (reader : Reader R) (old : Joining) (from : R) (number : ℕ) (new : Joining) (to : R) : Type 0 where
   pub joins : JoinsNext reader old.at.state from number new.at to
-  pub exactly : new.at.state.encoding ≡ windows_1252 → is_continued joins.group.first.text ≡ true
+  pub other : new.at.state.encoding ≢ windows_1252
   pub plain : new.has_backslash ≡ false → holds_backslash (chars new.at.line) ≡ false
   pub error : new.error ≡ None
 
--- The effect of advancing to the next logical line, which isn't decoded if it is a natural line of windows-1252. After
--- the permanent end, nothing is read.
+-- The effect of advancing to the next logical line, which isn't decoded if it is in windows-1252. After the permanent
+-- end, nothing is read.
 abbrev pub JoinsUndecoded : {R : Type 0} → Reader R → Joining → R → NextLine → Joining → R → Type 0
-JoinsUndecoded reader old from (next.Undecoded number) new to = JoinsAlone reader old from number new to
+JoinsUndecoded reader old from (next.Undecoded number) new to = JoinsBytes reader old from number new to
 JoinsUndecoded reader old from (next.Text number) new to = JoinsText reader old from number new to
 JoinsUndecoded reader old from next.None new to = Joins reader old from None new to
 
@@ -276,10 +274,6 @@ OnLine next.None p = Unit {0}
 abbrev pub joiner_of : Finder → LogicalLine → Joiner
 joiner_of lines line = record { state = lines.state; line = text_with line lines.line }
 
--- A natural line is continued in the next; or it is a logical line by itself, and nothing more was read.
-abbrev pub GoesOnOrEnds : format.Line → Finder → Finder → Type 0
-GoesOnOrEnds first old new = (is_continued first.text ≡ true) ⊎ IsNotContinued (line_text old) × (new.state ≡ old.state)
-
 -- The natural line that was found, with this number, is a logical line on its own or with the lines that were joined to
 -- it.
 pub record ReadsWhole {R : Type 0} (reader : Reader R) (old : Finder) (from : R) (number : ℕ) (lines : Finder) (line : LogicalLine) (to : R) : Type 0 where
@@ -287,17 +281,32 @@ pub record ReadsWhole {R : Type 0} (reader : Reader R) (old : Finder) (from : R)
   pub error : lines.error ≡ None
   pub text : line.is_kept ≡ false → IsUtf8 lines.line
   pub comes : {S : ReaderState} {start : R} → finder.FindsNext reader S start number old from
-      → (n : JoinsNext reader S start number (joiner_of lines line) to) × GoesOnOrEnds n.group.first old lines
+      → JoinsNext reader S start number (joiner_of lines line) to
+  pub encoding : KeepsEncoding old.state lines.state
   pub plain : holds_backslash old.line ≡ false → holds_backslash (chars (text_with line lines.line)) ≡ false
 
 -- It isn't, and the reading ended permanently.
-pub record ReadsNone {R : Type 0} (reader : Reader R) (old : Finder) (from : R) (lines : Finder) (line : LogicalLine) (to : R) : Type 0 where
+pub record ReadsNone {R : Type 0} (reader : Reader R) (old : Finder) (from : R) (lines : Finder) (to : R) : Type 0 where
   pub done : lines.state.is_done ≡ true
   pub error : LineError
   pub kept : lines.error ≡ Some error
-  pub text : line.is_kept ≡ false → IsUtf8 lines.line
   pub why : {S : ReaderState} {start : R} → finder.FindsNext reader S start old.state.passed old from → JoinsError reader S start error lines.state to
 
 abbrev pub ReadsRest : {R : Type 0} → Reader R → Finder → R → Option ℕ → Finder → LogicalLine → R → Type 0
 ReadsRest reader old from (Some number) lines line to = ReadsWhole reader old from number lines line to
-ReadsRest reader old from None lines line to = ReadsNone reader old from lines line to
+ReadsRest reader old from None lines line to = ReadsNone reader old from lines to × (line.is_kept ≡ false → IsUtf8 lines.line)
+
+-- The encoding in force is windows-1252.
+abbrev pub IsWindows1252 : ReaderState → Type 0
+IsWindows1252 s = (s.is_decided ≡ true) × (s.encoding ≡ windows_1252)
+
+-- The natural line of windows-1252 that was found was joined with those that continue it, and these are the bytes.
+pub record ReadsContinued {R : Type 0} (reader : Reader R) (old : Finder) (from : R) (lines : Finder) (bytes : List ℕ) (to : R) : Type 0 where
+  pub error : lines.error ≡ None
+  pub comes : {S : ReaderState} {start : R} → finder.FindsNext reader S start old.state.passed old from
+      → (n : JoinsLine reader S start (record { number = old.state.passed; text = decoded_line windows_1252 bytes }) lines.state to) × (is_continued n.group.first.text ≡ true)
+  pub encoding : KeepsEncoding old.state lines.state
+
+abbrev pub ReadsJoined : {R : Type 0} → Reader R → Finder → R → Bool → Finder → List ℕ → R → Type 0
+ReadsJoined reader old from true lines bytes to = ReadsContinued reader old from lines bytes to
+ReadsJoined reader old from false lines bytes to = ReadsNone reader old from lines to

@@ -10,7 +10,7 @@ use Rattle.properties_format.specs.Entries.{read_fault}
 use Rattle.properties_format.specs.ItemsToCome.{ReaderState}
 use Rattle.properties_format.specs.Reading.ItemsToCome.{natural_to_come, last_to_come}
 use Rattle.properties_format.specs.Reading.ReaderSteps.{Gives, ReadsLines}
-use Rattle.properties_lines.specs.Scanner.{HasRightFlags, Comes}
+use Rattle.properties_lines.specs.Scanner.{HasRightFlags, Comes, KeepsEncoding}
 use Rattle.properties_lines.specs.declared.error.LineError.TheVariants as why
 use Rattle.properties_lines.specs.declared.error.LineError.{LineError}
 use Rattle.properties_lines.specs.declared.reader.Read.{Read}
@@ -58,6 +58,7 @@ pub record Along {R : Type 0} (reader : Reader R) (old : ReaderState) (from : R)
   pub gives : ReadsLines old bytes [] new
   pub passed : new.passed ≡ old.passed
   pub done : new.is_done ≡ old.is_done
+  pub encoding : KeepsEncoding old new
   pub lazy : IsLazy old from bytes to
 
 -- The reader is at its end, and no line with a line ending is held.
@@ -136,6 +137,8 @@ pub record FindsNext {R : Type 0} (reader : Reader R) (old : ReaderState) (from 
   pub numbered : number ≡ old.passed + 1
   pub passes : Passes old bytes (found_line number new ∷ []) new.state
   pub counted : new.state.is_done ≡ false → new.state.passed ≡ number
+  pub decided : new.state.is_decided ≡ true
+  pub encoding : KeepsEncoding old new.state
   pub ended : new.state.is_done ≡ true → reader.at_end to ≡ true
   pub lazy : IsLazy old from bytes to
 
@@ -185,6 +188,8 @@ pub record HoldsLine (old : Finder) (ended : Bool) (new : Finder) : Type 0 where
   pub comes : Comes ended old.state (found_line new.state.passed new ∷ []) new.state
   pub going : (new.state.is_done ≡ false) ⊎ (new.state.is_done ≡ true) × (ended ≡ true)
   pub fits : new.state.passed < 2 ^ 64
+  pub decided : new.state.is_decided ≡ true
+  pub encoding : KeepsEncoding old.state new.state
   pub flags : HasRightLineFlags new
   pub error : new.error ≡ None
 
@@ -196,6 +201,7 @@ pub record HoldsNone (old new : Finder) : Type 0 where
   pub alike : ReadsLines old.state [] [] new.state
   pub passed : new.state.passed ≡ old.state.passed
   pub done : new.state.is_done ≡ old.state.is_done
+  pub encoding : KeepsEncoding old.state new.state
   pub nearer : reads_left new ≤ reads_left old
   pub error : new.error ≡ old.error
   pub line : new.line ≡ old.line

@@ -52,6 +52,10 @@ scanner_state s held = record {
   is_done = s.is_done;
 }
 
+-- Once the encoding in force is known, it stays.
+abbrev pub KeepsEncoding : ReaderState → ReaderState → Type 0
+KeepsEncoding old new = old.is_decided ≡ true → (new.is_decided ≡ true) × (new.encoding ≡ old.encoding)
+
 -- the bytes of a line
 abbrev pub bytes_of : List ℕ → RawLine → List ℕ
 bytes_of held line = take (line.end - line.start) (drop line.start held)
@@ -148,6 +152,7 @@ pub record AsksForMore (old : Scanner) (held : List ℕ) (new : Scanner) : Type 
   pub passed : new.passed ≡ old.passed
   pub done : new.is_done ≡ old.is_done
   pub line : new.line ≡ old.line
+  pub encoding : KeepsEncoding (scanner_state old held) (scanner_state new held)
   pub stays : (new.at ≡ old.at) × (new.front ≡ old.front) ⊎ (old.front ≢ Nothing) × (new.front ≡ Nothing)
   pub fits : Fits new held
   pub saw : new.front ≡ Nothing → new.searched ≡ whole_units (encoding_of new.encoding) (length (drop new.at held))

@@ -4,7 +4,6 @@ ghost use Rattle.std.specs.Prelude.{◌≡◌};
 ghost use Rattle.std.specs.Str.{chars};
 ghost use Rattle.properties_format.specs.Text.{without_leading_blanks};
 ghost use Rattle.properties_format.specs.Groups.{addition, is_comment_line, is_open, without_open_backslash};
-ghost use Rattle.properties_lines.specs.LogicalLine.{is_continued};
 
 use properties_text::characters::is_comment_sign;
 use properties_text::escape::count_ending_backslashes;
@@ -17,32 +16,14 @@ pub fn is_comment_line(text: &str) -> bool
     is_comment(text.as_bytes())
 }
 
-// Returns whether the first byte that isn't a blank is a comment sign.
-fn is_comment(bytes: &[u8]) -> bool
+/// Returns whether the first byte that isn't a blank is a comment sign.
+pub(crate) fn is_comment(bytes: &[u8]) -> bool
     ensures { result ≡ is_comment_line bytes.now }
 {
     match bytes.get(leading_blanks(bytes)) {
         Some(first) => is_comment_sign(char::from(*first)),
         None => false,
     }
-}
-
-/// Returns whether the next line is joined to the line with these bytes of windows-1252: it ends in an odd number of
-/// backslashes and isn't a comment.
-#[inline(never)]
-pub fn ends_open(bytes: &[u8]) -> bool
-    ensures { result ≡ is_continued bytes.now }
-{
-    if is_comment(bytes) {
-        return false;
-    }
-    let mut end = bytes.len();
-    let mut odd = false;
-    while end > 0 && bytes[end - 1] == b'\\' {
-        odd = !odd;
-        end -= 1;
-    }
-    odd
 }
 
 /// Returns whether the line ends in an odd number of backslashes, of which the last one leaves it open.

@@ -1,6 +1,6 @@
 // Joins natural lines into logical lines.
 
-ghost use Rattle.std.specs.Prelude.{◌≡◌, ◌↔◌, ◌<◌, ◌≤◌, ◌^◌, false, true, None, [], OnSome, length, take};
+ghost use Rattle.std.specs.Prelude.{◌≡◌, ◌<◌, ◌≤◌, ◌^◌, if◌then◌else◌, false, true, None, [], OnSome, length, take};
 ghost use Rattle.std.specs.Option.{is_some};
 ghost use Rattle.std.specs.Str.{IsUtf8, chars};
 ghost use Rattle.counted_io.specs.Streams.{IsSameReader};
@@ -8,14 +8,15 @@ ghost use Rattle.properties_format.specs.ItemsToCome.{start};
 ghost use Rattle.properties_text.specs.Encoding.{encoding_of};
 ghost use Rattle.properties_lines.specs.LineReader.{lines_left, HasRightLineFlags};
 ghost use Rattle.properties_lines.specs.LogicalLine.{text_with, is_continued};
-ghost use Rattle.properties_lines.specs.LineJoiner.{Joining, Joins, JoinsOn, ReadsRest, JoinsUndecoded, IsUndecoded, OnLine};
+ghost use Rattle.properties_lines.specs.LineJoiner.{Joining, Joins, JoinsOn, ReadsRest, JoinsUndecoded, OnLine};
 
 use crate::error::LineError;
-use crate::join::ends_open;
+use crate::joined::{is_continued, read_joined};
 use crate::logical::LogicalLine;
 use crate::reader::LineReader;
 use counted_io::CountedRead;
 use properties_text::encoding::Encoding;
+use properties_text::print::LineBuffer;
 use std::alloc::Global;
 use std::marker::Model;
 
@@ -28,6 +29,9 @@ pub struct LineJoiner {
     lines: LineReader,
     // The logical line that was joined last, over the bytes of the natural line that was found last.
     line: LogicalLine,
+    // The bytes of the undecoded line that was joined last, if it consists of several natural lines.
+    joined: LineBuffer,
+    is_joined: bool,
     has_backslash: bool,
 }
 
@@ -36,7 +40,7 @@ impl Model for LineJoiner {
 
     ghost view = { λ s. record {
       at = record { state = s.lines.state; line = text_with s.line s.lines.line };
-      natural = s.lines.line;
+      bytes = if s.is_joined then s.joined else s.lines.line;
       has_backslash = s.has_backslash;
       error = s.lines.error;
     } };
@@ -53,6 +57,8 @@ impl LineJoiner {
         LineJoiner {
             lines: LineReader::new(alloc, encoding),
             line: LogicalLine::new(alloc),
+            joined: LineBuffer::new(alloc),
+            is_joined: false,
             has_backslash: false,
         }
     }
@@ -76,7 +82,7 @@ impl LineJoiner {
     /// Ends the reading permanently.
     pub fn end(&mut self)
         ensures state { self.new.at ≡ record self.old.at { state = record self.old.at.state { is_done = true } } }
-        ensures natural { self.new.natural ≡ self.old.natural }
+        ensures bytes { self.new.bytes ≡ self.old.bytes }
         ensures backslash { self.new.has_backslash ≡ self.old.has_backslash }
         ensures error { self.new.error ≡ self.old.error }
     {
@@ -112,8 +118,8 @@ impl LineJoiner {
         read_rest(&mut self.lines, &mut self.line, reader)
     }
 
-    /// Advances to the next logical line, and decodes it unless it is a natural line of windows-1252 by itself. If it
-    /// returns `NextLine::None`, the reading has ended permanently.
+    /// Advances to the next logical line, and decodes it unless it is in windows-1252. If it returns `NextLine::None`, the
+    /// reading has ended permanently.
     ///
     /// After an undecoded line, [`line`](LineJoiner::line) has no meaning.
     #[inline(always)]
@@ -128,40 +134,58 @@ impl LineJoiner {
         }
         let has_backslash = self.lines.has_backslash();
         self.has_backslash = has_backslash;
-        if is_whole(&self.lines) {
-            self.line.keep_none();
-            return NextLine::Undecoded(self.lines.number());
+        if !matches!(self.lines.encoding(), Encoding::WINDOWS_1252) {
+            return match read_rest(&mut self.lines, &mut self.line, reader) {
+                Some(number) => NextLine::Text(number),
+                None => NextLine::None,
+            };
         }
-        match read_rest(&mut self.lines, &mut self.line, reader) {
-            Some(number) => NextLine::Text(number),
-            None => NextLine::None,
+        self.line.keep_none();
+        let number = self.lines.number();
+        if !is_continued_line(&self.lines) {
+            self.is_joined = false;
+            return NextLine::Undecoded(number);
+        }
+        self.is_joined = true;
+        if read_joined(&mut self.lines, &mut self.joined, reader) {
+            NextLine::Undecoded(number)
+        } else {
+            NextLine::None
         }
     }
 
-    /// Returns the bytes from the start of the natural line that was found last. They begin with that line, and further
+    /// Returns the bytes of the line that was joined last, if it is undecoded. They begin with that line, and further
     /// bytes may come after it.
     #[inline(always)]
     pub fn undecoded(&self) -> &[u8]
-        ensures line { take (length self.now.natural) result.now ≡ self.now.natural }
-        ensures within { length self.now.natural ≤ length result.now }
+        ensures line { take (length self.now.bytes) result.now ≡ self.now.bytes }
+        ensures within { length self.now.bytes ≤ length result.now }
     {
-        self.lines.bytes_onward()
+        if self.is_joined {
+            self.joined.with_room()
+        } else {
+            self.lines.bytes_onward()
+        }
     }
 
     /// Returns the number of bytes in that line.
     #[inline(always)]
     pub fn undecoded_length(&self) -> usize
-        ensures { result ≡ length self.now.natural }
+        ensures { result ≡ length self.now.bytes }
     {
-        self.lines.length()
+        if self.is_joined {
+            self.joined.len()
+        } else {
+            self.lines.length()
+        }
     }
 }
 
 /// The next logical line.
 #[derive(Clone, Copy, Debug, PartialEq, Eq)]
 pub enum NextLine {
-    /// A natural line of windows-1252 with this number, which is a logical line by itself and isn't decoded. Its bytes
-    /// are the first [`undecoded_length`](LineJoiner::undecoded_length) of [`undecoded`](LineJoiner::undecoded).
+    /// A line of windows-1252 that begins in the natural line with this number and isn't decoded. Its bytes are the
+    /// first [`undecoded_length`](LineJoiner::undecoded_length) of [`undecoded`](LineJoiner::undecoded).
     Undecoded(usize),
     /// A text that begins in the line with this number. [`line`](LineJoiner::line) returns it.
     Text(usize),
@@ -169,25 +193,13 @@ pub enum NextLine {
     None,
 }
 
-// Returns whether the natural line that was found is one of windows-1252, and a logical line by itself.
+// Returns whether the next line is joined to the natural line of windows-1252 that was found.
 #[inline(always)]
-fn is_whole(lines: &LineReader) -> bool
+fn is_continued_line(lines: &LineReader) -> bool
     requires { HasRightLineFlags lines.now }
-    ensures { (result ≡ true) ↔ IsUndecoded lines.now }
+    ensures { result ≡ is_continued lines.now.line }
 {
-    matches!(lines.encoding(), Encoding::WINDOWS_1252)
-        && (!lines.has_backslash() || !is_open_line(lines.line()))
-}
-
-// Returns whether the next line is joined to the line with these bytes of windows-1252.
-#[inline(always)]
-fn is_open_line(bytes: &[u8]) -> bool
-    ensures { result ≡ is_continued bytes.now }
-{
-    match bytes.last() {
-        Some(b'\\') => ends_open(bytes),
-        _ => false,
-    }
+    lines.has_backslash() && is_continued(lines.line())
 }
 
 // Makes the natural line that was found a logical line, and joins the lines that continue it.

@@ -3,6 +3,7 @@
 // Each test holds with memory to spare, and where any one growth is refused: `fail-alloc.sh` refuses each in turn.
 // What a test takes for its own use may be refused as well, and then it says nothing.
 
+mod copying;
 mod editing;
 mod maps;
 mod reading;

@@ -9,7 +9,7 @@ use Rattle.properties_format.specs.Reading.Escapes.{meaning_of, text_in_front}
 use Rattle.properties_format.specs.Reading.Undecoded.{characters_of}
 use Rattle.properties_text.specs.Decoding.{text_of}
 use Rattle.properties_text.specs.Escaping.{malformed_in, IsRefused}
-use Rattle.properties_text.specs.Parsing.{bytes_in, IsPairAt}
+use Rattle.properties_text.specs.Parsing.{IsPairAt}
 use Rattle.properties_text.specs.Printing.{all_of_windows_1252, character_bytes, text_bytes, key_bytes, backslashes_before}
 use Rattle.properties_text.specs.declared.encoding.Encoding.TheVariants.{WINDOWS_1252}
 use Rattle.properties_text.specs.declared.escape.UnescapeError.{UnescapeError}

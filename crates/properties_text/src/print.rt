@@ -212,6 +212,7 @@ fn print_characters(
 
 /// Appends the bytes of a key. If it is at the front of a file, as `first` says, and would begin like a byte order
 /// mark, its first character is escaped. Fails if memory runs out.
+#[inline(always)]
 pub fn print_key(
     line: &mut LineBuffer,
     repertoire: Repertoire,

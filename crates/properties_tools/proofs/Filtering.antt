@@ -16,12 +16,9 @@ use Rattle.java_properties.specs.PropertiesWriter.{Writing, Flushes, HasFlushedS
 use Rattle.java_properties.specs.ReadLines.{BeginsItems}
 use Rattle.java_properties.specs.declared.error.PropertiesError.{PropertiesError}
 use Rattle.java_properties.proofs.Readings.{Comes, Collected, collected-start, collected-next, collected-none, collected-malformed, collected-error}
-use Rattle.properties_tools.specs.Filter.{pair_writer, HasScalars, WritesIfPair, HasFiltered, StopsInWriting, Filters}
+use Rattle.java_properties.specs.Copying.{HasScalars, WritesIfPair}
+use Rattle.properties_tools.specs.Filter.{pair_writer, HasFiltered, StopsInWriting, Filters}
 use Rattle.properties_tools.proofs.Pairs.{HasWrittenPairs, pairs-none, pairs-comment, pairs-more, pairs-live, pairs-fail, pairs-refused, pairs-flushed, pairs-flush, pairs-flush-failed}
-
--- the content of an entry
-pub same-content : {number number' : ℕ} {content content' : Content} → item number content ≡ item number' content' → content ≡ content'
-same-content h = cc
 
 -- one item more
 AreItems-more : (xs : List Entry) (number : ℕ) (content : Content) → AreItems xs → AreItems (xs ++ (item number content ∷ []))

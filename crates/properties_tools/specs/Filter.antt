@@ -1,10 +1,9 @@
 -- What `filter` does: it reads the items of an input, and writes each pair as one line.
-use Rattle.std.specs.Prelude.{◌≡◌, All, ◌⊎◌, ◌+◌, ◌^◌, ◌==◌, ℕ, Bool, true, false, List, [], ◌∷◌, ◌++◌, length, Option, Some, None, Result, Ok, Err}
+use Rattle.std.specs.Prelude.{◌≡◌, ◌⊎◌, ◌+◌, ◌^◌, ◌==◌, ℕ, Bool, true, false, List, [], ◌∷◌, ◌++◌, length, Option, Some, None, Result, Ok, Err}
 use Rattle.std.specs.declared.io.Error.{Error}
 use Rattle.counted_io.specs.Streams.{Reader, HasRead, Sink, HasWritten, HasFaulted, HasFailedFlush, IsProperPrefix, CameFromWrite}
-use Rattle.properties_format.specs.Text.{scalar}
 use Rattle.properties_format.specs.Encoding.{Encoding, output_encoding}
-use Rattle.properties_format.specs.Entries.{Content, comment, pair, Entry, item, AreItems}
+use Rattle.properties_format.specs.Entries.{pair, Entry, item, AreItems}
 use Rattle.properties_format.specs.Printing.{printed}
 use Rattle.properties_format.specs.Settings.{Settings, default_settings}
 use Rattle.properties_format.specs.Lines.{end}
@@ -14,7 +13,7 @@ use Rattle.properties_format.specs.Pairs.{pairs_in, calls_of, items_after, ArePa
 use Rattle.properties_format.specs.AsciiOnly.{AreAsciiBytes, AreItemsInBoth}
 use Rattle.java_properties.specs.AsciiOnly.{TakesAscii}
 use Rattle.java_properties.specs.Errors.{cause_of_write, IsError, IsBareError, IsStreamError}
-use Rattle.java_properties.specs.PropertiesWriter.{Writing, WritesLine, new_writer, with_settings}
+use Rattle.java_properties.specs.PropertiesWriter.{Writing, new_writer, with_settings}
 use Rattle.java_properties.specs.ReadLines.{BeginsItems, ReadsWhole, StopsMalformed, StopsFailed, StopsEarly}
 use Rattle.java_properties.specs.declared.error.ErrorKind.TheVariants as kind
 use Rattle.java_properties.specs.declared.error.PropertiesError.{PropertiesError}
@@ -45,17 +44,7 @@ pair_lines e only entries = wrote (output_encoding e) (settings_with only) 0 (pa
 abbrev pub next_pair_line : Encoding → Bool → List Entry → List ℕ → List ℕ → List ℕ
 next_pair_line e only entries key value = printed (output_encoding e) (settings_with only) (pair_count entries == 0) (pair key value)
 
--- the texts of a pair are of scalar values
-abbrev pub HasScalars : Content → Type 0
-HasScalars (comment text) = Unit {0}
-HasScalars (pair key value) = All scalar key × All scalar value
-
 -- ---- what was written
-
--- A pair is written as one line, and a comment isn't.
-abbrev pub WritesIfPair : {W : Type 0} → Sink W → Writing W → Content → Result Unit PropertiesError → Writing W → Type 0
-WritesIfPair sink old (comment text) result new = (result ≡ Ok tt) × (new ≡ old)
-WritesIfPair sink old (pair key value) result new = WritesLine sink old (pair key value) result new
 
 -- The bytes were taken, and then the sink was flushed, or its flush failed.
 abbrev pub TakesAndFlushes : {W : Type 0} → Sink W → W → List ℕ → W → Type 0

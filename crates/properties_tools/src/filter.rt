@@ -1,16 +1,13 @@
 // Copies the pairs of a reader to a sink.
 
-ghost use Rattle.std.specs.Prelude.{◌≡◌, true, false};
+ghost use Rattle.std.specs.Prelude.{◌≡◌, true, false, None};
 ghost use Rattle.counted_io.specs.Streams.{IsSameReader, IsSameSink};
 ghost use Rattle.properties_format.specs.ItemsToCome.{start};
 ghost use Rattle.properties_text.specs.Encoding.{encoding_of};
-ghost use Rattle.java_properties.specs.BorrowedItems.{borrowed_content, found_content, IsFoundIn};
-ghost use Rattle.properties_tools.specs.Filter.{pair_writer, Filters, FiltersToAscii, Settles, HasScalars, WritesIfPair};
+ghost use Rattle.properties_tools.specs.Filter.{pair_writer, Filters, FiltersToAscii, Settles};
 
 use counted_io::{CountedRead, CountedWrite};
-use java_properties::{
-    ContentRef, Encoding, Found, PropertiesError, PropertiesIter, PropertiesWriter,
-};
+use java_properties::{CopyError, Encoding, PropertiesError, PropertiesIter, PropertiesWriter};
 use std::alloc::Global;
 
 /// Reads the items of an input in this encoding, and writes each pair as one line in the output encoding of `encoding`.
@@ -97,6 +94,7 @@ fn write_pairs<R: CountedRead, W: CountedWrite>(
     lines: &mut PropertiesWriter<W>,
 ) -> Result<(), PropertiesError>
     requires reading { items.old.state ≡ start items.old.state.encoding }
+    requires error { items.old.error ≡ None }
     requires writing { let only = lines.old.settings.ascii_only in
         lines.old ≡ pair_writer items.old.state.encoding only lines.old.sink }
     ensures filters { let e = items.old.state.encoding in
@@ -108,61 +106,15 @@ fn write_pairs<R: CountedRead, W: CountedWrite>(
     ensures same_reader { IsSameReader R.CountedRead items.old.reader items.new.reader }
     ensures same_sink { IsSameSink W.CountedWrite lines.old.sink lines.new.sink }
 {
-    while let Some(found) = items.advance() {
-        match found {
-            Ok(found) => write_found(items, found, &mut *lines)?,
-            Err(error) => {
-                // The error of the reading is returned, whatever the flush returns.
-                let _ = lines.flush();
-                return Err(error);
-            }
+    while items.copy_next(&mut *lines) {}
+    match items.take_error() {
+        None => lines.finish(),
+        Some(CopyError::Read(error)) => {
+            // The error of the reading is returned, whatever the flush returns.
+            let _ = lines.flush();
+            Err(error)
         }
-    }
-    lines.finish()
-}
-
-// Writes the item that was found last, if it is a pair.
-fn write_found<R: CountedRead, W: CountedWrite>(
-    items: &PropertiesIter<R>,
-    found: Found,
-    lines: &mut PropertiesWriter<W>,
-) -> Result<(), PropertiesError>
-    requires { IsFoundIn items.now.line found }
-    ensures writes { let content = found_content items.now.line found.content in
-        WritesIfPair W.CountedWrite lines.old content result lines.new }
-    ensures scalars { HasScalars (found_content items.now.line found.content) }
-    ensures same_sink { IsSameSink W.CountedWrite lines.old.sink lines.new.sink }
-{
-    write_if_pair(lines, items.get(found).content())?;
-    Ok(())
-}
-
-fn write_if_pair<W: CountedWrite>(
-    lines: &mut PropertiesWriter<W>,
-    content: &ContentRef<'_>,
-) -> Result<(), PropertiesError>
-    ensures writes { WritesIfPair W.CountedWrite lines.old (borrowed_content content.now) result lines.new }
-    ensures scalars { HasScalars (borrowed_content content.now) }
-    ensures same_sink { IsSameSink W.CountedWrite lines.old.sink lines.new.sink }
-{
-    has_scalars(content);
-    match content {
-        ContentRef::KVPair(key, value) => {
-            lines.write(key.as_str(), value.as_str())?;
-            Ok(())
-        }
-        ContentRef::Comment(_) => Ok(()),
-    }
-}
-
-// Gives a proof the fact that the texts of a pair consist of scalar values, as all texts do. It does nothing at run
-// time.
-fn has_scalars(content: &ContentRef<'_>)
-    ensures { HasScalars (borrowed_content content.now) }
-{
-    if let ContentRef::KVPair(key, value) = content {
-        let _ = key.as_str();
-        let _ = value.as_str();
+        Some(CopyError::Write(error)) => Err(error),
     }
 }
 

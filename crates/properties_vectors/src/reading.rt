@@ -63,7 +63,7 @@ impl Task {
 }
 
 /// A text alone is read whole and in pieces, and up to a fault after each of its bytes. A text with a fault after it is
-/// read whole and byte by byte. Other texts are read piece by piece as they stand.
+/// read whole and byte by byte. Other texts are read piece by piece as they are.
 pub fn check_reading(
     alloc: Global,
     reading: Reading,

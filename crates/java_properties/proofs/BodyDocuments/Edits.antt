@@ -1,12 +1,14 @@
 -- A document after an edit: it is one again, and its bytes are those that the edit makes.
-use Rattle.std.proofs.Common.{◌≡◌, ℕ, ◌==◌, true, List, [], ◌∷◌, ◌++◌, All, refl, ap, ap₂, sym, ◌∙◌, subst, inl, inr}
+use Rattle.std.proofs.Common.{◌≡◌, ℕ, ◌==◌, true, List, [], ◌∷◌, ◌++◌, ◌&&◌, All, refl, ap, ap₂, sym, ◌∙◌, subst, inl, inr}
 use Rattle.std.specs.Prelude.{Option, Some, None, Result, Ok, Err, IfOk, take, drop, not, bytes_eq, if◌then◌else◌}
 use Rattle.std.specs.Borrow.{Bor}
 use Rattle.std.specs.Option.{option_map}
 use Rattle.std.specs.Map.{update}
+use Rattle.std.specs.Result.{is_err}
 use Rattle.std.specs.BTreeMap.{BTreeMap, IsOrdered}
 use Rattle.std.specs.Global.{Global, Vec}
 use Rattle.std.specs.String.{string_cmp}
+use Rattle.std.specs.declared.alloc.AllocError.{AllocError}
 use Rattle.std.specs.declared.string.String.{String}
 use Rattle.std.proofs.lemmas.Bool.{cases_Bool}
 use Rattle.std.proofs.lemmas.Slice.Eq.{bytes_eq-Decides}
@@ -37,10 +39,11 @@ use Rattle.properties_format.proofs.Items.Unique.{items_of-meets, items_of-only}
 use Rattle.properties_format.proofs.Slots.Edits.{edits_made-slots}
 use Rattle.properties_format.proofs.Slots.Keys.{pair_keys, are-keys, slots-keys}
 use Rattle.properties_format.proofs.Slots.WellEnded.{slots_after-well_ended}
-use Rattle.java_properties.specs.BodyDocuments.{document_bytes, open_document, IsDocument}
-use Rattle.java_properties.specs.BodySlots.{Holds, HoldsIn, HoldsSome, ReadsIn, Changes, KeepsAll, PutsKey, left_without}
+use Rattle.java_properties.specs.BodyDocuments.{document_bytes, open_document, IsDocument, PutsValue}
+use Rattle.java_properties.specs.BodySlots.{Holds, HoldsIn, HoldsSome, ReadsIn, Changes, KeepsAll, PutsKey, PutsOrKeeps, left_without}
 use Rattle.java_properties.specs.BodySlots.Keys.{FindsKeys}
-use Rattle.java_properties.specs.Documents.{OpenDocument, HasKeysInOrder, characters_of}
+use Rattle.java_properties.specs.BodySlots.Value.{ValuesOrKeeps}
+use Rattle.java_properties.specs.Documents.{OpenDocument, PutsInto, SetsValueIn, HasKeysInOrder, characters_of}
 use Rattle.java_properties.specs.Editing.{AreMade, HasValueSet, IsSet, IsRemoved}
 use Rattle.java_properties.specs.Maps.{Entries, characters, value_at}
 use Rattle.java_properties.specs.Sources.{IsInForce}
@@ -155,14 +158,11 @@ module _ (d : Inside) (i : IsDocument d) where
         }
 
 -- A document after a key was set.
-pub record IsPutIn (d : Inside) (key value : List ℕ) (after : Inside) : Type 0 where
-  pub document : IsDocument after
-  pub set : IsSet (encoding_of d.encoding) (document_bytes d) key value (document_bytes after)
-
-pub put-in : (d : Inside) → IsDocument d → (slots : Slots) (values : BTreeMap (String Global) (String Global)) (key value : List ℕ)
+put-in : (d : Inside) → IsDocument d → (slots : Slots) (values : BTreeMap (String Global) (String Global)) (key value : List ℕ)
     → All scalar key → All scalar value → PutsKey (output_encoding (encoding_of d.opened.encoding)) key value d.slots slots
     → ((k : List ℕ) → value_at values.entries k ≡ update bytes_eq (value_at d.values.entries) key (Some value) k) → IsOrdered string_cmp values
-    → IsPutIn d key value (record d { slots = slots; values = values })
+    → let after : Inside = record d { slots = slots; values = values } in
+    IsDocument after × IsSet (encoding_of d.encoding) (document_bytes d) key value (document_bytes after)
 put-in d i slots values key value k v change same ordered =
     let e = encoding_of d.encoding in
     let edit = put key value in
@@ -170,26 +170,21 @@ put-in d i slots values key value k v change same ordered =
     let changed = change (drop d.opened.start d.source.items) in
     let made = made-after d i slots values edit (k, v) changed in
     let set = set-edits k v (bytes-result d i (key_set e (document_bytes d) key value) ∙ ap edited made) in
-    let reads = i.values in
-    record {
-      document =
-          document-after d i slots values edit (k, v) changed
+    let reads = i.values in (
+      document-after d i slots values edit (k, v) changed
           (λ entries items. (set.edit.reads reads.entries entries reads.items items).mapped (value_at d.values.entries) reads.is_map)
           (λ entries items. (set.edit.reads reads.entries entries reads.items items).readable)
-          (λ j. same j ∙ ap (λ b. if b then Some value else value_at d.values.entries j) (flipped key j)) ordered;
-      set = set;
-    }
+          (λ j. same j ∙ ap (λ b. if b then Some value else value_at d.values.entries j) (flipped key j)) ordered,
+      set,
+    )
 
 -- A document after the value of a key was set.
-pub record IsValuedIn (d : Inside) (key value : List ℕ) (after : Inside) : Type 0 where
-  pub document : IsDocument after
-  pub set : HasValueSet (encoding_of d.encoding) (document_bytes d) key value (document_bytes after)
-
-pub valued-in : (d : Inside) → IsDocument d → (slots : Slots) (values : BTreeMap (String Global) (String Global)) (key value : List ℕ)
+valued-in : (d : Inside) → IsDocument d → (slots : Slots) (values : BTreeMap (String Global) (String Global)) (key value : List ℕ)
     → All scalar key → All scalar value
     → Changes (drop d.opened.start d.source.items) (slots_valued (encoding_of d.opened.encoding) key value) d.slots slots
     → ((k : List ℕ) → value_at values.entries k ≡ update bytes_eq (value_at d.values.entries) key (Some value) k) → IsOrdered string_cmp values
-    → IsValuedIn d key value (record d { slots = slots; values = values })
+    → let after : Inside = record d { slots = slots; values = values } in
+    IsDocument after × HasValueSet (encoding_of d.encoding) (document_bytes d) key value (document_bytes after)
 valued-in d i slots values key value k v change same ordered =
     let e = encoding_of d.encoding in
     let f = encoding_of d.opened.encoding in
@@ -199,15 +194,13 @@ valued-in d i slots values key value k v change same ordered =
     let changed = subst (λ w. Changes part (slots_valued w key value) d.slots slots) (sym (output-same f i.editable)) change in
     let made = made-after d i slots values edit (k, v) changed in
     let set = value-edits k v (bytes-result d i (value_set e (document_bytes d) key value) ∙ ap edited made) in
-    let reads = i.values in
-    record {
-      document =
-          document-after d i slots values edit (k, v) changed
+    let reads = i.values in (
+      document-after d i slots values edit (k, v) changed
           (λ entries items. (set.edit.reads reads.entries entries reads.items items).mapped (value_at d.values.entries) reads.is_map)
           (λ entries items. (set.edit.reads reads.entries entries reads.items items).readable)
-          (λ j. same j ∙ ap (λ b. if b then Some value else value_at d.values.entries j) (flipped key j)) ordered;
-      set = set;
-    }
+          (λ j. same j ∙ ap (λ b. if b then Some value else value_at d.values.entries j) (flipped key j)) ordered,
+      set,
+    )
 
 -- A document after a key was removed.
 pub record IsTakenFrom (d : Inside) (key : List ℕ) (after : Inside) : Type 0 where
@@ -262,7 +255,7 @@ keys-made d i (Err error) h = h
 -- ---- a document that stays
 
 -- What was changed and put back is what it was.
-pub restored-same : {X Y Z : Type 0} (old now new : Entries Y Z) (before : Option (String X)) (key value : List ℕ)
+restored-same : {X Y Z : Type 0} (old now new : Entries Y Z) (before : Option (String X)) (key value : List ℕ)
     → ((k : List ℕ) → value_at now k ≡ update bytes_eq (value_at old) key (Some value) k)
     → option_map characters before ≡ value_at old key
     → ((k : List ℕ) → value_at new k ≡ (if bytes_eq k key then option_map characters before else value_at now k))
@@ -279,13 +272,10 @@ restored-same old now new before key value set was back k = elim (cases_Bool (by
 ]
 
 -- A document whose slots are what they were, and its values too.
-pub record IsKeptAs (d after : Inside) : Type 0 where
-  pub document : IsDocument after
-  pub same : open_document after ≡ open_document d
-
-pub kept-as : (d : Inside) → IsDocument d → (slots : Slots) (values : BTreeMap (String Global) (String Global)) → KeepsAll d.slots slots
+kept-as : (d : Inside) → IsDocument d → (slots : Slots) (values : BTreeMap (String Global) (String Global)) → KeepsAll d.slots slots
     → ((k : List ℕ) → value_at values.entries k ≡ value_at d.values.entries k) → IsOrdered string_cmp values
-    → IsKeptAs d (record d { slots = slots; values = values })
+    → let after : Inside = record d { slots = slots; values = values } in
+    IsDocument after × (open_document after ≡ open_document d)
 kept-as d i slots values keeps same ordered =
     let e = encoding_of d.encoding in
     let source = d.source.items in
@@ -296,9 +286,8 @@ kept-as d i slots values keeps same ordered =
     let held : Holds part slots m = keeps part m (slots_after-well_ended e source i.edits (editable i.in_force i.editable) i.scalar) i.slots in
     let bytes : document_bytes after ≡ document_bytes d =
     ap (λ v. take start source ++ v) (all-written part slots m held ∙ sym (all-written part d.slots m i.slots)) in
-    let reads = i.values in
-    record {
-      document = record {
+    let reads = i.values in (
+      record {
         in_force = i.in_force;
         editable = i.editable;
         sound = i.sound;
@@ -312,9 +301,42 @@ kept-as d i slots values keeps same ordered =
           is_map = λ k. subst (IsValue reads.entries k) (sym (same k)) (reads.is_map k);
         };
         ordered = ordered;
-      };
-      same = ap (λ v. let w : OpenDocument = record { encoding = e; bytes = v } in w) bytes;
-    }
+      },
+      ap (λ v. let w : OpenDocument = record { encoding = e; bytes = v } in w) bytes,
+    )
+
+-- ---- a call that sets a key, or leaves the document as it is
+
+module _ {X : Type 0} (d : Inside) (i : IsDocument d) (slots : Slots) (middle values : BTreeMap (String Global) (String Global))
+    (key value : List ℕ) (before : Option (String X)) (k : All scalar key) (v : All scalar value)
+    (was : PutsValue {E = AllocError} key value d.values.entries (Ok before) middle.entries) (ordered : IsOrdered string_cmp values) where
+  -- The value of the key is the new one, or is restored.
+  abbrev IsRestored : Result Unit AllocError → Type 0
+  IsRestored answer = (j : List ℕ) → value_at values.entries j
+      ≡ (if is_err answer && bytes_eq j key then option_map characters before else value_at middle.entries j)
+
+  abbrev ended : Inside
+  ended = record d { slots = slots; values = values }
+
+  kept : KeepsAll d.slots slots → ((j : List ℕ) → value_at values.entries j
+      ≡ (if bytes_eq j key then option_map characters before else value_at middle.entries j)) → IsDocument ended × (open_document ended ≡ open_document d)
+  kept keeps back = kept-as d i slots values keeps (restored-same d.values.entries middle.entries values.entries before key value was.0 was.1 back) ordered
+
+  pub put-ends : (answer : Result Unit AllocError)
+      → PutsOrKeeps (output_encoding (encoding_of d.opened.encoding)) key value d.slots answer slots
+      → IsRestored answer → IsDocument ended × PutsInto key value (open_document d) answer (open_document ended)
+  put-ends (Ok done) change back =
+      let p = put-in d i slots values key value k v change (λ j. back j ∙ was.0 j) ordered in
+      (p.0, (refl, p.1))
+  put-ends (Err error) keeps back = kept keeps back
+
+  pub value-ends : (answer : Result Unit AllocError)
+      → ValuesOrKeeps (encoding_of d.opened.encoding) (drop d.opened.start d.source.items) key value d.slots answer slots
+      → IsRestored answer → IsDocument ended × SetsValueIn key value (open_document d) answer (open_document ended)
+  value-ends (Ok done) change back =
+      let p = valued-in d i slots values key value k v change (λ j. back j ∙ was.0 j) ordered in
+      (p.0, (refl, p.1))
+  value-ends (Err error) keeps back = kept keeps back
 
 -- ---- a document that is opened
 
@@ -327,7 +349,7 @@ pub record IsParsed (d : Inside) (source : List ℕ) : Type 0 where
   pub is_map : IsMap (entries_in 1 (held_groups_of (encoding_of d.opened.encoding) (drop d.opened.start source))) (value_at d.values.entries)
   pub ordered : IsOrdered string_cmp d.values
 
--- It is a document, which comes to the source as it stands.
+-- It is a document, which comes to the source as it is.
 pub record IsOpened (d : Inside) (source : List ℕ) : Type 0 where
   pub document : IsDocument d
   pub same : open_document d ≡ record { encoding = encoding_of d.encoding; bytes = source }

@@ -1,4 +1,4 @@
--- The keys of slots: what stands at the first place of each, and what is read from there.
+-- The keys of slots: what is at the first place of each, and what is read from there.
 use Rattle.std.proofs.Common.{◌≡◌, ◌<◌, ℕ, zero, suc, ◌+◌, List, [], ◌∷◌, ◌++◌, length, get_or, refl, ap, sym, ◌∙◌, inl, inr, subst, arith, append-nil, append_assoc}
 use Rattle.std.specs.Prelude.{Option, Some, None, map, take, bytes_eq, string_bytes, slice_get, replicate, filter_map}
 use Rattle.std.specs.Borrow.{Bor}
@@ -33,7 +33,7 @@ get-middle : {X : Type 0} (xs : List X) (x : X) (ys : List X) → slice_get (xs 
 get-middle [] x ys = refl
 get-middle (y ∷ xs) x ys = get-middle xs x ys
 
--- Under the key of an entry stand its numbers.
+-- Under the key of an entry are its numbers.
 pub entry-stack : {Y : Type 0} (m : BTreeMap (String Y) (Vec ℕ)) (done rest : List (String Y × Vec ℕ)) (key : String Y) (stack : Vec ℕ) → IsOrdered string_cmp m
     → done ++ (key, stack) ∷ rest ≡ m.entries → stack_at m.entries (characters key) ≡ stack.items
 entry-stack m done rest key stack ordered divided =
@@ -50,9 +50,9 @@ pub head-none : (stack : List ℕ) → None ≡ slice_get stack 0 → stack ≡ 
 head-none [] e = refl
 head-none (n ∷ stack) e = absurd (cc)
 
--- ---- what stands at the places
+-- ---- what is at the places
 
--- at the first place of each of these entries stands its key
+-- at the first place of each of these entries is its key
 abbrev pub AllPlaced : {Y : Type 0} → List (String Y × Vec ℕ) → List (Option (List ℕ)) → Type 0
 AllPlaced [] firsts = Unit {0}
 AllPlaced (e ∷ es) firsts = ((i : ℕ) (rest : List ℕ) → e.1.items ≡ i ∷ rest → get_or firsts i None ≡ Some (characters e.0)) × AllPlaced es firsts
@@ -61,7 +61,7 @@ AllPlaced (e ∷ es) firsts = ((i : ℕ) (rest : List ℕ) → e.1.items ≡ i �
 abbrev pub IsFirstIn : {Y : Type 0} → List (String Y × Vec ℕ) → List ℕ → ℕ → Type 0
 IsFirstIn entries key i = (rest : List ℕ) × (stack_at entries key ≡ i ∷ rest)
 
--- The keys of the entries before these stand at their first places, and no others.
+-- The keys of the entries before these are at their first places, and no others.
 pub record IsPlacing {Y : Type 0} (entries rest : List (String Y × Vec ℕ)) (firsts : List (Option (List ℕ))) : Type 0 where
   pub done : List (String Y × Vec ℕ)
   pub division : done ++ rest ≡ entries
@@ -73,7 +73,7 @@ pub only-none : {X : Type 0} (P : Option X → Type 0) → ((x : X) → P (Some 
 only-none P never None h = refl
 only-none P never (Some x) h = absurd (never x h)
 
--- before the first entry nothing stands there
+-- before the first entry nothing is there
 none-at : (n i : ℕ) (key : List ℕ) → get_or (map key_at (replicate n None)) i None ≡ Some key → ⊥
 none-at zero i key e = cc
 none-at (suc n) zero key e = cc
@@ -100,7 +100,7 @@ placing-empty entries rest firsts key stack h empty =
       every = placed-push h.done (key, stack) firsts h.every (λ i more e. absurd (let f = empty in cc));
     }
 
--- The key of an entry comes to its first place, where no other stands.
+-- The key of an entry comes to its first place, where no other is.
 module _ {Y : Type 0} (entries rest : List (String Y × Vec ℕ)) (firsts : List (Option (List ℕ))) (key : String Y) (stack : Vec ℕ) (i : ℕ)
     (more : List ℕ) (h : IsPlacing entries ((key, stack) ∷ rest) firsts) (first : stack.items ≡ i ∷ more) (inside : i < length firsts)
     (own : IsFirstIn entries (characters key) i) (alone : (other : List ℕ) → IsFirstIn entries other i → other ≡ characters key) where
@@ -155,7 +155,7 @@ placed-at (d ∷ entries) firsts key i a (rest, e) = elim (cases_Bool (bytes_eq 
       placed-at entries firsts key i a.1 (rest, sym rest_of ∙ e)
 ]
 
--- After the last entry each key stands at its first place.
+-- After the last entry each key is at its first place.
 pub placing-all : (s : Slots) (firsts : List (Option (Bor (List ℕ)))) → IsPlacing s.places.entries [] (map key_at firsts) → ArePlaced s firsts
 placing-all s firsts h body cells held =
     let all : h.done ≡ s.places.entries = sym (append-nil h.done) ∙ h.division in
@@ -214,7 +214,7 @@ finds-keys s firsts keys placed is body m holds =
     subst (λ v. AreFirstOf v (characters_of keys)) (ap slot_keys (sym holds.list))
     (subst (AreFirstOf (slot_keys (live holds.cells))) (keys-mapped key_at firsts ∙ sym is) own)
 
--- The key at one place more is read, where one stands there,
+-- The key at one place more is read, if one is there,
 pub found-more : (firsts : List (Option (Bor (List ℕ)))) (i : ℕ) (keys : List (Bor (List ℕ))) (key : Bor (List ℕ)) → i < length firsts
     → get_or firsts i None ≡ Some key → characters_of keys ≡ filter_map key_at (take i firsts)
     → characters_of (keys ++ key ∷ []) ≡ filter_map key_at (take (i + 1) firsts)

@@ -134,7 +134,7 @@ guarded-set body marked s first slots (g ∷ cs) n h f is made m b =
           (ap (λ v. not v && begins_like_bom (get_or (g ∷ cs) n no_cell).slot.bytes) m ∙ b);
     }
 
--- It comes where the first slot begins like a mark, and none stands before the body.
+-- It comes if the first slot begins like a mark, and none comes before the body.
 pub guards-set : (body : List ℕ) (marked : Bool) (old : Slots) (n : ℕ) (s : Slots) (slot first : Slot)
     (slots : Vec Slot) (told : Bool) → FindsFirst old n s
     → slot ≡ get_or s.slots.items n slot → told ≡ begins_like_bom (slot_bytes body slot) → told ≡ true

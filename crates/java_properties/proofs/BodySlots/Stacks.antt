@@ -94,7 +94,7 @@ stack-none m key is none k = elim (cases_Bool (bytes_eq k (chars key))) [
   | inr other ↦ rw other refl
 ]
 
--- what comes last of some numbers comes last where another stands before them
+-- what comes last of some numbers comes last if another comes before them
 last-later : (n m : ℕ) (ns : List ℕ) (o : Option ℕ) → IsLastOf (m ∷ ns) o → IsLastOf (n ∷ m ∷ ns) o
 last-later n m ns None h = absurd (cc)
 last-later n m ns (Some last) h = (n ∷ h.0, ap (λ v. n ∷ v) h.1)

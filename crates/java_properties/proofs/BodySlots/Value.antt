@@ -35,7 +35,7 @@ use Rattle.properties_format.proofs.Slots.ValueCells.{value-kept, value-cell, va
 use Rattle.java_properties.specs.Settings.{ending_of}
 use Rattle.java_properties.specs.BodyLines.{ending_in}
 use Rattle.java_properties.specs.BodyValues.{IsEndingWithin, IsPairAlone, IsNewValue, unended_pair}
-use Rattle.java_properties.specs.BodySlots.{NonePasses, AreKept, is_pair_left, HaveContents, HoldsIn, slot_bytes, IsCell, AreCells, AreInside, IsReadIn, AreReadIn, seen, no_cell, stack_at, closing_in, HoldsCells, ReadsIn, Changes, KeepsAll, IsLastOf}
+use Rattle.java_properties.specs.BodySlots.{NonePasses, AreKept, AreTrails, is_pair_left, HaveContents, HoldsIn, slot_bytes, IsCell, AreCells, AreInside, IsReadIn, AreReadIn, seen, no_cell, stack_at, closing_in, HoldsCells, ReadsIn, Changes, KeepsAll, IsLastOf}
 use Rattle.java_properties.specs.BodySlots.Put.{Refills, FindsNextFirst, AppendsCells, AppendsOrKeeps, appended_cells}
 use Rattle.java_properties.specs.BodySlots.Removal.{ChecksSlot}
 use Rattle.java_properties.specs.BodySlots.Value.{ValuesOrKeeps, KeepsCells, IsOwnEnding, IsLastOfSeen, IsSeparatorOfSeen}
@@ -272,7 +272,7 @@ no_pair-all e body key ss end h none =
 
 -- ---- the last line ending
 
--- What is told of a slot is told of what is seen of it.
+-- What holds for a slot holds for what is seen of it.
 pub alone-told : (body : List ℕ) (s : Slot) (told : Bool) → s.kept.start ≤ s.kept.end → s.kept.end ≤ length body → ChecksSlot is_lf_alone s told
     → told ≡ is_lf_alone (seen_slot body s)
 alone-told body s told ordered within h =
@@ -501,6 +501,75 @@ no_pair-to e body ss cs low high d a t l none h =
     no_pair-skip e body ss cs low (high - low) d a t (subst (NonePasses is_pair_left cs low) (sym same) none)
     (subst (HasNoPairFrom e body ss) (sym same) h)
 
+-- ---- the next of kept indices
+
+-- The slot at an index. No cell after it and before the limit passes the test.
+record IsNextKept (test : Cell → Bool) (cells : List Cell) (ss : List Slot) (place limit : ℕ) (slot : Slot) : Type 0 where
+  pub inside : place < length ss
+  pub below : place + 1 ≤ limit
+  pub none : NonePasses test cells (place + 1) limit
+  pub own : slot ≡ get_or ss (place + 1 - 1) slot
+
+kept-inside : (test : Cell → Bool) (cells : List Cell) (is : List ℕ) (count place : ℕ) → AreKept test cells 1 is (length cells) → count ≤ length is → 0 < count
+    → place ≡ get_or is (count - 1) place → place < length cells
+kept-inside test cells is count place kept within some place_at =
+    let at = kept-at test cells 1 is (length cells) (count - 1) kept (omega arith) in
+    let place_is : get_or is (count - 1) 0 ≡ place = get-any is (count - 1) 0 place (omega arith) ∙ sym place_at in
+    let below = at.below in
+    let end = at.within in
+    omega arith
+
+next-kept : (test : Cell → Bool) (body : List ℕ) (cells : List Cell) (ss : List Slot) (is : List ℕ) (count place : ℕ) (slot : Slot) → AreCells body ss cells
+    → AreKept test cells 1 is (length cells) → count ≤ length is → 0 < count → place ≡ get_or is (count - 1) place → slot ≡ get_or ss place slot
+    → IsNextKept test cells ss place (get_or is count (length ss)) slot
+next-kept test body cells ss is count place slot are kept within some place_at slot_is =
+    let size = cells-length body ss cells are in
+    let n : count - 1 + 1 ≡ count = omega arith in
+    let at = kept-at test cells 1 is (length cells) (count - 1) kept (omega arith) in
+    let place_is : get_or is (count - 1) 0 ≡ place = get-any is (count - 1) 0 place (omega arith) ∙ sym place_at in
+    let next_is : get_or is (count - 1 + 1) (length cells) ≡ get_or is count (length ss) = ap₂ (λ i d. get_or is i d) n (sym size) in
+    let below = at.below in
+    let end = at.within in
+    let before : place + 1 - 1 ≡ place = omega arith in
+    record {
+      inside = omega arith;
+      below = omega arith;
+      none = subst (λ v. NonePasses test cells (v + 1) (get_or is count (length ss))) place_is
+          (subst (NonePasses test cells (get_or is (count - 1) 0 + 1)) next_is at.none);
+      own = slot_is ∙ ap (λ v. get_or ss v slot) (sym before);
+    }
+
+-- The index of a slot that isn't left may be forgotten,
+keeps-forgotten : (old s : Slots) (place : ℕ) (slot : Slot) (lefts pairs : Vec ℕ) → KeepsCells old s → slot ≡ get_or s.slots.items place slot
+    → place < length s.slots.items → slot.is_left ≡ false
+    → ((cells : List Cell) → (get_or cells place no_cell).alive ≡ false → AreTrails cells s.lefts.items s.pairs.items → AreTrails cells lefts.items pairs.items)
+    → KeepsCells old (record s { lefts = lefts; pairs = pairs })
+keeps-forgotten old s place slot lefts pairs keeps slot_is inside gone trails body cells held =
+    let now = keeps body cells held in
+    let cell = cells-at body s.slots.items cells place slot no_cell now.cells_are inside in
+    record {
+      cells_are = now.cells_are;
+      linked = now.linked;
+      links_are = now.links_are;
+      places_are = now.places_are;
+      trails_are = trails cells (cell.left ∙ ap (λ v. let w : Slot = v in w.is_left) (sym slot_is) ∙ gone) now.trails_are;
+      ends = now.ends;
+      first_in = now.first_in;
+      first_is = now.first_is;
+      guard = now.guard;
+      others = now.others;
+      ordered = now.ordered;
+    }
+
+-- and then the next one is where it was.
+next-forgotten : (is left : List ℕ) (count limit : ℕ) → left ≡ remove is (count - 1) → count ≤ length is → 0 < count
+    → get_or is count limit ≡ get_or left (count - 1) limit
+next-forgotten is left count limit made within some =
+    let n : count - 1 + 1 ≡ count = omega arith in
+    sym (ap (λ v. get_or v (count - 1) limit) made
+    ∙ get_or-remove_above is (count - 1) limit (count - 1) (omega arith) (omega arith)
+    ∙ ap (λ v. get_or is v limit) n)
+
 -- ---- the search for the last pair
 
 -- The pairs from one of the indices on were passed.
@@ -531,46 +600,28 @@ pub record IsPairNext (e : Encoding) (body : List ℕ) (old : Slots) (place : �
 pub pair-inside : (e : Encoding) (body : List ℕ) (old s : Slots) (count place : ℕ) → HoldsIn body old → SeeksPair e body old count s → 0 < count
     → place ≡ get_or s.pairs.items (count - 1) place → place < length s.slots.items
 pair-inside e body old s count place r h some is =
-    let cells = r.holds.cells in
-    let held = h.keeps body cells r.holds.holds in
-    let within = h.within in
-    let size = cells-length body s.slots.items cells held.cells_are in
-    let at = kept-at is_pair_left cells 1 s.pairs.items (length cells) (count - 1) held.trails_are.pairs_are (omega arith) in
-    let place_is : get_or s.pairs.items (count - 1) 0 ≡ place = get-any s.pairs.items (count - 1) 0 place (omega arith) ∙ sym is in
-    let below = at.below in
-    let end = at.within in
+    let m = r.holds in
+    let held = h.keeps body m.cells m.holds in
+    let size = cells-length body s.slots.items m.cells held.cells_are in
+    let inside = kept-inside is_pair_left m.cells s.pairs.items count place held.trails_are.pairs_are h.within some is in
     omega arith
 
 pub pair-next : (e : Encoding) (body : List ℕ) (old s : Slots) (count place : ℕ) (slot : Slot) → ReadsIn e body old → SeeksPair e body old count s → 0 < count
     → place ≡ get_or s.pairs.items (count - 1) place → slot ≡ get_or s.slots.items place slot → IsPairNext e body old place slot
 pair-next e body old s count place slot r h some is slot_is =
     let m = r.held.holds in
-    let cells = m.cells in
     let ss = old.slots.items in
-    let held = h.keeps body cells m.holds in
-    let within = h.within in
-    let size = cells-length body ss cells m.holds.cells_are in
-    let n : count - 1 + 1 ≡ count = omega arith in
-    let at = kept-at is_pair_left cells 1 s.pairs.items (length cells) (count - 1) held.trails_are.pairs_are (omega arith) in
-    let place_is : get_or s.pairs.items (count - 1) 0 ≡ place = get-any s.pairs.items (count - 1) 0 place (omega arith) ∙ sym is in
-    let next_is : get_or s.pairs.items (count - 1 + 1) (length cells) ≡ get_or s.pairs.items count (length ss) =
-    ap₂ (λ i d. get_or s.pairs.items i d) n (sym size) in
-    let above = at.above in
-    let below = at.below in
-    let end = at.within in
-    let none : NonePasses is_pair_left cells (place + 1) (get_or s.pairs.items count (length ss)) =
-    subst (λ v. NonePasses is_pair_left cells (v + 1) (get_or s.pairs.items count (length ss))) place_is
-    (subst (NonePasses is_pair_left cells (get_or s.pairs.items (count - 1) 0 + 1)) next_is at.none) in
-    let before : place + 1 - 1 ≡ place = omega arith in
     let own : slot ≡ get_or ss place slot = slot_is ∙ ap (λ v. let w : Slots = v in get_or w.slots.items place slot) h.same in
+    let next = next-kept is_pair_left body m.cells ss s.pairs.items count place slot m.holds.cells_are (h.keeps body m.cells m.holds).trails_are.pairs_are h.within
+    some is own in
     let all = reads-in e body old r in
     record {
-      inside = omega arith;
-      none = no_pair-to e body ss cells (place + 1) (get_or s.pairs.items count (length ss)) slot m.holds.cells_are
-          (subst (HaveContents e) m.list r.told) (omega arith) none h.none;
+      inside = next.inside;
+      none = no_pair-to e body ss m.cells (place + 1) (get_or s.pairs.items count (length ss)) slot m.holds.cells_are
+          (subst (HaveContents e) m.list r.told) next.below next.none h.none;
       all = all;
-      own = own ∙ ap (λ v. get_or ss v slot) (sym before);
-      read = read-at e body ss place slot all (omega arith) own;
+      own = next.own;
+      read = read-at e body ss place slot all next.inside own;
     }
 
 -- A slot that isn't left is forgotten,
@@ -579,37 +630,16 @@ pub pair-forgotten : (e : Encoding) (body : List ℕ) (old s : Slots) (count pla
     → pairs.items ≡ remove s.pairs.items (count - 1) → SeeksPair e body old (count - 1) (record s { pairs = pairs })
 pair-forgotten e body old s count place slot pairs h some is slot_is inside gone made =
     let within = h.within in
-    let n : count - 1 + 1 ≡ count = omega arith in
     let size = length-remove s.pairs.items (count - 1) (omega arith) in
     let all : length pairs.items ≡ length (remove s.pairs.items (count - 1)) = ap length made in
     let place_is : get_or s.pairs.items (count - 1) 0 ≡ place = get-any s.pairs.items (count - 1) 0 place (omega arith) ∙ sym is in
-    let limit = length old.slots.items in
     record {
       same = ap (λ v. let w : Slots = v in record w { pairs = pairs }) h.same;
-      keeps = λ b cells held.
-          let now = h.keeps b cells held in
-          let cell = cells-at b s.slots.items cells place slot no_cell now.cells_are inside in
-          let dead : (get_or cells place no_cell).alive ≡ false = cell.left ∙ ap (λ v. let w : Slot = v in w.is_left) (sym slot_is) ∙ gone in
-          record {
-            cells_are = now.cells_are;
-            linked = now.linked;
-            links_are = now.links_are;
-            places_are = now.places_are;
-            trails_are = trails-as cells s.lefts.items (remove s.pairs.items (count - 1)) s.lefts.items pairs.items refl made
-                (trails-forget_pair cells s.lefts.items s.pairs.items (count - 1) now.trails_are (omega arith)
-                (ap (λ v. (get_or cells v no_cell).alive) place_is ∙ dead));
-            ends = now.ends;
-            first_in = now.first_in;
-            first_is = now.first_is;
-            guard = now.guard;
-            others = now.others;
-            ordered = now.ordered;
-          };
+      keeps = keeps-forgotten old s place slot s.lefts pairs h.keeps slot_is inside gone
+          (λ cells dead t. trails-as cells s.lefts.items (remove s.pairs.items (count - 1)) s.lefts.items pairs.items refl made
+          (trails-forget_pair cells s.lefts.items s.pairs.items (count - 1) t (omega arith) (ap (λ v. (get_or cells v no_cell).alive) place_is ∙ dead)));
       within = omega arith;
-      none = subst (HasNoPairFrom e body old.slots.items)
-          (sym (ap (λ v. get_or v (count - 1) limit) made
-          ∙ get_or-remove_above s.pairs.items (count - 1) limit (count - 1) (omega arith) (omega arith)
-          ∙ ap (λ v. get_or s.pairs.items v limit) n)) h.none;
+      none = subst (HasNoPairFrom e body old.slots.items) (next-forgotten s.pairs.items pairs.items count (length old.slots.items) made within some) h.none;
     }
 
 -- and one that is no pair is passed.
@@ -698,43 +728,26 @@ pub record IsLeftNext (body : List ℕ) (old : Slots) (place : ℕ) (is_before :
 pub left-inside : (body : List ℕ) (old s : Slots) (count place : ℕ) (is_before : Bool) → HoldsIn body old → SeeksEnding body old count is_before s → 0 < count
     → place ≡ get_or s.lefts.items (count - 1) place → place < length s.slots.items
 left-inside body old s count place is_before r h some is =
-    let cells = r.holds.cells in
-    let held = h.keeps body cells r.holds.holds in
-    let within = h.within in
-    let size = cells-length body s.slots.items cells held.cells_are in
-    let at = kept-at (λ c. c.alive) cells 1 s.lefts.items (length cells) (count - 1) held.trails_are.lefts_are (omega arith) in
-    let place_is : get_or s.lefts.items (count - 1) 0 ≡ place = get-any s.lefts.items (count - 1) 0 place (omega arith) ∙ sym is in
-    let below = at.below in
-    let end = at.within in
+    let m = r.holds in
+    let held = h.keeps body m.cells m.holds in
+    let size = cells-length body s.slots.items m.cells held.cells_are in
+    let inside = kept-inside (λ c. c.alive) m.cells s.lefts.items count place held.trails_are.lefts_are h.within some is in
     omega arith
 
 pub left-next : (body : List ℕ) (old s : Slots) (count place : ℕ) (is_before : Bool) (slot : Slot) → HoldsIn body old → SeeksEnding body old count is_before s → 0 < count
     → place ≡ get_or s.lefts.items (count - 1) place → slot ≡ get_or s.slots.items place slot → IsLeftNext body old place is_before slot
 left-next body old s count place is_before slot r h some is slot_is =
     let m = r.holds in
-    let cells = m.cells in
     let ss = old.slots.items in
-    let held = h.keeps body cells m.holds in
-    let within = h.within in
-    let size = cells-length body ss cells m.holds.cells_are in
-    let n : count - 1 + 1 ≡ count = omega arith in
-    let at = kept-at (λ c. c.alive) cells 1 s.lefts.items (length cells) (count - 1) held.trails_are.lefts_are (omega arith) in
-    let place_is : get_or s.lefts.items (count - 1) 0 ≡ place = get-any s.lefts.items (count - 1) 0 place (omega arith) ∙ sym is in
-    let next_is : get_or s.lefts.items (count - 1 + 1) (length cells) ≡ get_or s.lefts.items count (length ss) =
-    ap₂ (λ i d. get_or s.lefts.items i d) n (sym size) in
-    let below = at.below in
-    let end = at.within in
-    let none : NonePasses (λ c. c.alive) cells (place + 1) (get_or s.lefts.items count (length ss)) =
-    subst (λ v. NonePasses (λ c. c.alive) cells (v + 1) (get_or s.lefts.items count (length ss))) place_is
-    (subst (NonePasses (λ c. c.alive) cells (get_or s.lefts.items (count - 1) 0 + 1)) next_is at.none) in
-    let before : place + 1 - 1 ≡ place = omega arith in
     let own : slot ≡ get_or ss place slot = slot_is ∙ ap (λ v. let w : Slots = v in get_or w.slots.items place slot) h.same in
-    let cell : IsCell body slot (get_or cells place no_cell) =
-    subst (λ v. IsCell body v (get_or cells place no_cell)) (sym own) (cells-at body ss cells place slot no_cell m.holds.cells_are (omega arith)) in
+    let next = next-kept (λ c. c.alive) body m.cells ss s.lefts.items count place slot m.holds.cells_are (h.keeps body m.cells m.holds).trails_are.lefts_are h.within
+    some is own in
+    let cell : IsCell body slot (get_or m.cells place no_cell) =
+    subst (λ v. IsCell body v (get_or m.cells place no_cell)) (sym own) (cells-at body ss m.cells place slot no_cell m.holds.cells_are next.inside) in
     record {
-      inside = omega arith;
-      ends = ends-to body ss cells is_before (place + 1) (get_or s.lefts.items count (length ss)) slot m.holds.cells_are (omega arith) none h.ends;
-      own = own ∙ ap (λ v. get_or ss v slot) (sym before);
+      inside = next.inside;
+      ends = ends-to body ss m.cells is_before (place + 1) (get_or s.lefts.items count (length ss)) slot m.holds.cells_are next.below next.none h.ends;
+      own = next.own;
       ordered = cell.ordered;
       kept = cell.within;
     }
@@ -745,37 +758,16 @@ pub left-forgotten : (body : List ℕ) (old s : Slots) (count place : ℕ) (is_b
     → lefts.items ≡ remove s.lefts.items (count - 1) → SeeksEnding body old (count - 1) is_before (record s { lefts = lefts })
 left-forgotten body old s count place is_before slot lefts h some is slot_is inside gone made =
     let within = h.within in
-    let n : count - 1 + 1 ≡ count = omega arith in
     let size = length-remove s.lefts.items (count - 1) (omega arith) in
     let all : length lefts.items ≡ length (remove s.lefts.items (count - 1)) = ap length made in
     let place_is : get_or s.lefts.items (count - 1) 0 ≡ place = get-any s.lefts.items (count - 1) 0 place (omega arith) ∙ sym is in
-    let limit = length old.slots.items in
     record {
       same = ap (λ v. let w : Slots = v in record w { lefts = lefts }) h.same;
-      keeps = λ b cells held.
-          let now = h.keeps b cells held in
-          let cell = cells-at b s.slots.items cells place slot no_cell now.cells_are inside in
-          let dead : (get_or cells place no_cell).alive ≡ false = cell.left ∙ ap (λ v. let w : Slot = v in w.is_left) (sym slot_is) ∙ gone in
-          record {
-            cells_are = now.cells_are;
-            linked = now.linked;
-            links_are = now.links_are;
-            places_are = now.places_are;
-            trails_are = trails-as cells (remove s.lefts.items (count - 1)) s.pairs.items lefts.items s.pairs.items made refl
-                (trails-forget_left cells s.lefts.items s.pairs.items (count - 1) now.trails_are (omega arith)
-                (ap (λ v. (get_or cells v no_cell).alive) place_is ∙ dead));
-            ends = now.ends;
-            first_in = now.first_in;
-            first_is = now.first_is;
-            guard = now.guard;
-            others = now.others;
-            ordered = now.ordered;
-          };
+      keeps = keeps-forgotten old s place slot lefts s.pairs h.keeps slot_is inside gone
+          (λ cells dead t. trails-as cells (remove s.lefts.items (count - 1)) s.pairs.items lefts.items s.pairs.items made refl
+          (trails-forget_left cells s.lefts.items s.pairs.items (count - 1) t (omega arith) (ap (λ v. (get_or cells v no_cell).alive) place_is ∙ dead)));
       within = omega arith;
-      ends = subst (λ v. EndsBefore body old.slots.items v is_before)
-          (sym (ap (λ v. get_or v (count - 1) limit) made
-          ∙ get_or-remove_above s.lefts.items (count - 1) limit (count - 1) (omega arith) (omega arith)
-          ∙ ap (λ v. get_or s.lefts.items v limit) n)) h.ends;
+      ends = subst (λ v. EndsBefore body old.slots.items v is_before) (next-forgotten s.lefts.items lefts.items count (length old.slots.items) made within some) h.ends;
     }
 
 -- and another is passed.
@@ -925,7 +917,7 @@ values-kept e body key value bytes s place slot l is bytes_are (group, alone, th
 -- Where it has another one, it gets the value.
 pub values-replaced : (e : Encoding) (body key value bytes all : List ℕ) (old new : Slots) (place : ℕ) (slot : Slot) (change : NewValue)
     → IsLastOf (stack_at old.places.entries key) (Some place) → slot ≡ get_or old.slots.items place slot → bytes ≡ slot_bytes body slot
-    → IsNewValue e bytes value change → (n : List ℕ) → n ≡ change.bytes → all ≡ take change.front bytes ++ (n ++ [])
+    → IsNewValue e bytes value change → (n : List ℕ) → n ≡ change.bytes → all ≡ take change.front_size bytes ++ (n ++ [])
     → Refills old place all new → Changes body (slots_valued e key value) old new
 values-replaced e body key value bytes all old new place slot change l is bytes_are g n n_is made r m w h =
     let cells = h.cells in

@@ -102,7 +102,7 @@ unfolding IsStrictlySortedBy
 ascend-bytes [] up = tt
 ascend-bytes (e ∷ entries) up = (all-less e.0 entries up.0, ascend-bytes entries up.1)
 
--- they are in order as they stand
+-- they are in order
 pub sorted-in-order : {Y Z : Type 0} (entries : Entries Y Z) (xs : List (Bor (String Y) × Bor (String Z))) → texts_of xs ≡ map entry_texts entries
     → IsStrictlySortedBy string_cmp (keys_of entries) → AreInOrder entries (texts_of xs)
 sorted-in-order entries xs all up =

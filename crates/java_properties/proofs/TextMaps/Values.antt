@@ -35,7 +35,7 @@ lookup-never : {K X : Type 0} (t : K → Bool) → ((k : K) → t k ≡ false) �
 lookup-never t never [] = refl
 lookup-never t never (e ∷ es) = rw (never e.0) (lookup-never t never es)
 
--- a key of characters is sought by its bytes
+-- a key of characters is looked up by its bytes
 compares_encoded : (key : List ℕ) → all_scalars key ≡ true → (x : List ℕ) → IsUtf8 x → bytes_eq key (chars x) ≡ bytes_eq (encode_utf8_all key) x
 compares_encoded key s x is = together (bytes_eq key (chars x)) (bytes_eq (encode_utf8_all key) x)
     (λ h. (bytes_eq-Decides (encode_utf8_all key) x).1 (ap encode_utf8_all ((bytes_eq-Decides key (chars x)).0 h) ∙ encodes-chars x is))

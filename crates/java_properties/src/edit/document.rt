@@ -9,7 +9,7 @@ ghost use Rattle.java_properties.specs.Documents.{HasKeysInOrder, HasValueAt, Op
 
 use crate::edit::slots::Slots;
 use crate::edit::source::BodyStart;
-use crate::edit::values::{put_value, restore_value};
+use crate::edit::values::{put_value, restored_on_error};
 use crate::error::PropertiesError;
 use properties_text::encoding::Encoding;
 use std::alloc::{AllocError, Global};
@@ -19,8 +19,9 @@ use std::marker::Model;
 /// A source that is kept open for edits.
 ///
 /// Use it in a program that changes keys one at a time and looks at values in between, such as an editor with a window:
-/// only `parse` reads the source. What is removed keeps its memory until the document is dropped. For a list of edits
-/// that is known beforehand, [`edit_all`](crate::edit_all) needs less memory.
+/// only `parse` reads the whole source. `set_value` reads again the pair that it changes or, if no pair has the key, the
+/// last pair. What is removed keeps its memory until the document is dropped. For a list of edits that is known
+/// beforehand, [`edit_all`](crate::edit_all) needs less memory.
 ///
 /// ```text
 /// let mut document = Document::parse(alloc, b"# the front door\nport = 80\n", Encoding::UTF_8)?;
@@ -123,13 +124,8 @@ impl Document {
         ensures { PutsInto (chars key.now) (chars value.now) self.old result self.new }
     {
         let before = put_value(self.alloc, &mut self.values, key, value)?;
-        match self.slots.put(self.alloc, self.opened.encoding, key, value) {
-            Ok(()) => Ok(()),
-            Err(error) => {
-                restore_value(&mut self.values, key, before);
-                Err(error)
-            }
-        }
+        let edited = self.slots.put(self.alloc, self.opened.encoding, key, value);
+        restored_on_error(&mut self.values, key, before, edited)
     }
 
     /// Sets the value of a key and keeps the layout of its line, as [`set_value`](crate::set_value) does. If memory runs
@@ -147,16 +143,10 @@ impl Document {
         let alloc = self.alloc;
         let before = put_value(alloc, &mut self.values, key, value)?;
         let body = &self.source[self.opened.start..];
-        match self
+        let edited = self
             .slots
-            .set_value(alloc, self.opened.encoding, body, key, value)
-        {
-            Ok(()) => Ok(()),
-            Err(error) => {
-                restore_value(&mut self.values, key, before);
-                Err(error)
-            }
-        }
+            .set_value(alloc, self.opened.encoding, body, key, value);
+        restored_on_error(&mut self.values, key, before, edited)
     }
 
     /// Removes a key, as [`remove_key`](crate::remove_key) does, and returns whether a pair had it. Allocates nothing.

@@ -19,11 +19,11 @@ ghost use Rattle.properties_lines.specs.LineSearch.{unit_size};
 ghost use Rattle.java_properties.specs.Maps.{characters};
 ghost use Rattle.java_properties.specs.Settings.{ending_of};
 ghost use Rattle.java_properties.specs.BodyKeys.{closing_bytes};
-ghost use Rattle.java_properties.specs.BodyValues.{FindsLastPair, IsEndingWithin, IsLastEnding, IsLayoutAfter, IsSeparated, IsSeparatorLike, unended_pair};
+ghost use Rattle.java_properties.specs.BodyValues.{FindsLastPair, IsEndingWithin, IsLastEnding, IsGroupAlone, IsLayoutAfter, unended_pair};
 
 use crate::edit::front::between;
 use crate::edit::groups::{GroupReader, first_group};
-use crate::edit::place::{BodySpan, Closing, ends_in_cr};
+use crate::edit::place::{BodySpan, Closing, closing_bytes, ends_in_cr};
 use crate::edit::result::{are_empty, concatenated, part};
 use crate::edit::source::BodyStart;
 use crate::edit::value::{are_blanks, repertoire_of};
@@ -73,27 +73,13 @@ fn separator_after(
     requires { unit_size (encoding_of encoding) ≡ 1 }
     ensures { IfOk result (λ text. characters text ≡ separator_by (chars key.now) (last_between (held_groups_of (encoding_of encoding) body.now))) }
 {
-    match separator_in(alloc, encoding, body, key)? {
+    let separator = match last_pair(alloc, encoding, body)? {
+        Some(pair) => separator_like(alloc, encoding, part(body, pair), key)?,
+        None => None,
+    };
+    match separator {
         Some(separator) => Ok(separator),
         None => String::from_str(alloc, "="),
-    }
-}
-
-/// Returns the separator of a new pair with this key that looks like the last pair of the body, or `None` if the body
-/// has no pair. The encoding's units are one byte long.
-pub fn separator_in(
-    alloc: Global,
-    encoding: Encoding,
-    body: &[u8],
-    key: &str,
-) -> Result<Option<String>, AllocError>
-    requires { unit_size (encoding_of encoding) ≡ 1 }
-    ensures { IfOk result (λ text. option_map characters text
-        ≡ option_map (separator_after (chars key.now)) (last_between (held_groups_of (encoding_of encoding) body.now))) }
-{
-    match last_pair(alloc, encoding, body)? {
-        Some(pair) => Ok(Some(separator_like(alloc, encoding, part(body, pair), key)?)),
-        None => Ok(None),
     }
 }
 
@@ -115,27 +101,29 @@ fn last_pair(alloc: Global, encoding: Encoding, body: &[u8]) -> Result<Option<Bo
     Ok(last)
 }
 
-// Returns the separator of a new pair with this key that looks like this pair.
-fn separator_like(
+/// Returns the separator of a new pair with this key that looks like the pair of these bytes, which are one group, or
+/// `None` if the group isn't a pair. The encoding's units are one byte long.
+pub fn separator_like(
     alloc: Global,
     encoding: Encoding,
-    pair: &[u8],
+    bytes: &[u8],
     key: &str,
-) -> Result<String, AllocError>
-    requires bytes { unit_size (encoding_of encoding) ≡ 1 }
-    requires separated { IsSeparated (encoding_of encoding) pair.now }
-    ensures { IfOk result (λ text. IsSeparatorLike (encoding_of encoding) pair.now (chars key.now) (characters text)) }
+) -> Result<Option<String>, AllocError>
+    requires unit { unit_size (encoding_of encoding) ≡ 1 }
+    requires alone { IsGroupAlone (encoding_of encoding) bytes.now }
+    ensures { IfOk result (λ text. option_map characters text
+        ≡ option_map (separator_after (chars key.now)) (last_between (held_groups_of (encoding_of encoding) bytes.now))) }
 {
-    let (groups, group) = first_group(alloc, encoding, pair)?;
-    let line = groups.line(pair, group);
+    let (groups, group) = first_group(alloc, encoding, bytes)?;
+    let line = groups.line(bytes, group);
     match between(line) {
-        Some(span) => fitting(alloc, span.cut(line), key),
-        None => unreachable!(),
+        Some(span) => Ok(Some(separator_for(alloc, span.cut(line), key)?)),
+        None => Ok(None),
     }
 }
 
 // Returns a separator like this one that a new pair with this key can have.
-fn fitting(alloc: Global, separator: &str, key: &str) -> Result<String, AllocError>
+fn separator_for(alloc: Global, separator: &str, key: &str) -> Result<String, AllocError>
     ensures { IfOk result (λ text. characters text ≡ separator_after (chars key.now) (chars separator.now)) }
 {
     if separator.is_empty() || is_indent(key, separator) {
@@ -232,28 +220,13 @@ pub fn with_new_pair(
         IfOk result (λ bytes. bytes.items ≡ source.now ++ (separation ++ pair)) }
 {
     let mut line = LineBuffer::new(alloc);
-    let separation = separation_of(layout);
+    let separation = closing_bytes(layout.closing, layout.ending);
     print_raw(&mut line, separation)?;
     let first = are_empty(&source[opened.start..], separation.as_bytes());
     let separator = layout.separator.as_str();
     print_new_pair(&mut line, opened.encoding, first, separator, key, value)?;
     print_raw(&mut line, layout.ending.as_str())?;
     concatenated(alloc, source, line.as_slice(), b"")
-}
-
-// Returns the line endings that separate a new pair from the group before it.
-fn separation_of(layout: &Layout) -> &'static str
-    ensures { result.now ≡ closing_bytes (line_ending_text (ending_of layout.now.ending)) layout.now.closing }
-{
-    match (layout.closing, layout.ending) {
-        (Closing::Nothing, _) => "",
-        (Closing::OneEnding, LineEnding::CR) => "\r",
-        (Closing::OneEnding, LineEnding::LF) => "\n",
-        (Closing::OneEnding, LineEnding::CRLF) => "\r\n",
-        (Closing::TwoEndings, LineEnding::CR) => "\r\r",
-        (Closing::TwoEndings, LineEnding::LF) => "\n\n",
-        (Closing::TwoEndings, LineEnding::CRLF) => "\r\n\r\n",
-    }
 }
 
 /// Returns a new pair as it is printed, without a line ending. A pair that is `first` in a body is printed so that it

@@ -2,15 +2,18 @@
 
 ghost use Rattle.std.specs.Prelude.{◌≡◌, ◌++◌};
 ghost use Rattle.std.specs.Str.{chars};
-ghost use Rattle.properties_format.specs.Edited.{added_ending};
+ghost use Rattle.properties_format.specs.Text.{line_ending_text};
 ghost use Rattle.properties_format.specs.Reading.Lines.{ends_in_cr};
+ghost use Rattle.properties_format.specs.Reading.Slots.{safe_ending};
 ghost use Rattle.properties_text.specs.Encoding.{encoding_of};
 ghost use Rattle.properties_lines.specs.LineSearch.{unit_size};
+ghost use Rattle.java_properties.specs.Settings.{ending_of};
 ghost use Rattle.java_properties.specs.BodyKeys.{FindsKey, closing_of, found_after, closing_bytes};
 
 use crate::edit::groups::{Group, GroupReader};
 use crate::edit::keys::has_key;
 use crate::error::PropertiesError;
+use crate::writer::LineEnding;
 use properties_text::encoding::Encoding;
 use std::alloc::Global;
 
@@ -99,17 +102,29 @@ pub fn closing_after(group: Group) -> Closing
     }
 }
 
-/// Returns the line endings that separate a new pair from the last group of a source: CRs if the source ends in a CR,
-/// otherwise LFs.
-pub fn separation(source: &[u8], closing: Closing) -> &'static [u8]
-    ensures { result.now ≡ closing_bytes (added_ending source.now) closing }
+/// Returns what separates a new pair from the last group, made of this line ending.
+pub fn closing_bytes(closing: Closing, by: LineEnding) -> &'static str
+    ensures { result.now ≡ closing_bytes (line_ending_text (ending_of by)) closing }
 {
-    match (closing, ends_in_cr(source)) {
-        (Closing::Nothing, _) => b"",
-        (Closing::OneEnding, true) => b"\r",
-        (Closing::OneEnding, false) => b"\n",
-        (Closing::TwoEndings, true) => b"\r\r",
-        (Closing::TwoEndings, false) => b"\n\n",
+    match (closing, by) {
+        (Closing::Nothing, _) => "",
+        (Closing::OneEnding, LineEnding::CR) => "\r",
+        (Closing::OneEnding, LineEnding::LF) => "\n",
+        (Closing::OneEnding, LineEnding::CRLF) => "\r\n",
+        (Closing::TwoEndings, LineEnding::CR) => "\r\r",
+        (Closing::TwoEndings, LineEnding::LF) => "\n\n",
+        (Closing::TwoEndings, LineEnding::CRLF) => "\r\n\r\n",
+    }
+}
+
+/// Returns a line ending that doesn't form a CR LF with the end of these bytes.
+pub fn separation_after(bytes: &[u8]) -> LineEnding
+    ensures { ending_of result ≡ safe_ending bytes.now }
+{
+    if ends_in_cr(bytes) {
+        LineEnding::CR
+    } else {
+        LineEnding::LF
     }
 }
 

@@ -11,11 +11,12 @@ ghost use Rattle.properties_format.specs.Encoding.{output_encoding};
 ghost use Rattle.properties_text.specs.Encoding.{encoding_of};
 ghost use Rattle.properties_text.specs.Printing.{AppendsOnOk};
 
-use crate::edit::place::{BodySpan, Closing, separation};
+use crate::edit::place::{BodySpan, Closing, closing_bytes, separation_after};
 use crate::edit::source::BodyStart;
+use crate::edit::value::repertoire_of;
+use properties_text::encoding::Encoding;
 use properties_text::encoding::byte_order_mark::{ByteOrderMark, byte_order_mark};
-use properties_text::encoding::{Encoding, OutputEncoding};
-use properties_text::print::{LineBuffer, Place, Repertoire, print_key, print_raw, print_text};
+use properties_text::print::{LineBuffer, Place, print_key, print_raw, print_text};
 use std::alloc::{AllocError, Global};
 
 /// Returns the source with this pair replaced by a printed pair.
@@ -58,7 +59,7 @@ pub fn appended(
         let line = pair_bytes e first (chars key.now) (chars value.now) in
         IfOk result (λ bytes. bytes.items ≡ source.now ++ (separation ++ (line ++ line_feed ∷ []))) }
 {
-    let separation = separation(source, closing);
+    let separation = closing_bytes(closing, separation_after(source)).as_bytes();
     let first = are_empty(&source[opened.start..], separation);
     let mut line = LineBuffer::new(alloc);
     print_pair(&mut line, opened.encoding, first, key, value)?;
@@ -146,10 +147,7 @@ fn print_pair(
     ensures { let e = output_encoding (encoding_of encoding) in
         AppendsOnOk line.old (pair_bytes e first (chars key.now) (chars value.now)) result line.new }
 {
-    let repertoire = Repertoire {
-        encoding: OutputEncoding::from(encoding),
-        ascii_only: false,
-    };
+    let repertoire = repertoire_of(encoding);
     print_key(line, repertoire, first, key)?;
     print_raw(line, "=")?;
     print_text(line, repertoire, Place::KeyOrValue, value)

@@ -30,7 +30,7 @@ mod value;
 pub struct Slot {
     /// The part of the body that it keeps.
     kept: BodySpan,
-    /// The bytes after that part: a printed pair, or a line ending that closes an open line.
+    /// The bytes after that part: a pair that was set, or a line ending that closes an open line.
     added: Vec<u8>,
     /// Its last line ending. The last slot has none.
     ending: Option<LineEnding>,
@@ -52,9 +52,9 @@ pub struct Slots {
     first: usize,
     // The indices of all slots that are left, in order, without the first slot, and of some that aren't left.
     lefts: Vec<usize>,
-    // The same for the slots of pairs.
+    // The indices of the pairs among those slots, in order, and of some pairs that are no longer left.
     pairs: Vec<usize>,
-    // What separates a new pair from the last slot, and the line ending for it.
+    // What separates a new pair from the last slot, and the line ending that `put` uses for it.
     closing: Closing,
     separation: LineEnding,
 }

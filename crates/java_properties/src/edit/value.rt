@@ -27,7 +27,7 @@ use std::alloc::{AllocError, Global};
 #[derive(Drop)]
 pub struct NewValue {
     /// The number of bytes at the front that stay.
-    pub front: usize,
+    pub front_size: usize,
     /// The bytes that follow them, up to the pair's last line ending.
     pub bytes: LineBuffer,
 }
@@ -52,14 +52,14 @@ pub fn new_value(
     let Some(separator) = between(line) else {
         unreachable!()
     };
-    let front = front_size(alloc, encoding, pair, separator.end)?;
+    let front_size = front_size(alloc, encoding, pair, separator.end)?;
     let mut bytes = LineBuffer::new(alloc);
     print_value_after(&mut bytes, encoding, separator.cut(line), value)?;
-    Ok(Some(NewValue { front, bytes }))
+    Ok(Some(NewValue { front_size, bytes }))
 }
 
 /// Returns the source with this value for a pair.
-pub fn revalued(
+pub fn with_value(
     alloc: Global,
     source: &[u8],
     opened: BodyStart,
@@ -78,7 +78,7 @@ pub fn revalued(
     match new_value(alloc, opened.encoding, &source[start..end], value)? {
         None => Ok(source.to_vec(alloc)?),
         Some(new) => {
-            let front = &source[..start + new.front];
+            let front = &source[..start + new.front_size];
             Ok(concatenated(alloc, front, new.bytes.as_slice(), &source[end..])?)
         }
     }

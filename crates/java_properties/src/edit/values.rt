@@ -1,7 +1,8 @@
 // The values of the keys of an open document.
 
-ghost use Rattle.std.specs.Prelude.{◌≡◌, ℕ, List, IfOk, OnOk, bytes_eq, true, if◌then◌else◌};
+ghost use Rattle.std.specs.Prelude.{◌≡◌, ◌&&◌, ℕ, List, IfOk, bytes_eq, true, if◌then◌else◌};
 ghost use Rattle.std.specs.Option.{is_some, option_map};
+ghost use Rattle.std.specs.Result.{is_err};
 ghost use Rattle.std.specs.Str.{chars};
 ghost use Rattle.std.specs.String.{string_cmp};
 ghost use Rattle.std.specs.BTreeMap.{IsOrdered};
@@ -45,14 +46,24 @@ pub fn put_value(
     Ok(values.insert(key, value)?)
 }
 
-/// Restores the previous value of a key, or removes the key if it had none.
-pub fn restore_value(values: &mut BTreeMap<String, String>, key: &str, before: Option<String>)
+/// Returns the result of an edit. If it is an error, restores the previous value of the key, or removes the key if it had
+/// none.
+pub fn restored_on_error(
+    values: &mut BTreeMap<String, String>,
+    key: &str,
+    before: Option<String>,
+    edited: Result<(), AllocError>,
+) -> Result<(), AllocError>
     requires ordered { IsOrdered string_cmp values.old }
     requires there { is_some (value_at values.old.entries (chars key.now)) ≡ true }
+    ensures same { result ≡ edited }
     ensures restored { (k : List ℕ) → value_at values.new.entries k
-        ≡ (if bytes_eq k (chars key.now) then option_map characters before else value_at values.old.entries k) }
+        ≡ (if is_err edited && bytes_eq k (chars key.now) then option_map characters before else value_at values.old.entries k) }
     ensures ordered { IsOrdered string_cmp values.new }
 {
+    let Err(error) = edited else {
+        return Ok(());
+    };
     match before {
         None => {
             values.remove(key);
@@ -63,4 +74,5 @@ pub fn restore_value(values: &mut BTreeMap<String, String>, key: &str, before: O
             }
         }
     }
+    Err(error)
 }

@@ -13,7 +13,8 @@ ghost use Rattle.java_properties.specs.Maps.{characters};
 ghost use Rattle.java_properties.specs.BodyDocuments.{pair_characters, outcome_pair};
 ghost use Rattle.properties_format.specs.Split.{IsSplit};
 ghost use Rattle.properties_text.specs.Escaping.{holds_backslash};
-ghost use Rattle.java_properties.specs.BorrowedItems.{borrowed_entry, borrowed_content, is_borrowed, BorrowsPlain, found_bytes, found_content, found_entry, AreTextsIn, spans_of, IsFoundIn, IsTextIn, FindsText, FindsContent, FindsIn, FindsPlain};
+ghost use Rattle.java_properties.specs.BorrowedItems.{borrowed_entry, borrowed_content, is_borrowed, BorrowsPlain, found_bytes, found_content, found_entry, AreTextsIn, spans_of, IsFoundIn, IsTextIn};
+ghost use Rattle.java_properties.specs.GivenItems.{FindsText, FindsContent, FindsIn, FindsPlain};
 
 use crate::iter::refs::{ContentRef, LineRef};
 use properties_text::escape::{UnescapeError, unescape};

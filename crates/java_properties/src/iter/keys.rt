@@ -7,7 +7,8 @@ ghost use Rattle.std.specs.BTreeMap.{IsOrdered};
 ghost use Rattle.counted_io.specs.Streams.{IsSameReader};
 ghost use Rattle.properties_text.specs.Encoding.{encoding_of};
 ghost use Rattle.java_properties.specs.Maps.{characters};
-ghost use Rattle.java_properties.specs.KeyLines.{AddsKeyLine, FindsKeys, KeepsFirst, PushesKey, FindsLineKey};
+ghost use Rattle.java_properties.specs.KeyLines.{FindsKeys};
+ghost use Rattle.java_properties.specs.LineByLine.{AddsKeyLine, FindsLineKey, KeepsFirst, PushesKey};
 
 use crate::error::PropertiesError;
 use crate::iter::found::find_escaped;

@@ -3,7 +3,8 @@
 ghost use Rattle.std.specs.Str.{chars};
 ghost use Rattle.counted_io.specs.Streams.{IsSameReader};
 ghost use Rattle.properties_text.specs.Encoding.{encoding_of};
-ghost use Rattle.java_properties.specs.MalformedEscapes.{FindsMalformed, PushesMalformed};
+ghost use Rattle.java_properties.specs.MalformedEscapes.{FindsMalformed};
+ghost use Rattle.java_properties.specs.LineByLine.{PushesMalformed};
 
 use crate::error::{ErrorKind, PropertiesError};
 use crate::iter::found::find_escaped;

@@ -1,21 +1,29 @@
 // A writer without its sink.
 
-ghost use Rattle.std.specs.Prelude.{◌≡◌, false, OnOk};
+ghost use Rattle.std.specs.Prelude.{◌≡◌, ◌≤◌, length, true, false, OnOk};
 ghost use Rattle.std.specs.Str.{chars};
 ghost use Rattle.properties_format.specs.Entries.{comment, pair};
 ghost use Rattle.properties_format.specs.Settings.{default_settings};
 ghost use Rattle.properties_format.specs.Writing.{is_accepted};
 ghost use Rattle.counted_io.specs.Streams.{IsSameSink};
-ghost use Rattle.java_properties.specs.Engine.{entry_content, writing, repertoire_of, line_bytes, content_bytes};
+ghost use Rattle.properties_text.specs.UndecodedTexts.{undecoded_line, IsUndecodedPair};
+ghost use Rattle.java_properties.specs.Engine.{entry_content, writing, repertoire_of, line_bytes, content_bytes, SendsLine, copies_bytes, takes_span, WritesPair, BuildsUndecoded, WritesUndecoded, DecodesSpan};
 ghost use Rattle.properties_text.specs.Printing.{AppendsOnOk};
 ghost use Rattle.java_properties.specs.PropertiesWriter.{call_of, WritesLine, Flushes};
 
 use super::settings::Settings;
 use crate::error::PropertiesError;
+use crate::iter::copy::CopyError;
 use counted_io::{CountedWrite, send};
-use properties_text::encoding::OutputEncoding;
-use properties_text::print::{LineBuffer, Place, Repertoire, print_key, print_raw, print_text};
+use properties_text::encoding::{Encoding, OutputEncoding, TextBuffer};
+use properties_text::escape::{UnescapeError, unescape};
+use properties_text::parse::Span;
+use properties_text::print::{
+    LineBuffer, Place, Repertoire, UndecodedPair, print_key, print_raw, print_text,
+    print_undecoded_pair,
+};
 use std::alloc::{AllocError, Global};
+use std::io;
 
 /// The content of a line to write.
 #[derive(Clone, Copy)]
@@ -24,6 +32,17 @@ pub enum Content<'a> {
     Comment(&'a str),
     /// A key and its value.
     KVPair(&'a str, &'a str),
+}
+
+/// What became of a pair that wasn't decoded.
+#[derive(Clone, Copy)]
+pub enum Written {
+    /// It was written.
+    Line,
+    /// Its escapes can't be resolved.
+    Unresolved(UnescapeError),
+    /// It couldn't be written, and the error is kept.
+    Failed,
 }
 
 /// The state of a writer between two lines. The sink is passed to each call.
@@ -66,6 +85,7 @@ impl Engine {
     }
 
     /// Writes a line, which is built completely before its first byte is sent.
+    #[inline(always)]
     pub fn write_line<W: CountedWrite>(
         &mut self,
         sink: &mut W,
@@ -85,6 +105,79 @@ impl Engine {
             return Err(PropertiesError::too_many_lines());
         };
         self.build(content)?;
+        match self.send_line(sink, number) {
+            Ok(()) => Ok(()),
+            Err(error) => Err(PropertiesError::write_fault(Some(number), error)),
+        }
+    }
+
+    /// Writes the line of a pair, and returns whether it did. `error` keeps the error of a write.
+    #[inline(always)]
+    pub fn write_pair<W: CountedWrite>(
+        &mut self,
+        sink: &mut W,
+        key: &str,
+        value: &str,
+        error: &mut Option<CopyError>,
+    ) -> bool
+        ensures writes { let old = writing self.old sink.old in
+            WritesPair W.CountedWrite old (pair (chars key.now) (chars value.now)) error.old result (writing self.new sink.new) error.new }
+        ensures same_sink { IsSameSink W.CountedWrite sink.old sink.new }
+    {
+        match self.write_line(sink, Content::KVPair(key, value)) {
+            Ok(()) => true,
+            Err(refused) => {
+                *error = Some(CopyError::Write(refused));
+                false
+            }
+        }
+    }
+
+    /// Writes the line of a pair of windows-1252 that isn't decoded, as `write_line` writes the pair that it means.
+    /// `error` keeps the error of a write.
+    #[inline(always)]
+    pub fn write_undecoded<W: CountedWrite>(
+        &mut self,
+        alloc: Global,
+        sink: &mut W,
+        pair: UndecodedPair<'_>,
+        error: &mut Option<CopyError>,
+    ) -> Written
+        requires { IsUndecodedPair pair }
+        ensures writes { let old = writing self.old sink.old in
+            WritesUndecoded W.CountedWrite old (undecoded_line pair.entry) error.old result (writing self.new sink.new) error.new }
+        ensures same_sink { IsSameSink W.CountedWrite sink.old sink.new }
+    {
+        if self.failed || !self.copies_bytes() || !self.takes_span(pair.key) {
+            return self.write_decoded(alloc, sink, pair, error);
+        }
+        let Some(number) = self.lines.checked_add(1) else {
+            return self.write_decoded(alloc, sink, pair, error);
+        };
+        if let Err(unresolved) = self.build_undecoded(alloc, pair) {
+            return Written::Unresolved(unresolved);
+        }
+        match self.send_line(sink, number) {
+            Ok(()) => Written::Line,
+            Err(cause) => {
+                let fault = PropertiesError::write_fault(Some(number), cause);
+                *error = Some(CopyError::Write(fault));
+                Written::Failed
+            }
+        }
+    }
+
+    // Sends the line that was built, and counts it.
+    #[inline(always)]
+    fn send_line<W: CountedWrite>(
+        &mut self,
+        sink: &mut W,
+        number: usize,
+    ) -> Result<(), Option<io::Error>>
+        ensures sends { let old = writing self.old sink.old in
+            SendsLine W.CountedWrite old self.old.line number result (writing self.new sink.new) }
+        ensures same_sink { IsSameSink W.CountedWrite sink.old sink.new }
+    {
         match send(sink, self.line.as_slice()) {
             Ok(()) => {
                 self.lines = number;
@@ -92,7 +185,7 @@ impl Engine {
             }
             Err(error) => {
                 self.failed = true;
-                Err(PropertiesError::write_fault(Some(number), error))
+                Err(error)
             }
         }
     }
@@ -119,7 +212,75 @@ impl Engine {
         }
     }
 
+    /// Returns whether bytes of windows-1252 can be copied into a line.
+    #[inline(always)]
+    pub fn copies_bytes(&self) -> bool
+        ensures { result ≡ copies_bytes self.now }
+    {
+        matches!(self.encoding, OutputEncoding::Windows1252) && !self.settings.ascii_only()
+    }
+
+    // Returns whether a pair can be written whose key is spelt by this span.
+    #[inline(always)]
+    fn takes_span(&self, key: Span) -> bool
+        ensures { result ≡ takes_span self.now.settings key }
+    {
+        key.start != key.end || self.settings.takes_key("")
+    }
+
+    // Writes the line of a pair that is decoded first.
+    #[inline(never)]
+    fn write_decoded<W: CountedWrite>(
+        &mut self,
+        alloc: Global,
+        sink: &mut W,
+        pair: UndecodedPair<'_>,
+        error: &mut Option<CopyError>,
+    ) -> Written
+        requires { IsUndecodedPair pair }
+        ensures writes { let old = writing self.old sink.old in
+            WritesUndecoded W.CountedWrite old (undecoded_line pair.entry) error.old result (writing self.new sink.new) error.new }
+        ensures same_sink { IsSameSink W.CountedWrite sink.old sink.new }
+    {
+        let key = match decoded(alloc, pair.bytes, pair.key) {
+            Ok(key) => key,
+            Err(unresolved) => return Written::Unresolved(unresolved),
+        };
+        let value = match decoded(alloc, pair.bytes, pair.value) {
+            Ok(value) => value,
+            Err(unresolved) => return Written::Unresolved(unresolved),
+        };
+        if self.write_pair(sink, &key, &value, error) {
+            return Written::Line;
+        }
+        Written::Failed
+    }
+
+    // Builds the bytes of the line from a pair that isn't decoded.
+    #[inline(always)]
+    fn build_undecoded(
+        &mut self,
+        alloc: Global,
+        pair: UndecodedPair<'_>,
+    ) -> Result<(), UnescapeError>
+        requires pair { IsUndecodedPair pair }
+        requires copies { copies_bytes self.old ≡ true }
+        ensures printed { BuildsUndecoded self.old (undecoded_line pair.entry) result self.new.line }
+        ensures same { self.new ≡ record self.old { line = self.new.line } }
+    {
+        self.line.clear();
+        print_undecoded_pair(
+            alloc,
+            &mut self.line,
+            self.lines == 0,
+            pair,
+            self.settings.kv_separator().as_bytes(),
+            self.settings.line_ending().as_str().as_bytes(),
+        )
+    }
+
     // Builds the bytes of the line.
+    #[inline(always)]
     fn build(&mut self, content: Content<'_>) -> Result<(), AllocError>
         ensures printed { let bytes = line_bytes self.old (entry_content content.entry) in
             OnOk result (self.new.line ≡ bytes) }
@@ -130,6 +291,7 @@ impl Engine {
         print_raw(&mut self.line, self.settings.line_ending().as_str())
     }
 
+    #[inline(always)]
     fn print_content(&mut self, content: Content<'_>) -> Result<(), AllocError>
         ensures printed { let bytes = content_bytes self.old (entry_content content.entry) in
             AppendsOnOk self.old.line bytes result self.new.line }
@@ -156,6 +318,7 @@ impl Engine {
         print_text(&mut self.line, repertoire, Place::Comment, text)
     }
 
+    #[inline(always)]
     fn print_pair(&mut self, key: &str, value: &str) -> Result<(), AllocError>
         ensures printed { let bytes = content_bytes self.old (pair (chars key.now) (chars value.now)) in
             AppendsOnOk self.old.line bytes result self.new.line }
@@ -175,4 +338,16 @@ impl Engine {
             ascii_only: self.settings.ascii_only(),
         }
     }
+}
+
+// The text that these bytes of windows-1252 mean.
+fn decoded(alloc: Global, bytes: &[u8], span: Span) -> Result<String, UnescapeError>
+    requires ordered { span.start ≤ span.end }
+    requires within { span.end ≤ length bytes.now }
+    ensures { DecodesSpan bytes.now span result }
+{
+    let mut text = TextBuffer::new(alloc);
+    text.push_decoded(Encoding::WINDOWS_1252, &bytes[span.start..span.end])?;
+    let meant = unescape(alloc, text.as_str())?.into_owned(alloc)?;
+    Ok(meant)
 }

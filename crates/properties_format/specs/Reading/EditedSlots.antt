@@ -7,7 +7,7 @@ use Rattle.properties_format.specs.Reading.Body.{held_groups_of}
 use Rattle.properties_format.specs.Reading.Slots.{slots_bytes, left_out, Slots, slots_of, last_slot, slots_put_at, slots_without, last_has, slots_guarded}
 use Rattle.properties_format.specs.Reading.ValuedSlots.{slots_valued}
 
--- the slots after an edit; marked says that a byte order mark stands before the body
+-- the slots after an edit; marked says that a byte order mark comes before the body
 abbrev pub slots_edited : Encoding → Bool → Edit → Slots → Slots
 slots_edited e marked (put key value) s = slots_put_at e key value s (last_slot key s.list)
 slots_edited e marked (remove key) s =

@@ -19,7 +19,7 @@ slot_group e s = final_group (held_groups_of e s.bytes)
 
 -- ---- the value of a pair
 
--- the slot of a pair with another value: its front, and after it the value is spelt
+-- the slot of a pair with another value: its front, and after it the printed value
 abbrev pub revalued_slot : Encoding → List ℕ → Slot → Slot
 revalued_slot e value s =
     let group : List HeldLine = slot_group e s in
@@ -27,11 +27,11 @@ revalued_slot e value s =
 
 -- ---- a new pair
 
--- what stands between key and value, where the slot is a pair
+-- what separates the key from the value, if the slot is a pair
 abbrev pub between_in_slot : Encoding → Slot → Option (List ℕ)
 between_in_slot e s = let line : List ℕ = joined (as_lines (slot_group e s)) in between_if_pair (split_of line) line
 
--- what stands between key and value of the last pair
+-- what separates the key from the value in the last pair
 abbrev pub last_slot_between : Encoding → List Slot → Option (List ℕ)
 last_slot_between e [] = None
 last_slot_between e (s ∷ ss) = or_else (last_slot_between e ss) (between_in_slot e s)
@@ -90,7 +90,7 @@ pub record IsReadAgain (e : Encoding) (s : Slot) : Type 0 where
   pub is_group : held_groups_of e s.bytes ≡ group ∷ []
   pub key_is : s.key ≡ outcome_key (outcome_of (joined (as_lines group)))
 
--- each of the slots is such
+-- Each of the slots is one group, with its key.
 abbrev pub AreReadAgain : Encoding → List Slot → Type 0
 AreReadAgain e [] = Unit {0}
 AreReadAgain e (s ∷ ss) = IsReadAgain e s × AreReadAgain e ss

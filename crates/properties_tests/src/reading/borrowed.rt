@@ -1,4 +1,4 @@
-// Items that are lent, and which of their texts are borrowed.
+// Borrowed items, and which of their texts are slices of the line.
 
 use self::Item::{Comment, Pair};
 use self::Text::{Borrowed, Owned};

@@ -9,7 +9,7 @@ use std::alloc::{AllocError, Global};
 use std::io;
 use std::process::Abort;
 
-// An edit whose texts are lent.
+// An edit with borrowed texts.
 #[derive(Clone, Copy)]
 enum Change<'a> {
     Put(&'a str, &'a str),
@@ -310,7 +310,7 @@ fn the_keys_of_a_document_are_told_or_refused(rt: HostRuntime) -> Result<(), Pro
     Ok(())
 }
 
-// A malformed escape is told as that, or Memory is, and never another error.
+// A malformed escape is reported as such, or Memory is, and never another error.
 fn check_malformed(rt: &impl Abort, alloc: Global, call: Call<'_>) {
     let source = b"\xe9=1\nk=\xe9\\u12".as_slice();
     let mut told = answer(alloc, source, call);

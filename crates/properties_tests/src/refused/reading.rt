@@ -33,7 +33,7 @@ fn is_item(line: &Line, at: usize) -> bool {
     }
 }
 
-// Whether what is lent is the item at this place.
+// Whether the borrowed item is the one at this place.
 fn is_borrowed_item(line: &LineRef<'_>, at: usize) -> bool {
     let Some((key, value)) = PAIRS.get(at) else {
         return false;
@@ -68,7 +68,7 @@ fn items_end_where_memory_is_refused(rt: HostRuntime) -> Result<(), Fail> {
     check_items(&rt, rt.alloc(), INPUT)
 }
 
-// Each lent item, or Memory after some of them and nothing after it. Says whether each came.
+// Each borrowed item, or Memory after some of them and nothing after it. Says whether each came.
 fn borrows_each_item(rt: &impl Abort, alloc: Global) -> Result<bool, Fail> {
     let mut items = PropertiesIter::new(alloc, INPUT)?;
     for at in 0..PAIRS.len() {
@@ -102,7 +102,7 @@ fn borrowed_items_end_where_memory_is_refused(rt: HostRuntime) -> Result<(), Fai
     Ok(())
 }
 
-// A copy of the item at this place is made at once, or is refused and then made. The item is lent all the same.
+// A copy of the item at this place is made at once, or is refused and then made. The item is borrowed all the same.
 fn check_copy(
     rt: &impl Abort,
     alloc: Global,

@@ -72,7 +72,7 @@ line-split p h =
     (subst (λ v. IsSplit line (pair key v)) (in-front p.bytes.now p.value.end p.value h.value_ordered (omega arith)) d)
 
 -- a pair of bytes is the pair of the line's text
-pair-split : (p : UndecodedPair) → IsUndecodedPair p
+pub pair-split : (p : UndecodedPair) → IsUndecodedPair p
     → IsSplit (text_of WINDOWS_1252 (undecoded_line p)) (pair (text_of WINDOWS_1252 (bytes_in p.bytes.now p.key)) (text_of WINDOWS_1252 (bytes_in p.bytes.now p.value)))
 pair-split p h =
     let key = bytes_in p.bytes.now p.key in

@@ -171,6 +171,9 @@ fn put_after(out: &mut [u8], filled: usize, bytes: &[u8], end: usize) -> Option<
     Some(filled + written)
 }
 
+// Fewer bytes than this are put one by one, since a block takes longer.
+const FEW: usize = 5;
+
 // Where sixteen bytes cannot be copied as they are.
 type Stops = Either<Controls, Byte<b'\\'>>;
 
@@ -183,16 +186,49 @@ fn put_printed(out: &mut [u8], bytes: &[u8], end: usize) -> Option<usize>
     ensures same_room { length out.new ≡ length out.old }
     ensures printed { IfSome result (λ written. IsPrinted (take end bytes.now) written out.new) }
 {
-    let blocks = put_blocks(out, bytes, end, NOTHING);
-    if blocks.read == end {
-        return Some(blocks.written);
+    let most = put_most(out, bytes, end);
+    if most.read == end {
+        return Some(most.written);
     }
-    let reached = put_singly(out, &bytes[..end], blocks);
+    let reached = put_singly(out, &bytes[..end], most);
     if reached.read == end {
         Some(reached.written)
     } else {
         None
     }
+}
+
+// Puts the text as far as its bytes can be copied and its escapes are usual.
+#[inline(always)]
+fn put_most(out: &mut [u8], bytes: &[u8], end: usize) -> Printed
+    requires within { end ≤ length bytes.now }
+    requires room { 2 * end + 32 ≤ length out.old }
+    ensures same_room { length out.new ≡ length out.old }
+    ensures put { ArePut (take end bytes.now) result out.new }
+{
+    if end < FEW {
+        return put_few(out, &bytes[..end], NOTHING);
+    }
+    put_blocks(out, bytes, end, NOTHING)
+}
+
+// Goes on byte by byte, up to a backslash or a control character.
+#[inline(always)]
+fn put_few(out: &mut [u8], text: &[u8], so_far: Printed) -> Printed
+    requires room { 2 * length text.now ≤ length out.old }
+    requires so_far { ArePut text.now so_far out.old }
+    ensures same_room { length out.new ≡ length out.old }
+    ensures put { ArePut text.now result out.new }
+{
+    let mut reached = so_far;
+    while reached.read < text.len() && text[reached.read] != b'\\' {
+        let read = reached.read;
+        reached = put_itself(out, text, reached);
+        if reached.read == read {
+            break;
+        }
+    }
+    reached
 }
 
 // Goes on by blocks of sixteen, and past what stands between them, as far as sixteen bytes are there.

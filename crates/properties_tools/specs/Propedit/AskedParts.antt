@@ -34,7 +34,7 @@ choice_of (Made.InPlace path) = edits_file (borrowed_bytes path)
 choice_of (Made.Default value) = with_default (borrowed_bytes value)
 choice_of Made.Zero = with_zero
 
--- the same with the words after it
+-- an option of the code, and the words after it
 abbrev pub next_of : {Z : Type 0} → made.Choice × Bor (List (String Z)) → Choice × List (List ℕ)
 next_of next = (choice_of next.0, map string_bytes next.1.now)
 
@@ -46,21 +46,21 @@ source_choice (From.InPlace path) = in_place (borrowed_bytes path)
 abbrev pub choices_of : all_made.Choices → Choices
 choices_of choices = record { encoding = option_map encoding_of choices.encoding; source = source_choice choices.source; default = option_map borrowed_bytes choices.default; end = choices.end }
 
--- the same with the words after them
+-- what options of the code choose, and the words after them
 abbrev pub choices_next : {Z : Type 0} → all_made.Choices × Bor (List (String Z)) → Choices × List (List ℕ)
 choices_next next = (choices_of next.0, map string_bytes next.1.now)
 
--- the option that the words begin with, and the words after it, where they begin with one
+-- the option that the words begin with and the words after it, if they begin with one
 abbrev pub IsNextChoice : List (List ℕ) → Option (Choice × List (List ℕ)) → Type 0
 IsNextChoice words None = (choice : Choice) (others : List (List ℕ)) → words ≡ choice_words choice ++ others → ⊥
 IsNextChoice words (Some next) = words ≡ choice_words next.0 ++ next.1
 
--- the same of a word that is not `-z` and of the words after it
+-- the option that this word and the words after it begin with, if they begin with one; the word is not `-z` if they don't
 abbrev pub IsNextWithValue : List ℕ → List (List ℕ) → Option (Choice × List (List ℕ)) → Type 0
 IsNextWithValue name words None = name ≢ codes "-z" → IsNextChoice (name ∷ words) None
 IsNextWithValue name words (Some next) = IsNextChoice (name ∷ words) (Some next)
 
--- the option of two words, where they are one
+-- the option that two words are, if they are one
 abbrev pub IsChoiceWith : List ℕ → List ℕ → Option Choice → Type 0
 IsChoiceWith name value None = (choice : Choice) → choice_words choice ≡ name ∷ (value ∷ []) → ⊥
 IsChoiceWith name value (Some choice) = choice_words choice ≡ name ∷ (value ∷ [])
@@ -77,12 +77,12 @@ IsFree of_source choices = choices.source ≡ standard_input
 IsFree of_default choices = choices.default ≡ None
 IsFree of_end choices = choices.end ≡ LineFeed
 
--- choices with one option more, where none is about the same
+-- the choices with one option more, if no earlier one is about the same
 abbrev pub IsWithChoice : Choices → Choice → Option Choices → Type 0
 IsWithChoice choices choice None = IsFree (kind_of choice) choices → ⊥
 IsWithChoice choices choice (Some more) = IsFree (kind_of choice) choices × (more ≡ with_choice choice choices)
 
--- choices with this source, where none is chosen
+-- the choices with this source, if they have none
 abbrev pub IsWithSource : Choices → Source → Option Choices → Type 0
 IsWithSource choices source None = choices.source ≢ standard_input
 IsWithSource choices source (Some more) = (choices.source ≡ standard_input) × (more ≡ record choices { source = source })
@@ -94,12 +94,12 @@ pub record HasChosen (words : List (List ℕ)) (choices : Choices) (rest : List 
   pub is : words ≡ words_of_choices done ++ rest
   pub chosen : choices ≡ all_choices done
 
--- what the options choose that words begin with, and the words after these, where no two are about the same
+-- what the options at the front of the words choose and the words after them, if no two are about the same
 abbrev pub AreChosen : List (List ℕ) → Option (Choices × List (List ℕ)) → Type 0
 AreChosen words None = (choices : List Choice) (rest : List (List ℕ)) → words ≡ words_of_choices choices ++ rest → IsNextChoice rest None → AreDistinctOptions choices → ⊥
 AreChosen words (Some next) = HasChosen words next.0 next.1 × IsNextChoice next.1 None
 
--- the same where options before these words chose so
+-- what all options choose and the words after them, if the options before these words made these choices
 abbrev pub AreChosenAfter : Choices → List (List ℕ) → Option (Choices × List (List ℕ)) → Type 0
 AreChosenAfter choices words next = (whole : List (List ℕ)) → HasChosen whole choices words → AreChosen whole next
 
@@ -129,12 +129,12 @@ IsCommand choices words (Some command) = AreWordsOf words command × Suits choic
 abbrev pub AreCommand : Choices → List (List ℕ) → Type 0
 AreCommand choices words = (command : Command) × AreWordsOf words command × Suits choices command
 
--- the same with what it is done to
+-- the work that words after options ask for: a command, and what it is done to
 abbrev pub IsWork : Choices → List (List ℕ) → Option Work → Type 0
 IsWork choices words None = (w : Work) → AsksWork choices words w → ⊥
 IsWork choices words (Some w) = AsksWork choices words w
 
--- the same as a request
+-- the request for the work that words after options ask for
 abbrev pub IsWorkAsked : Choices → List (List ℕ) → Option Request → Type 0
 IsWorkAsked choices words None = (w : Work) → AsksWork choices words w → ⊥
 IsWorkAsked choices words (Some request) = (w : Work) × (request ≡ work_request w) × AsksWork choices words w
@@ -158,16 +158,16 @@ abbrev pub borrowed_edit : BorrowedEdit → Edit
 borrowed_edit (Borrowed.Set key value) = set (borrowed_bytes key) (borrowed_bytes value)
 borrowed_edit (Borrowed.Remove key) = remove (borrowed_bytes key)
 
--- the same with the words after it
+-- an edit of borrowed texts, and the words after it
 abbrev pub edit_next : {Z : Type 0} → BorrowedEdit × Bor (List (String Z)) → Edit × List (List ℕ)
 edit_next next = (borrowed_edit next.0, map string_bytes next.1.now)
 
--- the edit that the words begin with, and the words after it, where they begin with one
+-- the edit that the words begin with and the words after it, if they begin with one
 abbrev pub IsNextEdit : List (List ℕ) → Option (Edit × List (List ℕ)) → Type 0
 IsNextEdit words None = (edit : Edit) (others : List (List ℕ)) → words ≡ edit_words edit ++ others → ⊥
 IsNextEdit words (Some next) = words ≡ edit_words next.0 ++ next.1
 
--- the setting of this key, and the words after its value, where a word is left for the value
+-- the setting of this key and the words after its value, if a word is left for the value
 abbrev pub IsSetNext : List ℕ → List (List ℕ) → Option (Edit × List (List ℕ)) → Type 0
 IsSetNext key words None = words ≡ []
 IsSetNext key words (Some next) = (value : List ℕ) × (words ≡ value ∷ next.1) × (next.0 ≡ set key value)

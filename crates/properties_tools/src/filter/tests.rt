@@ -163,6 +163,59 @@ fn a_flush_after_a_read_fault_may_fail(rt: HostRuntime) -> Result<(), Fail> {
     Ok(())
 }
 
+// Reads of one byte each, and then this tail.
+fn bytes_apart(alloc: Global, bytes: &[u8], tail: Tail) -> Result<ScriptedReader, AllocError> {
+    let mut pieces = Vec::new(alloc);
+    for byte in bytes.chunks(1) {
+        pieces.push(byte.to_vec(alloc)?)?;
+    }
+    Ok(ScriptedReader::new(pieces, tail))
+}
+
+#[test]
+fn reads_of_one_byte_give_the_pairs(rt: HostRuntime) -> Result<(), Fail> {
+    let bytes = b"a=1\n# c\r\nb\\u0020c\r\n\\u65e5 = x\\\r\n  \xe9";
+    let rows: [(Encoding, &[u8]); 2] = [
+        (Encoding::WINDOWS_1252, b"a=1\nb\\ c=\n\\u65e5=x\xe9\n"),
+        (
+            Encoding::UTF_8,
+            b"a=1\nb\\ c=\n\xe6\x97\xa5=x\xef\xbf\xbd\n",
+        ),
+    ];
+    for (encoding, wanted) in rows {
+        let mut input = bytes_apart(rt.alloc(), bytes, Tail::End)?;
+        let mut output = Counted::new(Vec::new(rt.alloc()));
+        filter(rt.alloc(), &mut input, &mut output, encoding)?;
+        assert_eq!(rt; output.into_inner().as_slice(), wanted);
+    }
+    Ok(())
+}
+
+#[test]
+fn each_read_may_fail(rt: HostRuntime) -> Result<(), Fail> {
+    let rows: [(&[u8], usize, &[u8]); 6] = [
+        (b"", 1, b""),
+        (b"a=1", 1, b""),
+        (b"a=1\n", 2, b"a=1\n"),
+        (b"a=1\nb\\", 2, b"a=1\n"),
+        (b"a=1\nb\\\n=2", 3, b"a=1\n"),
+        (b"a=1\nb\\\n=2\n", 4, b"a=1\nb=2\n"),
+    ];
+    for (bytes, line_number, wanted) in rows {
+        for encoding in [Encoding::WINDOWS_1252, Encoding::UTF_8] {
+            let tail = Tail::Fault(io::ErrorKind::TimedOut);
+            let mut input = bytes_apart(rt.alloc(), bytes, tail)?;
+            let mut sink = ScriptedSink::new(rt.alloc(), 100, None, SinkFault::Nothing);
+            let answer = filter(rt.alloc(), &mut input, &mut sink, encoding);
+            let fault = Some(io::ErrorKind::TimedOut);
+            assert!(rt; is_error(&answer, ErrorKind::Io, Some(line_number), fault));
+            assert_eq!(rt; sink.bytes(), wanted);
+            assert_eq!(rt; input.faults(), 1);
+        }
+    }
+    Ok(())
+}
+
 #[test]
 fn pairs_before_a_malformed_escape_are_written(rt: HostRuntime) {
     let mut input = b"a=1\nk=\\u12\nb=2".as_slice();
@@ -186,21 +239,23 @@ fn nothing_is_written_of_nothing(rt: HostRuntime) {
 fn filter_by<W: CountedWrite>(
     alloc: Global,
     writer: &mut W,
+    encoding: Encoding,
     ascii_only: bool,
 ) -> Result<(), PropertiesError> {
     let mut input = b"a=1\n# c\nb\\u0020c\n\\u65e5 = x".as_slice();
     if ascii_only {
-        filter_ascii(alloc, &mut input, writer, Encoding::UTF_8)
+        filter_ascii(alloc, &mut input, writer, encoding)
     } else {
-        filter(alloc, &mut input, writer, Encoding::UTF_8)
+        filter(alloc, &mut input, writer, encoding)
     }
 }
 
-// Where a growth is refused, as `fail-alloc.sh` of `properties_tests` has it, the lines before it stand. The next
+// Where a growth is refused, as `fail-alloc.sh` of `properties_tests` has it, the lines before it stay. The next
 // time all lines are appended.
 fn check_refused(
     rt: &impl Abort,
     alloc: Global,
+    encoding: Encoding,
     ascii_only: bool,
     whole: &[u8],
 ) -> Result<(), Fail> {
@@ -208,10 +263,10 @@ fn check_refused(
         return Ok(());
     };
     let mut sink = Counted::new(room);
-    let first = filter_by(alloc, &mut sink, ascii_only);
+    let first = filter_by(alloc, &mut sink, encoding, ascii_only);
     if first.is_err() {
         assert!(rt; is_error(&first, ErrorKind::Memory, None, None));
-        filter_by(alloc, &mut sink, ascii_only)?;
+        filter_by(alloc, &mut sink, encoding, ascii_only)?;
     }
     assert_eq!(rt; sink.faults(), 0);
     let bytes = sink.into_inner();
@@ -223,10 +278,18 @@ fn check_refused(
 
 #[test]
 fn refused_memory_ends_the_pairs(rt: HostRuntime) -> Result<(), Fail> {
-    check_refused(&rt, rt.alloc(), false, b"a=1\nb\\ c=\n\xe6\x97\xa5=x\n")
+    let whole = b"a=1\nb\\ c=\n\xe6\x97\xa5=x\n";
+    check_refused(&rt, rt.alloc(), Encoding::UTF_8, false, whole)
+}
+
+#[test]
+fn refused_memory_ends_the_pairs_that_are_copied(rt: HostRuntime) -> Result<(), Fail> {
+    let whole = b"a=1\nb\\ c=\n\\u65e5=x\n";
+    check_refused(&rt, rt.alloc(), Encoding::WINDOWS_1252, false, whole)
 }
 
 #[test]
 fn refused_memory_ends_the_pairs_in_ascii(rt: HostRuntime) -> Result<(), Fail> {
-    check_refused(&rt, rt.alloc(), true, b"a=1\nb\\ c=\n\\u65e5=x\n")
+    let whole = b"a=1\nb\\ c=\n\\u65e5=x\n";
+    check_refused(&rt, rt.alloc(), Encoding::UTF_8, true, whole)
 }

@@ -195,7 +195,7 @@ fn tells_of_a_fault(rt: HostRuntime) {
     );
 }
 
-// A refused growth ends with status 1 and is told, or it was that of the text that tells something, and nothing is.
+// A refused growth ends with status 1 and a message, or without one if it is the message that can't grow.
 #[test]
 fn tells_of_refused_memory(rt: HostRuntime) {
     let Ok(output) = Vec::with_capacity(rt.alloc(), 64) else {

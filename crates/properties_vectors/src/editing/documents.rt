@@ -61,7 +61,7 @@ fn take_step(
             let key = text(key)?;
             let was_there = document.contains_key(key);
             if document.remove(key) != was_there {
-                outcome.fail(format!(in alloc; "a document tells another removal of {key:?}")?);
+                outcome.fail(format!(in alloc; "a document reports another removal of {key:?}")?);
             }
         }
         ("get", [key]) => match document.get(text(key)?) {
@@ -101,7 +101,7 @@ fn check_values(
     Ok(())
 }
 
-// The keys of these bytes, each where it stands first.
+// The keys of these bytes, each where it comes first.
 fn keys_of(alloc: Global, encoding: Encoding, bytes: &[u8]) -> Result<Vec<String>, AllocError> {
     let mut keys: Vec<String> = Vec::new(alloc);
     let mut input = bytes;

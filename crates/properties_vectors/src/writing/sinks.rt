@@ -120,7 +120,7 @@ pub fn cut_at(ends: &[usize], most: usize, fail_at: usize) -> Option<Cut> {
     None
 }
 
-/// What is told of a write that fails so in the line of this number.
+/// What is reported for a write that fails so in the line with this number.
 pub fn fault_text(alloc: Global, line: usize, how: SinkFault) -> Result<String, Halt> {
     Ok(match how {
         SinkFault::Fault(kind) => format!(in alloc; "Io in line {line} by {kind:?}")?,

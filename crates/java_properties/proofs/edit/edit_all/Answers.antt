@@ -1,7 +1,6 @@
 use Rattle.std.proofs.Common.{◌≡◌, ◌++◌, ◌∷◌, [], ◌∙◌, ap, sym, subst, take, drop, arith}
 use Rattle.std.proofs.lemmas.List.{take_rest, take_all}
-use Rattle.std.proofs.lemmas.Result.{err_from_is_err_and}
-use Rattle.properties_format.specs.Edits.{IsEditAllResult}
+use Rattle.properties_format.specs.Edits.{AreEdited}
 use Rattle.properties_format.specs.Reading.Edits.{edits_made}
 use Rattle.properties_format.specs.Reading.EditedSlots.{slots_after}
 use Rattle.properties_format.proofs.Edits.Results.{edit_all_result-meets}
@@ -19,11 +18,10 @@ returns-in_err-slots-clause-edits c =
     let e = encoding_of c.args.encoding in
     let source = c.args.source.now in
     let edits = edits_in c.args.edits.now in
-    let opened = c.in_ok-opened in
-    let error = err_from_is_err_and c.from_residual-in_err-slots.result c.from_residual-in_err-slots.ensures.1 in
-    let fault = rw (take_rest source opened.opened.start) at c.in_err-slots.ensures in
-    rw (error.1, error.2) (refusal (IsEditAllResult e source edits) (edits_made e source edits) opened.ensures.0 opened.ensures.1
-    (edit_all_result-meets e source edits) (λ none. none) fault)
+    let opened = c.in_ok-opened.ensures in
+    let refused = refusal c.from_residual-in_err-slots.result (AreEdited e source edits) (edits_made e source edits) opened.0 opened.1 (edit_all_result-meets e source edits)
+    c.in_err-slots.ensures c.from_residual-in_err-slots.ensures.1 in
+    rw refused.1 refused.2
 
 pub returns-in_err-slots-clause-splitting : goal.returns-in_err-slots-clause-splitting
 returns-in_err-slots-clause-splitting c = splitting (encoding_of c.args.encoding) c.args.source.now

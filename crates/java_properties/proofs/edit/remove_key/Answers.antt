@@ -1,8 +1,7 @@
 use Rattle.std.proofs.Common.{◌∙◌, ap}
 use Rattle.std.proofs.lemmas.List.{take_rest}
-use Rattle.std.proofs.lemmas.Result.{err_from_is_err_and}
 use Rattle.std.specs.Str.{chars}
-use Rattle.properties_format.specs.Edited.{IsRemoveKeyResult}
+use Rattle.properties_format.specs.Edited.{IsKeyRemoved}
 use Rattle.properties_format.specs.Reading.Edited.{key_removed}
 use Rattle.properties_format.proofs.Edited.Results.{remove_key_result-meets}
 use Rattle.properties_text.specs.Encoding.{encoding_of}
@@ -18,11 +17,10 @@ returns-in_err-others-clause-removes c =
     let e = encoding_of c.args.encoding in
     let source = c.args.source.now in
     let key = chars c.args.key.now in
-    let opened = c.in_ok-opened in
-    let error = err_from_is_err_and c.from_residual-in_err-others.result c.from_residual-in_err-others.ensures.1 in
-    let fault = rw (take_rest source opened.opened.start) at c.in_err-others.ensures in
-    rw (error.1, error.2) (refusal (IsRemoveKeyResult e source key) (key_removed e source key) opened.ensures.0 opened.ensures.1
-    (remove_key_result-meets e source key) (λ none. none) fault)
+    let opened = c.in_ok-opened.ensures in
+    let refused = refusal c.from_residual-in_err-others.result (IsKeyRemoved e source key) (key_removed e source key) opened.0 opened.1 (remove_key_result-meets e source key)
+    c.in_err-others.ensures c.from_residual-in_err-others.ensures.1 in
+    rw refused.1 refused.2
 
 pub returns-in_err-others-clause-splitting : goal.returns-in_err-others-clause-splitting
 returns-in_err-others-clause-splitting c = splitting (encoding_of c.args.encoding) c.args.source.now

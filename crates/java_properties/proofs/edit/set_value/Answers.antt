@@ -1,8 +1,7 @@
 use Rattle.std.proofs.Common.{◌∙◌, ap}
 use Rattle.std.proofs.lemmas.List.{take_rest}
-use Rattle.std.proofs.lemmas.Result.{err_from_is_err_and}
 use Rattle.std.specs.Str.{chars}
-use Rattle.properties_format.specs.Valued.{IsSetValueResult}
+use Rattle.properties_format.specs.Valued.{IsValueSet}
 use Rattle.properties_format.specs.Reading.Valued.{value_set}
 use Rattle.properties_format.proofs.Valued.Made.{set_value_result-meets}
 use Rattle.properties_text.specs.Encoding.{encoding_of}
@@ -20,22 +19,21 @@ returns-in_err-place-clause-sets c =
     let source = c.args.source.now in
     let key = chars c.args.key.now in
     let value = chars c.args.value.now in
-    let opened = c.in_ok-opened.opened in
-    let error = err_from_is_err_and c.from_residual-in_err-place.result c.from_residual-in_err-place.ensures.1 in
-    let fault = rw (take_rest source opened.start) at c.in_err-place.ensures in
-    rw (error.1, error.2) (refusal (IsSetValueResult e source key value) (value_set e source key value) c.in_ok-opened.ensures.0 c.in_ok-opened.ensures.1
-    (set_value_result-meets e source key value) (λ none. none) fault)
+    let opened = c.in_ok-opened.ensures in
+    let refused = refusal c.from_residual-in_err-place.result (IsValueSet e source key value) (value_set e source key value) opened.0 opened.1 (set_value_result-meets e source key value)
+    c.in_err-place.ensures c.from_residual-in_err-place.ensures.1 in
+    rw refused.1 refused.2
 
 pub returns-in_err-place-clause-splitting : goal.returns-in_err-place-clause-splitting
 returns-in_err-place-clause-splitting c = splitting (encoding_of c.args.encoding) c.args.source.now
 
-pub revalued-requires-clause-within : goal.revalued-requires-clause-within
-revalued-requires-clause-within c =
+pub with_value-requires-clause-within : goal.with_value-requires-clause-within
+with_value-requires-clause-within c =
     let found = rw (take_rest c.args.source.now c.in_ok-opened.opened.start) at c.in_ok-place.ensures in
     span-within c.in-Some.pair c.in_ok-opened.ensures.0 c.in_ok-opened.ensures.1 found c.in-Some.is
 
-pub revalued-requires-clause-alone : goal.revalued-requires-clause-alone
-revalued-requires-clause-alone c =
+pub with_value-requires-clause-alone : goal.with_value-requires-clause-alone
+with_value-requires-clause-alone c =
     let opened = c.in_ok-opened.opened in
     let found = rw (take_rest c.args.source.now opened.start) at c.in_ok-place.ensures in
     found-alone c.args.source.now (chars c.args.key.now) opened c.in-Some.pair c.in_ok-opened.ensures.1 found c.in-Some.is

@@ -13,7 +13,7 @@ ghost use Rattle.java_properties.specs.Settings.{ending_of};
 ghost use Rattle.java_properties.specs.BodySlots.{HoldsIn, ReadsIn, slot_bytes};
 ghost use Rattle.java_properties.specs.BodySlots.Value.{KeepsCells, IsOwnEnding, IsLastOfSeen, IsSeparatorOfSeen};
 
-use crate::edit::new_pair::{ending_within, separator_in};
+use crate::edit::new_pair::{ending_within, separator_like};
 use crate::edit::place::BodySpan;
 use crate::edit::result::{concatenated, part};
 use crate::edit::slots::{Slot, Slots};
@@ -43,7 +43,7 @@ impl Slots {
             let pair = &self.slots[self.pairs[count]];
             if pair.is_left {
                 let bytes = pair.copied(alloc, body)?;
-                if let Some(separator) = separator_in(alloc, encoding, &bytes, key)? {
+                if let Some(separator) = separator_like(alloc, encoding, &bytes, key)? {
                     return Ok(separator);
                 }
             } else {

@@ -4,18 +4,16 @@ ghost use Rattle.std.specs.Prelude.{◌≡◌, ◌≤◌, length, IfOk, OnOk};
 ghost use Rattle.std.specs.BTreeMap.{IsOrdered};
 ghost use Rattle.std.specs.Option.{option_map};
 ghost use Rattle.std.specs.String.{string_cmp};
-ghost use Rattle.properties_format.specs.Reading.Slots.{safe_ending};
 ghost use Rattle.properties_text.specs.Encoding.{encoding_of};
 ghost use Rattle.properties_lines.specs.LineSearch.{unit_size};
 ghost use Rattle.java_properties.specs.Maps.{characters};
-ghost use Rattle.java_properties.specs.Settings.{ending_of};
 ghost use Rattle.java_properties.specs.BodySlots.{ParsesSlots, Pushes};
 ghost use Rattle.java_properties.specs.BodyDocuments.{ParsesBody};
 ghost use Rattle.java_properties.specs.BodySlots.Parsed.{AddsGroup, AddsKey, HoldsGuard};
 
 use crate::edit::groups::{Group, GroupReader};
 use crate::edit::keys::{key_of, pair_of};
-use crate::edit::place::{BodySpan, Closing, closing_after, ends_in_cr};
+use crate::edit::place::{BodySpan, Closing, closing_after, separation_after};
 use crate::edit::slots::places::add_place;
 use crate::edit::slots::{Slot, Slots};
 use crate::edit::values::keep_value;
@@ -144,16 +142,5 @@ fn add_key(
     match key {
         Some(key) => add_place(alloc, places, key, place),
         None => Ok(()),
-    }
-}
-
-// Returns a line ending that doesn't form a CR LF with the end of these bytes.
-fn separation_after(bytes: &[u8]) -> LineEnding
-    ensures { ending_of result ≡ safe_ending bytes.now }
-{
-    if ends_in_cr(bytes) {
-        LineEnding::CR
-    } else {
-        LineEnding::LF
     }
 }

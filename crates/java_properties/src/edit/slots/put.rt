@@ -59,8 +59,8 @@ impl Slots {
         Ok(())
     }
 
-    /// Makes the slot at this index a pair with these bytes. If it is the last one, an LF separates it from a pair after
-    /// it.
+    /// Makes the slot at this index a pair with these bytes. If it is the last one, `put` separates a pair after it by an
+    /// LF.
     pub fn refill(&mut self, place: usize, pair: Vec<u8>)
         requires { place < length self.old.slots.items }
         ensures { Refills self.old place pair.items self.new }

@@ -31,13 +31,13 @@ impl Slots {
         ensures { ValuesOrKeeps (encoding_of encoding) body.now (chars key.now) (chars value.now) self.old result self.new }
     {
         match last_place(&self.places, key) {
-            Some(place) => self.revalue(alloc, encoding, body, place, key, value),
+            Some(place) => self.replace_value(alloc, encoding, body, place, key, value),
             None => self.append_like_last(alloc, encoding, body, key, value),
         }
     }
 
     // Gives the pair at this index the value, unless it has it.
-    fn revalue(
+    fn replace_value(
         &mut self,
         alloc: Global,
         encoding: Encoding,
@@ -55,7 +55,7 @@ impl Slots {
         match new_value(alloc, encoding, &bytes, value) {
             Ok(None) => Ok(()),
             Ok(Some(new)) => {
-                let front = &bytes[..new.front];
+                let front = &bytes[..new.front_size];
                 let pair = concatenated(alloc, front, new.bytes.as_slice(), b"")?;
                 self.refill(place, pair);
                 Ok(())

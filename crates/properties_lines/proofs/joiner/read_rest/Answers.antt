@@ -1,5 +1,6 @@
 use Rattle.std.proofs.Common.{Bool, subst}
 use Rattle.std.specs.Prelude.{Ok}
+use Rattle.std.specs.Str.{chars}
 use Rattle.std.specs.declared.alloc.AllocError.{AllocError}
 use Rattle.properties_text.specs.Encoding.{encoding_of}
 use Rattle.properties_lines.specs.LogicalLine.{Begins}
@@ -26,7 +27,8 @@ pub returns-else-join_lines-clause-reads : goal.returns-else-join_lines-clause-r
 returns-else-join_lines-clause-reads g c =
     let P : Bool → Type 0 = λ v. Begins {E = AllocError} (encoding_of c.encoding.result) c.line.result.now (Ok v) c.begin.new.self in
     let opens = rw (c.encoding.ensures, c.line.ensures) at (subst P c.in-Ok-true.field-0-test c.in-Ok-true.ensures.begins) in
-    reads-broken c.args.lines.now c.join_lines.new.lines c.begin.new.self c.join_lines.new.line opens c.if-join_lines.ensures.joins c.join_lines.ensures.kept
+    let none = reads-broken c.args.lines.now c.join_lines.new.lines (chars c.begin.new.self.text) opens.other opens.opens opens.closed c.if-join_lines.ensures.joins in
+    (none, λ borrowed. let kept = c.join_lines.ensures.kept in absurd (cc))
 
 pub returns-in-Ok-false-clause-reads : goal.returns-in-Ok-false-clause-reads
 returns-in-Ok-false-clause-reads g c =
@@ -35,4 +37,5 @@ returns-in-Ok-false-clause-reads g c =
     rw c.number-number.ensures (reads-alone c.args.lines.now c.begin.new.self begins.0 begins.1 c.requires.error)
 
 pub returns-in-Err-clause-reads : goal.returns-in-Err-clause-reads
-returns-in-Err-clause-reads g c = reads-no_room c.args.lines.now c.fail.new.self c.begin.new.self c.fail.ensures c.in-Err.ensures.lacks
+returns-in-Err-clause-reads g c =
+    (reads-no_room c.args.lines.now c.fail.new.self c.fail.ensures, λ borrowed. let kept = c.in-Err.ensures.lacks in absurd (cc))

@@ -22,7 +22,7 @@ pub fn edits_in(alloc: Global, words: &[String]) -> Result<Option<Vec<Edit>>, Al
     }
 }
 
-// How many edits the words are, or `None` where they are others.
+// Returns how many edits the words form, or `None` if they form none.
 fn edit_count(words: &[String]) -> Option<usize>
     ensures { IsEditCount (map string_bytes words.now) result }
 {

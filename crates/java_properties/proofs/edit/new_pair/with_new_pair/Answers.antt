@@ -19,13 +19,13 @@ returns c =
     let layout = c.args.layout.now in
     let ending = line_ending_text (ending_of layout.ending) in
     let first = c.are_empty-first.ensures
-    ∙ ap₂ (λ v w. is_empty (v ++ w)) (take_rest source c.args.opened.start) (c.as_bytes.ensures.value ∙ c.separation_of-separation.ensures) in
+    ∙ ap₂ (λ v w. is_empty (v ++ w)) (take_rest source c.args.opened.start) (c.as_bytes.ensures.value ∙ c.closing_bytes-separation.ensures) in
     let printed = rw c.as_str-separator.ensures.value at c.in_ok-print_new_pair.ensures in
     let ended = new_pair-ended e c.print_raw.new.line c.print_new_pair.new.line c.print_raw-2.new.line (characters layout.separator) (chars c.args.key.now) (chars c.args.value.now)
     c.as_str.result.now c.are_empty-first.result (ending_of layout.ending) printed c.in_ok-print_raw-2.ensures.appended
     (ending-bytes c.as_str.result.now (ending_of layout.ending) c.as_str.utf8 c.as_str.ensures) in
     IfOk-weaker c.concatenated.result _ _
-    (λ bytes h. new_pair-appended e source (drop c.args.opened.start source) (closing_bytes ending layout.closing) c.separation_of-separation.result.now c.new-line.result c.print_raw.new.line
+    (λ bytes h. new_pair-appended e source (drop c.args.opened.start source) (closing_bytes ending layout.closing) c.closing_bytes-separation.result.now c.new-line.result c.print_raw.new.line
     c.print_raw-2.new.line bytes.items (chars c.args.key.now) (characters layout.separator) (chars c.args.value.now) ending c.are_empty-first.result
-    (h ∙ ap₂ (λ v w. source ++ (v ++ w)) c.as_slice.ensures refl) ended c.in_ok-print_raw.ensures.appended c.new-line.ensures c.separation_of-separation.ensures first)
+    (h ∙ ap₂ (λ v w. source ++ (v ++ w)) c.as_slice.ensures refl) ended c.in_ok-print_raw.ensures.appended c.new-line.ensures c.closing_bytes-separation.ensures first)
     c.concatenated.ensures

@@ -1,16 +1,16 @@
-use Rattle.std.proofs.Common.{◌∙◌, ap, ◌++◌}
 use Rattle.std.specs.Str.{chars}
 use Rattle.std.proofs.lemmas.Result.{on_ok_weaker}
-use Rattle.properties_format.specs.Edited.{pair_bytes}
+use Rattle.properties_format.specs.Encoding.{output_encoding}
+use Rattle.properties_text.specs.Encoding.{encoding_of}
 use Rattle.java_properties.proofs.Editing.{pair-appended}
 use Rattle.java_properties.proofs.edit.result.print_pair.Goals as goal
 
 pub returns : goal.returns
 returns c =
-    let key = chars c.args.key.now in
-    let value = chars c.args.value.now in
+    let e = output_encoding (encoding_of c.args.encoding) in
+    let repertoire = c.repertoire_of-repertoire.ensures in
+    let key = rw (repertoire.all, repertoire.encoding) at c.in_ok-print_key.ensures in
+    let value = rw (repertoire.all, repertoire.encoding) at c.print_text.ensures in
     on_ok_weaker c.print_text.result
-    (λ h.
-    pair-appended c.from.result c.args.first key value _ _ _ _ c.in_ok-print_key.ensures c.in_ok-print_raw.ensures.appended h
-    ∙ ap (λ e. c.args.line.now ++ pair_bytes e c.args.first key value) c.from.ensures)
-    c.print_text.ensures
+    (λ h. pair-appended e c.args.first (chars c.args.key.now) (chars c.args.value.now) _ _ _ _ key c.in_ok-print_raw.ensures.appended h)
+    value

@@ -10,9 +10,9 @@ returns-then-reached-end-clause-printed c =
     let put = c.put_singly-reached in
     put-all (take c.args.end bytes) put.new.out put.result (c.if-reached-end.true ∙ sym size) (omega arith) put.ensures.put
 
-pub returns-then-blocks-end-clause-printed : goal.returns-then-blocks-end-clause-printed
-returns-then-blocks-end-clause-printed c =
+pub returns-then-most-end-clause-printed : goal.returns-then-most-end-clause-printed
+returns-then-most-end-clause-printed c =
     let bytes = c.args.bytes.now in
     let size : length (take c.args.end bytes) ≡ c.args.end = length-take-le c.args.end bytes c.requires.within in
-    let put = c.put_blocks-blocks in
-    put-all (take c.args.end bytes) put.new.out put.result (c.if-blocks-end.true ∙ sym size) (omega arith) put.ensures.put
+    let put = c.put_most-most in
+    put-all (take c.args.end bytes) put.new.out put.result (c.if-most-end.true ∙ sym size) (omega arith) put.ensures.put

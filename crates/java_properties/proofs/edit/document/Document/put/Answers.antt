@@ -1,53 +1,25 @@
-use Rattle.std.proofs.Common.{refl, sym, ◌∙◌}
+use Rattle.std.proofs.Common.{sym}
 use Rattle.std.specs.Str.{chars}
-use Rattle.java_properties.proofs.BodyDocuments.Edits.{slots-some, put-in, kept-as, restored-same}
+use Rattle.java_properties.proofs.BodyDocuments.Edits.{slots-some, put-ends}
 use Rattle.java_properties.proofs.Editing.{chars-scalars}
 use Rattle.java_properties.proofs.edit.document.Document.put.Goals as goal
-use Rattle.java_properties.proofs.edit.document.Document.put.Goals.{in-Some-1, in-None-1}
 
-pub put-requires : goal.put-requires
-put-requires c = slots-some c.self.inside c.self.invariant
+pub put-edited-requires : goal.put-edited-requires
+put-edited-requires c = slots-some c.self.inside c.self.invariant
 
-pub invariant_of-self-in-Ok : goal.invariant_of-self-in-Ok
-invariant_of-self-in-Ok c =
+pub invariant_of-self-2 : goal.invariant_of-self-2
+invariant_of-self-2 c =
     let key = c.args.key.now in
     let value = c.args.value.now in
-    (put-in c.self.inside c.self.invariant c.put.new.self c.put_value.new.values (chars key) (chars value)
-    (chars-scalars key c.utf8.key) (chars-scalars value c.utf8.value) (rw c.in-Ok.is at c.put.ensures) c.in_ok-before.ensures.put.0
-    c.in_ok-before.ensures.ordered).document
+    (put-ends c.self.inside c.self.invariant c.put-edited.new.self c.put_value.new.values c.restored_on_error.new.values (chars key) (chars value)
+    c.in_ok-before.before (chars-scalars key c.utf8.key) (chars-scalars value c.utf8.value) c.in_ok-before.ensures.put
+    c.restored_on_error.ensures.ordered c.put-edited.result c.put-edited.ensures c.restored_on_error.ensures.restored).0
 
-pub invariant_of-self-in-Ok-2 : goal.invariant_of-self-in-Ok-2
-invariant_of-self-in-Ok-2 c =
+pub returns : goal.returns
+returns c =
     let key = c.args.key.now in
     let value = c.args.value.now in
-    (put-in c.self.inside c.self.invariant c.put.new.self c.put_value.new.values (chars key) (chars value)
-    (chars-scalars key c.utf8.key) (chars-scalars value c.utf8.value) (rw c.in-Ok.is at c.put.ensures) c.in_ok-before.ensures.put.0
-    c.in_ok-before.ensures.ordered).document
-
-pub invariant_of-self-in-Err : goal.invariant_of-self-in-Err
-invariant_of-self-in-Err c =
-    let old = c.self.inside.values.entries in
-    let same = restored-same old c.put_value.new.values.entries c.restore_value.new.values.entries c.in_ok-before.before
-    (chars c.args.key.now) (chars c.args.value.now) c.in_ok-before.ensures.put.0 c.in_ok-before.ensures.put.1 c.restore_value.ensures.restored in
-    (kept-as c.self.inside c.self.invariant c.put.new.self c.restore_value.new.values (rw c.in-Err.is at c.put.ensures) same
-    c.restore_value.ensures.ordered).document
-
-pub returns-in-Ok : goal.returns-in-Ok
-returns-in-Ok c =
-    let key = c.args.key.now in
-    let value = c.args.value.now in
-    let set = (put-in c.self.inside c.self.invariant c.put.new.self c.put_value.new.values (chars key) (chars value)
-    (chars-scalars key c.utf8.key) (chars-scalars value c.utf8.value) (rw c.in-Ok.is at c.put.ensures) c.in_ok-before.ensures.put.0
-    c.in_ok-before.ensures.ordered).set in
-    elim c.match-before.branch [
-      | in-Some-1 w ↦ rw (w.self-is, sym c.self.view_is) (refl, set)
-      | in-None-1 w ↦ rw (w.self-is, sym c.self.view_is) (refl, set)
-    ]
-
-pub returns-in-Err : goal.returns-in-Err
-returns-in-Err c =
-    let old = c.self.inside.values.entries in
-    let same = restored-same old c.put_value.new.values.entries c.restore_value.new.values.entries c.in_ok-before.before
-    (chars c.args.key.now) (chars c.args.value.now) c.in_ok-before.ensures.put.0 c.in_ok-before.ensures.put.1 c.restore_value.ensures.restored in
-    (kept-as c.self.inside c.self.invariant c.put.new.self c.restore_value.new.values (rw c.in-Err.is at c.put.ensures) same
-    c.restore_value.ensures.ordered).same ∙ c.self.view_is
+    rw (c.restored_on_error.ensures.same, sym c.self.view_is)
+    (put-ends c.self.inside c.self.invariant c.put-edited.new.self c.put_value.new.values c.restored_on_error.new.values (chars key) (chars value)
+    c.in_ok-before.before (chars-scalars key c.utf8.key) (chars-scalars value c.utf8.value) c.in_ok-before.ensures.put
+    c.restored_on_error.ensures.ordered c.put-edited.result c.put-edited.ensures c.restored_on_error.ensures.restored).1

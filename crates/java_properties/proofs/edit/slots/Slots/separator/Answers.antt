@@ -24,6 +24,12 @@ copied-requires-clause-within c =
     (pair-next (encoding_of c.args.encoding) c.args.body.now c.args.self.now c.loop-count.self c.loop-count.count c.index.result.now c.index-pair.result.now
     c.requires.reads c.loop-count.invariant c.loop-count-test.true c.index.ensures c.index-pair.ensures).read.within
 
+pub separator_like-requires-clause-alone : goal.separator_like-requires-clause-alone
+separator_like-requires-clause-alone c =
+    rw (c.deref.ensures.value ∙ c.in_ok-bytes.ensures)
+    ((pair-next (encoding_of c.args.encoding) c.args.body.now c.args.self.now c.loop-count.self c.loop-count.count c.index.result.now c.index-pair.result.now
+    c.requires.reads c.loop-count.invariant c.loop-count-test.true c.index.ensures c.index-pair.ensures).read.alone c.if-pair.true)
+
 pub returns-in-Some-clause-separator : goal.returns-in-Some-clause-separator
 returns-in-Some-clause-separator c =
     let e = encoding_of c.args.encoding in

@@ -4,11 +4,11 @@ use Rattle.properties_format.specs.Reading.Items.{outcome_of}
 use Rattle.properties_format.specs.ItemsToCome.{ReaderState}
 use Rattle.counted_io.specs.Streams.{reader}
 use Rattle.properties_lines.specs.LineReader.{lines_left}
-use Rattle.properties_lines.specs.LineJoiner.{Joiner, Joining}
+use Rattle.properties_lines.specs.LineJoiner.{Joiner, Joining, numbered_line}
 use Rattle.java_properties.specs.BorrowedItems.{found_content, IsFoundIn}
 use Rattle.java_properties.specs.Errors.{IsLineError}
 use Rattle.java_properties.specs.GivenItems.{IsNoItem}
-use Rattle.java_properties.proofs.Items.{Passed, passed-start, passed-error, passed-no_item, tells-error, found-item, gives-item, passed-blank, plain-blank}
+use Rattle.java_properties.proofs.Items.{Passed, passed-start, passed-error, passed-no_item, found-item, gives-item, passed-blank, plain-blank}
 use Rattle.java_properties.proofs.iter.items.ItemReader.advance.Goals as goal
 
 pub loop-number-init : goal.loop-number-init
@@ -28,7 +28,7 @@ returns-in-Some-find_plain-clause-finds g c =
     let item = c.in-Some-find_plain.item in
     let P : List ℕ → Type 0 = λ v. (item.line_number ≡ c.in-Some.number) × IsFoundIn v item in
     let is = subst P c.line-line.ensures c.in-Some-find_plain.ensures in (
-      rw is.0 (gives-item c.in-Some.number new (found_content new.line item.content) c.loop-number.invariant.passed.1 c.in-Some.ensures.joins.0 (found-item new.line item is.1)),
+      rw is.0 (gives-item (numbered_line c.in-Some.number new) new.state (found_content new.line item.content) c.loop-number.invariant.passed.1 c.in-Some.ensures.joins.0 (found-item new.line item is.1)),
       is.1,
     )
 
@@ -39,7 +39,7 @@ loop-number-preserved-then-not-has_backslash g c =
     record {
       passed = (
         c.loop-number.invariant.passed.0 ++ next.bytes,
-        passed-blank c.in-Some.number c.next_line.new.self.at c.loop-number.invariant.passed.1 next (ap (λ v. outcome_of (chars v)) (sym c.line-line.ensures) ∙ none),
+        passed-blank (numbered_line c.in-Some.number c.next_line.new.self.at) c.next_line.new.self.at.state c.loop-number.invariant.passed.1 next (ap (λ v. outcome_of (chars v)) (sym c.line-line.ensures) ∙ none),
       );
       left = omega (arith, c.loop-number.invariant.left, c.in-Some.ensures.nearer);
       error = c.in-Some.ensures.joins.2;
@@ -52,7 +52,7 @@ returns-in-Ok-Some-clause-finds g c =
     let item = c.in-Ok-Some.item in
     let P : List ℕ → Type 0 = λ v. (item.line_number ≡ c.in-Some.number) × IsFoundIn v item in
     let is = subst P c.line-line.ensures (rw c.in-Ok-Some.field-0-is at c.in-Ok-Some.ensures) in (
-      rw is.0 (gives-item c.in-Some.number new (found_content new.line item.content) c.loop-number.invariant.passed.1 c.in-Some.ensures.joins.0 (found-item new.line item is.1)),
+      rw is.0 (gives-item (numbered_line c.in-Some.number new) new.state (found_content new.line item.content) c.loop-number.invariant.passed.1 c.in-Some.ensures.joins.0 (found-item new.line item is.1)),
       is.1,
     )
 
@@ -63,7 +63,7 @@ loop-number-preserved g c =
     record {
       passed = (
         c.loop-number.invariant.passed.0 ++ next.bytes,
-        passed-blank c.in-Some.number c.next_line.new.self.at c.loop-number.invariant.passed.1 next (ap (λ v. outcome_of (chars v)) (sym c.line-line.ensures) ∙ none),
+        passed-blank (numbered_line c.in-Some.number c.next_line.new.self.at) c.next_line.new.self.at.state c.loop-number.invariant.passed.1 next (ap (λ v. outcome_of (chars v)) (sym c.line-line.ensures) ∙ none),
       );
       left = omega (arith, c.loop-number.invariant.left, c.in-Some.ensures.nearer);
       error = c.in-Some.ensures.joins.2;
@@ -76,7 +76,7 @@ returns-in-Err-clause-finds g c =
     let Q : List ℕ → Type 0 = λ v. IsNoItem c.in-Some.number (chars v) c.unresolved.result in
     let none = subst Q c.line-line.ensures (c.in-Err.ensures c.in-Some.number c.unresolved.result c.unresolved.ensures) in
     let done = ap (λ v. let w : Joiner = v in w.state.is_done) c.end.ensures.state in
-    let k = passed-no_item c.in-Some.number c.next_line.new.self.at c.loop-number.invariant.passed.1 next none in
+    let k = passed-no_item (numbered_line c.in-Some.number c.next_line.new.self.at) c.next_line.new.self.at.state c.loop-number.invariant.passed.1 next none in
     (k.0, done, k.1)
 
 pub returns-clause-finds : goal.returns-clause-finds
@@ -88,7 +88,7 @@ returns-clause-finds g c = elim c.in_default.ensures.joins [
       let done = ap (λ v. let w : Joining = v in w.at.state.is_done) c.take_error.ensures.taken ∙ k.done in
       let same : k.error ≡ c.in_ok-error.error = cc (c.in_ok-error.was, c.take_error.ensures.error, k.kept) in
       let says = subst (λ v. IsLineError v c.from.result) (sym same) c.from.ensures in
-      let p = passed-error c.loop-number.invariant.passed.1 k.live (tells-error k.why says) in
+      let p = passed-error c.loop-number.invariant.passed.1 k.live (record { why = k.error; last = _; joins = k.why; is = says }) in
       (p.0, done, inr p.1)
 ]
 
