@@ -117,8 +117,9 @@ def main():
                             how = how.replace("HashMap", "BTreeMap")
                         print("    " + how)
                 for line in lines:
-                    # A test returns no status.
-                    print("    " + re.sub(r"return Ok\((.{3,})\);", r"let _ = \1; return Ok(());", line))
+                    # A test returns no status, and its error is a `Fail`.
+                    line = re.sub(r"return Ok\((.{3,})\);", r"let _ = \1; return Ok(());", line)
+                    print("    " + re.sub(r"return Err\((.+)\);", r"return Err(\1.into());", line))
                 print("    Ok(())\n}\n")
 
 
