@@ -3,4 +3,3 @@ pub mod Comparing
 pub mod Searching
 pub mod Rows
 pub mod Spreading
-pub mod Squeezing

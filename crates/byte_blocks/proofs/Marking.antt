@@ -2,13 +2,13 @@
 use Rattle.std.proofs.Common.{◌≡◌, ◌<◌, ◌≤◌, ◌+◌, ◌-◌, ◌*◌, ◌/◌, ◌%◌, ◌^◌, ◌↔◌, ◌⊎◌, ◌==◌, ◌||◌, ℕ, zero, suc, Bool, true, false, cond, not, eqb, leb, min, max, bit_or, List, [], ◌∷◌, length, take, drop, get_or, map, refl, sym, ap, ap₂, subst, inl, inr, ◌∙◌, arith}
 use Rattle.std.specs.Prelude.{Some, None, Option}
 use Rattle.std.specs.Int.Bits.{or_step}
-use Rattle.std.specs.Int.Count.{count_trailing_zeros}
+use Rattle.std.specs.Int.Count.{count_trailing_zeros, under}
 use Rattle.std.specs.List.{position_or_len, All}
 use Rattle.std.specs.Simd.Lanes.{mask_l, zip2}
 use Rattle.std.proofs.lemmas.Bool.{cases_Bool, eqb-true, leb-true, le-leb}
 use Rattle.std.proofs.lemmas.List.{length-map, length-take, get_or-take, take-take, take-append-drop, drop-take}
 use Rattle.std.proofs.lemmas.List.Elements.{All-append, All-get_or, All-from_get_or}
-use Rattle.std.proofs.lemmas.List.Sums.{fails_before_first, passes_at_first, position_or_len_is}
+use Rattle.std.proofs.lemmas.List.Sums.{fails_before_first, passes_at_first, position_or_len_is, prefix_len-le-length}
 use Rattle.std.proofs.lemmas.Simd.{leading_from_mask_l, trailing_mask_l, mask_l-lt}
 use Rattle.memchr.specs.Find.{IsFirstByte}
 use Rattle.byte_blocks.specs.Marks.{lowest_bits, clear_front, IsFirstMark}
@@ -84,12 +84,6 @@ zeros number marks view small = elim (cases_Bool (eqb number 0)) [
       inr (e, sym at.0, omega (arith, at.0, at.1, sixteen number marks view))
 ]
 
-pub zeros-front : (number : ℕ) (marks : List Bool) → lowest_bits 16 number ≡ marks → number < 0x1_0000 → min (count_trailing_zeros 64 number) 16 ≡ clear_front marks
-zeros-front number marks view small = elim (zeros number marks view small) [
-  | inl h ↦ omega (arith, h.1, h.2)
-  | inr h ↦ omega (arith, h.1, h.2)
-]
-
 -- Limited to `count`, the number of trailing zeros equals the number of bytes before the first mark.
 pub zeros-front_of : (number count : ℕ) (marks : List Bool) → lowest_bits 16 number ≡ marks → number < 0x1_0000 → count ≤ 16
     → min (count_trailing_zeros 64 number) count ≡ min (clear_front marks) count
@@ -157,6 +151,35 @@ bits-complement (suc n) number rest e =
 
 pub marks-complement : (number : ℕ) (marks : List Bool) → lowest_bits 16 number ≡ marks → number < 0x1_0000 → lowest_bits 16 (0xffff - number) ≡ map not marks
 marks-complement number marks view small = bits-complement 16 number (0xffff - number) (omega (arith, small)) ∙ ap (map not) view
+
+-- ---- the first mark, found with a bit above the marks
+
+under-bit : (r t : ℕ) → r < 2 → under r t ≡ cond (not (r == 1)) (1 + t) 0
+under-bit zero t small = omega arith
+under-bit (suc zero) t small = refl
+under-bit (suc (suc r)) t small = absurd (omega arith)
+
+-- With bit k set, the trailing zeros are those of the k bits below it.
+zeros-below : (n k number : ℕ) → k < n → count_trailing_zeros n (bit_or number (2 ^ k)) ≡ clear_front (lowest_bits k number)
+unfolding count_trailing_zeros lowest_bits
+zeros-below zero k number small = absurd (omega arith)
+zeros-below (suc n) zero number small =
+    let odd : bit_or number 1 % 2 ≡ 1 = omega (arith, or_step number 1) in
+    ap (λ r. under r (count_trailing_zeros n (bit_or number 1 / 2))) odd
+zeros-below (suc n) (suc k) number small =
+    let step = or_step number (2 ^ suc k) in
+    let half : 2 ^ suc k / 2 ≡ 2 ^ k = omega (arith, pow-succ' 2 k) in
+    let lowest : bit_or number (2 ^ suc k) % 2 ≡ number % 2 = omega (arith, step, pow-succ' 2 k) in
+    let others : bit_or number (2 ^ suc k) / 2 ≡ bit_or (number / 2) (2 ^ suc k / 2) = omega (arith, step, pow-succ' 2 k) in
+    let rest : count_trailing_zeros n (bit_or number (2 ^ suc k) / 2) ≡ clear_front (lowest_bits k (number / 2)) =
+    ap (count_trailing_zeros n) (others ∙ ap (bit_or (number / 2)) half) ∙ zeros-below n k (number / 2) (omega arith) in
+    ap₂ under lowest rest ∙ under-bit (number % 2) (clear_front (lowest_bits k (number / 2))) (omega arith)
+
+pub zeros-front : (number : ℕ) (marks : List Bool) → lowest_bits 16 number ≡ marks → count_trailing_zeros 64 (bit_or number 0x1_0000) ≡ clear_front marks
+zeros-front number marks view = zeros-below 64 16 number (omega arith) ∙ ap clear_front view
+
+pub front-most : (number : ℕ) (marks : List Bool) → lowest_bits 16 number ≡ marks → clear_front marks ≤ 16
+front-most number marks view = omega (arith, sixteen number marks view, prefix_len-le-length (λ is_marked. not is_marked) marks)
 
 -- ---- bytes before the first mark
 

@@ -137,9 +137,3 @@ module _ (marks : List Bool) (bits : ℕ) (sixteen : length marks ≡ 16) (is : 
       let parts = split marks 8 (omega arith) in
       let high : bits / 256 ≡ mask_l (drop 8 marks) = omega (arith, is, parts.0, parts.1) in
       ap (lowest_bits 8) high ∙ bits-of_mask 8 (drop 8 marks) (omega (arith, ap length (take-append-drop 8 marks), length-append (take 8 marks) (drop 8 marks), length-take-le 8 marks (omega arith)))
-
-  -- The high eight bits are a number below 256.
-  pub back-below : bits / 256 < 256
-  back-below =
-      let below = subst (λ n. mask_l marks < 2 ^ n) sixteen (mask_l-lt marks) in
-      omega (arith, is, below)

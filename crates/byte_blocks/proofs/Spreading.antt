@@ -234,19 +234,3 @@ module _ (marks : List Bool) (block before : List ℕ) (sixteen : length marks �
       let ones : counted % 2 ^ k ≡ mask_l (take k marks) = ap (λ n. n % 2 ^ k) third ∙ first-bits marks k (omega arith) in
       cut start new marks before block full k m (long_before ∙ sym sixteen) (long ∙ sym sixteen) (omega arith) written
       (place_is ∙ ap₂ (λ x y. x + (k + count_ones y)) (sym size) ones)
-
-  -- What is written for the first k bytes and the last eight.
-  pub ends-written : (start middle new more : List ℕ) (place full k others : ℕ) → k ≤ 8 → others ≡ mask_l marks → more ≡ drop 8 block ++ drop 8 before
-      → take place middle ≡ start ++ spread (take k marks) (take k before) (take k block)
-      → take full new ≡ take place middle ++ spread (lowest_bits 8 (others / 256)) (drop 8 more) (take 8 more)
-      → take full new ≡ start ++ spread (take k marks ++ drop 8 marks) (take k before ++ drop 8 before) (take k block ++ drop 8 block)
-  ends-written start middle new more place full k others le also more_are one two =
-      let first = spread (take k marks) (take k before) (take k block) in
-      let second = spread (drop 8 marks) (drop 8 before) (drop 8 block) in
-      let size : length (take k marks) ≡ k = length-take-le k marks (omega arith) in
-      two
-      ∙ ap₂ (λ x y. x ++ y) one (back-half others more also more_are)
-      ∙ append_assoc start first second
-      ∙ ap (λ l. start ++ l)
-      (sym (spread-append (take k marks) (drop 8 marks) (take k before) (drop 8 before) (take k block) (drop 8 block)
-      (length-take-le k before (omega arith) ∙ sym size) (length-take-le k block (omega arith) ∙ sym size)))

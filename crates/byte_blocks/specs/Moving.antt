@@ -1,4 +1,4 @@
--- Bytes moved by marks: another byte inserted before each marked byte, or the marked bytes left out.
+-- Bytes moved by marks: another byte inserted before each marked byte.
 use Rattle.std.specs.Prelude.{ℕ, Bool, if◌then◌else◌, List, [], ◌∷◌, ◌++◌}
 
 -- every byte; before each marked byte comes the byte of `before` at the same index
@@ -7,9 +7,3 @@ spread [] before bytes = []
 spread (is_marked ∷ marks) [] bytes = []
 spread (is_marked ∷ marks) (a ∷ before) [] = []
 spread (is_marked ∷ marks) (a ∷ before) (b ∷ bytes) = (if is_marked then a ∷ b ∷ [] else b ∷ []) ++ spread marks before bytes
-
--- the bytes that aren't marked
-abbrev pub squeeze : List Bool → List ℕ → List ℕ
-squeeze [] bytes = []
-squeeze (is_marked ∷ marks) [] = []
-squeeze (is_marked ∷ marks) (b ∷ bytes) = (if is_marked then [] else b ∷ []) ++ squeeze marks bytes

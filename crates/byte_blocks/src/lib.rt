@@ -13,8 +13,8 @@
 //! [`find`] searches any number of bytes. If a loop handles its last bytes one by one anyway, [`find_in_block`] is
 //! faster, and so are the [`Marks`] of a block if you test it for two classes.
 //!
-//! [`put_spread`] writes a block with another byte before each marked byte, for example a backslash, and
-//! [`put_squeezed`] writes a block without the marked bytes. Both use a table, eight bytes at a time.
+//! [`put_spread`] writes a block with another byte before each marked byte, for example a backslash. It uses a table,
+//! eight bytes at a time.
 #![tactic(auto)]
 
 mod classes;
@@ -22,7 +22,6 @@ mod marks;
 mod search;
 mod short;
 mod spread;
-mod squeeze;
 
 pub use classes::{
     AtLeast, Blanks, Byte, ByteClass, Controls, Either, Except, LineEnds, PastAscii, PlainEnds,
@@ -30,9 +29,7 @@ pub use classes::{
 };
 pub use marks::Marks;
 pub use search::{find, find_in_block};
-pub use short::ends;
-pub use spread::{put_spread, put_spread_ends, put_spread_half};
-pub use squeeze::put_squeezed;
+pub use spread::{put_spread, put_spread_half};
 
 #[cfg(test)]
 mod tests;

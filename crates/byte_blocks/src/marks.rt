@@ -85,7 +85,7 @@ impl Marks {
         ensures value { result ≡ clear_front self }
         ensures within { result ≤ 16 }
     {
-        (self.bits.trailing_zeros() as usize).min(16)
+        (self.bits | 0x1_0000).trailing_zeros() as usize
     }
 
     /// Returns how many of the first `count` bytes are before the first marked byte.

@@ -29,7 +29,7 @@ pub fn put_spread(
     ensures written { take result out.new ≡
         take at out.old ++ spread (take kept marks) (take kept before) (take kept block) }
 {
-    if marks.is_clear() {
+    if marks.is_clear_before(kept) {
         block.copy_to_slice(&mut out[at..]);
         return at + kept;
     }
@@ -58,30 +58,6 @@ pub fn put_spread_half(
 {
     put_eight(out, at, front(block, before), marks.bits() % 256);
     place_after(at, marks.bits(), kept)
-}
-
-/// Like [`put_spread`] for the first `kept` bytes and the last eight, where [`ends`](super::ends) returned the block.
-#[inline(always)]
-pub fn put_spread_ends(
-    out: &mut [u8],
-    at: usize,
-    block: u8x16,
-    before: u8x16,
-    marks: Marks,
-    kept: usize,
-) -> usize
-    requires room { at + 2 * (kept + 8) ≤ length out.old }
-    requires kept { kept ≤ 8 }
-    ensures same_room { length out.new ≡ length out.old }
-    ensures after { at ≤ result }
-    ensures within { result ≤ at + 2 * (kept + 8) }
-    ensures written { let marks = take kept marks ++ drop 8 marks in
-        let before = take kept before ++ drop 8 before in
-        let block = take kept block ++ drop 8 block in
-        take result out.new ≡ take at out.old ++ spread marks before block }
-{
-    let middle = put_spread_half(out, at, block, before, marks, kept);
-    put_eight(out, middle, back(block, before), marks.bits() / 256)
 }
 
 // The first eight bytes of the block, and the bytes that may be inserted before them.

@@ -1,5 +1,6 @@
 // Tests of classes by their members, and of searches by the indices that they return.
 
+use super::short::ends;
 use super::*;
 use std::simd::prelude::*;
 
@@ -128,19 +129,4 @@ fn puts_bytes_before_those_that_are_marked(rt: HostRuntime) {
     assert_eq!(rt; out[..end], b".a b: "[..]);
     let end = put_spread_half(&mut out, 1, block, u8x16::splat(b'-'), marks, 4);
     assert_eq!(rt; out[..end], b".a- b-:"[..]);
-    let both = ends(b"a=b=c=d=e=f=");
-    let marks = Specials::marks(both);
-    let end = put_spread_ends(&mut out, 0, both, u8x16::splat(b'-'), marks, 4);
-    assert_eq!(rt; out[..end], b"a-=b-=c-=d-=e-=f-="[..]);
-}
-
-#[test]
-fn puts_bytes_without_those_that_are_marked(rt: HostRuntime) {
-    let block = u8x16::from_array(*WORDS);
-    let marks = Specials::marks(block);
-    let mut out = [b'.'; 20];
-    let end = put_squeezed(&mut out, 1, block, marks, 16);
-    assert_eq!(rt; out[..end], b".abcdefg"[..]);
-    let end = put_squeezed(&mut out, 4, block, marks, 6);
-    assert_eq!(rt; out[..end], b".abcabc"[..]);
 }

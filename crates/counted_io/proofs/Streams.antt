@@ -1,78 +1,59 @@
 -- Calls of a stream in turn.
 use Rattle.std.proofs.Common.{◌≡◌, ◌≢◌, ◌==◌, ℕ, false, rules, List, [], ◌++◌, refl, ap, sym, ◌∙◌, append_assoc, append-nil}
+use Rattle.std.proofs.KnownBytes.{Consumes-trans, Appends-trans, Consumes-nil, Appends-nil}
 use borrow.Author.Tests.{tests}
 use Rattle.std.specs.Prelude.{Option, Some, None}
-use Rattle.std.specs.Io.KnownBytes.{Consumes, Appends, Keeps}
+use Rattle.std.specs.Io.KnownBytes.{Appends, Keeps}
 use Rattle.std.specs.declared.io.Error.{Error}
 use Rattle.counted_io.specs.Faults.{one_more, count_of_taken}
 use Rattle.counted_io.specs.Streams.{Reader, Sink, HasRead, HasFailed, HasWritten, HasFaulted, HasFlushed, HasFailedFlush}
 
-pub consumes-none : (known : Option (List ℕ)) → Consumes known known []
-consumes-none None = tt
-consumes-none (Some xs) = refl
-
-pub consumes-more : (a b c : Option (List ℕ)) (r s : List ℕ) → Consumes a b r → Consumes b c s → Consumes a c (r ++ s)
-consumes-more None b c r s h k = tt
-consumes-more (Some xs) None c r s h k = absurd h
-consumes-more (Some xs) (Some ys) None r s h k = absurd k
-consumes-more (Some xs) (Some ys) (Some zs) r s h k = h ∙ ap (λ v. r ++ v) k ∙ sym (append_assoc r s zs)
-
-pub appends-none : (known : Option (List ℕ)) → Appends known known []
-appends-none None = tt
-appends-none (Some xs) = sym (append-nil xs)
-
-pub appends-more : (a b c : Option (List ℕ)) (x y : List ℕ) → Appends a b x → Appends b c y → Appends a c (x ++ y)
-appends-more None b c x y h k = tt
-appends-more (Some xs) None c x y h k = absurd h
-appends-more (Some xs) (Some ys) None x y h k = absurd k
-appends-more (Some xs) (Some ys) (Some zs) x y h k = k ∙ ap (λ v. v ++ y) h ∙ append_assoc xs x y
-
 keeps-appends : (a b : Option (List ℕ)) → Keeps a b → Appends a b []
 keeps-appends None b h = tt
 keeps-appends (Some xs) None h = absurd h
-keeps-appends (Some xs) (Some ys) h = rw h (appends-none (Some xs))
+keeps-appends (Some xs) (Some ys) h = rw h (Appends-nil (Some xs))
 
 -- ---- readers
 
 module _ {R : Type 0} {reader : Reader R} where
   -- no call reads nothing
   pub read-none : (at : R) → HasRead reader at [] at
-  read-none at = record { moved = consumes-none (reader.remaining at); faultless = refl }
+  read-none at = record { moved = Consumes-nil (reader.remaining at); faultless = refl }
 
   -- bytes that were read, and then others
   pub read-more : {a b c : R} {r s : List ℕ} → HasRead reader a r b → HasRead reader b s c → HasRead reader a (r ++ s) c
-  read-more h k = record { moved = consumes-more _ _ _ _ _ h.moved k.moved; faultless = k.faultless ∙ h.faultless }
+  read-more h k = record { moved = Consumes-trans _ _ _ _ _ h.moved k.moved; faultless = k.faultless ∙ h.faultless }
 
   -- bytes that were read, and then a fault
   pub failed-more : {a b c : R} {r s : List ℕ} {e : Error} → HasRead reader a r b → HasFailed reader b s e c → HasFailed reader a (r ++ s) e c
-  failed-more h k = record { moved = consumes-more _ _ _ _ _ h.moved k.moved; risen = k.risen ∙ ap one_more h.faultless; given = k.given }
+  failed-more h k = record { moved = Consumes-trans _ _ _ _ _ h.moved k.moved; risen = k.risen ∙ ap one_more h.faultless; given = k.given }
 
 -- ---- sinks
 
 module _ {W : Type 0} {sink : Sink W} where
   -- no call writes nothing
   pub written-none : (at : W) → HasWritten sink at [] at
-  written-none at = record { moved = appends-none (sink.contents at); faultless = refl }
+  written-none at = record { moved = Appends-nil (sink.contents at); faultless = refl }
 
   -- bytes that were written, and then others
   pub written-more : {a b c : W} {x y : List ℕ} → HasWritten sink a x b → HasWritten sink b y c → HasWritten sink a (x ++ y) c
-  written-more h k = record { moved = appends-more _ _ _ _ _ h.moved k.moved; faultless = k.faultless ∙ h.faultless }
+  written-more h k = record { moved = Appends-trans _ _ _ _ _ h.moved k.moved; faultless = k.faultless ∙ h.faultless }
 
   -- bytes that were written, and then a fault
   pub faulted-more : {a b c : W} {x y : List ℕ} → HasWritten sink a x b → HasFaulted sink b y c → HasFaulted sink a (x ++ y) c
-  faulted-more h k = record { moved = appends-more _ _ _ _ _ h.moved k.moved; risen = k.risen ∙ ap one_more h.faultless }
+  faulted-more h k = record { moved = Appends-trans _ _ _ _ _ h.moved k.moved; risen = k.risen ∙ ap one_more h.faultless }
 
   -- bytes that were written, and then a flush
   pub written-flushed : {a b c : W} {x : List ℕ} → HasWritten sink a x b → HasFlushed sink b c → HasWritten sink a x c
   written-flushed {x = x} h k = record {
-    moved = rw (← append-nil x) (appends-more _ _ _ _ _ h.moved (keeps-appends _ _ k.kept));
+    moved = rw (← append-nil x) (Appends-trans _ _ _ _ _ h.moved (keeps-appends _ _ k.kept));
     faultless = k.faultless ∙ h.faultless;
   }
 
   -- bytes that were written, and then a flush that failed
   pub written-failed_flush : {a b c : W} {x : List ℕ} {e : Error} → HasWritten sink a x b → HasFailedFlush sink b e c → HasFaulted sink a x c
   written-failed_flush {x = x} h k = record {
-    moved = rw (← append-nil x) (appends-more _ _ _ _ _ h.moved (keeps-appends _ _ k.kept));
+    moved = rw (← append-nil x) (Appends-trans _ _ _ _ _ h.moved (keeps-appends _ _ k.kept));
     risen = k.risen ∙ ap one_more h.faultless;
   }
 
@@ -85,9 +66,6 @@ pub record HasSent {W : Type 0} (sink : Sink W) (old : W) (bytes rest : List ℕ
   pub written : HasWritten sink old sent new
 
 module _ {W : Type 0} {sink : Sink W} {old : W} {bytes : List ℕ} where
-  pub sent-none : HasSent sink old bytes bytes old
-  sent-none = record { sent = []; whole = refl; written = written-none old }
-
   -- a write took a part more
   pub sent-more : {rest : List ℕ} {to next : W} (part others : List ℕ) → HasSent sink old bytes rest to → rest ≡ part ++ others
       → HasWritten sink to part next → HasSent sink old bytes others next

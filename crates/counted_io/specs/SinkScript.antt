@@ -10,7 +10,7 @@ use Rattle.counted_io.specs.declared.scripted_sink.SinkFault.{SinkFault}
 use Rattle.counted_io.specs.declared.scripted_sink.SinkFault.TheVariants as sink_fault
 use Rattle.counted_io.specs.declared.scripted_sink.ScriptedSink.{ScriptedSink}
 
--- what a sink is told to do
+-- what a sink does
 pub record SinkPlan : Type 0 where
   pub most : ℕ
   pub fail_at : Option ℕ

@@ -1,7 +1,7 @@
 -- The groups of a body that is held whole.
 use Rattle.std.proofs.Common.{◌≡◌, ◌==◌, ℕ, ◌+◌, ◌-◌, ◌≤◌, List, [], ◌∷◌, ◌++◌, length, take, drop, refl, ap, ap₂, sym, ◌∙◌, subst, inl, inr, arith}
-use Rattle.std.proofs.Common.{append-nil, append_assoc, length-append, length-drop}
-use Rattle.std.specs.Prelude.{◌⊎◌, ◌&&◌, ◌||◌, not, if◌then◌else◌, Bool, true, false, Option, Some, None, Ok}
+use Rattle.std.proofs.Common.{append-nil, length-append, length-drop}
+use Rattle.std.specs.Prelude.{◌⊎◌, ◌&&◌, ◌||◌, not, Bool, true, false, Option, Some, None, Ok}
 use Rattle.std.proofs.lemmas.Bool.{cases_Bool}
 use Rattle.std.proofs.Math.Seq.{drop-append_seam, take-length}
 use Rattle.std.proofs.lemmas.List.{length-take-le, drop-drop, take-append-le}
@@ -21,6 +21,7 @@ use Rattle.properties_format.proofs.Body.Groups.{as_lines-append, groups-close, 
 use Rattle.properties_format.proofs.Cut.Only.{ending-windows_1252, ending-utf_8}
 use Rattle.properties_format.proofs.Edited.Steps.{last_ending-push, is_left_open-push, is_empty_line-push}
 use Rattle.properties_format.proofs.Groups.Joined.{joined-push, joined-one, joined-closed, joined-comment_line}
+use Rattle.properties_format.proofs.Slots.Revalued.{unended-kept}
 use Rattle.properties_text.specs.Encoding.{encoding_of}
 use Rattle.properties_lines.specs.LineSearch.{unit_size}
 use Rattle.properties_lines.specs.HeldLines.{held_line, lines_left}
@@ -29,6 +30,7 @@ use Rattle.properties_lines.specs.Scanner as scanner
 use Rattle.properties_lines.specs.Scanner.{bytes_of, GivesLine}
 use Rattle.properties_lines.specs.declared.logical.LogicalLine.{LogicalLine}
 use Rattle.properties_lines.specs.declared.scanner.Scanner.{Scanner}
+use Rattle.properties_lines.proofs.LineJoiner.{kept-text, kept-utf8}
 use Rattle.properties_lines.proofs.HeldLines.{body-next, body-after, body-lines_left}
 use Rattle.java_properties.specs.BodyLines.{ending_in}
 use Rattle.java_properties.specs.BodyGroups.{IsWithin, groups_left, TakesLine, IsSpanOf, TakesGroup, groups_from, ReadsGroup}
@@ -40,17 +42,6 @@ use Rattle.java_properties.specs.declared.edit.groups.GroupReader.{GroupReader}
 
 pub front-of : (x y : List ℕ) → take (length x) (x ++ y) ≡ x
 front-of x y = take-append-le (length x) x y (omega arith) ∙ take-length x
-
--- ---- the bytes of a group
-
--- one more line
-pub unended-push : (g : List HeldLine) (h : HeldLine) → unended_bytes (g ++ h ∷ []) ≡ group_bytes g ++ h.bytes
-unended-push [] h = refl
-unended-push (i ∷ []) h = ap (λ v. i.bytes ++ v) (ap (λ v. v ++ h.bytes) (sym (append-nil (ending_bytes i.ending)))) ∙ sym (append_assoc i.bytes (ending_bytes i.ending ++ []) h.bytes)
-unended-push (i ∷ j ∷ g) h =
-    ap (λ v. i.bytes ++ (ending_bytes i.ending ++ v)) (unended-push (j ∷ g) h)
-    ∙ ap (λ v. i.bytes ++ v) (sym (append_assoc (ending_bytes i.ending) (group_bytes (j ∷ g)) h.bytes))
-    ∙ sym (append_assoc i.bytes (ending_bytes i.ending ++ group_bytes (j ∷ g)) h.bytes)
 
 -- ---- the groups that are left
 
@@ -177,15 +168,6 @@ not-left : (text : List ℕ) → IsNotContinued text → (not (is_comment_line t
 not-left text (inl h) = rw h refl
 not-left text (inr h) = elim (cases_Bool (is_comment_line text)) [ inl k ↦ rw k refl | inr k ↦ rw (k, h) refl ]
 
--- the text that is kept, or else the bytes
-kept-chars : (e : Encoding) (bytes : List ℕ) (is_kept : Bool) (kept : List ℕ) → KeepsText e bytes is_kept kept → chars (if is_kept then kept else bytes) ≡ decoded_line e bytes
-kept-chars e bytes true kept h = h
-kept-chars e bytes false kept h = h.1
-
-kept-utf8 : (e : Encoding) (bytes : List ℕ) (is_kept : Bool) (kept : List ℕ) → KeepsText e bytes is_kept kept → is_kept ≡ false → IsUtf8 bytes
-kept-utf8 e bytes true kept h k = absurd (cc)
-kept-utf8 e bytes false kept h k = h.0
-
 -- The first line of a group was read.
 pub group-first : (E : Type 0) (body : List ℕ) (old found : GroupReader) (l : LogicalLine) (group : Group) (told : Bool) (k : TakesLine body old found)
     → Begins {E = E} (encoding_of found.scanner.encoding) (bytes_of body found.scanner.line) (Ok told) l
@@ -215,8 +197,8 @@ group-first E body old found l group false k begins number starts ends ending op
       span = span-one body old found group k starts ends ending (opens ∙ sym alone) empty;
       encoding = k.encoding;
       opened = λ n. absurd (cc);
-      held_text = record { ordered = omega arith; within = omega arith; text = λ n. subst IsUtf8 (sym same) (kept-utf8 e bytes l.is_kept l.text b.1 n) };
-      text = ap (λ v. chars (text_with l v)) same ∙ kept-chars e bytes l.is_kept l.text b.1 ∙ sym (joined-alone line alone);
+      held_text = record { ordered = omega arith; within = omega arith; text = λ n. subst IsUtf8 (sym same) (kept-utf8 e bytes l.text l.is_kept b.1 n) };
+      text = ap (λ v. chars (text_with l v)) same ∙ kept-text e bytes l.text l.is_kept b.1 ∙ sym (joined-alone line alone);
     }
 group-first E body old found l group true k begins number starts ends ending opens empty =
     let e = encoding_of old.scanner.encoding in
@@ -292,7 +274,7 @@ group-more body before group mid found l stop ending told j opened k tells added
     let opens : told ≡ is_open h.text = tells ∙ ap (λ v. is_open (decoded_line v bytes)) k.encoding in
     let pushed : length (j.first ∷ j.more ++ h ∷ []) ≡ length g + 1 = length-append g (h ∷ []) in
     let unended : length (unended_bytes (g ++ h ∷ [])) ≡ length (group_bytes g) + length bytes =
-    ap length (unended-push g h) ∙ length-append (group_bytes g) bytes in
+    ap length (unended-kept g h) ∙ length-append (group_bytes g) bytes in
     let last : length (bytes ++ (by ++ [])) ≡ length bytes + length by = ap (λ v. length (bytes ++ v)) (append-nil by) ∙ length-append bytes by in
     let all : length (group_bytes (g ++ h ∷ [])) ≡ length (group_bytes g) + length (bytes ++ (by ++ [])) =
     ap length (group_bytes-append g (h ∷ [])) ∙ length-append (group_bytes g) (bytes ++ (by ++ [])) in

@@ -29,6 +29,7 @@ use Rattle.properties_format.specs.Reading.Edited.{IsSound, AreSound, result_by}
 use Rattle.properties_format.proofs.Body.Groups.{groups_bytes-append, groups-close, groups-leave}
 use Rattle.properties_format.proofs.Edited.Made.{has_key-true}
 use Rattle.properties_format.proofs.Edited.Steps.{last_place-new, last_place-other, with_after, final_group-push, result-after}
+use Rattle.properties_format.proofs.Valued.Lined.{held_in-append}
 use Rattle.properties_text.specs.Encoding.{encoding_of}
 use Rattle.java_properties.proofs.BodyGroups.{front-of}
 use Rattle.java_properties.specs.BodyGroups.{IsWithin, groups_left, text_of, TakesGroup}
@@ -64,10 +65,6 @@ read-none body s at passed going w = record {
 sound-append : (gs hs : List (List HeldLine)) → AreSound gs → AreSound hs → AreSound (gs ++ hs)
 sound-append [] hs h k = k
 sound-append (g ∷ gs) hs h k = (h.0, sound-append gs hs h.1 k)
-
-held_in-append : (gs hs : List (List HeldLine)) → held_in (gs ++ hs) ≡ held_in gs ++ held_in hs
-held_in-append [] hs = refl
-held_in-append (g ∷ gs) hs = ap (λ v. g ++ v) (held_in-append gs hs) ∙ sym (append_assoc g (held_in gs) (held_in hs))
 
 -- the next group was read, and nothing in it is malformed
 pub read-more : {e : Encoding} {body : List ℕ} {groups : List (List HeldLine)} {s t : GroupReader} {group : Group} → HasRead e body groups s
@@ -128,11 +125,6 @@ pub record HasLooked (e : Encoding) (body key : List ℕ) (s : GroupReader) (fou
   pub read : HasRead e body groups s
   pub pair : IsPlace key groups found.pair
   pub closing : (groups ≡ []) ⊎ ((source : List ℕ) → separation source (final_group groups) ≡ closing_bytes (added_ending source) found.closing)
-
-pub looked-none : (body key : List ℕ) (s : GroupReader) (found : place.KeyPlace) → s.scanner.at ≡ 0 → s.scanner.passed ≡ 0 → s.scanner.is_done ≡ false → IsWithin body s → found.pair ≡ None
-    → HasLooked (encoding_of s.scanner.encoding) body key s found
-looked-none body key s found at passed going w none =
-    record { groups = []; read = read-none body s at passed going w; pair = subst (IsPlace key []) (sym none) refl; closing = inl refl }
 
 -- a group after which a new pair is separated so
 closing_bytes-group : (source : List ℕ) (g : List HeldLine) (group : Group) → group.is_empty ≡ is_empty_line g → group.is_open ≡ is_left_open g

@@ -12,7 +12,7 @@ pub mod RemovalPairs
 pub mod RemovalEnd
 pub mod RemovalLast
 pub mod Value
-use Rattle.std.proofs.Common.{◌≡◌, ◌<◌, ℕ, ◌+◌, suc, zero, List, [], ◌∷◌, ◌++◌, length, get_or, set, refl, ap, arith}
+use Rattle.std.proofs.Common.{◌≡◌, ◌<◌, ℕ, suc, zero, List, [], ◌∷◌, ◌++◌, length, get_or, set, refl, ap, arith}
 use Rattle.properties_format.specs.Reading.Cells.{Cell}
 use Rattle.java_properties.specs.BodySlots.{IsCell, AreCells}
 use Rattle.java_properties.specs.declared.edit.slots.Slot.{Slot}

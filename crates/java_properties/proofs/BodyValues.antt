@@ -15,7 +15,6 @@ use Rattle.java_properties.specs.BodyGroups.{TakesGroup, IsFirstGroup}
 use Rattle.java_properties.specs.declared.edit.groups.Group.{Group}
 use Rattle.java_properties.specs.declared.edit.groups.GroupReader.{GroupReader}
 use Rattle.std.specs.Prelude.{nat_le}
-use Rattle.std.proofs.lemmas.Str.{encodes-append}
 use Rattle.std.proofs.lemmas.List.{length-take-le}
 use Rattle.properties_format.specs.Encoding.{Encoding}
 use Rattle.properties_format.specs.Lines.{Lines}
@@ -31,7 +30,7 @@ use Rattle.properties_format.proofs.Valued.Fronts.{AreDecoded, indented, joined_
 use Rattle.properties_format.proofs.Valued.Made.{group-decoded}
 use Rattle.properties_format.proofs.Valued.Sizes.{count-text}
 use Rattle.properties_format.proofs.Valued.Steps.{front_size-end, front_size-later}
-use Rattle.properties_format.proofs.Valued.Walks.{utf8_size, size-text, text-cut, added-size, open-some, IsWalkBefore, walk-begins, walk-ends, walk-here, walk-inside, walk-on}
+use Rattle.properties_format.proofs.Valued.Walks.{utf8_size, size-text, text-cut, added-size, open-some, IsWalkBefore, walk-begins, walk-here, walk-inside, walk-on, size-append}
 use Rattle.properties_text.specs.Encoding.{encoding_of}
 use Rattle.properties_lines.specs.HeldLines.{held_line, lines_left}
 use Rattle.properties_lines.specs.Scanner.{bytes_of}
@@ -62,12 +61,10 @@ use Rattle.std.proofs.lemmas.Str.{chars-append, IsUtf8-take, IsUtf8-between}
 use Rattle.properties_format.specs.Text.{without_leading_blanks}
 use Rattle.properties_format.specs.Split as split
 use Rattle.properties_format.specs.Split.{IsSplit, IsPair}
-use Rattle.properties_format.specs.Reading.Split.{Cut, cut_key, split_of}
+use Rattle.properties_format.specs.Reading.Split.{split_of}
 use Rattle.properties_format.specs.Reading.Valued.{ascii_count, after_ascii, after_key, written_value, between_in, before_value, between_if_pair, without_end}
-use Rattle.properties_format.proofs.Split.Blanks.{without_leading_blanks-only}
-use Rattle.properties_format.proofs.Split.Keys.{cut_key-only}
-use Rattle.properties_format.proofs.Split.Unique.{between-ends, split_of-only}
-use Rattle.properties_format.proofs.Valued.Parts.{without_end-append, written_value-pair}
+use Rattle.properties_format.proofs.Split.Unique.{split_of-only}
+use Rattle.properties_format.proofs.Valued.Parts.{without_end-append, written_value-pair, after_key-pair}
 use Rattle.properties_format.proofs.Valued.Sizes.{count-append}
 use Rattle.properties_text.specs.Parsing.{bytes_in, IsSpan, IsPairAt}
 use Rattle.properties_text.specs.declared.parse.Span.{Span}
@@ -75,9 +72,6 @@ use Rattle.properties_text.proofs.Texts.Split.{rest_of, rest_of-part, without_le
 use Rattle.java_properties.specs.BodyValues.{IsBetweenAt}
 
 -- ---- ASCII among bytes
-
-one-counted : (b : ℕ) → ascii_count (b ∷ []) ≡ (if nat_lt b 0x80 then 1 else 0)
-one-counted b = refl
 
 -- a test counts as one byte or none
 pub record IsCount (told : Bool) (n : ℕ) : Type 0 where
@@ -131,10 +125,6 @@ after-more xs place (suc n) next d all told l some t h k =
           omega arith
     ]
 
--- the place where no byte is left, or none is searched for
-pub after-none : (d : List ℕ) → after_ascii 0 d ≡ 0
-after-none d = refl
-
 pub after-end : (xs : List ℕ) (place left all : ℕ) → length xs ≤ place → place + after_ascii left (drop place xs) ≡ all → place ≡ all
 after-end xs place left all l h =
     let none : after_ascii left (drop place xs) ≡ 0 = ap (after_ascii left) (drop_all place xs l) ∙ at-end left in
@@ -145,13 +135,6 @@ after-end xs place left all l h =
     at-end (suc n) = refl
 
 -- ---- what separates key and value
-
--- what follows the key of a pair
-after_key-pair : (line key value : List ℕ) (h : IsPair line key value) → after_key line ≡ h.between ++ value
-after_key-pair line key value h =
-    ap (λ v. let c : Cut = cut_key v false in c.rest)
-    (ap without_leading_blanks h.whole ∙ without_leading_blanks-only h.indent (key ++ (h.between ++ value)) h.indent_blank h.begins_full)
-    ∙ ap (λ v. let c : Cut = v in c.rest) (cut_key-only key (h.between ++ value) h.is_key (between-ends h.between value h.is_between))
 
 -- the characters after the key are those of the bytes after it
 after_key-text : (line : List ℕ) → IsUtf8 line → chars (after_key line) ≡ after_key (chars line)
@@ -297,10 +280,6 @@ walking-begins {e} {body} {before} s at going w same h =
       encoding = same;
     }
 
-pub walking-ends : {e : Encoding} {body : List ℕ} {s : GroupReader} {first : Bool} {left : ℕ} → IsWalking e body s first left → s.scanner.is_done ≡ true → ⊥
-walking-ends {e} {body} {s} {first} {left} w done =
-    walk-ends e first w.rest w.value (subst (λ v. IsWalkBefore e first v w.rest w.value) {x = lines_left body s.scanner} {y = []} (rw done refl) w.is_before)
-
 -- the line that was taken, decoded to this text, adds this one
 pub record IsTaken (e : Encoding) (body : List ℕ) (new : GroupReader) (first : Bool) (text added : List ℕ) : Type 0 where
   pub text_utf8 : IsUtf8 text
@@ -324,9 +303,6 @@ taken {e} {body} {new} {first} text looked pushed cleared added line u v is same
 abbrev pub open_count : List ℕ → ℕ
 open_count x = if is_open x then 1 else 0
 
-sizes-append : (x y : List ℕ) → utf8_size (x ++ y) ≡ utf8_size x + utf8_size y
-sizes-append x y = ap length (encodes-append x y) ∙ length-append (encode_utf8_all x) (encode_utf8_all y)
-
 -- the sizes of a line's text and of what it adds
 record AreSizes (first : Bool) (text added x : List ℕ) : Type 0 where
   indent : List ℕ
@@ -340,7 +316,7 @@ sizes-of first text added u v h =
     let i = indented first x in
     let size : utf8_size (added_by first x) ≡ length added = ap utf8_size (sym h) ∙ size-text added v in
     let parts : length text ≡ utf8_size i.indent + utf8_size (without_indent first x) =
-    sym (size-text text u) ∙ ap utf8_size i.whole ∙ sizes-append i.indent (without_indent first x) in
+    sym (size-text text u) ∙ ap utf8_size i.whole ∙ size-append i.indent (without_indent first x) in
     let more = added-size first x in
     record { indent = i.indent; whole = i.whole; sum = omega arith; added_size = size }
 
@@ -365,7 +341,7 @@ more-than p v a j s l = elim (cases_Bool (nat_le (length p) (length a))) [
   | inl k ↦ let m = split-longer p v a j s (grind (arith)) in (m.0, m.1)
   | inr k ↦
       let m = split-longer a j p v (sym s) (grind (arith)) in
-      let t : utf8_size p ≡ utf8_size a + utf8_size m.0 = ap utf8_size m.1 ∙ sizes-append a m.0 in
+      let t : utf8_size p ≡ utf8_size a + utf8_size m.0 = ap utf8_size m.1 ∙ size-append a m.0 in
       absurd (omega arith)
 ]
 
@@ -401,10 +377,10 @@ walking-found {e} {body} {old} {new} {first} {left} text added head ok w k t l w
           let x = i.indent ++ w.rest in
           let cut : h.text ≡ x ++ y = i.whole ∙ ap (λ v. i.indent ++ v) back ∙ sym (append_assoc i.indent w.rest y) in
           let parts : length text ≡ utf8_size i.indent + utf8_size (without_indent first h.text) =
-          sym (size-text text t.text_utf8) ∙ ap utf8_size (sym same ∙ i.whole) ∙ sizes-append i.indent (without_indent first h.text) in
+          sym (size-text text t.text_utf8) ∙ ap utf8_size (sym same ∙ i.whole) ∙ size-append i.indent (without_indent first h.text) in
           let more : utf8_size (without_indent first h.text) ≡ utf8_size (added_by first h.text) + open_count (chars text) =
           added-size first h.text ∙ ap (λ v. utf8_size (added_by first h.text) + open_count v) same in
-          let both = sizes-append i.indent w.rest in
+          let both = size-append i.indent w.rest in
           let at : length text - open_count (chars text) - length added + left ≡ utf8_size x = omega arith in
           let m = text-cut text x y (length text - open_count (chars text) - length added + left) t.text_utf8 (sym same ∙ cut) at in
           let count : ascii_count x ≡ ascii_count (take (length text - open_count (chars text) - length added + left) text) =

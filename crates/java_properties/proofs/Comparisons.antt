@@ -24,7 +24,6 @@ use Rattle.java_properties.specs.contracts.line.LineContentClone.TheImpl as cont
 use Rattle.java_properties.specs.contracts.line.LineClone.TheImpl as line_clone
 use Rattle.java_properties.specs.declared.writer.calls.Call.{Call}
 use Rattle.java_properties.specs.declared.writer.calls.Call.TheVariants as call
-use Rattle.java_properties.specs.contracts.writer.settings.LineEndingOrd.TheImpl as ending_cmp
 use Rattle.java_properties.specs.contracts.writer.settings.LineEndingPartialEq.TheImpl as ending_eq
 use Rattle.java_properties.specs.contracts.writer.settings.LineEndingHash.TheImpl as ending_hash
 use Rattle.java_properties.specs.contracts.writer.calls.CallPartialEq.TheImpl as call_eq
@@ -57,24 +56,6 @@ content-cmp (KVPair k v) (KVPair l w) =
 -- `cmp` of two lines
 pub line-cmp : (x y : Line) → (line_cmp.ghosts).cmp x y ≡ line_order x y
 line-cmp x y = ap (ordering_then (nat_cmp (number_of x) (number_of y))) (content-cmp (content_of x) (content_of y))
-
--- the line endings in their order: a carriage return, a line feed, and both
-pub ending_rank : LineEnding → ℕ
-ending_rank CR = 0
-ending_rank LF = 1
-ending_rank CRLF = 2
-
-pub ending-cmp : (x y : LineEnding) → (ending_cmp.ghosts).cmp x y ≡ nat_cmp (ending_rank x) (ending_rank y)
-unfolding ending_rank
-ending-cmp CR CR = refl
-ending-cmp CR LF = refl
-ending-cmp CR CRLF = refl
-ending-cmp LF CR = refl
-ending-cmp LF LF = refl
-ending-cmp LF CRLF = refl
-ending-cmp CRLF CR = refl
-ending-cmp CRLF LF = refl
-ending-cmp CRLF CRLF = refl
 
 -- ---- which are equal
 

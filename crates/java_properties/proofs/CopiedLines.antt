@@ -17,10 +17,11 @@ use Rattle.properties_format.specs.Reading.Items.{outcome_of}
 use Rattle.properties_format.specs.Reading.Undecoded.{characters_of, in_text}
 use Rattle.properties_format.proofs.Encodings.Characters.{pieces_of-scalar}
 use Rattle.properties_format.proofs.Escapes.Laws.{meaning_of-plain}
-use Rattle.properties_format.proofs.Escapes.Scalars.{means-scalars}
+use Rattle.properties_format.proofs.Escapes.Scalars.{means-scalars, rest-scalars}
 use Rattle.properties_format.proofs.Items.Unique.{outcome_of-meets, outcome_of-only}
 use Rattle.properties_format.proofs.Split.Unique.{split_of-only}
 use Rattle.properties_format.proofs.Undecoded.{decodes, splitting-commutes}
+use Rattle.properties_format.proofs.Split.Blanks.{without_leading_blanks-blanks}
 use Rattle.properties_text.specs.Decoding.{text_of}
 use Rattle.properties_text.specs.Escaping.{holds_backslash, malformed_in}
 use Rattle.properties_text.specs.UndecodedTexts.{IsNoPair, IsPairRefused}
@@ -30,7 +31,7 @@ use Rattle.properties_text.specs.declared.escape.UnescapeError.TheVariants as un
 use Rattle.properties_text.proofs.Texts.Resolving.{holds-part, no_backslash, means_plain}
 use Rattle.properties_lines.specs.LineJoiner.{Joining}
 use Rattle.java_properties.specs.Copying.{HasScalars}
-use Rattle.java_properties.specs.CopiedLines.{Refuses, PassesLine, FindsAny, CopiesContent, CopiesLine}
+use Rattle.java_properties.specs.CopiedLines.{Refuses, FindsAny, CopiesContent, CopiesLine}
 use Rattle.java_properties.specs.Engine.{WritesPair}
 use Rattle.java_properties.specs.Errors.{IsUnresolvedError}
 use Rattle.java_properties.specs.GivenItems.{FindsIn, IsNoItem}
@@ -38,7 +39,6 @@ use Rattle.java_properties.specs.BorrowedItems.{found_content}
 use Rattle.java_properties.specs.PropertiesWriter.{Writing}
 use Rattle.java_properties.specs.declared.error.PropertiesError.{PropertiesError}
 use Rattle.java_properties.specs.declared.iter.copy.Copied.{Copied}
-use Rattle.java_properties.specs.declared.iter.copy.Copied.TheVariants.{Item, Nothing, Failed}
 use Rattle.java_properties.specs.declared.iter.copy.CopyError.{CopyError}
 use Rattle.java_properties.specs.declared.iter.found.Found.{Found}
 use Rattle.java_properties.proofs.Items.{blank-item, comment-item, found-item}
@@ -57,18 +57,14 @@ all-left : (x y : List ℕ) → All scalar (x ++ y) → All scalar x
 all-left [] y h = All-nil scalar
 all-left (c ∷ x) y h = All-cons scalar c x (All-head scalar c (x ++ y) h) (all-left x y (All-tail scalar c (x ++ y) h))
 
-all-right : (x y : List ℕ) → All scalar (x ++ y) → All scalar y
-all-right [] y h = h
-all-right (c ∷ x) y h = all-right x y (All-tail scalar c (x ++ y) h)
-
 -- the texts of a pair in a text of scalar values
 pair-scalars : (text key value : List ℕ) → All scalar text → MeansPair text key value → HasScalars (pair key value)
 pair-scalars text key value all m =
     let s = m.split in
-    let keyed = all-right s.indent (m.raw_key ++ (s.between ++ m.raw_value)) (subst (All scalar) s.whole all) in
-    let between = all-right m.raw_key (s.between ++ m.raw_value) keyed in (
+    let keyed = rest-scalars s.indent (m.raw_key ++ (s.between ++ m.raw_value)) (subst (All scalar) s.whole all) in
+    let between = rest-scalars m.raw_key (s.between ++ m.raw_value) keyed in (
       means-scalars m.raw_key key m.key_means (all-left m.raw_key (s.between ++ m.raw_value) keyed),
-      means-scalars m.raw_value value m.value_means (all-right s.between m.raw_value between),
+      means-scalars m.raw_value value m.value_means (rest-scalars s.between m.raw_value between),
     )
 
 -- the text of bytes is of scalar values
@@ -88,11 +84,6 @@ pub undecoded-scalars : (line key value : List ℕ) → All byte line → MeansP
 undecoded-scalars line key value h m = pair-scalars (text_in line) key value (text-scalars line h) m
 
 -- ---- blank lines and comments
-
--- blanks leave nothing
-blanks-pass : (x : List ℕ) → AreBlanks x → without_leading_blanks x ≡ []
-blanks-pass [] h = refl
-blanks-pass (c ∷ x) h = rw h.0 (blanks-pass x h.1)
 
 -- and nothing is left of blanks alone
 all-blanks : (x : List ℕ) → without_leading_blanks x ≡ [] → AreBlanks x
@@ -119,7 +110,7 @@ comment-of : (line : List ℕ) (n : ℕ) → (n ≡ length line → ⊥) → n �
     → (raw : List ℕ) × IsSplit line (split.comment raw)
 comment-of line n e w h (inl blank) =
     let left = length-drop n line in
-    let none = ap length (h ∙ blanks-pass line blank) in
+    let none = ap length (h ∙ without_leading_blanks-blanks line blank) in
     absurd (e (omega (arith, left, none, w)))
 comment-of line n e w h (inr c) = c
 
@@ -174,20 +165,10 @@ refused-no_item line unescape.Memory number e h says = inr says
 
 -- ---- how a line ends
 
-pub refuse-passes : (number : ℕ) (text : List ℕ) (why : UnescapeError) (old new : Joining) (kept error : Option CopyError) (copied : Copied)
-    → Refuses number why old copied new error → ((e : PropertiesError) → IsUnresolvedError why number e → IsNoItem number text e)
-    → PassesLine number text old kept copied new error
-refuse-passes number text why old new kept error copied h none = rw h.0 (h.1.0, none h.1.0 h.1.1, h.1.2)
-
 module _ {W : Type 0} (sink : Sink W) (number : ℕ) (text : List ℕ) (old new : Joining) (writer : Writing W) (kept error : Option CopyError) where
   pub refuse-copies : (why : UnescapeError) (copied : Copied) → Refuses number why old copied new error
       → ((e : PropertiesError) → IsUnresolvedError why number e → IsNoItem number text e) → CopiesLine sink number text old writer kept copied new writer error
   refuse-copies why copied h none = rw h.0 (inl (h.1.0, none h.1.0 h.1.1, refl, h.1.2))
-
-  pub passes-copies : (copied : Copied) → PassesLine number text old kept copied new error → CopiesLine sink number text old writer kept copied new writer error
-  passes-copies Item h = (comment h.0.0, h.0.1, h.1, (tt, (refl, refl), h.2))
-  passes-copies Nothing h = (h.0, h.1, refl, h.2)
-  passes-copies Failed h = inl (h.0, h.1, refl, h.2)
 
 -- a content that is a pair is copied as the pair is written
 pub pair-copies : {W : Type 0} (sink : Sink W) (key value : List ℕ) (content : Content) (old new : Writing W) (kept error : Option CopyError) (wrote : Bool)

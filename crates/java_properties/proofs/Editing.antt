@@ -14,8 +14,6 @@ use Rattle.properties_format.specs.Text.{scalar, line_feed, equals_sign}
 use Rattle.properties_format.specs.Printing.{in_key_or_value, printed_key, printed_characters, encoded_text}
 use Rattle.properties_format.proofs.Printing.Characters.{encoded-ascii, encoded_text-append}
 use Rattle.properties_format.specs.Encoding.{Encoding, windows_1252, utf_8, utf_16le, utf_16be, InForce, byte_order_mark, begins_with, begins_like_bom, utf_8_bom, utf_16be_bom, utf_16le_bom, output_encoding}
-use Rattle.properties_format.specs.Laws.{SplittingCommutes}
-use Rattle.properties_format.proofs.Laws.{splitting-commutes}
 use Rattle.properties_format.specs.Lines.{end}
 use Rattle.properties_format.specs.Writing.{is_empty}
 use Rattle.properties_format.specs.Body.{ending_bytes, groups_bytes, last_ending}
@@ -31,7 +29,6 @@ use Rattle.properties_format.proofs.Edited.Results.{set_key_result-meets, set_ke
 use Rattle.properties_format.proofs.Edited.Steps.{result-after}
 use Rattle.properties_format.proofs.Slots.Lines.{bytes-unended}
 use Rattle.properties_format.proofs.Changed.Read.{set_key-reads, remove_key-reads, readable}
-use Rattle.properties_format.proofs.Edits.Read.{edit_all-reads}
 use Rattle.properties_format.specs.Edits.{Edit, AreScalarEdits, IsEditAllResult}
 use Rattle.properties_format.specs.Reading.Edits.{edit_all_result, edits_made}
 use Rattle.properties_format.proofs.Edits.Results.{edit_all_result-meets, edit_all_result-only, edits_made-meets}
@@ -44,11 +41,12 @@ use Rattle.properties_format.proofs.Slots.WellEnded.{slots_after-well_ended}
 use Rattle.properties_format.specs.Reading.ValuedSlots.{AreReadAgain}
 use Rattle.properties_format.proofs.Slots.ValuedBody.{slots_after-read_again}
 use Rattle.java_properties.specs.Editing.{edit_in, edits_in, AreMade, IsRefusal, IsSet, IsRemoved}
-use Rattle.properties_format.proofs.Edits.Contents.{edits-contents}
+use Rattle.properties_format.proofs.Edits.Contents.{edits-contents, edit_all-reads}
 use Rattle.java_properties.proofs.BodySlots.SoundSlots.{slots_after-contents}
 use Rattle.java_properties.specs.BodySlots.{HaveContents, Holds, HoldsIn, ReadsIn, Changes}
 use Rattle.java_properties.specs.declared.edit.slots.Slots.{Slots}
 use Rattle.properties_format.proofs.Changed.Occur.{key_set-keeps, key_removed-keeps}
+use Rattle.properties_format.proofs.Edited.Pair.{editable-own}
 use Rattle.properties_text.specs.Encoding.{encoding_of}
 use Rattle.java_properties.specs.BodyKeys.{IsErrorOfGroups, IsPlaceOf, IsPlace, IsKeyFound, AreOthersFound, left_bytes, closing_bytes}
 use Rattle.java_properties.specs.Sources.{IsInForce}
@@ -119,13 +117,6 @@ set-edits {e} {source} {key} {value} {bytes} k v is =
       };
       keeps = key_set-keeps e source key value bytes meets.2;
     }
-
--- the encodings that are edited are written
-pub output-same : (e : Encoding) → is_editable e ≡ true → output_encoding e ≡ e
-output-same windows_1252 h = refl
-output-same utf_8 h = refl
-output-same utf_16le h = absurd (cc)
-output-same utf_16be h = absurd (cc)
 
 -- ---- the printed pair
 
@@ -223,7 +214,7 @@ replaced-result {source} {e} {opened} {found} key value bytes pair h ok k is mad
     let within = at.within in
     let first : (pair.start == 0) ≡ is_empty before = start-first body pair.start (omega arith) ∙ ap is_empty at.front in
     let printed : pair_bytes (output_encoding f) (pair.start == 0) key value ≡ pair_bytes f (is_empty before) key value =
-    ap₂ (λ v b. pair_bytes v b key value) (output-same f ok) first in
+    ap₂ (λ v b. pair_bytes v b key value) (editable-own f ok) first in
     let front : take (opened.start + pair.start) source ≡ bom_of source ++ before =
     part-of source opened.start pair.start h.within ∙ ap₂ (λ v w. v ++ w) (sym (bom-front h)) at.front in
     let back : drop (opened.start + pair.end) source ≡ ending_bytes (last_ending place.place.group) ++ groups_bytes place.place.after =
@@ -260,14 +251,10 @@ appended-result {source} {e} {opened} {found} key value bytes h ok k none made =
     ∙ ap (λ v. bom_of source ++ v) (append_assoc body by pair)
     ∙ sym (append_assoc (bom_of source) body (by ++ pair))
     ∙ ap (λ v. v ++ (by ++ pair)) (sym whole)
-    ∙ sym (made ∙ ap (λ v. source ++ (by ++ (pair_bytes v (is_empty (body ++ by)) key value ++ line_feed ∷ []))) (output-same f ok)) in
+    ∙ sym (made ∙ ap (λ v. source ++ (by ++ (pair_bytes v (is_empty (body ++ by)) key value ++ line_feed ∷ []))) (editable-own f ok)) in
     ap (result_of e source) set ∙ result-made bytes h ok k.sound
 
 -- ---- the law of the source
-
--- The lines of a source, each decoded by itself, are the lines of its text.
-pub splitting : (e : Encoding) (source : List ℕ) → SplittingCommutes e source
-splitting e source = splitting-commutes e source
 
 -- a pair of a body is within the source
 pub span-within : {source : List ℕ} {e : Encoding} {opened : BodyStart} {found : place.KeyPlace} {key : List ℕ} (pair : BodySpan) → IsInForce source e opened
@@ -433,7 +420,7 @@ slots-more {source} {e} {opened} slots next edits edit h ok scalar before change
     let f = encoding_of opened.encoding in
     let front = slots_after e source edits in
     let in_force : output_encoding f ≡ (byte_order_mark e source).encoding =
-    output-same f ok ∙ sym (ap (λ v. let w : InForce = v in w.encoding) h.in_force) in
+    editable-own f ok ∙ sym (ap (λ v. let w : InForce = v in w.encoding) h.in_force) in
     let more : slots_edited (output_encoding f) (not (opened.start == 0)) edit front ≡ slots_after e source (edits ++ edit ∷ []) =
     ap₂ (λ v b. slots_edited v b edit front) in_force (marked h)
     ∙ sym (slots_after-push (byte_order_mark e source).encoding (begins_like_bom source) edits edit (source_slots e source)) in

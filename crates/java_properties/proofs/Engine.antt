@@ -1,29 +1,26 @@
 -- The lines that an engine builds, from their parts.
-use Rattle.std.proofs.Common.{◌≡◌, ◌==◌, ◌++◌, ◌+◌, ℕ, Bool, true, false, List, [], refl, ap, sym, subst, ◌∙◌, append_assoc}
-use Rattle.std.specs.Prelude.{◌&&◌, not, Option, Some, Result, Ok, Err}
-use Rattle.std.specs.declared.io.Error.{Error}
+use Rattle.std.proofs.Common.{◌≡◌, ◌<◌, ◌==◌, ◌++◌, ◌+◌, ◌^◌, ℕ, Bool, true, List, [], refl, ap, sym, subst, ◌∙◌, append_assoc, inl, inr}
+use Rattle.std.specs.Prelude.{Some, Result, Ok, Err}
 use Rattle.counted_io.specs.Streams.{Sink, HasWritten, HasSentPart}
 use Rattle.std.specs.Str.{chars, IsUtf8}
 use Rattle.properties_format.specs.Text.{LineEnding, line_ending_text}
 use Rattle.properties_format.specs.Encoding.{Encoding}
 use Rattle.properties_format.specs.Entries.{Content, comment, pair}
 use Rattle.properties_format.specs.Reading.Settings.{is_good_separator}
+use Rattle.properties_format.specs.Writing.{is_accepted}
 use Rattle.properties_format.specs.Printing.{encoded_text, printed_characters, printed_key, in_prefix, in_comment, in_key_or_value}
 use Rattle.properties_format.proofs.Printing.Characters.{printed-comment, printed-pair, line_end-ascii, good_separator-ascii}
 use Rattle.properties_format.proofs.Settings.Tests.{IsGoodSeparator-from_test}
 use Rattle.properties_text.proofs.Printing.Characters.{encoded_text-raw}
 use Rattle.properties_text.specs.Encoding.{output_of}
-use Rattle.java_properties.specs.Errors.{IsError, cause_of_write}
-use Rattle.java_properties.specs.PropertiesWriter.{Writing, TakesLine, HasWrittenLine, FailsInLine}
+use Rattle.java_properties.specs.Errors.{IsError, IsBareError, cause_of_write}
+use Rattle.java_properties.specs.PropertiesWriter.{Writing, call_of, TakesLine, HasWrittenLine, RefusesLine, FailsInLine}
 use Rattle.java_properties.specs.declared.error.ErrorKind.TheVariants.{Io}
 use Rattle.java_properties.specs.declared.error.PropertiesError.{PropertiesError}
-use Rattle.java_properties.specs.Engine.{writing, SendsLine, repertoire_of, line_bytes, content_bytes, is_windows_1252, copies_bytes, BuildsUndecoded}
-use Rattle.properties_text.specs.Printing.{all_of_windows_1252, text_bytes, key_bytes}
+use Rattle.java_properties.specs.Engine.{writing, NumbersLine, SendsLine, repertoire_of, line_bytes, content_bytes, BuildsUndecoded}
+use Rattle.properties_text.specs.Printing.{text_bytes, key_bytes}
 use Rattle.properties_text.specs.UndecodedTexts.{undecoded_line, PrintsPair}
-use Rattle.properties_text.specs.declared.encoding.encode.OutputEncoding.{OutputEncoding}
-use Rattle.properties_text.specs.declared.encoding.encode.OutputEncoding.TheVariants.{Windows1252, Utf8}
 use Rattle.properties_text.specs.declared.escape.UnescapeError.{UnescapeError}
-use Rattle.properties_text.specs.declared.print.Repertoire.{Repertoire}
 use Rattle.properties_text.specs.declared.print.undecoded.UndecodedPair.{UndecodedPair}
 use Rattle.properties_text.specs.declared.print.Place.TheVariants.{KeyOrValue}
 use Rattle.java_properties.specs.declared.writer.engine.Engine.{Engine}
@@ -80,30 +77,19 @@ line-built w line cleared printed all ending h k m n =
 
 -- ---- a pair that isn't decoded
 
--- what is copied is all that windows-1252 has
-copies-all : (w : Engine) → copies_bytes w ≡ true → repertoire_of w ≡ all_of_windows_1252
-copies-all w h = by-encoding w.encoding w.settings.ascii_only h
-  where
-    by-encoding : (e : OutputEncoding) (only : Bool) → (is_windows_1252 e && not only) ≡ true
-        → let r : Repertoire = record { encoding = e; ascii_only = only } in r ≡ all_of_windows_1252
-    by-encoding Windows1252 false k = refl
-    by-encoding Windows1252 true k = absurd (cc)
-    by-encoding Utf8 only k = absurd (cc)
-
 -- what is printed in an empty buffer for a pair of bytes is the line of the pair that they mean
-pub undecoded-built : (w : Engine) (p : UndecodedPair) (cleared separator ending new : List ℕ) → copies_bytes w ≡ true → cleared ≡ []
+pub undecoded-built : (w : Engine) (p : UndecodedPair) (cleared separator ending new : List ℕ) → cleared ≡ []
     → separator ≡ encoded_text (output_of w.encoding) w.settings.kv_separator → ending ≡ ending_bytes w
-    → (result : Result Unit UnescapeError) → PrintsPair (w.lines == 0) cleared p separator ending result new → BuildsUndecoded w (undecoded_line p) result new
-undecoded-built w p cleared separator ending new copies c s e (Err why) h = h
-undecoded-built w p cleared separator ending new copies c s e (Ok done) h =
+    → (result : Result Unit UnescapeError) → PrintsPair (repertoire_of w) (w.lines == 0) cleared p separator ending result new → BuildsUndecoded w (undecoded_line p) result new
+undecoded-built w p cleared separator ending new c s e (Err why) h = h
+undecoded-built w p cleared separator ending new c s e (Ok done) h =
     let first = key_bytes (repertoire_of w) (w.lines == 0) h.key in
     let middle = encoded_text (output_of w.encoding) w.settings.kv_separator in
-    let last = text_bytes (repertoire_of w) KeyOrValue h.value in
-    let P : Repertoire → Type 0 = λ r. new ≡ cleared ++ (key_bytes r (w.lines == 0) h.key ++ (separator ++ (text_bytes r KeyOrValue h.value ++ ending))) in (
+    let last = text_bytes (repertoire_of w) KeyOrValue h.value in (
       h.key,
       h.value,
       h.meaning,
-      subst P (sym (copies-all w copies)) h.printed
+      h.printed
           ∙ ap (λ v. v ++ (first ++ (separator ++ (last ++ ending)))) c
           ∙ ap (λ v. first ++ (v ++ (last ++ ending))) s
           ∙ ap (λ v. first ++ (middle ++ (last ++ v))) e
@@ -111,6 +97,20 @@ undecoded-built w p cleared separator ending new copies c s e (Ok done) h =
           ∙ sym (append_assoc first (middle ++ last) (ending_bytes w))
           ∙ line-parts w (pair h.key h.value),
     )
+
+-- ---- the number of a line
+
+-- a line that the writer numbers is taken
+pub numbered : {W : Type 0} (w : Engine) (from : W) (line : Content) (accepted : Bool) (number : ℕ) → number < 2 ^ 64 → accepted ≡ is_accepted w.settings (call_of line)
+    → NumbersLine w accepted (Ok number) → TakesLine (writing w from) line
+numbered w from line accepted number small is h = record { live = h.0; accepted = sym is ∙ h.1; numbered = subst (λ n. n < 2 ^ 64) h.2 small }
+
+-- and one that it doesn't number is refused
+pub unnumbered : {W : Type 0} (w : Engine) (from : W) (line : Content) (accepted : Bool) (error : PropertiesError) → accepted ≡ is_accepted w.settings (call_of line)
+    → NumbersLine w accepted (Err error) → RefusesLine (writing w from) line error (writing w from)
+unnumbered w from line accepted error is (inl h) = record { reason = rw h.0.its_kind h.1; is = subst (λ k. IsBareError k error) (sym h.0.its_kind) h.0; same = refl }
+unnumbered w from line accepted error is (inr (inl h)) = record { reason = rw h.0.its_kind (h.1, sym is ∙ h.2); is = subst (λ k. IsBareError k error) (sym h.0.its_kind) h.0; same = refl }
+unnumbered w from line accepted error is (inr (inr h)) = record { reason = rw h.0.its_kind (h.1, sym is ∙ h.2, h.3); is = subst (λ k. IsBareError k error) (sym h.0.its_kind) h.0; same = refl }
 
 -- ---- a line that is sent
 
@@ -126,12 +126,11 @@ module _ {W : Type 0} {sink : Sink W} (w built : Engine) (from : W) (line : Cont
         ∙ ap (λ n. record (writing w from) { sink = after.sink; lines = n }) next;
   }
 
-  pub unsent-line : (cause : Option Error) (error : PropertiesError) → SendsLine sink (writing built from) built.line number (Err cause) after
-      → IsError Io (Some number) (cause_of_write cause) error → FailsInLine sink (writing w from) line error after
-  unsent-line cause error h is = record {
+  pub unsent-line : (error : PropertiesError) → SendsLine sink (writing built from) built.line number (Err error) after → FailsInLine sink (writing w from) line error after
+  unsent-line error h = record {
     takes = takes;
-    cause = cause;
-    sent = subst (λ v. HasSentPart sink from v cause after.sink) bytes h.0;
-    is = subst (λ n. IsError Io (Some n) (cause_of_write cause) error) next is;
-    after = h.1 ∙ ap (λ (e : Engine). record (writing e from) { sink = after.sink; failed = true }) same;
+    cause = h.0;
+    sent = subst (λ v. HasSentPart sink from v h.0 after.sink) bytes h.1;
+    is = subst (λ n. IsError Io (Some n) (cause_of_write h.0) error) next h.2;
+    after = h.3 ∙ ap (λ (e : Engine). record (writing e from) { sink = after.sink; failed = true }) same;
   }

@@ -9,9 +9,8 @@ use Rattle.properties_format.specs.Split.{IsSplit}
 use Rattle.properties_format.specs.Escapes.{Means}
 use Rattle.properties_format.specs.Entries.{Content, Entry, item, comment, pair, malformed}
 use Rattle.properties_format.specs.Items.{ignored, given, broken}
-use Rattle.properties_format.specs.Reading.Items.{outcome_of}
+use Rattle.properties_format.specs.Reading.Items.{outcome_of, followed}
 use Rattle.properties_format.proofs.Items.Unique.{outcome_of-only}
-use Rattle.properties_format.proofs.Items.Outcomes.{followed-ignored, followed-given, followed-broken}
 use Rattle.counted_io.specs.Streams.{Reader, HasRead}
 use Rattle.counted_io.proofs.Streams.{read-none, read-more, failed-more}
 use Rattle.properties_format.specs.Lines.{Line, InputEnd, end, fault, more}
@@ -28,7 +27,7 @@ use Rattle.properties_lines.proofs.LineJoiner.{some-start, some-on, all-on}
 use Rattle.properties_lines.specs.LineJoiner.{IsLazyItems, JoinsError, JoinsLine, Comes, Joiner}
 use Rattle.properties_lines.specs.declared.error.LineError.TheVariants as why
 use Rattle.properties_text.specs.Parsing.{spanned, in_characters}
-use Rattle.java_properties.specs.GivenItems.{FindsItem, FindsPlain, GivesItem, IsNoItem, Owns, Gives, BreaksOff, GivesEntry, GivesNone, GivesMalformed, GivesError}
+use Rattle.java_properties.specs.GivenItems.{FindsPlain, GivesItem, IsNoItem, Owns, Gives, BreaksOff, GivesEntry, GivesNone, GivesMalformed, GivesError}
 use Rattle.java_properties.specs.declared.error.ErrorKind.TheVariants.{Memory}
 use Rattle.java_properties.specs.declared.iter.found.Found.{Found}
 use Rattle.java_properties.specs.declared.iter.found.FoundContent.{FoundContent}
@@ -159,9 +158,9 @@ module _ {R : Type 0} {reader : Reader R} where
       by-comes : Comes t n.bytes line new → Gives s (r ++ n.bytes) (item line.number content) new
       by-comes (Comes.going_on k logical) = Gives.going_on k (record {
         items = λ d ending.
-            passed-after h n.live n.bytes d ending ∙ logical.items d ending ∙ followed-given line.number line.text content (items_to_come new d ending) o;
+            passed-after h n.live n.bytes d ending ∙ logical.items d ending ∙ ap (λ v. followed line.number v (items_to_come new d ending)) o;
       })
-      by-comes (Comes.at_last k items) = Gives.at_last k (passed-on h n.live n.bytes end ∙ items ∙ followed-given line.number line.text content [] o)
+      by-comes (Comes.at_last k items) = Gives.at_last k (passed-on h n.live n.bytes end ∙ items ∙ ap (λ v. followed line.number v []) o)
 
   -- a blank line came
   pub passed-blank : {s t : ReaderState} {from to next : R} {r : List ℕ} (line : Line) (new : ReaderState) → Passed reader s from r t to
@@ -180,10 +179,10 @@ module _ {R : Type 0} {reader : Reader R} where
       by-comes (Comes.going_on k logical) = inl (
         k,
         λ d ending.
-            passed-after h n.live n.bytes d ending ∙ logical.items d ending ∙ followed-ignored line.number line.text (items_to_come new d ending) o,
+            passed-after h n.live n.bytes d ending ∙ logical.items d ending ∙ ap (λ v. followed line.number v (items_to_come new d ending)) o,
       )
       by-comes (Comes.at_last k items) =
-          inr (k, passed-on h n.live n.bytes end ∙ items ∙ followed-ignored line.number line.text [] o, inr (n.ended k))
+          inr (k, passed-on h n.live n.bytes end ∙ items ∙ ap (λ v. followed line.number v []) o, inr (n.ended k))
 
   -- a line could not be read
   pub passed-error : {s t : ReaderState} {from to next : R} {r : List ℕ} {e : PropertiesError} → Passed reader s from r t to → t.is_done ≡ false
@@ -230,8 +229,8 @@ module _ {R : Type 0} {reader : Reader R} where
     where
       by-comes : Comes t n.bytes line new → BreaksOff s (r ++ n.bytes) (malformed kind line.number) (reader.at_end next)
       by-comes (Comes.going_on k logical) = BreaksOff.before_all (λ d ending.
-          passed-after h n.live n.bytes d ending ∙ logical.items d ending ∙ followed-broken line.number line.text kind (items_to_come new d ending) o)
-      by-comes (Comes.at_last k items) = BreaksOff.at_last (n.ended k) (passed-on h n.live n.bytes end ∙ items ∙ followed-broken line.number line.text kind [] o)
+          passed-after h n.live n.bytes d ending ∙ logical.items d ending ∙ ap (λ v. followed line.number v (items_to_come new d ending)) o)
+      by-comes (Comes.at_last k items) = BreaksOff.at_last (n.ended k) (passed-on h n.live n.bytes end ∙ items ∙ ap (λ v. followed line.number v []) o)
 
   -- no line came
   pub passed-none : {s t u : ReaderState} {from to next : R} {r : List ℕ} → Passed reader s from r t to → t.is_done ≡ true → u ≡ t → next ≡ to
@@ -247,59 +246,6 @@ module _ {R : Type 0} {reader : Reader R} where
       ended = λ f. elim k.2 [ inl e ↦ absurd (cc) | inr e ↦ e ];
     }
   ])
-
-  -- what comes after them, as it is said of the reading before them
-  passed-entry : {s t u : ReaderState} {from to next : R} {r : List ℕ} {entry : Entry} → Passed reader s from r t to → GivesEntry reader t to entry u next
-      → GivesEntry reader s from entry u next
-  passed-entry {s} {t} {u} {r = r} {entry} h n = record {
-    bytes = r ++ n.bytes;
-    read = read-more h.read n.read;
-    live = passed-live h n.live;
-    gives = on n.gives;
-    passes = λ g. some-on (h.passes n.live) (n.passes g);
-    ended = n.ended;
-    lazy = passed-lazy h n.live n.lazy;
-  }
-    where
-      on : Gives t n.bytes entry u → Gives s (r ++ n.bytes) entry u
-      on (Gives.going_on k e) = Gives.going_on k (record { items = λ d ending. passed-after h n.live n.bytes d ending ∙ e.items d ending })
-      on (Gives.at_last k items) = Gives.at_last k (passed-on h n.live n.bytes end ∙ items)
-
-  passed-ended : {s t u : ReaderState} {from to next : R} {r : List ℕ} → Passed reader s from r t to → GivesNone reader t to u next → GivesNone reader s from u next
-  passed-ended {s} {t} {r = r} h n = elim (cases_Bool t.is_done) [
-    | inl d ↦ let k = n.idle d in passed-none h d k.0 k.1
-    | inr g ↦ record {
-      bytes = r ++ n.bytes;
-      read = read-more h.read n.read;
-      items = passed-on h g n.bytes end ∙ n.items;
-      done = n.done;
-      idle = λ e. let l = passed-live h g in absurd (cc);
-      ended = λ f. n.ended g;
-    }
-  ]
-
-  passed-malformed : {s t : ReaderState} {from to next : R} {r : List ℕ} {e : PropertiesError} → Passed reader s from r t to → t.is_done ≡ false
-      → GivesMalformed reader t to e next → GivesMalformed reader s from e next
-  passed-malformed {s} {t} {next = next} {r = r} h g n = record {
-    bytes = r ++ n.bytes;
-    number = n.number;
-    kind = n.kind;
-    read = read-more h.read n.read;
-    is = n.is;
-    breaks = on n.breaks;
-    lazy = passed-lazy h g n.lazy;
-  }
-    where
-      on : BreaksOff t n.bytes (malformed n.kind n.number) (reader.at_end next) → BreaksOff s (r ++ n.bytes) (malformed n.kind n.number) (reader.at_end next)
-      on (BreaksOff.before_all f) = BreaksOff.before_all (λ d ending. passed-after h g n.bytes d ending ∙ f d ending)
-      on (BreaksOff.at_last k items) = BreaksOff.at_last k (passed-on h g n.bytes end ∙ items)
-
-  pub passed-finds : {s t : ReaderState} {from to : R} {r : List ℕ} (answer : Option (Result Found PropertiesError)) (new : Joiner) (next : R) → Passed reader s from r t to
-      → FindsItem reader t to answer new next → FindsItem reader s from answer new next
-  passed-finds None new next h n = passed-ended h n
-  passed-finds (Some (Ok found)) new next h n = (passed-entry h n.0, n.1)
-  passed-finds (Some (Err e)) new next h (live, done, inl n) = (passed-live h live, done, inl (passed-malformed h live n))
-  passed-finds (Some (Err e)) new next h (live, done, inr n) = let k = passed-error h live n in (k.0, done, inr k.1)
 
   -- an item came, and is owned now, or there was no memory for that
   pub gives-owned : {s : ReaderState} {from to : R} (found : Found) (old new : Joiner) (answer : Result line.Line PropertiesError)

@@ -9,7 +9,7 @@ use Rattle.std.specs.Ordering.{nat_cmp}
 use Rattle.std.specs.Str.{chars, IsUtf8}
 use Rattle.std.specs.String.{string_bytes, string_cmp}
 use Rattle.std.specs.declared.string.String.{String}
-use Rattle.std.proofs.lemmas.Bool.{cases_Bool, false_from_ne_true}
+use Rattle.std.proofs.lemmas.Bool.{cases_Bool}
 use Rattle.std.proofs.lemmas.List.{map-append}
 use Rattle.std.proofs.lemmas.Slice.Eq.{bytes_eq-Decides}
 use Rattle.counted_io.specs.Streams.{Reader}
@@ -30,6 +30,7 @@ use Rattle.properties_format.proofs.Lines.Only.{lines_of-only}
 use Rattle.properties_format.proofs.Groups.Meets.{groups_of-meets}
 use Rattle.properties_format.proofs.Groups.Only.{groups_of-only}
 use Rattle.properties_format.proofs.Items.Unique.{outcome_of-meets, outcome_of-only}
+use Rattle.properties_format.proofs.Changed.Maps.{other-test}
 use Rattle.properties_lines.specs.LineJoiner.{Joiner, JoinsNext, JoinsError}
 use Rattle.properties_lines.specs.declared.error.LineError.{LineError}
 use Rattle.java_properties.specs.Errors.{IsBareError, IsLineError}
@@ -123,9 +124,6 @@ finds-later k ks key (Some number) other h =
 not_same : (x y : List ℕ) → bytes_eq x y ≡ false → x ≢ y
 not_same x y e q = let t = (bytes_eq-Decides x y).1 q in cc
 
-not_equal : (x y : List ℕ) → x ≢ y → bytes_eq x y ≡ false
-not_equal x y n = false_from_ne_true (bytes_eq x y) (λ t. n ((bytes_eq-Decides x y).0 t))
-
 finds-meets : (keys : List KeyPlace) (key : List ℕ) → Finds keys key (first_place keys key)
 finds-meets [] key = tt
 finds-meets (k ∷ ks) key = elim (cases_Bool (bytes_eq k.key key)) [
@@ -137,7 +135,7 @@ finds-meets (k ∷ ks) key = elim (cases_Bool (bytes_eq k.key key)) [
 first-in : (before : List KeyPlace) (number : ℕ) (key : List ℕ) (after : List KeyPlace) → HasNoKey key before
     → first_place (before ++ (record { number = number; key = key } ∷ after)) key ≡ Some number
 first-in [] number key after h = let same = (bytes_eq-Decides key key).1 refl in rw same refl
-first-in (k ∷ before) number key after h = let other = not_equal k.key key h.0 in rw other (first-in before number key after h.1)
+first-in (k ∷ before) number key after h = let other = other-test k.key key h.0 in rw other (first-in before number key after h.1)
 
 first-only : (keys : List KeyPlace) (key : List ℕ) (number : ℕ) → HasFirstNumber keys key number → first_place keys key ≡ Some number
 first-only keys key number h = ap (λ v. first_place v key) h.division ∙ first-in h.before number key h.after h.none

@@ -1,9 +1,8 @@
 -- The last pair of a body, whatever its key, and its last line ending.
-use Rattle.std.proofs.Common.{◌≡◌, ◌≢◌, ◌<◌, ◌≤◌, ℕ, ◌+◌, ◌-◌, Bool, true, false, List, [], ◌∷◌, ◌++◌, length, take, drop, get_or, refl, inl, inr, ap, ap₂, sym, ◌∙◌, subst, arith, append-nil, append_assoc, length-append}
+use Rattle.std.proofs.Common.{◌≡◌, ◌<◌, ◌≤◌, ℕ, ◌+◌, ◌-◌, true, false, List, [], ◌∷◌, ◌++◌, length, take, drop, get_or, refl, inl, inr, ap, ap₂, sym, ◌∙◌, subst, arith, append-nil, append_assoc, length-append}
 use Rattle.std.specs.Prelude.{Option, Some, None, if◌then◌else◌, unwrap_or}
 use Rattle.std.specs.Option.{option_map}
 use Rattle.std.specs.Option.{is_some}
-use Rattle.std.specs.Prelude.{◌==◌, ◌||◌}
 use Rattle.std.proofs.lemmas.Bool.{cases_Bool, cond-true, cond-false}
 use Rattle.std.proofs.lemmas.List.{drop_more, take-append-drop}
 use borrow.Author.Tests.{eqb-true}
@@ -222,21 +221,6 @@ within-none body at none plain =
 pub within-last : (body : List ℕ) (o : Option LineEnding) → IsEndingWithin body o → IsLastEnding body (unwrap_or o LF)
 within-last body None w e gs ok are = sym (w e gs ok are text.lf)
 within-last body (Some by) w e gs ok are = sym (w e gs ok are text.lf)
-
--- a byte that ends no line
-pub plain-more : (body : List ℕ) (at : ℕ) → 0 < at → at ≤ length body → get_or body (at - 1) 0 ≢ line_feed → get_or body (at - 1) 0 ≢ carriage_return
-    → HoldsNoLineEnd (drop at body) → HoldsNoLineEnd (drop (at - 1) body)
-plain-more body at some within feed return plain =
-    let n : at - 1 + 1 ≡ at = omega arith in
-    let b = get_or body (at - 1) 0 in
-    subst HoldsNoLineEnd (sym (drop_more body (at - 1) 0 (omega arith) ∙ ap (λ k. b ∷ drop k body) n))
-    (or-false (b == line_feed) (b == carriage_return) (other b line_feed feed) (other b carriage_return return), plain)
-  where
-    other : (x y : ℕ) → x ≢ y → (x == y) ≡ false
-    other x y h = elim (cases_Bool (x == y)) [ inl k ↦ absurd (h (eqb-true x y k)) | inr k ↦ k ]
-
-    or-false : (x y : Bool) → x ≡ false → y ≡ false → (x || y) ≡ false
-    or-false x y h k = rw (h, k) refl
 
 -- ---- the bytes of a pair
 

@@ -5,10 +5,8 @@ use Rattle.std.proofs.lemmas.Bool.{cases_Bool, cond-true, cond-false}
 use Rattle.std.proofs.lemmas.List.{drop-drop}
 use Rattle.properties_format.specs.Text.{scalar, line_ending_text}
 use Rattle.properties_format.specs.Encoding.{Encoding, InForce, output_encoding}
-use Rattle.properties_format.specs.Groups.{joined}
-use Rattle.properties_format.specs.Split.{IsPair}
 use Rattle.properties_format.specs.Printing.{encoded_text}
-use Rattle.properties_format.specs.Body.{HeldLine, as_lines, HasKey, ending_bytes, groups_bytes, last_ending}
+use Rattle.properties_format.specs.Body.{HeldLine, HasKey, ending_bytes, groups_bytes, last_ending}
 use Rattle.properties_format.specs.Edited.{bom_of, separation, added_ending, is_editable, is_empty_line, is_left_open, final_group, edited}
 use Rattle.properties_format.specs.Valued.{value_text, separation_by, ending_in, new_pair_bytes, IsSetValueResult}
 use Rattle.properties_format.specs.Reading.Items.{outcome_of}
@@ -21,9 +19,10 @@ use Rattle.properties_format.proofs.Edited.ByteOrderMarks.{source-whole}
 use Rattle.properties_format.proofs.Edited.Contents.{key-outcome}
 use Rattle.properties_format.proofs.Edited.Made as made
 use Rattle.properties_format.proofs.Edited.Made.{last_place-meets}
-use Rattle.properties_format.proofs.Valued.Made.{group-decoded, set_value_result-meets, set_value_result-only}
+use Rattle.properties_format.proofs.Valued.Made.{group-decoded, set_value_result-meets, set_value_result-only, raw-pair}
 use Rattle.properties_format.proofs.Valued.Read.{set_value-reads, value_set-keeps, value_set-keeps_front}
 use Rattle.properties_format.proofs.Valued.Unended.{without_ending, unended-joined, unended-front, unended-between, unended-value}
+use Rattle.properties_format.proofs.Edited.Pair.{editable-own}
 use Rattle.properties_text.specs.Encoding.{encoding_of}
 use Rattle.java_properties.specs.BodyKeys.{IsPlaceOf, IsPlace, IsKeyFound, closing_bytes}
 use Rattle.java_properties.specs.BodyValues.{IsPairAlone, IsLayoutAfter, revalued_in}
@@ -37,12 +36,8 @@ use Rattle.java_properties.specs.declared.edit.place.Closing.{Closing}
 use Rattle.java_properties.specs.declared.edit.place.Closing.TheVariants as closing
 use Rattle.java_properties.specs.declared.edit.place.KeyPlace as place
 use Rattle.java_properties.specs.declared.edit.source.BodyStart.{BodyStart}
-use Rattle.java_properties.proofs.Editing.{bom-front, output-same, result-made}
+use Rattle.java_properties.proofs.Editing.{bom-front, result-made}
 use Rattle.java_properties.proofs.LastPairs.{IsPartAt, part-at, part-group}
-
--- the parts of a pair, as they are written
-raw-pair : (key : List ℕ) (g : List HeldLine) → HasKey key g → (k : List ℕ) × (v : List ℕ) × IsPair (joined (as_lines g)) k v
-raw-pair key g (value, h) = (h.raw_key, h.raw_value, h.split)
 
 -- ---- a value is set
 
@@ -171,7 +166,7 @@ new_pair-result {source} {e} {opened} {found} key value bytes layout h ok k none
     ∙ ap (λ v. bom_of source ++ v) (append_assoc body by pair)
     ∙ sym (append_assoc (bom_of source) body (by ++ pair))
     ∙ ap (λ v. v ++ (by ++ pair)) (sym whole)
-    ∙ sym (made ∙ ap (λ v. source ++ (by ++ new_pair_bytes v (body ++ by) key (characters layout.separator) value ending)) (output-same f ok)) in
+    ∙ sym (made ∙ ap (λ v. source ++ (by ++ new_pair_bytes v (body ++ by) key (characters layout.separator) value ending)) (editable-own f ok)) in
     ap (result_of e source) set ∙ result-made bytes h ok k.sound
 
 -- What the result is, how it reads, and what it keeps.

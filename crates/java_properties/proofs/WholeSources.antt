@@ -1,6 +1,6 @@
 -- A source whose reader failed, read again up to that fault.
 use Rattle.std.proofs.Common.{◌≡◌, ℕ, false, List, [], ◌∷◌, ◌++◌, refl, sym, ap, ◌∙◌, inl, inr, subst, append_assoc, append-nil}
-use Rattle.std.specs.Prelude.{if◌then◌else◌, Option, Some, None, Err, IfErr}
+use Rattle.std.specs.Prelude.{if◌then◌else◌, Option, Some, Err, IfErr}
 use Rattle.std.specs.declared.io.Error.{Error}
 use Rattle.std.specs.Io.KnownBytes.{Consumes, Keeps}
 use Rattle.counted_io.specs.Faults.{HasRisen}
@@ -12,6 +12,7 @@ use Rattle.properties_format.specs.Entries.{Entry, malformed, read_fault}
 use Rattle.properties_format.specs.Lines as format
 use Rattle.properties_format.specs.Lines.{InputEnd, fault}
 use Rattle.properties_format.specs.ItemsToCome.{ReaderState, start, in_force, AreLinesToCome}
+use Rattle.properties_lines.proofs.InputBuffer.{keeps-consumes}
 use Rattle.java_properties.specs.Errors.{cause_of, cause_by, IsError, IsMalformed}
 use Rattle.java_properties.specs.PropertiesIter.{PassesAll}
 use Rattle.java_properties.specs.ReadLines.{IsReading, StopsMalformed, StopsFailed, StopsEarly, StopsReading}
@@ -19,11 +20,6 @@ use Rattle.java_properties.specs.WholeSources.{FailsInRead}
 use Rattle.java_properties.specs.declared.error.Cause.{Cause}
 use Rattle.java_properties.specs.declared.error.ErrorKind.{ErrorKind}
 use Rattle.java_properties.specs.declared.error.PropertiesError.{PropertiesError}
-
-keeps-consumes : (a b : Option (List ℕ)) → Keeps a b → Consumes a b []
-keeps-consumes None b h = tt
-keeps-consumes (Some xs) None h = absurd h
-keeps-consumes (Some xs) (Some ys) h = sym h
 
 module _ {R : Type 0} {reader : Reader R} {from place to : R} {bytes : List ℕ} where
   -- a read that gave bytes, after others

@@ -53,11 +53,6 @@ AreCells body [] (c ∷ cs) = ⊥
 AreCells body (s ∷ ss) [] = ⊥
 AreCells body (s ∷ ss) (c ∷ cs) = IsCell body s c × AreCells body ss cs
 
--- Each of the slots keeps a part of the body.
-abbrev pub AreInside : List ℕ → List Slot → Type 0
-AreInside body [] = Unit {0}
-AreInside body (s ∷ ss) = (s.kept.start ≤ s.kept.end) × (s.kept.end ≤ length body) × AreInside body ss
-
 -- So does it, and it is one group if it is left.
 pub record IsReadIn (e : Encoding) (body : List ℕ) (s : Slot) : Type 0 where
   pub ordered : s.kept.start ≤ s.kept.end

@@ -1,20 +1,16 @@
 -- The engine of a writer, and the line that it builds.
-use Rattle.std.specs.Prelude.{◌≡◌, ℕ, ◌==◌, ◌&&◌, ◌||◌, not, Bool, true, false, List, ◌++◌, Option, Some, Result, Ok, Err}
+use Rattle.std.specs.Prelude.{◌≡◌, ◌⊎◌, ℕ, ◌+◌, ◌^◌, ◌==◌, ◌||◌, not, Bool, true, false, List, ◌++◌, Option, Some, Result, Ok, Err}
 use Rattle.std.specs.Str.{chars}
-use Rattle.std.specs.String.{string_bytes}
 use Rattle.std.specs.declared.io.Error.{Error}
-use Rattle.std.specs.declared.string.String.{String}
 use Rattle.counted_io.specs.Streams.{Sink, HasWritten, HasSentPart}
 use Rattle.properties_format.specs.Entries as format
 use Rattle.properties_format.specs.Text.{is_blanks}
-use Rattle.properties_format.specs.Escapes.{Means}
 use Rattle.properties_format.specs.Items.{MeansPair}
 use Rattle.properties_format.specs.Printing.{printed, encoded_text}
 use Rattle.properties_format.specs.Settings.{Settings}
 use Rattle.properties_text.specs.Decoding.{text_of}
 use Rattle.properties_text.specs.Encoding.{output_of}
-use Rattle.properties_text.specs.Escaping.{IsRefused}
-use Rattle.properties_text.specs.Parsing.{bytes_in}
+use Rattle.java_properties.specs.Errors.{cause_of_write, IsError, IsBareError}
 use Rattle.java_properties.specs.PropertiesWriter.{Writing, WritesLine}
 use Rattle.properties_text.specs.Printing.{text_bytes, key_bytes}
 use Rattle.properties_text.specs.UndecodedTexts.{IsPairRefused}
@@ -23,12 +19,11 @@ use Rattle.java_properties.specs.declared.writer.engine.Content.{Content}
 use Rattle.java_properties.specs.declared.writer.engine.Content.TheVariants.{Comment, KVPair}
 use Rattle.java_properties.specs.declared.writer.engine.Written.{Written}
 use Rattle.java_properties.specs.declared.writer.engine.Written.TheVariants.{Line, Unresolved, Failed}
+use Rattle.java_properties.specs.declared.error.ErrorKind.TheVariants as kind
 use Rattle.java_properties.specs.declared.error.PropertiesError.{PropertiesError}
 use Rattle.java_properties.specs.declared.iter.copy.CopyError.{CopyError}
 use Rattle.java_properties.specs.declared.iter.copy.CopyError.TheVariants.{Write}
 use Rattle.properties_text.specs.declared.encoding.Encoding.TheVariants.{WINDOWS_1252}
-use Rattle.properties_text.specs.declared.encoding.encode.OutputEncoding.{OutputEncoding}
-use Rattle.properties_text.specs.declared.encoding.encode.OutputEncoding.TheVariants.{Windows1252, Utf8}
 use Rattle.properties_text.specs.declared.escape.UnescapeError.{UnescapeError}
 use Rattle.properties_text.specs.declared.parse.Span.{Span}
 use Rattle.properties_text.specs.declared.print.Repertoire.{Repertoire}
@@ -58,12 +53,21 @@ content_bytes engine (format.pair key value) =
     key_bytes (repertoire_of engine) (engine.lines == 0) key
     ++ (encoded_text (output_of engine.encoding) engine.settings.kv_separator ++ text_bytes (repertoire_of engine) place.KeyOrValue value)
 
--- The bytes were sent, and with them the line of this number; or sending them failed.
-abbrev pub SendsLine : {W : Type 0} → Sink W → Writing W → List ℕ → ℕ → Result Unit (Option Error) → Writing W → Type 0
+-- The next line is accepted and has this number; or the error says why it isn't written, before anything was sent.
+abbrev pub NumbersLine : Engine → Bool → Result ℕ PropertiesError → Type 0
+NumbersLine engine accepted (Ok number) = (engine.failed ≡ false) × (accepted ≡ true) × (number ≡ engine.lines + 1)
+NumbersLine engine accepted (Err error) =
+    (IsBareError kind.Failed error × (engine.failed ≡ true))
+    ⊎ ((IsBareError kind.EmptyKey error × (engine.failed ≡ false) × (accepted ≡ false))
+    ⊎ (IsBareError kind.TooManyLines error × (engine.failed ≡ false) × (accepted ≡ true) × (engine.lines + 1 ≡ 2 ^ 64)))
+
+-- The bytes were sent, and with them the line of this number; or sending them failed, and the error says why.
+abbrev pub SendsLine : {W : Type 0} → Sink W → Writing W → List ℕ → ℕ → Result Unit PropertiesError → Writing W → Type 0
 SendsLine sink old bytes number (Ok done) new =
     HasWritten sink old.sink bytes new.sink × (new ≡ record old { sink = new.sink; lines = number })
-SendsLine sink old bytes number (Err cause) new =
-    HasSentPart sink old.sink bytes cause new.sink × (new ≡ record old { sink = new.sink; failed = true })
+SendsLine sink old bytes number (Err error) new =
+    (cause : Option Error) × HasSentPart sink old.sink bytes cause new.sink
+    × IsError kind.Io (Some number) (cause_of_write cause) error × (new ≡ record old { sink = new.sink; failed = true })
 
 -- A pair was written; or it wasn't, and the error is kept.
 abbrev pub WritesPair : {W : Type 0} → Sink W → Writing W → format.Content → Option CopyError → Bool → Writing W → Option CopyError → Type 0
@@ -73,22 +77,9 @@ WritesPair sink old content kept false new error =
 
 -- ---- a pair that isn't decoded
 
-abbrev pub is_windows_1252 : OutputEncoding → Bool
-is_windows_1252 Windows1252 = true
-is_windows_1252 Utf8 = false
-
--- whether bytes of windows-1252 stand for themselves in a line
-abbrev pub copies_bytes : Engine → Bool
-copies_bytes engine = is_windows_1252 engine.encoding && not engine.settings.ascii_only
-
 -- whether a pair whose key is spelt by this span can be written: only an empty span spells an empty key
 abbrev pub takes_span : Settings → Span → Bool
 takes_span settings key = not (key.start == key.end) || not (is_blanks settings.kv_separator)
-
--- the text that a span of bytes means; or why its escapes can't be resolved
-abbrev pub DecodesSpan : {Z : Type 0} → List ℕ → Span → Result (String Z) UnescapeError → Type 0
-DecodesSpan bytes span (Ok text) = Means (text_of WINDOWS_1252 (bytes_in bytes span)) (chars (string_bytes text))
-DecodesSpan bytes span (Err e) = IsRefused (text_of WINDOWS_1252 (bytes_in bytes span)) e
 
 -- the line of the pair that a line of bytes means; or why its escapes can't be resolved
 abbrev pub BuildsUndecoded : Engine → List ℕ → Result Unit UnescapeError → List ℕ → Type 0

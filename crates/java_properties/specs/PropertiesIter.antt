@@ -1,5 +1,5 @@
--- The iterator over items as contracts see it, and the results and effects of its calls. proofs/Told states the same in
--- terms of the items to come as they are computed.
+-- The iterator over items as contracts see it, and the results and effects of its calls. Page GivenItems states
+-- them in terms of the items to come as they are computed.
 use Rattle.std.specs.Prelude.{◌≡◌, ◌⊎◌, ℕ, ◌+◌, ◌^◌, Bool, true, false, List, [], ◌∷◌, ◌++◌, Option, Some, None, Result, Ok, Err, string_bytes}
 use Rattle.std.specs.Str.{chars}
 use Rattle.std.specs.declared.io.Error.{Error}

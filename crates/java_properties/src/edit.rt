@@ -76,7 +76,8 @@ pub fn set_key(
 /// If the last pair with the key has the value, no byte changes. If it has another value, the pair keeps its bytes up
 /// to the end of its separator, or of its key if nothing separates key and value, and it keeps its last line ending:
 /// the indentation, the key as it is spelt, and the separator with the blanks around it. The new value replaces
-/// everything between the two, including continuations. If nothing separates key and value, an equals sign comes before the value.
+/// everything between the two, including continuations. If nothing separates key and value, an equals sign comes before
+/// the value.
 ///
 /// If no pair has the key, a pair is appended that looks like the last pair of the source: it has that pair's
 /// separator, with each run of blanks cut to its first one. The separator is an equals sign if there is no pair, if the

@@ -135,13 +135,16 @@ impl<R: CountedRead> PropertiesIter<R> {
     /// [`get`](Self::get) and [`write`](PropertiesWriter::write) would. Returns `false` at the end, and at an error,
     /// which [`take_error`](Self::take_error) returns.
     ///
-    /// Most lines of windows-1252 are neither decoded nor copied before they are written.
+    /// If the input and the output are in windows-1252, and the writer isn't set to ASCII only, most lines are printed
+    /// from their bytes, without being decoded. After an error of the writing, the next call goes on with the next item.
+    /// An error that isn't taken stays, and a later one replaces it.
     ///
     /// ```text
     /// while items.copy_next(&mut writer) {}
     /// if let Some(error) = items.take_error() {
     ///     return Err(PropertiesError::from(error));
     /// }
+    /// writer.finish()?;
     /// ```
     #[inline(always)]
     pub fn copy_next<W: CountedWrite>(&mut self, writer: &mut PropertiesWriter<W>) -> bool

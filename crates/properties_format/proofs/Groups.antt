@@ -1,8 +1,6 @@
-pub mod Append
 pub mod Joined
 pub mod Logical
 pub mod Meets
-pub mod Numbers
 pub mod Only
 pub mod Open
 pub mod Steps

@@ -1,6 +1,5 @@
 pub mod Entries
 pub mod Lines
-pub mod Numbers
 pub mod Steps
 pub mod Unique
 pub mod Divisions

@@ -1,7 +1,6 @@
 pub mod Append
 pub mod Cut
 pub mod Meets
-pub mod Numbers
 pub mod Only
 pub mod Plain
 pub mod Steps

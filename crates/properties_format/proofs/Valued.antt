@@ -16,4 +16,3 @@ pub mod Unended
 pub mod Sizes
 pub mod Steps
 pub mod Walks
-pub mod Endings

@@ -2,7 +2,7 @@
 use Rattle.std.proofs.Common.{◌≡◌, ℕ, List, [], ◌∷◌, ◌++◌, refl, ap, sym, ◌∙◌, append_assoc}
 use Rattle.properties_format.specs.Encoding.{Encoding}
 use Rattle.properties_format.specs.Settings.{Settings}
-use Rattle.properties_format.specs.Writing.{Call, is_accepted, settings_after_call, settings_after, answers, written_line, lines_with, line_count_after, line_bytes, wrote, item_read_back, items_read_back}
+use Rattle.properties_format.specs.Writing.{Call, is_accepted, settings_after_call, settings_after, answers, written_line, lines_with, line_count_after, line_bytes, wrote}
 
 -- The settings after two lists of calls.
 pub settings_after-append : (s : Settings) (xs ys : List Call) → settings_after s (xs ++ ys) ≡ settings_after (settings_after s xs) ys
@@ -26,12 +26,3 @@ wrote-append e s n (x ∷ xs) ys =
     ap (λ v. line_bytes e s n (written_line s x) ++ v) (wrote-append e (settings_after_call s x) (lines_with n (written_line s x)) xs ys)
     ∙ sym (append_assoc (line_bytes e s n (written_line s x)) (wrote e (settings_after_call s x) (lines_with n (written_line s x)) xs)
     (wrote e (settings_after (settings_after_call s x) xs) (line_count_after (settings_after_call s x) (lines_with n (written_line s x)) xs) ys))
-
--- The items that are read back from two lists of calls.
-pub items_read_back-append : (s : Settings) (n : ℕ) (xs ys : List Call) → items_read_back s n (xs ++ ys) ≡ items_read_back s n xs ++ items_read_back (settings_after s xs) (line_count_after s n xs) ys
-items_read_back-append s n [] ys = refl
-items_read_back-append s n (x ∷ xs) ys =
-    ap (λ v. item_read_back s n (written_line s x) ++ v) (items_read_back-append (settings_after_call s x) (lines_with n (written_line s x)) xs ys)
-    ∙ sym (append_assoc (item_read_back s n (written_line s x))
-    (items_read_back (settings_after_call s x) (lines_with n (written_line s x)) xs)
-    (items_read_back (settings_after (settings_after_call s x) xs) (line_count_after (settings_after_call s x) (lines_with n (written_line s x)) xs) ys))

@@ -44,10 +44,6 @@ pub record IsLines (x : List ℕ) (lines : Lines) : Type 0 where
 abbrev pub line_ends : Lines → ℕ
 line_ends lines = length lines.ended
 
--- The text ends in a CR.
-abbrev pub EndsInCr : List ℕ → Type 0
-EndsInCr x = (front : List ℕ) × (x ≡ front ++ carriage_return ∷ [])
-
 -- whether the text ends in a CR
 abbrev pub ends_in_cr : List ℕ → Bool
 ends_in_cr [] = false

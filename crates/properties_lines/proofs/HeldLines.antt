@@ -1,21 +1,21 @@
 -- The natural lines of a body that is held whole, as a scanner gives them.
-use Rattle.std.proofs.Common.{inl, inr, ◌≡◌, ◌<◌, ℕ, true, false, List, [], ◌∷◌, ◌++◌, drop, length, refl, sym, ap, subst, ◌∙◌, append-nil, length-drop, arith}
+use Rattle.std.proofs.Common.{inl, inr, ◌≡◌, ℕ, true, false, List, [], ◌∷◌, ◌++◌, drop, length, refl, sym, ap, subst, ◌∙◌, append-nil, length-drop, arith}
 use Rattle.std.specs.Prelude.{Option, Some, None}
 use Rattle.properties_format.specs.Text as text
-use Rattle.properties_format.specs.Encoding.{Encoding, InForce, windows_1252, utf_8, utf_16le, utf_16be, IsAligned}
+use Rattle.properties_format.specs.Encoding.{Encoding, InForce, IsAligned}
 use Rattle.properties_format.specs.Cut.{units}
 use Rattle.properties_format.specs.Reading.Lines.{begins_with_lf}
 use Rattle.properties_format.specs.Body.{HeldLine}
 use Rattle.properties_format.specs.Reading.Body.{held_lines_of}
 use Rattle.properties_format.proofs.Edited.Steps.{held_lines-line, held_lines-last}
 use Rattle.properties_text.specs.Encoding.{encoding_of}
-use Rattle.properties_lines.specs.LineSearch.{unit_size}
 use Rattle.properties_lines.specs.HeldLines.{held_line, IsInBody, lines_left}
 use Rattle.properties_lines.specs.Scanner.{is_decided, scanner_state, front_of, bytes_of, EndsWhole, IsCutOff, GivesLine}
 use Rattle.properties_lines.specs.declared.scanner.Front.{Front}
 use Rattle.properties_lines.specs.declared.scanner.Front.TheVariants.{Mark, Feed, Nothing}
 use Rattle.properties_lines.specs.declared.scanner.RawLine.{RawLine}
 use Rattle.properties_lines.specs.declared.scanner.Scanner.{Scanner}
+use Rattle.properties_lines.proofs.ScannerSearch.{short-feed}
 
 -- ---- a line that is cut off
 
@@ -66,24 +66,12 @@ body-next s new body h g =
     let encoding = ap (λ v. let w : InForce = v in w.encoding) (sym front) in
     (encoding, omega (arith, ap length here, length-drop s.at body, length-drop new.line.start body, g.cut.ordered, h.fits.within))
 
-short-alone : (e : Encoding) (d : List ℕ) → length d < unit_size e → begins_with_lf (units e d) ≡ false
-short-alone windows_1252 [] h = refl
-short-alone windows_1252 (b ∷ d) h = absurd (omega arith)
-short-alone utf_8 [] h = refl
-short-alone utf_8 (b ∷ d) h = absurd (omega arith)
-short-alone utf_16le [] h = refl
-short-alone utf_16le (b ∷ []) h = refl
-short-alone utf_16le (b ∷ c ∷ d) h = absurd (omega arith)
-short-alone utf_16be [] h = refl
-short-alone utf_16be (b ∷ []) h = refl
-short-alone utf_16be (b ∷ c ∷ d) h = absurd (omega arith)
-
 -- it stands in the body after the line, too
 pub body-after : (s new : Scanner) (body : List ℕ) → GivesLine s body true new → IsInBody new body
 body-after s new body g = record {
   fits = g.fits;
   decided = λ w. let x : is_decided Mark ≡ true = subst (λ v. is_decided v ≡ true) w g.decided in absurd (cc);
-  alone = λ w. short-alone (encoding_of new.encoding) (drop new.at body) (g.short w);
+  alone = λ w. short-feed (encoding_of new.encoding) (drop new.at body) (g.short w);
 }
 
 -- the line is the first of them

@@ -29,7 +29,7 @@ front-kept place buffer part tail h = grind (arith, common_steps)
 none-taken : (count : ℕ) (part : List ℕ) → count ≤ length part → take count part ≡ [] → count ≡ 0
 none-taken count part h e = let k : length (take count part) ≡ 0 = ap length e in grind (arith, common_steps)
 
-keeps-consumes : (a b : Option (List ℕ)) → Keeps a b → Consumes a b []
+pub keeps-consumes : (a b : Option (List ℕ)) → Keeps a b → Consumes a b []
 keeps-consumes None b h = tt
 keeps-consumes (Some xs) None h = absurd h
 keeps-consumes (Some xs) (Some ys) h = sym h

@@ -1,4 +1,4 @@
-mod InputBuffer
+pub mod InputBuffer
 pub mod LineSearch
 pub mod ScannerFront
 pub mod ScannerSearch

@@ -3,7 +3,6 @@ use Rattle.std.proofs.Common.{◌≡◌, ◌+◌, ℕ, Bool, true, false, List, 
 use Rattle.std.specs.Prelude.{◌≢◌, ◌⊎◌, if◌then◌else◌, not, Option, Some, None, is_some}
 use Rattle.std.specs.Str.{chars, IsUtf8}
 use Rattle.std.proofs.lemmas.Bool.{cases_Bool}
-use Rattle.std.proofs.lemmas.Str.{IsUtf8-nil}
 use Rattle.counted_io.specs.Streams.{Reader}
 use Rattle.counted_io.proofs.Streams.{read-none, read-more, failed-more}
 use Rattle.properties_format.specs.Encoding.{Encoding, windows_1252}
@@ -22,7 +21,7 @@ use Rattle.properties_format.specs.Reading.ReaderSteps.{Gives}
 use Rattle.properties_text.specs.Escaping.{holds_backslash}
 use Rattle.properties_text.proofs.Texts.Resolving.{plain-closed}
 use Rattle.properties_lines.specs.LineReader as finder
-use Rattle.properties_lines.specs.LineReader.{Finder, Finds, Passes, PassesSome, PassesAll, IsLazy, HasRightLineFlags, ReleasesOrKeeps, FindsError, found_line}
+use Rattle.properties_lines.specs.LineReader.{Finder, Finds, Passes, PassesSome, PassesAll, IsLazy, HasRightLineFlags, FindsError, found_line}
 use Rattle.properties_lines.specs.LogicalLine.{IsAsciiLine, KeepsText, IsNotContinued, OpensJoin, text_with, is_continued}
 use Rattle.properties_lines.specs.LineJoiner.{line_text, join_of, joiner_of, Pends, Closes, AddsOpen, AddsLast, EndJoin, IsLazyJoin, IsLazyItems, GoesOn, JoinsAll, JoinError, JoinsNone, JoinsOn, Joining, Comes, Joins, JoinsGroup, JoinsLine, JoinsNext, JoinsError, IsWindows1252, JoinsBytes, JoinsText, ReadsWhole, ReadsNone, ReadsRest, ReadsContinued, ReadsJoined}
 use Rattle.properties_lines.specs.declared.error.LineError.TheVariants as why
@@ -337,18 +336,14 @@ known-plain f bytes has_backslash h line told k = rw line (sym (h 0 0).backslash
 abbrev join_line : ℕ → List ℕ → format.Line
 join_line number text = record { number = number; text = without_open_backslash text }
 
--- the items to come, by the entries where no join is open
-items-pending : (s : ReaderState) (d : List ℕ) (ending : InputEnd) → items_to_come s d ending ≡ entries_pending None s d ending
-items-pending = items_to_come-pending
-
 -- a line that is a logical line by itself
 alone-comes : {s t : ReaderState} {r : List ℕ} (l : format.Line) → Passes s r (l ∷ []) t → IsNotContinued l.text → Comes s r l t
 alone-comes {s} l (Passes.going_on f reads) (inl c) = Comes.going_on f (logical-comment_line (on-start s) reads c)
 alone-comes {s} l (Passes.going_on f reads) (inr c) = Comes.going_on f (logical-closed (on-start s) reads c)
 alone-comes {s} {t} {r} l (Passes.at_last f gives) (inl c) =
-    Comes.at_last f (items-pending s r end ∙ pending-comment_line gives c ∙ ap (followed l.number (outcome_of l.text)) (pending-done t [] end f))
+    Comes.at_last f (items_to_come-pending s r end ∙ pending-comment_line gives c ∙ ap (followed l.number (outcome_of l.text)) (pending-done t [] end f))
 alone-comes {s} {t} {r} l (Passes.at_last f gives) (inr c) =
-    Comes.at_last f (items-pending s r end ∙ pending-closed gives c ∙ ap (followed l.number (outcome_of l.text)) (pending-done t [] end f))
+    Comes.at_last f (items_to_come-pending s r end ∙ pending-closed gives c ∙ ap (followed l.number (outcome_of l.text)) (pending-done t [] end f))
 
 -- an open line and those that it is joined to
 join-comes : {s t u : ReaderState} {r q text : List ℕ} (l : format.Line) → Passes s r (l ∷ []) t → is_comment_line l.text ≡ false → is_open l.text ≡ true
@@ -363,7 +358,7 @@ join-comes {s} {t} {u} {r} {q} l (Passes.at_last f gives) c o (Closes.at_last e 
     Comes.at_last e (
     ap (λ v. items_to_come s (r ++ v) end) none
     ∙ ap (λ v. items_to_come s v end) (append-nil r)
-    ∙ items-pending s r end
+    ∙ items_to_come-pending s r end
     ∙ pending-open gives c o
     ∙ ap (λ v. entries_pending (Some (join_line l.number l.text)) t v end) (sym none)
     ∙ m l.number
@@ -421,7 +416,7 @@ join-group {s} {t} {u} {r} {q} {text} l p c o h i = (
 
 lazy-items : {R : Type 0} {from to : R} {r : List ℕ} (s : ReaderState) → IsLazy s from r to → IsLazyItems s from r to
 lazy-items s (inl h) = inl h
-lazy-items s (inr h) = inr (items-pending s [] more ∙ pending-lazy None s h)
+lazy-items s (inr h) = inr (items_to_come-pending s [] more ∙ pending-lazy None s h)
 
 module _ {R : Type 0} {reader : Reader R} where
   -- the line is a logical line
@@ -458,7 +453,7 @@ module _ {R : Type 0} {reader : Reader R} where
       by-passes e k (Passes.at_last f gives) none = let i = idle f in inl (i.1 ∙ k, ap₂ (λ v w. v ++ w) e i.0)
 
       by-find : IsLazy s from n.bytes to → IsLazyItems s from (n.bytes ++ q) next
-      by-find (inr none) = inr (items-pending s [] more ∙ pending-lazy None s none)
+      by-find (inr none) = inr (items_to_come-pending s [] more ∙ pending-lazy None s none)
       by-find (inl h) = elim lazy [
         | inl k ↦ inl (k.0 ∙ h.0, ap₂ (λ v w. v ++ w) h.1 k.1)
         | inr k ↦ by-passes h.1 h.0 n.passes k
@@ -491,8 +486,8 @@ module _ {R : Type 0} {reader : Reader R} where
     number = s.passed + 1;
     failed = f.failed;
     is = f.is;
-    items = items-pending s f.bytes fault ∙ pending-broken None s f.bytes (read_fault (s.passed + 1)) f.natural f.last;
-    lazy = items-pending s [] more ∙ pending-lazy None s f.lazy;
+    items = items_to_come-pending s f.bytes fault ∙ pending-broken None s f.bytes (read_fault (s.passed + 1)) f.natural f.last;
+    lazy = items_to_come-pending s [] more ∙ pending-lazy None s f.lazy;
   })
   joins-refused {s} {from = from} (inr (inl f)) = rw f.untouched (inr (inl (record {
     bytes = [];
@@ -527,7 +522,7 @@ module _ {R : Type 0} {reader : Reader R} where
           ap (λ v. items_to_come s (v ++ []) more) (sym e) ∙ (on-open (on-start s) reads c o).items [] more ∙ f.lazy number
 
       none : IsLazy s from n.bytes to → items_to_come s [] more ≡ []
-      none (inr h) = items-pending s [] more ∙ pending-lazy None s h
+      none (inr h) = items_to_come-pending s [] more ∙ pending-lazy None s h
       none (inl h) = on-more h.1 n.passes
   joins-broken number mid n c o g (inr (inl f)) =
       inr (inl (record {
@@ -548,11 +543,11 @@ module _ {R : Type 0} {reader : Reader R} where
 -- ---- the rest of a logical line
 
 -- what is kept of the text of a line
-kept-text : (e : Encoding) (bytes text : List ℕ) (is_kept : Bool) → KeepsText e bytes is_kept text → chars (if is_kept then text else bytes) ≡ decoded_line e bytes
+pub kept-text : (e : Encoding) (bytes text : List ℕ) (is_kept : Bool) → KeepsText e bytes is_kept text → chars (if is_kept then text else bytes) ≡ decoded_line e bytes
 kept-text e bytes text true h = h
 kept-text e bytes text false h = h.1
 
-kept-utf8 : (e : Encoding) (bytes text : List ℕ) (is_kept : Bool) → KeepsText e bytes is_kept text → is_kept ≡ false → IsUtf8 bytes
+pub kept-utf8 : (e : Encoding) (bytes text : List ℕ) (is_kept : Bool) → KeepsText e bytes is_kept text → is_kept ≡ false → IsUtf8 bytes
 kept-utf8 e bytes text true h k = absurd (cc)
 kept-utf8 e bytes text false h k = h.0
 
@@ -679,15 +674,6 @@ module _ {R : Type 0} {reader : Reader R} where
     kept = h.failed.error;
     why = joins-refused h.why;
   })
-
-  -- the one before stays, or is let go
-  pub none-utf8 : {from to : R} (before after : Finder) → Finds reader before from false after to → IsUtf8 before.line → IsUtf8 after.line
-  none-utf8 before after (inl h) u = rw h.1 u
-  none-utf8 before after (inr h) u = by-line h.failed.line
-    where
-      by-line : ReleasesOrKeeps before after → IsUtf8 after.line
-      by-line (inl e) = subst (λ v. IsUtf8 v) (sym e) u
-      by-line (inr e) = subst (λ v. IsUtf8 v) (sym e) IsUtf8-nil
 
   -- the line is borrowed
   pub joins-borrowed : {from to : R} (old : Joining) (found : Finder) (line : LogicalLine) (joined : List ℕ) (is_joined : Bool)

@@ -17,8 +17,8 @@ use Rattle.properties_format.proofs.ItemsToCome.Steps.{lines-start, lines-on, li
 use Rattle.properties_text.specs.Encoding.{encoding_of}
 use Rattle.properties_lines.specs.Scanner.{is_decided, after_cr, scanner_state, bytes_of, Fits, Scans, KeepsEncoding}
 use Rattle.properties_lines.specs.LineReader as reading
-use Rattle.properties_lines.specs.LineReader.{Finder, found_line, reads_left, lines_left, awaits_front, HasRightLineFlags, HoldsLine, HoldsNone, ScansHeld, ReleasesOrKeeps, IsLazy}
-use Rattle.properties_lines.specs.LineReader.{Along, IsAtEnd, ReadsBytes, HasFailedFor, IsReadError, Finds, FindsNext, FindsFault, FindsTooMany, FindsNoRoom, FindsNone, FindsError}
+use Rattle.properties_lines.specs.LineReader.{Finder, found_line, reads_left, HoldsLine, HoldsNone, ScansHeld, ReleasesOrKeeps}
+use Rattle.properties_lines.specs.LineReader.{Along, IsAtEnd, ReadsBytes, HasFailedFor, IsReadError, Finds, FindsNext, FindsError}
 use Rattle.properties_lines.specs.declared.error.LineError.{LineError}
 use Rattle.properties_lines.specs.declared.error.LineError.TheVariants as why
 use Rattle.properties_lines.specs.declared.scanner.Scan.{Scan}

@@ -118,7 +118,7 @@ record EndsAs (e : Encoding) (after : List ℕ) (r : Tail e after) : Type 0 wher
   pub whole : EndsWhole e (Some by) (drop (feed_at r) after)
   pub within : feed_at r ≤ length after
 
-short-feed : (e : Encoding) (d : List ℕ) → length d < unit_size e → begins_with_lf (units e d) ≡ false
+pub short-feed : (e : Encoding) (d : List ℕ) → length d < unit_size e → begins_with_lf (units e d) ≡ false
 short-feed windows_1252 [] h = refl
 short-feed windows_1252 (b ∷ d) h = absurd (omega arith)
 short-feed utf_8 [] h = refl

@@ -3,7 +3,7 @@ use Rattle.std.specs.Prelude.{◌≡◌, ◌⊎◌, ◌+◌, ◌-◌, ◌^◌, �
 use Rattle.std.specs.declared.io.Error.{Error}
 use Rattle.counted_io.specs.Streams.{Reader, HasRead, HasFailed}
 use Rattle.properties_format.specs.Lines as format
-use Rattle.properties_format.specs.Lines.{InputEnd, end, fault, more}
+use Rattle.properties_format.specs.Lines.{end, fault, more}
 use Rattle.properties_format.specs.Pieces.{characters}
 use Rattle.properties_format.specs.Reading.Encoding.{pieces_of}
 use Rattle.properties_format.specs.Entries.{read_fault}

@@ -18,11 +18,6 @@ pub no-controls : (block : List ℕ) (marks : List Bool) (n : ℕ) → marks ≡
 no-controls block marks n is le =
     All-weaker (λ b. is_control b ≡ false) (λ b. space ≤ b) (λ b fails. ltb-false b space fails) (take n block) (clear-before is_control block marks n is le)
 
--- The bytes of a block without control characters.
-pub all-no_controls : (block : List ℕ) (marks : List Bool) → length block ≡ 16 → marks ≡ map is_control block → 16 ≤ clear_front marks → All (λ b. space ≤ b) block
-all-no_controls block marks long is clear =
-    subst (λ l. All (λ b. space ≤ b) l) (take_all 16 block (omega (arith, long))) (no-controls block marks 16 is clear)
-
 -- The bytes before the first one that isn't ASCII.
 pub ascii-before : (block : List ℕ) (marks : List Bool) (n : ℕ) → marks ≡ map is_past_ascii block → n ≤ clear_front marks → All (λ b. b < 0x80) (take n block)
 ascii-before block marks n is le =

@@ -10,7 +10,4 @@ pub mod BlankFronts
 pub mod AsciiFronts
 pub mod Latin1
 pub mod UnitBlocks
-pub mod EncodedFronts
-pub mod Narrow
-pub mod NarrowFronts
 pub mod UndecodedTexts

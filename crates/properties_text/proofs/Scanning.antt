@@ -2,11 +2,11 @@
 use Rattle.std.proofs.Common.{◌≡◌, ℕ, ◌<◌, ◌≤◌, ◌+◌, ◌-◌, ◌==◌, Bool, true, false, List, [], ◌∷◌, ◌++◌, length, take, drop, get_or, refl, ap, sym, ◌∙◌, append_assoc, append-nil, subst, inl, inr, arith}
 use Rattle.std.proofs.lemmas.Bool.{cond-true, cond-false, cases_lt}
 use Rattle.std.proofs.lemmas.List.{at_drop_more, at_drop_all, take_more, take_all, drop_more, drop_all}
-use Rattle.properties_format.specs.Text.{backslash, is_blank, is_separator, without_leading_blanks}
+use Rattle.properties_format.specs.Text.{backslash, is_blank, without_leading_blanks}
 use Rattle.properties_format.specs.Split.{ends}
-use Rattle.properties_format.specs.Reading.Split.{without_trailing_blanks, unless_last_blank, Cut, with_front, ends_key, cut_key, past_separator}
+use Rattle.properties_format.specs.Reading.Split.{without_trailing_blanks, unless_last_blank, Cut, with_front, ends_key, cut_key}
 use Rattle.properties_format.proofs.Split.Blanks.{without_trailing_blanks-only}
-use Rattle.properties_format.proofs.Split.Keys.{with_text, ends_here, cut_key-ends}
+use Rattle.properties_format.proofs.Split.Keys.{with_text}
 
 -- ---- blanks at the front
 
@@ -21,10 +21,6 @@ leading-stop xs i h b = at_drop_more without_leading_blanks xs i 0 h ∙ cond-fa
 -- The end of the text ends the scan.
 pub leading-end : (xs : List ℕ) (i : ℕ) → length xs ≤ i → without_leading_blanks (drop i xs) ≡ drop i xs
 leading-end xs i h = at_drop_all without_leading_blanks xs i h ∙ sym (drop_all i xs h)
-
--- The text is blanks up to its end.
-pub leading-all : (xs : List ℕ) (i : ℕ) → length xs ≤ i → without_leading_blanks (drop i xs) ≡ without_leading_blanks xs → drop (length xs) xs ≡ without_leading_blanks xs
-leading-all xs i h e = drop_all (length xs) xs (omega arith) ∙ sym (drop_all i xs h) ∙ sym (leading-end xs i h) ∙ e
 
 -- ---- blanks at the end
 
@@ -92,38 +88,3 @@ cut-pair xs i h e k =
 pub cut-plain : (xs : List ℕ) (i : ℕ) → i < length xs → (get_or xs i 0 == backslash) ≡ false → ends_key (get_or xs i 0) ≡ false
     → IsCutSoFar xs i false → IsCutSoFar xs (i + 1) false
 cut-plain xs i h b k = cut-more xs i false false h (λ cs. cond-false (get_or xs i 0 == backslash) _ _ b ∙ cond-false (ends_key (get_or xs i 0)) _ _ k)
-
--- The text is divided at this index.
-pub record IsCutAt (xs : List ℕ) (i : ℕ) : Type 0 where
-  pub key : (cut_key xs false).key ≡ take i xs
-  pub rest : (cut_key xs false).rest ≡ drop i xs
-
-pub cut-stop : (xs : List ℕ) (i : ℕ) → ends_here (drop i xs) ≡ true → IsCutSoFar xs i false → IsCutAt xs i
-cut-stop xs i e k =
-    let m = k ∙ ap (with_text (take i xs)) (cut_key-ends (drop i xs) e) in
-    record { key = ap (λ v. v.key) m ∙ append-nil (take i xs); rest = ap (λ v. v.rest) m }
-
-pub cut-here : (xs : List ℕ) (i : ℕ) → i < length xs → ends_key (get_or xs i 0) ≡ true → IsCutSoFar xs i false → IsCutAt xs i
-cut-here xs i h e = cut-stop xs i (ap ends_here (drop_more xs i 0 h) ∙ e)
-
-pub cut-end : (xs : List ℕ) (i : ℕ) (is_escaped : Bool) → length xs ≤ i → IsCutSoFar xs i is_escaped → IsCutAt xs i
-cut-end xs i is_escaped h k =
-    let m = k ∙ ap (λ v. with_text (take i xs) (cut_key v is_escaped)) (drop_all i xs h) in
-    record { key = ap (λ v. v.key) m ∙ append-nil (take i xs); rest = ap (λ v. v.rest) m ∙ sym (drop_all i xs h) }
-
-pub cut-whole : (xs : List ℕ) (i : ℕ) → length xs ≤ i → IsCutSoFar xs i false → IsCutAt xs (length xs)
-cut-whole xs i h k =
-    let p = cut-end xs i false h k in
-    let same : length xs ≤ length xs = omega arith in
-    record { key = p.key ∙ take_all i xs h ∙ sym (take_all (length xs) xs same); rest = p.rest ∙ drop_all i xs h ∙ sym (drop_all (length xs) xs same) }
-
--- ---- separators
-
-pub separator-there : (xs : List ℕ) (i : ℕ) → i < length xs → is_separator (get_or xs i 0) ≡ true → past_separator (drop i xs) ≡ without_leading_blanks (drop (i + 1) xs)
-separator-there xs i h s = at_drop_more past_separator xs i 0 h ∙ cond-true (is_separator (get_or xs i 0)) _ _ s
-
-pub no_separator : (xs : List ℕ) (i : ℕ) → i < length xs → is_separator (get_or xs i 0) ≡ false → past_separator (drop i xs) ≡ drop i xs
-no_separator xs i h s = at_drop_more past_separator xs i 0 h ∙ cond-false (is_separator (get_or xs i 0)) _ _ s ∙ sym (drop_more xs i 0 h)
-
-pub separator-end : (xs : List ℕ) (i : ℕ) → length xs ≤ i → past_separator (drop i xs) ≡ drop i xs
-separator-end xs i h = at_drop_all past_separator xs i h ∙ sym (drop_all i xs h)

@@ -1,5 +1,5 @@
 -- Fronts of bytes that are valid text without being decoded.
-use Rattle.std.proofs.Common.{◌≡◌, ◌↔◌, ◌<◌, ◌≤◌, arith, length-append, ℕ, true, List, [], ◌∷◌, ◌++◌, length, take, drop, ◌-◌, length-drop, refl, sym, ap, ◌∙◌, append-nil, append_assoc}
+use Rattle.std.proofs.Common.{◌≡◌, ◌↔◌, ◌≤◌, ℕ, true, List, [], ◌∷◌, ◌++◌, length, take, drop, ◌-◌, length-drop, refl, sym, ap, ◌∙◌, append-nil, append_assoc}
 use Rattle.std.specs.Prelude.{Result, Ok, Err, MatchResult, OnErr, IsSome}
 use Rattle.std.specs.Result.{result_ok}
 use Rattle.std.specs.Str.{IsUtf8, chars}
@@ -8,7 +8,7 @@ use Rattle.std.specs.Char.{IsScalar, encode_utf8}
 use Rattle.std.proofs.Math.Seq.{take-length}
 use Rattle.std.proofs.lemmas.Bool.{and_from}
 use Rattle.std.proofs.lemmas.List.{nil_from_length}
-use Rattle.std.proofs.lemmas.Str.{chars-append, chars-encodes, length-encode, len_utf8_bounds, IsUtf8-from_ascii}
+use Rattle.std.proofs.lemmas.Str.{chars-append, chars-encodes, IsUtf8-from_ascii}
 use Rattle.properties_format.specs.Pieces.{characters}
 use Rattle.properties_format.specs.Encoding.{Encoding, windows_1252, utf_8, utf_16le, utf_16be}
 use Rattle.properties_format.specs.Reading.Encoding.{first_piece, pieces_of}
@@ -76,12 +76,6 @@ chars-more old new c u h e =
 -- What is written byte by byte after a front.
 pub put-more : (front xs old new : List ℕ) (b : ℕ) → new ≡ old ++ b ∷ [] → old ≡ front ++ xs → new ≡ front ++ (xs ++ b ∷ [])
 put-more front xs old new b h k = h ∙ ap (λ v. v ++ b ∷ []) k ∙ append_assoc front xs (b ∷ [])
-
--- What follows a character is shorter than the text.
-pub past-shorter : (bs rest : List ℕ) (c : ℕ) → bs ≡ encode_utf8 c ++ rest → length rest < length bs
-past-shorter bs rest c h =
-    let one : 1 ≤ length (encode_utf8 c) = rw (length-encode c) (len_utf8_bounds c).0 in
-    rw h (omega (arith, length-append (encode_utf8 c) rest, one))
 
 -- The first piece is decoded and appended to a text.
 pub decoded-one : (e : Encoding) (old new all : List ℕ) (b : ℕ) (d : List ℕ) (c n : ℕ) → IsUtf8 old → IsScalar c → new ≡ old ++ encode_utf8 c

@@ -1,29 +1,13 @@
 -- Bytes of windows-1252 and their characters, one by one.
-use Rattle.std.proofs.Common.{◌≡◌, ℕ, ◌+◌, ◌<◌, ◌&&◌, Bool, true, eqb, leb, List, [], ◌∷◌, ◌++◌, map, take, set, get_or, length, append_assoc, ap₂, Some, refl, sym, ap, subst, ◌∙◌, arith}
+use Rattle.std.proofs.Common.{◌≡◌, ℕ, ◌<◌, ◌&&◌, Bool, true, eqb, leb, List, [], take, get_or, length, ap₂, refl, subst, ◌∙◌, arith}
 use Rattle.std.specs.Char.{encode_utf8}
 use Rattle.std.proofs.Math.Utf8.{scalar}
 use Rattle.std.proofs.lemmas.Bool.{and_parts, agree_below_at, eqb-true, leb-true}
-use Rattle.std.proofs.lemmas.List.{take_more_set, map-append}
-use Rattle.properties_text.specs.Encoding.{EncodesFront}
-use Rattle.properties_format.specs.Windows1252.{windows_1252_byte, windows_1252_character}
+use Rattle.properties_format.specs.Windows1252.{windows_1252_character}
 use Rattle.properties_text.specs.Decoding.{IsTextOfByte}
 use Rattle.properties_text.specs.declared.encoding.windows_1252.ByteText.{ByteText}
 use Rattle.properties_text.specs.declared.encoding.windows_1252.texts.TheConstants.{TEXTS}
 use Rattle.byte_blocks.proofs.Rows.{starts, starts-take}
-
--- One more character at the front of a text is encoded.
-pub encodes-more : (text run rest more : List ℕ) (at c b : ℕ) → at < length run → EncodesFront text (take at run) rest → rest ≡ c ∷ more → windows_1252_byte c ≡ Some b
-    → EncodesFront text (take (at + 1) (set run at b)) more
-encodes-more text run rest more at c b h front e k =
-    let xs = front.0 in
-    let byte : map windows_1252_byte (c ∷ []) ≡ map Some (b ∷ []) = ap (λ o. o ∷ []) k in (
-      xs ++ c ∷ [],
-      front.1 ∙ ap (λ v. xs ++ v) e ∙ sym (append_assoc xs (c ∷ []) more),
-      map-append windows_1252_byte xs (c ∷ [])
-          ∙ ap₂ (λ x y. x ++ y) front.2 byte
-          ∙ sym (map-append Some (take at run) (b ∷ []))
-          ∙ ap (map Some) (sym (take_more_set run at b h)),
-    )
 
 -- ---- each byte in UTF-8
 

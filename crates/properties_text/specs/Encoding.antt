@@ -1,6 +1,4 @@
 -- The format's encodings that this crate's own encodings correspond to.
-use Rattle.std.specs.Prelude.{◌≡◌, ℕ, List, ◌++◌, map, Some}
-use Rattle.properties_format.specs.Windows1252.{windows_1252_byte}
 use Rattle.properties_format.specs.Encoding as format
 use Rattle.properties_text.specs.declared.encoding.Encoding.{Encoding}
 use Rattle.properties_text.specs.declared.encoding.Encoding.TheVariants.{WINDOWS_1252, UTF_8, UTF_16LE, UTF_16BE}
@@ -16,7 +14,3 @@ encoding_of UTF_16BE = format.utf_16be
 abbrev pub output_of : OutputEncoding → format.Encoding
 output_of Windows1252 = format.windows_1252
 output_of Utf8 = format.utf_8
-
--- The text begins with characters that have these bytes in windows-1252, one each, and the rest follows.
-abbrev pub EncodesFront : List ℕ → List ℕ → List ℕ → Type 0
-EncodesFront text bytes rest = (front : List ℕ) × (text ≡ front ++ rest) × (map windows_1252_byte front ≡ map Some bytes)

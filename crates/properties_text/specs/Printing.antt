@@ -1,15 +1,15 @@
 -- What is appended when a text is printed, by its place in the line.
-use Rattle.std.specs.Prelude.{◌≡◌, ℕ, ◌*◌, ◌≤◌, nat_lt, ◌==◌, length, take, Bool, false, if◌then◌else◌, List, [], ◌∷◌, ◌++◌, Option, Some, None, Result, OnOk}
+use Rattle.std.specs.Prelude.{◌≡◌, ℕ, nat_lt, ◌==◌, ◌&&◌, not, Bool, true, false, if◌then◌else◌, List, [], ◌∷◌, ◌++◌, Option, Some, None, Result, OnOk}
 use Rattle.std.specs.Str.{chars}
 use Rattle.properties_format.specs.Printing as format
 use Rattle.properties_format.specs.Text.{tab, line_feed, form_feed, space, backslash}
 use Rattle.properties_format.specs.Encoding.{Encoding}
 use Rattle.properties_format.specs.Valued.{printed_inside}
 use Rattle.properties_text.specs.Encoding.{output_of}
-use Rattle.properties_text.specs.declared.encoding.encode.OutputEncoding.TheVariants.{Windows1252}
+use Rattle.properties_text.specs.declared.encoding.encode.OutputEncoding.{OutputEncoding}
+use Rattle.properties_text.specs.declared.encoding.encode.OutputEncoding.TheVariants.{Windows1252, Utf8}
 use Rattle.properties_text.specs.declared.print.Repertoire.{Repertoire}
 use Rattle.properties_text.specs.declared.print.Place.{Place}
-use Rattle.properties_text.specs.declared.print.bytes.Printed.{Printed}
 use Rattle.properties_text.specs.declared.print.Place.TheVariants.{KeyOrValue, Comment, Prefix}
 
 abbrev pub place_of : Place → format.Place
@@ -24,6 +24,14 @@ AppendsOnOk old bytes result new = OnOk result (new ≡ old ++ bytes)
 -- the repertoire of windows-1252, with ASCII-only output off
 abbrev pub all_of_windows_1252 : Repertoire
 all_of_windows_1252 = record { encoding = Windows1252; ascii_only = false }
+
+abbrev pub is_windows_1252 : OutputEncoding → Bool
+is_windows_1252 Windows1252 = true
+is_windows_1252 Utf8 = false
+
+-- whether a repertoire is that one
+abbrev pub is_all_of_windows_1252 : Repertoire → Bool
+is_all_of_windows_1252 r = is_windows_1252 r.encoding && not r.ascii_only
 
 -- the bytes of a character, of a text and of a key, in a repertoire
 abbrev pub character_bytes : Repertoire → Place → ℕ → List ℕ
@@ -67,12 +75,6 @@ last_of b =
 abbrev pub with_backslashes : List ℕ → List ℕ
 with_backslashes [] = []
 with_backslashes (b ∷ bs) = (if format.is_special b then backslash ∷ b ∷ [] else b ∷ []) ++ with_backslashes bs
-
--- This many bytes were printed, and the output begins with what is printed for them.
-pub record ArePrinted (bytes : List ℕ) (printed : Printed) (out : List ℕ) : Type 0 where
-  pub read : printed.read ≤ length bytes
-  pub written : printed.written ≤ 2 * printed.read
-  pub same : take printed.written out ≡ printed_bytes (take printed.read bytes)
 
 -- The text of these bytes, in a key or a value, can be printed byte by byte.
 abbrev pub PrintsByteByByte : Repertoire → List ℕ → Type 0

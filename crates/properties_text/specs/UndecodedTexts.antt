@@ -15,21 +15,22 @@ use Rattle.properties_text.specs.declared.encoding.Encoding.TheVariants.{WINDOWS
 use Rattle.properties_text.specs.declared.escape.UnescapeError.{UnescapeError}
 use Rattle.properties_text.specs.declared.escape.UnescapeError.TheVariants as error
 use Rattle.properties_text.specs.declared.print.Place.TheVariants.{KeyOrValue}
-use Rattle.properties_text.specs.declared.print.bytes.Printed.{Printed}
+use Rattle.properties_text.specs.declared.print.Repertoire.{Repertoire}
+use Rattle.properties_text.specs.declared.print.undecoded.Printed.{Printed}
 use Rattle.properties_text.specs.declared.print.undecoded.UndecodedPair.{UndecodedPair}
 
 -- ---- A key, a value, and a pair of them.
 
--- The bytes mean a text, and it was appended as it is printed. The first key of a file is printed so that it isn't taken for a byte order mark.
-pub record IsAppended (first : Bool) (old bytes new : List ℕ) : Type 0 where
+-- The bytes mean a text, and it was appended as a repertoire prints it. The first key of a file is printed so that it isn't taken for a byte order mark.
+pub record IsAppended (r : Repertoire) (first : Bool) (old bytes new : List ℕ) : Type 0 where
   pub meant : List ℕ
   pub meaning : Means (text_of WINDOWS_1252 bytes) meant
-  pub printed : new ≡ old ++ key_bytes all_of_windows_1252 first meant
+  pub printed : new ≡ old ++ key_bytes r first meant
 
 -- The result of printing a text, and the line after it: the text was appended; or it is malformed, and the error says how; or memory ran out.
-abbrev pub PrintsUndecoded : Bool → List ℕ → List ℕ → Result Unit UnescapeError → List ℕ → Type 0
-PrintsUndecoded first old bytes (Ok done) new = IsAppended first old bytes new
-PrintsUndecoded first old bytes (Err e) new = IsRefused (text_of WINDOWS_1252 bytes) e
+abbrev pub PrintsUndecoded : Repertoire → Bool → List ℕ → List ℕ → Result Unit UnescapeError → List ℕ → Type 0
+PrintsUndecoded r first old bytes (Ok done) new = IsAppended r first old bytes new
+PrintsUndecoded r first old bytes (Err e) new = IsRefused (text_of WINDOWS_1252 bytes) e
 
 -- the line of a pair
 abbrev pub undecoded_line : UndecodedPair → List ℕ
@@ -47,12 +48,12 @@ pub record IsUndecodedPair (p : UndecodedPair) : Type 0 where
 abbrev pub IsNoPair : List ℕ → Type 0
 IsNoPair line = IsSplit line blank ⊎ ((text : List ℕ) × IsSplit line (comment text))
 
--- The line means a pair, and the pair was appended as it is printed.
-pub record IsPairAppended (first : Bool) (old line separator ending new : List ℕ) : Type 0 where
+-- The line means a pair, and the pair was appended as a repertoire prints it.
+pub record IsPairAppended (r : Repertoire) (first : Bool) (old line separator ending new : List ℕ) : Type 0 where
   pub key : List ℕ
   pub value : List ℕ
   pub meaning : MeansPair (text_of WINDOWS_1252 line) key value
-  pub printed : new ≡ old ++ (key_bytes all_of_windows_1252 first key ++ (separator ++ (text_bytes all_of_windows_1252 KeyOrValue value ++ ending)))
+  pub printed : new ≡ old ++ (key_bytes r first key ++ (separator ++ (text_bytes r KeyOrValue value ++ ending)))
 
 -- the line is malformed, and the error says how; or memory ran out
 abbrev pub IsPairRefused : List ℕ → UnescapeError → Type 0
@@ -60,9 +61,9 @@ IsPairRefused line (error.Malformed malformed) = IsOutcome (text_of WINDOWS_1252
 IsPairRefused line error.Memory = Unit
 
 -- the result of printing a pair, and the line after it
-abbrev pub PrintsPair : Bool → List ℕ → UndecodedPair → List ℕ → List ℕ → Result Unit UnescapeError → List ℕ → Type 0
-PrintsPair first old p separator ending (Ok done) new = IsPairAppended first old (undecoded_line p) separator ending new
-PrintsPair first old p separator ending (Err e) new = IsPairRefused (undecoded_line p) e
+abbrev pub PrintsPair : Repertoire → Bool → List ℕ → UndecodedPair → List ℕ → List ℕ → Result Unit UnescapeError → List ℕ → Type 0
+PrintsPair r first old p separator ending (Ok done) new = IsPairAppended r first old (undecoded_line p) separator ending new
+PrintsPair r first old p separator ending (Err e) new = IsPairRefused (undecoded_line p) e
 
 -- The bytes that were there are kept, and others may follow them.
 abbrev pub IsKept : List ℕ → List ℕ → Type 0

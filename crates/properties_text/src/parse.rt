@@ -29,10 +29,6 @@ pub enum ParsedSpans {
     KVPair(Span, Span),
 }
 
-// Lines of at least this many bytes are parsed out of line, and their blanks are skipped block by block. For a shorter
-// line, a call would cost as much as parsing it.
-const LONG: usize = 128;
-
 /// Returns the positions of a line's parts, or `None` if the line is all blanks.
 ///
 /// CR and LF have no special meaning here.
@@ -55,56 +51,33 @@ pub fn parse_bytes(line: &[u8]) -> Option<ParsedSpans>
     ensures places { AreInPlace line.now result }
     ensures text { IsUtf8 line.now → AreFoundInText line.now result }
 {
-    if line.len() < LONG {
-        parse_by::<false>(line)
-    } else {
-        parse_long(line)
-    }
-}
-
-#[inline(never)]
-fn parse_long(line: &[u8]) -> Option<ParsedSpans>
-    ensures slices { IsSplit line.now (spanned line.now result) }
-    ensures places { AreInPlace line.now result }
-    ensures text { IsUtf8 line.now → AreFoundInText line.now result }
-{
-    parse_by::<true>(line)
-}
-
-// If there may be many blanks, they are skipped block by block.
-#[inline(always)]
-fn parse_by<const MANY: bool>(bytes: &[u8]) -> Option<ParsedSpans>
-    ensures slices { IsSplit bytes.now (spanned bytes.now result) }
-    ensures places { AreInPlace bytes.now result }
-    ensures text { IsUtf8 bytes.now → AreFoundInText bytes.now result }
-{
-    let start = past_blanks::<MANY>(bytes, 0);
-    let first = *bytes.get(start)?;
+    let start = past_blanks(line, 0);
+    let first = *line.get(start)?;
     if is_comment_sign(char::from(first)) {
-        return Some(ParsedSpans::Comment(trimmed_span::<MANY>(bytes, start + 1)));
+        return Some(ParsedSpans::Comment(trimmed_span(line, start + 1)));
     }
-    let key_end = start + key_length(&bytes[start..]);
-    let value_start = value_start::<MANY>(bytes, key_end);
+    let key_end = start + key_length(&line[start..]);
+    let value_start = value_start(line, key_end);
     let key = Span {
         start,
         end: key_end,
     };
     let value = Span {
         start: value_start,
-        end: bytes.len(),
+        end: line.len(),
     };
     Some(ParsedSpans::KVPair(key, value))
 }
 
 // The position of the bytes from `from` on, without the blanks around them.
-fn trimmed_span<const MANY: bool>(line: &[u8], from: usize) -> Span
+fn trimmed_span(line: &[u8], from: usize) -> Span
     requires { from ≤ length line.now }
     ensures ordered { result.start ≤ result.end }
     ensures within { result.end ≤ length line.now }
     ensures start { drop result.start line.now ≡ without_leading_blanks (drop from line.now) }
     ensures text { bytes_in line.now result ≡ trimmed (drop from line.now) }
 {
-    let start = past_blanks::<MANY>(line, from);
+    let start = past_blanks(line, from);
     let end = start + length_without_trailing_blanks(&line[start..]);
     Span { start, end }
 }
@@ -124,21 +97,18 @@ pub fn leading_blanks(text: &[u8]) -> usize
     ensures within { result ≤ length text.now }
     ensures rest { drop result text.now ≡ without_leading_blanks text.now }
 {
-    past_blanks::<true>(text, 0)
+    past_blanks(text, 0)
 }
 
 // The index of the first byte from `from` on that isn't a blank. Usually there are no blanks or one, which takes no
 // call.
 #[inline(always)]
-fn past_blanks<const MANY: bool>(text: &[u8], from: usize) -> usize
+fn past_blanks(text: &[u8], from: usize) -> usize
     requires { from ≤ length text.now }
     ensures after { from ≤ result }
     ensures within { result ≤ length text.now }
     ensures rest { drop result text.now ≡ without_leading_blanks (drop from text.now) }
 {
-    if !MANY {
-        return past_few_blanks(text, from);
-    }
     if !is_blank_at(text, from) {
         return from;
     }
@@ -234,15 +204,15 @@ fn key_front(text: &[u8]) -> usize
 
 // The index at which the value starts, given where the key ends.
 #[inline(always)]
-fn value_start<const MANY: bool>(line: &[u8], key_end: usize) -> usize
+fn value_start(line: &[u8], key_end: usize) -> usize
     requires { key_end ≤ length line.now }
     ensures after { key_end ≤ result }
     ensures within { result ≤ length line.now }
     ensures rest { drop result line.now ≡ past_separator (without_leading_blanks (drop key_end line.now)) }
 {
-    let start = past_blanks::<MANY>(line, key_end);
+    let start = past_blanks(line, key_end);
     match line.get(start) {
-        Some(byte) if is_separator(char::from(*byte)) => past_blanks::<MANY>(line, start + 1),
+        Some(byte) if is_separator(char::from(*byte)) => past_blanks(line, start + 1),
         _ => start,
     }
 }

@@ -9,26 +9,21 @@ ghost use Rattle.properties_format.specs.Valued.{printed_inside, printed_first, 
 ghost use Rattle.properties_text.specs.Encoding.{output_of};
 ghost use Rattle.properties_text.specs.declared.encoding.encode.OutputEncoding.TheVariants.{Windows1252};
 ghost use Rattle.properties_text.specs.declared.print.Place.TheVariants.{KeyOrValue};
-ghost use Rattle.properties_text.specs.Printing.{all_of_windows_1252, AppendsOnOk, character_bytes, text_bytes, key_bytes, printed_byte, held_text};
+ghost use Rattle.properties_text.specs.Printing.{all_of_windows_1252, is_all_of_windows_1252, AppendsOnOk, character_bytes, text_bytes, key_bytes, printed_byte, held_text};
 
 use crate::characters::{is_comment_sign, is_separator};
-use crate::encoding::{OutputEncoding, byte_of, encode_run, is_ascii};
+use crate::encoding::{OutputEncoding, byte_of, has_byte, is_ascii, leading_ascii};
 use crate::line_buffer::make_room;
-use bytes::print_bytes;
+use bytes::{LONGEST_BYTE, print_bytes, put_any};
 use escapes::{LONGEST, put_escape};
-use lacking::put_lacking;
 use std::alloc::AllocError;
 
 mod bytes;
 mod escapes;
-mod lacking;
 mod undecoded;
 
 pub use crate::line_buffer::LineBuffer;
 pub use undecoded::{UndecodedPair, print_undecoded_pair};
-
-// How many bytes are encoded at once.
-const RUN: usize = 128;
 
 /// What a text is in its line, which determines what is escaped besides the characters that the repertoire lacks.
 #[derive(Clone, Copy)]
@@ -57,18 +52,15 @@ impl Repertoire {
     {
         !self.ascii_only || character.is_ascii()
     }
+
+    /// Whether it is windows-1252, with all its characters.
+    #[inline(always)]
+    pub fn is_all_of_windows_1252(self) -> bool
+        ensures { result ≡ is_all_of_windows_1252 self }
+    {
+        matches!(self.encoding, OutputEncoding::Windows1252) && !self.ascii_only
+    }
 }
-
-// The repertoire for ASCII characters, which every repertoire prints alike.
-const ASCII: Repertoire = Repertoire {
-    encoding: OutputEncoding::Windows1252,
-    ascii_only: true,
-};
-
-const WINDOWS_1252: Repertoire = Repertoire {
-    encoding: OutputEncoding::Windows1252,
-    ascii_only: false,
-};
 
 /// Appends the bytes of a text, escaped as its place in the line requires. Fails if memory runs out.
 ///
@@ -89,7 +81,7 @@ pub fn print_text(
     }
 }
 
-// Prints a key or a value. If only ASCII characters have to be escaped, works on bytes.
+// Prints a key or a value. Works on bytes where all characters past ASCII are copied.
 fn print_key_or_value(
     line: &mut LineBuffer,
     repertoire: Repertoire,
@@ -102,96 +94,61 @@ fn print_key_or_value(
             encoding: OutputEncoding::Utf8,
             ascii_only: false,
         } => print_bytes(line, text.as_bytes()),
-        Repertoire {
-            encoding: OutputEncoding::Windows1252,
-            ascii_only: false,
-        } => print_windows_1252(line, text),
-        _ => print_ascii_only(line, repertoire, text),
+        _ => print_narrow(line, repertoire, text),
     }
 }
 
 // Works on bytes if all are ASCII. Kept out of line so that the path for UTF-8 stays short.
 #[inline(never)]
-fn print_ascii_only(
+fn print_narrow(line: &mut LineBuffer, repertoire: Repertoire, text: &str) -> Result<(), AllocError>
+    ensures { AppendsOnOk line.old (text_bytes repertoire KeyOrValue (chars text.now)) result line.new }
+{
+    if is_ascii(text.as_bytes()) {
+        return print_bytes(line, text.as_bytes());
+    }
+    print_by_turns(line, repertoire, text)
+}
+
+// Prints ASCII characters up to one past ASCII, that character, and so on.
+#[inline(never)]
+fn print_by_turns(
     line: &mut LineBuffer,
     repertoire: Repertoire,
     text: &str,
 ) -> Result<(), AllocError>
     ensures { AppendsOnOk line.old (text_bytes repertoire KeyOrValue (chars text.now)) result line.new }
 {
-    if is_ascii(text.as_bytes()) {
-        return print_bytes(line, text.as_bytes());
-    }
-    print_characters(line, repertoire, Place::KeyOrValue, text)
-}
-
-// Prints a key or a value in windows-1252. Kept out of line so that the path for UTF-8 stays short.
-#[inline(never)]
-fn print_windows_1252(line: &mut LineBuffer, text: &str) -> Result<(), AllocError>
-    ensures { let bytes = text_bytes all_of_windows_1252 KeyOrValue (chars text.now) in
-        AppendsOnOk line.old bytes result line.new }
-{
-    if is_ascii(text.as_bytes()) {
-        return print_bytes(line, text.as_bytes());
-    }
-    print_runs(line, text)
-}
-
-// Prints a key or a value in windows-1252: by turns, characters without a byte and characters with one.
-#[inline(never)]
-fn print_runs(line: &mut LineBuffer, text: &str) -> Result<(), AllocError>
-    ensures { let bytes = text_bytes all_of_windows_1252 KeyOrValue (chars text.now) in
-        AppendsOnOk line.old bytes result line.new }
-{
-    let mut run = [0; RUN];
     let mut rest = text;
     while !rest.is_empty() {
-        let after = print_lacking(line, rest)?;
-        let encoded = encode_run(&mut run, after);
-        print_bytes(line, &run[..encoded.length])?;
-        if encoded.rest.len() < rest.len() {
-            rest = encoded.rest;
+        if rest.as_bytes()[0] < 0x80 {
+            let count = leading_ascii(rest.as_bytes());
+            print_bytes(line, &rest.as_bytes()[..count])?;
+            rest = &rest[count..];
         } else {
-            rest = print_first(line, encoded.rest)?;
+            rest = print_first(line, repertoire, rest)?;
         }
     }
     Ok(())
 }
 
 // Prints the first character, if there is one, and returns the text after it.
-fn print_first<'a>(line: &mut LineBuffer, text: &'a str) -> Result<&'a str, AllocError>
+#[inline(always)]
+fn print_first<'a>(
+    line: &mut LineBuffer,
+    repertoire: Repertoire,
+    text: &'a str,
+) -> Result<&'a str, AllocError>
     ensures printed { IfOk result (λ rest.
-        line.new ++ text_bytes all_of_windows_1252 KeyOrValue (chars rest.now)
-        ≡ line.old ++ text_bytes all_of_windows_1252 KeyOrValue (chars text.now)) }
+        line.new ++ text_bytes repertoire KeyOrValue (chars rest.now)
+        ≡ line.old ++ text_bytes repertoire KeyOrValue (chars text.now)) }
     ensures shorter { IfOk result (λ rest. 0 < length text.now → length rest.now < length text.now) }
 {
     let mut characters = text.chars();
     let Some(character) = characters.next() else {
         return Ok(text);
     };
-    print_in_key_or_value(line, WINDOWS_1252, character)?;
+    print_in_key_or_value(line, repertoire, character)?;
     Ok(characters.as_str())
-}
-
-// Prints the characters at the front that windows-1252 lacks, together with the one or two ASCII characters that may
-// separate them. Returns the text after them.
-#[inline(always)]
-fn print_lacking<'a>(line: &mut LineBuffer, text: &'a str) -> Result<&'a str, AllocError>
-    ensures printed { IfOk result (λ rest.
-        line.new ++ text_bytes all_of_windows_1252 KeyOrValue (chars rest.now)
-        ≡ line.old ++ text_bytes all_of_windows_1252 KeyOrValue (chars text.now)) }
-    ensures left { IfOk result (λ rest. length rest.now ≤ length text.now) }
-{
-    match text.as_bytes() {
-        [first, ..] if *first >= 0xc4 => {
-            make_room(&mut line.bytes, line.filled, RUN)?;
-            let put = put_lacking(&mut line.bytes, line.filled, text);
-            line.filled = put.end;
-            Ok(put.rest)
-        }
-        // Most texts begin with a character of Latin-1, which the first byte shows.
-        _ => Ok(text),
-    }
 }
 
 // Prints a text character by character.
@@ -412,7 +369,6 @@ fn print_character(
     }
 }
 
-#[tactic(auto, using(crate::proofs::Printing::Characters::encoded_pair, crate::proofs::Printing::Characters::encoded_escape))]
 fn print_in_key_or_value(
     line: &mut LineBuffer,
     repertoire: Repertoire,
@@ -421,20 +377,10 @@ fn print_in_key_or_value(
     ensures { let bytes = character_bytes repertoire Place.KeyOrValue character in
         AppendsOnOk line.old bytes result line.new }
 {
-    match character {
-        '\t' => print_after_backslash(line, b't'),
-        '\n' => print_after_backslash(line, b'n'),
-        '\x0c' => print_after_backslash(line, b'f'),
-        '\r' => print_after_backslash(line, b'r'),
-        ' ' => print_after_backslash(line, b' '),
-        '!' => print_after_backslash(line, b'!'),
-        '#' => print_after_backslash(line, b'#'),
-        ':' => print_after_backslash(line, b':'),
-        '=' => print_after_backslash(line, b'='),
-        '\\' => print_after_backslash(line, b'\\'),
-        _ if character < ' ' => print_escape(line, character),
-        _ => print_literal(line, repertoire, character),
+    if character.is_ascii() {
+        return print_byte(line, u32::from(character) as u8);
     }
+    print_literal(line, repertoire, character)
 }
 
 fn print_in_comment(
@@ -482,6 +428,9 @@ fn print_encoded(
 {
     match encoding {
         OutputEncoding::Windows1252 => {
+            if !has_byte(character) {
+                return Ok(false);
+            }
             let Some(byte) = byte_of(character) else {
                 return Ok(false);
             };
@@ -494,15 +443,13 @@ fn print_encoded(
     Ok(true)
 }
 
-// Prints a byte of an encoded text. Bytes above ASCII are copied.
+// Prints a byte of a key or a value.
 fn print_byte(line: &mut LineBuffer, byte: u8) -> Result<(), AllocError>
     ensures { AppendsOnOk line.old (printed_byte byte) result line.new }
 {
-    if byte < 0x80 {
-        print_in_key_or_value(line, ASCII, char::from(byte))
-    } else {
-        line.push(byte)
-    }
+    make_room(&mut line.bytes, line.filled, LONGEST_BYTE)?;
+    line.filled = put_any(&mut line.bytes, line.filled, byte);
+    Ok(())
 }
 
 fn print_after_backslash(line: &mut LineBuffer, byte: u8) -> Result<(), AllocError>

@@ -236,10 +236,6 @@ free-distinct done choice distinct = free-where (kind_of choice) done (λ k d wi
 
 -- ---- the code's loop
 
--- no options yet
-pub chosen-none : (words : List (List ℕ)) → HasChosen words no_choices words
-chosen-none words = record { done = []; distinct = λ i j d before within same. absurd (omega arith); is = refl; chosen = refl }
-
 -- one more
 pub chosen-more : (words rest others : List (List ℕ)) (choices more : Choices) (choice : Choice) → HasChosen words choices rest → rest ≡ choice_words choice ++ others
     → IsWithChoice choices choice (Some more) → HasChosen words more others
@@ -269,10 +265,6 @@ chosen-alone words rest choices all others h none is end = alone (same-start h.d
     alone : (more : List Choice) × (all ≡ h.done ++ more) × (rest ≡ words_of_choices more ++ others) → (all_choices all ≡ choices) × (others ≡ rest)
     alone ([], same, left) = (ap all_choices (same ∙ append-nil h.done) ∙ sym h.chosen, sym left)
     alone (a ∷ more, same, left) = absurd (none a (words_of_choices more ++ others) (left ∙ append_assoc (choice_words a) (words_of_choices more) others))
-
--- no other option after these
-pub chosen-end : (words : List (List ℕ)) (choices : Choices) → IsNextChoice words None → AreChosenAfter choices words (Some (choices, words))
-chosen-end words choices none whole h = (h, none)
 
 -- one option more
 pub chosen-next : (words others : List (List ℕ)) (choices more : Choices) (choice : Choice) (o : Option (Choices × List (List ℕ))) → words ≡ choice_words choice ++ others

@@ -1,10 +1,11 @@
 -- A text begins with another exactly if its UTF-8 begins with the other's.
-use Rattle.std.proofs.Common.{◌≡◌, ℕ, List, [], ◌∷◌, ◌++◌, Bool, true, false, refl, ap, sym, ◌∙◌, append_assoc, drop, length, eqb}
+use Rattle.std.proofs.Common.{◌≡◌, ℕ, List, [], ◌∷◌, ◌++◌, refl, ap, ◌∙◌, append_assoc, drop, length, eqb}
 use Rattle.std.specs.Prelude.{encode_utf8, encode_utf8_all}
 use Rattle.std.specs.List.{starts_with}
 use Rattle.std.proofs.lemmas.Bool.Decides.{Decides-eqb}
 use Rattle.std.proofs.lemmas.Slice.Eq.{starts_is}
 use Rattle.std.proofs.lemmas.Str.{cons_from_encodes, encodes-append}
+use Rattle.java_properties.proofs.TextMaps.Values.{together}
 
 front-decoded : (p k t : List ℕ) → encode_utf8_all k ≡ encode_utf8_all p ++ t → (r : List ℕ) × (k ≡ p ++ r)
 front-decoded [] k t h = (k, refl)
@@ -13,16 +14,10 @@ front-decoded (c ∷ p) k t h =
     let others = front-decoded p parts.0 t parts.2 in
     (others.0, parts.1 ∙ ap (λ v. c ∷ v) others.1)
 
--- two tests that hold for each other are the same
-same-test : (a b : Bool) → (a ≡ true → b ≡ true) → (b ≡ true → a ≡ true) → a ≡ b
-same-test true b f g = sym (f refl)
-same-test false true f g = g refl
-same-test false false f g = refl
-
 pub starts-encoded : (k p : List ℕ) → starts_with eqb (encode_utf8_all k) (encode_utf8_all p) ≡ starts_with eqb k p
 starts-encoded k p =
     let bytes = starts_is Decides-eqb (encode_utf8_all k) (encode_utf8_all p) _ refl in
     let text = starts_is Decides-eqb k p _ refl in
-    same-test _ _
+    together _ _
     (λ h. let found = front-decoded p k _ (bytes.0 h) in text.1 found.0 found.1)
     (λ h. bytes.1 (encode_utf8_all (drop (length p) k)) (ap encode_utf8_all (text.0 h) ∙ encodes-append p (drop (length p) k)))

@@ -1,5 +1,5 @@
 -- What filtering wrote is read back, and filtering it changes nothing.
-use Rattle.std.proofs.Common.{◌≡◌, ℕ, false, List, [], ◌∷◌, refl, ap, ◌∙◌, inl, inr, subst, append-nil}
+use Rattle.std.proofs.Common.{◌≡◌, ℕ, false, List, [], refl, ap, ◌∙◌, inl, inr, subst, append-nil}
 use Rattle.std.specs.Prelude.{◌⊎◌, Result, Ok, Err}
 use Rattle.counted_io.specs.Streams.{Reader, Sink, HasWritten, HasFaulted}
 use Rattle.counted_io.proofs.Streams.{written-failed_flush}
@@ -10,18 +10,13 @@ use Rattle.properties_format.specs.Items.{IsItems}
 use Rattle.properties_format.specs.Reading.Items.{items_of}
 use Rattle.properties_format.specs.Settings.{default_settings}
 use Rattle.properties_format.specs.Writing.{wrote}
-use Rattle.properties_format.specs.Pairs.{Pair, pairs_in, calls_of, items_after, AreAccepted, ArePairsOfScalars}
+use Rattle.properties_format.specs.Pairs.{pairs_in, calls_of, items_after, ArePairsOfScalars}
 use Rattle.properties_format.proofs.Items.Unique.{items_of-meets, items_of-only}
 use Rattle.properties_format.proofs.ReadBack.Law.{default_settings-good, output_encoding-own}
 use Rattle.properties_format.proofs.ReadBack.Lists.{items_of-pairs, pairs_in-items}
 use Rattle.java_properties.specs.declared.error.PropertiesError.{PropertiesError}
+use Rattle.java_properties.proofs.TextMaps.ReadBack.{pairs-accepted}
 use Rattle.properties_tools.specs.Filter.{pair_lines, TakesAndFlushes, FailsInPair, FailsAfterPairs, RefusesPair, StopsInReading, StopsInWriting, StopsInFlush, TakesLines, Filters, Settles}
-use Rattle.properties_tools.proofs.Pairs.{pair-accepted}
-
--- a new writer takes all pairs
-pairs-accepted : (ps : List Pair) → AreAccepted default_settings ps
-pairs-accepted [] = tt
-pairs-accepted (p ∷ ps) = (pair-accepted false p.0 p.1, pairs-accepted ps)
 
 -- the lines of pairs of scalar values are read back as these pairs
 lines-read : (e : Encoding) (items : List Entry) → ArePairsOfScalars (pairs_in items) → items_of (output_encoding e) (pair_lines e false items) end ≡ items_after 0 (pairs_in items)

@@ -18,12 +18,6 @@ pub first-text : {Z : Type 0} (texts : List (String Z)) (a : String Z) → 1 ≤
 first-text [] a h e = absurd (omega arith)
 first-text (w ∷ ws) a h e = cc
 
-pub first-two : {Z : Type 0} (texts : List (String Z)) (a b : String Z) → 2 ≤ length texts → a ≡ get_or texts 0 a → b ≡ get_or texts 1 b
-    → map string_bytes texts ≡ string_bytes a ∷ (string_bytes b ∷ map string_bytes (drop 2 texts))
-first-two [] a b h e k = absurd (omega arith)
-first-two (w ∷ []) a b h e k = absurd (omega arith)
-first-two (w ∷ (v ∷ ws)) a b h e k = cc
-
 -- ---- edits
 
 -- the words of one edit more
@@ -173,8 +167,3 @@ no-asked words (remove k ∷ asked) none is = let count : 0 ≡ length (words_of
 
 pub no-edit-words : (words : List (List ℕ)) (edits : List format.Edit) → words ≡ [] → AreWordsOfEdits words edits → edits ≢ [] → ⊥
 no-edit-words words edits none h some = some (h.made ∙ ap (map in_characters) (no-asked words h.asked none h.is))
-
--- What holds anyway holds at an error.
-pub at-error : {T E P : Type 0} (r : Result T E) → P → OnErr r P
-at-error (Ok x) h = tt
-at-error (Err e) h = h

@@ -17,6 +17,7 @@
 //! The expected values come from the rules of the format, and from the tests of the Rust crate that this is a port of.
 #![tactic(auto)]
 
+mod copying;
 mod editing;
 mod notation;
 mod outcome;

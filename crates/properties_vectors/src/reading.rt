@@ -7,6 +7,7 @@ mod printed;
 mod script;
 mod ways;
 
+use crate::copying::check_ways;
 use crate::notation::{Clause, Halt};
 use crate::outcome::Outcome;
 use before_fault::items_before_fault;
@@ -15,13 +16,13 @@ use counted_io::Tail;
 use items::{Kind, joined};
 use java_properties::Encoding;
 pub use printed::check_printed;
-use script::Script;
+pub use script::Script;
 use std::alloc::{AllocError, Global};
 use std::{io, slice};
 use ways::{Way, read_by, whole_items};
 
 // The sizes of the pieces that each input comes in.
-const SIZES: [usize; 4] = [1, 2, 3, 1000];
+pub const SIZES: [usize; 4] = [1, 2, 3, 1000];
 
 // The fault that comes after each byte of an input.
 const FAULT: io::ErrorKind = io::ErrorKind::TimedOut;
@@ -144,6 +145,9 @@ fn check_front(task: Task, bytes: &[u8], tail: Tail, outcome: &mut Outcome) -> R
 // after the error of an item.
 fn check_script(task: Task, script: &Script, outcome: &mut Outcome) -> Result<(), Halt> {
     let alloc = task.alloc;
+    if let Reading::Items = task.reading {
+        check_ways(alloc, task.encoding, script, outcome)?;
+    }
     let longest = script.pieces.first().map_or(0, |piece| piece.len());
     let mut reads = None;
     for way in task.ways() {

@@ -1,5 +1,6 @@
 // The lines of a table: headings, which say what the rows below them are of, and rows.
 
+use crate::copying::check_copying;
 use crate::editing::check_edit;
 use crate::notation::{Clause, Halt, clauses};
 use crate::outcome::Outcome;
@@ -22,6 +23,7 @@ enum Kind {
     Read(Reading),
     ReadPrint,
     Compare,
+    Copy,
     Write,
     WritePrint,
     WriteMap,
@@ -114,6 +116,7 @@ fn kind_of(word: &str) -> Option<Kind> {
         "read-map" => Some(Kind::Read(Reading::Map)),
         "read-print" => Some(Kind::ReadPrint),
         "compare" => Some(Kind::Compare),
+        "copy" => Some(Kind::Copy),
         "write" => Some(Kind::Write),
         "write-print" => Some(Kind::WritePrint),
         "write-map" => Some(Kind::WriteMap),
@@ -161,6 +164,7 @@ fn outcome_of(
         Kind::Read(reading) => check_reading(alloc, reading, encoding, clauses, &mut outcome)?,
         Kind::ReadPrint => check_printed(alloc, encoding, clauses, &mut outcome)?,
         Kind::Compare => check_compared(alloc, encoding, clauses, &mut outcome)?,
+        Kind::Copy => check_copying(alloc, encoding, clauses, &mut outcome)?,
         Kind::Write => check_writing(alloc, encoding, clauses, &mut outcome)?,
         Kind::WritePrint => check_printing(alloc, encoding, clauses, &mut outcome)?,
         Kind::WriteMap => check_maps(alloc, encoding, clauses, &mut outcome)?,

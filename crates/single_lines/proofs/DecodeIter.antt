@@ -1,5 +1,5 @@
 -- The steps of the iterator over characters.
-use Rattle.std.proofs.Common.{◌≡◌, ◌⊎◌, ◌≤◌, ℕ, Bool, true, false, List, [], ◌∷◌, ◌++◌, length, drop, refl, ap, sym, ◌∙◌, inl, inr, arith, append_assoc, append-nil, subst}
+use Rattle.std.proofs.Common.{◌≡◌, ◌⊎◌, ℕ, Bool, true, false, List, [], ◌∷◌, ◌++◌, length, drop, refl, ap, sym, ◌∙◌, inl, inr, append_assoc, append-nil, subst}
 use Rattle.std.specs.Prelude.{Some, None}
 use Rattle.std.specs.declared.io.Error.{Error}
 use Rattle.counted_io.specs.Streams.{Reader}
@@ -9,8 +9,8 @@ use Rattle.properties_format.specs.Encoding.{Encoding, byte_order_mark}
 use Rattle.properties_format.specs.Reading.Encoding.{first_piece, pieces_of, decoded_of, characters_from}
 use Rattle.properties_format.specs.Reading.Waiting.{awaits_bom, awaits_more}
 use Rattle.properties_format.proofs.Encodings.Pieces.{pieces_of-nil}
-use Rattle.properties_format.proofs.Encodings.ByteOrderMarks.{decoded_of-append, awaits_bom-long}
-use Rattle.properties_format.proofs.Encodings.Waiting.{pieces_of-decided, characters-step, awaits_more-short}
+use Rattle.properties_format.proofs.Encodings.ByteOrderMarks.{decoded_of-append}
+use Rattle.properties_format.proofs.Encodings.Waiting.{pieces_of-decided, characters-step}
 use Rattle.properties_text.specs.Decoding.{FindsByteOrderMark, IsUnmarked}
 use Rattle.properties_text.specs.declared.encoding.Encoding as named
 use Rattle.properties_text.specs.declared.encoding.byte_order_mark.ByteOrderMark.{ByteOrderMark}
@@ -18,18 +18,6 @@ use Rattle.properties_text.specs.declared.encoding.byte_order_mark.ByteOrderMark
 use Rattle.single_lines.specs.DecodeIter.{Undecoded, is_over, awaits_piece, waits, coming, characters_to_come, CanCome, GivesOn, GoesOn, Decodes, Ends, ShowsFault}
 use Rattle.single_lines.specs.declared.decode_iter.Ending.{Ending}
 use Rattle.single_lines.specs.declared.decode_iter.Ending.TheVariants.{More, End, Fault}
-
--- ---- Bytes that wait are few.
-
-pub awaits_bom-short : (b : List ℕ) → awaits_bom b ≡ true → length b ≤ 2
-awaits_bom-short [] h = omega arith
-awaits_bom-short (a ∷ []) h = omega arith
-awaits_bom-short (a ∷ b ∷ []) h = omega arith
-awaits_bom-short (a ∷ b ∷ c ∷ d) h = absurd (let k = awaits_bom-long (a ∷ b ∷ c ∷ d) (omega arith) in cc)
-
-pub awaits_piece-short : (e : Encoding) (d : List ℕ) → awaits_piece e d ≡ true → length d ≤ 3
-awaits_piece-short e [] h = omega arith
-awaits_piece-short e (b ∷ d) h = awaits_more-short e b d h
 
 -- ---- What comes where the input is over.
 
@@ -151,9 +139,6 @@ module _ {R : Type 0} (reader : Reader R) where
   comes-more (Fault e) k b c q d g h = let P : Ending → Type 0 = λ v. CanCome v d in comes-still (Fault e) q d refl g.0 (subst P g.2 h)
 
 module _ {R : Type 0} {reader : Reader R} where
-  pub decodes-none : (a : R) (s : Undecoded) → Decodes reader a s [] a s
-  decodes-none a s = record { read = []; goes_on = goes_on-none reader s.ending a; comes = λ d h. refl }
-
   pub decodes-given : (a : R) (s t : Undecoded) (x : List ℕ) → GivesOn s x t → Decodes reader a s x a t
   decodes-given a s t x h = record { read = []; goes_on = rw h.same (goes_on-none reader s.ending a); comes = λ d k. h.comes d k }
 

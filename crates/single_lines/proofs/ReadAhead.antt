@@ -2,14 +2,15 @@
 use Rattle.std.proofs.Common.{◌≡◌, ℕ, ◌+◌, ◌-◌, ◌<◌, ◌≤◌, List, [], ◌++◌, length, take, drop, ap, sym, ◌∙◌, arith, append-nil, zero-add, length-drop}
 use Rattle.std.specs.List.{copy_within}
 use Rattle.std.proofs.lemmas.List.Edits.{take-paste}
-use Rattle.std.specs.Prelude.{Result, Ok, Err, Option, Some, None}
+use Rattle.std.specs.Prelude.{Result, Ok, Err}
 use Rattle.std.specs.Io.{ReadsAtMost}
-use Rattle.std.specs.Io.KnownBytes.{ReadConsumes, Keeps, Consumes}
+use Rattle.std.specs.Io.KnownBytes.{ReadConsumes}
 use Rattle.std.specs.declared.io.Error.{Error}
 use Rattle.std.proofs.Math.Seq.{take-append-add}
 use Rattle.std.proofs.lemmas.List.{take-append-le, length-take-le, drop-take}
 use Rattle.counted_io.specs.Faults.{CountsFault, ShowsEnd}
 use Rattle.counted_io.specs.Streams.{Reader}
+use Rattle.properties_lines.proofs.InputBuffer.{keeps-consumes}
 use Rattle.single_lines.specs.ReadAhead.{ReadsMore, count_of}
 
 -- what a buffer holds after a read into its end: the bytes before the place, and those that came
@@ -19,12 +20,6 @@ read-into buffer came rest place n h k =
     ap (λ v. take (v + n) (take place buffer ++ (came ++ rest))) (sym (length-take-le place buffer h))
     ∙ take-append-add (take place buffer) (came ++ rest) n
     ∙ ap (λ v. take place buffer ++ v) (take-append-le n came rest k)
-
--- what stays is what is left after no bytes
-keeps-consumes : (a b : Option (List ℕ)) → Keeps a b → Consumes a b []
-keeps-consumes None b h = tt
-keeps-consumes (Some xs) None h = absurd h
-keeps-consumes (Some xs) (Some ys) h = sym h
 
 module _ {R : Type 0} (reader : Reader R) (old new : R) (buffer came rest : List ℕ) (place : ℕ) (within : place ≤ length buffer) (some : 0 < length came) where
   pub reads-more : (r : Result ℕ Error) → ReadsAtMost r came → ReadConsumes (reader.remaining old) (reader.remaining new) r came

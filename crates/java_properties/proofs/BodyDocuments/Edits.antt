@@ -39,6 +39,7 @@ use Rattle.properties_format.proofs.Items.Unique.{items_of-meets, items_of-only}
 use Rattle.properties_format.proofs.Slots.Edits.{edits_made-slots}
 use Rattle.properties_format.proofs.Slots.Keys.{pair_keys, are-keys, slots-keys}
 use Rattle.properties_format.proofs.Slots.WellEnded.{slots_after-well_ended}
+use Rattle.properties_format.proofs.Edited.Pair.{editable-own}
 use Rattle.java_properties.specs.BodyDocuments.{document_bytes, open_document, IsDocument, PutsValue}
 use Rattle.java_properties.specs.BodySlots.{Holds, HoldsIn, HoldsSome, ReadsIn, Changes, KeepsAll, PutsKey, PutsOrKeeps, left_without}
 use Rattle.java_properties.specs.BodySlots.Keys.{FindsKeys}
@@ -50,7 +51,7 @@ use Rattle.java_properties.specs.Sources.{IsInForce}
 use Rattle.java_properties.specs.declared.edit.document.Document.TheInside.{Inside}
 use Rattle.java_properties.specs.declared.edit.slots.Slots.{Slots}
 use Rattle.java_properties.proofs.BodyDocuments.Calls.{all-written}
-use Rattle.java_properties.proofs.Editing.{bom-front, editable, made-edits, removed-edits, result-made, output-same, set-edits, slots-held, slots-more, slots-none, slots-read}
+use Rattle.java_properties.proofs.Editing.{bom-front, editable, made-edits, removed-edits, result-made, set-edits, slots-held, slots-more, slots-none, slots-read}
 use Rattle.java_properties.proofs.SetValues.{value-edits}
 use Rattle.properties_format.specs.Reading.Valued.{value_set}
 use Rattle.properties_format.specs.Reading.ValuedSlots.{slots_valued}
@@ -191,7 +192,7 @@ valued-in d i slots values key value k v change same ordered =
     let edit = set_value key value in
     let after : Inside = record d { slots = slots; values = values } in
     let part = drop d.opened.start d.source.items in
-    let changed = subst (λ w. Changes part (slots_valued w key value) d.slots slots) (sym (output-same f i.editable)) change in
+    let changed = subst (λ w. Changes part (slots_valued w key value) d.slots slots) (sym (editable-own f i.editable)) change in
     let made = made-after d i slots values edit (k, v) changed in
     let set = value-edits k v (bytes-result d i (value_set e (document_bytes d) key value) ∙ ap edited made) in
     let reads = i.values in (

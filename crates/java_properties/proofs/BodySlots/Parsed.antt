@@ -47,7 +47,7 @@ slot-matches_key key s = of-key s.key
     of-key None = refl
     of-key (Some k) = flipped k key
 
-stack-more : (told : Bool) (stack : List ℕ) (n : ℕ) → (if told then stack ++ n ∷ [] else stack) ≡ stack ++ (if told then n ∷ [] else [])
+pub stack-more : (told : Bool) (stack : List ℕ) (n : ℕ) → (if told then stack ++ n ∷ [] else stack) ≡ stack ++ (if told then n ∷ [] else [])
 stack-more true stack n = refl
 stack-more false stack n = sym (append-nil stack)
 

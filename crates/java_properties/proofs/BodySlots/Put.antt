@@ -1,13 +1,12 @@
 -- A key is put into slots.
-use Rattle.std.proofs.Common.{◌≡◌, ◌<◌, ◌≤◌, ◌==◌, ℕ, ◌+◌, ◌-◌, ◌&&◌, Bool, true, false, List, [], ◌∷◌, ◌++◌, length, get_or, set, take, drop, Some, None, if◌then◌else◌, refl, ap, ap₂, sym, ◌∙◌, subst, inl, inr, arith, below_more, append_assoc, append-nil}
+use Rattle.std.proofs.Common.{◌≡◌, ◌<◌, ◌≤◌, ◌==◌, ℕ, ◌+◌, ◌-◌, ◌&&◌, Bool, true, false, List, [], ◌∷◌, ◌++◌, length, get_or, set, take, drop, Some, None, if◌then◌else◌, refl, ap, ap₂, sym, ◌∙◌, subst, inl, inr, arith, below_more, append_assoc}
 use Rattle.std.specs.Prelude.{bytes_eq, Result, Ok, Err}
 use Rattle.std.specs.BTreeMap.{IsOrdered}
 use Rattle.std.specs.Option.{is_some}
 use Rattle.std.specs.String.{string_cmp}
-use Rattle.std.proofs.lemmas.Bool.{cases_Bool, cases_lt}
+use Rattle.std.proofs.lemmas.Bool.{cases_lt}
 use Rattle.std.proofs.lemmas.Bool.Decides.{eqb_tells}
 use Rattle.std.proofs.lemmas.List.{length-append, length-set, set-get_or, set_past, get_or-set_other, get_or_append_left, take_at}
-use Rattle.std.proofs.lemmas.Slice.Eq.{bytes_eq-Decides}
 use Rattle.properties_format.specs.Text.{lf}
 use Rattle.properties_format.specs.Text as text
 use Rattle.properties_format.specs.Encoding.{Encoding}
@@ -17,7 +16,7 @@ use Rattle.properties_format.specs.Reading.Slots.{left_out, ended_by, closed_by,
 use Rattle.properties_format.specs.Reading.Cells.{Cell, live, places, cell_has, closed_cell, EndsAlive, AreLinks}
 use Rattle.properties_format.proofs.Slots.PutCell.{ends-after, ends-set, none-before, some-before, none-after, some-after, pair-same, placed, put-cell, places-set}
 use Rattle.properties_format.proofs.Slots.EndCells.{last-at, live-last, final-live, close-end, put-end, places-end}
-use Rattle.properties_format.proofs.Slots.Links.{links-alive, links-push}
+use Rattle.properties_format.proofs.Slots.Links.{links-alive, links-push, alive-same}
 use Rattle.java_properties.specs.BodySlots.{LooseCells, is_pair_left, with_index, IsCell, AreCells, no_cell, stack_at, closing_in, HoldsCells, HoldsSome, IsFirstLeft, FindsFirst, IsLastOf, PutsKey, PutsOrKeeps, KeepsAll, Pushes, PushesEmpty}
 use Rattle.java_properties.specs.BodySlots.Put.{Refills, ClosesSlot, FindsNextFirst, KeepsParts, AppendsCells, AppendsOrKeeps, appended_cells}
 use Rattle.java_properties.specs.Settings.{ending_of}
@@ -27,6 +26,8 @@ use Rattle.java_properties.specs.declared.writer.settings.LineEnding.{LineEnding
 use Rattle.java_properties.specs.declared.writer.settings.LineEnding.TheVariants.{LF}
 use Rattle.java_properties.proofs.BodySlots.{cells-length, cells-at, cells-set, cells-push}
 use Rattle.java_properties.proofs.BodySlots.Trails.{trails-as, trails-set, trails-push, pair-from, closed-pair}
+use Rattle.java_properties.proofs.BodySlots.Parsed.{stack-more}
+use Rattle.java_properties.proofs.TextMaps.Values.{flipped}
 
 -- ---- the first slot
 
@@ -100,26 +101,6 @@ cells-parts old new p body cells held =
       others = held.others;
       ordered = subst (IsOrdered string_cmp) (sym places_same) held.ordered;
     }
-
--- and what is left of the slots stays.
-pub keeps-parts : (old new : Slots) → KeepsParts old new → KeepsAll old new
-keeps-parts old new p body m w h = record {
-  cells = h.cells;
-  holds = cells-parts old new p body h.cells h.holds;
-  list = h.list;
-  closing = h.closing ∙ sym (ap (λ v. let s : Slots = v in closing_in s.closing s.separation) p.same);
-}
-
--- So there is still a body that they hold.
-pub holds-parts : (old new : Slots) → KeepsParts old new → HoldsSome old → HoldsSome new
-holds-parts old new p h = record {
-  body = h.body;
-  holds = record {
-    slots = h.holds.slots;
-    holds = keeps-parts old new p h.body h.holds.slots h.holds.well_ended h.holds.holds;
-    well_ended = h.holds.well_ended;
-  };
-}
 
 -- ---- which slot is the first, and which the last
 
@@ -198,9 +179,6 @@ next-closed cells by a l =
     ap (λ v. is_first (closed_slots (closed_by by) v)) (live-last cells i no_cell m) ∙ closed-some by (live m.before) (get_or cells i no_cell).slot
 
 -- ---- the cells of slots
-
-alive-same : (a b : Cell) → a ≡ b → a.alive ≡ b.alive
-alive-same a b s = ap (λ v. let w : Cell = v in w.alive) s
 
 slot-same : (a b : Cell) → a ≡ b → a.slot ≡ b.slot
 slot-same a b s = ap (λ v. let w : Cell = v in w.slot) s
@@ -390,26 +368,13 @@ puts-replaced e key value start old new place n bytes l f b r body m w h =
 
 -- ---- the pair comes after all others
 
-bytes-swap : (x y : List ℕ) → bytes_eq x y ≡ bytes_eq y x
-bytes-swap x y = elim (cases_Bool (bytes_eq x y)) [
-  | inl k ↦ k ∙ sym ((bytes_eq-Decides y x).1 (sym ((bytes_eq-Decides x y).0 k)))
-  | inr k ↦ elim (cases_Bool (bytes_eq y x)) [
-    | inl j ↦ let t = (bytes_eq-Decides x y).1 (sym ((bytes_eq-Decides y x).0 j)) in absurd (cc)
-    | inr j ↦ k ∙ sym j
-  ]
-]
-
-pushed-if : (b : Bool) (xs : List ℕ) (p : ℕ) → (if b then xs ++ p ∷ [] else xs) ≡ xs ++ (if b then p ∷ [] else [])
-pushed-if true xs p = refl
-pushed-if false xs p = sym (append-nil xs)
-
 -- one more place of a key
 place-added : (key k : List ℕ) (old new others : List ℕ) (place size : ℕ) → new ≡ (if bytes_eq k key then old ++ place ∷ [] else old) → old ≡ others
     → place ≡ size
     → new ≡ others ++ (if bytes_eq key k then size ∷ [] else [])
 place-added key k old new others place size a s t =
-    a ∙ pushed-if (bytes_eq k key) old place
-    ∙ ap₂ (λ u v. u ++ v) s (ap₂ (λ b p. if b then p ∷ [] else []) (bytes-swap k key) t)
+    a ∙ stack-more (bytes_eq k key) old place
+    ∙ ap₂ (λ u v. u ++ v) s (ap₂ (λ b p. if b then p ∷ [] else []) (flipped k key) t)
 
 -- There is a last slot.
 pub some-held : (body : List ℕ) (s : Slots) (cells : List Cell) → HoldsCells body s cells → 0 < length s.slots.items

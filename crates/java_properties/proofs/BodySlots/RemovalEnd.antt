@@ -1,5 +1,6 @@
 -- A key removed from slots in one array: an LF comes in front where it has to, and what all steps come to.
 use Rattle.std.proofs.Common.{◌≡◌, ◌<◌, ℕ, ◌&&◌, suc, zero, Bool, true, false, not, List, [], ◌∷◌, length, get_or, set, Some, refl, ap, ap₂, sym, ◌∙◌, arith, subst}
+use Rattle.std.proofs.lemmas.Bool.{and_right}
 use Rattle.std.specs.Global.{Vec}
 use Rattle.properties_format.specs.Text as text
 use Rattle.properties_format.specs.Encoding.{begins_like_bom}
@@ -57,10 +58,6 @@ guards-marked body marked old n s f m =
       separation = rest.1;
     }
 
-and-false : (b c : Bool) → c ≡ false → (b && c) ≡ false
-and-false true c k = k
-and-false false c k = refl
-
 -- nor where the first slot does not begin like one.
 pub guards-not : (body : List ℕ) (marked : Bool) (old : Slots) (n : ℕ) (s : Slots) (slot : Slot) (told : Bool)
     → FindsFirst old n s
@@ -76,7 +73,7 @@ guards-not body marked old n s slot told f is tells no_mark =
             cells = cells;
             holds = found.1;
             list = guard-none marked cells n no_cell found.0.inside found.0.none_before found.0.left
-                (and-false (not marked) (begins_like_bom (get_or cells n no_cell).slot.bytes)
+                (and_right (not marked) (begins_like_bom (get_or cells n no_cell).slot.bytes)
                 (ap begins_like_bom cell.bytes ∙ sym tells ∙ no_mark));
           };
       closing = rest.0;

@@ -1,5 +1,5 @@
 -- A key removed from slots in one array: an empty slot takes the place of a last one with the key.
-use Rattle.std.proofs.Common.{◌≡◌, ◌<◌, ◌==◌, ℕ, ◌+◌, ◌-◌, ◌&&◌, Bool, true, false, List, [], ◌∷◌, ◌++◌, length, get_or, set, take, Option, None, Some, if◌then◌else◌, refl, ap, ap₂, sym, ◌∙◌, inl, inr, arith, subst, append-nil}
+use Rattle.std.proofs.Common.{◌≡◌, ◌<◌, ◌==◌, ℕ, ◌+◌, ◌-◌, ◌&&◌, true, false, List, [], ◌∷◌, ◌++◌, length, get_or, set, take, Option, None, Some, if◌then◌else◌, refl, ap, ap₂, sym, ◌∙◌, inl, inr, arith, subst, append-nil}
 use Rattle.std.specs.Prelude.{bytes_eq}
 use Rattle.std.specs.Option.{option_eq}
 use Rattle.std.specs.BTreeMap.{IsOrdered}
@@ -8,6 +8,7 @@ use Rattle.std.proofs.lemmas.Bool.{cases_Bool, and_parts}
 use Rattle.std.proofs.lemmas.Bool.Decides.{eqb_tells}
 use Rattle.std.proofs.lemmas.List.{get_or_at, set_at, take_at, length-append, length-set}
 use Rattle.std.proofs.lemmas.Slice.Eq.{bytes_eq-Decides}
+use Rattle.std.proofs.Math.Bool.{and-false}
 use Rattle.properties_format.specs.Reading.Slots as format
 use Rattle.properties_format.specs.Reading.Slots.{empty_slot, left_out, slot_has, are_one_ending, is_by_cr, slots_without, last_has, final_slot, AreWellEnded}
 use Rattle.properties_format.specs.Reading.Cells.{Cell, live, cell_has, places}
@@ -25,10 +26,6 @@ use Rattle.java_properties.specs.declared.edit.slots.Slots.{Slots}
 use Rattle.java_properties.proofs.BodySlots.{cells-length}
 use Rattle.java_properties.proofs.BodySlots.Put.{loose-set, holds-loose}
 
-never-both : (b : Bool) → (b && false) ≡ false
-never-both true = refl
-never-both false = refl
-
 -- ---- an empty slot comes last
 
 -- In the place of a last slot with the key it leaves the same without the key.
@@ -36,8 +33,8 @@ emptied-without : (key : List ℕ) (xs : List format.Slot) (s : format.Slot) →
     → slots_without key (xs ++ s ∷ []) ≡ slots_without key (xs ++ empty_slot None ∷ [])
 emptied-without key [] s h n = rw h refl
 emptied-without key (x ∷ []) s h n =
-    let apart : are_one_ending x s ≡ false = rw n (never-both (is_by_cr x.ending)) in
-    let apart_too : are_one_ending x (empty_slot None) ≡ false = never-both (is_by_cr x.ending) in
+    let apart : are_one_ending x s ≡ false = rw n (and-false (is_by_cr x.ending)) in
+    let apart_too : are_one_ending x (empty_slot None) ≡ false = and-false (is_by_cr x.ending) in
     rw (apart, apart_too) (ap (λ v. if slot_has key x then v else x ∷ v) (emptied-without key [] s h n))
 emptied-without key (x ∷ y ∷ xs) s h n =
     ap₂ (λ u v. if slot_has key x then (if are_one_ending x y then u else v) else x ∷ v)

@@ -1,6 +1,6 @@
 -- The numbers under each key, after a change at one of them.
 use Rattle.std.proofs.Common.{◌≡◌, ℕ, Bool, true, false, List, [], ◌∷◌, ◌++◌, refl, ap, sym, ◌∙◌, inl, inr, length, subst, arith, append-nil}
-use Rattle.std.specs.Prelude.{◌-◌, Option, Some, None, bytes_eq, cond, if◌then◌else◌, slice_get, take, Result, Ok, Err, OnErr}
+use Rattle.std.specs.Prelude.{◌-◌, Option, Some, None, bytes_eq, cond, if◌then◌else◌, slice_get, take}
 use Rattle.std.specs.Option.{IsSome, option_map_or, unwrap_or}
 use Rattle.std.specs.Global.{Vec}
 use Rattle.std.specs.Str.{chars, IsUtf8}
@@ -112,8 +112,3 @@ last-got (n ∷ ns) = let e : length (n ∷ ns) - 1 ≡ length ns = omega arith 
 pub same-if : (b : Bool) (xs : List ℕ) → (if b then xs ++ [] else xs) ≡ xs
 same-if true xs = append-nil xs
 same-if false xs = refl
-
--- What holds anyway holds where there is an error.
-pub on-err : {T E P : Type 0} (r : Result T E) → P → OnErr r P
-on-err (Ok done) p = tt
-on-err (Err error) p = p

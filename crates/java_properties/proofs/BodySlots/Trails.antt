@@ -197,13 +197,6 @@ trails-push cells s is_pair lefts pairs told h = record {
     of-pair true t = kept-push is_pair_left cells (record { slot = s; alive = true }) 1 pairs h.pairs_are
     of-pair false t = kept-pass is_pair_left cells (record { slot = s; alive = true }) 1 pairs (sym t) h.pairs_are
 
--- No cell but the first was there yet.
-pub trails-none : (c : Cell) → AreTrails (c ∷ []) [] []
-trails-none c = record {
-  lefts_are = ((omega arith), (λ k l m. absurd (omega arith)));
-  pairs_are = ((omega arith), (λ k l m. absurd (omega arith)));
-}
-
 -- An index of a cell that isn't left may be forgotten.
 pub trails-forget_left : (cells : List Cell) (lefts pairs : List ℕ) (at : ℕ) → AreTrails cells lefts pairs → at < length lefts
     → (get_or cells (get_or lefts at 0) no_cell).alive ≡ false → AreTrails cells (remove lefts at) pairs

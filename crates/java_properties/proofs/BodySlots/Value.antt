@@ -4,7 +4,6 @@ use Rattle.std.specs.Prelude.{Result, Ok, Err, OnOk, map, unwrap_or}
 use Rattle.std.specs.Option.{is_some, option_map}
 use Rattle.std.specs.Result.{IsErr}
 use Rattle.std.proofs.lemmas.Bool.{cases_Bool}
-use Rattle.std.proofs.lemmas.List.{take_all}
 use Rattle.std.proofs.lemmas.Grind.{take_at_read}
 use Rattle.properties_format.specs.Text.{lf, cr, crlf}
 use Rattle.properties_format.specs.Text as text
@@ -22,7 +21,7 @@ use Rattle.properties_format.specs.Printing.{encoded_text}
 use Rattle.properties_format.specs.Valued.{value_text, separator_after, ending_among}
 use Rattle.properties_format.specs.Reading.Body.{held_groups_of}
 use Rattle.properties_format.specs.Reading.Slots as format
-use Rattle.properties_format.specs.Reading.Slots.{left_out, ended_by, closed_by, is_first, slot_has, outcome_key, empty_slot, closed_slots, is_by_lf, is_by_cr, is_lf_alone, IsWellEnded}
+use Rattle.properties_format.specs.Reading.Slots.{left_out, ended_by, closed_by, is_first, slot_has, outcome_key, empty_slot, closed_slots, is_by_lf, is_by_cr, is_lf_alone}
 use Rattle.properties_format.specs.Reading.Settings.{is_good_separator}
 use Rattle.properties_format.specs.Reading.Cells.{Cell, live, places, closed_cell}
 use Rattle.properties_format.specs.Reading.Valued.{between_if_pair, between_of, front_of, has_value, last_between, or_else, separator_by}
@@ -32,10 +31,11 @@ use Rattle.properties_format.proofs.Slots.Cells.{live-alive, live-dead}
 use Rattle.properties_format.proofs.Slots.PutCell.{placed}
 use Rattle.properties_format.proofs.Slots.EndCells.{close-end}
 use Rattle.properties_format.proofs.Slots.ValueCells.{value-kept, value-cell, value-end, last_slot_between-push, ending_in_slots-push}
+use Rattle.properties_format.proofs.Edited.Pair.{editable-own}
 use Rattle.java_properties.specs.Settings.{ending_of}
 use Rattle.java_properties.specs.BodyLines.{ending_in}
 use Rattle.java_properties.specs.BodyValues.{IsEndingWithin, IsPairAlone, IsNewValue, unended_pair}
-use Rattle.java_properties.specs.BodySlots.{NonePasses, AreKept, AreTrails, is_pair_left, HaveContents, HoldsIn, slot_bytes, IsCell, AreCells, AreInside, IsReadIn, AreReadIn, seen, no_cell, stack_at, closing_in, HoldsCells, ReadsIn, Changes, KeepsAll, IsLastOf}
+use Rattle.java_properties.specs.BodySlots.{NonePasses, AreKept, AreTrails, is_pair_left, HaveContents, HoldsIn, slot_bytes, IsCell, AreCells, IsReadIn, AreReadIn, seen, no_cell, stack_at, closing_in, HoldsCells, ReadsIn, Changes, KeepsAll, IsLastOf}
 use Rattle.java_properties.specs.BodySlots.Put.{Refills, FindsNextFirst, AppendsCells, AppendsOrKeeps, appended_cells}
 use Rattle.java_properties.specs.BodySlots.Removal.{ChecksSlot}
 use Rattle.java_properties.specs.BodySlots.Value.{ValuesOrKeeps, KeepsCells, IsOwnEnding, IsLastOfSeen, IsSeparatorOfSeen}
@@ -46,7 +46,6 @@ use Rattle.java_properties.specs.declared.edit.slots.Slots.{Slots}
 use Rattle.java_properties.specs.declared.edit.value.NewValue.{NewValue}
 use Rattle.java_properties.specs.declared.writer.settings.LineEnding.{LineEnding}
 use Rattle.java_properties.specs.declared.writer.settings.LineEnding.TheVariants.{LF}
-use Rattle.java_properties.proofs.Editing.{output-same}
 use Rattle.java_properties.proofs.LastPairs.{groups-good}
 use Rattle.java_properties.proofs.BodySlots.{cells-length, cells-at}
 use Rattle.java_properties.proofs.BodySlots.Trails.{kept-at, kept-first, trails-as, trails-forget_left, trails-forget_pair}
@@ -160,10 +159,6 @@ pub reads-in : (e : Encoding) (body : List ℕ) (s : Slots) → ReadsIn e body s
 reads-in e body s r =
     let m = r.held.holds in cells-read e body s.slots.items m.cells m.holds.cells_are (subst (AreReadAgain e) m.list r.again)
 
-pub read-inside : (e : Encoding) (body : List ℕ) (ss : List Slot) → AreReadIn e body ss → AreInside body ss
-read-inside e body [] r = tt
-read-inside e body (s ∷ ss) r = (r.0.ordered, r.0.within, read-inside e body ss r.1)
-
 read-get : (e : Encoding) (body : List ℕ) (ss : List Slot) (i : ℕ) (d : Slot) → AreReadIn e body ss → i < length ss → IsReadIn e body (get_or ss i d)
 read-get e body [] i d r l = absurd (omega arith)
 read-get e body (s ∷ ss) zero d r l = r.0
@@ -171,17 +166,6 @@ read-get e body (s ∷ ss) (suc i) d r l = read-get e body ss i d r.1 (omega ari
 
 pub read-at : (e : Encoding) (body : List ℕ) (ss : List Slot) (i : ℕ) (s : Slot) → AreReadIn e body ss → i < length ss → s ≡ get_or ss i s → IsReadIn e body s
 read-at e body ss i s r l is = subst (IsReadIn e body) (sym is) (read-get e body ss i s r l)
-
-inside-get : (body : List ℕ) (ss : List Slot) (i : ℕ) (d : Slot) → AreInside body ss → i < length ss
-    → ((get_or ss i d).kept.start ≤ (get_or ss i d).kept.end) × ((get_or ss i d).kept.end ≤ length body)
-inside-get body [] i d r l = absurd (omega arith)
-inside-get body (s ∷ ss) zero d r l = (r.0, r.1)
-inside-get body (s ∷ ss) (suc i) d r l = inside-get body ss i d r.2 (omega arith)
-
-pub inside-at : (body : List ℕ) (ss : List Slot) (i : ℕ) (s : Slot) → AreInside body ss → i < length ss → s ≡ get_or ss i s
-    → (s.kept.start ≤ s.kept.end) × (s.kept.end ≤ length body)
-inside-at body ss i s r l is =
-    subst (λ v. let w : Slot = v in (w.kept.start ≤ w.kept.end) × (w.kept.end ≤ length body)) (sym is) (inside-get body ss i s r l)
 
 -- ---- the separator of a new pair
 
@@ -214,12 +198,6 @@ separator-seen e body ss key separator h =
 pub record HasNoPairFrom (e : Encoding) (body : List ℕ) (ss : List Slot) (end : ℕ) : Type 0 where
   pub within : end ≤ length ss
   pub same : last_slot_between e (seen body ss) ≡ last_slot_between e (seen body (take end ss))
-
-pub no_pair-start : (e : Encoding) (body : List ℕ) (ss : List Slot) (end : ℕ) → end ≡ length ss → HasNoPairFrom e body ss end
-no_pair-start e body ss end is = record {
-  within = omega arith;
-  same = ap (λ v. last_slot_between e (seen body v)) (sym (take_all end ss (omega arith)));
-}
 
 pub no_pair-gone : (e : Encoding) (body : List ℕ) (ss : List Slot) (end : ℕ) (s : Slot) → HasNoPairFrom e body ss end → 0 < end → s ≡ get_or ss (end - 1) s
     → s.is_left ≡ false → HasNoPairFrom e body ss (end - 1)
@@ -334,12 +312,6 @@ pub record EndsBefore (body : List ℕ) (ss : List Slot) (end : ℕ) (is_before 
   pub same : (e : Encoding) → is_editable e ≡ true → AreReadIn e body ss
       → ending_in_slots e lf (seen body ss) ≡ (if is_before then before_lf (ending_in_slots e lf (seen body (take end ss))) else ending_in_slots e lf (seen body (take end ss)))
 
-pub ends-start : (body : List ℕ) (ss : List Slot) (end : ℕ) → end ≡ length ss → EndsBefore body ss end false
-ends-start body ss end is = record {
-  within = omega arith;
-  same = λ e ok r. ap (λ v. ending_in_slots e lf (seen body v)) (sym (take_all end ss (omega arith)));
-}
-
 pub ends-gone : (body : List ℕ) (ss : List Slot) (end : ℕ) (is_before : Bool) (s : Slot) → EndsBefore body ss end is_before → 0 < end → s ≡ get_or ss (end - 1) s
     → s.is_left ≡ false → EndsBefore body ss (end - 1) is_before
 ends-gone body ss end is_before s h some is k =
@@ -407,25 +379,12 @@ ends-before body ss end s own result h some is k o made e ok r =
       | inr a ↦ ap before_lf (m.1 a)
     ])
 
--- No line ending at all.
-pub ends-all : (body : List ℕ) (ss : List Slot) (end : ℕ) (is_before : Bool) → EndsBefore body ss end is_before → end ≡ 0 → IsLastOfSeen body ss LF
-ends-all body ss end is_before h none e ok r =
-    sym (h.same e ok r ∙ ap (λ n. with_lf is_before (ending_in_slots e lf (seen body (take n ss)))) none ∙ either is_before)
-  where
-    either : (b : Bool) → with_lf b lf ≡ lf
-    either true = refl
-    either false = refl
-
 -- ---- what is passed at once
 
 get-any : {X : Type 0} (xs : List X) (i : ℕ) (d e : X) → i < length xs → get_or xs i d ≡ get_or xs i e
 get-any [] i d e l = absurd (omega arith)
 get-any (x ∷ xs) zero d e l = refl
 get-any (x ∷ xs) (suc i) d e l = get-any xs i d e (omega arith)
-
-get-past : {X : Type 0} (xs : List X) (d : X) → get_or xs (length xs) d ≡ d
-get-past [] d = refl
-get-past (x ∷ xs) d = get-past xs d
 
 -- Each of the slots that aren't left is passed,
 ends-skip : (body : List ℕ) (ss : List Slot) (cs : List Cell) (is_before : Bool) (low n : ℕ) (d : Slot) → AreCells body ss cs
@@ -579,15 +538,6 @@ pub record SeeksPair (e : Encoding) (body : List ℕ) (old : Slots) (count : ℕ
   pub within : count ≤ length s.pairs.items
   pub none : HasNoPairFrom e body old.slots.items (get_or s.pairs.items count (length old.slots.items))
 
-pub seek_pair-start : (e : Encoding) (body : List ℕ) (old : Slots) (count : ℕ) → count ≡ length old.pairs.items → SeeksPair e body old count old
-seek_pair-start e body old count is = record {
-  same = refl;
-  keeps = λ b cells h. h;
-  within = omega arith;
-  none = no_pair-start e body old.slots.items (get_or old.pairs.items count (length old.slots.items))
-      (ap (λ n. get_or old.pairs.items n (length old.slots.items)) is ∙ get-past old.pairs.items (length old.slots.items));
-}
-
 -- what is known at the next index
 pub record IsPairNext (e : Encoding) (body : List ℕ) (old : Slots) (place : ℕ) (slot : Slot) : Type 0 where
   pub inside : place < length old.slots.items
@@ -707,15 +657,6 @@ pub record SeeksEnding (body : List ℕ) (old : Slots) (count : ℕ) (is_before 
   pub keeps : KeepsCells old s
   pub within : count ≤ length s.lefts.items
   pub ends : EndsBefore body old.slots.items (get_or s.lefts.items count (length old.slots.items)) is_before
-
-pub seek_ending-start : (body : List ℕ) (old : Slots) (count : ℕ) → count ≡ length old.lefts.items → SeeksEnding body old count false old
-seek_ending-start body old count is = record {
-  same = refl;
-  keeps = λ b cells h. h;
-  within = omega arith;
-  ends = ends-start body old.slots.items (get_or old.lefts.items count (length old.slots.items))
-      (ap (λ n. get_or old.lefts.items n (length old.slots.items)) is ∙ get-past old.lefts.items (length old.slots.items));
-}
 
 pub record IsLeftNext (body : List ℕ) (old : Slots) (place : ℕ) (is_before : Bool) (slot : Slot) : Type 0 where
   pub inside : place < length old.slots.items
@@ -1105,5 +1046,5 @@ values-sought {E} e body key value separator bytes by old middle start found new
 pub values-edit : {E : Type 0} (e : Encoding) (marked : Bool) (body key value : List ℕ) (old new : Slots) (r : Result Unit E) → is_editable e ≡ true
     → ValuesOrKeeps e body key value old r new
     → OnOk r (Changes body (slots_edited (output_encoding e) marked (set_value key value)) old new)
-values-edit e marked body key value old new (Ok done) ok h = subst (λ v. Changes body (slots_valued v key value) old new) (sym (output-same e ok)) h
+values-edit e marked body key value old new (Ok done) ok h = subst (λ v. Changes body (slots_valued v key value) old new) (sym (editable-own e ok)) h
 values-edit e marked body key value old new (Err error) ok h = tt

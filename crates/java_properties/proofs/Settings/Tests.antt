@@ -7,6 +7,7 @@ use Rattle.std.specs.Prelude.{encode_utf8}
 use Rattle.std.specs.Str.{IsUtf8, chars}
 use Rattle.std.proofs.lemmas.Bool.{cond-true, cond-false}
 use Rattle.std.proofs.lemmas.Str.{chars_past_char, encodes-chars, length-le-encodes}
+use Rattle.std.proofs.StrCases.{chars_of_empty}
 use Rattle.properties_format.specs.Writing.{is_empty}
 use Rattle.properties_format.specs.Text.{is_blank, is_blanks, is_line_end, is_comment_sign, is_separator}
 use Rattle.properties_format.specs.Reading.Settings.{holds_no_line_end}
@@ -14,7 +15,6 @@ use Rattle.properties_format.specs.Reading.Settings.{is_good_prefix, is_signed_s
 use Rattle.properties_format.specs.Settings.{IsGoodPrefix, IsGoodSeparator}
 use Rattle.properties_format.proofs.Split.Unique.{sign-full, separator-full}
 use Rattle.properties_format.proofs.Settings.Tests.{is_good_prefix-from, is_good_separator-from}
-use Rattle.properties_text.proofs.Texts.Characters.{chars-empty}
 
 -- what a test says of the characters is what it says of the first and of the others
 pub past_first : (test : List ℕ → Bool) (whole last : Bool) (bs rest : List ℕ) (c : ℕ) → IsUtf8 bs → bs ≡ encode_utf8 c ++ rest
@@ -22,7 +22,7 @@ pub past_first : (test : List ℕ → Bool) (whole last : Bool) (bs rest : List 
 past_first test whole last bs rest c u e h k = h ∙ ap test (chars_past_char bs rest c u e) ∙ k
 
 pub past_last : (test : List ℕ → Bool) (whole last : Bool) (bs : List ℕ) → length bs ≡ 0 → whole ≡ test (chars bs) → test [] ≡ last → last ≡ whole
-past_last test whole last bs e h k = sym (h ∙ ap test (chars-empty bs e) ∙ k)
+past_last test whole last bs e h k = sym (h ∙ ap test (chars_of_empty bs e) ∙ k)
 
 -- ---- prefixes
 

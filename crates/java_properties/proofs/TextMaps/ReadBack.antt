@@ -13,7 +13,7 @@ use Rattle.std.proofs.lemmas.Slice.Eq.{bytes_eq-Decides}
 use Rattle.std.proofs.lemmas.Str.{IsUtf8-string_bytes}
 use Rattle.counted_io.specs.Streams.{Sink, HasWritten}
 use Rattle.properties_format.specs.Text.{scalar}
-use Rattle.properties_format.specs.Encoding.{Encoding, windows_1252, utf_8, utf_16le, utf_16be, output_encoding}
+use Rattle.properties_format.specs.Encoding.{Encoding, output_encoding}
 use Rattle.properties_format.specs.Lines.{end}
 use Rattle.properties_format.specs.Items.{IsItems}
 use Rattle.properties_format.specs.Maps.{IsValue}
@@ -116,7 +116,7 @@ calls-are [] = refl
 calls-are (texts ∷ pairs) = ap (λ v. pair_call (chars texts.0) (chars texts.1) ∷ v) (calls-are pairs)
 
 -- they are all accepted
-pairs-accepted : (ps : List Pair) → AreAccepted default_settings ps
+pub pairs-accepted : (ps : List Pair) → AreAccepted default_settings ps
 pairs-accepted [] = tt
 pairs-accepted (p ∷ ps) = (accepted p.0 p.1, pairs-accepted ps)
 
@@ -192,10 +192,3 @@ writes-read_back sink a entries old new (Ok done) own h =
           let same = among-value_in ps key (value_at entries key) distinct (moved-among (map character_pair xs) ps key (value_at entries key) moved (entries-say key entries)) in
           subst (IsValue (items_for h.pairs) key) (sym same) (value_in-meets (items_for h.pairs) key);
     }
-
--- what is written is an encoding that is written
-pub output-own : (e : Encoding) → output_encoding (output_encoding e) ≡ output_encoding e
-output-own windows_1252 = refl
-output-own utf_8 = refl
-output-own utf_16le = refl
-output-own utf_16be = refl

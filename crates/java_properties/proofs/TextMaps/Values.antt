@@ -20,7 +20,7 @@ use lib.Utf8.{encodes}
 use Rattle.java_properties.specs.Maps.{characters, value_at}
 
 -- two tests that pass together
-together : (a b : Bool) → (a ≡ true → b ≡ true) → (b ≡ true → a ≡ true) → a ≡ b
+pub together : (a b : Bool) → (a ≡ true → b ≡ true) → (b ≡ true → a ≡ true) → a ≡ b
 together true b h k = sym (h refl)
 together false true h k = k refl
 together false false h k = refl

@@ -28,7 +28,8 @@ use std::alloc::Global;
 use std::error::Error;
 use std::fmt;
 
-/// Why [`copy_next`](crate::PropertiesIter::copy_next) stopped: reading failed, or writing did.
+/// Why [`copy_next`](crate::PropertiesIter::copy_next) stopped: reading failed, or writing did. Refused memory may be
+/// either.
 ///
 /// It prints as the error in it.
 #[derive(Debug, Drop)]

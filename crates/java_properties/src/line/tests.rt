@@ -1,4 +1,4 @@
-// Lines as they are ordered, hashed, cloned and taken apart.
+// Lines that are ordered, hashed, cloned and consumed.
 
 use super::*;
 use std::alloc::{AllocError, Global};

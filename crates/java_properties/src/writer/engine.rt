@@ -1,29 +1,28 @@
 // A writer without its sink.
 
-ghost use Rattle.std.specs.Prelude.{◌≡◌, ◌≤◌, length, true, false, OnOk};
+ghost use Rattle.std.specs.Prelude.{◌≡◌, false, OnOk};
 ghost use Rattle.std.specs.Str.{chars};
 ghost use Rattle.properties_format.specs.Entries.{comment, pair};
 ghost use Rattle.properties_format.specs.Settings.{default_settings};
 ghost use Rattle.properties_format.specs.Writing.{is_accepted};
 ghost use Rattle.counted_io.specs.Streams.{IsSameSink};
 ghost use Rattle.properties_text.specs.UndecodedTexts.{undecoded_line, IsUndecodedPair};
-ghost use Rattle.java_properties.specs.Engine.{entry_content, writing, repertoire_of, line_bytes, content_bytes, SendsLine, copies_bytes, takes_span, WritesPair, BuildsUndecoded, WritesUndecoded, DecodesSpan};
-ghost use Rattle.properties_text.specs.Printing.{AppendsOnOk};
+ghost use Rattle.java_properties.specs.Engine.{entry_content, writing, repertoire_of, line_bytes, content_bytes, NumbersLine, SendsLine, takes_span, WritesPair, BuildsUndecoded, WritesUndecoded};
+ghost use Rattle.properties_text.specs.Printing.{AppendsOnOk, is_all_of_windows_1252};
 ghost use Rattle.java_properties.specs.PropertiesWriter.{call_of, WritesLine, Flushes};
 
 use super::settings::Settings;
 use crate::error::PropertiesError;
 use crate::iter::copy::CopyError;
 use counted_io::{CountedWrite, send};
-use properties_text::encoding::{Encoding, OutputEncoding, TextBuffer};
-use properties_text::escape::{UnescapeError, unescape};
+use properties_text::encoding::OutputEncoding;
+use properties_text::escape::UnescapeError;
 use properties_text::parse::Span;
 use properties_text::print::{
     LineBuffer, Place, Repertoire, UndecodedPair, print_key, print_raw, print_text,
     print_undecoded_pair,
 };
 use std::alloc::{AllocError, Global};
-use std::io;
 
 /// The content of a line to write.
 #[derive(Clone, Copy)]
@@ -39,7 +38,7 @@ pub enum Content<'a> {
 pub enum Written {
     /// It was written.
     Line,
-    /// Its escapes can't be resolved.
+    /// Its escapes can't be resolved, or memory ran out.
     Unresolved(UnescapeError),
     /// It couldn't be written, and the error is kept.
     Failed,
@@ -95,20 +94,10 @@ impl Engine {
             WritesLine W.CountedWrite old (entry_content content.entry) result (writing self.new sink.new) }
         ensures same_sink { IsSameSink W.CountedWrite sink.old sink.new }
     {
-        if self.failed {
-            return Err(PropertiesError::failed());
-        }
-        if !self.accepts(content) {
-            return Err(PropertiesError::empty_key());
-        }
-        let Some(number) = self.lines.checked_add(1) else {
-            return Err(PropertiesError::too_many_lines());
-        };
+        let number = self.next_number(self.accepts(content))?;
         self.build(content)?;
-        match self.send_line(sink, number) {
-            Ok(()) => Ok(()),
-            Err(error) => Err(PropertiesError::write_fault(Some(number), error)),
-        }
+        self.send_line(sink, number)?;
+        Ok(())
     }
 
     /// Writes the line of a pair, and returns whether it did. `error` keeps the error of a write.
@@ -148,23 +137,41 @@ impl Engine {
             WritesUndecoded W.CountedWrite old (undecoded_line pair.entry) error.old result (writing self.new sink.new) error.new }
         ensures same_sink { IsSameSink W.CountedWrite sink.old sink.new }
     {
-        if self.failed || !self.copies_bytes() || !self.takes_span(pair.key) {
-            return self.write_decoded(alloc, sink, pair, error);
-        }
-        let Some(number) = self.lines.checked_add(1) else {
-            return self.write_decoded(alloc, sink, pair, error);
-        };
         if let Err(unresolved) = self.build_undecoded(alloc, pair) {
             return Written::Unresolved(unresolved);
         }
+        let number = match self.next_number(self.takes_span(pair.key)) {
+            Ok(number) => number,
+            Err(refused) => {
+                *error = Some(CopyError::Write(refused));
+                return Written::Failed;
+            }
+        };
         match self.send_line(sink, number) {
             Ok(()) => Written::Line,
-            Err(cause) => {
-                let fault = PropertiesError::write_fault(Some(number), cause);
+            Err(fault) => {
                 *error = Some(CopyError::Write(fault));
                 Written::Failed
             }
         }
+    }
+
+    // Returns the number of the next line. Fails if an earlier write failed, if the line isn't accepted, and if there are
+    // no more numbers.
+    #[inline(always)]
+    fn next_number(&self, accepted: bool) -> Result<usize, PropertiesError>
+        ensures { NumbersLine self.now accepted result }
+    {
+        if self.failed {
+            return Err(PropertiesError::failed());
+        }
+        if !accepted {
+            return Err(PropertiesError::empty_key());
+        }
+        let Some(number) = self.lines.checked_add(1) else {
+            return Err(PropertiesError::too_many_lines());
+        };
+        Ok(number)
     }
 
     // Sends the line that was built, and counts it.
@@ -173,7 +180,7 @@ impl Engine {
         &mut self,
         sink: &mut W,
         number: usize,
-    ) -> Result<(), Option<io::Error>>
+    ) -> Result<(), PropertiesError>
         ensures sends { let old = writing self.old sink.old in
             SendsLine W.CountedWrite old self.old.line number result (writing self.new sink.new) }
         ensures same_sink { IsSameSink W.CountedWrite sink.old sink.new }
@@ -185,7 +192,7 @@ impl Engine {
             }
             Err(error) => {
                 self.failed = true;
-                Err(error)
+                Err(PropertiesError::write_fault(Some(number), error))
             }
         }
     }
@@ -215,9 +222,9 @@ impl Engine {
     /// Returns whether bytes of windows-1252 can be copied into a line.
     #[inline(always)]
     pub fn copies_bytes(&self) -> bool
-        ensures { result ≡ copies_bytes self.now }
+        ensures { result ≡ is_all_of_windows_1252 (repertoire_of self.now) }
     {
-        matches!(self.encoding, OutputEncoding::Windows1252) && !self.settings.ascii_only()
+        self.repertoire().is_all_of_windows_1252()
     }
 
     // Returns whether a pair can be written whose key is spelt by this span.
@@ -228,34 +235,6 @@ impl Engine {
         key.start != key.end || self.settings.takes_key("")
     }
 
-    // Writes the line of a pair that is decoded first.
-    #[inline(never)]
-    fn write_decoded<W: CountedWrite>(
-        &mut self,
-        alloc: Global,
-        sink: &mut W,
-        pair: UndecodedPair<'_>,
-        error: &mut Option<CopyError>,
-    ) -> Written
-        requires { IsUndecodedPair pair }
-        ensures writes { let old = writing self.old sink.old in
-            WritesUndecoded W.CountedWrite old (undecoded_line pair.entry) error.old result (writing self.new sink.new) error.new }
-        ensures same_sink { IsSameSink W.CountedWrite sink.old sink.new }
-    {
-        let key = match decoded(alloc, pair.bytes, pair.key) {
-            Ok(key) => key,
-            Err(unresolved) => return Written::Unresolved(unresolved),
-        };
-        let value = match decoded(alloc, pair.bytes, pair.value) {
-            Ok(value) => value,
-            Err(unresolved) => return Written::Unresolved(unresolved),
-        };
-        if self.write_pair(sink, &key, &value, error) {
-            return Written::Line;
-        }
-        Written::Failed
-    }
-
     // Builds the bytes of the line from a pair that isn't decoded.
     #[inline(always)]
     fn build_undecoded(
@@ -263,15 +242,16 @@ impl Engine {
         alloc: Global,
         pair: UndecodedPair<'_>,
     ) -> Result<(), UnescapeError>
-        requires pair { IsUndecodedPair pair }
-        requires copies { copies_bytes self.old ≡ true }
+        requires { IsUndecodedPair pair }
         ensures printed { BuildsUndecoded self.old (undecoded_line pair.entry) result self.new.line }
         ensures same { self.new ≡ record self.old { line = self.new.line } }
     {
+        let repertoire = self.repertoire();
         self.line.clear();
         print_undecoded_pair(
             alloc,
             &mut self.line,
+            repertoire,
             self.lines == 0,
             pair,
             self.settings.kv_separator().as_bytes(),
@@ -338,16 +318,4 @@ impl Engine {
             ascii_only: self.settings.ascii_only(),
         }
     }
-}
-
-// The text that these bytes of windows-1252 mean.
-fn decoded(alloc: Global, bytes: &[u8], span: Span) -> Result<String, UnescapeError>
-    requires ordered { span.start ≤ span.end }
-    requires within { span.end ≤ length bytes.now }
-    ensures { DecodesSpan bytes.now span result }
-{
-    let mut text = TextBuffer::new(alloc);
-    text.push_decoded(Encoding::WINDOWS_1252, &bytes[span.start..span.end])?;
-    let meant = unescape(alloc, text.as_str())?.into_owned(alloc)?;
-    Ok(meant)
 }

@@ -223,7 +223,7 @@ held-texts e [] last = refl
 held-texts e (l ∷ ls) last = ap (λ v. record { number = 0; text = decoded_line e l.text } ∷ v) (held-texts e ls last)
 
 -- The last line of a body has no line ending.
-held-last : (e : Encoding) (ls : List Ended) (last : List ℕ) → last_ending (held_of e ls last) ≡ None
+pub held-last : (e : Encoding) (ls : List Ended) (last : List ℕ) → last_ending (held_of e ls last) ≡ None
 held-last e [] last = refl
 held-last e (l ∷ []) last = refl
 held-last e (l ∷ m ∷ ls) last = held-last e (m ∷ ls) last

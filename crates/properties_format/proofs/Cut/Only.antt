@@ -55,7 +55,3 @@ cut_of-together e (l ∷ ls) last h = cut_of-before e l.text l.by (bytes_togethe
 -- Lines of the bytes are the computed ones.
 pub cut_of-only : (e : Encoding) (d : List ℕ) (lines : Lines) → IsCut e d lines → lines ≡ cut_of e d
 cut_of-only e d lines h = sym (ap (cut_of e) h.bytes ∙ cut_of-together e lines.ended lines.last h.are_cut)
-
--- Two lists of lines of the same bytes are equal.
-pub cut-unique : (e : Encoding) (d : List ℕ) (x y : Lines) → IsCut e d x → IsCut e d y → x ≡ y
-cut-unique e d x y h k = cut_of-only e d x h ∙ sym (cut_of-only e d y k)

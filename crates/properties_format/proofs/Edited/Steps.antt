@@ -1,8 +1,8 @@
 -- The groups of a body, and an edit of them, after the next line and after the next group.
-use Rattle.std.proofs.Common.{◌≡◌, ℕ, Bool, false, List, [], ◌∷◌, ◌++◌, refl, ap, sym, ◌∙◌, inl, inr, append_assoc, lit<, ◌+◌, length-append, arith}
-use Rattle.std.specs.Prelude.{unwrap_or, ◌&&◌, not, length, Option, Some, None}
+use Rattle.std.proofs.Common.{◌≡◌, ℕ, false, List, [], ◌∷◌, ◌++◌, refl, ap, sym, ◌∙◌, inl, inr, append_assoc, ◌+◌, length-append, arith}
+use Rattle.std.specs.Prelude.{◌&&◌, not, length, Option, Some, None}
 use Rattle.std.proofs.lemmas.Bool.{cases_Bool, cond-false}
-use Rattle.properties_format.specs.Text.{line_feed, equals_sign, LineEnding, cr}
+use Rattle.properties_format.specs.Text.{LineEnding, cr}
 use Rattle.properties_format.specs.Encoding.{Encoding, IsAligned}
 use Rattle.properties_format.specs.Lines.{Lines}
 use Rattle.properties_format.specs.Reading.Lines.{begins_with_lf}
@@ -11,16 +11,13 @@ use Rattle.properties_format.specs.Reading.Cut.{decoded_line}
 use Rattle.properties_format.specs.Groups.{is_open, is_comment_line, joined}
 use Rattle.properties_format.specs.Items.{Outcome, ignored, given, broken}
 use Rattle.properties_format.specs.Reading.Items.{outcome_of, followed}
-use Rattle.properties_format.specs.Entries.{pair, Entry}
-use Rattle.properties_format.specs.Settings.{default_settings}
-use Rattle.properties_format.specs.Printing.{in_key_or_value, printed_characters, encoded_text, printed_key, printed}
+use Rattle.properties_format.specs.Entries.{Entry}
 use Rattle.properties_format.specs.Body.{HeldLine, HasKey, group_bytes, as_lines, held_in, last_ending}
-use Rattle.properties_format.specs.Edited.{pair_bytes, final_group, is_last_open, is_left_open, is_empty_line}
+use Rattle.properties_format.specs.Edited.{final_group, is_last_open, is_left_open, is_empty_line}
 use Rattle.properties_format.specs.Reading.Body.{held_of, held_lines_of, has_key, entries_in}
 use Rattle.properties_format.specs.Reading.Edited.{KeyPlace, place_after, last_place, without, IsSound, AreSound, result_by}
 use Rattle.properties_format.proofs.Cut.Steps.{cut_of-line}
 use Rattle.properties_format.proofs.Cut.Only.{cut_of-plain}
-use Rattle.properties_format.proofs.Printing.Characters.{encoded-ascii, encoded_text-append}
 use Rattle.properties_format.proofs.Edited.Made.{last_place-some}
 
 -- ---- the next line
@@ -115,14 +112,3 @@ result-after n (g ∷ gs) hs made h =
     result-sound n (outcome_of (joined (as_lines g))) (entries_in (n + length g) (gs ++ hs)) made h.0
     ∙ result-after (n + length g) gs hs made h.1
     ∙ ap (λ m. result_by (entries_in m hs) made) same
-
--- ---- the printed pair
-
--- With an LF after it, the printed pair is the line that a new writer writes.
-pub pair_bytes-printed : (e : Encoding) (first : Bool) (key value : List ℕ)
-    → pair_bytes e first key value ++ line_feed ∷ [] ≡ printed e default_settings first (pair key value)
-pair_bytes-printed e first key value =
-    let x = printed_key e false first key ++ (equals_sign ∷ printed_characters e false in_key_or_value value) in
-    ap (λ o. encoded_text e x ++ (unwrap_or o [] ++ [])) (sym (encoded-ascii e line_feed (lit< tt)))
-    ∙ sym (encoded_text-append e x (line_feed ∷ []))
-    ∙ ap (encoded_text e) (append_assoc (printed_key e false first key) (equals_sign ∷ printed_characters e false in_key_or_value value) (line_feed ∷ []))

@@ -1,9 +1,12 @@
 -- What a source says after edits in turn.
 use Rattle.std.proofs.Common.{ℕ, List, [], ◌∷◌, ap, sym, subst}
 use Rattle.properties_format.specs.Encoding.{Encoding}
-use Rattle.properties_format.specs.Edits.{Edit, put, remove, set_value, IsEdited, AreEdited, IsScalarEdit, AreScalarEdits}
-use Rattle.properties_format.specs.Changed.{IsEditedIn, AreEditedIn}
+use Rattle.properties_format.specs.Edited.{edited}
+use Rattle.properties_format.specs.Edits.{Edit, put, remove, set_value, IsEdited, AreEdited, IsScalarEdit, AreScalarEdits, IsEditAllResult}
+use Rattle.properties_format.specs.Changed.{IsEditedIn, AreEditedIn, map_after, ReadsAfter}
 use Rattle.properties_format.proofs.Changed.Laws.{IsReadable, source_contents, IsReadTo, key_set-contents, key_removed-contents}
+use Rattle.properties_format.proofs.Changed.Maps.{map-after}
+use Rattle.properties_format.proofs.Changed.Read.{readable, reads-after}
 use Rattle.properties_format.proofs.Valued.Read.{value_set-contents}
 
 -- the same of each edit
@@ -22,3 +25,10 @@ edits-contents e source (edit ∷ edits) result r k h =
     let m = edit-contents e source edit h.0 r k.0 h.1 in
     let n = edits-contents e h.0 edits result m.readable k.1 h.2 in
     record { readable = n.readable; such = (source_contents e h.0, m.such, n.such) }
+
+-- The result of edits in turn reads as the source after them.
+pub edit_all-reads : (e : Encoding) (source : List ℕ) (edits : List Edit) (result : List ℕ) → AreScalarEdits edits
+    → IsEditAllResult e source edits (edited result)
+    → ReadsAfter (AreEditedIn edits) (map_after edits) e source result
+edit_all-reads e source edits result k h =
+    reads-after e source result (AreEditedIn edits) (map_after edits) (edits-contents e source edits result (readable e source h.0 h.1) k h.2) (map-after edits)

@@ -1,14 +1,11 @@
 -- Which bytes at the front determine the byte order mark.
-use Rattle.std.proofs.Common.{◌≡◌, ℕ, ◌≤◌, ◌==◌, ◌&&◌, ◌||◌, true, false, if◌then◌else◌, List, [], ◌∷◌, ◌++◌, length, drop, All, refl, sym, ap, ◌∙◌, inl, inr, arith}
+use Rattle.std.proofs.Common.{◌≡◌, ℕ, ◌≤◌, ◌==◌, ◌&&◌, ◌||◌, true, false, if◌then◌else◌, List, [], ◌∷◌, ◌++◌, length, drop, refl, sym, ap, ◌∙◌, inl, inr, arith}
 use Rattle.std.proofs.lemmas.List.{drop-append-le}
-use Rattle.std.proofs.lemmas.List.Elements.{All-drop}
 use Rattle.std.proofs.lemmas.Bool.{cases_Bool, or_parts, and_parts, and_left, or_from}
-use Rattle.properties_format.specs.Text.{byte, scalar}
 use Rattle.properties_format.specs.Pieces.{characters}
 use Rattle.properties_format.specs.Encoding.{Encoding, utf_8, utf_16le, utf_16be, InForce, byte_order_mark, begins_with, begins_like_bom, utf_8_bom, utf_16be_bom, utf_16le_bom}
 use Rattle.properties_format.specs.Reading.Encoding.{pieces_of, decoded_of}
 use Rattle.properties_format.specs.Reading.Waiting.{begins_longer, awaits_bom}
-use Rattle.properties_format.proofs.Encodings.Characters.{pieces_of-scalar}
 
 -- an encoding in force and its body, followed by more bytes
 abbrev pub followed : InForce → List ℕ → InForce
@@ -68,27 +65,6 @@ byte_order_mark-none e b h =
     let k = or_parts (begins_with utf_8_bom b) (begins_with utf_16be_bom b || begins_with utf_16le_bom b) h in
     let l = or_parts (begins_with utf_16be_bom b) (begins_with utf_16le_bom b) k.1 in
     rw (k.0, l.0, l.1) refl
-
--- The body is an end of the bytes.
-body-drop : (e : Encoding) (b : List ℕ) → (n : ℕ) × ((byte_order_mark e b).body ≡ drop n b)
-body-drop e b = elim (cases_Bool (begins_with utf_8_bom b)) [
-  | inl h ↦ (3, rw h refl)
-  | inr h ↦ elim (cases_Bool (begins_with utf_16be_bom b)) [
-    | inl k ↦ (2, rw (h, k) refl)
-    | inr k ↦ elim (cases_Bool (begins_with utf_16le_bom b)) [
-      | inl l ↦ (2, rw (h, k, l) refl)
-      | inr l ↦ (0, rw (h, k, l) refl)
-    ]
-  ]
-]
-
--- If the input consists of bytes, so does its body.
-pub byte_order_mark-bytes : (e : Encoding) (b : List ℕ) → All byte b → All byte (byte_order_mark e b).body
-byte_order_mark-bytes e b h = let d = body-drop e b in rw d.1 (All-drop byte d.0 b h)
-
--- Each decoded character is a scalar value.
-pub decoded_of-scalar : (e : Encoding) (b : List ℕ) → All byte b → All scalar (decoded_of e b)
-decoded_of-scalar e b h = pieces_of-scalar (byte_order_mark e b).encoding (byte_order_mark e b).body (byte_order_mark-bytes e b h)
 
 -- Bytes that don't begin like a byte order mark are decoded as a whole.
 pub decoded_of-unmarked : (e : Encoding) (b : List ℕ) → begins_like_bom b ≡ false → decoded_of e b ≡ characters (pieces_of e b)

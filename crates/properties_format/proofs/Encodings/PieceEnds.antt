@@ -57,7 +57,7 @@ utf_8-less p rest z (stray a e h) = stray a e h
 utf_8-less p rest z (broken a bs e h k) = broken a bs e h (breaks-less (a ∷ bs) rest z k)
 
 -- The front of an empty list is empty.
-no-front : (rest z : List ℕ) → rest ++ z ≡ [] → rest ≡ []
+pub no-front : (rest z : List ℕ) → rest ++ z ≡ [] → rest ≡ []
 no-front [] z h = refl
 no-front (b ∷ rest) z h = cc
 

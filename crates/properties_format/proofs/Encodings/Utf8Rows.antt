@@ -247,7 +247,3 @@ front-tail (r ∷ rs) (b ∷ bs) c t h = front-tail rs bs c (and_parts (nat_le 0
 -- A byte after the first is a tail byte.
 pub next-tail : (b : ℕ) (rs : List Range) (bs : List ℕ) (c : ℕ) → ranges_after well_formed_rows b ≡ Some rs → FitsFront rs (bs ++ c ∷ []) → IsIn tail c
 next-tail b rs bs c e h = front-tail rs bs c (row-passes are_tails well_formed_rows b rs refl e) h
-
--- A row has at most three ranges after the first.
-pub row-short : (b : ℕ) (rs : List Range) → ranges_after well_formed_rows b ≡ Some rs → length rs ≤ 3
-row-short b rs e = leb-true (length rs) 3 (row-passes (λ v. nat_le (length v) 3) well_formed_rows b rs refl e)

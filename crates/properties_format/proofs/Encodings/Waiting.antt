@@ -1,7 +1,7 @@
 -- Bytes that don't wait for more determine their first piece.
-use Rattle.std.proofs.Common.{◌≡◌, ℕ, ◌<◌, ◌≤◌, ◌&&◌, true, false, List, [], ◌∷◌, ◌++◌, length, drop, Option, Some, None, refl, sym, ap, ◌∙◌, inl, inr, arith, append_assoc}
+use Rattle.std.proofs.Common.{◌≡◌, ℕ, ◌&&◌, false, List, [], ◌∷◌, ◌++◌, length, drop, Option, Some, None, refl, sym, ap, ◌∙◌, inl, inr, append_assoc}
 use Rattle.std.proofs.Math.Seq.{drop-append_seam}
-use Rattle.std.proofs.lemmas.Bool.{cases_Bool, cond-false, and_parts}
+use Rattle.std.proofs.lemmas.Bool.{cases_Bool, cond-false}
 use Rattle.properties_format.specs.Pieces.{Piece, characters}
 use Rattle.properties_format.specs.Surrogates.{is_high}
 use Rattle.properties_format.specs.Utf8.{Range, well_formed_rows}
@@ -11,7 +11,6 @@ use Rattle.properties_format.specs.Reading.Utf16.{high_piece, first_utf_16_piece
 use Rattle.properties_format.specs.Encoding.{Encoding, windows_1252, utf_8, utf_16le, utf_16be}
 use Rattle.properties_format.specs.Reading.Encoding.{first_piece, pieces_of}
 use Rattle.properties_format.specs.Reading.Waiting.{fits_short, awaits_byte, awaits_unit, awaits_more}
-use Rattle.properties_format.proofs.Encodings.Utf8Rows.{row-short}
 use Rattle.properties_format.proofs.Encodings.Pieces.{first-meets, pieces_of-piece}
 
 -- If bytes don't wait, the bytes after them don't change which ones fit the ranges.
@@ -77,32 +76,3 @@ pieces_of-decided e b d y h =
     ∙ ap (λ v. p ∷ pieces_of e (drop (length p.bytes) v)) s
     ∙ ap (λ v. p ∷ pieces_of e v) (drop-append_seam p.bytes (m.0 ++ y))
     ∙ ap (λ v. p ∷ pieces_of e (v ++ y)) (sym r)
-
--- ---- At most three bytes wait.
-
--- Bytes that wait for more of the ranges are fewer than the ranges.
-short-fits : (rs : List Range) (d : List ℕ) → fits_short rs d ≡ true → length d < length rs
-short-fits [] d h = absurd (cc)
-short-fits (r ∷ rs) [] h = omega arith
-short-fits (r ∷ rs) (b ∷ d) h = let k = short-fits rs d (and_parts (is_in r b) (fits_short rs d) h).1 in omega arith
-
--- In UTF-8, at most two bytes after the first wait.
-utf_8-short : (b : ℕ) (d : List ℕ) (o : Option (List Range)) → ranges_after well_formed_rows b ≡ o → awaits_byte o d ≡ true → length d < 3
-utf_8-short b d None e h = absurd (cc)
-utf_8-short b d (Some rs) e h =
-    let k = row-short b rs e in
-    let l = short-fits rs d h in omega arith
-
--- In UTF-16, at most two bytes after the first wait.
-utf_16-short : (unit : ℕ → ℕ → ℕ) (a : ℕ) (d : List ℕ) → awaits_unit unit a d ≡ true → length d < 3
-utf_16-short unit a [] h = omega arith
-utf_16-short unit a (b ∷ []) h = omega arith
-utf_16-short unit a (b ∷ c ∷ []) h = omega arith
-utf_16-short unit a (b ∷ c ∷ d ∷ more) h = absurd (cc)
-
--- In each encoding, at most three bytes wait.
-pub awaits_more-short : (e : Encoding) (b : ℕ) (d : List ℕ) → awaits_more e b d ≡ true → length (b ∷ d) ≤ 3
-awaits_more-short windows_1252 b d h = absurd (cc)
-awaits_more-short utf_8 b d h = utf_8-short b d (ranges_after well_formed_rows b) refl h
-awaits_more-short utf_16le b d h = utf_16-short low_first b d h
-awaits_more-short utf_16be b d h = utf_16-short high_first b d h

@@ -33,7 +33,7 @@ escaped-scalar : (c : ℕ) → scalar c → scalar (escaped_character c)
 escaped-scalar c h = grind (arith, nat_tests)
 
 -- The rest of a text of scalar values consists of scalar values.
-rest-scalars : (x y : List ℕ) → All scalar (x ++ y) → All scalar y
+pub rest-scalars : (x y : List ℕ) → All scalar (x ++ y) → All scalar y
 rest-scalars [] y h = h
 rest-scalars (c ∷ x) y h = rest-scalars x y (All-tail scalar c (x ++ y) h)
 

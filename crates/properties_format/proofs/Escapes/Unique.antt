@@ -158,7 +158,3 @@ past-meets (c ∷ cs) [] rest e =
 pub meaning_of-meets : (text : List ℕ) → IsMeaning text (meaning_of text)
 unfolding meaning_of
 meaning_of-meets text = past-meets text [] text refl
-
--- A text resolves to exactly one meaning.
-pub meaning-unique : (text : List ℕ) (one other : Meaning) → IsMeaning text one → IsMeaning text other → one ≡ other
-meaning-unique text one other h k = meaning_of-only text one h ∙ sym (meaning_of-only text other k)

@@ -52,7 +52,3 @@ groups_of-together (g ∷ gs) rest e h k =
 pub groups_of-only : (ls : List Line) (e : InputEnd) (gs : List (List Line)) → IsGroups ls e gs → gs ≡ groups_of ls e
 groups_of-only ls e gs h =
     h.are_groups ∙ sym (ap (λ v. groups_of v e) h.are_lines ∙ groups_of-together h.whole h.unfinished e h.are_whole h.is_unfinished)
-
--- Two lists of groups of the same lines are equal.
-pub groups-unique : (ls : List Line) (e : InputEnd) (a b : List (List Line)) → IsGroups ls e a → IsGroups ls e b → a ≡ b
-groups-unique ls e a b h k = groups_of-only ls e a h ∙ sym (groups_of-only ls e b k)

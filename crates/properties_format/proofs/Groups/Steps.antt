@@ -1,9 +1,9 @@
 -- The groups, given the next line, both at the start of a group and in an open group.
 use Rattle.std.proofs.Common.{◌≡◌, Bool, true, false, List, [], ◌∷◌, ◌++◌, refl}
 use Rattle.std.specs.Prelude.{◌||◌}
-use Rattle.properties_format.specs.Lines.{Line, InputEnd, more}
+use Rattle.properties_format.specs.Lines.{Line, InputEnd}
 use Rattle.properties_format.specs.Groups.{is_open, is_comment_line}
-use Rattle.properties_format.specs.Reading.Groups.{closes, groups_after, groups_of, open_after}
+use Rattle.properties_format.specs.Reading.Groups.{closes, groups_after, groups_of}
 
 -- A line that finishes its group.
 pub groups_after-close : (p : List Line) (l : Line) (ls : List Line) (e : InputEnd) → closes p l ≡ true
@@ -14,14 +14,6 @@ groups_after-close p l ls e h = rw (h, groups_after) refl
 pub groups_after-leave : (p : List Line) (l : Line) (ls : List Line) (e : InputEnd) → closes p l ≡ false
     → groups_after p (l ∷ ls) e ≡ groups_after (p ++ l ∷ []) ls e
 groups_after-leave p l ls e h = rw (h, groups_after) refl
-
--- After a line that finishes its group, no group is open.
-pub open_after-close : (p : List Line) (l : Line) (ls : List Line) → closes p l ≡ true → open_after p (l ∷ ls) ≡ open_after [] ls
-open_after-close p l ls h = rw (h, open_after) refl
-
--- After a line that leaves it open, the group is open and has that line.
-pub open_after-leave : (p : List Line) (l : Line) (ls : List Line) → closes p l ≡ false → open_after p (l ∷ ls) ≡ open_after (p ++ l ∷ []) ls
-open_after-leave p l ls h = rw (h, open_after) refl
 
 -- ---- which line finishes a group
 
@@ -72,10 +64,3 @@ groups_after-closed p l ls e h = groups_after-close p l ls e (closes-closed p l 
 pub groups_after-open : (m : Line) (ms : List Line) (l : Line) (ls : List Line) (e : InputEnd) → is_open l.text ≡ true
     → groups_after (m ∷ ms) (l ∷ ls) e ≡ groups_after (m ∷ ms ++ l ∷ []) ls e
 groups_after-open m ms l ls e h = groups_after-leave (m ∷ ms) l ls e (closes-goes_on m ms l h)
-
--- ---- no line comes
-
--- If more may come, an open group isn't a group yet.
-pub groups_after-more : (p : List Line) → groups_after p [] more ≡ []
-groups_after-more [] = refl
-groups_after-more (m ∷ ms) = refl

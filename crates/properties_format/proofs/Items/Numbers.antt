@@ -6,10 +6,9 @@ use Rattle.properties_format.specs.Lines.{InputEnd, end, fault, more, Ended, Lin
 use Rattle.properties_format.specs.Reading.Lines.{lines_of}
 use Rattle.properties_format.specs.Groups.{AreWhole, lines_in, last_group, IsGroups, joined, first_number}
 use Rattle.properties_format.specs.Reading.Groups.{groups_of}
-use Rattle.properties_format.specs.Items.{Entry, NumbersAscend, Outcome, ignored, given, broken, IsItems, last_entries}
+use Rattle.properties_format.specs.Items.{Entry, NumbersAscend, Outcome, ignored, given, broken, last_entries}
 use Rattle.properties_format.specs.Reading.Items.{outcome_of, followed, entries_of, items_of}
 use Rattle.properties_format.proofs.Groups.Meets.{groups_of-meets}
-use Rattle.properties_format.proofs.Items.Unique.{items_of-only}
 
 -- the numbers of the lines ascend, start above low, and are at most high
 abbrev LinesWithin : ℕ → ℕ → List Line → Type 0
@@ -118,7 +117,3 @@ unfolding items_of
 items_of-ascend e bytes ending =
     let lines = lines_of (decoded_of e bytes) in
     subst (λ v. NumbersAscend 0 (entries_of v ending (groups_of (numbered_lines lines ending) ending))) (zero-add (line_ends lines)) (lines-ascend 0 lines ending)
-
--- The numbers of the items ascend strictly, and are at least 1.
-pub items-ascend : (e : Encoding) (bytes : List ℕ) (ending : InputEnd) (entries : List Entry) → IsItems e bytes ending entries → NumbersAscend 0 entries
-items-ascend e bytes ending entries h = rw (items_of-only e bytes ending entries h) (items_of-ascend e bytes ending)

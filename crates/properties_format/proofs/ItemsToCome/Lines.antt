@@ -3,21 +3,20 @@
 use Rattle.std.proofs.Common.{◌≡◌, ◌==◌, ℕ, ◌+◌, ◌<◌, Bool, true, false, List, [], ◌∷◌, ◌++◌, length, refl, ap, ap₂, sym, ◌∙◌, inl, inr}
 use Rattle.std.proofs.Common.{append_assoc, append-nil, eqb-true, add-zero}
 use Rattle.std.specs.Prelude.{if◌then◌else◌}
-use Rattle.std.proofs.lemmas.Bool.{cases_Bool, or_cases}
+use Rattle.std.proofs.lemmas.Bool.{or_cases}
 use Rattle.properties_format.specs.Text.{line_feed, carriage_return, is_line_end, LineEnding, lf}
 use Rattle.properties_format.specs.Pieces.{characters}
 use Rattle.properties_format.specs.Encoding.{InForce, ascii_bytes, byte_order_mark}
 use Rattle.properties_format.specs.Reading.Encoding.{pieces_of}
 use Rattle.properties_format.specs.Reading.Waiting.{awaits_bom}
 use Rattle.properties_format.specs.Reading.Cut.{decoded_line}
-use Rattle.properties_format.specs.Lines.{Lines, HoldsNoLineEnd, InputEnd, end, fault, more, Line, line_ends, numbered}
+use Rattle.properties_format.specs.Lines.{Lines, HoldsNoLineEnd, InputEnd, end, more, Line, line_ends, numbered}
 use Rattle.properties_format.specs.Reading.Lines.{begins_with_lf, rest_of_end, lines_of}
-use Rattle.properties_format.specs.Items.{Entry, read_fault, last_entries}
+use Rattle.properties_format.specs.Items.{Entry, last_entries}
 use Rattle.properties_format.specs.ItemsToCome.{ReaderState, in_force}
 use Rattle.properties_format.specs.Reading.ItemsToCome.{text_to_come, natural_to_come, last_to_come}
 use Rattle.properties_format.specs.Reading.ReaderSteps.{Gives, after_read, after_decided, after_passed, after_line, next_line, HoldsLine, HoldsNoEnd}
 use Rattle.properties_format.proofs.Encodings.ByteOrderMarks.{byte_order_mark-append, followed}
-use Rattle.properties_format.proofs.Lines.Numbers.{AreNumbered, numbered-in_order}
 use Rattle.properties_format.proofs.Lines.Only.{lines_of-plain}
 use Rattle.properties_format.proofs.Lines.Plain.{one-more, plain-no_lf, without_leading_lf-none}
 use Rattle.properties_format.proofs.Cut.Units.{lf_first-append}
@@ -202,20 +201,6 @@ gives-last s t y h k =
     let after = natural-done t y end k in
     record { natural = now.0 ∙ ap (λ v. next_line s s.held ∷ v) (sym after.0); last = now.1 ∙ sym after.1 }
 
--- If a read fails, the held bytes aren't a line, and the error has the number of the line that they begin.
-pub natural-fault : (s : ReaderState) → HoldsNoEnd s → (natural_to_come s [] fault ≡ []) × (last_to_come s [] fault ≡ read_fault (s.passed + 1) ∷ [])
-natural-fault s h = at-last s fault h (no_end-decoded s.encoding s.held h.none)
-
 -- If more may come, the held bytes aren't a line yet.
 pub natural-more : (s : ReaderState) → HoldsNoEnd s → (natural_to_come s [] more ≡ []) × (last_to_come s [] more ≡ [])
 natural-more s h = at-last s more h (no_end-decoded s.encoding s.held h.none)
-
--- ---- all natural lines
-
--- The natural lines to come are numbered after the line ends that were passed, without gaps.
-pub natural-in_order : (s : ReaderState) (d : List ℕ) (ending : InputEnd) → AreNumbered s.passed (natural_to_come s d ending)
-unfolding natural_to_come
-natural-in_order s d ending = elim (cases_Bool s.is_done) [
-  | inl h ↦ rw h tt
-  | inr h ↦ let lines = lines_of (text_to_come s d) in rw h (numbered-in_order s.passed lines.ended lines.last ending)
-]

@@ -4,15 +4,14 @@ use Rattle.properties_format.specs.Text.{line_feed}
 use Rattle.properties_format.specs.Encoding.{ascii_bytes}
 use Rattle.properties_format.specs.Cut.{units}
 use Rattle.properties_format.specs.Reading.Lines.{begins_with_lf}
-use Rattle.properties_format.specs.Reading.Waiting.{awaits_bom}
 use Rattle.properties_format.specs.Lines.{InputEnd, Line}
 use Rattle.properties_format.specs.Groups.{is_open, is_comment_line, without_open_backslash}
 use Rattle.properties_format.specs.Items.{Entry}
 use Rattle.properties_format.specs.Reading.Items.{outcome_of, followed}
 use Rattle.properties_format.specs.ItemsToCome.{ReaderState}
 use Rattle.properties_format.specs.Reading.ItemsToCome.{items_to_come, entries_pending}
-use Rattle.properties_format.specs.Reading.ReaderSteps.{Gives, after_read, after_decided, after_passed, HoldsLine, next_line, after_line, ReadsLines, ReadsOn, ReadsLogical}
-use Rattle.properties_format.proofs.ItemsToCome.Lines.{gives-read, gives-decided, gives-passed_lf, gives-passed_none, gives-line}
+use Rattle.properties_format.specs.Reading.ReaderSteps.{Gives, after_read, after_passed, HoldsLine, next_line, after_line, ReadsLines, ReadsOn, ReadsLogical}
+use Rattle.properties_format.proofs.ItemsToCome.Lines.{gives-read, gives-passed_lf, gives-passed_none, gives-line}
 use Rattle.properties_format.proofs.ItemsToCome.Entries.{items_to_come-pending, gives-on, pending-comment_line, pending-closed, pending-open}
 
 -- ---- natural lines
@@ -33,10 +32,6 @@ lines-then h k = record { gives = λ d ending. gives-on (h.gives d ending) (k.gi
 -- Bytes are read and held.
 pub lines-read : (s : ReaderState) (r : List ℕ) → ReadsLines s r [] (after_read s r)
 lines-read s r = record { gives = λ d ending. gives-read s r d ending }
-
--- Bytes that don't wait for more decide whether the input begins with a byte order mark.
-pub lines-decided : (s : ReaderState) → s.is_decided ≡ false → awaits_bom s.held ≡ false → ReadsLines s [] [] (after_decided s)
-lines-decided s h k = record { gives = λ d ending. gives-decided s d ending h k }
 
 -- An LF unit after a CR is skipped.
 pub lines-passed_lf : (s : ReaderState) (rest : List ℕ) → s.is_decided ≡ true → s.after_cr ≡ true → s.held ≡ ascii_bytes s.encoding line_feed ++ rest

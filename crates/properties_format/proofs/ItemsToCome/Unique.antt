@@ -9,7 +9,7 @@ use Rattle.properties_format.specs.Reading.Encoding.{pieces_of}
 use Rattle.properties_format.specs.Lines.{InputEnd, line_ends, numbered}
 use Rattle.properties_format.specs.Reading.Lines.{rest_of_end, without_leading_lf, lines_of}
 use Rattle.properties_format.specs.Reading.Groups.{groups_of}
-use Rattle.properties_format.specs.Items.{Entry, IsItems}
+use Rattle.properties_format.specs.Items.{Entry}
 use Rattle.properties_format.specs.Reading.Items.{entries_of, items_of}
 use Rattle.properties_format.specs.ItemsToCome.{ReaderState, start, in_force, IsAfterEnd, AreFurtherEntries, IsItemsToCome}
 use Rattle.properties_format.specs.Reading.ItemsToCome.{text_to_come, further_entries, items_to_come}
@@ -18,7 +18,7 @@ use Rattle.properties_format.proofs.Lines.Meets.{lines_of-meets}
 use Rattle.properties_format.proofs.Lines.Only.{lines_of-only}
 use Rattle.properties_format.proofs.Groups.Meets.{groups_of-meets}
 use Rattle.properties_format.proofs.Groups.Only.{groups_of-only}
-use Rattle.properties_format.proofs.Items.Unique.{entries_of-meets, entries_of-only, items_of-meets, items_of-only}
+use Rattle.properties_format.proofs.Items.Unique.{entries_of-meets, entries_of-only}
 
 -- ---- the text after a line end
 
@@ -106,13 +106,3 @@ unfolding items_to_come items_of
 items_to_come-start e d ending =
     let lines = lines_of (characters (pieces_of (byte_order_mark e d).encoding (byte_order_mark e d).body)) in
     ap (λ v. entries_of v ending (groups_of (numbered 0 lines.ended lines.last ending) ending)) (zero-add (line_ends lines))
-
--- By the definitions: what comes at the start are the items of the input.
-pub to_come-is_items : (e : Encoding) (d : List ℕ) (ending : InputEnd) (entries : List Entry) → IsItemsToCome (start e) d ending entries
-    → IsItems e d ending entries
-to_come-is_items e d ending entries h = rw (items_to_come-only (start e) d ending entries h, items_to_come-start e d ending) (items_of-meets e d ending)
-
--- By the definitions: the items of the input come at the start.
-pub items-are_to_come : (e : Encoding) (d : List ℕ) (ending : InputEnd) (entries : List Entry) → IsItems e d ending entries
-    → IsItemsToCome (start e) d ending entries
-items-are_to_come e d ending entries h = rw (items_of-only e d ending entries h, ← items_to_come-start e d ending) (items_to_come-meets (start e) d ending)

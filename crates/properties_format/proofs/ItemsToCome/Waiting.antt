@@ -1,13 +1,10 @@
 -- Which bytes decide what comes next: whether there is a byte order mark at the front, or an LF after a CR.
-use Rattle.std.proofs.Common.{◌≡◌, ◌==◌, ◌&&◌, ℕ, Bool, true, false, List, [], ◌∷◌, refl, sym, eq-eqb, inl, inr, arith}
-use Rattle.std.proofs.lemmas.Bool.{ne_eqb, eqb-false}
+use Rattle.std.proofs.Common.{◌≡◌, ◌==◌, ℕ, true, false, List, [], ◌∷◌, refl, inl, inr, arith}
 use Rattle.std.proofs.lemmas.Bool.Decides.{eqb_tells}
-use Rattle.properties_format.specs.Encoding.{ascii_bytes, begins_with, Encoding, windows_1252, utf_8, utf_16le, utf_16be, byte_order_mark}
+use Rattle.std.proofs.Math.Bool.{and-false}
+use Rattle.properties_format.specs.Encoding.{Encoding, windows_1252, utf_8, utf_16le, utf_16be, byte_order_mark}
 use Rattle.properties_format.specs.Reading.Waiting.{awaits_bom}
-use Rattle.properties_format.specs.Text.{line_feed}
-use Rattle.properties_format.specs.Utf16.{low_first, high_first}
-use Rattle.properties_format.specs.Reading.Lines.{begins_with_lf}
-use Rattle.properties_format.specs.Cut.{units, HoldsNoLineEndUnit}
+use Rattle.properties_format.specs.Cut.{HoldsNoLineEndUnit}
 use Rattle.properties_format.specs.ItemsToCome.{ReaderState}
 use Rattle.properties_format.specs.Reading.ReaderSteps.{after_decided, HoldsNoEnd}
 use Rattle.properties_format.proofs.Encodings.ByteOrderMarks.{awaits_bom-long}
@@ -66,11 +63,6 @@ front-one e b h = elim (eqb_tells 0xef b) [
   ]
 ]
 
--- A test combined with a failing one fails.
-and-false : (b : Bool) → (b && false) ≡ false
-and-false true = refl
-and-false false = refl
-
 -- for two bytes that wait for a byte order mark
 front-two : (e : Encoding) (b c : ℕ) → awaits_bom (b ∷ c ∷ []) ≡ true → IsPlainFront e (b ∷ c ∷ [])
 front-two e b c h = elim (eqb_tells 0xef b) [
@@ -95,45 +87,3 @@ pub waiting-no_end : (s : ReaderState) → s.is_done ≡ false → awaits_bom s.
 waiting-no_end s h k =
     let f = waiting-front s.encoding s.held k in
     record { going = h; decided = refl; none = rw f.0 f.1 }
-
--- ---- An LF.
-
--- The first byte decides.
-lf-byte : (c : ℕ) → (line_feed == c && true) ≡ (c == line_feed)
-lf-byte c = elim (eqb_tells line_feed c) [
-  | inl k ↦ rw (← k.1) refl
-  | inr k ↦ rw k.0 (sym (ne_eqb c line_feed (λ m. let f : (line_feed == c) ≡ true = eq-eqb line_feed c (sym m) in cc)))
-]
-
--- The first two bytes decide, with the low byte first.
-low-unit : (a b : ℕ) → (line_feed == a && (0 == b && true)) ≡ (low_first a b == line_feed)
-low-unit a b = elim (eqb_tells line_feed a) [
-  | inl k ↦ elim (eqb_tells 0 b) [
-    | inl m ↦ rw (← k.1, ← m.1) refl
-    | inr m ↦ rw (k.0, m.0) (sym (ne_eqb (low_first a b) line_feed (λ e. let n = eqb-false 0 b m.0 in omega arith)))
-  ]
-  | inr k ↦ rw k.0 (sym (ne_eqb (low_first a b) line_feed (λ e. let n = eqb-false line_feed a k.0 in omega arith)))
-]
-
--- The first two bytes decide, with the high byte first.
-high-unit : (a b : ℕ) → (0 == a && (line_feed == b && true)) ≡ (high_first a b == line_feed)
-high-unit a b = elim (eqb_tells 0 a) [
-  | inl k ↦ elim (eqb_tells line_feed b) [
-    | inl m ↦ rw (← k.1, ← m.1) refl
-    | inr m ↦ rw (k.0, m.0) (sym (ne_eqb (high_first a b) line_feed (λ e. let n = eqb-false line_feed b m.0 in omega arith)))
-  ]
-  | inr k ↦ rw k.0 (sym (ne_eqb (high_first a b) line_feed (λ e. let n = eqb-false 0 a k.0 in omega arith)))
-]
-
--- Bytes begin with an LF unit exactly if they begin with its bytes.
-pub lf_first-bytes : (e : Encoding) (d : List ℕ) → begins_with (ascii_bytes e line_feed) d ≡ begins_with_lf (units e d)
-lf_first-bytes windows_1252 [] = refl
-lf_first-bytes windows_1252 (c ∷ d) = lf-byte c
-lf_first-bytes utf_8 [] = refl
-lf_first-bytes utf_8 (c ∷ d) = lf-byte c
-lf_first-bytes utf_16le [] = refl
-lf_first-bytes utf_16le (a ∷ []) = and-false (line_feed == a)
-lf_first-bytes utf_16le (a ∷ b ∷ d) = low-unit a b
-lf_first-bytes utf_16be [] = refl
-lf_first-bytes utf_16be (a ∷ []) = and-false (0 == a)
-lf_first-bytes utf_16be (a ∷ b ∷ d) = high-unit a b

@@ -41,7 +41,3 @@ lines_of-together (l ∷ ls) last h = lines_of-before l.text l.by (put_together 
 -- Lines of the text are the computed ones.
 pub lines_of-only : (x : List ℕ) (lines : Lines) → IsLines x lines → lines ≡ lines_of x
 lines_of-only x lines h = sym (ap lines_of h.text ∙ lines_of-together lines.ended lines.last h.are_lines)
-
--- Two lists of lines of one text are equal.
-pub lines-unique : (x : List ℕ) (a b : Lines) → IsLines x a → IsLines x b → a ≡ b
-lines-unique x a b h k = lines_of-only x a h ∙ sym (lines_of-only x b k)

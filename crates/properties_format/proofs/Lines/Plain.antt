@@ -1,8 +1,8 @@
 -- Texts without line ends, and what the lines of a text say about its first and its last character.
-use Rattle.std.proofs.Common.{◌≡◌, ℕ, ◌==◌, true, false, List, [], ◌∷◌, ◌++◌, refl, ap, sym, ◌∙◌, suc, ◌+◌, append_assoc, arith}
-use Rattle.std.proofs.lemmas.Bool.{or_parts, eqb-true}
+use Rattle.std.proofs.Common.{◌≡◌, ℕ, ◌==◌, false, List, [], ◌∷◌, ◌++◌, refl, ap, sym, ◌∙◌, suc, ◌+◌, append_assoc, arith}
+use Rattle.std.proofs.lemmas.Bool.{or_parts}
 use Rattle.properties_format.specs.Text.{line_feed, carriage_return, LineEnding, lf, cr, crlf, line_ending_text}
-use Rattle.properties_format.specs.Lines.{Ended, put_together, HoldsNoLineEnd, BeginsWithNoLoneLf, AreLines, EndsInCr}
+use Rattle.properties_format.specs.Lines.{Ended, put_together, HoldsNoLineEnd, BeginsWithNoLoneLf, AreLines}
 use Rattle.properties_format.specs.Reading.Lines.{begins_with_lf, ends_in_cr, without_leading_lf, lines_of}
 use Rattle.properties_format.proofs.Lines.Meets.{lines_of-meets}
 
@@ -76,16 +76,6 @@ pub ends_in_cr-append : (x : List ℕ) (c : ℕ) (y : List ℕ) → ends_in_cr (
 ends_in_cr-append [] c y = refl
 ends_in_cr-append (b ∷ []) c y = refl
 ends_in_cr-append (b ∷ d ∷ x) c y = ends_in_cr-append (d ∷ x) c y
-
--- If the test passes, the text ends in a CR.
-pub ends_in_cr-meets : (x : List ℕ) → ends_in_cr x ≡ true → EndsInCr x
-ends_in_cr-meets [] h = absurd (cc)
-ends_in_cr-meets (c ∷ []) h = ([], ap (λ v. v ∷ []) (eqb-true c carriage_return h))
-ends_in_cr-meets (c ∷ d ∷ ds) h = let k : EndsInCr (d ∷ ds) = ends_in_cr-meets (d ∷ ds) h in (c ∷ k.0, ap (λ v. c ∷ v) k.1)
-
--- A text that ends in a CR passes the test.
-pub ends_in_cr-only : (x : List ℕ) → EndsInCr x → ends_in_cr x ≡ true
-ends_in_cr-only x h = ap ends_in_cr h.1 ∙ ends_in_cr-append h.0 carriage_return []
 
 -- A text with characters after a line end ends in a CR exactly if those characters do.
 pub ends-after : (text : List ℕ) (by : LineEnding) (c : ℕ) (x : List ℕ) → ends_in_cr (text ++ (line_ending_text by ++ c ∷ x)) ≡ ends_in_cr (c ∷ x)

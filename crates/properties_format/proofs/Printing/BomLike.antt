@@ -154,7 +154,7 @@ utf_8_bytes-cons : (c : ℕ) (cs x : List ℕ) → printed_character utf_8 false
 utf_8_bytes-cons c cs x e = encoded_text-append utf_8 (printed_character utf_8 false in_key_or_value c) (printed_characters utf_8 false in_key_or_value cs) ∙ ap (λ v. encoded_text utf_8 v ++ utf_8_bytes_of cs) e
 
 -- A text that begins with a list is that list followed by a rest.
-begins-rest : (ms d : List ℕ) → begins_with ms d ≡ true → (rest : List ℕ) × (d ≡ ms ++ rest)
+pub begins-rest : (ms d : List ℕ) → begins_with ms d ≡ true → (rest : List ℕ) × (d ≡ ms ++ rest)
 begins-rest [] d h = (d, refl)
 begins-rest (m ∷ ms) [] h = cc
 begins-rest (m ∷ ms) (b ∷ d) h =

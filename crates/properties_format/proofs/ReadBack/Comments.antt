@@ -83,7 +83,7 @@ tail-plainly e only (c ∷ tail) y cs h b p s =
 -- ---- the prefix
 
 -- An ASCII character is printed unescaped.
-literal-ascii : (e : Encoding) (only : Bool) (c : ℕ) → c < 0x80 → literal e only c ≡ c ∷ []
+pub literal-ascii : (e : Encoding) (only : Bool) (c : ℕ) → c < 0x80 → literal e only c ≡ c ∷ []
 literal-ascii e only c h = cond-true (may_be_unescaped e only c) (c ∷ []) (unicode_escape c) (may_be_unescaped-ascii e only c h)
 
 -- A comment sign is ASCII, and isn't a line end.

@@ -1,6 +1,5 @@
 -- The tests of settings pass for exactly the good settings.
 use Rattle.std.proofs.Common.{◌≡◌, ℕ, ◌==◌, ◌&&◌, ◌||◌, not, true, false, List, [], ◌∷◌, ◌++◌, refl, ap, sym, ◌∙◌, inl, inr}
-use Rattle.std.specs.Bool.{Decides}
 use Rattle.std.proofs.lemmas.Bool.{cases_Bool, cond-true, cond-false, and_parts, and_from, or_cases, or_left, or_right, not-true, not_from_false, eqb-true}
 use Rattle.properties_format.specs.Text.{is_blank, is_blanks, is_line_end, is_comment_sign, is_separator}
 use Rattle.properties_format.specs.Lines.{HoldsNoLineEnd}
@@ -75,10 +74,6 @@ divided-is_good (c ∷ indent) sign tail h m p = prefix-of_blank c (indent ++ (s
 pub is_good_prefix-from : (prefix : List ℕ) → IsGoodPrefix prefix → is_good_prefix prefix ≡ true
 is_good_prefix-from prefix g = ap is_good_prefix g.division ∙ divided-is_good g.indent g.sign g.tail g.indented g.signed g.one_line
 
--- The test passes for exactly the good prefixes.
-pub is_good_prefix-Decides : (prefix : List ℕ) → Decides (is_good_prefix prefix) (IsGoodPrefix prefix)
-is_good_prefix-Decides prefix = (IsGoodPrefix-from_test prefix, is_good_prefix-from prefix)
-
 -- What follows the first comment sign is the tail of the division.
 tail-divided : (indent : List ℕ) (sign : ℕ) (tail : List ℕ) → AreBlanks indent → is_comment_sign sign ≡ true → tail_of (indent ++ (sign ∷ tail)) ≡ tail
 tail-divided [] sign tail h m = cond-true (is_comment_sign sign) _ _ m
@@ -136,7 +131,3 @@ is_good_separator-from [] (inl g) = is_signed_separator-from [] g
 is_good_separator-from [] (inr g) = absurd (g.some refl)
 is_good_separator-from (c ∷ cs) (inl g) = or_left (is_signed_separator (c ∷ cs)) (is_blanks (c ∷ cs)) (is_signed_separator-from (c ∷ cs) g)
 is_good_separator-from (c ∷ cs) (inr g) = or_right (is_signed_separator (c ∷ cs)) (is_blanks (c ∷ cs)) (is_blanks-from (c ∷ cs) g.blank)
-
--- The test passes for exactly the good separators.
-pub is_good_separator-Decides : (separator : List ℕ) → Decides (is_good_separator separator) (IsGoodSeparator separator)
-is_good_separator-Decides separator = (IsGoodSeparator-from_test separator, is_good_separator-from separator)

@@ -2,7 +2,7 @@
 use Rattle.std.proofs.Common.{◌≡◌, ◌≢◌, ◌<◌, ℕ, zero, suc, ◌+◌, true, false, List, [], ◌∷◌, ◌++◌, length, length-append, get_or, refl, ap, ap₂, sym, ◌∙◌, inl, inr, subst, arith}
 use Rattle.std.specs.Prelude.{Option, Some, None, Contains, AllPairs, filter_map, bytes_eq}
 use Rattle.std.specs.List.{AllByRecursion, cons_option}
-use Rattle.std.proofs.lemmas.Bool.{cases_Bool, and_parts}
+use Rattle.std.proofs.lemmas.Bool.{cases_Bool}
 use Rattle.std.proofs.lemmas.List.Elements.{All-from_recursion, filter_map-append}
 use Rattle.std.proofs.lemmas.List.Kept.{AllPairs-cons}
 use Rattle.std.proofs.lemmas.Slice.Eq.{bytes_eq-Decides}
@@ -17,7 +17,7 @@ use Rattle.properties_format.specs.Body.{HeldLine, as_lines, groups_bytes}
 use Rattle.properties_format.specs.Edited.{is_editable}
 use Rattle.properties_format.specs.Edits.{Edit, AreScalarEdits}
 use Rattle.properties_format.specs.Reading.Body.{entries_in, held_groups_of}
-use Rattle.properties_format.specs.Reading.Cells.{Cell, live, cell_has, places_from, places}
+use Rattle.properties_format.specs.Reading.Cells.{Cell, live, places_from, places}
 use Rattle.properties_format.specs.Reading.Edits.{edits_made}
 use Rattle.properties_format.specs.Reading.Items.{outcome_of, followed, items_of}
 use Rattle.properties_format.specs.Reading.Keys.{Has, HasNot, ComesBefore, AreFirstOf, slot_keys, IsFirstPlace, AreFirsts, keys_at}
@@ -27,7 +27,8 @@ use Rattle.properties_format.specs.Reading.EditedSlots.{slots_after}
 use Rattle.properties_format.proofs.Body.Groups.{held_groups_of-only}
 use Rattle.properties_format.proofs.Body.Numbers.{items_of-groups}
 use Rattle.properties_format.proofs.Maps.{value_in-meets}
-use Rattle.properties_format.proofs.Slots.Cells.{live-alive, live-append, places-has, places-other, places-append, places-none}
+use Rattle.properties_format.proofs.Slots.Cells.{live-alive, live-append, places-append, places-none}
+use Rattle.properties_format.proofs.Slots.RemoveCells.{first-cell}
 use Rattle.properties_format.proofs.Slots.Edits.{reached}
 use Rattle.properties_format.proofs.Slots.Lines.{with_ending, texts-with}
 use Rattle.properties_format.proofs.Slots.Merged.{AreInTurn, merged, merged-one, merged-two, merged-groups, one-ending, after-lf}
@@ -187,37 +188,6 @@ slots-keys e source edits ok k items =
 
 -- ---- the first slot of each key
 
--- The cell at the first index of a key.
-record IsFirstCell (key : List ℕ) (n : ℕ) (cells : List Cell) (i : ℕ) : Type 0 where
-  before : List Cell
-  cell : Cell
-  after : List Cell
-  division : cells ≡ before ++ cell ∷ after
-  number : i ≡ n + length before
-  has : cell_has key cell ≡ true
-  none_before : places_from key n before ≡ []
-
-first-cell : (key : List ℕ) (n : ℕ) (cells : List Cell) (i : ℕ) (rest : List ℕ) → places_from key n cells ≡ i ∷ rest → IsFirstCell key n cells i
-first-cell key n [] i rest e = absurd (cc)
-first-cell key n (c ∷ cs) i rest e = elim (cases_Bool (cell_has key c)) [
-  | inl k ↦
-      let own = sym (places-has key n c cs k) ∙ e in
-      let same : i ≡ n = cc in
-      record { before = []; cell = c; after = cs; division = refl; number = omega arith; has = k; none_before = refl }
-  | inr k ↦
-      let m = first-cell key (n + 1) cs i rest (sym (places-other key n c cs k) ∙ e) in
-      let number = m.number in
-      record {
-        before = c ∷ m.before;
-        cell = m.cell;
-        after = m.after;
-        division = ap (λ v. c ∷ v) m.division;
-        number = omega arith;
-        has = m.has;
-        none_before = places-other key n c m.before k ∙ m.none_before;
-      }
-]
-
 -- A slot that has the key is a pair with it.
 has-key : (key : List ℕ) (s : Slot) → slot_has key s ≡ true → s.key ≡ Some key
 has-key key s h = of-key s.key refl
@@ -242,19 +212,18 @@ abbrev live_keys : List Cell → List (List ℕ)
 live_keys cells = slot_keys (live cells)
 
 -- A cell with the key divides these keys.
-live-divided : (key : List ℕ) (before : List Cell) (c : Cell) (after : List Cell) → cell_has key c ≡ true
+live-divided : (key : List ℕ) (before : List Cell) (c : Cell) (after : List Cell) → c.alive ≡ true → slot_has key c.slot ≡ true
     → live_keys (before ++ c ∷ after) ≡ live_keys before ++ key ∷ live_keys after
-live-divided key before c after h =
-    let m = and_parts c.alive (slot_has key c.slot) h in
-    ap slot_keys (live-append before (c ∷ after) ∙ ap (λ v. live before ++ v) (live-alive c after m.0))
+live-divided key before c after alive has =
+    ap slot_keys (live-append before (c ∷ after) ∙ ap (λ v. live before ++ v) (live-alive c after alive))
     ∙ filter_map-append (λ s. s.key) (live before) (c.slot ∷ live after)
-    ∙ ap (λ v. live_keys before ++ cons_option v (live_keys after)) (has-key key c.slot m.1)
+    ∙ ap (λ v. live_keys before ++ cons_option v (live_keys after)) (has-key key c.slot has)
 
 -- A key with a first index is one of these keys.
 first-has : (cells : List Cell) (key : List ℕ) (i : ℕ) → IsFirstPlace cells key i → Has key (live_keys cells)
 first-has cells key i p =
     let m = first-cell key 0 cells i p.0 p.1 in
-    subst (Has key) (sym (ap live_keys m.division ∙ live-divided key m.before m.cell m.after m.has)) (has-middle key (live_keys m.before) (live_keys m.after))
+    subst (Has key) (sym (ap live_keys m.division ∙ live-divided key m.before m.cell m.after m.alive m.has)) (has-middle key (live_keys m.before) (live_keys m.after))
 
 -- Each of these keys has a first index.
 has-first : (cells : List Cell) (key : List ℕ) → Has key (live_keys cells) → (i : ℕ) × IsFirstPlace cells key i
@@ -281,7 +250,7 @@ comes-before cells key other h =
     record {
       before = live_keys m.before;
       after = live_keys m.after;
-      division = ap live_keys m.division ∙ live-divided key m.before m.cell m.after m.has;
+      division = ap live_keys m.division ∙ live-divided key m.before m.cell m.after m.alive m.has;
       none_before = no-slot other (live m.before) (places-none other 0 m.before (none-in (places_from other 0 m.before) refl));
       differ = λ same. let e = sym h.is_place.1 ∙ ap (λ v. places v cells) same ∙ h.is_other.1 in let n : h.place ≡ h.other_place = cc in omega arith;
     }
@@ -367,8 +336,8 @@ first-only cells key other i p q =
     sym (at-middle m.before m.cell m.after m.cell)
     ∙ ap₂ (λ v k. get_or v k m.cell) (sym m.division ∙ n.division) same
     ∙ at-middle n.before n.cell n.after m.cell in
-    let key_is = has-key key m.cell.slot (and_parts m.cell.alive (slot_has key m.cell.slot) m.has).1 in
-    let other_is = has-key other n.cell.slot (and_parts n.cell.alive (slot_has other n.cell.slot) n.has).1 in
+    let key_is = has-key key m.cell.slot m.has in
+    let other_is = has-key other n.cell.slot n.has in
     let slots : m.cell.slot.key ≡ n.cell.slot.key = ap (λ c. c.slot.key) cell in
     cc
   where

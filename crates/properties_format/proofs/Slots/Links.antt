@@ -7,7 +7,7 @@ use Rattle.std.proofs.lemmas.List.{get_or-set_same, get_or-set_other, get_or_app
 use Rattle.properties_format.specs.Reading.Cells.{Cell, dead, AreDeadBetween, AreLinks}
 
 -- Of two equal cells, both are removed or neither is.
-alive-same : (a b : Cell) → a ≡ b → a.alive ≡ b.alive
+pub alive-same : (a b : Cell) → a ≡ b → a.alive ≡ b.alive
 alive-same a b s = ap (λ v. let w : Cell = v in w.alive) s
 
 -- If a cell is replaced, all cells between two indices are still removed, provided that the new one is removed or isn't

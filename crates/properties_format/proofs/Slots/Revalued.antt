@@ -77,7 +77,7 @@ lines-plain e o (i ∷ []) line more a = lines-plain e o [] line more a.3
 lines-plain e o (i ∷ j ∷ kept) line more a = lines-plain e o (j ∷ kept) line more a.3
 
 -- the bytes up to the last ending are those of the lines that are kept and of that line
-unended-kept : (kept : List HeldLine) (l : HeldLine) → unended_bytes (kept ++ l ∷ []) ≡ group_bytes kept ++ l.bytes
+pub unended-kept : (kept : List HeldLine) (l : HeldLine) → unended_bytes (kept ++ l ∷ []) ≡ group_bytes kept ++ l.bytes
 unended-kept [] l = refl
 unended-kept (h ∷ []) l = ap (λ v. h.bytes ++ (v ++ l.bytes)) (sym (append-nil (ending_bytes h.ending))) ∙ sym (append_assoc h.bytes (ending_bytes h.ending ++ []) l.bytes)
 unended-kept (h ∷ i ∷ kept) l =

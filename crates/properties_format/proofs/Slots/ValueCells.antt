@@ -1,10 +1,10 @@
 -- A value set in slots in one array: a cell has the value at its place, or two new ones come last.
-use Rattle.std.proofs.Common.{◌≡◌, ℕ, ◌+◌, true, false, List, [], ◌∷◌, ◌++◌, length, get_or, set, drop, Option, Some, None, refl, ap, ap₂, sym, ◌∙◌, arith, if◌then◌else◌}
+use Rattle.std.proofs.Common.{◌≡◌, ℕ, ◌+◌, true, false, List, [], ◌∷◌, ◌++◌, length, get_or, set, drop, Some, None, refl, ap, ap₂, sym, ◌∙◌, arith, if◌then◌else◌}
 use Rattle.std.proofs.lemmas.Bool.{cond-true, cond-false}
 use Rattle.std.proofs.lemmas.List.{set_at, get_or_at}
 use Rattle.properties_format.specs.Text.{LineEnding, lf}
 use Rattle.properties_format.specs.Encoding.{Encoding}
-use Rattle.properties_format.specs.Reading.Slots.{Slot, Slots, Closing, left_out, ended_by, closed_by, is_first, last_slot, empty_slot}
+use Rattle.properties_format.specs.Reading.Slots.{Slot, Slots, Closing, left_out, ended_by, is_first, last_slot, empty_slot}
 use Rattle.properties_format.specs.Reading.Cells.{Cell, live, places, EndsAlive, closed_cell}
 use Rattle.properties_format.specs.Reading.Valued.{or_else, separator_by, has_value}
 use Rattle.properties_format.specs.Reading.ValuedSlots.{slot_group, revalued_slot, between_in_slot, last_slot_between, ending_past, ending_in_slots, closing_with, new_slot, slots_valued_at, slots_valued}
@@ -12,6 +12,7 @@ use Rattle.properties_format.proofs.Slots.Cells.{live-alive, live-append, last-c
 use Rattle.properties_format.proofs.Slots.Places.{last_slot-none, last_slot-some}
 use Rattle.properties_format.proofs.Slots.PutCell.{drop-next}
 use Rattle.properties_format.proofs.Slots.EndCells.{close-end}
+use Rattle.properties_format.proofs.Valued.Made.{or_else-three, or_else-none}
 
 -- ---- the value of a pair
 
@@ -79,12 +80,6 @@ value-cell e key value cells closing stack i d s k =
 
 -- ---- a new pair
 
--- What becomes of the last slot stays so in other line endings.
-pub closing_with-left_out : (by : LineEnding) (c : Closing) → closing_with by c ≡ left_out → c ≡ left_out
-closing_with-left_out by left_out h = refl
-closing_with-left_out by (ended_by other) h = absurd (cc)
-closing_with-left_out by (closed_by other) h = absurd (cc)
-
 -- Where no cell has the key, the last one is closed, and a new pair and an empty slot come after it.
 pub value-end : (e : Encoding) (key value : List ℕ) (cells : List Cell) (closing : Closing) (i : ℕ) (d : Cell) → EndsAlive cells → i + 1 ≡ length cells
     → places key cells ≡ []
@@ -107,16 +102,6 @@ value-end e key value cells closing i d a h n =
     (sym (live-append kept (record { slot = new_slot e (is_first (live kept)) key sep value by; alive = true } ∷ record { slot = empty_slot None; alive = true } ∷ [])))
 
 -- ---- from the back
-
--- nothing before a text is the text
-or_else-none : (a : Option (List ℕ)) → or_else a None ≡ a
-or_else-none None = refl
-or_else-none (Some x) = refl
-
--- the first of three
-or_else-three : (a b c : Option (List ℕ)) → or_else (or_else a b) c ≡ or_else a (or_else b c)
-or_else-three None b c = refl
-or_else-three (Some x) b c = refl
 
 -- One more slot: its own separator where it is a pair, and else that of the last pair before it.
 pub last_slot_between-push : (e : Encoding) (ss : List Slot) (s : Slot)

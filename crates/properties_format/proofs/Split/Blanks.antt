@@ -109,7 +109,7 @@ trimmed-meets x = whole (without_leading_blanks x) (without_leading_blanks-meets
     }
 
 -- A core followed by what comes after it doesn't begin with a blank, if nothing comes after an empty core.
-core-begins : (core after : List ℕ) → begins is_blank core ≡ false → (core ≡ [] → after ≡ []) → begins is_blank (core ++ after) ≡ false
+pub core-begins : (core after : List ℕ) → begins is_blank core ≡ false → (core ≡ [] → after ≡ []) → begins is_blank (core ++ after) ≡ false
 core-begins [] after e k = rw (k refl) refl
 core-begins (c ∷ core) after e k = e
 

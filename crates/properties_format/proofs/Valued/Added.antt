@@ -137,7 +137,7 @@ as_lines-push [] h = refl
 as_lines-push (i ∷ g) h = ap (λ v. record { number = 0; text = i.text } ∷ v) (as_lines-push g h)
 
 -- a last group has lines
-fit-lines : (g : List HeldLine) → IsLastFit g → g ≢ []
+pub fit-lines : (g : List HeldLine) → IsLastFit g → g ≢ []
 fit-lines [] (inl k) q = k
 fit-lines [] (inr k) q = k
 fit-lines (h ∷ g) k q = absurd (cc)

@@ -24,6 +24,7 @@ use Rattle.properties_format.proofs.Split.Unique.{separator-full}
 use Rattle.properties_format.proofs.Cut.Byline.{decoded_line-meets, decoded_line-only}
 use Rattle.properties_format.proofs.Valued.Parts.{pair-line, between_in-pair, before_value-pair, comment_line-no_pair}
 use Rattle.properties_format.proofs.Valued.Heads.{EndsInAscii, IsLittle, IsHeadOf, head_of-meets, heads-same}
+use Rattle.properties_format.proofs.Encodings.PieceEnds.{no-front}
 
 -- ---- what a line adds
 
@@ -51,11 +52,6 @@ open-indent first x = let i = indented first x in sym (ap is_open i.whole ∙ op
 pub blanks-right : (b y : List ℕ) → AreBlanks (b ++ y) → AreBlanks y
 blanks-right [] y h = h
 blanks-right (c ∷ b) y h = blanks-right b y h.1
-
--- Blanks followed by blanks are blanks.
-pub blanks-append : (b y : List ℕ) → AreBlanks b → AreBlanks y → AreBlanks (b ++ y)
-blanks-append [] y h k = k
-blanks-append (c ∷ b) y h k = (h.0, blanks-append b y h.1 k)
 
 -- The indentation of a text comes before any of its characters that isn't a blank.
 pub past-head : (x y : List ℕ) → ¬ (AreBlanks x) → without_leading_blanks (x ++ y) ≡ without_leading_blanks x ++ y
@@ -121,11 +117,6 @@ joined_by-append first (h ∷ a) b =
     ∙ sym (append_assoc (added_by first h.text) (joined_by false a) (joined_by false b))
 
 -- ---- empty texts
-
--- If two texts together are empty, the first is.
-pub none-left : (x y : List ℕ) → x ++ y ≡ [] → x ≡ []
-none-left [] y h = refl
-none-left (c ∷ x) y h = absurd (cc)
 
 -- If two texts together are empty, the second is.
 pub none-right : (x y : List ℕ) → x ++ y ≡ [] → y ≡ []
@@ -386,7 +377,7 @@ little-left q rest j o s = elim (cases_Bool (is_open (q ++ rest))) [
   | inr k ↦
       let w : without_open_backslash (q ++ rest) ≡ q ++ rest = without_open_backslash-closed (q ++ rest) k in
       let m : q ++ (rest ++ j) ≡ q ++ [] = sym (append_assoc q rest j) ∙ ap (λ v. v ++ j) (sym w) ∙ s ∙ sym (append-nil q) in
-      inl (none-left rest j (append_cancel_left q (rest ++ j) [] m))
+      inl (no-front rest j (append_cancel_left q (rest ++ j) [] m))
 ]
   where
     one : (x y : List ℕ) → x ++ y ≡ backslash ∷ [] → is_open (q ++ y) ≡ true → IsLittle y
@@ -527,7 +518,7 @@ pair-some line key value h = λ b.
     all-empty : key ++ h.between ≡ [] → key ++ (h.between ++ value) ≡ []
     all-empty q = elim (between-end h.between value h.is_between) [
       | inl m ↦ absurd (m.0 (none-right key h.between q))
-      | inr m ↦ ap₂ (λ v w. v ++ w) (none-left key h.between q) (ap₂ (λ v w. v ++ w) m.0 m.1)
+      | inr m ↦ ap₂ (λ v w. v ++ w) (no-front key h.between q) (ap₂ (λ v w. v ++ w) m.0 m.1)
     ]
 
     of-text : (x : List ℕ) → AreBlanks x → begins is_blank x ≡ false → x ≢ [] → ⊥

@@ -83,7 +83,7 @@ abbrev pub EndsInAscii : List ℕ → Type 0
 EndsInAscii x = (w : List ℕ) × (c : ℕ) × (x ≡ w ++ c ∷ []) × (c < 0x80)
 
 -- Only the bytes of an ASCII character decode to it.
-ascii-own : (e : Encoding) (c : ℕ) → is_editable e ≡ true → ascii_bytes e c ≡ c ∷ []
+pub ascii-own : (e : Encoding) (c : ℕ) → is_editable e ≡ true → ascii_bytes e c ≡ c ∷ []
 ascii-own windows_1252 c ok = refl
 ascii-own utf_8 c ok = refl
 ascii-own utf_16le c ok = absurd (cc)

@@ -12,7 +12,7 @@ use Rattle.properties_format.specs.Reading.Body.{held_of}
 use Rattle.properties_format.proofs.Lines.Only.{lines_of-only}
 use Rattle.properties_format.proofs.Cut.Meets.{cut_of-meets}
 use Rattle.properties_format.proofs.Body.Decoded.{IsCut-lines, cut_of-lines}
-use Rattle.properties_format.proofs.Body.Groups.{held_of-meets, held_of-only, as_lines-append, IsLastFit, AreFit, fit}
+use Rattle.properties_format.proofs.Body.Groups.{held_of-meets, held_of-only, as_lines-append, IsLastFit, AreFit, fit, held-last}
 use Rattle.properties_format.proofs.Body.Groups.{held_ended, cut-off, lines-front, lines-back, held-bytes, groups-bytes, fit-some}
 
 -- Lined groups: their lines are lines of a text, each decoded by itself; all groups but the last are whole; and the
@@ -125,12 +125,6 @@ last_ending-ended e [] = refl
 last_ending-ended e (l ∷ []) = refl
 last_ending-ended e (l ∷ m ∷ x) = last_ending-ended e (m ∷ x)
 
--- The last line of a body has no line ending.
-pub last_ending-held : (e : Encoding) (x : List Ended) (last : List ℕ) → last_ending (held_of e x last) ≡ None
-last_ending-held e [] last = refl
-last_ending-held e (l ∷ []) last = refl
-last_ending-held e (l ∷ m ∷ x) last = last_ending-held e (m ∷ x) last
-
 -- The line ending of the last line of two parts.
 pub last_ending-append : (a b : List HeldLine) → b ≢ [] → last_ending (a ++ b) ≡ last_ending b
 last_ending-append [] b h = refl
@@ -167,11 +161,6 @@ pub fit-first : (h : List HeldLine) (hs : List (List HeldLine)) → AreFit (h �
 fit-first h [] k = k
 fit-first h (i ∷ hs) k = inl k.0
 
--- If such a group is changed to a whole one, the groups still fit.
-pub fit-changed : (g h : List HeldLine) (hs : List (List HeldLine)) → IsWhole (as_lines g) → AreFit (h ∷ hs) → AreFit (g ∷ hs)
-fit-changed g h [] w k = inl w
-fit-changed g h (i ∷ hs) w k = (w, k.1)
-
 -- ---- changing a group
 
 -- Ended lines are cut off from ended lines.
@@ -207,7 +196,7 @@ changed-lined e before kept line more [] bytes h plain some whole =
     let s : held_in before ++ g ≡ held_of e h.ended h.last = ap (λ v. held_in before ++ v) (sym (append-nil g)) ∙ sym (held_in-append before (g ∷ [])) ∙ h.held in
     let a = cut-off e (held_in before) g h.ended h.last (cons-some kept line more) s in
     let b = cut-off e kept (line ∷ more) a.back h.last (λ q. cc) a.others in
-    let none : last_ending g ≡ None = ap last_ending a.others ∙ last_ending-held e a.back h.last in
+    let none : last_ending g ≡ None = ap last_ending a.others ∙ held-last e a.back h.last in
     let all : h.ended ≡ (a.front ++ b.front) ++ b.back = a.all ∙ ap (λ v. a.front ++ v) b.all ∙ sym (append_assoc a.front b.front b.back) in
     let l : HeldLine = record { bytes = bytes; text = decoded_line e bytes; ending = last_ending g } in
     let m = fit-parts before g [] h.fit in

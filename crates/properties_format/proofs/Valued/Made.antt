@@ -113,12 +113,12 @@ last_between-some (f ∷ before) g after key value h k =
     ap (λ v. or_else v (between_if_pair (split_of (joined (as_lines f))) (joined (as_lines f)))) (last_between-some before g after key value h k)
 
 -- The first choice followed by nothing is the first choice.
-or_else-none : (a : Option (List ℕ)) → or_else a None ≡ a
+pub or_else-none : (a : Option (List ℕ)) → or_else a None ≡ a
 or_else-none None = refl
 or_else-none (Some x) = refl
 
 -- Choosing the first of three is associative.
-or_else-three : (a b c : Option (List ℕ)) → or_else (or_else a b) c ≡ or_else a (or_else b c)
+pub or_else-three : (a b c : Option (List ℕ)) → or_else (or_else a b) c ≡ or_else a (or_else b c)
 or_else-three None b c = refl
 or_else-three (Some x) b c = refl
 
@@ -183,7 +183,7 @@ new_separator-meets groups key = of-last (last_pair groups)
 -- ---- setting a value
 
 -- The group of a pair is a pair as it is written.
-raw-pair : (key : List ℕ) (g : List HeldLine) → HasKey key g → (k : List ℕ) × (v : List ℕ) × IsPair (joined (as_lines g)) k v
+pub raw-pair : (key : List ℕ) (g : List HeldLine) → HasKey key g → (k : List ℕ) × (v : List ℕ) × IsPair (joined (as_lines g)) k v
 raw-pair key g (value, h) = (h.raw_key, h.raw_value, h.split)
 
 -- The computed body is a body with the value set.

@@ -26,10 +26,11 @@ use Rattle.properties_format.proofs.ReadBack.Bytes.{AreWritable}
 use Rattle.properties_format.proofs.Body.Decoded.{decoded-nil, plain-bytes}
 use Rattle.properties_format.proofs.Body.Groups.{IsLastFit}
 use Rattle.properties_format.proofs.Valued.Heads.{ascii-among}
-use Rattle.properties_format.proofs.Valued.Fronts.{open-past, open-indent, joined_by, is_first_after, none-left, front-unmarked, front-text}
+use Rattle.properties_format.proofs.Valued.Fronts.{open-past, open-indent, joined_by, is_first_after, front-unmarked, front-text}
 use Rattle.properties_format.proofs.Valued.Texts.{value-loose, loose-means, loosely-plain, loosely-closed, value-begins, value-writable}
 use Rattle.properties_format.proofs.Valued.Revalued.{open-closed, added-closed, between_after, value_after, missing, value_text-parts}
 use Rattle.properties_format.proofs.Valued.Revalued.{between_after-parts, pair-anew, longer-joined, longer-whole, text-own, after-front}
+use Rattle.properties_format.proofs.Encodings.PieceEnds.{no-front}
 
 -- ---- what is missing between key and value
 
@@ -157,7 +158,7 @@ changed-pair e group key between front value ending f ok scalars fit line_plain 
     ∙ ap (λ v. f.head_text ++ v) (no_value-text e between) in
     record {
       plain = plain-append f.head (encoded_text e vt) (plain-left f.head f.tail (subst HoldsNoLineEnd f.cut line_plain)) value_plain;
-      some = λ q. head-some e group between front f (none-left f.head (encoded_text e vt) q);
+      some = λ q. head-some e group between front f (no-front f.head (encoded_text e vt) q);
       whole = subst (λ v. IsWhole (as_lines (f.kept ++ v ∷ []))) same
           (longer-whole f.kept f.line f.more line (subst IsLastFit f.division fit) closed unmarked);
       has_pair = record {

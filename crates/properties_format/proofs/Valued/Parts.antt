@@ -19,7 +19,7 @@ without_end-append x y =
     ap (λ m. take m (x ++ y)) n ∙ take-append_seam x y
 
 -- What follows the key of a pair.
-after_key-pair : (line key value : List ℕ) (h : IsPair line key value) → after_key line ≡ h.between ++ value
+pub after_key-pair : (line key value : List ℕ) (h : IsPair line key value) → after_key line ≡ h.between ++ value
 after_key-pair line key value h =
     ap (λ v. let c : Cut = cut_key v false in c.rest)
     (ap without_leading_blanks h.whole ∙ without_leading_blanks-only h.indent (key ++ (h.between ++ value)) h.indent_blank h.begins_full)

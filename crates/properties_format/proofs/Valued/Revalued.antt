@@ -3,7 +3,7 @@
 use Rattle.std.proofs.Common.{◌≡◌, ◌≢◌, ◌⊎◌, ◌<◌, ℕ, ◌==◌, not, Bool, true, false, List, [], ◌∷◌, ◌++◌, Option, refl, ap, ap₂, sym, ◌∙◌, inl, inr, append_assoc, append-nil, lit<, subst, eqb-true}
 use Rattle.std.specs.Prelude.{unwrap_or, if◌then◌else◌}
 use Rattle.std.proofs.lemmas.Bool.{cases_Bool}
-use Rattle.properties_format.specs.Text.{backslash, equals_sign, LineEnding, is_blank, is_blanks, is_separator, is_comment_sign}
+use Rattle.properties_format.specs.Text.{backslash, equals_sign, LineEnding, is_blank, is_blanks, is_comment_sign}
 use Rattle.properties_format.specs.Encoding.{Encoding}
 use Rattle.properties_format.specs.Reading.Cut.{decoded_line}
 use Rattle.properties_format.specs.Groups.{is_open, is_comment_line, EndsClosed, AreOpen, IsWhole, joined}
@@ -17,7 +17,6 @@ use Rattle.properties_format.specs.Reading.Valued.{without_indent, added_by}
 use Rattle.properties_format.proofs.Groups.Open.{is_open-backslash, is_open-other, is_open-after, without_open_backslash-closed}
 use Rattle.properties_format.proofs.Groups.Joined.{joined-closed}
 use Rattle.properties_format.proofs.Split.Keys.{units_before-append}
-use Rattle.properties_format.proofs.Split.Unique.{separator-full}
 use Rattle.properties_format.proofs.Settings.Tests.{is_blanks-from}
 use Rattle.properties_format.proofs.Cut.Byline.{decoded_line-only}
 use Rattle.properties_format.proofs.Printing.Characters.{encoded-ascii}
@@ -26,8 +25,9 @@ use Rattle.properties_format.proofs.Body.Groups.{IsLastFit}
 use Rattle.properties_format.proofs.Edited.Pair.{editable-own}
 use Rattle.properties_format.proofs.Valued.Heads.{ascii-end, ascii-among}
 use Rattle.properties_format.proofs.Valued.Fronts.{indented, open-indent, indent-head, shut-closed, joined_by, joined-by, is_first_after, joined_by-append}
-use Rattle.properties_format.proofs.Valued.Fronts.{none-left, none-right, right-some, ends-last, ends-right, ends_key-ascii, between-end, front-text}
+use Rattle.properties_format.proofs.Valued.Fronts.{none-right, right-some, ends-last, ends-right, ends_key-ascii, between-end, front-text}
 use Rattle.properties_format.proofs.Valued.Texts.{BeginsAfter}
+use Rattle.properties_format.proofs.Encodings.PieceEnds.{no-front}
 
 -- ---- whether two texts together are open
 
@@ -72,7 +72,7 @@ units-anew (escaped c ∷ us) rest other h (inr k) =
     two (inr m) = is_open-other (backslash ∷ []) c m
 units-anew (last ∷ us) rest other h (inl k) = absurd (k (none-right (units_before us []) rest (sym (units_before-append us rest) ∙ h.0)))
 units-anew (last ∷ us) rest other h (inr k) =
-    let n : units_before us [] ≡ [] = none-left (units_before us []) rest (sym (units_before-append us rest) ∙ h.0) in
+    let n : units_before us [] ≡ [] = no-front (units_before us []) rest (sym (units_before-append us rest) ∙ h.0) in
     let m : is_open (backslash ∷ []) ≡ false = ap (λ v. is_open (backslash ∷ v)) (sym n) ∙ k in
     absurd (cc)
 
@@ -108,14 +108,6 @@ pub between_after-parts : (between : List ℕ) → between_after between ≡ bet
 between_after-parts [] = refl
 between_after-parts (c ∷ cs) = sym (append-nil (c ∷ cs))
 
--- A separator with blanks around it isn't blank.
-pub sign-no_blanks : (before : List ℕ) (sign : ℕ) (after : List ℕ) → is_separator sign ≡ true → is_blanks (before ++ sign ∷ after) ≡ false
-sign-no_blanks [] sign after h = rw (separator-full sign h) refl
-sign-no_blanks (c ∷ before) sign after h = elim (cases_Bool (is_blank c)) [
-  | inl k ↦ rw k (sign-no_blanks before sign after h)
-  | inr k ↦ rw k refl
-]
-
 -- What separates the key from a value also separates it from another value that begins like a printed one.
 between-anew : (between old new : List ℕ) → IsBetween between old → BeginsAfter (is_blanks (between_after between)) new → IsBetween (between_after between) new
 between-anew [] old new h b = separator [] equals_sign [] refl tt refl tt b.no_blank
@@ -134,7 +126,7 @@ begins-more kind (c ∷ x) y z h k = k
 key-between : (line key value : List ℕ) (h : IsPair line key value) → key ++ h.between ≢ []
 key-between line key value h q = elim (between-end h.between value h.is_between) [
   | inl m ↦ m.0 (none-right key h.between q)
-  | inr m ↦ h.not_empty (ap₂ (λ v w. v ++ w) (none-left key h.between q) (ap₂ (λ v w. v ++ w) m.0 m.1))
+  | inr m ↦ h.not_empty (ap₂ (λ v w. v ++ w) (no-front key h.between q) (ap₂ (λ v w. v ++ w) m.0 m.1))
 ]
 
 -- The line is a pair with this key and value, and with the same indentation and the same text between key and value.
@@ -163,7 +155,7 @@ pair-anew line key old new h between other s b closed whole =
         between = between_after between;
         whole = whole;
         indent_blank = h.indent_blank;
-        not_empty = λ q. some (none-left (key ++ between) (missing between ++ new) (sym same ∙ q));
+        not_empty = λ q. some (no-front (key ++ between) (missing between ++ new) (sym same ∙ q));
         begins_full = keeps is_blank h.begins_full;
         no_comment = keeps is_comment_sign h.no_comment;
         is_key = key-anew key (h.between ++ old) (between_after between ++ new) h.is_key (of-between between s);
@@ -175,7 +167,7 @@ pair-anew line key old new h between other s b closed whole =
   where
     of-between : (x : List ℕ) → x ≡ h.between → (h.between ++ old ≢ []) ⊎ (is_open key ≡ false)
     of-between [] t = inr (closed (s ∙ sym t))
-    of-between (c ∷ x) t = inl (λ q. absurd (cc (t ∙ none-left h.between old q)))
+    of-between (c ∷ x) t = inl (λ q. absurd (cc (t ∙ no-front h.between old q)))
 
 -- ---- the line after the front
 

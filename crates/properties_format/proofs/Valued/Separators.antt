@@ -29,9 +29,10 @@ use Rattle.properties_format.proofs.ReadBack.Texts.{AreSafe, AreSafelyPrinted, p
 use Rattle.properties_format.proofs.ReadBack.Pairs.{key-printed, separator-some, separator-quiet, closed-after}
 use Rattle.properties_format.proofs.ReadBack.Bytes.{AreWritable, writable-append, key-scalars}
 use Rattle.properties_format.proofs.Body.Decoded.{decoded-nil, plain-bytes}
-use Rattle.properties_format.proofs.Valued.Fronts.{blanks-right, none-left, none-right, right-some}
+use Rattle.properties_format.proofs.Valued.Fronts.{blanks-right, none-right, right-some}
 use Rattle.properties_format.proofs.Valued.Texts.{BeginsAfter, value-loose, loose-means, loosely-plain, loosely-closed, value-begins, ascii-writable, value-writable}
 use Rattle.properties_format.proofs.Valued.Revalued.{text-own}
+use Rattle.properties_format.proofs.Encodings.PieceEnds.{no-front}
 
 -- ---- the separator
 
@@ -138,7 +139,7 @@ new-keyed p ps sep value k g b =
         between = sep;
         whole = refl;
         indent_blank = tt;
-        not_empty = λ q. some (none-left sep value (none-right key (sep ++ value) q));
+        not_empty = λ q. some (no-front sep value (none-right key (sep ++ value) q));
         begins_full = full.no_blank;
         no_comment = full.no_sign;
         is_key = are_safe-key (p ∷ ps) (sep ++ value) k;
@@ -235,7 +236,7 @@ added-pair e first key sep value by ok k v f =
     let p = again (joined (as_lines (added_line e first key sep value by ∷ []))) written sep va joined_is n in
     record {
       plain = plain-bytes e (added_bytes e first key sep value) ok (subst HoldsNoLineEnd (sym decoded) plain_text);
-      some = text-some e (written ++ (sep ++ va)) ok writable (λ q. sep_some (none-left sep va (none-right written (sep ++ va) q)));
+      some = text-some e (written ++ (sep ++ va)) ok writable (λ q. sep_some (no-front sep va (none-right written (sep ++ va) q)));
       whole = subst (λ x. IsWhole (as_lines (x ∷ []))) same (alone (record { number = 0; text = written ++ (sep ++ va) }) closed);
       has_pair = record {
         raw_key = written;

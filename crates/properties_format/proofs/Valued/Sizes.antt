@@ -7,7 +7,7 @@ use Rattle.std.specs.Str.{chars, IsUtf8}
 use Rattle.std.proofs.lemmas.Bool.{cases_Bool, cond-true, cond-false, lt-ltb}
 use Rattle.properties_format.specs.Text.{backslash}
 use Rattle.properties_format.specs.Pieces.{characters}
-use Rattle.properties_format.specs.Encoding.{Encoding, windows_1252, utf_8, utf_16le, utf_16be, ascii_bytes}
+use Rattle.properties_format.specs.Encoding.{Encoding, utf_8}
 use Rattle.properties_format.specs.Reading.Encoding.{pieces_of}
 use Rattle.properties_format.specs.Reading.Cut.{decoded_line}
 use Rattle.properties_format.specs.Edited.{is_editable}
@@ -16,7 +16,7 @@ use Rattle.properties_format.proofs.Encodings.Cuts.{cut-at_ascii}
 use Rattle.properties_format.proofs.Encodings.Pieces.{pieces_of-nil}
 use Rattle.properties_format.proofs.Encodings.WellFormed.{characters-text}
 use Rattle.properties_format.proofs.Cut.Byline.{nothing-decoded}
-use Rattle.properties_format.proofs.Valued.Heads.{ascii-end, ascii-among, backslash-own, IsHeadOf}
+use Rattle.properties_format.proofs.Valued.Heads.{ascii-end, ascii-among, backslash-own, IsHeadOf, ascii-own}
 
 -- ---- counts
 
@@ -51,20 +51,13 @@ first-ascii (c ∷ x) = elim (cases_Bool (nat_lt c 0x80)) [
   ]
 ]
 
--- In an encoding that can be edited, an ASCII character is its own byte.
-ascii-one : (e : Encoding) (c : ℕ) → is_editable e ≡ true → ascii_bytes e c ≡ c ∷ []
-ascii-one windows_1252 c ok = refl
-ascii-one utf_8 c ok = refl
-ascii-one utf_16le c ok = absurd (cc)
-ascii-one utf_16be c ok = absurd (cc)
-
 -- If no byte is ASCII, no decoded character is.
 no_ascii-decoded : (e : Encoding) (d : List ℕ) → is_editable e ≡ true → ascii_count d ≡ 0 → ascii_count (decoded_line e d) ≡ 0
 no_ascii-decoded e d ok h = elim (first-ascii (decoded_line e d)) [
   | inl k ↦ k
   | inr k ↦
       let m = cut-at_ascii e d k.0 k.1 k.2 k.4 k.3 in
-      let s : ascii_count d ≡ ascii_count (m.0 ++ (k.1 ∷ [] ++ m.1)) = ap ascii_count (m.2.joins ∙ ap (λ v. m.0 ++ (v ++ m.1)) (ascii-one e k.1 ok)) in
+      let s : ascii_count d ≡ ascii_count (m.0 ++ (k.1 ∷ [] ++ m.1)) = ap ascii_count (m.2.joins ∙ ap (λ v. m.0 ++ (v ++ m.1)) (ascii-own e k.1 ok)) in
       let a = count-append m.0 (k.1 ∷ m.1) in
       let b = count-ascii k.1 m.1 k.4 in
       absurd (omega arith)

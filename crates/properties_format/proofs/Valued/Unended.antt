@@ -1,5 +1,5 @@
 -- A group without its last line ending: its bytes are one group, with the same parts as before.
-use Rattle.std.proofs.Common.{◌≡◌, ◌≢◌, ◌⊎◌, ℕ, true, List, [], ◌∷◌, ◌++◌, Some, None, inl, inr, refl, ap, sym, ◌∙◌, append-nil, subst}
+use Rattle.std.proofs.Common.{◌≡◌, ◌⊎◌, ℕ, true, List, [], ◌∷◌, ◌++◌, Some, None, refl, ap, sym, ◌∙◌, append-nil, subst}
 use Rattle.properties_format.specs.Encoding.{Encoding}
 use Rattle.properties_format.specs.Lines.{Ended, BeginsWithNoLoneLf, AreLines}
 use Rattle.properties_format.specs.Groups.{IsWhole, joined}
@@ -15,6 +15,7 @@ use Rattle.properties_format.specs.Reading.Items.{outcome_of}
 use Rattle.properties_format.proofs.Body.Groups.{EndsOpen, IsLastFit, held_ended, cut-off, held_groups_of-only, lines-front, lines-back, fit-some}
 use Rattle.properties_format.proofs.Valued.Fronts.{AreDecoded, front_of-meets, front_of-only}
 use Rattle.properties_format.proofs.Valued.Lined.{AreLined, groups-lined, lined-groups, held_in-append, fit-parts, fit-first}
+use Rattle.properties_format.proofs.Valued.Added.{fit-lines}
 
 -- the lines without the last line ending
 abbrev pub without_ending : List HeldLine → List HeldLine
@@ -71,12 +72,6 @@ unended-lines l (m ∷ ls) h = (h.0, (λ k. first-stays m ls (h.1 k)), unended-l
 -- A group that is whole or ends open is still one without its last line ending.
 unended-fit : (g : List HeldLine) → IsLastFit g → IsLastFit (without_ending g)
 unended-fit g h = subst (λ v. IsWhole v ⊎ EndsOpen v) (sym (unended-texts g)) h
-
--- A group isn't empty.
-fit-lines : (g : List HeldLine) → IsLastFit g → g ≢ []
-fit-lines [] (inl k) q = k
-fit-lines [] (inr k) q = k
-fit-lines (h ∷ g) k q = absurd (cc)
 
 -- One group of a body, without its last line ending, is the group of its bytes.
 unended-lined : (e : Encoding) (before : List (List HeldLine)) (g : List HeldLine) (after : List (List HeldLine)) → AreLined e (before ++ g ∷ after)

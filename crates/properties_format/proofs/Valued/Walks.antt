@@ -21,10 +21,11 @@ use Rattle.properties_format.specs.Reading.Slots.{unended_bytes}
 use Rattle.properties_format.specs.Reading.Valued.{without_indent, added_by, before_value, front_in, front_of, between_of, ascii_count, after_ascii}
 use Rattle.properties_format.proofs.Body.Decoded.{decoded-nil}
 use Rattle.properties_format.proofs.Valued.Parts.{pair-line, before_value-pair}
-use Rattle.properties_format.proofs.Valued.Fronts.{indented, open-indent, open_backslash, shut-whole, joined_by, joined-by, none-left}
+use Rattle.properties_format.proofs.Valued.Fronts.{indented, open-indent, open_backslash, shut-whole, joined_by, joined-by}
 use Rattle.properties_format.proofs.Valued.Fronts.{split-longer, MayEnd, ends-right, AreDecoded, pair-end, pair-some, pair-unmarked, no_lines-no_pair, front_of-meets}
 use Rattle.properties_format.proofs.Valued.Steps.{front_size-inside}
 use Rattle.properties_format.proofs.Valued.Read.{front-unended}
+use Rattle.properties_format.proofs.Encodings.PieceEnds.{no-front}
 
 -- ---- two fronts of one text, by their sizes
 
@@ -33,7 +34,7 @@ abbrev pub utf8_size : List ℕ → ℕ
 utf8_size x = length (encode_utf8_all x)
 
 -- The size of two parts.
-size-append : (x y : List ℕ) → utf8_size (x ++ y) ≡ utf8_size x + utf8_size y
+pub size-append : (x y : List ℕ) → utf8_size (x ++ y) ≡ utf8_size x + utf8_size y
 size-append x y = ap length (encodes-append x y) ∙ length-append (encode_utf8_all x) (encode_utf8_all y)
 
 -- The text of some bytes has as many bytes in UTF-8.
@@ -132,18 +133,6 @@ walk-begins e (i ∷ is) key value d h =
       some = λ q. pair-some line key value h (subst AreBlanks (sym (sym s ∙ q)) tt);
     }
 
--- The walk ends before the lines do.
-pub walk-ends : (e : Encoding) (first : Bool) (left value : List ℕ) → IsWalkBefore e first [] left value → ⊥
-walk-ends e first left value h = h.some (none-left left value (sym h.adds))
-
--- In the last line, no more is left than that line adds.
-pub walk-last : (e : Encoding) (first : Bool) (h : HeldLine) (left value : List ℕ) → IsWalkBefore e first (h ∷ []) left value
-    → utf8_size left ≤ utf8_size (added_by first h.text)
-walk-last e first h left value w =
-    let s : added_by first h.text ≡ left ++ value = sym (append-nil (added_by first h.text)) ∙ w.adds in
-    let t : utf8_size (added_by first h.text) ≡ utf8_size left + utf8_size value = ap utf8_size s ∙ size-append left value in
-    omega arith
-
 -- If as much is left as a line adds, the front ends with what it adds.
 pub walk-here : (e : Encoding) (first : Bool) (h : HeldLine) (hs : List HeldLine) (left value : List ℕ) → IsWalkBefore e first (h ∷ hs) left value
     → utf8_size left ≡ utf8_size (added_by first h.text)
@@ -158,7 +147,7 @@ walk-here e first h hs left value w l =
 may-here : (p r j v : List ℕ) → (p ++ r) ++ j ≡ p ++ v → r ≢ [] → MayEnd p v → ends ends_key p ≡ true
 may-here p r j v s some (inl k) = k
 may-here p r j v s some (inr k) =
-    absurd (some (none-left r j (append_cancel_left p (r ++ j) [] (sym (append_assoc p r j) ∙ s ∙ ap (λ w. p ++ w) k))))
+    absurd (some (no-front r j (append_cancel_left p (r ++ j) [] (sym (append_assoc p r j) ∙ s ∙ ap (λ w. p ++ w) k))))
 
 -- If less is left than a line adds, the front ends inside it: at the index after as many ASCII bytes as the text of the
 -- line has ASCII characters up to there.

@@ -20,12 +20,3 @@ groups_after open_lines (l ∷ ls) ending =
 -- the groups of the lines
 abbrev pub groups_of : List Line → InputEnd → List (List Line)
 groups_of lines ending = groups_after [] lines ending
-
--- the lines of the group that is still open after these lines
-abbrev pub open_after : List Line → List Line → List Line
-open_after open_lines [] = open_lines
-open_after open_lines (l ∷ ls) =
-    elim (closes open_lines l) [
-      | true ↦ open_after [] ls
-      | false ↦ open_after (open_lines ++ l ∷ []) ls
-    ]

@@ -23,7 +23,7 @@ in_text blank = blank
 in_text (comment text) = comment (characters_of text)
 in_text (pair key value) = pair (characters_of key) (characters_of value)
 
--- what stands between two places
+-- what is between two places
 abbrev pub between : ℕ → ℕ → List ℕ → List ℕ
 between start end text = take (end - start) (drop start text)
 

@@ -7,7 +7,8 @@ use std::alloc::Global;
 use std::process::Abort;
 use std::test::Fail;
 
-// Lines of windows-1252 that are copied undecoded, with escapes and without; lines that are decoded; and a comment.
+// Lines of windows-1252 that are copied undecoded: with escapes, without them, and joined; the first key, which is
+// decoded; and a comment.
 const INPUT: &[u8] = b"a=1\n# \\u0041\nk\\u00e9y=x\xe9\nlong=x\\\n y\nlast=\\u65e5";
 
 // The line of each pair.

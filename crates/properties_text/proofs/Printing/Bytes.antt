@@ -1,23 +1,25 @@
 -- Texts printed byte by byte.
-use Rattle.std.proofs.Common.{◌≡◌, ℕ, ◌+◌, ◌-◌, ◌<◌, ◌≤◌, ◌==◌, Bool, true, false, cond, nat_lt, List, [], ◌∷◌, ◌++◌, refl, sym, ap, ap₂, ◌∙◌, inl, inr, append_assoc, append-nil, arith, length, take, drop, get_or, lit<, le-ltb, lt-ltb, ne_eqb, eqb-true}
+use Rattle.std.proofs.Common.{◌≡◌, ℕ, ◌+◌, ◌-◌, ◌<◌, ◌≤◌, ◌==◌, Bool, true, false, nat_lt, List, [], ◌∷◌, ◌++◌, refl, sym, ap, ap₂, ◌∙◌, inl, inr, append_assoc, append-nil, arith, length, take, drop, get_or, lit<, le-ltb, lt-ltb, ltb-true, ne_eqb, eqb-true}
 use Rattle.std.specs.Prelude.{Option, Some, None, is_some, map, not, ◌&&◌, encode_utf8, encode_utf8_all, slice_index, unwrap_or}
 use Rattle.std.specs.Str.{chars, IsUtf8, IsAscii}
 use Rattle.std.proofs.lemmas.Bool.{cases_Bool, cases_lt, cond-true, cond-false, agree_below_at, false_from_ne_true}
 use Rattle.std.specs.List.{All}
 use Rattle.std.proofs.lemmas.List.Elements.{All-head, All-tail}
 use Rattle.std.proofs.lemmas.Str.Ascii.{All-from_ascii}
-use Rattle.std.proofs.lemmas.Str.{encodes-chars, chars-IsAscii, encode_ascii}
-use Rattle.std.proofs.lemmas.List.{take_more, take_all, length-drop, length-take-le, take-append-le, take-append-drop, take-take}
+use Rattle.std.proofs.lemmas.Str.{encodes-chars, chars-append, chars-IsAscii, encode_ascii, IsUtf8-from_ascii}
+use Rattle.std.proofs.lemmas.List.{take_more, take_all, length-drop, length-take-le, take-append-le, take-append-drop}
 use Rattle.std.proofs.Math.Seq.{take-append-add}
 use borrow.Rule.Slice.PartMut.{put_mid, post_of}
 use Rattle.properties_format.specs.Text.{space, backslash}
 use Rattle.properties_format.specs.Windows1252.{windows_1252_byte, windows_1252_table, is_in_table, place_from}
 use Rattle.properties_format.specs.Encoding.{Encoding, windows_1252, utf_8, one_byte, encoded}
-use Rattle.properties_format.specs.Printing.{in_key_or_value, unicode_escape, may_be_unescaped, literal, is_special, has_letter, letter_escape, printed_character, printed_characters, encoded_text}
+use Rattle.properties_format.specs.Printing.{in_key_or_value, unit_escape, unicode_escape, may_be_unescaped, is_special, has_letter, letter_escape, printed_character, printed_characters, encoded_text}
 use Rattle.properties_format.proofs.Printing.Characters.{AreAscii, encoded_text-append, printed_characters-append, encoded_text-ascii, encoded-ascii, special-ascii, letter_escape-ascii}
 use Rattle.properties_format.proofs.Encodings.Utf8Characters.{encode-two, encode-three, encode-four}
-use Rattle.properties_text.specs.Encoding.{output_of, EncodesFront}
-use Rattle.properties_text.specs.Printing.{printed_byte, printed_bytes, backslashes_before, last_of, text_bytes, PrintsByteByByte, all_of_windows_1252}
+use Rattle.properties_text.specs.Encoding.{output_of}
+use Rattle.properties_text.specs.Printing.{printed_byte, printed_bytes, backslashes_before, last_of, character_bytes, text_bytes, PrintsByteByByte}
+use Rattle.properties_text.specs.declared.print.bytes.TheConstants.{BEFORE, LAST}
+use Rattle.properties_format.proofs.ReadBack.Comments.{literal-ascii}
 use Rattle.properties_text.specs.declared.print.Repertoire.{Repertoire}
 use Rattle.properties_text.specs.declared.encoding.encode.OutputEncoding.TheVariants.{Utf8}
 use Rattle.properties_text.specs.declared.print.Place.TheVariants.{KeyOrValue}
@@ -29,49 +31,26 @@ pub printed_bytes-append : (x y : List ℕ) → printed_bytes (x ++ y) ≡ print
 printed_bytes-append [] y = refl
 printed_bytes-append (b ∷ x) y = ap (λ v. printed_byte b ++ v) (printed_bytes-append x y) ∙ sym (append_assoc (printed_byte b) (printed_bytes x) (printed_bytes y))
 
--- One byte, printed with the tables.
-pub printed_byte-tables : (b : ℕ) (before : List ℕ) → backslashes_before b < 2
-    → printed_byte b ≡ cond (backslashes_before b == 1) (backslash ∷ last_of b ∷ []) (last_of b ∷ [])
-printed_byte-tables b before h = elim (cases_Bool (is_special b)) [
-  | inl s ↦ rw s refl
+-- ---- the tables
+
+pub before-at : (b : ℕ) → b < 256 → slice_index BEFORE b ≡ backslashes_before b
+before-at b h = eqb-true _ _ (agree_below_at (λ b. slice_index BEFORE b == backslashes_before b) (λ k. true) 256 b refl h)
+
+pub last-at : (b : ℕ) → b < 256 → slice_index LAST b ≡ last_of b
+last-at b h = eqb-true _ _ (agree_below_at (λ b. slice_index LAST b == last_of b) (λ k. true) 256 b refl h)
+
+-- A byte that neither table has is printed as an escape of digits.
+pub printed_byte-digits : (b : ℕ) → 1 < backslashes_before b → printed_byte b ≡ unit_escape b
+printed_byte-digits b h = elim (cases_Bool (is_special b)) [
+  | inl s ↦ absurd (let one : backslashes_before b ≡ 1 = rw s refl in omega (arith, one, h))
   | inr s ↦ elim (cases_Bool (has_letter b)) [
-    | inl l ↦ rw (s, l) refl
+    | inl l ↦ absurd (let one : backslashes_before b ≡ 1 = rw (s, l) refl in omega (arith, one, h))
     | inr l ↦ elim (cases_Bool (nat_lt b space)) [
-      | inl k ↦ absurd (let two : backslashes_before b ≡ 2 = rw (s, l, k) refl in omega (arith, two, h))
-      | inr k ↦ rw (s, l, k) refl
+      | inl k ↦ rw (s, l, k) (cond-true (nat_lt b 0x1_0000) (unit_escape b) _ (lt-ltb b 0x1_0000 (let low = ltb-true b space k in omega (arith, low))))
+      | inr k ↦ absurd (let none : backslashes_before b ≡ 0 = rw (s, l, k) refl in omega (arith, none, h))
     ]
   ]
 ]
-
--- ---- the tables
-
-abbrev before-table : List ℕ
-before-table =
-    2 ∷ 2 ∷ 2 ∷ 2 ∷ 2 ∷ 2 ∷ 2 ∷ 2 ∷ 2 ∷ 1 ∷ 1 ∷ 2 ∷ 1 ∷ 1 ∷ 2 ∷ 2 ∷ 2 ∷ 2 ∷ 2 ∷ 2 ∷ 2 ∷ 2 ∷ 2 ∷ 2 ∷ 2 ∷ 2 ∷ 2 ∷ 2 ∷ 2 ∷ 2 ∷ 2 ∷ 2 ∷
-    1 ∷ 1 ∷ 0 ∷ 1 ∷ 0 ∷ 0 ∷ 0 ∷ 0 ∷ 0 ∷ 0 ∷ 0 ∷ 0 ∷ 0 ∷ 0 ∷ 0 ∷ 0 ∷ 0 ∷ 0 ∷ 0 ∷ 0 ∷ 0 ∷ 0 ∷ 0 ∷ 0 ∷ 0 ∷ 0 ∷ 1 ∷ 0 ∷ 0 ∷ 1 ∷ 0 ∷ 0 ∷
-    0 ∷ 0 ∷ 0 ∷ 0 ∷ 0 ∷ 0 ∷ 0 ∷ 0 ∷ 0 ∷ 0 ∷ 0 ∷ 0 ∷ 0 ∷ 0 ∷ 0 ∷ 0 ∷ 0 ∷ 0 ∷ 0 ∷ 0 ∷ 0 ∷ 0 ∷ 0 ∷ 0 ∷ 0 ∷ 0 ∷ 0 ∷ 0 ∷ 1 ∷ 0 ∷ 0 ∷ 0 ∷
-    0 ∷ 0 ∷ 0 ∷ 0 ∷ 0 ∷ 0 ∷ 0 ∷ 0 ∷ 0 ∷ 0 ∷ 0 ∷ 0 ∷ 0 ∷ 0 ∷ 0 ∷ 0 ∷ 0 ∷ 0 ∷ 0 ∷ 0 ∷ 0 ∷ 0 ∷ 0 ∷ 0 ∷ 0 ∷ 0 ∷ 0 ∷ 0 ∷ 0 ∷ 0 ∷ 0 ∷ 0 ∷
-    0 ∷ 0 ∷ 0 ∷ 0 ∷ 0 ∷ 0 ∷ 0 ∷ 0 ∷ 0 ∷ 0 ∷ 0 ∷ 0 ∷ 0 ∷ 0 ∷ 0 ∷ 0 ∷ 0 ∷ 0 ∷ 0 ∷ 0 ∷ 0 ∷ 0 ∷ 0 ∷ 0 ∷ 0 ∷ 0 ∷ 0 ∷ 0 ∷ 0 ∷ 0 ∷ 0 ∷ 0 ∷
-    0 ∷ 0 ∷ 0 ∷ 0 ∷ 0 ∷ 0 ∷ 0 ∷ 0 ∷ 0 ∷ 0 ∷ 0 ∷ 0 ∷ 0 ∷ 0 ∷ 0 ∷ 0 ∷ 0 ∷ 0 ∷ 0 ∷ 0 ∷ 0 ∷ 0 ∷ 0 ∷ 0 ∷ 0 ∷ 0 ∷ 0 ∷ 0 ∷ 0 ∷ 0 ∷ 0 ∷ 0 ∷
-    0 ∷ 0 ∷ 0 ∷ 0 ∷ 0 ∷ 0 ∷ 0 ∷ 0 ∷ 0 ∷ 0 ∷ 0 ∷ 0 ∷ 0 ∷ 0 ∷ 0 ∷ 0 ∷ 0 ∷ 0 ∷ 0 ∷ 0 ∷ 0 ∷ 0 ∷ 0 ∷ 0 ∷ 0 ∷ 0 ∷ 0 ∷ 0 ∷ 0 ∷ 0 ∷ 0 ∷ 0 ∷
-    0 ∷ 0 ∷ 0 ∷ 0 ∷ 0 ∷ 0 ∷ 0 ∷ 0 ∷ 0 ∷ 0 ∷ 0 ∷ 0 ∷ 0 ∷ 0 ∷ 0 ∷ 0 ∷ 0 ∷ 0 ∷ 0 ∷ 0 ∷ 0 ∷ 0 ∷ 0 ∷ 0 ∷ 0 ∷ 0 ∷ 0 ∷ 0 ∷ 0 ∷ 0 ∷ 0 ∷ 0 ∷ []
-
-abbrev last-table : List ℕ
-last-table =
-    0 ∷ 1 ∷ 2 ∷ 3 ∷ 4 ∷ 5 ∷ 6 ∷ 7 ∷ 8 ∷ 116 ∷ 110 ∷ 11 ∷ 102 ∷ 114 ∷ 14 ∷ 15 ∷ 16 ∷ 17 ∷ 18 ∷ 19 ∷ 20 ∷ 21 ∷ 22 ∷ 23 ∷ 24 ∷ 25 ∷ 26 ∷ 27 ∷ 28 ∷ 29 ∷ 30 ∷ 31 ∷
-    32 ∷ 33 ∷ 34 ∷ 35 ∷ 36 ∷ 37 ∷ 38 ∷ 39 ∷ 40 ∷ 41 ∷ 42 ∷ 43 ∷ 44 ∷ 45 ∷ 46 ∷ 47 ∷ 48 ∷ 49 ∷ 50 ∷ 51 ∷ 52 ∷ 53 ∷ 54 ∷ 55 ∷ 56 ∷ 57 ∷ 58 ∷ 59 ∷ 60 ∷ 61 ∷ 62 ∷ 63 ∷
-    64 ∷ 65 ∷ 66 ∷ 67 ∷ 68 ∷ 69 ∷ 70 ∷ 71 ∷ 72 ∷ 73 ∷ 74 ∷ 75 ∷ 76 ∷ 77 ∷ 78 ∷ 79 ∷ 80 ∷ 81 ∷ 82 ∷ 83 ∷ 84 ∷ 85 ∷ 86 ∷ 87 ∷ 88 ∷ 89 ∷ 90 ∷ 91 ∷ 92 ∷ 93 ∷ 94 ∷ 95 ∷
-    96 ∷ 97 ∷ 98 ∷ 99 ∷ 100 ∷ 101 ∷ 102 ∷ 103 ∷ 104 ∷ 105 ∷ 106 ∷ 107 ∷ 108 ∷ 109 ∷ 110 ∷ 111 ∷ 112 ∷ 113 ∷ 114 ∷ 115 ∷ 116 ∷ 117 ∷ 118 ∷ 119 ∷ 120 ∷ 121 ∷ 122 ∷ 123 ∷ 124 ∷ 125 ∷ 126 ∷ 127 ∷
-    128 ∷ 129 ∷ 130 ∷ 131 ∷ 132 ∷ 133 ∷ 134 ∷ 135 ∷ 136 ∷ 137 ∷ 138 ∷ 139 ∷ 140 ∷ 141 ∷ 142 ∷ 143 ∷ 144 ∷ 145 ∷ 146 ∷ 147 ∷ 148 ∷ 149 ∷ 150 ∷ 151 ∷ 152 ∷ 153 ∷ 154 ∷ 155 ∷ 156 ∷ 157 ∷ 158 ∷ 159 ∷
-    160 ∷ 161 ∷ 162 ∷ 163 ∷ 164 ∷ 165 ∷ 166 ∷ 167 ∷ 168 ∷ 169 ∷ 170 ∷ 171 ∷ 172 ∷ 173 ∷ 174 ∷ 175 ∷ 176 ∷ 177 ∷ 178 ∷ 179 ∷ 180 ∷ 181 ∷ 182 ∷ 183 ∷ 184 ∷ 185 ∷ 186 ∷ 187 ∷ 188 ∷ 189 ∷ 190 ∷ 191 ∷
-    192 ∷ 193 ∷ 194 ∷ 195 ∷ 196 ∷ 197 ∷ 198 ∷ 199 ∷ 200 ∷ 201 ∷ 202 ∷ 203 ∷ 204 ∷ 205 ∷ 206 ∷ 207 ∷ 208 ∷ 209 ∷ 210 ∷ 211 ∷ 212 ∷ 213 ∷ 214 ∷ 215 ∷ 216 ∷ 217 ∷ 218 ∷ 219 ∷ 220 ∷ 221 ∷ 222 ∷ 223 ∷
-    224 ∷ 225 ∷ 226 ∷ 227 ∷ 228 ∷ 229 ∷ 230 ∷ 231 ∷ 232 ∷ 233 ∷ 234 ∷ 235 ∷ 236 ∷ 237 ∷ 238 ∷ 239 ∷ 240 ∷ 241 ∷ 242 ∷ 243 ∷ 244 ∷ 245 ∷ 246 ∷ 247 ∷ 248 ∷ 249 ∷ 250 ∷ 251 ∷ 252 ∷ 253 ∷ 254 ∷ 255 ∷ []
-
-pub before-at : (b : ℕ) → b < 256 → slice_index before-table b ≡ backslashes_before b
-before-at b h = eqb-true _ _ (agree_below_at (λ b. slice_index before-table b == backslashes_before b) (λ k. true) 256 b refl h)
-
-pub last-at : (b : ℕ) → b < 256 → slice_index last-table b ≡ last_of b
-last-at b h = eqb-true _ _ (agree_below_at (λ b. slice_index last-table b == last_of b) (λ k. true) 256 b refl h)
 
 -- One more byte is printed.
 pub printed_bytes-more : (bs : List ℕ) (i : ℕ) → i < length bs → printed_bytes (take (i + 1) bs) ≡ printed_bytes (take i bs) ++ printed_byte (get_or bs i 0)
@@ -89,29 +68,15 @@ printed-after bytes out printed_character filled room written h k e =
     ∙ ap (λ v. take filled bytes ++ v) (take-append-le written out (post_of filled room bytes) k ∙ e)
 
 -- The first bytes are printed, and the rest follows.
-pub printed-front : (line rest new whole : List ℕ) (size n read : ℕ) → size ≡ length rest → read ≤ n
-    → new ≡ line ++ printed_bytes (take read (take n rest)) → line ++ printed_bytes rest ≡ whole
-    → new ++ printed_bytes (take (size - read) (drop read rest)) ≡ whole
-printed-front line rest new whole size n read is_size within printed held =
-    ap₂ (λ x y. x ++ printed_bytes y)
-    (printed ∙ ap (λ v. line ++ printed_bytes v) (take-take read n rest within))
-    (take_all (size - read) (drop read rest) (omega (arith, is_size, length-drop read rest)))
+pub printed-front : (line rest new whole : List ℕ) (size read : ℕ) → size ≡ length rest → new ≡ line ++ printed_bytes (take read rest)
+    → line ++ printed_bytes rest ≡ whole → new ++ printed_bytes (take (size - read) (drop read rest)) ≡ whole
+printed-front line rest new whole size read is_size printed held =
+    ap₂ (λ x y. x ++ printed_bytes y) printed (take_all (size - read) (drop read rest) (omega (arith, is_size, length-drop read rest)))
     ∙ append_assoc line (printed_bytes (take read rest)) (printed_bytes (drop read rest))
     ∙ ap (λ v. line ++ v) (sym (printed_bytes-append (take read rest) (drop read rest)) ∙ ap printed_bytes (take-append-drop read rest))
     ∙ held
 
--- All bytes are printed.
-pub printed-whole : (line bytes new : List ℕ) (n read : ℕ) → read ≤ n → length bytes ≤ read
-    → new ≡ line ++ printed_bytes (take read (take n bytes)) → new ≡ line ++ printed_bytes bytes
-printed-whole line bytes new n read within all printed =
-    printed ∙ ap (λ v. line ++ printed_bytes v) (take-take read n bytes within ∙ take_all read bytes all)
-
 -- ---- ASCII
-
--- An ASCII character may be written unescaped.
-literal-ascii : (e : Encoding) (only : Bool) (c : ℕ) → c < 0x80 → literal e only c ≡ c ∷ []
-literal-ascii e true c h = rw (lt-ltb c 0x80 h, encoded-ascii e c h) refl
-literal-ascii e false c h = rw (encoded-ascii e c h) refl
 
 -- An ASCII character is printed as its byte is.
 pub ascii-printed : (e : Encoding) (only : Bool) (c : ℕ) → c < 0x80 → encoded_text e (printed_character e only in_key_or_value c) ≡ printed_byte c
@@ -242,32 +207,6 @@ bytes-printed (c ∷ cs) (b ∷ bs) h =
     encoded_text-append windows_1252 (printed_character windows_1252 false in_key_or_value c) (printed_characters windows_1252 false in_key_or_value cs)
     ∙ ap₂ (λ x y. x ++ y) (byte-printed c b first) (bytes-printed cs bs more)
 
-printed_bytes-front : (text bs rest : List ℕ) → EncodesFront text bs rest
-    → text_bytes all_of_windows_1252 KeyOrValue text ≡ printed_bytes bs ++ text_bytes all_of_windows_1252 KeyOrValue rest
-printed_bytes-front text bs rest h =
-    ap (text_bytes all_of_windows_1252 KeyOrValue) h.1
-    ∙ ap (encoded_text windows_1252) (printed_characters-append windows_1252 false in_key_or_value h.0 rest)
-    ∙ encoded_text-append windows_1252 (printed_characters windows_1252 false in_key_or_value h.0) (printed_characters windows_1252 false in_key_or_value rest)
-    ∙ ap (λ v. v ++ text_bytes all_of_windows_1252 KeyOrValue rest) (bytes-printed h.0 bs h.2)
-
--- A run of characters at the front of a text is printed.
-pub run-front : (line new whole text bs rest : List ℕ) → line ++ text_bytes all_of_windows_1252 KeyOrValue text ≡ whole → EncodesFront text bs rest
-    → new ≡ line ++ printed_bytes bs → new ++ text_bytes all_of_windows_1252 KeyOrValue rest ≡ whole
-run-front line new whole text bs rest held h e =
-    ap (λ v. v ++ text_bytes all_of_windows_1252 KeyOrValue rest) e
-    ∙ append_assoc line (printed_bytes bs) (text_bytes all_of_windows_1252 KeyOrValue rest)
-    ∙ ap (λ v. line ++ v) (sym (printed_bytes-front text bs rest h))
-    ∙ held
-
--- One character at the front is printed.
-pub one-more : (line new whole rest : List ℕ) (c : ℕ) → line ++ text_bytes all_of_windows_1252 KeyOrValue (c ∷ rest) ≡ whole
-    → new ≡ line ++ encoded_text windows_1252 (printed_character windows_1252 false in_key_or_value c) → new ++ text_bytes all_of_windows_1252 KeyOrValue rest ≡ whole
-one-more line new whole rest c held e =
-    ap (λ v. v ++ text_bytes all_of_windows_1252 KeyOrValue rest) e
-    ∙ append_assoc line (encoded_text windows_1252 (printed_character windows_1252 false in_key_or_value c)) (text_bytes all_of_windows_1252 KeyOrValue rest)
-    ∙ ap (λ v. line ++ v) (sym (encoded_text-append windows_1252 (printed_character windows_1252 false in_key_or_value c) (printed_characters windows_1252 false in_key_or_value rest)))
-    ∙ held
-
 -- A character that windows-1252 lacks is escaped.
 pub lacked-printed : (c : ℕ) → 0x80 ≤ c → is_some (windows_1252_byte c) ≡ false → encoded_text windows_1252 (printed_character windows_1252 false in_key_or_value c) ≡ unicode_escape c
 lacked-printed c h e =
@@ -283,6 +222,34 @@ lacked-printed c h e =
     some-byte None = refl
     some-byte (Some b) = refl
 
-pub lacked-more : (line new whole rest : List ℕ) (c : ℕ) → line ++ text_bytes all_of_windows_1252 KeyOrValue (c ∷ rest) ≡ whole → 0x80 ≤ c
-    → is_some (windows_1252_byte c) ≡ false → new ≡ line ++ unicode_escape c → new ++ text_bytes all_of_windows_1252 KeyOrValue rest ≡ whole
-lacked-more line new whole rest c held h e f = one-more line new whole rest c held (f ∙ ap (λ v. line ++ v) (sym (lacked-printed c h e)))
+-- ---- texts, from their fronts
+
+-- One character at the front is printed.
+pub one-more : (r : Repertoire) (line new whole rest : List ℕ) (c : ℕ) → line ++ text_bytes r KeyOrValue (c ∷ rest) ≡ whole
+    → new ≡ line ++ character_bytes r KeyOrValue c → new ++ text_bytes r KeyOrValue rest ≡ whole
+one-more r line new whole rest c held e =
+    let printed = printed_characters (output_of r.encoding) r.ascii_only in_key_or_value rest in
+    ap (λ v. v ++ text_bytes r KeyOrValue rest) e
+    ∙ append_assoc line (character_bytes r KeyOrValue c) (text_bytes r KeyOrValue rest)
+    ∙ ap (λ v. line ++ v) (sym (encoded_text-append (output_of r.encoding) (printed_character (output_of r.encoding) r.ascii_only in_key_or_value c) printed))
+    ∙ held
+
+-- ASCII characters at the front are printed.
+pub run-more : (r : Repertoire) (line new whole text : List ℕ) (k : ℕ) → IsAscii (take k text)
+    → line ++ text_bytes r KeyOrValue (chars text) ≡ whole → new ≡ line ++ printed_bytes (take k text)
+    → new ++ text_bytes r KeyOrValue (chars (drop k text)) ≡ whole
+run-more r line new whole text k ascii held e =
+    let e' = output_of r.encoding in
+    let xs = take k text in
+    let ys = chars (drop k text) in
+    let split : chars text ≡ xs ++ ys =
+    ap chars (sym (take-append-drop k text)) ∙ chars-append xs (drop k text) (IsUtf8-from_ascii xs ascii) ∙ ap (λ v. v ++ ys) (chars-IsAscii xs ascii) in
+    let front : text_bytes r KeyOrValue xs ≡ printed_bytes xs = ap (text_bytes r KeyOrValue) (sym (chars-IsAscii xs ascii)) ∙ bytewise-ascii r xs ascii in
+    ap (λ v. v ++ text_bytes r KeyOrValue ys) (e ∙ ap (λ v. line ++ v) (sym front))
+    ∙ append_assoc line (text_bytes r KeyOrValue xs) (text_bytes r KeyOrValue ys)
+    ∙ ap (λ v. line ++ v) (
+    sym (encoded_text-append e' (printed_characters e' r.ascii_only in_key_or_value xs) (printed_characters e' r.ascii_only in_key_or_value ys))
+    ∙ ap (encoded_text e') (sym (printed_characters-append e' r.ascii_only in_key_or_value xs ys))
+    ∙ ap (text_bytes r KeyOrValue) (sym split)
+    )
+    ∙ held

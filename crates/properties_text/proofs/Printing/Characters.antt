@@ -1,17 +1,12 @@
 -- What is printed for a character and for a text.
-use Rattle.std.proofs.Common.{◌≡◌, ◌≢◌, ℕ, ◌<◌, ◌≤◌, ◌||◌, not, Bool, true, false, cond, nat_lt, List, [], ◌∷◌, ◌++◌, refl, sym, ap, ◌∙◌, append_assoc, append-nil, lit<, lt-ltb, le-ltb, ne_eqb}
+use Rattle.std.proofs.Common.{◌≡◌, ℕ, ◌≤◌, ◌||◌, not, Bool, true, false, nat_lt, List, [], ◌∷◌, ◌++◌, refl, sym, ap, ◌∙◌, append_assoc, append-nil, le-ltb}
 use Rattle.std.specs.Prelude.{Option, Some, None, is_some, unwrap_or, encode_utf8_all}
 use Rattle.std.specs.Str.{chars, IsUtf8}
-use Rattle.std.proofs.lemmas.Bool.{cond-true, cond-false, and_from, and_left, and_right, agree_below_at}
+use Rattle.std.proofs.lemmas.Bool.{cond-true, cond-false, and_from, and_left, and_right}
 use Rattle.std.proofs.lemmas.Str.{encodes-chars, encode_ascii}
-use Rattle.properties_format.specs.Text.{backslash}
 use Rattle.properties_format.specs.Encoding.{Encoding, encoded}
-use Rattle.properties_format.specs.Printing.{Place, in_key_or_value, unit_escape, high_surrogate, low_surrogate, unicode_escape, may_be_unescaped, literal, is_special, has_letter, letter_escape, printed_character, printed_characters, encoded_text}
+use Rattle.properties_format.specs.Printing.{Place, unit_escape, high_surrogate, low_surrogate, unicode_escape, may_be_unescaped, literal, printed_character, printed_characters, encoded_text}
 use Rattle.properties_format.proofs.Printing.Characters.{encoded_text-append, printed_characters-append, AreAscii, encoded_text-ascii, unicode_escape-ascii}
-
--- A backslash and an ASCII character encode as themselves.
-pub encoded_pair : (e : Encoding) (b : ℕ) → b < 0x80 → encoded_text e (backslash ∷ b ∷ []) ≡ backslash ∷ b ∷ []
-encoded_pair e b h = encoded_text-ascii e (backslash ∷ b ∷ []) (lit< tt, (h, tt))
 
 -- An escape encodes as itself.
 pub encoded_escape : (e : Encoding) (c : ℕ) → encoded_text e (unicode_escape c) ≡ unicode_escape c
@@ -46,23 +41,6 @@ escape_wide c before at h k =
     ap (λ v. before ++ v) (cond-false (nat_lt c 0x1_0000) (unit_escape c) (unit_escape (high_surrogate c) ++ unit_escape (low_surrogate c)) (le-ltb c 0x1_0000 h))
     ∙ sym (append_assoc before (unit_escape (high_surrogate c)) (unit_escape (low_surrogate c)))
     ∙ ap (λ v. v ++ unit_escape (low_surrogate c)) (sym k)
-
--- The character is a control character without a letter escape.
-abbrev pub IsOtherControl : ℕ → Type 0
-IsOtherControl c = (c < 0x20) × (c ≢ 0x09) × (c ≢ 0x0a) × (c ≢ 0x0c) × (c ≢ 0x0d)
-
--- In a key or a value, it is escaped as `\u` and its code point.
-pub printed_control : (e : Encoding) (only : Bool) (c : ℕ) → IsOtherControl c → printed_character e only in_key_or_value c ≡ unicode_escape c
-printed_control e only c (h, tab, lf, ff, cr) =
-    cond-false (is_special c) (backslash ∷ c ∷ []) (cond (has_letter c) (letter_escape c) (cond (nat_lt c 0x20) (unicode_escape c) (literal e only c))) (not-special c h)
-    ∙ cond-false (has_letter c) (letter_escape c) (cond (nat_lt c 0x20) (unicode_escape c) (literal e only c)) (no-letter c tab lf ff cr)
-    ∙ cond-true (nat_lt c 0x20) (unicode_escape c) (literal e only c) (lt-ltb c 0x20 h)
-  where
-    not-special : (c : ℕ) → c < 0x20 → is_special c ≡ false
-    not-special c h = agree_below_at is_special (λ k. false) 0x20 c refl h
-
-    no-letter : (c : ℕ) → c ≢ 0x09 → c ≢ 0x0a → c ≢ 0x0c → c ≢ 0x0d → has_letter c ≡ false
-    no-letter c tab lf ff cr = rw (ne_eqb c 0x09 tab, ne_eqb c 0x0a lf, ne_eqb c 0x0c ff, ne_eqb c 0x0d cr) refl
 
 -- One more character is printed.
 pub printed_more : (e : Encoding) (only : Bool) (place : Place) (before xs : List ℕ) (c : ℕ)

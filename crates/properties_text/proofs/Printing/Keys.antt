@@ -1,34 +1,25 @@
 -- Keys that begin like a byte order mark.
-use Rattle.std.proofs.Common.{◌≡◌, ℕ, ◌==◌, ◌&&◌, Bool, true, false, List, [], ◌∷◌, ◌++◌, drop, refl, sym, ap, ap₂, ◌∙◌, inl, inr, None, eqb-true, eq-eqb, ltb-true, leb-true}
+use Rattle.std.proofs.Common.{◌≡◌, ℕ, ◌&&◌, Bool, true, false, List, [], ◌∷◌, ◌++◌, drop, refl, sym, ap, ap₂, ◌∙◌, None, eq-eqb}
 use Rattle.std.specs.Prelude.{encode_utf8_all}
 use Rattle.std.specs.Bool.{MatchBool}
 use Rattle.std.specs.List.{All}
 use Rattle.std.specs.Str.{chars, IsUtf8, all_scalars}
 use Rattle.std.specs.Str.Pattern.{HasPrefixMatch, FindsTextPrefix}
-use Rattle.std.specs.Char.{IsScalar}
-use Rattle.std.proofs.Math.Dec.{ltb, leb}
 use Rattle.std.proofs.Math.Utf8.{scalar as is_scalar}
-use Rattle.std.proofs.lemmas.Bool.{cases_Bool, cond-false, and_parts, false_from_ne_true}
+use Rattle.std.proofs.lemmas.Bool.{and_parts, false_from_ne_true}
 use Rattle.std.proofs.lemmas.Str.{chars-append, chars-encodes, encodes-chars, encodes-append, scalars-chars}
 use Rattle.std.proofs.lemmas.List.Elements.{All-nil, All-cons}
 use Rattle.properties_format.specs.Text.{scalar}
 use Rattle.properties_format.specs.Encoding.{utf_8, begins_with}
 use Rattle.properties_format.specs.Printing.{is_bom_like}
-use Rattle.properties_format.proofs.Printing.BomLike.{is_bom_like-utf_8}
+use Rattle.properties_format.proofs.Printing.BomLike.{is_bom_like-utf_8, begins-rest}
+use Rattle.properties_format.proofs.Encodings.WellFormed.{scalar-from_char}
 
 -- ---- A text that begins with another begins with its characters.
 
 begins-append : (ms xs : List ℕ) → begins_with ms (ms ++ xs) ≡ true
 begins-append [] xs = refl
 begins-append (m ∷ ms) xs = ap₂ (λ a b. a && b) (eq-eqb m m refl) (begins-append ms xs)
-
-begins-rest : (ms xs : List ℕ) → begins_with ms xs ≡ true → (rest : List ℕ) × (xs ≡ ms ++ rest)
-begins-rest [] xs h = (xs, refl)
-begins-rest (m ∷ ms) [] h = cc
-begins-rest (m ∷ ms) (x ∷ xs) h =
-    let p = and_parts (m == x) (begins_with ms xs) h in
-    let r = begins-rest ms xs p.1 in
-    (r.0, ap₂ (λ v vs. v ∷ vs) (sym (eqb-true m x p.0)) r.1)
 
 text-begins : (ms bs rest : List ℕ) → all_scalars ms ≡ true → IsUtf8 (encode_utf8_all ms) → bs ≡ encode_utf8_all ms ++ rest → begins_with ms (chars bs) ≡ true
 text-begins ms bs rest s u e =
@@ -49,19 +40,11 @@ starts_by_characters ms bs false s u h = sym (false_from_ne_true (begins_with ms
 
 -- ---- The keys of a text.
 
-scalar-is : (c : ℕ) → IsScalar c → scalar c
-scalar-is c h = elim (cases_Bool (ltb c 0xd800)) [
-  | inl e ↦ let k = ltb-true c 0xd800 e in inl k
-  | inr e ↦
-      let p = and_parts (leb 0xe000 c) (ltb c 0x11_0000) (sym (cond-false (ltb c 0xd800) true (leb 0xe000 c && ltb c 0x11_0000) e) ∙ h) in
-      inr (leb-true 0xe000 c p.0, ltb-true c 0x11_0000 p.1)
-]
-
 pub scalars-all : (cs : List ℕ) → all_scalars cs ≡ true → All scalar cs
 scalars-all [] h = All-nil scalar
 scalars-all (c ∷ cs) h =
     let p = and_parts (is_scalar c) (all_scalars cs) h in
-    All-cons scalar c cs (scalar-is c p.0) (scalars-all cs p.1)
+    All-cons scalar c cs (scalar-from_char c p.0) (scalars-all cs p.1)
 
 -- In UTF-8, a key begins like a byte order mark exactly if it begins with U+FEFF.
 pub bom_like-utf_8 : (bs : List ℕ) → IsUtf8 bs → is_bom_like utf_8 false (chars bs) ≡ begins_with (0xfeff ∷ []) (chars bs)

@@ -2,8 +2,7 @@
 use Rattle.std.proofs.Common.{◌≡◌, ℕ, ◌<◌, ◌≤◌, ◌==◌, true, false, List, [], ◌∷◌, ◌++◌, length, drop, get_or, refl, ap, sym, ◌∙◌, inl, inr, arith}
 use lib.Utf8.{encode, encodes, scalars, scalar}
 use Rattle.std.specs.Str.{IsUtf8, chars}
-use Rattle.std.proofs.lemmas.Str.{chars-encodes, chars-nil, chars_past_char, IsUtf8-past_char}
-use Rattle.std.proofs.lemmas.List.{nil_from_length}
+use Rattle.std.proofs.lemmas.Str.{chars-encodes, chars_past_char, IsUtf8-past_char}
 use Rattle.std.proofs.lemmas.Bool.{cases_lt, and_parts, and_from, ne_eqb}
 use Rattle.properties_format.specs.Text.{backslash, is_blank, is_separator, is_comment_sign}
 use Rattle.properties_format.specs.Reading.Split.{ends_key}
@@ -78,9 +77,6 @@ pub record IsCharacterAnd (bs : List ℕ) (c : ℕ) (rest : List ℕ) : Type 0 w
 
 pub character_and : (bs rest : List ℕ) (c : ℕ) → IsUtf8 bs → bs ≡ encode c ++ rest → IsCharacterAnd bs c rest
 character_and bs rest c u e = record { characters = chars_past_char bs rest c u e; utf8 = IsUtf8-past_char bs rest c u e }
-
-pub chars-empty : (bs : List ℕ) → length bs ≡ 0 → chars bs ≡ []
-chars-empty bs e = ap chars (nil_from_length bs e) ∙ chars-nil
 
 -- ---- ASCII at the front
 

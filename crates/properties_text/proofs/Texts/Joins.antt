@@ -1,11 +1,10 @@
 -- What determines how lines are joined is the same in bytes and in characters.
-use Rattle.std.proofs.Common.{◌≡◌, ℕ, ◌<◌, ◌≤◌, ◌+◌, ◌-◌, ◌==◌, true, false, List, [], ◌∷◌, ◌++◌, length, take, drop, get_or, refl, ap, sym, ◌∙◌, subst, inl, inr, length-append, arith}
+use Rattle.std.proofs.Common.{◌≡◌, ℕ, ◌≤◌, ◌+◌, ◌-◌, ◌==◌, true, List, [], ◌∷◌, ◌++◌, length, take, get_or, refl, ap, sym, ◌∙◌, subst, inl, inr, length-append, arith}
 use Rattle.std.specs.Prelude.{◌%◌}
 use Rattle.std.proofs.Math.Seq.{take-append_seam, get_or-append_seam}
 use lib.Utf8.{encode, encodes, scalars}
 use Rattle.std.specs.Str.{IsUtf8, IsCharBoundary, chars}
 use Rattle.std.proofs.lemmas.Str.{encodes-chars, encodes-append, IsCharBoundary-from_take}
-use Rattle.std.proofs.lemmas.List.{drop_more, drop_all}
 use Rattle.std.proofs.lemmas.Bool.{cases_Bool}
 use Rattle.properties_format.specs.Text.{backslash, is_comment_sign, without_leading_blanks}
 use Rattle.properties_format.specs.Groups.{is_open, begins_with_comment_sign, is_comment_line, without_last, without_open_backslash}
@@ -32,18 +31,6 @@ is_comment_line-text bs u =
     sym (comment_line-encodes (without_leading_blanks (chars bs)))
     ∙ ap (λ v. begins_with_comment_sign (encodes v)) (sym p.same)
     ∙ ap begins_with_comment_sign (encodes-chars (without_leading_blanks bs) p.utf8)
-
--- The test by the first byte that isn't a blank.
-pub comment_line-first : (bs : List ℕ) (start : ℕ) → IsUtf8 bs → drop start bs ≡ without_leading_blanks bs → start < length bs
-    → is_comment_line (chars bs) ≡ is_comment_sign (get_or bs start 0)
-comment_line-first bs start u e l =
-    is_comment_line-text bs u ∙ ap begins_with_comment_sign (sym e) ∙ ap begins_with_comment_sign (drop_more bs start 0 l)
-
--- The test if there is no such byte.
-pub comment_line-blank : (bs : List ℕ) (start : ℕ) → IsUtf8 bs → drop start bs ≡ without_leading_blanks bs → length bs ≤ start
-    → is_comment_line (chars bs) ≡ false
-comment_line-blank bs start u e l =
-    is_comment_line-text bs u ∙ ap begins_with_comment_sign (sym e) ∙ ap begins_with_comment_sign (drop_all start bs l)
 
 -- ---- open backslashes
 

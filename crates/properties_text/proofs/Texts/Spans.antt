@@ -9,7 +9,7 @@ use Rattle.std.proofs.lemmas.Str.{IsUtf8-drop, IsCharBoundary-after_ascii, IsCha
 use Rattle.properties_format.specs.Text.{is_blank, is_comment_sign, without_leading_blanks}
 use Rattle.properties_format.specs.Split.{comment, pair, begins, AreBlanks, IsComment, IsPair, IsSplit}
 use Rattle.properties_format.specs.Reading.Split.{trimmed, split_full, split_of}
-use Rattle.properties_format.proofs.Split.Blanks.{without_leading_blanks-only}
+use Rattle.properties_format.proofs.Split.Blanks.{without_leading_blanks-only, core-begins}
 use Rattle.properties_format.proofs.Split.Unique.{split_of-meets, sign-full}
 use Rattle.properties_text.specs.Parsing.{bytes_in, spanned, IsSpan, AreSpans, IsCommentAt, IsPairAt, AreInPlace, AreFoundInText}
 use Rattle.properties_text.specs.declared.parse.ParsedSpans.{ParsedSpans}
@@ -68,10 +68,6 @@ pair-places line start n v fits fits_value e d =
       value_start = omega (arith, at, all, parts, last, key_long, value_long, fits_value);
       value_end = refl;
     }
-
-core-begins : (core after : List ℕ) → begins is_blank core ≡ false → (core ≡ [] → after ≡ []) → begins is_blank (core ++ after) ≡ false
-core-begins [] after full empty = ap (begins is_blank) (empty refl)
-core-begins (c ∷ core) after full empty = full
 
 comment-places : (line : List ℕ) (start : ℕ) (span : Span) → start < length line → drop start line ≡ without_leading_blanks line
     → span.start ≤ span.end → span.end ≤ length line → drop span.start line ≡ without_leading_blanks (drop (start + 1) line)

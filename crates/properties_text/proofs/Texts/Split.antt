@@ -37,10 +37,6 @@ without_leading_blanks-part = part_by without_leading_blanks without_leading_bla
 
 -- ---- blanks at the end
 
--- A text that isn't empty keeps a character at its front.
-unless-some : (c b : ℕ) (bs : List ℕ) → unless_last_blank c (b ∷ bs) ≡ c ∷ b ∷ bs
-unless-some c b bs = refl
-
 unless-wide : (c : ℕ) (y : List ℕ) → 128 ≤ c → unless_last_blank c y ≡ c ∷ y
 unless-wide c [] h = rw (wide-no_blank c h) refl
 unless-wide c (d ∷ y) h = refl

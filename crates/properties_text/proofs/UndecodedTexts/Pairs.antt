@@ -1,6 +1,6 @@
 -- A pair that is printed from where it stands in a line.
-use Rattle.std.proofs.Common.{◌≡◌, ℕ, ◌≤◌, ◌+◌, ◌-◌, Bool, false, List, ◌++◌, length, take, drop, sym, ap, ◌∙◌, subst, inl, inr, append_assoc, arith}
-use Rattle.std.specs.Prelude.{Option, Some}
+use Rattle.std.proofs.Common.{◌≡◌, ℕ, ◌≤◌, ◌+◌, ◌-◌, Bool, true, false, List, ◌++◌, length, take, drop, refl, sym, ap, ◌∙◌, subst, inl, inr, append_assoc, arith}
+use Rattle.std.specs.Prelude.{◌&&◌, not, Option, Some}
 use Rattle.std.proofs.lemmas.List.{length-append, length-take-le, drop-take, take-take}
 use Rattle.properties_format.specs.Split.{pair, IsSplit}
 use Rattle.properties_format.specs.Reading.Undecoded.{characters_of}
@@ -10,13 +10,16 @@ use Rattle.properties_text.specs.Escaping.{IsRefused}
 use Rattle.properties_text.specs.Parsing.{bytes_in, IsPairAt, AreInPlace}
 use Rattle.properties_text.specs.declared.parse.ParsedSpans.{ParsedSpans}
 use Rattle.properties_text.specs.declared.parse.ParsedSpans.TheVariants.{KVPair}
-use Rattle.properties_text.specs.Printing.{all_of_windows_1252, text_bytes, key_bytes}
+use Rattle.properties_text.specs.Printing.{all_of_windows_1252, is_windows_1252, is_all_of_windows_1252, text_bytes, key_bytes}
 use Rattle.properties_text.specs.declared.encoding.Encoding.TheVariants.{WINDOWS_1252}
+use Rattle.properties_text.specs.declared.encoding.encode.OutputEncoding.{OutputEncoding}
+use Rattle.properties_text.specs.declared.encoding.encode.OutputEncoding.TheVariants.{Windows1252, Utf8}
 use Rattle.properties_text.specs.declared.escape.UnescapeError.{UnescapeError}
 use Rattle.properties_text.specs.declared.escape.UnescapeError.TheVariants as error
 use Rattle.properties_text.specs.declared.print.undecoded.UndecodedPair.{UndecodedPair}
 use Rattle.properties_text.specs.declared.parse.Span.{Span}
 use Rattle.properties_text.specs.declared.print.Place.TheVariants.{KeyOrValue}
+use Rattle.properties_text.specs.declared.print.Repertoire.{Repertoire}
 use Rattle.properties_text.specs.UndecodedTexts.{IsAppended, undecoded_line, IsUndecodedPair, IsPairAppended, IsPairRefused}
 
 -- the text of bytes
@@ -79,13 +82,23 @@ pair-split p h =
     let value = bytes_in p.bytes.now p.value in
     rw (text (undecoded_line p), text key, text value) ((splitting-commutes (undecoded_line p)).split (pair key value) (line-split p h))
 
+-- a repertoire of windows-1252 without ASCII-only output is all of it
+pub all-is : (r : Repertoire) → is_all_of_windows_1252 r ≡ true → r ≡ all_of_windows_1252
+all-is r h = by-parts r.encoding r.ascii_only h
+  where
+    by-parts : (e : OutputEncoding) (only : Bool) → (is_windows_1252 e && not only) ≡ true
+        → let r : Repertoire = record { encoding = e; ascii_only = only } in r ≡ all_of_windows_1252
+    by-parts Windows1252 false k = refl
+    by-parts Windows1252 true k = absurd (cc)
+    by-parts Utf8 only k = absurd (cc)
+
 -- what is appended one after another
-pub parts-appended : (first : Bool) (old one two three four separator ending : List ℕ) (p : UndecodedPair) → IsUndecodedPair p
-    → IsAppended first old (bytes_in p.bytes.now p.key) one → two ≡ one ++ separator
-    → IsAppended false two (bytes_in p.bytes.now p.value) three → four ≡ three ++ ending → IsPairAppended first old (undecoded_line p) separator ending four
-parts-appended first old one two three four separator ending p h k s v e =
-    let a = key_bytes all_of_windows_1252 first k.meant in
-    let b = text_bytes all_of_windows_1252 KeyOrValue v.meant in
+pub parts-appended : (r : Repertoire) (first : Bool) (old one two three four separator ending : List ℕ) (p : UndecodedPair) → IsUndecodedPair p
+    → IsAppended r first old (bytes_in p.bytes.now p.key) one → two ≡ one ++ separator
+    → IsAppended r false two (bytes_in p.bytes.now p.value) three → four ≡ three ++ ending → IsPairAppended r first old (undecoded_line p) separator ending four
+parts-appended r first old one two three four separator ending p h k s v e =
+    let a = key_bytes r first k.meant in
+    let b = text_bytes r KeyOrValue v.meant in
     record {
       key = k.meant;
       value = v.meant;
@@ -116,10 +129,10 @@ key-refused p (error.Malformed malformed) h b = inr (inl (record {
 key-refused p error.Memory h b = tt
 
 -- and a value that does, after a key that means a text
-pub value-refused : (first : Bool) (old one : List ℕ) (p : UndecodedPair) (e : UnescapeError) → IsUndecodedPair p
-    → IsAppended first old (bytes_in p.bytes.now p.key) one
+pub value-refused : (r : Repertoire) (first : Bool) (old one : List ℕ) (p : UndecodedPair) (e : UnescapeError) → IsUndecodedPair p
+    → IsAppended r first old (bytes_in p.bytes.now p.key) one
     → IsRefused (text_of WINDOWS_1252 (bytes_in p.bytes.now p.value)) e → IsPairRefused (undecoded_line p) e
-value-refused first old one p (error.Malformed malformed) h k b = inr (inr (record {
+value-refused r first old one p (error.Malformed malformed) h k b = inr (inr (record {
   raw_key = text_of WINDOWS_1252 (bytes_in p.bytes.now p.key);
   raw_value = text_of WINDOWS_1252 (bytes_in p.bytes.now p.value);
   key = k.meant;
@@ -127,4 +140,4 @@ value-refused first old one p (error.Malformed malformed) h k b = inr (inr (reco
   key_means = k.meaning;
   breaks = b;
 }))
-value-refused first old one p error.Memory h k b = tt
+value-refused r first old one p error.Memory h k b = tt

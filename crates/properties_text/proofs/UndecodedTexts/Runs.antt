@@ -16,7 +16,7 @@ use Rattle.properties_text.specs.Printing.{all_of_windows_1252, text_bytes, with
 use Rattle.properties_text.specs.declared.print.Place.TheVariants.{KeyOrValue}
 use Rattle.properties_text.proofs.Printing.Bytes.{bytes-printed}
 use Rattle.properties_text.proofs.Printing.Vectors.{spelt}
-use Rattle.properties_text.specs.declared.print.bytes.Printed.{Printed}
+use Rattle.properties_text.specs.declared.print.undecoded.Printed.{Printed}
 use Rattle.properties_format.specs.Reading.Undecoded.{characters_of}
 use Rattle.properties_format.proofs.Undecoded.{same}
 use Rattle.properties_text.specs.UndecodedTexts.{ArePut}

@@ -24,7 +24,7 @@ use Rattle.properties_text.specs.Escaping.{four_bytes}
 use Rattle.properties_text.specs.declared.print.Place.TheVariants.{KeyOrValue}
 use Rattle.properties_text.proofs.Texts.Resolving.{text_in_front-append}
 use Rattle.properties_text.proofs.Printing.Bytes.{byte-printed, lacked-printed}
-use Rattle.properties_text.specs.declared.print.bytes.Printed.{Printed}
+use Rattle.properties_text.specs.declared.print.undecoded.Printed.{Printed}
 use Rattle.properties_text.specs.UndecodedTexts.{printed, printed_of, ArePut, IsPrinted, digits_at}
 
 -- ---- what is put
@@ -66,10 +66,6 @@ pub put-more : (text : List ℕ) (so_far reached : Printed) (out new bytes : Lis
     → ArePut text reached new
 put-more text so_far reached out new bytes c held read written m e f =
     put-many text so_far reached out new (c ∷ []) held read written m (e ∙ ap (λ v. take so_far.written out ++ v) (sym (one-character c ∙ f)))
-
--- nothing yet
-pub put-nothing : (text out : List ℕ) → ArePut text (record { read = 0; written = 0 }) out
-put-nothing text out = record { read = omega arith; written = omega arith; printed = refl }
 
 -- what is printed of a text is what it means, printed
 from-printed : (m : Meaning) (y : List ℕ) → printed m ≡ means y → (x : List ℕ) × (m ≡ means x) × (y ≡ text_bytes all_of_windows_1252 KeyOrValue x)

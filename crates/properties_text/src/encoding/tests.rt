@@ -1,4 +1,4 @@
-// Tests of decoding and encoding.
+// Tests of decoding.
 
 use super::byte_order_mark::{ByteOrderMark, byte_order_mark};
 use super::decode::as_text;
@@ -22,14 +22,9 @@ const LONG_BYTES: &[u8] =
     b"gr\xfc\xdfe aus dem Norden, \x8430\xa0\x80\x93 und 3\xd74 \xb5m \x96 caf\xe9 ol\xe9, abc";
 
 #[test]
-fn decodes_and_encodes_long_texts(rt: HostRuntime) -> Result<(), Fail> {
+fn decodes_long_texts(rt: HostRuntime) -> Result<(), Fail> {
     let text = decoded(rt.alloc(), Encoding::WINDOWS_1252, LONG_BYTES)?;
     assert_eq!(rt; text.as_str(), LONG);
-
-    let mut run = [0; 64];
-    let encoded = encode_run(&mut run, LONG);
-    assert_eq!(rt; &run[..encoded.length], LONG_BYTES);
-    assert_eq!(rt; encoded.rest, "");
     Ok(())
 }
 
@@ -49,36 +44,15 @@ fn decodes_long_units(rt: HostRuntime) -> Result<(), Fail> {
 }
 
 #[test]
-fn encodes_up_to_what_lacks_a_byte(rt: HostRuntime) {
-    let mut run = [0; 20];
-    let encoded = encode_run(&mut run, "sixteen bytes \u{e9}\u{3042}\u{e9}");
-    assert_eq!(rt; &run[..encoded.length], b"sixteen bytes \xe9".as_slice());
-    assert_eq!(rt; encoded.rest, "\u{3042}\u{e9}");
-    // Encoding stops when fewer than sixteen bytes of room are left.
-    let encoded = encode_run(&mut run, "\u{e9} and more than there is room for");
-    assert_eq!(rt; &run[..encoded.length], b"\xe9 and more than".as_slice());
-    assert_eq!(rt; encoded.rest, " there is room for");
-    // A character that crosses the end of a block, and one from the table.
-    let mut run = [0; 64];
-    let encoded = encode_run(
-        &mut run,
-        "fifteen letters\u{e9}, sixteen of them\u{fe}\u{20ac}\u{a0}",
-    );
-    assert_eq!(rt;
-        &run[..encoded.length],
-        b"fifteen letters\xe9, sixteen of them\xfe\x80\xa0".as_slice()
-    );
-    assert_eq!(rt; encoded.rest, "");
-}
-
-#[test]
 fn tells_ascii(rt: HostRuntime) {
     let mut bytes = [b'a'; 40];
     for length in 0..40 {
         assert!(rt; as_text(Encoding::WINDOWS_1252, &bytes[..length]).is_some());
+        assert_eq!(rt; leading_ascii(&bytes[..length]), length);
         for at in 0..length {
             bytes[at] = 0xe9;
             assert!(rt; as_text(Encoding::WINDOWS_1252, &bytes[..length]).is_none());
+            assert_eq!(rt; leading_ascii(&bytes[..length]), at);
             bytes[at] = b'a';
         }
     }

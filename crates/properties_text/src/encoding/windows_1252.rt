@@ -2,7 +2,7 @@
 
 ghost use Rattle.std.specs.Prelude.{◌≡◌, ◌↔◌, IfSome, IsSome, is_some};
 ghost use Rattle.std.specs.Str.{IsAscii};
-ghost use Rattle.properties_format.specs.Windows1252.{windows_1252_character, windows_1252_byte};
+ghost use Rattle.properties_format.specs.Windows1252.{windows_1252_table, windows_1252_character, windows_1252_byte, place_from};
 ghost use Rattle.properties_text.specs.Decoding.{IsTextOfByte};
 
 use super::ascii::is_ascii;
@@ -76,12 +76,23 @@ pub fn has_byte(character: char) -> bool
 }
 
 /// Returns the byte of a character, or `None` if it has none.
-#[inline]
+#[inline(always)]
 pub fn byte_of(character: char) -> Option<u8>
     ensures { result ≡ windows_1252_byte character }
 {
+    match character {
+        '\0'..='\x7f' | '\u{a0}'..='\u{ff}' => u8::try_from(u32::from(character)).ok(),
+        _ => high_byte_of(character),
+    }
+}
+
+// The byte from 80 to 9F of a character, if it has one. Such characters are rare, so the search isn't repeated in each
+// caller.
+#[inline(never)]
+fn high_byte_of(character: char) -> Option<u8>
+    ensures { result ≡ place_from 0x80 windows_1252_table character }
+{
     let byte = match character {
-        '\0'..='\x7f' | '\u{a0}'..='\u{ff}' => return u8::try_from(u32::from(character)).ok(),
         '\u{20ac}' => 0x80,
         '\u{81}' => 0x81,
         '\u{201a}' => 0x82,

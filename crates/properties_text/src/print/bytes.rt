@@ -1,24 +1,22 @@
 // Prints the bytes of a key or a value, with vectors and tables.
 
-ghost use Rattle.std.specs.Prelude.{◌≡◌, ◌+◌, ◌*◌, ◌<◌, ◌≤◌, ◌++◌, length, take, IfOk, OnOk};
-ghost use Rattle.properties_text.specs.Printing.{AppendsOnOk, ArePrinted, printed_byte, printed_bytes, backslashes_before, last_of};
+ghost use Rattle.std.specs.Prelude.{◌≡◌, ◌+◌, ◌*◌, ◌<◌, ◌≤◌, ◌++◌, length, take, IfOk};
+ghost use Rattle.properties_text.specs.Printing.{AppendsOnOk, printed_byte, printed_bytes, with_backslashes, backslashes_before, last_of};
 
-use super::print_byte;
+use super::escapes::put_unit;
 use crate::line_buffer::{LineBuffer, make_room};
-use byte_blocks::{ByteClass, Controls, ends};
+use byte_blocks::{ByteClass, Controls, Specials, put_spread};
 use std::alloc::AllocError;
 use std::simd::prelude::*;
-use vectors::put_ends;
-
-mod vectors;
-
-pub use vectors::put_16;
-
-// How many bytes are printed at once.
-const STEP: usize = 64;
 
 // Fewer bytes than this are printed one by one, because they don't fill a vector.
 const FEW: usize = 8;
+
+/// The longest that a byte is printed as: `\u` and four digits.
+pub const LONGEST_BYTE: usize = 6;
+
+// The room for a block: two bytes for each of its bytes, and an escape.
+const BLOCK_ROOM: usize = 32 + LONGEST_BYTE;
 
 // For each byte, the number of backslashes before the last byte that is printed for it, or 2 if a longer escape is
 // printed.
@@ -55,217 +53,128 @@ const LAST: [u8; 256] = [
 pub fn print_bytes(line: &mut LineBuffer, bytes: &[u8]) -> Result<(), AllocError>
     ensures { AppendsOnOk line.old (printed_bytes bytes.now) result line.new }
 {
-    if bytes.len() >= FEW {
-        return print_many(line, bytes);
-    }
-    let read = print_in_room(line, bytes);
-    if read == bytes.len() {
+    if bytes.len() < FEW {
+        make_room(&mut line.bytes, line.filled, LONGEST_BYTE * FEW)?;
+        line.filled = put_few(&mut line.bytes, line.filled, bytes);
         return Ok(());
     }
-    print_rest(line, &bytes[read..])
+    print_blocks(line, bytes)
 }
 
-// Prints more than a few bytes. Kept out of line so that the path for few bytes stays short.
+// Kept out of line so that the path for few bytes stays short.
 #[inline(never)]
-fn print_many(line: &mut LineBuffer, bytes: &[u8]) -> Result<(), AllocError>
-    ensures { AppendsOnOk line.old (printed_bytes bytes.now) result line.new }
-{
-    let read = print_in_room(line, &bytes[..bytes.len().min(STEP)]);
-    if read == bytes.len() {
-        return Ok(());
-    }
-    print_rest(line, &bytes[read..])
-}
-
-// Prints bytes up to one that takes a longer escape, or none if there is too little room. Returns how many. Calls
-// nothing, so that most texts are cheap.
-#[inline(always)]
-fn print_in_room(line: &mut LineBuffer, bytes: &[u8]) -> usize
-    requires { length bytes.now ≤ 64 }
-    ensures within { result ≤ length bytes.now }
-    ensures printed { line.new ≡ line.old ++ printed_bytes (take result bytes.now) }
-{
-    if line.bytes.len() - line.filled < 2 * bytes.len() {
-        return 0;
-    }
-    let printed = put_after(&mut line.bytes, line.filled, bytes);
-    line.filled += printed.written;
-    printed.read
-}
-
-// Prints the rest of a text that is long, has bytes that take a longer escape, or found too little room.
-#[inline(never)]
-fn print_rest(line: &mut LineBuffer, bytes: &[u8]) -> Result<(), AllocError>
+fn print_blocks(line: &mut LineBuffer, bytes: &[u8]) -> Result<(), AllocError>
     ensures { AppendsOnOk line.old (printed_bytes bytes.now) result line.new }
 {
     let mut rest = bytes;
-    while let Some(first) = rest.first() {
-        let read = print_short(line, &rest[..rest.len().min(STEP)])?;
-        if read == 0 {
-            print_byte(line, *first)?;
-            rest = &rest[1..];
-        } else {
-            rest = &rest[read..];
-        }
+    while !rest.is_empty() {
+        let read = print_block(line, rest)?;
+        rest = &rest[read..];
     }
     Ok(())
 }
 
-// Prints bytes up to one that takes a longer escape. Returns how many.
+// Prints up to sixteen bytes, and returns how many.
 #[inline(always)]
-fn print_short(line: &mut LineBuffer, bytes: &[u8]) -> Result<usize, AllocError>
+fn print_block(line: &mut LineBuffer, bytes: &[u8]) -> Result<usize, AllocError>
+    requires { 0 < length bytes.now }
+    ensures some { IfOk result (λ read. 0 < read) }
     ensures within { IfOk result (λ read. read ≤ length bytes.now) }
     ensures printed { IfOk result (λ read. line.new ≡ line.old ++ printed_bytes (take read bytes.now)) }
 {
-    make_room(&mut line.bytes, line.filled, 2 * bytes.len())?;
-    let printed = put_after(&mut line.bytes, line.filled, bytes);
-    line.filled += printed.written;
-    Ok(printed.read)
+    make_room(&mut line.bytes, line.filled, BLOCK_ROOM)?;
+    let block = put_block(&mut line.bytes, line.filled, bytes);
+    line.filled = block.end;
+    Ok(block.read)
 }
 
-// How many bytes were read, and how many were written for them.
+// How many bytes of a text were printed, and the index after what was printed for them.
 #[derive(Clone, Copy)]
-pub struct Printed {
-    /// How many bytes were read.
-    pub read: usize,
-    /// How many were written.
-    pub written: usize,
+struct Block {
+    read: usize,
+    end: usize,
 }
 
-/// None were printed.
-pub const NOTHING: Printed = Printed {
-    read: 0,
-    written: 0,
-};
-
-// Prints bytes after the first `filled`, up to one that takes a longer escape.
+// Prints up to sixteen bytes at index `at`: the last may be a control character, and no other is one.
 #[inline(always)]
-fn put_after(out: &mut [u8], filled: usize, bytes: &[u8]) -> Printed
-    requires { filled + 2 * length bytes.now ≤ length out.old }
-    ensures length { length out.new ≡ length out.old }
+fn put_block(out: &mut [u8], at: usize, bytes: &[u8]) -> Block
+    requires room { at + 38 ≤ length out.old }
+    requires some { 0 < length bytes.now }
+    ensures same_room { length out.new ≡ length out.old }
+    ensures some { 0 < result.read }
     ensures read { result.read ≤ length bytes.now }
-    ensures written { filled + result.written ≤ length out.new }
-    ensures printed { let bytes = printed_bytes (take result.read bytes.now) in
-        take (filled + result.written) out.new ≡ take filled out.old ++ bytes }
+    ensures within { result.end ≤ length out.new }
+    ensures printed { take result.end out.new ≡ take at out.old ++ printed_bytes (take result.read bytes.now) }
 {
-    put(&mut out[filled..], bytes)
-}
-
-// Prints bytes up to one that takes a longer escape.
-#[inline(always)]
-fn put(out: &mut [u8], bytes: &[u8]) -> Printed
-    requires { 2 * length bytes.now ≤ length out.old }
-    ensures read { result.read ≤ length bytes.now }
-    ensures written { result.written ≤ length out.new }
-    ensures length { length out.new ≡ length out.old }
-    ensures printed { take result.written out.new ≡ printed_bytes (take result.read bytes.now) }
-{
-    if bytes.len() < FEW {
-        return put_singly(out, bytes, NOTHING);
+    // The first block may be shorter, so that only whole blocks are left.
+    let count = (bytes.len() - 1) % 16 + 1;
+    let v = first_16(bytes);
+    let plain = Controls::marks(v).front_of(count);
+    let end = put_16(out, at, v, plain);
+    if plain == count {
+        return Block { read: plain, end };
     }
-    let first = put_first(out, bytes);
-    let more = put_blocks(out, bytes, first);
-    put_singly(out, bytes, more)
+    Block {
+        read: plain + 1,
+        end: put_any(out, end, bytes[plain]),
+    }
 }
 
-// Prints a first block that may be shorter, so that whole blocks of sixteen are left, or eight to fifteen bytes all at
-// once. Prints nothing if a control character is near.
+// The first sixteen bytes, padded with zeros if there are fewer.
 #[inline(always)]
-fn put_first(out: &mut [u8], bytes: &[u8]) -> Printed
-    requires room { 2 * length bytes.now ≤ length out.old }
-    requires enough { FEW ≤ length bytes.now }
-    ensures length { length out.new ≡ length out.old }
-    ensures printed { ArePrinted bytes.now result out.new }
+fn first_16(bytes: &[u8]) -> u8x16
+    ensures { take (length bytes.now) (take 16 result) ≡ take 16 bytes.now }
 {
     if bytes.len() >= 16 {
-        let v = u8x16::from_slice(bytes);
-        if Controls::marks(v).is_clear() {
-            let read = (bytes.len() - 1) % 16 + 1;
-            let written = put_16(out, 0, v, read);
-            return Printed { read, written };
-        }
-    } else {
-        let v = ends(bytes);
-        if Controls::marks(v).is_clear() {
-            let written = put_ends(out, v, bytes.len() - FEW);
-            return Printed {
-                read: bytes.len(),
-                written,
-            };
-        }
+        return u8x16::from_slice(bytes);
     }
-    NOTHING
+    let mut padded = [0; 16];
+    padded[..bytes.len()].copy_from_slice(bytes);
+    u8x16::from_array(padded)
 }
 
-// Continues in blocks of sixteen, as long as no byte takes a longer escape.
+/// Prints the first `kept` of sixteen bytes at index `at`, and returns the index after them. Only a control character is
+/// printed as it is instead of by its escape. May overwrite 32 bytes.
 #[inline(always)]
-fn put_blocks(out: &mut [u8], bytes: &[u8], so_far: Printed) -> Printed
-    requires room { 2 * length bytes.now ≤ length out.old }
-    requires so_far { ArePrinted bytes.now so_far out.old }
+pub fn put_16(out: &mut [u8], at: usize, v: u8x16, kept: usize) -> usize
+    requires room { at + 32 ≤ length out.old }
+    requires kept { kept ≤ 16 }
     ensures length { length out.new ≡ length out.old }
-    ensures printed { ArePrinted bytes.now result out.new }
+    ensures within { result ≤ at + 2 * kept }
+    ensures printed { take result out.new ≡ take at out.old ++ with_backslashes (take kept v) }
 {
-    let mut at = so_far.written;
-    let mut read = so_far.read;
-    while bytes.len() - read >= 16 {
-        let v = u8x16::from_slice(&bytes[read..]);
-        if Controls::marks(v).is_clear() {
-            at = put_16(out, at, v, 16);
-            read += 16;
-        } else {
-            let past = put_control(out, bytes, Printed { read, written: at });
-            at = past.written;
-            if past.read == read {
-                break;
-            }
-            read = past.read;
-        }
-    }
-    Printed { read, written: at }
+    put_spread(out, at, v, u8x16::splat(b'\\'), Specials::marks(v), kept)
 }
 
-// Continues in a block with a control character: up to that character, and past it unless it takes a longer escape.
+// Prints bytes at index `at` one by one, and returns the index after them.
 #[inline(always)]
-fn put_control(out: &mut [u8], bytes: &[u8], so_far: Printed) -> Printed
-    requires room { 2 * length bytes.now ≤ length out.old }
-    requires so_far { ArePrinted bytes.now so_far out.old }
-    requires block { so_far.read + 16 ≤ length bytes.now }
+fn put_few(out: &mut [u8], at: usize, bytes: &[u8]) -> usize
+    requires { at + 6 * length bytes.now ≤ length out.old }
     ensures length { length out.new ≡ length out.old }
-    ensures onwards { so_far.read ≤ result.read }
-    ensures printed { ArePrinted bytes.now result out.new }
+    ensures within { result ≤ length out.new }
+    ensures printed { take result out.new ≡ take at out.old ++ printed_bytes bytes.now }
 {
-    let v = u8x16::from_slice(&bytes[so_far.read..]);
-    let plain = Controls::marks(v).front();
-    let at = put_16(out, so_far.written, v, plain);
-    let read = so_far.read + plain;
-    if read == bytes.len() || backslashes_before(bytes[read]) > 1 {
-        return Printed { read, written: at };
-    }
-    Printed {
-        read: read + 1,
-        written: put_byte(out, at, bytes[read]),
-    }
-}
-
-// Continues byte by byte, up to one that takes a longer escape.
-#[inline(always)]
-fn put_singly(out: &mut [u8], bytes: &[u8], so_far: Printed) -> Printed
-    requires room { 2 * length bytes.now ≤ length out.old }
-    requires so_far { ArePrinted bytes.now so_far out.old }
-    ensures length { length out.new ≡ length out.old }
-    ensures printed { ArePrinted bytes.now result out.new }
-{
-    let mut at = so_far.written;
-    let mut read = so_far.read;
+    let mut end = at;
+    let mut read = 0;
     while read < bytes.len() {
-        let byte = bytes[read];
-        if backslashes_before(byte) > 1 {
-            break;
-        }
-        at = put_byte(out, at, byte);
+        end = put_any(out, end, bytes[read]);
         read += 1;
     }
-    Printed { read, written: at }
+    end
+}
+
+/// Prints a byte at index `at`, and returns the index after it.
+#[inline(always)]
+pub fn put_any(out: &mut [u8], at: usize, byte: u8) -> usize
+    requires { at + 6 ≤ length out.old }
+    ensures length { length out.new ≡ length out.old }
+    ensures within { result ≤ at + 6 }
+    ensures printed { take result out.new ≡ take at out.old ++ printed_byte byte }
+{
+    if backslashes_before(byte) > 1 {
+        return put_unit(out, at, u32::from(byte));
+    }
+    put_byte(out, at, byte)
 }
 
 /// Prints a byte at index `at`, and returns the index after it. Has no branch.

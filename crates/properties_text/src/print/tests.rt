@@ -4,6 +4,16 @@ use super::*;
 use std::alloc::Global;
 use std::test::Fail;
 
+pub const WINDOWS_1252: Repertoire = Repertoire {
+    encoding: OutputEncoding::Windows1252,
+    ascii_only: false,
+};
+
+pub const ASCII: Repertoire = Repertoire {
+    encoding: OutputEncoding::Windows1252,
+    ascii_only: true,
+};
+
 const UTF_8: Repertoire = Repertoire {
     encoding: OutputEncoding::Utf8,
     ascii_only: false,
@@ -24,7 +34,7 @@ fn printed(
 
 #[test]
 fn prints_texts(rt: HostRuntime) -> Result<(), Fail> {
-    let rows: [(Repertoire, Place, &str, &[u8]); 17] = [
+    let rows: [(Repertoire, Place, &str, &[u8]); 18] = [
         (UTF_8, Place::KeyOrValue, "", b"|"),
         (
             UTF_8,
@@ -81,6 +91,12 @@ fn prints_texts(rt: HostRuntime) -> Result<(), Fail> {
             b"|\\ud83d\\udc1e",
         ),
         (ASCII, Place::KeyOrValue, "\u{e9}\x7f", b"|\\u00e9\x7f"),
+        (
+            ASCII,
+            Place::KeyOrValue,
+            "3 caf\u{e9}s: 4\u{20ac}",
+            b"|3\\ caf\\u00e9s\\:\\ 4\\u20ac",
+        ),
         (
             UTF_8,
             Place::Comment,

@@ -1,14 +1,15 @@
-// Prints pairs of windows-1252 that are undecoded, most of them without decoding or resolving them.
+// Prints pairs of windows-1252 that are undecoded. In windows-1252, most are printed without decoding or resolving them.
 
 ghost use Rattle.std.specs.Prelude.{◌≡◌, ◌+◌, ◌*◌, ◌<◌, ◌≤◌, ◌==◌, length, take, get_or, true, false, None, IfSome, OnErr};
 ghost use Rattle.properties_format.specs.Text.{backslash};
 ghost use Rattle.properties_format.specs.Escapes.{letter_u, is_surrogate, are_hexadecimal, code_unit};
 ghost use Rattle.properties_text.specs.Parsing.{bytes_in};
+ghost use Rattle.properties_text.specs.Printing.{all_of_windows_1252, is_all_of_windows_1252};
 ghost use Rattle.properties_text.specs.UndecodedTexts.{PrintsUndecoded, undecoded_line, IsUndecodedPair, IsNoPair, PrintsPair, IsKept, IsAppended, ArePut, IsPrinted, IsByteOf, digits_at};
 
-use super::bytes::{NOTHING, Printed, backslashes_before, put_16, put_byte};
+use super::bytes::{backslashes_before, put_16, put_byte};
 use super::escapes::put_unit;
-use super::{WINDOWS_1252, print_key};
+use super::{Repertoire, print_key};
 use crate::encoding::{Encoding, TextBuffer, byte_of, has_byte};
 use crate::escape::{UnescapeError, escaped_byte, unescape, value_of};
 use crate::line_buffer::{LineBuffer, make_room};
@@ -16,6 +17,19 @@ use crate::parse::{ParsedSpans, Span, parse_bytes};
 use byte_blocks::{Byte, ByteClass, Controls, Either};
 use std::alloc::Global;
 use std::simd::prelude::*;
+
+// How many bytes were read, and how many were written for them.
+#[derive(Clone, Copy)]
+struct Printed {
+    read: usize,
+    written: usize,
+}
+
+// None were printed.
+const NOTHING: Printed = Printed {
+    read: 0,
+    written: 0,
+};
 
 /// A pair of windows-1252 that isn't decoded or resolved.
 #[derive(Clone, Copy)]
@@ -42,7 +56,7 @@ impl<'a> UndecodedPair<'a> {
     }
 }
 
-/// Appends a pair as a writer prints it in windows-1252, with `separator` and `ending` as they are.
+/// Appends a pair as a writer of this repertoire prints it, with `separator` and `ending` as they are.
 ///
 /// If `first`, the key comes first in a file and is printed so that it isn't taken for a byte order mark. Fails with the
 /// first malformed escape, or if memory runs out; then nothing is appended.
@@ -50,23 +64,25 @@ impl<'a> UndecodedPair<'a> {
 /// ```text
 /// let bytes = br"caf\u00e9:a b";
 /// if let Some(pair) = UndecodedPair::parse(bytes, bytes.len()) {
-///     print_undecoded_pair(alloc, &mut line, false, pair, b" = ", b"\n")?; // appends `caf\xe9 = a\ b` and a line feed
+///     // In all of windows-1252 this appends `caf\xe9 = a\ b` and a line feed.
+///     print_undecoded_pair(alloc, &mut line, repertoire, false, pair, b" = ", b"\n")?;
 /// }
 /// ```
 pub fn print_undecoded_pair(
     alloc: Global,
     line: &mut LineBuffer,
+    repertoire: Repertoire,
     first: bool,
     pair: UndecodedPair<'_>,
     separator: &[u8],
     ending: &[u8],
 ) -> Result<(), UnescapeError>
     requires { IsUndecodedPair pair }
-    ensures printed { PrintsPair first line.old pair.entry separator.now ending.now result line.new }
+    ensures printed { PrintsPair repertoire first line.old pair.entry separator.now ending.now result line.new }
     ensures unchanged { OnErr result (line.new ≡ line.old) }
 {
     let filled = line.filled;
-    let printed = print_parts(alloc, line, first, pair, separator, ending);
+    let printed = print_parts(alloc, line, repertoire, first, pair, separator, ending);
     if printed.is_err() {
         line.truncate(filled);
     }
@@ -78,70 +94,80 @@ pub fn print_undecoded_pair(
 fn print_parts(
     alloc: Global,
     line: &mut LineBuffer,
+    repertoire: Repertoire,
     first: bool,
     pair: UndecodedPair<'_>,
     separator: &[u8],
     ending: &[u8],
 ) -> Result<(), UnescapeError>
     requires { IsUndecodedPair pair }
-    ensures printed { PrintsPair first line.old pair.entry separator.now ending.now result line.new }
+    ensures printed { PrintsPair repertoire first line.old pair.entry separator.now ending.now result line.new }
     ensures kept { IsKept line.old line.new }
 {
-    print_span(alloc, line, first, pair.bytes, pair.key)?;
+    let usual = repertoire.is_all_of_windows_1252();
+    print_span(alloc, line, repertoire, usual, first, pair.bytes, pair.key)?;
     line.extend(separator)?;
-    print_span(alloc, line, false, pair.bytes, pair.value)?;
+    print_span(
+        alloc, line, repertoire, usual, false, pair.bytes, pair.value,
+    )?;
     line.extend(ending)?;
     Ok(())
 }
 
-// Appends the key or the value at this position as it is printed. On an error nothing is appended.
+// Appends the key or the value at this position as it is printed. On an error nothing is appended. `usual` is whether
+// the repertoire is all of windows-1252, which is tested once for a pair.
 #[inline(always)]
 fn print_span(
     alloc: Global,
     line: &mut LineBuffer,
+    repertoire: Repertoire,
+    usual: bool,
     first: bool,
     bytes: &[u8],
     span: Span,
 ) -> Result<(), UnescapeError>
     requires ordered { span.start ≤ span.end }
     requires within { span.end ≤ length bytes.now }
-    ensures printed { PrintsUndecoded first line.old (bytes_in bytes.now span) result line.new }
+    requires usual { usual ≡ is_all_of_windows_1252 repertoire }
+    ensures printed { PrintsUndecoded repertoire first line.old (bytes_in bytes.now span) result line.new }
     ensures unchanged { OnErr result (line.new ≡ line.old) }
 {
     let rest = &bytes[span.start..];
     let end = span.end - span.start;
-    if !first && print_usual(line, rest, end) {
+    if !first && usual && print_usual(line, rest, end) {
         return Ok(());
     }
-    print_decoded(alloc, line, first, &rest[..end])
+    print_decoded(alloc, line, repertoire, first, &rest[..end])
 }
 
 // Decodes and resolves the key or the value with these bytes, and appends it as it is printed. On an error nothing is
-// appended. This is for few of them: the first key, and those with a malformed escape or an unescaped control character.
+// appended. In all of windows-1252 this is for few: the first key, and those with a malformed escape or an unescaped
+// control character.
 #[inline(never)]
 fn print_decoded(
     alloc: Global,
     line: &mut LineBuffer,
+    repertoire: Repertoire,
     first: bool,
     bytes: &[u8],
 ) -> Result<(), UnescapeError>
-    ensures printed { PrintsUndecoded first line.old bytes.now result line.new }
+    ensures printed { PrintsUndecoded repertoire first line.old bytes.now result line.new }
     ensures unchanged { OnErr result (line.new ≡ line.old) }
 {
     let mut text = TextBuffer::new(alloc);
     text.push_decoded(Encoding::WINDOWS_1252, bytes)?;
     let meant = unescape(alloc, text.as_str())?;
     let mut printed = LineBuffer::new(alloc);
-    print_key(&mut printed, WINDOWS_1252, first, &meant)?;
+    print_key(&mut printed, repertoire, first, &meant)?;
     line.extend(printed.as_slice())?;
     Ok(())
 }
 
-// Appends what a usual text is printed as, and says that it did. Otherwise nothing is appended.
+// Appends what a usual text is printed as, and returns whether it did. If not, nothing is appended.
 #[inline(always)]
 fn print_usual(line: &mut LineBuffer, bytes: &[u8], end: usize) -> bool
     requires { end ≤ length bytes.now }
-    ensures printed { result ≡ true → IsAppended false line.old (take end bytes.now) line.new }
+    ensures printed { result ≡ true → IsAppended all_of_windows_1252 false line.old (take end bytes.now) line.new }
     ensures unchanged { result ≡ false → line.new ≡ line.old }
 {
     let Some(room) = (2 * end).checked_add(32) else {
@@ -165,7 +191,7 @@ fn put_after(out: &mut [u8], filled: usize, bytes: &[u8], end: usize) -> Option<
     ensures same_room { length out.new ≡ length out.old }
     ensures kept { take filled out.new ≡ take filled out.old }
     ensures inside { IfSome result (λ at. at ≤ length out.new) }
-    ensures printed { IfSome result (λ at. IsAppended false (take filled out.old) (take end bytes.now) (take at out.new)) }
+    ensures printed { IfSome result (λ at. IsAppended all_of_windows_1252 false (take filled out.old) (take end bytes.now) (take at out.new)) }
 {
     let written = put_printed(&mut out[filled..], bytes, end)?;
     Some(filled + written)
@@ -231,7 +257,7 @@ fn put_few(out: &mut [u8], text: &[u8], so_far: Printed) -> Printed
     reached
 }
 
-// Goes on by blocks of sixteen, and past what stands between them, as far as sixteen bytes are there.
+// Goes on by blocks of sixteen bytes, and by the escapes between them, as long as there are sixteen bytes.
 #[inline(always)]
 fn put_blocks(out: &mut [u8], bytes: &[u8], end: usize, so_far: Printed) -> Printed
     requires within { end ≤ length bytes.now }
@@ -268,7 +294,7 @@ fn put_block(out: &mut [u8], bytes: &[u8], end: usize, so_far: Printed) -> Print
     ensures put { ArePut (take end bytes.now) result out.new }
 {
     let v = u8x16::from_slice(&bytes[so_far.read..]);
-    let kept = Stops::marks(v).front_of((end - so_far.read).min(16));
+    let kept = Stops::marks(v).front().min(end - so_far.read);
     let written = put_16(out, so_far.written, v, kept);
     Printed {
         read: so_far.read + kept,
@@ -425,7 +451,7 @@ fn put_unicode(out: &mut [u8], text: &[u8], so_far: Printed) -> Printed
     }
 }
 
-// Puts the character of two surrogates, of which the first was read. It stands apart, since they are rare.
+// Puts the character of two surrogates, of which the first was read. Kept out of line because they are rare.
 #[inline(never)]
 fn put_surrogate_pair(out: &mut [u8], text: &[u8], so_far: Printed, high: u32) -> Printed
     requires room { 2 * length text.now ≤ length out.old }
@@ -463,7 +489,8 @@ fn put_surrogate_pair(out: &mut [u8], text: &[u8], so_far: Printed, high: u32) -
 fn byte_for(character: char) -> Option<u8>
     ensures { IsByteOf character result }
 {
-    if !has_byte(character) {
+    // Below this character, `has_byte` only asks `byte_of`.
+    if '\u{2dd}' <= character && !has_byte(character) {
         return None;
     }
     let Some(byte) = byte_of(character) else {

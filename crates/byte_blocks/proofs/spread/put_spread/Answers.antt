@@ -4,9 +4,9 @@ use Rattle.byte_blocks.proofs.Rows.{stored}
 use Rattle.byte_blocks.proofs.Spreading.{spread-clear, whole-written}
 use Rattle.byte_blocks.proofs.spread.put_spread.Goals as goal
 
-pub returns-then-is_clear-clause-written : goal.returns-then-is_clear-clause-written
-returns-then-is_clear-clause-written c =
-    let clear = c.is_clear.ensures.0 c.if-is_clear.true in
+pub returns-then-is_clear_before-clause-written : goal.returns-then-is_clear_before-clause-written
+returns-then-is_clear_before-clause-written c =
+    let clear = c.is_clear_before.ensures.0 c.if-is_clear_before.true in
     stored c.args.at c.args.kept (c.args.at + c.args.kept) c.args.out.now c.args.block refl
     (omega (arith, c.requires.kept, c.fits-block.0)) (omega (arith, c.requires.room, c.fits-block.0))
     ∙ ap (λ v. take c.args.at c.args.out.now ++ v)

@@ -4,14 +4,15 @@ use Rattle.properties_format.specs.Edits.{AreEdited}
 use Rattle.properties_format.specs.Reading.Edits.{edits_made}
 use Rattle.properties_format.specs.Reading.EditedSlots.{slots_after}
 use Rattle.properties_format.proofs.Edits.Results.{edit_all_result-meets}
+use Rattle.properties_format.proofs.Laws.{splitting-commutes}
 use Rattle.properties_text.specs.Encoding.{encoding_of}
 use Rattle.java_properties.specs.BodySlots.{Holds}
 use Rattle.java_properties.specs.Editing.{AreMade, edit_in, edits_in}
-use Rattle.java_properties.proofs.Editing.{edits_in-more, edits-scalars, refusal, slots-none, slots-held, slots-read, slots-more, slots-edits, splitting}
+use Rattle.java_properties.proofs.Editing.{edits_in-more, edits-scalars, refusal, slots-none, slots-held, slots-read, slots-more, slots-edits}
 use Rattle.java_properties.proofs.edit.edit_all.Goals as goal
 
 pub returns-in_err-opened-clause-splitting : goal.returns-in_err-opened-clause-splitting
-returns-in_err-opened-clause-splitting c = splitting (encoding_of c.args.encoding) c.args.source.now
+returns-in_err-opened-clause-splitting c = splitting-commutes (encoding_of c.args.encoding) c.args.source.now
 
 pub returns-in_err-slots-clause-edits : goal.returns-in_err-slots-clause-edits
 returns-in_err-slots-clause-edits c =
@@ -24,7 +25,7 @@ returns-in_err-slots-clause-edits c =
     rw refused.1 refused.2
 
 pub returns-in_err-slots-clause-splitting : goal.returns-in_err-slots-clause-splitting
-returns-in_err-slots-clause-splitting c = splitting (encoding_of c.args.encoding) c.args.source.now
+returns-in_err-slots-clause-splitting c = splitting-commutes (encoding_of c.args.encoding) c.args.source.now
 
 pub loop-edit-init : goal.loop-edit-init
 loop-edit-init c =
@@ -39,7 +40,7 @@ make-requires-clause-reads c =
     slots-read _ c.loop-edit.slots (edits_in done) c.in_ok-opened.ensures.0 c.in_ok-opened.ensures.1 parsed.0 (edits-scalars done) c.loop-edit.invariant
 
 pub returns-in_err-make-clause-splitting : goal.returns-in_err-make-clause-splitting
-returns-in_err-make-clause-splitting c = splitting (encoding_of c.args.encoding) c.args.source.now
+returns-in_err-make-clause-splitting c = splitting-commutes (encoding_of c.args.encoding) c.args.source.now
 
 pub loop-edit-preserved : goal.loop-edit-preserved
 loop-edit-preserved c =
@@ -64,7 +65,7 @@ to_bytes-requires-clause-held c =
     slots-held _ c.loop-edit.slots (edits_in done) c.in_ok-opened.ensures.0 c.in_ok-opened.ensures.1 (edits-scalars done) holds
 
 pub returns-in_err-to_bytes-clause-splitting : goal.returns-in_err-to_bytes-clause-splitting
-returns-in_err-to_bytes-clause-splitting c = splitting (encoding_of c.args.encoding) c.args.source.now
+returns-in_err-to_bytes-clause-splitting c = splitting-commutes (encoding_of c.args.encoding) c.args.source.now
 
 pub returns-clause-edits : goal.returns-clause-edits
 returns-clause-edits c =
@@ -83,4 +84,4 @@ returns-clause-edits c =
     subst (λ v. AreMade e source v bytes) all made
 
 pub returns-clause-splitting : goal.returns-clause-splitting
-returns-clause-splitting c = splitting (encoding_of c.args.encoding) c.args.source.now
+returns-clause-splitting c = splitting-commutes (encoding_of c.args.encoding) c.args.source.now

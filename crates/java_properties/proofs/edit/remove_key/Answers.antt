@@ -4,13 +4,14 @@ use Rattle.std.specs.Str.{chars}
 use Rattle.properties_format.specs.Edited.{IsKeyRemoved}
 use Rattle.properties_format.specs.Reading.Edited.{key_removed}
 use Rattle.properties_format.proofs.Edited.Results.{remove_key_result-meets}
+use Rattle.properties_format.proofs.Laws.{splitting-commutes}
 use Rattle.properties_text.specs.Encoding.{encoding_of}
 use Rattle.java_properties.specs.BodyKeys.{left_bytes}
-use Rattle.java_properties.proofs.Editing.{refusal, splitting, removed-edits, removed-result}
+use Rattle.java_properties.proofs.Editing.{refusal, removed-edits, removed-result}
 use Rattle.java_properties.proofs.edit.remove_key.Goals as goal
 
 pub returns-in_err-opened-clause-splitting : goal.returns-in_err-opened-clause-splitting
-returns-in_err-opened-clause-splitting c = splitting (encoding_of c.args.encoding) c.args.source.now
+returns-in_err-opened-clause-splitting c = splitting-commutes (encoding_of c.args.encoding) c.args.source.now
 
 pub returns-in_err-others-clause-removes : goal.returns-in_err-others-clause-removes
 returns-in_err-others-clause-removes c =
@@ -23,10 +24,10 @@ returns-in_err-others-clause-removes c =
     rw refused.1 refused.2
 
 pub returns-in_err-others-clause-splitting : goal.returns-in_err-others-clause-splitting
-returns-in_err-others-clause-splitting c = splitting (encoding_of c.args.encoding) c.args.source.now
+returns-in_err-others-clause-splitting c = splitting-commutes (encoding_of c.args.encoding) c.args.source.now
 
 pub returns-in_err-bytes-clause-splitting : goal.returns-in_err-bytes-clause-splitting
-returns-in_err-bytes-clause-splitting c = splitting (encoding_of c.args.encoding) c.args.source.now
+returns-in_err-bytes-clause-splitting c = splitting-commutes (encoding_of c.args.encoding) c.args.source.now
 
 pub returns-clause-removes : goal.returns-clause-removes
 returns-clause-removes c =
@@ -39,4 +40,4 @@ returns-clause-removes c =
     removed-edits (removed-result key bytes c.in_ok-others.others.items opened.ensures.0 opened.ensures.1 found made)
 
 pub returns-clause-splitting : goal.returns-clause-splitting
-returns-clause-splitting c = splitting (encoding_of c.args.encoding) c.args.source.now
+returns-clause-splitting c = splitting-commutes (encoding_of c.args.encoding) c.args.source.now

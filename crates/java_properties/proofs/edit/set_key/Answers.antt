@@ -4,13 +4,14 @@ use Rattle.std.specs.Str.{chars}
 use Rattle.properties_format.specs.Edited.{IsKeySet}
 use Rattle.properties_format.specs.Reading.Edited.{key_set}
 use Rattle.properties_format.proofs.Edited.Results.{set_key_result-meets}
+use Rattle.properties_format.proofs.Laws.{splitting-commutes}
 use Rattle.properties_text.specs.Encoding.{encoding_of}
-use Rattle.java_properties.proofs.Editing.{refusal, splitting, span-within, set-edits, replaced-result, appended-result, chars-scalars}
+use Rattle.java_properties.proofs.Editing.{refusal, span-within, set-edits, replaced-result, appended-result, chars-scalars}
 use Rattle.java_properties.proofs.edit.set_key.Goals as goal
 use Rattle.java_properties.proofs.edit.set_key.Goals.{in-Some+in_ok-bytes-in-Some, in-None+in_ok-bytes-in-None}
 
 pub returns-in_err-opened-clause-splitting : goal.returns-in_err-opened-clause-splitting
-returns-in_err-opened-clause-splitting c = splitting (encoding_of c.args.encoding) c.args.source.now
+returns-in_err-opened-clause-splitting c = splitting-commutes (encoding_of c.args.encoding) c.args.source.now
 
 pub returns-in_err-place-clause-sets : goal.returns-in_err-place-clause-sets
 returns-in_err-place-clause-sets c =
@@ -24,7 +25,7 @@ returns-in_err-place-clause-sets c =
     rw refused.1 refused.2
 
 pub returns-in_err-place-clause-splitting : goal.returns-in_err-place-clause-splitting
-returns-in_err-place-clause-splitting c = splitting (encoding_of c.args.encoding) c.args.source.now
+returns-in_err-place-clause-splitting c = splitting-commutes (encoding_of c.args.encoding) c.args.source.now
 
 pub replaced-requires-clause-within : goal.replaced-requires-clause-within
 replaced-requires-clause-within c =
@@ -32,10 +33,10 @@ replaced-requires-clause-within c =
     span-within c.in-Some.pair c.in_ok-opened.ensures.0 c.in_ok-opened.ensures.1 found c.in-Some.is
 
 pub returns-in_err-bytes-in-Some-clause-splitting : goal.returns-in_err-bytes-in-Some-clause-splitting
-returns-in_err-bytes-in-Some-clause-splitting c = splitting (encoding_of c.args.encoding) c.args.source.now
+returns-in_err-bytes-in-Some-clause-splitting c = splitting-commutes (encoding_of c.args.encoding) c.args.source.now
 
 pub returns-in_err-bytes-in-None-clause-splitting : goal.returns-in_err-bytes-in-None-clause-splitting
-returns-in_err-bytes-in-None-clause-splitting c = splitting (encoding_of c.args.encoding) c.args.source.now
+returns-in_err-bytes-in-None-clause-splitting c = splitting-commutes (encoding_of c.args.encoding) c.args.source.now
 
 pub returns-clause-sets : goal.returns-clause-sets
 returns-clause-sets c =
@@ -55,4 +56,4 @@ returns-clause-sets c =
     ])
 
 pub returns-clause-splitting : goal.returns-clause-splitting
-returns-clause-splitting c = splitting (encoding_of c.args.encoding) c.args.source.now
+returns-clause-splitting c = splitting-commutes (encoding_of c.args.encoding) c.args.source.now

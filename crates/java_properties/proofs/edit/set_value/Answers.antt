@@ -4,14 +4,15 @@ use Rattle.std.specs.Str.{chars}
 use Rattle.properties_format.specs.Valued.{IsValueSet}
 use Rattle.properties_format.specs.Reading.Valued.{value_set}
 use Rattle.properties_format.proofs.Valued.Made.{set_value_result-meets}
+use Rattle.properties_format.proofs.Laws.{splitting-commutes}
 use Rattle.properties_text.specs.Encoding.{encoding_of}
-use Rattle.java_properties.proofs.Editing.{refusal, splitting, span-within, chars-scalars}
+use Rattle.java_properties.proofs.Editing.{refusal, span-within, chars-scalars}
 use Rattle.java_properties.proofs.SetValues.{value-edits, revalued-result, new_pair-result, found-alone}
 use Rattle.java_properties.proofs.edit.set_value.Goals as goal
 use Rattle.java_properties.proofs.edit.set_value.Goals.{in-Some+in_ok-bytes-in-Some, in-None+in_ok-layout-in-None+in_ok-bytes-in-None}
 
 pub returns-in_err-opened-clause-splitting : goal.returns-in_err-opened-clause-splitting
-returns-in_err-opened-clause-splitting c = splitting (encoding_of c.args.encoding) c.args.source.now
+returns-in_err-opened-clause-splitting c = splitting-commutes (encoding_of c.args.encoding) c.args.source.now
 
 pub returns-in_err-place-clause-sets : goal.returns-in_err-place-clause-sets
 returns-in_err-place-clause-sets c =
@@ -25,7 +26,7 @@ returns-in_err-place-clause-sets c =
     rw refused.1 refused.2
 
 pub returns-in_err-place-clause-splitting : goal.returns-in_err-place-clause-splitting
-returns-in_err-place-clause-splitting c = splitting (encoding_of c.args.encoding) c.args.source.now
+returns-in_err-place-clause-splitting c = splitting-commutes (encoding_of c.args.encoding) c.args.source.now
 
 pub with_value-requires-clause-within : goal.with_value-requires-clause-within
 with_value-requires-clause-within c =
@@ -39,13 +40,13 @@ with_value-requires-clause-alone c =
     found-alone c.args.source.now (chars c.args.key.now) opened c.in-Some.pair c.in_ok-opened.ensures.1 found c.in-Some.is
 
 pub returns-in_err-bytes-in-Some-clause-splitting : goal.returns-in_err-bytes-in-Some-clause-splitting
-returns-in_err-bytes-in-Some-clause-splitting c = splitting (encoding_of c.args.encoding) c.args.source.now
+returns-in_err-bytes-in-Some-clause-splitting c = splitting-commutes (encoding_of c.args.encoding) c.args.source.now
 
 pub returns-in_err-layout-in-None-clause-splitting : goal.returns-in_err-layout-in-None-clause-splitting
-returns-in_err-layout-in-None-clause-splitting c = splitting (encoding_of c.args.encoding) c.args.source.now
+returns-in_err-layout-in-None-clause-splitting c = splitting-commutes (encoding_of c.args.encoding) c.args.source.now
 
 pub returns-in_err-bytes-in-None-clause-splitting : goal.returns-in_err-bytes-in-None-clause-splitting
-returns-in_err-bytes-in-None-clause-splitting c = splitting (encoding_of c.args.encoding) c.args.source.now
+returns-in_err-bytes-in-None-clause-splitting c = splitting-commutes (encoding_of c.args.encoding) c.args.source.now
 
 pub returns-clause-sets : goal.returns-clause-sets
 returns-clause-sets c =
@@ -68,4 +69,4 @@ returns-clause-sets c =
     ])
 
 pub returns-clause-splitting : goal.returns-clause-splitting
-returns-clause-splitting c = splitting (encoding_of c.args.encoding) c.args.source.now
+returns-clause-splitting c = splitting-commutes (encoding_of c.args.encoding) c.args.source.now

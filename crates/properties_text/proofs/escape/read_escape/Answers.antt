@@ -1,10 +1,10 @@
 use Rattle.std.proofs.Common.{◌≡◌, ◌∷◌, refl, sym, ap, ◌∙◌, subst, length}
 use Rattle.std.specs.Str.{chars}
 use Rattle.std.proofs.lemmas.Bool.{ne_eqb}
+use Rattle.std.proofs.StrCases.{chars_of_empty}
 use Rattle.properties_format.specs.Text.{backslash}
 use Rattle.properties_format.specs.Escapes.{letter_u}
 use Rattle.properties_text.specs.Escaping.{Resolves}
-use Rattle.properties_text.proofs.Texts.Characters.{chars-empty}
 use Rattle.properties_text.proofs.Texts.Escapes.{meaning-letter, meaning-end, other-character, begins_so}
 use Rattle.properties_text.proofs.escape.read_escape.Goals as goal
 use Rattle.properties_text.proofs.escape.read_escape.Goals.{in-None, in-Some-t, in-Some-n, in-Some-f, in-Some-r, in-Some}
@@ -27,8 +27,8 @@ returns-clause-meaning c =
           let empty : length c.chars-characters.result.rest.now ≡ 0 = w.in-None.ensures.steps.0.0 in
           let same = w.in-None.ensures.steps.0.1 in
           rw w.character-is (meaning-end (chars text) (chars rest)
-          (ap chars start ∙ chars-empty c.chars-characters.result.rest.now empty)
-          (ap chars (c.as_str-2.ensures ∙ ap (λ v. v.rest.now) same) ∙ chars-empty c.chars-characters.result.rest.now empty))
+          (ap chars start ∙ chars_of_empty c.chars-characters.result.rest.now empty)
+          (ap chars (c.as_str-2.ensures ∙ ap (λ v. v.rest.now) same) ∙ chars_of_empty c.chars-characters.result.rest.now empty))
       | in-Some-t w ↦ rw w.character-is (meaning-letter 0x74 _ (chars text) (chars rest)
           (begins_so text after rest w.in-Some-t.field-0 0x74 c.utf8.text (start ∙ w.in-Some-t.ensures.steps.0) w.in-Some-t.field-0-test c.as_str-2.ensures) refl refl)
       | in-Some-n w ↦ rw w.character-is (meaning-letter 0x6e _ (chars text) (chars rest)

@@ -1,10 +1,12 @@
-use Rattle.std.proofs.Common.{arith}
+use Rattle.std.proofs.Common.{◌<◌, sym, subst, ◌∙◌, ap, ltb-true}
 use Rattle.properties_text.specs.Encoding.{output_of}
-use Rattle.properties_text.proofs.Printing.Characters.{IsOtherControl, printed_control, encoded_escape}
+use Rattle.properties_text.specs.Printing.{AppendsOnOk, printed_byte}
+use Rattle.properties_text.proofs.Printing.Bytes.{ascii-printed}
 use Rattle.properties_text.proofs.print.print_in_key_or_value.Goals as goal
 
-pub returns-in_default : goal.returns-in_default
-returns-in_default c =
-    let e = output_of c.args.repertoire.encoding in
-    let other : IsOtherControl c.args.character = (omega arith, omega arith, omega arith, omega arith, omega arith) in
-    rw (printed_control e c.args.repertoire.ascii_only c.args.character other, encoded_escape e c.args.character) c.print_escape.ensures
+pub returns-then-is_ascii : goal.returns-then-is_ascii
+returns-then-is_ascii c =
+    let here = c.args.character in
+    let small : here < 0x80 = ltb-true here 0x80 (sym c.is_ascii.ensures ∙ c.if-is_ascii.true) in
+    let printed = ap printed_byte c.from.ensures ∙ sym (ascii-printed (output_of c.args.repertoire.encoding) c.args.repertoire.ascii_only here small) in
+    subst (λ v. AppendsOnOk c.args.line.now v c.print_byte.result c.print_byte.new.line) printed c.print_byte.ensures

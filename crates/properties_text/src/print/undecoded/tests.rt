@@ -1,18 +1,25 @@
 // Pairs that are printed as a file spells them.
 
 use super::*;
+use crate::encoding::OutputEncoding;
 use crate::escape::Malformed;
+use crate::print::tests::{ASCII, WINDOWS_1252};
 use std::test::Fail;
 
-// What stands after `|` once the pair of a line was printed, or how it was refused.
-fn printed(alloc: Global, first: bool, spelt: &[u8]) -> Result<LineBuffer, Fail> {
+// What is printed after `|` for the pair of a line, or how it was refused.
+fn printed(
+    alloc: Global,
+    repertoire: Repertoire,
+    first: bool,
+    spelt: &[u8],
+) -> Result<LineBuffer, Fail> {
     let mut line = LineBuffer::new(alloc);
     line.push(b'|')?;
     let Some(pair) = UndecodedPair::parse(spelt, spelt.len()) else {
         line.extend(b"no pair")?;
         return Ok(line);
     };
-    match print_undecoded_pair(alloc, &mut line, first, pair, b" = ", b"\r\n") {
+    match print_undecoded_pair(alloc, &mut line, repertoire, first, pair, b" = ", b"\r\n") {
         Ok(()) => {}
         Err(UnescapeError::Malformed(Malformed::NotEnoughDigits)) => line.extend(b"short")?,
         Err(UnescapeError::Malformed(Malformed::NotHex)) => line.extend(b"no digit")?,
@@ -69,7 +76,50 @@ fn prints_undecoded_pairs(rt: HostRuntime) -> Result<(), Fail> {
         (true, b"\\ud83d=a", b"|alone"),
     ];
     for (first, spelt, wanted) in rows {
-        assert_eq!(rt; printed(rt.alloc(), first, spelt)?.as_slice(), wanted);
+        assert_eq!(rt;
+            printed(rt.alloc(), WINDOWS_1252, first, spelt)?.as_slice(),
+            wanted
+        );
+    }
+    Ok(())
+}
+
+#[test]
+fn prints_undecoded_pairs_in_other_repertoires(rt: HostRuntime) -> Result<(), Fail> {
+    let utf_8 = Repertoire {
+        encoding: OutputEncoding::Utf8,
+        ascii_only: false,
+    };
+    let rows: [(Repertoire, bool, &[u8], &[u8]); 8] = [
+        (
+            ASCII,
+            false,
+            b"\xe9 a=\\u0430\x80",
+            b"|\\u00e9 = a\\=\\u0430\\u20ac\r\n",
+        ),
+        (ASCII, true, b"\xff\xfe=a", b"|\\u00ff\\u00fe = a\r\n"),
+        (ASCII, false, b"=", b"| = \r\n"),
+        (ASCII, false, b"\\u12=a", b"|short"),
+        (
+            utf_8,
+            false,
+            b"\xe9 a=\\u0430\x80",
+            b"|\xc3\xa9 = a\\=\xd0\xb0\xe2\x82\xac\r\n",
+        ),
+        (
+            utf_8,
+            true,
+            b"\\ufeff=\\ufeff",
+            b"|\\ufeff = \xef\xbb\xbf\r\n",
+        ),
+        (utf_8, true, b"\xff\xfe=a", b"|\xc3\xbf\xc3\xbe = a\r\n"),
+        (utf_8, false, b"a=\\udc1e", b"|alone"),
+    ];
+    for (repertoire, first, spelt, wanted) in rows {
+        assert_eq!(rt;
+            printed(rt.alloc(), repertoire, first, spelt)?.as_slice(),
+            wanted
+        );
     }
     Ok(())
 }

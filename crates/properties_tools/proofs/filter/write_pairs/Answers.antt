@@ -1,11 +1,10 @@
 use Rattle.std.proofs.Common.{◌≡◌, refl, sym, ap, ◌∙◌, subst, inl, inr}
-use Rattle.std.specs.Prelude.{Option, Some, None, Ok, Err}
+use Rattle.std.specs.Prelude.{Some, None}
 use Rattle.counted_io.specs.Streams.{reader, sink}
 use Rattle.properties_format.specs.Entries.{pair}
 use Rattle.java_properties.specs.Copying.{CopiesNone, StopsReading, StopsWriting}
 use Rattle.java_properties.specs.PropertiesIter.{Reading}
 use Rattle.java_properties.specs.PropertiesWriter.{Flushes}
-use Rattle.java_properties.specs.declared.iter.copy.CopyError.{CopyError}
 use Rattle.java_properties.specs.declared.iter.copy.CopyError.TheVariants.{Read, Write}
 use Rattle.java_properties.proofs.StatedItems.{compute-entry, compute-none, compute-error}
 use Rattle.properties_tools.proofs.Filtering.{passed-none, passed-more, stops-reading, stops-writing, returns}

@@ -1,8 +1,9 @@
 use Rattle.counted_io.specs.Streams.{sink}
 use Rattle.properties_format.specs.Encoding.{output_encoding}
+use Rattle.properties_format.proofs.ReadBack.Law.{output_encoding-own}
 use Rattle.properties_text.specs.Encoding.{encoding_of}
 use Rattle.java_properties.specs.Maps.{texts_of}
-use Rattle.java_properties.proofs.TextMaps.ReadBack.{writes-map, writes-read_back, output-own}
+use Rattle.java_properties.proofs.TextMaps.ReadBack.{writes-map, writes-read_back}
 use Rattle.java_properties.proofs.maps.sorted.write_sorted.Goals as goal
 
 pub returns-clause-reads_back : goal.returns-clause-reads_back
@@ -13,4 +14,4 @@ returns-clause-reads_back g c =
     let entries = c.args.map.now.entries in
     let writes = rw (c.deref.ensures.value, c.from.ensures) at c.write_pairs.ensures.writes in
     let whole = writes-map s a entries pairs c.args.writer.now _ c.write_pairs.result c.in_ok-pairs.ensures writes in
-    writes-read_back s a entries c.args.writer.now _ c.write_pairs.result (output-own (encoding_of c.args.encoding)) whole
+    writes-read_back s a entries c.args.writer.now _ c.write_pairs.result (output_encoding-own (encoding_of c.args.encoding)) whole

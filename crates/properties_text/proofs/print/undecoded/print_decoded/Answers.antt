@@ -6,7 +6,7 @@ use Rattle.std.proofs.lemmas.Str.{chars-nil}
 use Rattle.properties_format.specs.Escapes.{Means}
 use Rattle.properties_text.specs.Decoding.{text_of}
 use Rattle.properties_text.specs.Escaping.{IsRefused}
-use Rattle.properties_text.specs.Printing.{all_of_windows_1252, key_bytes}
+use Rattle.properties_text.specs.Printing.{key_bytes}
 use Rattle.properties_text.specs.declared.encoding.Encoding.TheVariants.{WINDOWS_1252}
 use Rattle.properties_text.proofs.print.undecoded.print_decoded.Goals as goal
 
@@ -30,6 +30,6 @@ returns-clause-printed c =
           ∙ ap (λ v. c.args.line.now ++ v) (
           c.as_slice.ensures
           ∙ c.in_ok-print_key.ensures
-          ∙ ap (λ v. v ++ key_bytes all_of_windows_1252 c.args.first (chars c.deref.result.now)) c.new-printed.ensures
-          ∙ ap (λ v. key_bytes all_of_windows_1252 c.args.first (chars v)) c.deref.ensures.value);
+          ∙ ap (λ v. v ++ key_bytes c.args.repertoire c.args.first (chars c.deref.result.now)) c.new-printed.ensures
+          ∙ ap (λ v. key_bytes c.args.repertoire c.args.first (chars v)) c.deref.ensures.value);
     }

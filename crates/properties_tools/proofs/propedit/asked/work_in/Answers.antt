@@ -1,9 +1,9 @@
 use Rattle.std.proofs.Common.{map}
 use Rattle.std.specs.Prelude.{string_bytes}
+use Rattle.properties_text.proofs.TextFronts.{at-error}
 use Rattle.properties_tools.specs.Propedit.Asked.{command_of}
 use Rattle.properties_tools.specs.Propedit.AskedParts.{choices_of}
 use Rattle.properties_tools.proofs.Commands.{work-of}
-use Rattle.properties_tools.proofs.Words.{at-error}
 use Rattle.properties_tools.proofs.propedit.asked.work_in.Goals as goal
 
 pub returns-in_err-command-clause-lacks : goal.returns-in_err-command-clause-lacks

@@ -3,14 +3,15 @@ use Rattle.std.proofs.lemmas.List.{take_rest}
 use Rattle.properties_format.specs.Edits.{AreEdited}
 use Rattle.properties_format.specs.Reading.Edits.{edits_made}
 use Rattle.properties_format.proofs.Edits.Results.{edit_all_result-meets}
+use Rattle.properties_format.proofs.Laws.{splitting-commutes}
 use Rattle.properties_text.specs.Encoding.{encoding_of}
 use Rattle.java_properties.specs.declared.edit.document.Document.TheInside.{Inside}
 use Rattle.java_properties.proofs.BodyDocuments.Edits.{IsOpened, opens-document}
-use Rattle.java_properties.proofs.Editing.{refusal, splitting}
+use Rattle.java_properties.proofs.Editing.{refusal}
 use Rattle.java_properties.proofs.edit.document.Document.parse.Goals as goal
 
 pub returns-in_err-opened-clause-splitting : goal.returns-in_err-opened-clause-splitting
-returns-in_err-opened-clause-splitting c = splitting (encoding_of c.args.encoding) c.args.source.now
+returns-in_err-opened-clause-splitting c = splitting-commutes (encoding_of c.args.encoding) c.args.source.now
 
 pub returns-in_err-slots-clause-opens : goal.returns-in_err-slots-clause-opens
 returns-in_err-slots-clause-opens c =
@@ -22,10 +23,10 @@ returns-in_err-slots-clause-opens c =
     rw refused.1 refused.2
 
 pub returns-in_err-slots-clause-splitting : goal.returns-in_err-slots-clause-splitting
-returns-in_err-slots-clause-splitting c = splitting (encoding_of c.args.encoding) c.args.source.now
+returns-in_err-slots-clause-splitting c = splitting-commutes (encoding_of c.args.encoding) c.args.source.now
 
 pub returns-in_err-to_vec-clause-splitting : goal.returns-in_err-to_vec-clause-splitting
-returns-in_err-to_vec-clause-splitting c = splitting (encoding_of c.args.encoding) c.args.source.now
+returns-in_err-to_vec-clause-splitting c = splitting-commutes (encoding_of c.args.encoding) c.args.source.now
 
 -- the document that is made
 document : goal.In_ok-to_vec → Inside
@@ -63,4 +64,4 @@ unfolding document
 returns-clause-opens c = let is = is-opened c in (is.same, is.made)
 
 pub returns-clause-splitting : goal.returns-clause-splitting
-returns-clause-splitting c = splitting (encoding_of c.args.encoding) c.args.source.now
+returns-clause-splitting c = splitting-commutes (encoding_of c.args.encoding) c.args.source.now

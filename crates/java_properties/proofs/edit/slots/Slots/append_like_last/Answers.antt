@@ -1,8 +1,8 @@
 use Rattle.std.specs.Str.{chars}
+use Rattle.properties_format.proofs.Edited.Pair.{editable-own}
 use Rattle.properties_text.specs.Encoding.{encoding_of}
 use Rattle.java_properties.specs.Maps.{characters}
 use Rattle.java_properties.proofs.BodyKeys.{editable-bytes}
-use Rattle.java_properties.proofs.Editing.{output-same}
 use Rattle.java_properties.proofs.BodySlots.Put.{holds-found, keeps-found}
 use Rattle.java_properties.proofs.BodySlots.Value.{separator-seen, pairs-all, lefts-all, both-all, all-holds, err-keeps, values-sought}
 use Rattle.java_properties.proofs.edit.slots.Slots.append_like_last.Goals as goal
@@ -64,7 +64,7 @@ returns c =
     let all =
     both-all c.args.self.now c.separator.new.self c.last_ending.new.self (pairs-all c.args.self.now c.separator.new.self c.separator.ensures.keeps c.separator.ensures.same)
     (lefts-all c.separator.new.self c.last_ending.new.self c.last_ending.ensures.keeps c.last_ending.ensures.same) in
-    let printed = rw (output-same e ok, c.as_str-text.ensures.value) at c.in_ok-pair.ensures in
+    let printed = rw (editable-own e ok, c.as_str-text.ensures.value) at c.in_ok-pair.ensures in
     values-sought e c.args.body.now (chars c.args.key.now) (chars c.args.value.now) (characters c.in_ok-separator.separator) c.in_ok-pair.pair.items c.in_ok-ending.ending
     c.args.self.now c.separator.new.self c.last_ending.new.self c.is_next_first-is_first.new.self c.append_pair.new.self c.is_next_first-is_first.result c.append_pair.result ok
     c.requires.reads all c.separator.ensures.same c.last_ending.ensures.same c.requires.none

@@ -3,7 +3,8 @@ use Rattle.std.specs.BTreeMap.{get_by_text}
 use Rattle.std.specs.BTreeMap.Entry.{map_with_value}
 use Rattle.std.specs.String.{string_bytes}
 use Rattle.std.proofs.lemmas.Str.{IsUtf8-string_bytes}
-use Rattle.java_properties.proofs.BodySlots.Stacks.{items_in, items-or, stack-grown, same-if, on-err}
+use Rattle.properties_text.proofs.TextFronts.{at-error}
+use Rattle.java_properties.proofs.BodySlots.Stacks.{items_in, items-or, stack-grown, same-if}
 use Rattle.java_properties.proofs.edit.slots.places.add_place.Goals as goal
 
 pub returns-clause-added : goal.returns-clause-added
@@ -27,4 +28,4 @@ returns-in_err-push-clause-kept c =
     let had : c.or_insert-stack.result.now.items ≡ items_in (get_by_text old key) = grind (arith, items-or) in
     let same : stack.items ≡ items_in (get_by_text old key) ++ [] = c.in_err-push.ensures.items ∙ had ∙ sym (append-nil (items_in (get_by_text old key))) in
     let added = stack-grown old new key (IsUtf8-string_bytes c.args.key) stack [] (c.in_ok-places.ensures.update.0 stack) same in
-    on-err c.from_residual-in_err-push.result (λ k. grind (arith, added k, same-if))
+    at-error c.from_residual-in_err-push.result (λ k. grind (arith, added k, same-if))

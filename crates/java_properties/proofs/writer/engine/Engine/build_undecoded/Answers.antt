@@ -11,5 +11,6 @@ returns-clause-printed c =
     let raw = separator-bytes (output_of engine.encoding) separator.result.now _ separator.utf8 separator.ensures.value separator.ensures.good in
     let text = c.as_str.ensures ∙ ap line_ending_text c.line_ending.ensures in
     let ending = line_ending-bytes (output_of engine.encoding) c.as_str.result.now engine.settings.line_ending c.as_str.utf8 text in
-    undecoded-built engine c.args.pair c.clear.new.self _ _ c.print_undecoded_pair.new.line c.requires.copies c.clear.ensures
-    (c.as_bytes.ensures.value ∙ raw) (c.as_bytes-2.ensures.value ∙ ending) c.print_undecoded_pair.result c.print_undecoded_pair.ensures.printed
+    let printed = rw c.repertoire-repertoire.ensures at c.print_undecoded_pair.ensures.printed in
+    undecoded-built engine c.args.pair c.clear.new.self _ _ c.print_undecoded_pair.new.line c.clear.ensures
+    (c.as_bytes.ensures.value ∙ raw) (c.as_bytes-2.ensures.value ∙ ending) c.print_undecoded_pair.result printed

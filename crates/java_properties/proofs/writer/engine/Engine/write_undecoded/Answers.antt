@@ -1,27 +1,44 @@
-use Rattle.std.proofs.Common.{◌≡◌, ◌<◌, ◌^◌, ◌+◌, true, refl, inr, rules}
+use Rattle.std.proofs.Common.{◌≡◌, ◌<◌, ◌^◌, ◌∙◌, refl, ap, sym, inl, inr, subst, rules}
+use Rattle.std.specs.Prelude.{Ok, Err}
 use Rattle.properties_format.specs.Entries.{pair}
-use Rattle.java_properties.specs.Engine.{writing, takes_span}
-use Rattle.java_properties.specs.PropertiesWriter.{TakesLine}
-use Rattle.java_properties.proofs.Engine.{sent-line, unsent-line}
-use Rattle.java_properties.proofs.UndecodedPairs.{span-accepted}
+use Rattle.properties_format.specs.Writing.{is_accepted, pair_call}
+use Rattle.java_properties.specs.Engine.{writing, takes_span, NumbersLine}
+use Rattle.java_properties.specs.PropertiesWriter.{RefusesLine}
+use Rattle.java_properties.specs.declared.writer.engine.Engine.{Engine}
+use Rattle.java_properties.proofs.Engine.{numbered, unnumbered, sent-line, unsent-line}
+use Rattle.java_properties.proofs.UndecodedPairs.{span-accepts}
 use Rattle.java_properties.proofs.writer.engine.Engine.write_undecoded.Goals as goal
 
-pub returns-in-Ok-clause-writes : goal.returns-in-Ok-clause-writes
-returns-in-Ok-clause-writes g c =
+pub returns-in-Err-next_number-clause-writes : goal.returns-in-Err-next_number-clause-writes
+returns-in-Err-next_number-clause-writes g c =
     let engine = c.args.self.now in
     let from = c.args.sink.now in
-    let built = rw c.in_default-build_undecoded.is at c.build_undecoded.ensures.printed in
-    let taken : takes_span engine.settings c.args.pair.key ≡ true = search rules in
-    let next : c.in-Some.number ≡ engine.lines + 1 = search rules in
-    let fits : engine.lines + 1 < 2 ^ 64 = search rules in
-    let takes : TakesLine (writing engine from) (pair built.0 built.1) =
-    record { live = c.if-self.false; accepted = span-accepted engine.settings c.args.pair built.0 built.1 c.requires taken built.2; numbered = fits } in
-    let sends = rw c.in-Ok.is at c.send_line.ensures.sends in (
+    let same = c.build_undecoded.ensures.same in
+    let built = rw c.in_default.is at c.build_undecoded.ensures.printed in
+    let refused = c.in-Err-next_number.refused in
+    let is : c.takes_span.result ≡ is_accepted engine.settings (pair_call built.0 built.1) =
+    c.takes_span.ensures ∙ ap (λ (e : Engine). takes_span e.settings c.args.pair.key) same ∙ span-accepts engine.settings c.args.pair built.0 built.1 c.requires built.2 in
+    let numbers = subst (λ (e : Engine). NumbersLine e c.takes_span.result (Err refused)) same (rw c.in-Err-next_number.is at c.next_number.ensures) in
+    let refuses = unnumbered engine from (pair built.0 built.1) c.takes_span.result refused is numbers in
+    let unchanged = subst (λ w. RefusesLine (writing engine from) (pair built.0 built.1) refused w) (sym (ap (λ (e : Engine). writing e from) same)) refuses in
+    (built.0, built.1, refused, built.2, inl unchanged, refl)
+
+pub returns-in-Ok-send_line-clause-writes : goal.returns-in-Ok-send_line-clause-writes
+returns-in-Ok-send_line-clause-writes g c =
+    let engine = c.args.self.now in
+    let from = c.args.sink.now in
+    let same = c.build_undecoded.ensures.same in
+    let built = rw c.in_default.is at c.build_undecoded.ensures.printed in
+    let is : c.takes_span.result ≡ is_accepted engine.settings (pair_call built.0 built.1) =
+    c.takes_span.ensures ∙ ap (λ (e : Engine). takes_span e.settings c.args.pair.key) same ∙ span-accepts engine.settings c.args.pair built.0 built.1 c.requires built.2 in
+    let numbers = subst (λ (e : Engine). NumbersLine e c.takes_span.result (Ok c.in-Ok.number)) same (rw c.in-Ok.is at c.next_number.ensures) in
+    let small : c.in-Ok.number < 2 ^ 64 = search rules in
+    let takes = numbered engine from (pair built.0 built.1) c.takes_span.result c.in-Ok.number small is numbers in
+    let sends = rw c.in-Ok-send_line.is at c.send_line.ensures.sends in (
       built.0,
       built.1,
       built.2,
-      sent-line engine c.build_undecoded.new.self from (pair built.0 built.1) c.in-Some.number (writing c.send_line.new.self c.send_line.new.sink) takes next
-          c.build_undecoded.ensures.same built.3 sends,
+      sent-line engine c.build_undecoded.new.self from (pair built.0 built.1) c.in-Ok.number (writing c.send_line.new.self c.send_line.new.sink) takes numbers.2 same built.3 sends,
       refl,
     )
 
@@ -29,18 +46,19 @@ pub returns-in-Err-send_line-clause-writes : goal.returns-in-Err-send_line-claus
 returns-in-Err-send_line-clause-writes g c =
     let engine = c.args.self.now in
     let from = c.args.sink.now in
-    let built = rw c.in_default-build_undecoded.is at c.build_undecoded.ensures.printed in
-    let taken : takes_span engine.settings c.args.pair.key ≡ true = search rules in
-    let next : c.in-Some.number ≡ engine.lines + 1 = search rules in
-    let fits : engine.lines + 1 < 2 ^ 64 = search rules in
-    let takes : TakesLine (writing engine from) (pair built.0 built.1) =
-    record { live = c.if-self.false; accepted = span-accepted engine.settings c.args.pair built.0 built.1 c.requires taken built.2; numbered = fits } in
+    let same = c.build_undecoded.ensures.same in
+    let built = rw c.in_default.is at c.build_undecoded.ensures.printed in
+    let fault = c.in-Err-send_line.fault in
+    let is : c.takes_span.result ≡ is_accepted engine.settings (pair_call built.0 built.1) =
+    c.takes_span.ensures ∙ ap (λ (e : Engine). takes_span e.settings c.args.pair.key) same ∙ span-accepts engine.settings c.args.pair built.0 built.1 c.requires built.2 in
+    let numbers = subst (λ (e : Engine). NumbersLine e c.takes_span.result (Ok c.in-Ok.number)) same (rw c.in-Ok.is at c.next_number.ensures) in
+    let small : c.in-Ok.number < 2 ^ 64 = search rules in
+    let takes = numbered engine from (pair built.0 built.1) c.takes_span.result c.in-Ok.number small is numbers in
     let sends = rw c.in-Err-send_line.is at c.send_line.ensures.sends in (
       built.0,
       built.1,
-      c.write_fault-fault.result,
+      fault,
       built.2,
-      inr (unsent-line engine c.build_undecoded.new.self from (pair built.0 built.1) c.in-Some.number (writing c.send_line.new.self c.send_line.new.sink) takes next
-          c.build_undecoded.ensures.same built.3 c.in-Err-send_line.cause c.write_fault-fault.result sends c.write_fault-fault.ensures),
+      inr (unsent-line engine c.build_undecoded.new.self from (pair built.0 built.1) c.in-Ok.number (writing c.send_line.new.self c.send_line.new.sink) takes numbers.2 same built.3 fault sends),
       refl,
     )

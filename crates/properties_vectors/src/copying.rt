@@ -1,0 +1,213 @@
+// Pairs that are copied, by `copy_next` and by the calls that it replaces.
+
+use crate::notation::{Clause, Halt, quoted};
+use crate::outcome::Outcome;
+use crate::reading::{SIZES, Script};
+use crate::shown::{compare, error_text};
+use crate::writing::{FAULTS, ROOMY, Sink, call, front_sink, writer_to};
+use counted_io::{CountedRead, CountedWrite, Tail};
+use java_properties::{ContentRef, CopyError, Encoding, PropertiesIter, PropertiesWriter};
+use std::alloc::{AllocError, Global};
+
+// What pairs are copied to: a writer in this encoding, to this sink, after these calls.
+#[derive(Clone, Copy)]
+struct Target<'a> {
+    encoding: Encoding,
+    sink: Sink,
+    calls: &'a [Clause],
+}
+
+// How the next item is copied.
+#[derive(Clone, Copy)]
+enum Way {
+    CopyNext,
+    AdvanceAndWrite,
+}
+
+// The bytes and the errors that came, and how many reads, writes and I/O errors were counted.
+#[derive(Drop)]
+struct Copied {
+    text: String,
+    reads: usize,
+    writes: usize,
+    faults: [usize; 2],
+}
+
+/// A text is copied in pieces of each size. Where the row names no sink, it is copied to sinks that fail too.
+pub fn check_copying(
+    alloc: Global,
+    encoding: Encoding,
+    clauses: &[Clause],
+    outcome: &mut Outcome,
+) -> Result<(), Halt> {
+    let (named, clauses) = front_sink(alloc, clauses)?;
+    let [input, into, calls @ ..] = clauses else {
+        return Err(Halt::Unreadable);
+    };
+    let ("", [bytes]) = (input.word.as_str(), input.texts.as_slice()) else {
+        return Err(Halt::Unreadable);
+    };
+    let mut target = Target {
+        encoding: output_of(into.word.as_str()).ok_or(Halt::Unreadable)?,
+        sink: named.unwrap_or(ROOMY),
+        calls,
+    };
+    let bytes = bytes.as_slice();
+    let mut writes = 0;
+    for size in SIZES {
+        let script = Script::of_bytes(alloc, bytes, size, Tail::End)?;
+        let came = both_ways(alloc, encoding, &script, target, outcome)?;
+        compare(alloc, outcome, "copied", came.text.as_str())?;
+        writes = came.writes;
+    }
+    if named.is_none() {
+        let script = Script::of_bytes(alloc, bytes, bytes.len(), Tail::End)?;
+        for before in 0..writes {
+            for how in FAULTS {
+                target.sink = Sink::failing(usize::MAX, before.saturating_add(1), how);
+                both_ways(alloc, encoding, &script, target, outcome)?;
+            }
+        }
+    }
+    Ok(())
+}
+
+/// Copying comes to what reading and writing come to, into both encodings.
+pub fn check_ways(
+    alloc: Global,
+    encoding: Encoding,
+    script: &Script,
+    outcome: &mut Outcome,
+) -> Result<(), Halt> {
+    for output in [Encoding::WINDOWS_1252, Encoding::UTF_8] {
+        let target = Target {
+            encoding: output,
+            sink: ROOMY,
+            calls: &[],
+        };
+        both_ways(alloc, encoding, script, target, outcome)?;
+    }
+    Ok(())
+}
+
+// The encoding in which a clause, as `into utf-8`, has pairs written.
+fn output_of(word: &str) -> Option<Encoding> {
+    Encoding::from_name(word.strip_prefix("into ")?)
+}
+
+// Copies all in both ways, and returns what came in the first.
+fn both_ways(
+    alloc: Global,
+    encoding: Encoding,
+    script: &Script,
+    target: Target<'_>,
+    outcome: &mut Outcome,
+) -> Result<Copied, Halt> {
+    let by_copying = copied_by(alloc, encoding, script, target, Way::CopyNext)?;
+    let by_writing = copied_by(alloc, encoding, script, target, Way::AdvanceAndWrite)?;
+    let came = shown(alloc, &by_copying)?;
+    let wanted = shown(alloc, &by_writing)?;
+    if came != wanted {
+        outcome.fail(format!(in alloc; "copied: {came}; written: {wanted}")?);
+    }
+    Ok(by_copying)
+}
+
+fn shown(alloc: Global, came: &Copied) -> Result<String, AllocError> {
+    let Copied {
+        text,
+        reads,
+        writes,
+        faults: [input, sink],
+    } = came;
+    format!(in alloc; "{text} by {reads} reads and {writes} writes, {input} and {sink} faults")
+}
+
+fn copied_by(
+    alloc: Global,
+    encoding: Encoding,
+    script: &Script,
+    target: Target<'_>,
+    way: Way,
+) -> Result<Copied, Halt> {
+    let input = script.reader(alloc)?;
+    let Ok(mut items) = PropertiesIter::new_with_encoding(alloc, input, encoding) else {
+        return Err(Halt::Memory);
+    };
+    let mut writer = writer_to(alloc, target.encoding, target.sink.open(alloc))?;
+    for clause in target.calls {
+        let _ = call(&mut writer, clause)?;
+    }
+    let errors = copy_all(alloc, &mut items, &mut writer, way)?;
+    let input = items.into_inner();
+    let sink = writer.into_inner();
+    let mut text = quoted(alloc, sink.bytes())?;
+    text.push_str(errors.as_str())?;
+    Ok(Copied {
+        text,
+        reads: input.reads(),
+        writes: sink.calls(),
+        faults: [input.faults(), sink.faults()],
+    })
+}
+
+// Copies up to the end, also after an error of the writing, and returns the errors.
+fn copy_all<R: CountedRead, W: CountedWrite>(
+    alloc: Global,
+    items: &mut PropertiesIter<R>,
+    writer: &mut PropertiesWriter<W>,
+    way: Way,
+) -> Result<String, AllocError> {
+    let mut errors = String::new(alloc);
+    for _ in 0..u64::MAX {
+        let came = match way {
+            Way::CopyNext => copy_next(&mut *items, &mut *writer),
+            Way::AdvanceAndWrite => write_next(&mut *items, &mut *writer),
+        };
+        match came {
+            Some(Ok(())) => {}
+            Some(Err(error)) => errors.push_str(error_shown(alloc, &error)?.as_str())?,
+            None => break,
+        }
+    }
+    Ok(errors)
+}
+
+fn error_shown(alloc: Global, error: &CopyError) -> Result<String, AllocError> {
+    match error {
+        CopyError::Read(error) => {
+            let text = error_text(alloc, error)?;
+            format!(in alloc; "; read {text}")
+        }
+        CopyError::Write(error) => {
+            let text = error_text(alloc, error)?;
+            format!(in alloc; "; write {text}")
+        }
+    }
+}
+
+fn copy_next<R: CountedRead, W: CountedWrite>(
+    items: &mut PropertiesIter<R>,
+    writer: &mut PropertiesWriter<W>,
+) -> Option<Result<(), CopyError>> {
+    if items.copy_next(writer) {
+        return Some(Ok(()));
+    }
+    Some(Err(items.take_error()?))
+}
+
+fn write_next<R: CountedRead, W: CountedWrite>(
+    items: &mut PropertiesIter<R>,
+    writer: &mut PropertiesWriter<W>,
+) -> Option<Result<(), CopyError>> {
+    match items.advance()? {
+        Ok(found) => match items.get(found).content() {
+            ContentRef::Comment(_) => Some(Ok(())),
+            ContentRef::KVPair(key, value) => match writer.write(key.as_str(), value.as_str()) {
+                Ok(()) => Some(Ok(())),
+                Err(error) => Some(Err(CopyError::Write(error))),
+            },
+        },
+        Err(error) => Some(Err(CopyError::Read(error))),
+    }
+}
