@@ -1,6 +1,6 @@
 // A sink that follows a script.
 
-ghost use Rattle.std.specs.Prelude.{◌≡◌, Some, None, [], false, length};
+ghost use Rattle.std.specs.Prelude.{◌≡◌, Some, None, [], false};
 ghost use Rattle.std.specs.Io.{WritesAtMost};
 ghost use Rattle.std.specs.Io.KnownBytes.{WriteAppends, Keeps};
 ghost use Rattle.counted_io.specs.Faults.{one_more, CountsFault, CountsWrite, flushed_after_write, flushed_after_flush};

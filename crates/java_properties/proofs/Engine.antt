@@ -1,6 +1,7 @@
 -- The lines that an engine builds, from their parts.
 use Rattle.std.proofs.Common.{◌≡◌, ◌<◌, ◌==◌, ◌++◌, ◌+◌, ◌^◌, ℕ, Bool, true, List, [], refl, ap, sym, subst, ◌∙◌, append_assoc, inl, inr}
-use Rattle.std.specs.Prelude.{Some, Result, Ok, Err}
+use Rattle.std.specs.Prelude.{Some, Option, Result, Ok, Err}
+use Rattle.std.specs.declared.io.Error.{Error}
 use Rattle.counted_io.specs.Streams.{Sink, HasWritten, HasSentPart}
 use Rattle.std.specs.Str.{chars, IsUtf8}
 use Rattle.properties_format.specs.Text.{LineEnding, line_ending_text}
@@ -33,7 +34,9 @@ ending_bytes w = encoded_text (output_of w.encoding) (line_ending_text w.setting
 line-parts : (w : Engine) (line : Content) → content_bytes w line ++ ending_bytes w ≡ line_bytes w line
 line-parts w (comment text) =
     let e = output_of w.encoding in
-    append_assoc (encoded_text e (printed_characters e w.settings.ascii_only in_prefix w.settings.comment_prefix)) (encoded_text e (printed_characters e w.settings.ascii_only in_comment text)) (ending_bytes w)
+    let front = encoded_text e (printed_characters e w.settings.ascii_only in_prefix w.settings.comment_prefix) in
+    let rest = encoded_text e (printed_characters e w.settings.ascii_only in_comment text) in
+    append_assoc front rest (ending_bytes w)
     ∙ sym (printed-comment e w.settings (w.lines == 0) text)
 line-parts w (pair key value) =
     let e = output_of w.encoding in
@@ -126,11 +129,12 @@ module _ {W : Type 0} {sink : Sink W} (w built : Engine) (from : W) (line : Cont
         ∙ ap (λ n. record (writing w from) { sink = after.sink; lines = n }) next;
   }
 
-  pub unsent-line : (error : PropertiesError) → SendsLine sink (writing built from) built.line number (Err error) after → FailsInLine sink (writing w from) line error after
-  unsent-line error h = record {
+  pub unsent-line : (cause : Option Error) (error : PropertiesError) → SendsLine sink (writing built from) built.line number (Err cause) after
+      → IsError Io (Some number) (cause_of_write cause) error → FailsInLine sink (writing w from) line error after
+  unsent-line cause error h e = record {
     takes = takes;
-    cause = h.0;
-    sent = subst (λ v. HasSentPart sink from v h.0 after.sink) bytes h.1;
-    is = subst (λ n. IsError Io (Some n) (cause_of_write h.0) error) next h.2;
-    after = h.3 ∙ ap (λ (e : Engine). record (writing e from) { sink = after.sink; failed = true }) same;
+    cause = cause;
+    sent = subst (λ v. HasSentPart sink from v cause after.sink) bytes h.0;
+    is = subst (λ n. IsError Io (Some n) (cause_of_write cause) error) next e;
+    after = h.1 ∙ ap (λ (e : Engine). record (writing e from) { sink = after.sink; failed = true }) same;
   }

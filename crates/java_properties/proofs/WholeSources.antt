@@ -154,9 +154,30 @@ module _ {B : Type 0} (left : B → List ℕ) (faults : B → ℕ) (identity : B
       let Q : List ℕ → Type 0 = λ v. HasFailed reader from v source to in
       let all = subst Q (append-nil bytes) (failed-more read failed) in
       elim h.stops [
-        | inl k ↦ record { bytes = bytes; cause = source; failed = all; place = place; stops = record { lines = h.lines; stops = inl (again-malformed b c whole read failed k) }; before = inr failed }
+        | inl k ↦ record {
+          bytes = bytes;
+          cause = source;
+          failed = all;
+          place = place;
+          stops = record { lines = h.lines; stops = inl (again-malformed b c whole read failed k) };
+          before = inr failed;
+        }
         | inr j ↦ elim j [
-          | inl k ↦ record { bytes = bytes; cause = source; failed = all; place = to; stops = record { lines = h.lines; stops = inr (inl (again-failed b c whole read failed k)) }; before = inl refl }
-          | inr k ↦ record { bytes = bytes; cause = source; failed = all; place = place; stops = record { lines = h.lines; stops = inr (inr (again-early b c whole read failed k)) }; before = inr failed }
+          | inl k ↦ record {
+            bytes = bytes;
+            cause = source;
+            failed = all;
+            place = to;
+            stops = record { lines = h.lines; stops = inr (inl (again-failed b c whole read failed k)) };
+            before = inl refl;
+          }
+          | inr k ↦ record {
+            bytes = bytes;
+            cause = source;
+            failed = all;
+            place = place;
+            stops = record { lines = h.lines; stops = inr (inr (again-early b c whole read failed k)) };
+            before = inr failed;
+          }
         ]
       ]

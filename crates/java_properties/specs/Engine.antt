@@ -53,7 +53,7 @@ content_bytes engine (format.pair key value) =
     key_bytes (repertoire_of engine) (engine.lines == 0) key
     ++ (encoded_text (output_of engine.encoding) engine.settings.kv_separator ++ text_bytes (repertoire_of engine) place.KeyOrValue value)
 
--- The next line is accepted and has this number; or the error says why it isn't written, before anything was sent.
+-- The number of the next line, if it can be written; or why it can't.
 abbrev pub NumbersLine : Engine → Bool → Result ℕ PropertiesError → Type 0
 NumbersLine engine accepted (Ok number) = (engine.failed ≡ false) × (accepted ≡ true) × (number ≡ engine.lines + 1)
 NumbersLine engine accepted (Err error) =
@@ -61,13 +61,24 @@ NumbersLine engine accepted (Err error) =
     ⊎ ((IsBareError kind.EmptyKey error × (engine.failed ≡ false) × (accepted ≡ false))
     ⊎ (IsBareError kind.TooManyLines error × (engine.failed ≡ false) × (accepted ≡ true) × (engine.lines + 1 ≡ 2 ^ 64)))
 
--- The bytes were sent, and with them the line of this number; or sending them failed, and the error says why.
-abbrev pub SendsLine : {W : Type 0} → Sink W → Writing W → List ℕ → ℕ → Result Unit PropertiesError → Writing W → Type 0
+-- The next line has no number: an earlier write failed, the line isn't accepted, or no number is left.
+abbrev pub HasNoNumber : Engine → Bool → Type 0
+HasNoNumber engine accepted = (engine.failed ≡ true) ⊎ ((accepted ≡ false) ⊎ (engine.lines + 1 ≡ 2 ^ 64))
+
+-- The error is kept that says why the next line isn't written.
+abbrev pub KeepsRefusal : Engine → Bool → Option CopyError → Type 0
+KeepsRefusal engine accepted error = (e : PropertiesError) × NumbersLine engine accepted (Err e) × (error ≡ Some (Write e))
+
+-- An error is kept which says that the line of this number wasn't sent, and why.
+abbrev pub KeepsFault : ℕ → Option Error → Option CopyError → Type 0
+KeepsFault number cause error = (e : PropertiesError) × IsError kind.Io (Some number) (cause_of_write cause) e × (error ≡ Some (Write e))
+
+-- The bytes were sent, and with them the line of this number; or sending them failed, for this reason.
+abbrev pub SendsLine : {W : Type 0} → Sink W → Writing W → List ℕ → ℕ → Result Unit (Option Error) → Writing W → Type 0
 SendsLine sink old bytes number (Ok done) new =
     HasWritten sink old.sink bytes new.sink × (new ≡ record old { sink = new.sink; lines = number })
-SendsLine sink old bytes number (Err error) new =
-    (cause : Option Error) × HasSentPart sink old.sink bytes cause new.sink
-    × IsError kind.Io (Some number) (cause_of_write cause) error × (new ≡ record old { sink = new.sink; failed = true })
+SendsLine sink old bytes number (Err cause) new =
+    HasSentPart sink old.sink bytes cause new.sink × (new ≡ record old { sink = new.sink; failed = true })
 
 -- A pair was written; or it wasn't, and the error is kept.
 abbrev pub WritesPair : {W : Type 0} → Sink W → Writing W → format.Content → Option CopyError → Bool → Writing W → Option CopyError → Type 0
@@ -87,8 +98,8 @@ BuildsUndecoded engine line (Ok done) bytes =
     (key : List ℕ) × (value : List ℕ) × MeansPair (text_of WINDOWS_1252 line) key value × (bytes ≡ line_bytes engine (format.pair key value))
 BuildsUndecoded engine line (Err e) bytes = IsPairRefused line e
 
--- The pair that a line of bytes means was written. If its escapes can't be resolved, nothing changed. If it wasn't
--- written, the error is kept.
+-- The pair that a line of bytes means was written. If its escapes can't be resolved, or memory ran out, nothing
+-- changed. If it wasn't written, the error is kept.
 abbrev pub WritesUndecoded : {W : Type 0} → Sink W → Writing W → List ℕ → Option CopyError → Written → Writing W → Option CopyError → Type 0
 WritesUndecoded sink old line kept Line new error =
     (key : List ℕ) × (value : List ℕ) × MeansPair (text_of WINDOWS_1252 line) key value

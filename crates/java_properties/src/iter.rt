@@ -137,7 +137,7 @@ impl<R: CountedRead> PropertiesIter<R> {
     ///
     /// If the input and the output are in windows-1252, and the writer isn't set to ASCII only, most lines are printed
     /// from their bytes, without being decoded. After an error of the writing, the next call goes on with the next item.
-    /// An error that isn't taken stays, and a later one replaces it.
+    /// An error that isn't taken stays until a later one replaces it.
     ///
     /// ```text
     /// while items.copy_next(&mut writer) {}

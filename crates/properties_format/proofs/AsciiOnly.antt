@@ -104,7 +104,8 @@ parts-same e f s first (pair key value) =
 -- The parts are ASCII if the separator is good.
 parts-ascii : (e : Encoding) (s : Settings) (first : Bool) (line : Content) → IsGoodSeparator s.kv_separator → AreAscii (parts e true s first line)
 parts-ascii e s first (comment text) g =
-    AreAscii-append (printed_characters e true in_prefix s.comment_prefix) (printed_characters e true in_comment text ++ line_ending_text s.line_ending) (printed_characters-ascii e in_prefix s.comment_prefix)
+    AreAscii-append (printed_characters e true in_prefix s.comment_prefix) (printed_characters e true in_comment text ++ line_ending_text s.line_ending)
+    (printed_characters-ascii e in_prefix s.comment_prefix)
     (AreAscii-append (printed_characters e true in_comment text) (line_ending_text s.line_ending) (printed_characters-ascii e in_comment text) (line_end-ascii s.line_ending))
 parts-ascii e s first (pair key value) g =
     AreAscii-append (printed_key e true first key) (s.kv_separator ++ (printed_characters e true in_key_or_value value ++ line_ending_text s.line_ending)) (printed_key-ascii e first key)

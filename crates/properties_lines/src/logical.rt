@@ -4,7 +4,6 @@
 ghost use Rattle.std.specs.Prelude.{◌≡◌, [], false, true, Ok, OnErr, OnOk};
 ghost use Rattle.std.specs.Str.{IsUtf8, chars};
 ghost use Rattle.properties_format.specs.Groups.{without_open_backslash};
-ghost use Rattle.properties_format.specs.Reading.Cut.{decoded_line};
 ghost use Rattle.properties_text.specs.Encoding.{encoding_of};
 ghost use Rattle.properties_text.specs.Decoding.{IsText};
 ghost use Rattle.properties_text.specs.Escaping.{holds_backslash};

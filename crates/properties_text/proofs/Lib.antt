@@ -7,7 +7,6 @@ pub mod Scanning
 pub mod Blocks
 pub mod KeyFronts
 pub mod BlankFronts
-pub mod AsciiFronts
 pub mod Latin1
 pub mod UnitBlocks
 pub mod UndecodedTexts

@@ -2,17 +2,18 @@
 use Rattle.std.specs.Prelude.{encode_utf8_all}
 use Rattle.std.specs.Str.{chars, IsUtf8}
 use Rattle.std.proofs.lemmas.Str.{IsUtf8-append, chars-append, chars-encodes}
-use Rattle.std.proofs.Common.{false, ◌≡◌, ℕ, zero, suc, ◌+◌, ◌*◌, ◌<◌, ◌≤◌, nat_le, Bool, List, [], ◌∷◌, ◌++◌, refl, sym, ap, ap₂, subst, ◌∙◌, append-nil, append_assoc, arith, length, take, drop, get_or, map, w8, Fits}
+use Rattle.std.proofs.Common.{false, inl, inr, ◌≡◌, ℕ, zero, suc, ◌+◌, ◌*◌, ◌<◌, ◌≤◌, nat_le, Bool, List, [], ◌∷◌, ◌++◌, refl, sym, ap, ap₂, subst, ◌∙◌, append-nil, append_assoc, arith, length, take, drop, get_or, map, w8, Fits}
 use Rattle.std.specs.List.{AllByRecursion}
 use Rattle.std.specs.Simd.Lanes.{Each1, pick_l}
-use Rattle.std.proofs.lemmas.Bool.{leb-false}
+use Rattle.std.proofs.lemmas.Bool.{cases_Bool, leb-true, leb-false}
 use Rattle.std.proofs.lemmas.List.{length-take-le, take-take, take_at}
 use Rattle.std.proofs.lemmas.Simd.{pick_l_whole}
 use Rattle.byte_blocks.specs.Marks.{clear_front}
 use Rattle.byte_blocks.proofs.Marking.{fails-before}
+use Rattle.properties_format.specs.Encoding.{utf_16le, utf_16be}
+use Rattle.properties_format.proofs.Encodings.Waiting.{characters-step}
 use Rattle.properties_text.specs.Decoding.{text_of, unit_of, units_of, evens, odds, lows_of, highs_of, utf_16_of, PutsLatin1, PutsUnits}
 use Rattle.properties_text.specs.declared.encoding.Encoding.{Encoding}
-use Rattle.properties_text.proofs.AsciiFronts.{unit-step}
 use Rattle.properties_text.specs.declared.encoding.unit_blocks.Written.{Written}
 use Rattle.properties_text.specs.declared.encoding.utf_16.ByteOrder.{ByteOrder}
 use Rattle.properties_text.specs.declared.encoding.utf_16.ByteOrder.TheVariants.{LowFirst, HighFirst}
@@ -93,6 +94,15 @@ front-units order (suc n) (a ∷ []) more le = absurd (omega arith)
 front-units order (suc n) (a ∷ b ∷ v) more le = ap (λ l. unit_of order a b ∷ l) (front-units order n v more (omega arith))
 
 -- ---- what the units encode
+
+past : (u n : ℕ) → u < n → nat_le n u ≡ false
+past u n h = elim (cases_Bool (nat_le n u)) [ inl t ↦ absurd (omega (arith, h, leb-true n u t)) | inr f ↦ f ]
+
+-- A unit below 100 hexadecimal is a character.
+unit-step : (order : ByteOrder) (a b : ℕ) (rest : List ℕ) → unit_of order a b < 0x100
+    → text_of (utf_16_of order) (a ∷ b ∷ rest) ≡ unit_of order a b ∷ text_of (utf_16_of order) rest
+unit-step LowFirst a b rest h = characters-step utf_16le a (b ∷ rest) ∙ rw (past (unit_of LowFirst a b) 0xd800 (omega arith), past (unit_of LowFirst a b) 0xdc00 (omega arith)) refl
+unit-step HighFirst a b rest h = characters-step utf_16be a (b ∷ rest) ∙ rw (past (unit_of HighFirst a b) 0xd800 (omega arith), past (unit_of HighFirst a b) 0xdc00 (omega arith)) refl
 
 -- n of the units of the first w bytes.
 front-is : (order : ByteOrder) (n w : ℕ) (bytes : List ℕ) → 2 * n ≤ w → w ≤ length bytes → AllByRecursion (λ u. u < 0x100) (take n (units_of order (take w bytes)))

@@ -16,7 +16,6 @@ use Rattle.properties_text.specs.declared.encoding.Encoding.TheVariants.{UTF_16L
 use Rattle.properties_text.specs.declared.encoding.byte_order_mark.ByteOrderMark.{ByteOrderMark}
 use Rattle.properties_text.specs.declared.encoding.byte_order_mark.ByteOrderMark.TheVariants.{Present, Absent, Undecided}
 use Rattle.properties_text.specs.declared.encoding.first_piece.FirstPiece.{FirstPiece}
-use Rattle.properties_text.specs.declared.encoding.decode.AsciiFront.{AsciiFront}
 use Rattle.properties_text.specs.declared.encoding.decode.Decoded.{Decoded}
 use Rattle.properties_text.specs.declared.encoding.unit_blocks.Written.{Written}
 use Rattle.properties_text.specs.declared.encoding.utf_8.ByteRange.{ByteRange}
@@ -90,19 +89,6 @@ IsFirstPiece e b d shown = ShowsPiece (first_piece e b d) (awaits_more e b d) sh
 -- the characters of some bytes, decoded by themselves
 abbrev pub text_of : Encoding → List ℕ → List ℕ
 text_of encoding d = characters (pieces_of (encoding_of encoding) d)
-
--- The result has these four ASCII characters, and the bytes after them.
-pub record AreFour (a b c d : ℕ) (rest : List ℕ) (front : AsciiFront) : Type 0 where
-  pub text : front.text ≡ a ∷ b ∷ c ∷ d ∷ []
-  pub rest_is : front.rest.now ≡ rest
-  pub ascii : AllByRecursion (λ u. u < 0x80) (a ∷ b ∷ c ∷ d ∷ [])
-
--- The text of some bytes begins with these four ASCII characters, and continues with the text of the remaining bytes.
-pub record IsAsciiFront (encoding : Encoding) (bytes : List ℕ) (front : AsciiFront) : Type 0 where
-  pub ascii : AllByRecursion (λ u. u < 0x80) front.text
-  pub four : length front.text ≡ 4
-  pub same : text_of encoding bytes ≡ front.text ++ text_of encoding front.rest.now
-  pub shorter : length front.rest.now + 4 ≤ length bytes
 
 -- The result is the character of a windows-1252 byte, in UTF-8.
 pub record IsTextOfByte (byte : ℕ) (text : ByteText) : Type 0 where

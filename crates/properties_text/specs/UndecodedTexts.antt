@@ -65,10 +65,6 @@ abbrev pub PrintsPair : Repertoire → Bool → List ℕ → UndecodedPair → L
 PrintsPair r first old p separator ending (Ok done) new = IsPairAppended r first old (undecoded_line p) separator ending new
 PrintsPair r first old p separator ending (Err e) new = IsPairRefused (undecoded_line p) e
 
--- The bytes that were there are kept, and others may follow them.
-abbrev pub IsKept : List ℕ → List ℕ → Type 0
-IsKept old new = (more : List ℕ) × (new ≡ old ++ more)
-
 -- ---- Spelling by spelling.
 
 -- the bytes that the text of a meaning is printed as, or how it breaks

@@ -1,6 +1,6 @@
 //! Resolving the escapes of a key, a value or a comment's text.
 
-ghost use Rattle.std.specs.Prelude.{◌≡◌, ◌≤◌, ◌<◌, ◌∷◌, ◌&&◌, ◌==◌, slice_index, ℕ, List, not, length, ◌++◌, IfOk, OnOk, IfSome, Some, None, if◌then◌else◌};
+ghost use Rattle.std.specs.Prelude.{◌≡◌, ◌≤◌, ◌<◌, ◌∷◌, ◌&&◌, ◌==◌, ℕ, List, not, length, ◌++◌, IfOk, OnOk, IfSome, Some, None, if◌then◌else◌};
 ghost use Rattle.std.specs.Char.{IsScalar};
 ghost use Rattle.std.specs.Str.{chars};
 ghost use Rattle.std.specs.String.{string_bytes};
@@ -15,7 +15,7 @@ use byte_blocks::{Byte, find};
 use memchr::memchr;
 use std::alloc::{AllocError, Global};
 use std::borrow::CowStr;
-use units::{first_digits, is_run, put_units};
+use units::{first_digits, put_units};
 
 mod units;
 
@@ -93,15 +93,13 @@ fn push_resolved(text: &mut String, s: &str) -> Result<(), UnescapeError>
     while let Some(at) = find_next(rest.as_bytes()) {
         push_part(text, &rest[..at])?;
         let after = &rest[at..];
-        if is_run(after.as_bytes()) {
-            let units = put_units(&mut run, after);
-            if units.end > 0 {
-                // SAFETY: the bytes written to the run are valid UTF-8.
-                let more = unsafe { str::from_utf8_unchecked(&run[..units.end]) };
-                text.push_str(more)?;
-                rest = units.rest;
-                continue;
-            }
+        let units = put_units(&mut run, after);
+        if units.end > 0 {
+            // SAFETY: the bytes written to the run are valid UTF-8.
+            let more = unsafe { str::from_utf8_unchecked(&run[..units.end]) };
+            text.push_str(more)?;
+            rest = units.rest;
+            continue;
         }
         let escape = match read_escape(&rest[at + 1..]) {
             Ok(escape) => escape,

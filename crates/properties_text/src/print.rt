@@ -1,15 +1,14 @@
 //! Printing texts: escaping and encoding them.
 
-ghost use Rattle.std.specs.Prelude.{◌≡◌, true, false, ◌++◌, ◌∷◌, ◌<◌, ◌≤◌, ◌||◌, not, nat_lt, [], is_some, unwrap_or, length, IfOk, OnOk, OnErr};
+ghost use Rattle.std.specs.Prelude.{◌≡◌, true, false, ◌++◌, ◌∷◌, ◌<◌, ◌||◌, not, nat_lt, [], is_some, unwrap_or, length, IfOk, OnErr};
 ghost use Rattle.std.specs.Str.{chars};
 ghost use Rattle.properties_format.specs.Text.{backslash};
 ghost use Rattle.properties_format.specs.Encoding.{encoded};
-ghost use Rattle.properties_format.specs.Printing.{unicode_escape, literal, printed_character, printed_characters, encoded_text, is_bom_like, with_first_escaped, printed_key, in_key_or_value, in_comment};
+ghost use Rattle.properties_format.specs.Printing.{unicode_escape, literal, encoded_text, is_bom_like, with_first_escaped};
 ghost use Rattle.properties_format.specs.Valued.{printed_inside, printed_first, printed_last, printed_rest, printed_value};
 ghost use Rattle.properties_text.specs.Encoding.{output_of};
-ghost use Rattle.properties_text.specs.declared.encoding.encode.OutputEncoding.TheVariants.{Windows1252};
 ghost use Rattle.properties_text.specs.declared.print.Place.TheVariants.{KeyOrValue};
-ghost use Rattle.properties_text.specs.Printing.{all_of_windows_1252, is_all_of_windows_1252, AppendsOnOk, character_bytes, text_bytes, key_bytes, printed_byte, held_text};
+ghost use Rattle.properties_text.specs.Printing.{is_all_of_windows_1252, AppendsOnOk, character_bytes, text_bytes, key_bytes, printed_byte, held_text};
 
 use crate::characters::{is_comment_sign, is_separator};
 use crate::encoding::{OutputEncoding, byte_of, has_byte, is_ascii, leading_ascii};
@@ -53,7 +52,7 @@ impl Repertoire {
         !self.ascii_only || character.is_ascii()
     }
 
-    /// Whether it is windows-1252, with all its characters.
+    /// Returns whether this is windows-1252 without ASCII-only output.
     #[inline(always)]
     pub fn is_all_of_windows_1252(self) -> bool
         ensures { result ≡ is_all_of_windows_1252 self }
@@ -81,7 +80,7 @@ pub fn print_text(
     }
 }
 
-// Prints a key or a value. Works on bytes where all characters past ASCII are copied.
+// Prints a key or a value. In UTF-8 without ASCII-only output it works on bytes, since no character past ASCII is escaped.
 fn print_key_or_value(
     line: &mut LineBuffer,
     repertoire: Repertoire,
@@ -109,7 +108,7 @@ fn print_narrow(line: &mut LineBuffer, repertoire: Repertoire, text: &str) -> Re
     print_by_turns(line, repertoire, text)
 }
 
-// Prints ASCII characters up to one past ASCII, that character, and so on.
+// Prints by turns a run of ASCII characters and one character past ASCII.
 #[inline(never)]
 fn print_by_turns(
     line: &mut LineBuffer,

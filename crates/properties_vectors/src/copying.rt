@@ -19,7 +19,7 @@ struct Target<'a> {
 
 // How the next item is copied.
 #[derive(Clone, Copy)]
-enum Way {
+enum CopyWay {
     CopyNext,
     AdvanceAndWrite,
 }
@@ -56,7 +56,7 @@ pub fn check_copying(
     let mut writes = 0;
     for size in SIZES {
         let script = Script::of_bytes(alloc, bytes, size, Tail::End)?;
-        let came = both_ways(alloc, encoding, &script, target, outcome)?;
+        let came = copy_in_both_ways(alloc, encoding, &script, target, outcome)?;
         compare(alloc, outcome, "copied", came.text.as_str())?;
         writes = came.writes;
     }
@@ -65,15 +65,15 @@ pub fn check_copying(
         for before in 0..writes {
             for how in FAULTS {
                 target.sink = Sink::failing(usize::MAX, before.saturating_add(1), how);
-                both_ways(alloc, encoding, &script, target, outcome)?;
+                copy_in_both_ways(alloc, encoding, &script, target, outcome)?;
             }
         }
     }
     Ok(())
 }
 
-/// Copying comes to what reading and writing come to, into both encodings.
-pub fn check_ways(
+/// Checks that copying gives what reading and writing give, in both output encodings.
+pub fn check_into_both_encodings(
     alloc: Global,
     encoding: Encoding,
     script: &Script,
@@ -85,26 +85,26 @@ pub fn check_ways(
             sink: ROOMY,
             calls: &[],
         };
-        both_ways(alloc, encoding, script, target, outcome)?;
+        copy_in_both_ways(alloc, encoding, script, target, outcome)?;
     }
     Ok(())
 }
 
-// The encoding in which a clause, as `into utf-8`, has pairs written.
+// The writer's encoding that a clause names, such as `into utf-8`.
 fn output_of(word: &str) -> Option<Encoding> {
     Encoding::from_name(word.strip_prefix("into ")?)
 }
 
-// Copies all in both ways, and returns what came in the first.
-fn both_ways(
+// Copies everything in both ways, compares the two, and returns the first.
+fn copy_in_both_ways(
     alloc: Global,
     encoding: Encoding,
     script: &Script,
     target: Target<'_>,
     outcome: &mut Outcome,
 ) -> Result<Copied, Halt> {
-    let by_copying = copied_by(alloc, encoding, script, target, Way::CopyNext)?;
-    let by_writing = copied_by(alloc, encoding, script, target, Way::AdvanceAndWrite)?;
+    let by_copying = copied_by(alloc, encoding, script, target, CopyWay::CopyNext)?;
+    let by_writing = copied_by(alloc, encoding, script, target, CopyWay::AdvanceAndWrite)?;
     let came = shown(alloc, &by_copying)?;
     let wanted = shown(alloc, &by_writing)?;
     if came != wanted {
@@ -128,7 +128,7 @@ fn copied_by(
     encoding: Encoding,
     script: &Script,
     target: Target<'_>,
-    way: Way,
+    way: CopyWay,
 ) -> Result<Copied, Halt> {
     let input = script.reader(alloc)?;
     let Ok(mut items) = PropertiesIter::new_with_encoding(alloc, input, encoding) else {
@@ -156,13 +156,13 @@ fn copy_all<R: CountedRead, W: CountedWrite>(
     alloc: Global,
     items: &mut PropertiesIter<R>,
     writer: &mut PropertiesWriter<W>,
-    way: Way,
+    way: CopyWay,
 ) -> Result<String, AllocError> {
     let mut errors = String::new(alloc);
     for _ in 0..u64::MAX {
         let came = match way {
-            Way::CopyNext => copy_next(&mut *items, &mut *writer),
-            Way::AdvanceAndWrite => write_next(&mut *items, &mut *writer),
+            CopyWay::CopyNext => copy_next(&mut *items, &mut *writer),
+            CopyWay::AdvanceAndWrite => write_next(&mut *items, &mut *writer),
         };
         match came {
             Some(Ok(())) => {}

@@ -7,7 +7,7 @@ mod printed;
 mod script;
 mod ways;
 
-use crate::copying::check_ways;
+use crate::copying::check_into_both_encodings;
 use crate::notation::{Clause, Halt};
 use crate::outcome::Outcome;
 use before_fault::items_before_fault;
@@ -146,7 +146,7 @@ fn check_front(task: Task, bytes: &[u8], tail: Tail, outcome: &mut Outcome) -> R
 fn check_script(task: Task, script: &Script, outcome: &mut Outcome) -> Result<(), Halt> {
     let alloc = task.alloc;
     if let Reading::Items = task.reading {
-        check_ways(alloc, task.encoding, script, outcome)?;
+        check_into_both_encodings(alloc, task.encoding, script, outcome)?;
     }
     let longest = script.pieces.first().map_or(0, |piece| piece.len());
     let mut reads = None;

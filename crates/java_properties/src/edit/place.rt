@@ -1,6 +1,6 @@
 // Where a key is in a body.
 
-ghost use Rattle.std.specs.Prelude.{◌≡◌, ◌++◌};
+ghost use Rattle.std.specs.Prelude.{◌≡◌};
 ghost use Rattle.std.specs.Str.{chars};
 ghost use Rattle.properties_format.specs.Text.{line_ending_text};
 ghost use Rattle.properties_format.specs.Reading.Lines.{ends_in_cr};

@@ -1,13 +1,13 @@
 // A writer without its sink.
 
-ghost use Rattle.std.specs.Prelude.{◌≡◌, false, OnOk};
+ghost use Rattle.std.specs.Prelude.{◌≡◌, false, None, Ok, Err, OnOk, IfSome};
 ghost use Rattle.std.specs.Str.{chars};
 ghost use Rattle.properties_format.specs.Entries.{comment, pair};
 ghost use Rattle.properties_format.specs.Settings.{default_settings};
 ghost use Rattle.properties_format.specs.Writing.{is_accepted};
 ghost use Rattle.counted_io.specs.Streams.{IsSameSink};
 ghost use Rattle.properties_text.specs.UndecodedTexts.{undecoded_line, IsUndecodedPair};
-ghost use Rattle.java_properties.specs.Engine.{entry_content, writing, repertoire_of, line_bytes, content_bytes, NumbersLine, SendsLine, takes_span, WritesPair, BuildsUndecoded, WritesUndecoded};
+ghost use Rattle.java_properties.specs.Engine.{entry_content, writing, repertoire_of, line_bytes, content_bytes, NumbersLine, HasNoNumber, KeepsRefusal, KeepsFault, SendsLine, takes_span, WritesPair, BuildsUndecoded, WritesUndecoded};
 ghost use Rattle.properties_text.specs.Printing.{AppendsOnOk, is_all_of_windows_1252};
 ghost use Rattle.java_properties.specs.PropertiesWriter.{call_of, WritesLine, Flushes};
 
@@ -23,6 +23,7 @@ use properties_text::print::{
     print_undecoded_pair,
 };
 use std::alloc::{AllocError, Global};
+use std::io;
 
 /// The content of a line to write.
 #[derive(Clone, Copy)]
@@ -94,10 +95,16 @@ impl Engine {
             WritesLine W.CountedWrite old (entry_content content.entry) result (writing self.new sink.new) }
         ensures same_sink { IsSameSink W.CountedWrite sink.old sink.new }
     {
-        let number = self.next_number(self.accepts(content))?;
+        let accepted = self.accepts(content);
+        let Some(number) = self.next_number(accepted) else {
+            return Err(self.refusal(accepted));
+        };
         self.build(content)?;
-        self.send_line(sink, number)?;
-        Ok(())
+        // Built anew, as in `write`: passing the result on would copy the space for its error.
+        match self.send_line(sink, number) {
+            Ok(()) => Ok(()),
+            Err(fault) => Err(PropertiesError::write_fault(Some(number), fault)),
+        }
     }
 
     /// Writes the line of a pair, and returns whether it did. `error` keeps the error of a write.
@@ -137,41 +144,58 @@ impl Engine {
             WritesUndecoded W.CountedWrite old (undecoded_line pair.entry) error.old result (writing self.new sink.new) error.new }
         ensures same_sink { IsSameSink W.CountedWrite sink.old sink.new }
     {
+        // Built first: a malformed escape is reported before any error of the writing.
         if let Err(unresolved) = self.build_undecoded(alloc, pair) {
             return Written::Unresolved(unresolved);
         }
-        let number = match self.next_number(self.takes_span(pair.key)) {
-            Ok(number) => number,
-            Err(refused) => {
-                *error = Some(CopyError::Write(refused));
-                return Written::Failed;
-            }
+        let accepted = self.takes_span(pair.key);
+        let Some(number) = self.next_number(accepted) else {
+            self.keep_refusal(accepted, error);
+            return Written::Failed;
         };
         match self.send_line(sink, number) {
             Ok(()) => Written::Line,
             Err(fault) => {
-                *error = Some(CopyError::Write(fault));
+                keep_fault(number, fault, error);
                 Written::Failed
             }
         }
     }
 
-    // Returns the number of the next line. Fails if an earlier write failed, if the line isn't accepted, and if there are
-    // no more numbers.
+    // Returns the number of the next line, or `None` if an earlier write failed, if the line isn't accepted, or if there
+    // are no more numbers. `refusal` says which.
     #[inline(always)]
-    fn next_number(&self, accepted: bool) -> Result<usize, PropertiesError>
-        ensures { NumbersLine self.now accepted result }
+    fn next_number(&self, accepted: bool) -> Option<usize>
+        ensures number { IfSome result (λ number. NumbersLine self.now accepted (Ok number)) }
+        ensures none { result ≡ None → HasNoNumber self.now accepted }
+    {
+        if self.failed || !accepted {
+            return None;
+        }
+        self.lines.checked_add(1)
+    }
+
+    // Why the next line has no number.
+    fn refusal(&self, accepted: bool) -> PropertiesError
+        requires { HasNoNumber self.now accepted }
+        ensures { NumbersLine self.now accepted (Err result) }
     {
         if self.failed {
-            return Err(PropertiesError::failed());
+            return PropertiesError::failed();
         }
         if !accepted {
-            return Err(PropertiesError::empty_key());
+            return PropertiesError::empty_key();
         }
-        let Some(number) = self.lines.checked_add(1) else {
-            return Err(PropertiesError::too_many_lines());
-        };
-        Ok(number)
+        PropertiesError::too_many_lines()
+    }
+
+    // Keeps why the next line has no number. Kept out of line because it is rare.
+    #[inline(never)]
+    fn keep_refusal(&self, accepted: bool, error: &mut Option<CopyError>)
+        requires { HasNoNumber self.now accepted }
+        ensures { KeepsRefusal self.now accepted error.new }
+    {
+        *error = Some(CopyError::Write(self.refusal(accepted)));
     }
 
     // Sends the line that was built, and counts it.
@@ -180,7 +204,7 @@ impl Engine {
         &mut self,
         sink: &mut W,
         number: usize,
-    ) -> Result<(), PropertiesError>
+    ) -> Result<(), Option<io::Error>>
         ensures sends { let old = writing self.old sink.old in
             SendsLine W.CountedWrite old self.old.line number result (writing self.new sink.new) }
         ensures same_sink { IsSameSink W.CountedWrite sink.old sink.new }
@@ -190,9 +214,9 @@ impl Engine {
                 self.lines = number;
                 Ok(())
             }
-            Err(error) => {
+            Err(fault) => {
                 self.failed = true;
-                Err(PropertiesError::write_fault(Some(number), error))
+                Err(fault)
             }
         }
     }
@@ -318,4 +342,12 @@ impl Engine {
             ascii_only: self.settings.ascii_only(),
         }
     }
+}
+
+// Keeps why the line of this number wasn't sent. Kept out of line because it is rare.
+#[inline(never)]
+fn keep_fault(number: usize, fault: Option<io::Error>, error: &mut Option<CopyError>)
+    ensures { KeepsFault number fault error.new }
+{
+    *error = Some(CopyError::Write(PropertiesError::write_fault(Some(number), fault)));
 }

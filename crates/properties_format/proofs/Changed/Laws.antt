@@ -79,5 +79,6 @@ pub key_removed-contents : (e : Encoding) (source key result : List ℕ) → IsR
 key_removed-contents e source key result r h =
     let f = byte_order_mark e source in
     let gs = held-groups f.encoding f.body h.groups r.editable h.held in
-    read-to e result (record { encoding = f.encoding; body = guarding_lf source h.rest ++ h.rest }) (IsRemovedIn key (source_contents e source)) r.editable (key_removed-in_force e source key result r.editable h)
+    read-to e result (record { encoding = f.encoding; body = guarding_lf source h.rest ++ h.rest }) (IsRemovedIn key (source_contents e source)) r.editable
+    (key_removed-in_force e source key result r.editable h)
     (removed-outcomes f.encoding source key h.groups h.rest (source_contents e source) gs (groups-contents e source h.groups r h.held) h.without)

@@ -151,7 +151,9 @@ utf_8_bytes_of key = encoded_text utf_8 (printed_characters utf_8 false in_key_o
 
 -- The bytes of a key, given those of its first character.
 utf_8_bytes-cons : (c : ℕ) (cs x : List ℕ) → printed_character utf_8 false in_key_or_value c ≡ x → utf_8_bytes_of (c ∷ cs) ≡ encoded_text utf_8 x ++ utf_8_bytes_of cs
-utf_8_bytes-cons c cs x e = encoded_text-append utf_8 (printed_character utf_8 false in_key_or_value c) (printed_characters utf_8 false in_key_or_value cs) ∙ ap (λ v. encoded_text utf_8 v ++ utf_8_bytes_of cs) e
+utf_8_bytes-cons c cs x e =
+    encoded_text-append utf_8 (printed_character utf_8 false in_key_or_value c) (printed_characters utf_8 false in_key_or_value cs)
+    ∙ ap (λ v. encoded_text utf_8 v ++ utf_8_bytes_of cs) e
 
 -- A text that begins with a list is that list followed by a rest.
 pub begins-rest : (ms d : List ℕ) → begins_with ms d ≡ true → (rest : List ℕ) × (d ≡ ms ++ rest)

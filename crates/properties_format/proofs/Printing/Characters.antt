@@ -21,7 +21,8 @@ encoded_text-append e (c ∷ x) y =
     ap (λ v. unwrap_or (encoded e c) [] ++ v) (encoded_text-append e x y) ∙ sym (append_assoc (unwrap_or (encoded e c) []) (encoded_text e x) (encoded_text e y))
 
 -- What is printed for two texts.
-pub printed_characters-append : (e : Encoding) (only : Bool) (place : Place) (x y : List ℕ) → printed_characters e only place (x ++ y) ≡ printed_characters e only place x ++ printed_characters e only place y
+pub printed_characters-append : (e : Encoding) (only : Bool) (place : Place) (x y : List ℕ)
+    → printed_characters e only place (x ++ y) ≡ printed_characters e only place x ++ printed_characters e only place y
 printed_characters-append e only place [] y = refl
 printed_characters-append e only place (c ∷ x) y = ap (λ v. printed_character e only place c ++ v) (printed_characters-append e only place x y)
     ∙ sym (append_assoc (printed_character e only place c) (printed_characters e only place x) (printed_characters e only place y))
@@ -187,13 +188,16 @@ printed-encodable e only place c = printed-either e only place c (AreEncodable e
 -- What is printed for a text can be encoded.
 pub printed_characters-encodable : (e : Encoding) (only : Bool) (place : Place) (x : List ℕ) → AreEncodable e (printed_characters e only place x)
 printed_characters-encodable e only place [] = tt
-printed_characters-encodable e only place (c ∷ x) = AreEncodable-append e (printed_character e only place c) (printed_characters e only place x) (printed-encodable e only place c) (printed_characters-encodable e only place x)
+printed_characters-encodable e only place (c ∷ x) =
+    AreEncodable-append e (printed_character e only place c) (printed_characters e only place x)
+    (printed-encodable e only place c) (printed_characters-encodable e only place x)
 
 -- A key with its first character escaped can be encoded.
 with_first_escaped-encodable : (e : Encoding) (only : Bool) (key : List ℕ) → AreEncodable e (with_first_escaped e only key)
 with_first_escaped-encodable e only [] = tt
 with_first_escaped-encodable e only (c ∷ cs) =
-    AreEncodable-append e (unicode_escape c) (printed_characters e only in_key_or_value cs) (AreEncodable-ascii e (unicode_escape c) (unicode_escape-ascii c)) (printed_characters-encodable e only in_key_or_value cs)
+    AreEncodable-append e (unicode_escape c) (printed_characters e only in_key_or_value cs)
+    (AreEncodable-ascii e (unicode_escape c) (unicode_escape-ascii c)) (printed_characters-encodable e only in_key_or_value cs)
 
 -- Any printed key can be encoded.
 pub printed_key-encodable : (e : Encoding) (only : Bool) (first : Bool) (key : List ℕ) → AreEncodable e (printed_key e only first key)

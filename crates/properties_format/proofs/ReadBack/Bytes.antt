@@ -47,7 +47,8 @@ ascii-scalars (c ∷ x) h = (inl (let b = h.0 in omega arith), ascii-scalars x h
 printed_characters-scalars : (e : Encoding) (only : Bool) (place : Place) (x : List ℕ) → AllByRecursion scalar x → AllByRecursion scalar (printed_characters e only place x)
 printed_characters-scalars e only place [] h = tt
 printed_characters-scalars e only place (c ∷ x) h =
-    scalars-append (printed_character e only place c) (printed_characters e only place x) (printed-either e only place c (AllByRecursion scalar) ascii-scalars (λ k. (h.0, tt))) (printed_characters-scalars e only place x h.1)
+    scalars-append (printed_character e only place c) (printed_characters e only place x)
+    (printed-either e only place c (AllByRecursion scalar) ascii-scalars (λ k. (h.0, tt))) (printed_characters-scalars e only place x h.1)
 
 -- A key of scalar values with its first character escaped consists of scalar values.
 with_first_escaped-scalars : (e : Encoding) (only : Bool) (key : List ℕ) → AllByRecursion scalar key → AllByRecursion scalar (with_first_escaped e only key)
@@ -80,7 +81,8 @@ printed-scalars e s first (pair key value) g h =
     scalars-append (printed_key e s.ascii_only first key)
     (s.kv_separator ++ (printed_characters e s.ascii_only in_key_or_value value ++ line_ending_text s.line_ending))
     (key-scalars e s.ascii_only first key (recursion_from_All scalar key h.0))
-    (scalars-append s.kv_separator (printed_characters e s.ascii_only in_key_or_value value ++ line_ending_text s.line_ending) (ascii-scalars s.kv_separator (good_separator-ascii s.kv_separator g.separator))
+    (scalars-append s.kv_separator (printed_characters e s.ascii_only in_key_or_value value ++ line_ending_text s.line_ending)
+    (ascii-scalars s.kv_separator (good_separator-ascii s.kv_separator g.separator))
     (scalars-append (printed_characters e s.ascii_only in_key_or_value value) (line_ending_text s.line_ending)
     (printed_characters-scalars e s.ascii_only in_key_or_value value (recursion_from_All scalar value h.1))
     (ascii-scalars (line_ending_text s.line_ending) (line_end-ascii s.line_ending))))

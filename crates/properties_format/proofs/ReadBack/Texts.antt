@@ -37,7 +37,9 @@ printed-cons x y c cs s t =
 -- what is printed for a key or a value is safely spelt
 pub texts-printed : (e : Encoding) (only : Bool) (x : List ℕ) → AllByRecursion scalar x → AreSafelyPrinted (printed_characters e only in_key_or_value x) x
 texts-printed e only [] h = record { spellings = []; text = refl; characters = refl; safe = tt }
-texts-printed e only (c ∷ x) h = printed-cons (printed_character e only in_key_or_value c) (printed_characters e only in_key_or_value x) c x (in_key_or_value-printed e only c h.0) (texts-printed e only x h.1)
+texts-printed e only (c ∷ x) h =
+    printed-cons (printed_character e only in_key_or_value c) (printed_characters e only in_key_or_value x) c x
+    (in_key_or_value-printed e only c h.0) (texts-printed e only x h.1)
 
 -- ---- what they mean
 

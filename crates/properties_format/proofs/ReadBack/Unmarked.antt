@@ -85,7 +85,8 @@ with_first_escaped-unmarked e only (c ∷ cs) rest h =
     (ap (λ v. (v ++ printed_characters e only in_key_or_value cs) ++ rest) same) (lit< tt)
 
 -- A key that doesn't begin like a byte order mark, with what follows its separator.
-plain-unmarked : (e : Encoding) (only : Bool) (key sep rest : List ℕ) → IsGoodSeparator sep → is_bom_like e only key ≡ false → IsUnmarked e (printed_characters e only in_key_or_value key ++ (sep ++ rest))
+plain-unmarked : (e : Encoding) (only : Bool) (key sep rest : List ℕ) → IsGoodSeparator sep → is_bom_like e only key ≡ false
+    → IsUnmarked e (printed_characters e only in_key_or_value key ++ (sep ++ rest))
 plain-unmarked e only key sep rest g h =
     let (c, y, same, k) = separator-front sep g in
     ap (λ v. begins_like_bom (encoded_text e (printed_characters e only in_key_or_value key ++ (v ++ rest)))) same ∙ text-cut e (printed_characters e only in_key_or_value key) c (y ++ rest) k ∙ h

@@ -83,7 +83,7 @@ fn finds_a_line_end_wherever_it_stands(rt: HostRuntime) {
 fn finds_a_line_end_wherever_its_unit_stands(rt: HostRuntime) {
     for unit in 0..100 {
         let at = 2 * unit;
-        // U+0A0A comes before it, which is none.
+        // Before it comes U+0A0A, which is no line end.
         let mut bytes = [LF; 200];
         bytes[at] = CR;
         bytes[at + 1] = 0;

@@ -1,5 +1,5 @@
--- Escapes of one character each, read from their bytes.
-use Rattle.std.proofs.Common.{◌≡◌, ℕ, ◌+◌, ◌*◌, ◌<◌, ◌≤◌, ◌==◌, ◌&&◌, if◌then◌else◌, true, false, List, [], ◌∷◌, ◌++◌, length, take, drop, get_or, refl, sym, ap, ap₂, subst, ◌∙◌, inl, inr, arith}
+-- `\u` escapes, read from their bytes.
+use Rattle.std.proofs.Common.{◌≡◌, ℕ, ◌+◌, ◌*◌, ◌<◌, ◌≤◌, ◌==◌, ◌&&◌, if◌then◌else◌, true, List, [], ◌∷◌, ◌++◌, length, take, drop, get_or, refl, sym, ap, ap₂, subst, ◌∙◌, inl, inr, arith}
 use Rattle.std.specs.Prelude.{Some, None, nat_le}
 use Rattle.std.specs.Str.{IsUtf8, chars}
 use Rattle.std.proofs.lemmas.Bool.{cases_Bool, cond-true, cond-false, and_parts, and_from, agree_below_at, eqb-true, leb-true}
@@ -7,15 +7,14 @@ use Rattle.std.proofs.lemmas.Bool.Decides.{nat_tests}
 use Rattle.std.proofs.lemmas.Str.{IsUtf8-append, IsUtf8-encode}
 use Rattle.std.specs.Char.{IsScalar, encode_utf8}
 use Rattle.properties_format.specs.Text.{backslash}
-use Rattle.properties_format.specs.Escapes.{letter_u, is_hexadecimal, hexadecimal_value, are_hexadecimal, code_unit, escaped_character}
+use Rattle.properties_format.specs.Escapes.{letter_u, is_hexadecimal, hexadecimal_value, are_hexadecimal, code_unit}
 use Rattle.properties_format.specs.Reading.Escapes.{in_front, text_in_front, meaning_of}
 use Rattle.properties_text.specs.Escaping.{digit_value, four_bytes, IsUnit}
 use Rattle.properties_text.specs.declared.escape.units.TheConstants.{DIGITS}
 use Rattle.properties_text.proofs.Texts.Characters.{first_ascii, four_ascii}
-use Rattle.properties_format.proofs.Escapes.Laws.{meaning_of-plain_front}
 use Rattle.properties_format.proofs.Escapes.Scalars.{code_unit-below}
 use Rattle.properties_text.proofs.TextFronts.{chars-more}
-use Rattle.properties_text.proofs.Texts.Escapes.{value-some, meaning-letter}
+use Rattle.properties_text.proofs.Texts.Escapes.{value-some}
 use Rattle.properties_text.proofs.Texts.Resolving.{text_in_front-append}
 
 -- Each row of the table.
@@ -105,23 +104,6 @@ unit-first text bytes value same = subst (λ v. IsUtf8 v → 6 ≤ length bytes 
           front = one.characters ∙ ap₂ (λ v w. v ∷ w) s (two.characters ∙ ap (λ v. v ∷ chars bs) t);
           unit = digits.1;
         }
-
--- An escape of a backslash and one ASCII character.
-pub letter-first : (text : List ℕ) → IsUtf8 text → 2 ≤ length text → get_or text 0 0 ≡ backslash → (get_or text 1 0 == letter_u) ≡ false → get_or text 1 0 < 128
-    → meaning_of (chars text) ≡ in_front (escaped_character (get_or text 1 0)) (meaning_of (chars (drop 2 text)))
-letter-first [] u l s n h = absurd (omega arith)
-letter-first (x ∷ []) u l s n h = absurd (omega arith)
-letter-first (x ∷ y ∷ bs) u l s n h =
-    let one = first_ascii x (y ∷ bs) (omega (arith, s)) u in
-    let two = first_ascii y bs h one.utf8 in
-    let front : chars (x ∷ y ∷ bs) ≡ backslash ∷ y ∷ chars bs = one.characters ∙ ap₂ (λ v w. v ∷ w) s two.characters in
-    ap meaning_of front ∙ meaning-letter y (escaped_character y) (y ∷ chars bs) (chars bs) refl n refl
-
--- A character between two escapes.
-pub between-first : (text : List ℕ) → IsUtf8 text → 0 < length text → get_or text 0 0 < 128 → (get_or text 0 0 == backslash) ≡ false
-    → meaning_of (chars text) ≡ in_front (get_or text 0 0) (meaning_of (chars (drop 1 text)))
-between-first [] u l s h = absurd (omega arith)
-between-first (b ∷ bs) u l s h = ap meaning_of (first_ascii b bs s u).characters ∙ meaning_of-plain_front (b ∷ []) (chars bs) (h, tt)
 
 -- ---- several escapes
 

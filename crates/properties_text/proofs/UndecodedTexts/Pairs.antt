@@ -1,7 +1,10 @@
 -- A pair that is printed from where it stands in a line.
-use Rattle.std.proofs.Common.{◌≡◌, ℕ, ◌≤◌, ◌+◌, ◌-◌, Bool, true, false, List, ◌++◌, length, take, drop, refl, sym, ap, ◌∙◌, subst, inl, inr, append_assoc, arith}
-use Rattle.std.specs.Prelude.{◌&&◌, not, Option, Some}
-use Rattle.std.proofs.lemmas.List.{length-append, length-take-le, drop-take, take-take}
+use Rattle.std.proofs.Common.{◌≡◌, ℕ, ◌<◌, ◌≤◌, ◌+◌, ◌-◌, Bool, true, false, List, [], ◌∷◌, ◌++◌, length, take, drop, get_or, lit<, refl, sym, ap, ◌∙◌, subst, inl, inr, append_assoc, arith}
+use Rattle.std.specs.Prelude.{Option, Some}
+use Rattle.std.proofs.lemmas.Bool.{cases_lt}
+use Rattle.std.proofs.lemmas.List.{length-append, length-take, length-take-le, drop-take, take-take, take-append-le, get_or-take, get_or_past, get_or-append-add}
+use Rattle.properties_format.specs.Encoding.{begins_like_bom}
+use Rattle.properties_format.proofs.ReadBack.Unmarked.{byte_order_mark-cut}
 use Rattle.properties_format.specs.Split.{pair, IsSplit}
 use Rattle.properties_format.specs.Reading.Undecoded.{characters_of}
 use Rattle.properties_format.proofs.Undecoded.{decodes, splitting-commutes}
@@ -10,10 +13,8 @@ use Rattle.properties_text.specs.Escaping.{IsRefused}
 use Rattle.properties_text.specs.Parsing.{bytes_in, IsPairAt, AreInPlace}
 use Rattle.properties_text.specs.declared.parse.ParsedSpans.{ParsedSpans}
 use Rattle.properties_text.specs.declared.parse.ParsedSpans.TheVariants.{KVPair}
-use Rattle.properties_text.specs.Printing.{all_of_windows_1252, is_windows_1252, is_all_of_windows_1252, text_bytes, key_bytes}
+use Rattle.properties_text.specs.Printing.{text_bytes, key_bytes}
 use Rattle.properties_text.specs.declared.encoding.Encoding.TheVariants.{WINDOWS_1252}
-use Rattle.properties_text.specs.declared.encoding.encode.OutputEncoding.{OutputEncoding}
-use Rattle.properties_text.specs.declared.encoding.encode.OutputEncoding.TheVariants.{Windows1252, Utf8}
 use Rattle.properties_text.specs.declared.escape.UnescapeError.{UnescapeError}
 use Rattle.properties_text.specs.declared.escape.UnescapeError.TheVariants as error
 use Rattle.properties_text.specs.declared.print.undecoded.UndecodedPair.{UndecodedPair}
@@ -82,16 +83,6 @@ pair-split p h =
     let value = bytes_in p.bytes.now p.value in
     rw (text (undecoded_line p), text key, text value) ((splitting-commutes (undecoded_line p)).split (pair key value) (line-split p h))
 
--- a repertoire of windows-1252 without ASCII-only output is all of it
-pub all-is : (r : Repertoire) → is_all_of_windows_1252 r ≡ true → r ≡ all_of_windows_1252
-all-is r h = by-parts r.encoding r.ascii_only h
-  where
-    by-parts : (e : OutputEncoding) (only : Bool) → (is_windows_1252 e && not only) ≡ true
-        → let r : Repertoire = record { encoding = e; ascii_only = only } in r ≡ all_of_windows_1252
-    by-parts Windows1252 false k = refl
-    by-parts Windows1252 true k = absurd (cc)
-    by-parts Utf8 only k = absurd (cc)
-
 -- what is appended one after another
 pub parts-appended : (r : Repertoire) (first : Bool) (old one two three four separator ending : List ℕ) (p : UndecodedPair) → IsUndecodedPair p
     → IsAppended r first old (bytes_in p.bytes.now p.key) one → two ≡ one ++ separator
@@ -116,6 +107,60 @@ parts-appended r first old one two three four separator ending p h k s v e =
           ∙ append_assoc (old ++ a) separator (b ++ ending)
           ∙ append_assoc old a (separator ++ (b ++ ending));
     }
+
+-- what was appended to nothing is appended to a line
+pub appended-at-once : (r : Repertoire) (first : Bool) (old none one new line separator ending : List ℕ) → none ≡ []
+    → IsPairAppended r first none line separator ending one → new ≡ old ++ one → IsPairAppended r first old line separator ending new
+appended-at-once r first old none one new line separator ending n h e = record {
+  key = h.key;
+  value = h.value;
+  meaning = h.meaning;
+  printed = e ∙ ap (λ v. old ++ v) (h.printed ∙ ap (λ v. v ++ (key_bytes r first h.key ++ (separator ++ (text_bytes r KeyOrValue h.value ++ ending)))) n);
+}
+
+-- what begins with an ASCII byte doesn't begin like a byte order mark
+ascii-unmarked : (xs : List ℕ) → get_or xs 0 0 < 0x80 → begins_like_bom xs ≡ false
+ascii-unmarked [] h = refl
+ascii-unmarked (x ∷ xs) h = byte_order_mark-cut [] x xs h
+
+-- a first key that doesn't begin like a byte order mark is printed as any other
+key-alike : (r : Repertoire) (key : List ℕ) → begins_like_bom (key_bytes r false key) ≡ false → key_bytes r true key ≡ key_bytes r false key
+key-alike r key h = rw h refl
+
+-- one of the first bytes, or the default
+front-small : (at i : ℕ) (bytes : List ℕ) → get_or bytes i 0 < 0x80 → get_or (take at bytes) i 0 < 0x80
+front-small at i bytes h = elim (cases_lt i at) [
+  | inl t ↦ subst (λ v. v < 0x80) (sym (get_or-take at bytes i 0 t)) h
+  | inr f ↦ subst (λ v. v < 0x80) (sym (get_or_past (take at bytes) i 0 (let e = length-take at bytes in omega (arith, e, f)))) (lit< tt)
+]
+
+-- A first key whose bytes begin with an ASCII byte is printed as any other.
+pub first-alike : (r : Repertoire) (first : Bool) (filled at : ℕ) (old bytes out : List ℕ) → length old ≡ filled
+    → (first ≡ true → get_or out filled 0 < 0x80)
+    → IsAppended r false old bytes (take at out) → IsAppended r first old bytes (take at out)
+first-alike r false filled at old bytes out long h p = p
+first-alike r true filled at old bytes out long h p =
+    let key = key_bytes r false p.meant in
+    let place : filled ≡ length old + 0 = omega (arith, long) in
+    let begins = ap (λ v. get_or v filled 0) p.printed ∙ ap (λ n. get_or (old ++ key) n 0) place ∙ get_or-append-add old key 0 0 in
+    record {
+      meant = p.meant;
+      meaning = p.meaning;
+      printed = p.printed ∙ ap (λ k. old ++ k) (sym (key-alike r p.meant (ascii-unmarked key (subst (λ v. v < 0x80) begins (front-small at filled out (h refl))))));
+    }
+
+-- what is put after a place keeps what is before it
+pub put-keeps : (filled at after : ℕ) (old new more : List ℕ) → filled ≤ at → at ≤ length old → at ≤ after
+    → take after new ≡ take at old ++ more → take filled new ≡ take filled old
+put-keeps filled at after old new more h w a e =
+    sym (take-take filled after new (omega (arith, h, a)))
+    ∙ ap (take filled) e
+    ∙ take-append-le filled (take at old) more (subst (λ n. filled ≤ n) (sym (length-take-le at old w)) h)
+    ∙ take-take filled at old h
+
+-- what keeps a front keeps a shorter one
+pub shorter-kept : (filled at : ℕ) (old new : List ℕ) → filled ≤ at → take at new ≡ take at old → take filled new ≡ take filled old
+shorter-kept filled at old new h k = sym (take-take filled at new h) ∙ ap (take filled) k ∙ take-take filled at old h
 
 -- a key that breaks
 pub key-refused : (p : UndecodedPair) (e : UnescapeError) → IsUndecodedPair p

@@ -13,7 +13,7 @@ pub fn is_ascii(bytes: &[u8]) -> bool
     find::<PastAscii>(bytes).is_none()
 }
 
-/// Returns the number of ASCII characters before the first byte of another character.
+/// Returns the number of ASCII bytes at the front.
 #[inline(always)]
 pub fn leading_ascii(bytes: &[u8]) -> usize
     ensures within { result ≤ length bytes.now }

@@ -2,9 +2,9 @@
 
 ghost use Rattle.std.specs.Prelude.{◌↔◌, IsSome, ◌≡◌, ◌≤◌, ◌<◌, ◌+◌, ◌*◌, ◌%◌, ◌++◌, ◌∷◌, [], length, take, IfSome};
 ghost use Rattle.std.specs.Char.{encode_utf8, IsScalar};
-ghost use Rattle.std.specs.Str.{chars, IsUtf8};
+ghost use Rattle.std.specs.Str.{IsUtf8};
 ghost use Rattle.properties_text.specs.Encoding.{encoding_of};
-ghost use Rattle.properties_text.specs.Decoding.{IsText, utf_16_of, AreFour, DecodesFront, IsAsciiFront, PutsUnits};
+ghost use Rattle.properties_text.specs.Decoding.{IsText, utf_16_of, DecodesFront, PutsUnits};
 ghost use Rattle.properties_text.specs.declared.encoding.Encoding.TheVariants.{WINDOWS_1252};
 
 use super::first_piece::first_piece;
@@ -148,9 +148,6 @@ fn decode_run_of<'a>(
         if written.units > 0 {
             at = written.end;
             rest = &rest[2 * written.units..];
-        } else if let Some(front) = ascii_front(encoding, rest) {
-            at = put_four(run, at, front.text);
-            rest = front.rest;
         } else {
             let next = first_piece(encoding, *first, others);
             at = put_character(run, at, next.character);
@@ -221,84 +218,14 @@ fn put_short_block(run: &mut [u8], at: usize, order: ByteOrder, bytes: &[u8]) ->
     put_latin_1(run, at, order, u8x16::from_slice(bytes), odd)
 }
 
-// Four ASCII characters, and the bytes after them.
-#[derive(Clone, Copy)]
-struct AsciiFront<'a> {
-    text: [u8; 4],
-    rest: &'a [u8],
-}
-
-// Four ASCII characters at the front, if there are four. Never finds them in UTF-8, where a run begins only after the
-// longest text that needs no decoding.
+// Writes four bytes at index `at`.
 #[inline(always)]
-fn ascii_front(encoding: Encoding, bytes: &[u8]) -> Option<AsciiFront<'_>>
-    ensures { IfSome result (IsAsciiFront encoding bytes.now) }
-{
-    match encoding {
-        Encoding::WINDOWS_1252 => ascii_bytes(bytes),
-        Encoding::UTF_8 => None,
-        Encoding::UTF_16LE => ascii_units(ByteOrder::LowFirst, bytes),
-        Encoding::UTF_16BE => ascii_units(ByteOrder::HighFirst, bytes),
-    }
-}
-
-#[inline(always)]
-fn ascii_bytes(bytes: &[u8]) -> Option<AsciiFront<'_>>
-    ensures { IfSome result (IsAsciiFront WINDOWS_1252 bytes.now) }
-{
-    if bytes.len() < 4 {
-        return None;
-    }
-    four_of_ascii(
-        u16::from(bytes[0]),
-        u16::from(bytes[1]),
-        u16::from(bytes[2]),
-        u16::from(bytes[3]),
-        &bytes[4..],
-    )
-}
-
-#[inline(always)]
-fn ascii_units(order: ByteOrder, bytes: &[u8]) -> Option<AsciiFront<'_>>
-    ensures { IfSome result (IsAsciiFront (utf_16_of order) bytes.now) }
-{
-    if bytes.len() < 8 {
-        return None;
-    }
-    four_of_ascii(
-        order.unit(bytes[0], bytes[1]),
-        order.unit(bytes[2], bytes[3]),
-        order.unit(bytes[4], bytes[5]),
-        order.unit(bytes[6], bytes[7]),
-        &bytes[8..],
-    )
-}
-
-// The four units, if all of them are ASCII.
-#[inline(always)]
-fn four_of_ascii(a: u16, b: u16, c: u16, d: u16, rest: &[u8]) -> Option<AsciiFront<'_>>
-    ensures { IfSome result (AreFour a b c d rest.now) }
-{
-    if a < 0x80 && b < 0x80 && c < 0x80 && d < 0x80 {
-        Some(AsciiFront {
-            text: [a as u8, b as u8, c as u8, d as u8],
-            rest,
-        })
-    } else {
-        None
-    }
-}
-
-// Writes four bytes at index `at`, and returns the index after them.
-#[inline(always)]
-fn put_four(run: &mut [u8], at: usize, text: [u8; 4]) -> usize
+fn put_four(run: &mut [u8], at: usize, text: [u8; 4])
     requires { at + 4 ≤ length run.old }
-    ensures after { result ≡ at + 4 }
     ensures same_room { length run.new ≡ length run.old }
-    ensures text { take result run.new ≡ take at run.old ++ text }
+    ensures text { take (at + 4) run.new ≡ take at run.old ++ text }
 {
     run[at..at + 4].copy_from_slice(&text);
-    at + 4
 }
 
 /// Writes a character at index `at`, and returns the index after it.

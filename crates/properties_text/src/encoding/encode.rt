@@ -1,4 +1,4 @@
-// Encoding characters as bytes.
+// The encodings of the output.
 
 ghost use Rattle.std.specs.Prelude.{◌≡◌};
 ghost use Rattle.properties_format.specs.Encoding.{output_encoding};

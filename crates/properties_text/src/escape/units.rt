@@ -1,6 +1,6 @@
-// Resolves escapes of one character each, byte by byte.
+// Resolves escapes byte by byte: `\u` escapes, and what a backslash and another ASCII character mean.
 
-ghost use Rattle.std.specs.Prelude.{◌≡◌, ◌∷◌, ◌+◌, ◌<◌, ◌≤◌, ◌==◌, List, ℕ, ◌&&◌, ◌||◌, nat_lt, true, false, slice_index, length, take, IfSome, Some, None, Ok, if◌then◌else◌};
+ghost use Rattle.std.specs.Prelude.{◌≡◌, ◌∷◌, ◌<◌, ◌≤◌, List, ℕ, length, take, IfSome, Some, None, Ok, if◌then◌else◌};
 ghost use Rattle.std.specs.Char.{IsScalar};
 ghost use Rattle.std.specs.Str.{IsUtf8, chars};
 ghost use Rattle.properties_format.specs.Text.{backslash};
@@ -43,9 +43,8 @@ pub struct Units<'a> {
     pub rest: &'a str,
 }
 
-/// Resolves escapes at the front and writes their characters to the run, together with the one or two ASCII characters
-/// that may separate them, as long as there is room. Stops before other text, before a backslash with a non-ASCII
-/// character or nothing after it, and before a malformed escape.
+/// Resolves `\u` escapes at the front and writes their characters to the run, as long as there is room. Stops before
+/// other text, and before a malformed escape.
 #[inline(always)]
 pub fn put_units<'a>(run: &mut [u8], text: &'a str) -> Units<'a>
     ensures same_room { length run.new ≡ length run.old }
@@ -59,67 +58,13 @@ pub fn put_units<'a>(run: &mut [u8], text: &'a str) -> Units<'a>
     let mut end = 0;
     let mut rest = text;
     while run.len() - end >= 4 {
-        let Some(escape) = first_character(rest) else {
+        let Some(escape) = first_unit(rest) else {
             break;
         };
         end = put_character(run, end, escape.character);
         rest = escape.rest();
     }
     Units { end, rest }
-}
-
-/// Returns whether a text that begins with an escape may have another right after it: the first is a `\u`, or a
-/// backslash follows it.
-#[inline(always)]
-pub fn is_run(escapes: &[u8]) -> bool
-    ensures { let bytes = escapes.now in
-        result ≡ (nat_lt 2 (length bytes) && (slice_index bytes 1 == letter_u || slice_index bytes 2 == backslash)) }
-{
-    escapes.len() > 2 && (escapes[1] == b'u' || escapes[2] == b'\\')
-}
-
-// The first character: that of an escape, or a character between two escapes.
-#[inline(always)]
-fn first_character(text: &str) -> Option<Escape<'_>>
-    ensures meaning { IfSome result (λ escape. Resolves (chars text.now) (Ok escape)) }
-    ensures scalar { IfSome result (λ escape. IsScalar escape.character) }
-    ensures shorter { IfSome result (λ escape. length escape.rest.now < length text.now) }
-{
-    match text.as_bytes() {
-        [b'\\', b'u', ..] => first_unit(text),
-        [b'\\', ..] => first_letter(text),
-        _ => first_between(text),
-    }
-}
-
-// An ASCII character between two escapes, if at most two are there.
-#[inline(always)]
-fn first_between(text: &str) -> Option<Escape<'_>>
-    ensures meaning { IfSome result (λ escape. Resolves (chars text.now) (Ok escape)) }
-    ensures scalar { IfSome result (λ escape. IsScalar escape.character) }
-    ensures shorter { IfSome result (λ escape. length escape.rest.now < length text.now) }
-{
-    let bytes = text.as_bytes();
-    if !is_between(bytes) {
-        return None;
-    }
-    Some(Escape {
-        character: char::from(bytes[0]),
-        rest: &text[1..],
-    })
-}
-
-// Whether one or two ASCII characters precede a backslash, such as the blank between two words of escapes.
-#[inline(always)]
-fn is_between(bytes: &[u8]) -> bool
-    ensures some { result ≡ true → 0 < length bytes.now }
-    ensures ascii { result ≡ true → slice_index bytes.now 0 < 0x80 }
-    ensures itself { result ≡ true → (slice_index bytes.now 0 == backslash) ≡ false }
-{
-    bytes.len() >= 3
-        && bytes[0] != b'\\'
-        && bytes[0] < 0x80
-        && (bytes[1] == b'\\' || bytes[2] == b'\\')
 }
 
 // The character of the `\u` escape at the front, or of two such escapes if they are surrogates.
@@ -156,23 +101,6 @@ fn first_pair(high: u32, rest: &str) -> Option<Escape<'_>>
         Ok(escape) => Some(escape),
         Err(_) => None,
     }
-}
-
-// The character of the escape at the front, if it is a backslash and one ASCII character.
-#[inline(always)]
-fn first_letter(text: &str) -> Option<Escape<'_>>
-    ensures meaning { IfSome result (λ escape. Resolves (chars text.now) (Ok escape)) }
-    ensures scalar { IfSome result (λ escape. IsScalar escape.character) }
-    ensures shorter { IfSome result (λ escape. length escape.rest.now < length text.now) }
-{
-    let bytes = text.as_bytes();
-    if bytes.len() < 2 || bytes[0] != b'\\' || bytes[1] == b'u' || bytes[1] >= 0x80 {
-        return None;
-    }
-    Some(Escape {
-        character: char::from(escaped_byte(bytes[1])),
-        rest: &text[2..],
-    })
 }
 
 // The character that a backslash and this ASCII character mean, if the latter isn't `u`.

@@ -9,10 +9,10 @@ use byte_blocks::{ByteClass, Controls, Specials, put_spread};
 use std::alloc::AllocError;
 use std::simd::prelude::*;
 
-// Fewer bytes than this are printed one by one, because they don't fill a vector.
+// Fewer bytes than this are printed one by one. From eight on, two halves of eight make a block.
 const FEW: usize = 8;
 
-/// The longest that a byte is printed as: `\u` and four digits.
+/// The most bytes that one byte is printed as: `\u` and four digits.
 pub const LONGEST_BYTE: usize = 6;
 
 // The room for a block: two bytes for each of its bytes, and an escape.
@@ -54,9 +54,7 @@ pub fn print_bytes(line: &mut LineBuffer, bytes: &[u8]) -> Result<(), AllocError
     ensures { AppendsOnOk line.old (printed_bytes bytes.now) result line.new }
 {
     if bytes.len() < FEW {
-        make_room(&mut line.bytes, line.filled, LONGEST_BYTE * FEW)?;
-        line.filled = put_few(&mut line.bytes, line.filled, bytes);
-        return Ok(());
+        return print_few(line, bytes);
     }
     print_blocks(line, bytes)
 }
@@ -67,17 +65,31 @@ fn print_blocks(line: &mut LineBuffer, bytes: &[u8]) -> Result<(), AllocError>
     ensures { AppendsOnOk line.old (printed_bytes bytes.now) result line.new }
 {
     let mut rest = bytes;
-    while !rest.is_empty() {
+    while rest.len() >= FEW {
         let read = print_block(line, rest)?;
         rest = &rest[read..];
     }
+    print_few(line, rest)
+}
+
+// Prints fewer than eight bytes, one by one.
+#[inline(always)]
+fn print_few(line: &mut LineBuffer, bytes: &[u8]) -> Result<(), AllocError>
+    requires { length bytes.now < 8 }
+    ensures { AppendsOnOk line.old (printed_bytes bytes.now) result line.new }
+{
+    if bytes.is_empty() {
+        return Ok(());
+    }
+    make_room(&mut line.bytes, line.filled, LONGEST_BYTE * FEW)?;
+    line.filled = put_few(&mut line.bytes, line.filled, bytes);
     Ok(())
 }
 
 // Prints up to sixteen bytes, and returns how many.
 #[inline(always)]
 fn print_block(line: &mut LineBuffer, bytes: &[u8]) -> Result<usize, AllocError>
-    requires { 0 < length bytes.now }
+    requires { 8 ≤ length bytes.now }
     ensures some { IfOk result (λ read. 0 < read) }
     ensures within { IfOk result (λ read. read ≤ length bytes.now) }
     ensures printed { IfOk result (λ read. line.new ≡ line.old ++ printed_bytes (take read bytes.now)) }
@@ -95,18 +107,18 @@ struct Block {
     end: usize,
 }
 
-// Prints up to sixteen bytes at index `at`: the last may be a control character, and no other is one.
+// Prints up to sixteen bytes at index `at`, and stops after the first control character.
 #[inline(always)]
 fn put_block(out: &mut [u8], at: usize, bytes: &[u8]) -> Block
     requires room { at + 38 ≤ length out.old }
-    requires some { 0 < length bytes.now }
+    requires half { 8 ≤ length bytes.now }
     ensures same_room { length out.new ≡ length out.old }
     ensures some { 0 < result.read }
     ensures read { result.read ≤ length bytes.now }
     ensures within { result.end ≤ length out.new }
     ensures printed { take result.end out.new ≡ take at out.old ++ printed_bytes (take result.read bytes.now) }
 {
-    // The first block may be shorter, so that only whole blocks are left.
+    // The short block comes first, so that whole ones are left.
     let count = (bytes.len() - 1) % 16 + 1;
     let v = first_16(bytes);
     let plain = Controls::marks(v).front_of(count);
@@ -120,21 +132,25 @@ fn put_block(out: &mut [u8], at: usize, bytes: &[u8]) -> Block
     }
 }
 
-// The first sixteen bytes, padded with zeros if there are fewer.
+// The first sixteen bytes, padded with zeros if there are fewer. Fewer are copied as two halves, which may overlap, since
+// that takes no call.
 #[inline(always)]
 fn first_16(bytes: &[u8]) -> u8x16
+    requires { 8 ≤ length bytes.now }
     ensures { take (length bytes.now) (take 16 result) ≡ take 16 bytes.now }
 {
     if bytes.len() >= 16 {
         return u8x16::from_slice(bytes);
     }
     let mut padded = [0; 16];
-    padded[..bytes.len()].copy_from_slice(bytes);
+    let second = bytes.len() - 8;
+    padded[..8].copy_from_slice(&bytes[..8]);
+    padded[second..second + 8].copy_from_slice(&bytes[second..]);
     u8x16::from_array(padded)
 }
 
-/// Prints the first `kept` of sixteen bytes at index `at`, and returns the index after them. Only a control character is
-/// printed as it is instead of by its escape. May overwrite 32 bytes.
+/// Prints the first `kept` of sixteen bytes at index `at`, and returns the index after them. Control characters are
+/// copied, not escaped. May overwrite 32 bytes.
 #[inline(always)]
 pub fn put_16(out: &mut [u8], at: usize, v: u8x16, kept: usize) -> usize
     requires room { at + 32 ≤ length out.old }

@@ -14,7 +14,7 @@ pub const ASCII: Repertoire = Repertoire {
     ascii_only: true,
 };
 
-const UTF_8: Repertoire = Repertoire {
+pub const UTF_8: Repertoire = Repertoire {
     encoding: OutputEncoding::Utf8,
     ascii_only: false,
 };

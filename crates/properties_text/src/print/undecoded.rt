@@ -1,11 +1,10 @@
-// Prints pairs of windows-1252 that are undecoded. In windows-1252, most are printed without decoding or resolving them.
+// Prints undecoded pairs of windows-1252. In all of windows-1252, most are neither decoded nor resolved.
 
-ghost use Rattle.std.specs.Prelude.{◌≡◌, ◌+◌, ◌*◌, ◌<◌, ◌≤◌, ◌==◌, length, take, get_or, true, false, None, IfSome, OnErr};
+ghost use Rattle.std.specs.Prelude.{◌-◌, ◌++◌, ◌≡◌, ◌+◌, ◌*◌, ◌<◌, ◌≤◌, ◌==◌, length, take, get_or, true, false, None, IfSome, OnErr};
 ghost use Rattle.properties_format.specs.Text.{backslash};
 ghost use Rattle.properties_format.specs.Escapes.{letter_u, is_surrogate, are_hexadecimal, code_unit};
-ghost use Rattle.properties_text.specs.Parsing.{bytes_in};
-ghost use Rattle.properties_text.specs.Printing.{all_of_windows_1252, is_all_of_windows_1252};
-ghost use Rattle.properties_text.specs.UndecodedTexts.{PrintsUndecoded, undecoded_line, IsUndecodedPair, IsNoPair, PrintsPair, IsKept, IsAppended, ArePut, IsPrinted, IsByteOf, digits_at};
+ghost use Rattle.properties_text.specs.Printing.{all_of_windows_1252};
+ghost use Rattle.properties_text.specs.UndecodedTexts.{PrintsUndecoded, undecoded_line, IsUndecodedPair, IsNoPair, PrintsPair, IsPairAppended, IsAppended, ArePut, IsPrinted, IsByteOf, digits_at};
 
 use super::bytes::{backslashes_before, put_16, put_byte};
 use super::escapes::put_unit;
@@ -25,7 +24,7 @@ struct Printed {
     written: usize,
 }
 
-// None were printed.
+// Nothing was read or written yet.
 const NOTHING: Printed = Printed {
     read: 0,
     written: 0,
@@ -81,17 +80,19 @@ pub fn print_undecoded_pair(
     ensures printed { PrintsPair repertoire first line.old pair.entry separator.now ending.now result line.new }
     ensures unchanged { OnErr result (line.new ≡ line.old) }
 {
-    let filled = line.filled;
-    let printed = print_parts(alloc, line, repertoire, first, pair, separator, ending);
-    if printed.is_err() {
-        line.truncate(filled);
+    if repertoire.is_all_of_windows_1252()
+        && print_usual_pair(line, first, pair, separator, ending)
+    {
+        return Ok(());
     }
-    printed
+    print_decoded_pair(alloc, line, repertoire, first, pair, separator, ending)
 }
 
-// Appends the parts of a pair one after another. If it fails, the first of them may be left.
-#[inline(always)]
-fn print_parts(
+// Decodes and resolves the key and the value, and appends the pair as it is printed. On an error nothing is appended.
+// In all of windows-1252 few pairs come here: those with a malformed escape, a backslash at the end of a text or some
+// control characters, and a first one that may be like a byte order mark.
+#[inline(never)]
+fn print_decoded_pair(
     alloc: Global,
     line: &mut LineBuffer,
     repertoire: Repertoire,
@@ -102,48 +103,20 @@ fn print_parts(
 ) -> Result<(), UnescapeError>
     requires { IsUndecodedPair pair }
     ensures printed { PrintsPair repertoire first line.old pair.entry separator.now ending.now result line.new }
-    ensures kept { IsKept line.old line.new }
+    ensures unchanged { OnErr result (line.new ≡ line.old) }
 {
-    let usual = repertoire.is_all_of_windows_1252();
-    print_span(alloc, line, repertoire, usual, first, pair.bytes, pair.key)?;
-    line.extend(separator)?;
-    print_span(
-        alloc, line, repertoire, usual, false, pair.bytes, pair.value,
-    )?;
-    line.extend(ending)?;
+    let key = &pair.bytes[pair.key.start..pair.key.end];
+    let value = &pair.bytes[pair.value.start..pair.value.end];
+    let mut printed = LineBuffer::new(alloc);
+    print_decoded(alloc, &mut printed, repertoire, first, key)?;
+    printed.extend(separator)?;
+    print_decoded(alloc, &mut printed, repertoire, false, value)?;
+    printed.extend(ending)?;
+    line.extend(printed.as_slice())?;
     Ok(())
 }
 
-// Appends the key or the value at this position as it is printed. On an error nothing is appended. `usual` is whether
-// the repertoire is all of windows-1252, which is tested once for a pair.
-#[inline(always)]
-fn print_span(
-    alloc: Global,
-    line: &mut LineBuffer,
-    repertoire: Repertoire,
-    usual: bool,
-    first: bool,
-    bytes: &[u8],
-    span: Span,
-) -> Result<(), UnescapeError>
-    requires ordered { span.start ≤ span.end }
-    requires within { span.end ≤ length bytes.now }
-    requires usual { usual ≡ is_all_of_windows_1252 repertoire }
-    ensures printed { PrintsUndecoded repertoire first line.old (bytes_in bytes.now span) result line.new }
-    ensures unchanged { OnErr result (line.new ≡ line.old) }
-{
-    let rest = &bytes[span.start..];
-    let end = span.end - span.start;
-    if !first && usual && print_usual(line, rest, end) {
-        return Ok(());
-    }
-    print_decoded(alloc, line, repertoire, first, &rest[..end])
-}
-
-// Decodes and resolves the key or the value with these bytes, and appends it as it is printed. On an error nothing is
-// appended. In all of windows-1252 this is for few: the first key, and those with a malformed escape or an unescaped
-// control character.
-#[inline(never)]
+// Decodes and resolves a key or a value, and appends it as it is printed.
 fn print_decoded(
     alloc: Global,
     line: &mut LineBuffer,
@@ -151,39 +124,95 @@ fn print_decoded(
     first: bool,
     bytes: &[u8],
 ) -> Result<(), UnescapeError>
-    ensures printed { PrintsUndecoded repertoire first line.old bytes.now result line.new }
-    ensures unchanged { OnErr result (line.new ≡ line.old) }
+    ensures { PrintsUndecoded repertoire first line.old bytes.now result line.new }
 {
     let mut text = TextBuffer::new(alloc);
     text.push_decoded(Encoding::WINDOWS_1252, bytes)?;
     let meant = unescape(alloc, text.as_str())?;
-    let mut printed = LineBuffer::new(alloc);
-    print_key(&mut printed, repertoire, first, &meant)?;
-    line.extend(printed.as_slice())?;
+    print_key(line, repertoire, first, &meant)?;
     Ok(())
 }
 
-// Appends what a usual text is printed as, and returns whether it did. If not, nothing is appended.
+// Appends a pair of usual texts as it is printed in all of windows-1252, or nothing. Returns whether it did.
 #[inline(always)]
-fn print_usual(line: &mut LineBuffer, bytes: &[u8], end: usize) -> bool
-    requires { end ≤ length bytes.now }
-    ensures printed { result ≡ true → IsAppended all_of_windows_1252 false line.old (take end bytes.now) line.new }
+fn print_usual_pair(
+    line: &mut LineBuffer,
+    first: bool,
+    pair: UndecodedPair<'_>,
+    separator: &[u8],
+    ending: &[u8],
+) -> bool
+    requires { IsUndecodedPair pair }
+    ensures printed { result ≡ true → IsPairAppended all_of_windows_1252 first line.old (undecoded_line pair.entry) separator.now ending.now line.new }
     ensures unchanged { result ≡ false → line.new ≡ line.old }
 {
-    let Some(room) = (2 * end).checked_add(32) else {
-        return false;
-    };
+    let key_length = pair.key.end - pair.key.start;
+    let value_length = pair.value.end - pair.value.start;
+    // Two bytes for each byte of a text, and for each text 32 bytes that a block may overwrite.
+    let room = (2 * key_length)
+        .saturating_add(2 * value_length)
+        .saturating_add(64)
+        .saturating_add(separator.len())
+        .saturating_add(ending.len());
     if make_room(&mut line.bytes, line.filled, room).is_err() {
         return false;
     }
-    let Some(filled) = put_after(&mut line.bytes, line.filled, bytes, end) else {
+    let Some(filled) = put_pair(&mut line.bytes, line.filled, first, pair, separator, ending) else {
         return false;
     };
     line.filled = filled;
     true
 }
 
-// Puts what a text is printed as after the first `filled` bytes, and returns the place after it.
+// Puts a pair of usual texts after the first `filled` bytes, and returns the index after it.
+#[inline(always)]
+fn put_pair(
+    out: &mut [u8],
+    filled: usize,
+    first: bool,
+    pair: UndecodedPair<'_>,
+    separator: &[u8],
+    ending: &[u8],
+) -> Option<usize>
+    requires pair { IsUndecodedPair pair }
+    requires room { filled + (2 * (pair.key.end - pair.key.start + (pair.value.end - pair.value.start)) + 64 + length separator.now + length ending.now) ≤ length out.old }
+    ensures same_room { length out.new ≡ length out.old }
+    ensures kept { take filled out.new ≡ take filled out.old }
+    ensures inside { IfSome result (λ at. at ≤ length out.new) }
+    ensures printed { IfSome result (λ at. IsPairAppended all_of_windows_1252 first (take filled out.old) (undecoded_line pair.entry) separator.now ending.now (take at out.new)) }
+{
+    let key = &pair.bytes[pair.key.start..];
+    let after_key = put_after(out, filled, key, pair.key.end - pair.key.start)?;
+    // A byte order mark begins with a byte past ASCII.
+    if first && out[filled] >= 0x80 {
+        return None;
+    }
+    let after_separator = put_raw(out, after_key, separator);
+    let value = &pair.bytes[pair.value.start..];
+    let size = pair.value.end - pair.value.start;
+    let after_value = put_after(out, after_separator, value, size)?;
+    Some(put_raw(out, after_value, ending))
+}
+
+// Puts bytes at index `at`, and returns the index after them. A separator or a line ending is usually one byte, which is
+// put without a call.
+#[inline(always)]
+fn put_raw(out: &mut [u8], at: usize, bytes: &[u8]) -> usize
+    requires { at + length bytes.now ≤ length out.old }
+    ensures same_room { length out.new ≡ length out.old }
+    ensures after { result ≡ at + length bytes.now }
+    ensures put { take result out.new ≡ take at out.old ++ bytes.now }
+{
+    if bytes.len() == 1 {
+        out[at] = bytes[0];
+        return at + 1;
+    }
+    let end = at + bytes.len();
+    out[at..end].copy_from_slice(bytes);
+    end
+}
+
+// Puts what a usual text is printed as after the first `filled` bytes, and returns the index after it.
 #[inline(always)]
 fn put_after(out: &mut [u8], filled: usize, bytes: &[u8], end: usize) -> Option<usize>
     requires within { end ≤ length bytes.now }
@@ -191,6 +220,8 @@ fn put_after(out: &mut [u8], filled: usize, bytes: &[u8], end: usize) -> Option<
     ensures same_room { length out.new ≡ length out.old }
     ensures kept { take filled out.new ≡ take filled out.old }
     ensures inside { IfSome result (λ at. at ≤ length out.new) }
+    ensures onwards { IfSome result (λ at. filled ≤ at) }
+    ensures most { IfSome result (λ at. at ≤ filled + 2 * end) }
     ensures printed { IfSome result (λ at. IsAppended all_of_windows_1252 false (take filled out.old) (take end bytes.now) (take at out.new)) }
 {
     let written = put_printed(&mut out[filled..], bytes, end)?;
@@ -203,13 +234,14 @@ const FEW: usize = 5;
 // Where sixteen bytes cannot be copied as they are.
 type Stops = Either<Controls, Byte<b'\\'>>;
 
-// Puts what a text is printed as at the front of a buffer, and returns its length; or nothing, where the text is
-// malformed or holds a control character, and what was put is of no use.
+// Puts what a text is printed as at the front of a buffer, and returns its length. Returns `None` if the text is
+// malformed, ends with a backslash or has some control characters.
 #[inline(always)]
 fn put_printed(out: &mut [u8], bytes: &[u8], end: usize) -> Option<usize>
     requires within { end ≤ length bytes.now }
     requires room { 2 * end + 32 ≤ length out.old }
     ensures same_room { length out.new ≡ length out.old }
+    ensures most { IfSome result (λ written. written ≤ 2 * end) }
     ensures printed { IfSome result (λ written. IsPrinted (take end bytes.now) written out.new) }
 {
     let most = put_most(out, bytes, end);
@@ -233,20 +265,19 @@ fn put_most(out: &mut [u8], bytes: &[u8], end: usize) -> Printed
     ensures put { ArePut (take end bytes.now) result out.new }
 {
     if end < FEW {
-        return put_few(out, &bytes[..end], NOTHING);
+        return put_few(out, &bytes[..end]);
     }
-    put_blocks(out, bytes, end, NOTHING)
+    put_blocks(out, bytes, end)
 }
 
-// Goes on byte by byte, up to a backslash or a control character.
+// Puts byte by byte, up to a backslash or a control character.
 #[inline(always)]
-fn put_few(out: &mut [u8], text: &[u8], so_far: Printed) -> Printed
+fn put_few(out: &mut [u8], text: &[u8]) -> Printed
     requires room { 2 * length text.now ≤ length out.old }
-    requires so_far { ArePut text.now so_far out.old }
     ensures same_room { length out.new ≡ length out.old }
     ensures put { ArePut text.now result out.new }
 {
-    let mut reached = so_far;
+    let mut reached = NOTHING;
     while reached.read < text.len() && text[reached.read] != b'\\' {
         let read = reached.read;
         reached = put_itself(out, text, reached);
@@ -257,16 +288,15 @@ fn put_few(out: &mut [u8], text: &[u8], so_far: Printed) -> Printed
     reached
 }
 
-// Goes on by blocks of sixteen bytes, and by the escapes between them, as long as there are sixteen bytes.
+// Puts blocks of sixteen bytes, and the escapes between them, as long as there are sixteen bytes.
 #[inline(always)]
-fn put_blocks(out: &mut [u8], bytes: &[u8], end: usize, so_far: Printed) -> Printed
+fn put_blocks(out: &mut [u8], bytes: &[u8], end: usize) -> Printed
     requires within { end ≤ length bytes.now }
     requires room { 2 * end + 32 ≤ length out.old }
-    requires so_far { ArePut (take end bytes.now) so_far out.old }
     ensures same_room { length out.new ≡ length out.old }
     ensures put { ArePut (take end bytes.now) result out.new }
 {
-    let mut reached = so_far;
+    let mut reached = NOTHING;
     while reached.read < end && bytes.len() - reached.read >= 16 {
         let read = reached.read;
         reached = put_block(out, bytes, end, reached);
@@ -321,8 +351,9 @@ fn put_singly(out: &mut [u8], text: &[u8], so_far: Printed) -> Printed
     reached
 }
 
-// Goes on by escapes that stand side by side, or with a character between two of them.
-#[inline(always)]
+// Goes on by escapes that stand side by side, or with a character between two of them. Kept out of line because most
+// texts have no escapes.
+#[inline(never)]
 fn put_escapes(out: &mut [u8], text: &[u8], so_far: Printed) -> Printed
     requires room { 2 * length text.now ≤ length out.old }
     requires so_far { ArePut text.now so_far out.old }

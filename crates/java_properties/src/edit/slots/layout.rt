@@ -1,9 +1,8 @@
 // The layout of what is left of slots, which a new pair takes.
 
-ghost use Rattle.std.specs.Prelude.{◌≡◌, ◌≤◌, ◌&&◌, length, if◌then◌else◌, IfOk};
+ghost use Rattle.std.specs.Prelude.{◌≡◌, ◌≤◌, length, if◌then◌else◌, IfOk};
 ghost use Rattle.std.specs.Str.{chars};
 ghost use Rattle.properties_format.specs.Reading.Slots.{is_by_cr};
-ghost use Rattle.properties_format.specs.Reading.Settings.{is_good_separator};
 ghost use Rattle.properties_format.specs.Text as text;
 ghost use Rattle.properties_text.specs.Encoding.{encoding_of};
 ghost use Rattle.properties_lines.specs.LineSearch.{unit_size};

@@ -1,9 +1,8 @@
 // Pairs that are printed as a file spells them.
 
 use super::*;
-use crate::encoding::OutputEncoding;
 use crate::escape::Malformed;
-use crate::print::tests::{ASCII, WINDOWS_1252};
+use crate::print::tests::{ASCII, UTF_8, WINDOWS_1252};
 use std::test::Fail;
 
 // What is printed after `|` for the pair of a line, or how it was refused.
@@ -86,10 +85,6 @@ fn prints_undecoded_pairs(rt: HostRuntime) -> Result<(), Fail> {
 
 #[test]
 fn prints_undecoded_pairs_in_other_repertoires(rt: HostRuntime) -> Result<(), Fail> {
-    let utf_8 = Repertoire {
-        encoding: OutputEncoding::Utf8,
-        ascii_only: false,
-    };
     let rows: [(Repertoire, bool, &[u8], &[u8]); 8] = [
         (
             ASCII,
@@ -101,19 +96,19 @@ fn prints_undecoded_pairs_in_other_repertoires(rt: HostRuntime) -> Result<(), Fa
         (ASCII, false, b"=", b"| = \r\n"),
         (ASCII, false, b"\\u12=a", b"|short"),
         (
-            utf_8,
+            UTF_8,
             false,
             b"\xe9 a=\\u0430\x80",
             b"|\xc3\xa9 = a\\=\xd0\xb0\xe2\x82\xac\r\n",
         ),
         (
-            utf_8,
+            UTF_8,
             true,
             b"\\ufeff=\\ufeff",
             b"|\\ufeff = \xef\xbb\xbf\r\n",
         ),
-        (utf_8, true, b"\xff\xfe=a", b"|\xc3\xbf\xc3\xbe = a\r\n"),
-        (utf_8, false, b"a=\\udc1e", b"|alone"),
+        (UTF_8, true, b"\xff\xfe=a", b"|\xc3\xbf\xc3\xbe = a\r\n"),
+        (UTF_8, false, b"a=\\udc1e", b"|alone"),
     ];
     for (repertoire, first, spelt, wanted) in rows {
         assert_eq!(rt;

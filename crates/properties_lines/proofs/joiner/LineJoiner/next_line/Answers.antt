@@ -11,7 +11,8 @@ pub returns-then-not-find_line-clause-joins : goal.returns-then-not-find_line-cl
 returns-then-not-find_line-clause-joins g c =
     let before = c.self.inside in
     let found = c.find_line.new.self in
-    let P : Joining → Type 0 = λ v. Joins (reader g.R.Read g.R.CountedRead) v c.args.reader.now None (joining found before.line before.joined before.is_joined before.has_backslash) c.find_line.new.reader in
+    let new = joining found before.line before.joined before.is_joined before.has_backslash in
+    let P : Joining → Type 0 = λ v. Joins (reader g.R.Read g.R.CountedRead) v c.args.reader.now None new c.find_line.new.reader in
     subst P c.self.view_is (joins-none before.lines found before.line before.joined before.is_joined before.has_backslash c.if-not-find_line.ensures.finds)
 
 pub invariant_of-self-then-not-has_backslash : goal.invariant_of-self-then-not-has_backslash
@@ -25,7 +26,8 @@ pub returns-then-not-has_backslash-clause-joins : goal.returns-then-not-has_back
 returns-then-not-has_backslash-clause-joins g c =
     let before = c.self.inside in
     let found = c.find_line.new.self in
-    let P : Joining → Type 0 = λ v. Joins (reader g.R.Read g.R.CountedRead) v c.args.reader.now (Some found.state.passed) (joining found c.borrow_text.new.self before.joined before.is_joined false) c.find_line.new.reader in
+    let new = joining found c.borrow_text.new.self before.joined before.is_joined false in
+    let P : Joining → Type 0 = λ v. Joins (reader g.R.Read g.R.CountedRead) v c.args.reader.now (Some found.state.passed) new c.find_line.new.reader in
     let kept = ap (λ v. let w : LogicalLine = v in w.is_kept) c.borrow_text.ensures in
     let ascii = sym c.is_ascii.ensures ∙ c.if-is_ascii.true in
     let plain = sym c.has_backslash.ensures ∙ c.if-not-has_backslash.true in
@@ -37,7 +39,8 @@ returns-clause-joins g c =
     let before = c.self.inside in
     let rest = c.read_rest.new in
     let has_backslash = c.has_backslash-self-inside.result in
-    let P : Joining → Type 0 = λ v. Joins (reader g.R.Read g.R.CountedRead) v c.args.reader.now c.read_rest.result (joining rest.lines rest.line before.joined before.is_joined has_backslash) rest.reader in
+    let new = joining rest.lines rest.line before.joined before.is_joined has_backslash in
+    let P : Joining → Type 0 = λ v. Joins (reader g.R.Read g.R.CountedRead) v c.args.reader.now c.read_rest.result new rest.reader in
     let old = joining before.lines before.line before.joined before.is_joined before.has_backslash in
     let finds = c.if-not-find_line.ensures.finds in
     let same = c.has_backslash-self-inside.ensures in

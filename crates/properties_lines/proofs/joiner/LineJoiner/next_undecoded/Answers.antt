@@ -23,7 +23,8 @@ pub returns-then-not-find_line-clause-joins : goal.returns-then-not-find_line-cl
 returns-then-not-find_line-clause-joins g c =
     let before = c.self.inside in
     let found = c.find_line.new.self in
-    let P : Joining → Type 0 = λ v. Joins (reader g.R.Read g.R.CountedRead) v c.args.reader.now None (joining found before.line before.joined before.is_joined before.has_backslash) c.find_line.new.reader in
+    let new = joining found before.line before.joined before.is_joined before.has_backslash in
+    let P : Joining → Type 0 = λ v. Joins (reader g.R.Read g.R.CountedRead) v c.args.reader.now None new c.find_line.new.reader in
     subst P c.self.view_is (joins-none before.lines found before.line before.joined before.is_joined before.has_backslash c.if-not-find_line.ensures.finds)
 
 pub returns-then-not-matches-clause-joins : goal.returns-then-not-matches-clause-joins

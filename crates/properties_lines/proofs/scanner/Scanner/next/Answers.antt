@@ -13,7 +13,8 @@ returns-then-not-ended c =
     let s = c.args.self.now in
     let P : Bool → Type 0 = λ v. IsAlike s c.args.held.now v c.settle.new.self in
     let numbered : s.passed + 1 < 2 ^ 64 = omega (arith, c.if-self-2.false) in
-    (c.if-not-ended.true, asks-for_more s c.settle.new.self c.search.new.self c.args.held.now c.requires c.if-self.false numbered (subst P c.if-not-ended.true c.if-not-settle.ensures) c.if-search.ensures)
+    let alike = subst P c.if-not-ended.true c.if-not-settle.ensures in
+    (c.if-not-ended.true, asks-for_more s c.settle.new.self c.search.new.self c.args.held.now c.requires c.if-self.false numbered alike c.if-search.ensures)
 
 pub take_last-requires : goal.take_last-requires
 take_last-requires c =

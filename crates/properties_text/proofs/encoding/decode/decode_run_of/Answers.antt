@@ -1,9 +1,8 @@
 use Rattle.std.proofs.Common.{◌*◌, ◌++◌, refl, ◌≡◌, ◌∷◌, ◌∙◌, rules, arith, sym, subst, ap, length}
 use Rattle.std.proofs.lemmas.List.{length-drop}
 use Rattle.std.specs.Str.{IsUtf8, chars}
-use Rattle.std.proofs.lemmas.Str.{IsUtf8-append, IsUtf8-encode, IsUtf8-from_ascii}
+use Rattle.std.proofs.lemmas.Str.{IsUtf8-append, IsUtf8-encode}
 use Rattle.properties_text.specs.Encoding.{encoding_of}
-use Rattle.properties_text.proofs.AsciiFronts.{are-ascii, decoded-front}
 use Rattle.properties_text.proofs.UnitBlocks.{kept-before, decoded-units}
 use Rattle.properties_text.specs.Decoding.{text_of}
 use Rattle.properties_text.proofs.TextFronts.{decoded-one, taken-rest}
@@ -40,24 +39,6 @@ loop-first-preserved c =
       is_text = subst IsUtf8 (sym put.text) (IsUtf8-append _ _ before (IsUtf8-encode _ put.scalar));
       text = rw (taken-rest, whole) (decoded-one (encoding_of c.args.encoding) _ _ _ c.in-Some.first.now
           c.in-Some.others.now _ _ before put.scalar put.text (rw whole at joins) shown.character_is shown.length_is);
-    }
-
-pub loop-first-preserved-in-Some-ascii_front : goal.loop-first-preserved-in-Some-ascii_front
-loop-first-preserved-in-Some-ascii_front c =
-    let held = c.loop-first.invariant in
-    let units = c.put_units-written.ensures in
-    let same = kept-before c.args.encoding _ c.loop-first.run c.put_units-written.new.run c.loop-first.at c.put_units-written.result held.within units in
-    let before = subst IsUtf8 (sym same) held.is_text in
-    let joins = ap (λ v. chars v ++ text_of c.args.encoding c.loop-first.rest.now) same ∙ held.text in
-    let put = c.put_four-at.ensures in
-    let front = c.in-Some-ascii_front.ensures in
-    record {
-      same_room = put.same_room ∙ units.same_room ∙ held.same_room;
-      within = omega (arith, put.after, put.same_room, units.same_room, held.within, c.if-run-at-lt4.false);
-      onwards = omega (arith, held.onwards, put.after);
-      left = omega (arith, put.after, held.left, front.shorter);
-      is_text = subst IsUtf8 (sym put.text) (IsUtf8-append _ _ before (IsUtf8-from_ascii _ (are-ascii _ front.ascii)));
-      text = decoded-front _ _ _ _ _ _ before (are-ascii _ front.ascii) put.text joins front.same;
     }
 
 pub loop-first-preserved-then-written-gt0 : goal.loop-first-preserved-then-written-gt0

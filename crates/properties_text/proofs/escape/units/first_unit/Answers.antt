@@ -48,4 +48,5 @@ returns-in-None-clause-meaning c =
 
 pub returns-in-None-clause-shorter : goal.returns-in-None-clause-shorter
 returns-in-None-clause-shorter c =
-    IfSome_then c.first_pair.result c.first_pair.ensures.shorter (λ escape shorter. omega (arith, shorter, c.range_from-rest.ensures.len, ap length c.as_bytes-bytes.ensures.value, c.if-bytes-lt6.false))
+    IfSome_then c.first_pair.result c.first_pair.ensures.shorter
+    (λ escape shorter. omega (arith, shorter, c.range_from-rest.ensures.len, ap length c.as_bytes-bytes.ensures.value, c.if-bytes-lt6.false))

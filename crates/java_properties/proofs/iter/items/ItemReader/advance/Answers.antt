@@ -27,19 +27,23 @@ returns-in-Some-find_plain-clause-finds g c =
     let new = c.next_line.new.self.at in
     let item = c.in-Some-find_plain.item in
     let P : List ℕ → Type 0 = λ v. (item.line_number ≡ c.in-Some.number) × IsFoundIn v item in
-    let is = subst P c.line-line.ensures c.in-Some-find_plain.ensures in (
-      rw is.0 (gives-item (numbered_line c.in-Some.number new) new.state (found_content new.line item.content) c.loop-number.invariant.passed.1 c.in-Some.ensures.joins.0 (found-item new.line item is.1)),
+    let is = subst P c.line-line.ensures c.in-Some-find_plain.ensures in
+    let line = numbered_line c.in-Some.number new in
+    let content = found_content new.line item.content in (
+      rw is.0 (gives-item line new.state content c.loop-number.invariant.passed.1 c.in-Some.ensures.joins.0 (found-item new.line item is.1)),
       is.1,
     )
 
 pub loop-number-preserved-then-not-has_backslash : goal.loop-number-preserved-then-not-has_backslash
 loop-number-preserved-then-not-has_backslash g c =
     let next = c.in-Some.ensures.joins.0 in
+    let new = c.next_line.new.self.at in
     let none = plain-blank c.line-line.result.now c.in-Some.number c.find_plain.result c.find_plain.ensures c.in_default-find_plain.not-Some in
+    let blank = ap (λ v. outcome_of (chars v)) (sym c.line-line.ensures) ∙ none in
     record {
       passed = (
         c.loop-number.invariant.passed.0 ++ next.bytes,
-        passed-blank (numbered_line c.in-Some.number c.next_line.new.self.at) c.next_line.new.self.at.state c.loop-number.invariant.passed.1 next (ap (λ v. outcome_of (chars v)) (sym c.line-line.ensures) ∙ none),
+        passed-blank (numbered_line c.in-Some.number new) new.state c.loop-number.invariant.passed.1 next blank,
       );
       left = omega (arith, c.loop-number.invariant.left, c.in-Some.ensures.nearer);
       error = c.in-Some.ensures.joins.2;
@@ -51,19 +55,23 @@ returns-in-Ok-Some-clause-finds g c =
     let new = c.next_line.new.self.at in
     let item = c.in-Ok-Some.item in
     let P : List ℕ → Type 0 = λ v. (item.line_number ≡ c.in-Some.number) × IsFoundIn v item in
-    let is = subst P c.line-line.ensures (rw c.in-Ok-Some.field-0-is at c.in-Ok-Some.ensures) in (
-      rw is.0 (gives-item (numbered_line c.in-Some.number new) new.state (found_content new.line item.content) c.loop-number.invariant.passed.1 c.in-Some.ensures.joins.0 (found-item new.line item is.1)),
+    let is = subst P c.line-line.ensures (rw c.in-Ok-Some.field-0-is at c.in-Ok-Some.ensures) in
+    let line = numbered_line c.in-Some.number new in
+    let content = found_content new.line item.content in (
+      rw is.0 (gives-item line new.state content c.loop-number.invariant.passed.1 c.in-Some.ensures.joins.0 (found-item new.line item is.1)),
       is.1,
     )
 
 pub loop-number-preserved : goal.loop-number-preserved
 loop-number-preserved g c =
     let next = c.in-Some.ensures.joins.0 in
+    let new = c.next_line.new.self.at in
     let none = rw c.in-Ok-None.field-0-is at c.in-Ok-None.ensures in
+    let blank = ap (λ v. outcome_of (chars v)) (sym c.line-line.ensures) ∙ none in
     record {
       passed = (
         c.loop-number.invariant.passed.0 ++ next.bytes,
-        passed-blank (numbered_line c.in-Some.number c.next_line.new.self.at) c.next_line.new.self.at.state c.loop-number.invariant.passed.1 next (ap (λ v. outcome_of (chars v)) (sym c.line-line.ensures) ∙ none),
+        passed-blank (numbered_line c.in-Some.number new) new.state c.loop-number.invariant.passed.1 next blank,
       );
       left = omega (arith, c.loop-number.invariant.left, c.in-Some.ensures.nearer);
       error = c.in-Some.ensures.joins.2;
